@@ -1,0 +1,15 @@
+-- Texts as their bytes.
+use Rattle.std.specs.Prelude.{ℕ, Bool, ◌&&◌, List, length, nat_eq, nat_le}
+use Rattle.std.specs.Cmp.Lexicographic.{pointwise, slice_cmp}
+use Rattle.std.specs.Ordering.{nat_cmp, is_lt}
+
+abbrev pub is_same_text : List ℕ → List ℕ → Bool
+is_same_text = pointwise nat_eq
+
+-- in the order of their bytes
+abbrev pub is_text_below : List ℕ → List ℕ → Bool
+is_text_below a b = is_lt (slice_cmp nat_cmp a b)
+
+-- 1 to 64 bytes
+abbrev pub is_short_text : List ℕ → Bool
+is_short_text text = nat_le 1 (length text) && nat_le (length text) 64

@@ -1,0 +1,62 @@
+use crate::point::Point;
+use std::alloc::{AllocError, Global};
+use std::marker::Model;
+
+/// A list of cells: the body of a snake, its head first, or the food on a board, the oldest first.
+#[derive(Debug, Drop)]
+pub struct Cells {
+    points: Vec<Point>,
+}
+
+impl Model for Cells {
+    ghost use Rattle.std.specs.Prelude.{List};
+    ghost use Rattle.bs_board.specs.declared.point.Point.{Point};
+
+    ghost Value = { List Point };
+
+    ghost view = { λ c. c.points.items };
+}
+
+impl Cells {
+    ghost use Rattle.std.specs.Prelude.{◌≡◌, [], IfOk, length};
+
+    pub fn new(alloc: Global) -> Cells
+        ensures { result ≡ [] }
+    {
+        Cells {
+            points: Vec::new(alloc),
+        }
+    }
+
+    pub fn from_vec(points: Vec<Point>) -> Cells
+        ensures { result ≡ points.items }
+    {
+        Cells { points }
+    }
+
+    pub fn into_vec(self) -> Vec<Point>
+        ensures { result.items ≡ self }
+    {
+        self.points
+    }
+
+    pub fn as_slice(&self) -> &[Point]
+        ensures { result.now ≡ self.now }
+    {
+        self.points.as_slice()
+    }
+
+    pub fn len(&self) -> usize
+        ensures { result ≡ length self.now }
+    {
+        self.points.len()
+    }
+
+    pub fn copy(&self, alloc: Global) -> Result<Cells, AllocError>
+        ensures { IfOk result (λ cells. cells ≡ self.now) }
+    {
+        Ok(Cells {
+            points: Vec::from_slice(alloc, self.points.as_slice())?,
+        })
+    }
+}
