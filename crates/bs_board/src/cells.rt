@@ -18,7 +18,7 @@ impl Model for Cells {
 }
 
 impl Cells {
-    ghost use Rattle.std.specs.Prelude.{◌≡◌, [], IfOk, length};
+    ghost use Rattle.std.specs.Prelude.{◌≡◌, ◌++◌, ◌∷◌, [], IfOk, OnOk, OnErr, length};
 
     pub fn new(alloc: Global) -> Cells
         ensures { result ≡ [] }
@@ -50,6 +50,15 @@ impl Cells {
         ensures { result ≡ length self.now }
     {
         self.points.len()
+    }
+
+    /// Adds a cell at the end: a body grows at its tail, new food comes last.
+    pub fn push(&mut self, cell: Point) -> Result<(), AllocError>
+        ensures ok { OnOk result (self.new ≡ self.old ++ cell ∷ []) }
+        ensures err { OnErr result (self.new ≡ self.old) }
+    {
+        self.points.push(cell)?;
+        Ok(())
     }
 
     pub fn copy(&self, alloc: Global) -> Result<Cells, AllocError>

@@ -1,0 +1,4 @@
+pub mod Distinct
+pub mod FirstLegal
+pub mod InPlace
+pub mod Growing

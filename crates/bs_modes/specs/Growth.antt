@@ -1,0 +1,26 @@
+-- How snakes grow in constrictor.
+use Rattle.std.specs.Prelude.{ℕ, ◌-◌, Bool, ◌&&◌, not, if◌then◌else◌, List, [], ◌∷◌, ◌++◌, length, map, nat_le, slice_index_or, pos}
+use Rattle.bs_board.specs.declared.point.Point.{Point}
+use Rattle.bs_board.specs.declared.board.Board.{Board}
+use Rattle.bs_board.specs.declared.snake.Snake.{Snake}
+use Rattle.bs_board.specs.Cell.{is_same_cell}
+use Rattle.bs_board.specs.Over.{is_living}
+
+-- the part that stands so many places before the end
+abbrev pub part_from_end : ℕ → List Point → Point
+part_from_end places body = slice_index_or body (length body - places) (record { x = pos 0; y = pos 0 })
+
+-- its last two parts differ
+abbrev pub is_stretched : List Point → Bool
+is_stretched body = nat_le 2 (length body) && not (is_same_cell (part_from_end 1 body) (part_from_end 2 body))
+
+-- the last part is repeated where the last two differ
+unfoldable pub grown_body : List Point → List Point
+grown_body body = if is_stretched body then body ++ part_from_end 1 body ∷ [] else body
+
+-- a living snake has full health again and grows, one that is out stays as it is
+abbrev pub grown_snake : Snake → Snake
+grown_snake s = if is_living s then record s { health = 100; body = grown_body s.body } else s
+
+abbrev pub grown : Board → Board
+grown b = record b { snakes = map grown_snake b.snakes }

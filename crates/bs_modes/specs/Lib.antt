@@ -1,0 +1,2 @@
+pub mod FirstBoard
+pub mod Growth
