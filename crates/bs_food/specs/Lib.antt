@@ -1,0 +1,3 @@
+pub mod Free
+pub mod Marks
+pub mod Spawning

@@ -1,0 +1,11 @@
+//! Where food appears. It is a function of the board and of the words that a move brings, and of nothing else.
+#![tactic(auto)]
+
+mod free;
+mod marks;
+mod spawning;
+#[cfg(test)]
+mod tests;
+
+pub use free::free_cells;
+pub use spawning::spawn;

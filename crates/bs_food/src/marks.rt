@@ -1,0 +1,46 @@
+ghost use Rattle.std.specs.Prelude.{◌≡◌, ◌<◌, ◌*◌, true, length};
+ghost use Rattle.bs_board.specs.Cell.{is_on_board};
+ghost use Rattle.bs_food.specs.Marks.{MarksCell, MarksCells, MarksSnakes, place_in};
+
+use bs_board::{Point, Snake};
+
+/// A cell's place, counted row after row from the bottom left.
+#[tactic(auto, using(crate::proofs::Places::place_fits))]
+fn place_of(width: u8, height: u8, cell: Point) -> usize
+    requires { is_on_board width height cell ≡ true }
+    ensures value { result ≡ place_in width cell }
+    ensures fits { result < width * height }
+{
+    usize::from(cell.y.unsigned_abs()) * usize::from(width) + usize::from(cell.x.unsigned_abs())
+}
+
+/// Marks a cell's place, row after row; a cell off the board has none.
+#[tactic(auto, using(crate::proofs::Places::marks_place, crate::proofs::Places::marks_nothing))]
+fn mark(marks: &mut [bool], width: u8, height: u8, cell: Point)
+    requires { length marks.old ≡ width * height }
+    ensures { MarksCell width height cell marks.old marks.new }
+{
+    if cell.is_on_board(width, height) {
+        marks[place_of(width, height, cell)] = true;
+    }
+}
+
+pub fn mark_all(marks: &mut [bool], width: u8, height: u8, cells: &[Point])
+    requires { length marks.old ≡ width * height }
+    ensures { MarksCells width height cells.now marks.old marks.new }
+{
+    for cell in cells {
+        mark(marks, width, height, *cell);
+    }
+}
+
+pub fn mark_snakes(marks: &mut [bool], width: u8, height: u8, snakes: &[Snake])
+    requires { length marks.old ≡ width * height }
+    ensures { MarksSnakes width height snakes.now marks.old marks.new }
+{
+    for snake in snakes {
+        if snake.is_living() {
+            mark_all(marks, width, height, snake.body.as_slice());
+        }
+    }
+}
