@@ -1,2 +1,5 @@
 pub mod Ascending
 pub mod Lengths
+pub mod Places
+pub mod Chains
+pub mod Sizes

@@ -17,6 +17,8 @@ pub mod reply;
 pub mod setup;
 pub mod snake;
 pub mod snakes;
+#[cfg(test)]
+mod tests;
 
 pub use board::{Board, Mode};
 pub use cells::Cells;

@@ -1,0 +1,196 @@
+use crate::*;
+use std::alloc::{AllocError, Global};
+use std::process::Abort;
+use std::test::Fail;
+
+fn cells(alloc: Global, parts: &[(i16, i16)]) -> Result<Cells, AllocError> {
+    let mut cells = Cells::new(alloc);
+    for &(x, y) in parts {
+        cells.push(Point { x, y })?;
+    }
+    Ok(cells)
+}
+
+// The solo game on a board of three by three, after so many turns: it runs up into the wall in the second.
+fn solo(alloc: Global, turn: u16) -> Result<Board, AllocError> {
+    let (body, health) = match turn {
+        0 => (cells(alloc, &[(1, 1), (1, 1), (1, 1)])?, 100),
+        1 => (cells(alloc, &[(1, 2), (1, 1), (1, 1)])?, 99),
+        _ => (cells(alloc, &[(1, 3), (1, 2), (1, 1)])?, 98),
+    };
+    let is_out = turn > 1;
+    let snake = Snake {
+        id: Id::from_str(alloc, "s")?,
+        body,
+        health,
+        cause: if is_out {
+            Some(Cause::WallCollision)
+        } else {
+            None
+        },
+        killer: None,
+        out: if is_out { Some(2) } else { None },
+    };
+    Ok(Board {
+        mode: Mode::Solo,
+        width: 3,
+        height: 3,
+        turn,
+        min_food: 0,
+        chance: 0,
+        food: Cells::new(alloc),
+        snakes: Snakes::from_vec(vec![in alloc; snake]?),
+    })
+}
+
+fn start(alloc: Global, id: &str, x: i16, y: i16) -> Result<(Id, Point), AllocError> {
+    Ok((Id::from_str(alloc, id)?, Point { x, y }))
+}
+
+fn setup(
+    alloc: Global,
+    side: u8,
+    snakes: Vec<(Id, Point)>,
+    food: &[(i16, i16)],
+) -> Result<Option<New>, AllocError> {
+    Ok(New::new(
+        Mode::Standard,
+        side,
+        side,
+        Starts::from_vec(snakes),
+        cells(alloc, food)?,
+        1,
+        15,
+    ))
+}
+
+#[test]
+fn boards_of_a_solo_game_are_legal(rt: HostRuntime) -> Result<(), Fail> {
+    let alloc = rt.alloc();
+    for turn in 0..3 {
+        assert!(rt; is_legal(&solo(alloc, turn)?), "turn {turn}");
+    }
+    let mut wrong = solo(alloc, 2)?;
+    wrong.turn = 1;
+    assert!(rt; !is_legal(&wrong), "out in a turn to come");
+    let mut wrong = solo(alloc, 0)?;
+    wrong.chance = 101;
+    assert!(rt; !is_legal(&wrong), "chance above 100");
+    let mut wrong = solo(alloc, 0)?;
+    wrong.mode = Mode::Constrictor;
+    wrong.food.push(Point { x: 0, y: 0 })?;
+    assert!(rt; !is_legal(&wrong), "food in constrictor");
+    Ok(())
+}
+
+#[test]
+fn limits_of_a_setup(rt: HostRuntime) -> Result<(), Fail> {
+    let alloc = rt.alloc();
+    let one = vec![in alloc; start(alloc, "s", 1, 1)?]?;
+    assert!(rt; setup(alloc, 3, one, &[(0, 2)])?.is_some());
+    let off = vec![in alloc; start(alloc, "s", 3, 1)?]?;
+    assert!(rt; setup(alloc, 3, off, &[])?.is_none());
+    let wide = vec![in alloc; start(alloc, "s", 1, 1)?]?;
+    assert!(rt; setup(alloc, 26, wide, &[])?.is_none());
+    let same = vec![in alloc; start(alloc, "s", 1, 1)?, start(alloc, "s", 2, 1)?]?;
+    assert!(rt; setup(alloc, 3, same, &[])?.is_none());
+    let again = vec![in alloc; start(alloc, "s", 1, 1)?]?;
+    assert!(rt; setup(alloc, 3, again, &[(0, 0), (0, 0)])?.is_none());
+    for (quota, fits) in [
+        (15, false),
+        (16, true),
+        (16_777_216, true),
+        (16_777_217, false),
+    ] {
+        assert_eq!(rt;
+            Row::new(Id::from_str(alloc, "a")?, quota).is_some(),
+            fits,
+            "quota {quota}"
+        );
+    }
+    for (number, fits) in [(10_000, true), (10_001, false)] {
+        assert_eq!(rt; TurnNumber::new(number).is_some(), fits, "turn {number}");
+    }
+    Ok(())
+}
+
+fn assert_same_board(rt: &impl Abort, copy: &Board, board: &Board) {
+    assert_eq!(rt;
+        (copy.mode, copy.width, copy.height, copy.turn),
+        (board.mode, board.width, board.height, board.turn)
+    );
+    assert_eq!(rt;
+        (copy.min_food, copy.chance),
+        (board.min_food, board.chance)
+    );
+    assert_eq!(rt; copy.food.as_slice(), board.food.as_slice());
+    assert_eq!(rt; copy.snakes.len(), board.snakes.len());
+    for (copied, snake) in copy.snakes.as_slice().iter().zip(board.snakes.as_slice()) {
+        assert!(rt; copied.id.is_same(&snake.id));
+        assert_eq!(rt; copied.body.as_slice(), snake.body.as_slice());
+        assert_eq!(rt; (copied.health, copied.cause), (snake.health, snake.cause));
+        assert_eq!(rt; (copied.killer, copied.out), (snake.killer, snake.out));
+    }
+}
+
+// Each type with text or lists copies with memory, and the copy is as its source.
+#[test]
+fn copies_are_as_their_sources(rt: HostRuntime) -> Result<(), Fail> {
+    let alloc = rt.alloc();
+    let board = solo(alloc, 2)?;
+    assert_same_board(&rt, &board.copy(alloc)?, &board);
+    match Reply::Shown(Word::Show, solo(alloc, 1)?, 64).copy(alloc)? {
+        Reply::Shown(word, shown, charge) => {
+            assert_eq!(rt; (word, charge), (Word::Show, 64));
+            assert_same_board(&rt, &shown, &solo(alloc, 1)?);
+        }
+        _ => assert!(rt; false, "another reply"),
+    }
+    Ok(())
+}
+
+#[test]
+fn commands_and_plans_copy(rt: HostRuntime) -> Result<(), Fail> {
+    let alloc = rt.alloc();
+    let given = vec![in alloc;
+        (Id::from_str(alloc, "a")?, Direction::Up),
+        (Id::from_str(alloc, "b")?, Direction::Left),
+    ]?;
+    assert!(rt; orders::is_ascending(&given));
+    let words = Words::from_vec(vec![in alloc; 5, 6]?);
+    assert!(rt; words.as_slice().len() <= 32);
+    let order = Command::Move(Move::new(Moves::from_vec(given), words));
+    match order.copy(alloc)? {
+        Command::Move(copy) => {
+            let moves = copy.moves.as_slice();
+            assert_eq!(rt; moves.len(), 2);
+            assert_eq!(rt; moves[1].0.as_str(), "b");
+            assert_eq!(rt; (moves[0].1, moves[1].1), (Direction::Up, Direction::Left));
+            assert_eq!(rt; copy.words.as_slice(), [5, 6].as_slice());
+        }
+        _ => assert!(rt; false, "another command"),
+    }
+    let row = Row::new(Id::from_str(alloc, "a")?, 64).ok_or("fits")?;
+    let rows = vec![in alloc; row]?;
+    assert!(rt; plan::have_distinct_names(&rows));
+    assert!(rt; rows.len() <= 64);
+    let plan = Plan {
+        rows: Rows::from_vec(rows),
+    }
+    .copy(alloc)?;
+    let row = plan.rows.as_slice().first().ok_or("a row")?;
+    assert_eq!(rt; (row.game.as_str(), row.quota), ("a", 64));
+    Ok(())
+}
+
+// The record of the three by three game has 26 bytes in each of its turns.
+#[test]
+#[tactic(auto, using(crate::proofs::Sizes::legal_size_fits))]
+fn record_lengths(rt: HostRuntime) -> Result<(), Fail> {
+    for turn in 0..3 {
+        let board = solo(rt.alloc(), turn)?;
+        assert!(rt; is_legal(&board));
+        assert_eq!(rt; size(&board), 26, "turn {turn}");
+    }
+    Ok(())
+}
