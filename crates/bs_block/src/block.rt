@@ -1,0 +1,164 @@
+//! A block and its calls. A clause sees a block as the list of its bytes.
+ghost use Rattle.std.specs.Prelude.{◌≡◌, ◌+◌, ◌-◌, ◌≤◌, [], ◌++◌, length, replicate, IfOk, MatchOption};
+ghost use Rattle.std.specs.Borrow.{sem};
+ghost use Rattle.bs_block.specs.Bytes.{IsCapacity, Fits, Overflows, Pushes, range};
+ghost use Rattle.bs_block.specs.Rounding.{rounded};
+
+use crate::raw::{Base, Deed, Places, allocate, deallocate};
+use crate::rounding::round_up;
+use std::alloc::{AllocError, Global};
+use std::marker::Model;
+
+/// One allocation of `CAP` bytes, seen as the list of those in use. `CAP` is a multiple of 16 from 16 to 1,073,741,824.
+/// Each append takes its size rounded up to a multiple of 16. The block alone owns its bytes, and its drop frees them.
+pub struct Block<const CAP: usize> {
+    base: Base,
+    len: usize,
+    places: Places,
+    deed: Deed<Global>,
+    alloc: Global,
+}
+
+impl<const CAP: usize> Model for Block<CAP> {
+    ghost use Rattle.std.specs.Prelude.{List, ℕ};
+
+    ghost Value = { List ℕ };
+
+    ghost use Rattle.bs_block.specs.Layout.{bytes_of, IsBlock};
+
+    ghost view = { λ b. bytes_of b };
+
+    ghost invariant = { λ b. IsBlock CAP b };
+}
+
+impl<const CAP: usize> Block<CAP> {
+    ghost use Rattle.bs_block.specs.BlockLends.{lends_range, lends_fresh};
+
+    /// An empty block. Only this call takes memory, `CAP` bytes at once, and it touches none of them.
+    /// An error is the allocator's.
+    pub fn new(alloc: Global) -> Result<Self, AllocError>
+        requires { IsCapacity CAP }
+        ensures { IfOk result (λ b. b ≡ []) }
+    {
+        let (base, places, deed) = allocate(&alloc, CAP)?;
+        Ok(Block {
+            base,
+            len: 0,
+            places,
+            deed,
+            alloc,
+        })
+    }
+
+    /// The number of bytes in use.
+    pub fn len(&self) -> usize
+        ensures { result ≡ length self.now }
+    {
+        self.len
+    }
+
+    /// The number of bytes that are left.
+    pub fn room(&self) -> usize
+        ensures room { result + length self.now ≡ CAP }
+        ensures most { result ≤ 1073741824 }
+    {
+        CAP - self.len
+    }
+
+    /// Empties the block. It keeps its memory.
+    pub fn clear(&mut self)
+        ensures { self.new ≡ [] }
+    {
+        self.len = 0;
+    }
+
+    /// The `n` bytes from `at` on.
+    pub fn get(&self, at: usize, n: usize) -> &[u8]
+        requires { at + n ≤ length self.now }
+        ensures value { result.now ≡ range at n self.now }
+        ensures len { length result.now ≡ n }
+    {
+        self.places.slice(self.base, at, n)
+    }
+
+    /// The `n` bytes from `at` on, to write.
+    pub fn get_mut(&mut self, at: usize, n: usize) -> &mut [u8]
+        requires { at + n ≤ length self.old }
+        ensures* writes_back { sem 𝓛 (lends_range CAP.row self.entry at n result) }
+        ensures value { result.now ≡ range at n self.old }
+        ensures len { length result.now ≡ n }
+    {
+        let base = self.base;
+        let (_, run) = self.places.split(base, at, n);
+        run
+    }
+
+    /// The rounded size of `n` bytes, where it does not exceed the room.
+    #[tactic(auto, using(crate::proofs::Rounded::rounded_above))]
+    fn fitting(&self, n: usize) -> Option<usize>
+        ensures { MatchOption result (Overflows CAP self.now n) (λ size. Fits CAP self.now n × (size ≡ rounded n)) }
+    {
+        let room = self.room();
+        if n > room {
+            return None;
+        }
+        let size = round_up(n);
+        if size > room {
+            return None;
+        }
+        Some(size)
+    }
+
+    /// Appends the bytes, then zeros up to a multiple of 16, and answers the old length: where the bytes now lie.
+    /// `None` where the rounded size exceeds the room.
+    #[tactic(auto, using(crate::proofs::Rounded::rounded_above))]
+    pub fn push(&mut self, bytes: &[u8]) -> Option<usize>
+        ensures { Pushes CAP self.old bytes.now result self.new }
+    {
+        let size = self.fitting(bytes.len())?;
+        let (base, at, n) = (self.base, self.len, bytes.len());
+        self.places.write_slice(base, at, bytes);
+        self.places.write_zeros(base, at + n, size - n);
+        self.len = at + size;
+        Some(at)
+    }
+
+    /// Appends `n` zeros, rounded up, and lends at once all the old bytes, to read, and the `n` zeros, to write.
+    /// Test first that it fits: `round_up(n) <= room()`.
+    #[tactic(auto, using(crate::proofs::Rounded::rounded_above))]
+    pub fn fill(&mut self, n: usize) -> (&[u8], &mut [u8])
+        requires { Fits CAP self.old n }
+        ensures* writes_back { sem 𝓛 (lends_fresh CAP.row self.entry n result.1) }
+        ensures old { result.0.now ≡ self.old }
+        ensures fresh { result.1.now ≡ replicate n 0 }
+        ensures len { length result.1.now ≡ n }
+    {
+        let (base, old) = (self.base, self.len);
+        let size = round_up(n);
+        self.places.write_zeros(base, old, size);
+        self.len += size;
+        self.places.split(base, old, n)
+    }
+
+    /// `fill`, or `None` where the rounded size exceeds the room. A caller's proof does not learn from it what stands in
+    /// the block after the loan, as it does from `fill`.
+    pub fn split_fill(&mut self, n: usize) -> Option<(&[u8], &mut [u8])>
+        ensures { MatchOption result (Overflows CAP self.old n) (λ parts. Fits CAP self.old n × (parts.0.now ≡ self.old) × (parts.1.now ≡ replicate n 0)) }
+    {
+        self.fitting(n)?;
+        Some(self.fill(n))
+    }
+}
+
+impl<const CAP: usize> Drop for Block<CAP> {
+    fn drop(self) {
+        let Block {
+            base,
+            len: _,
+            places,
+            deed,
+            alloc,
+        } = self;
+        deallocate(&alloc, base, CAP, places, deed);
+    }
+}

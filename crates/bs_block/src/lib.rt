@@ -1,0 +1,14 @@
+//! One raw allocation of `CAP` bytes, seen by every contract as the list of its bytes.
+#![tactic(auto)]
+
+mod block;
+mod raw;
+mod rounding;
+#[cfg(test)]
+mod tests;
+
+pub use block::Block;
+// A crate can name a block in a contract only if the types of its fields are exported.
+#[doc(hidden)]
+pub use raw::{Base, Deed, Places};
+pub use rounding::round_up;
