@@ -1,0 +1,67 @@
+use clap::error::ErrorKind;
+use clap::{Arg, ArgAction, ArgMatches, Command, Error, value_parser};
+use std::alloc::{AllocError, Global};
+
+/// A file name that stands for the standard input.
+pub const STANDARD_INPUT: &str = "-";
+
+const DEFAULT_BLOCKS: u16 = 64;
+
+/// What a command line asks for.
+#[derive(Clone, Copy, Debug)]
+pub struct Request<'a> {
+    pub file: &'a str,
+    pub blocks: u16,
+}
+
+fn serve_command<'a>(alloc: Global) -> Result<Command<'a>, AllocError> {
+    let file = Arg::new(alloc, "FILE")
+        .required(true)
+        .action(ArgAction::Set)
+        .help("The command file, or - for the standard input");
+    let blocks = Arg::new(alloc, "blocks")
+        .long("blocks")
+        .value_name("N")
+        .action(ArgAction::Set)
+        .value_parser(value_parser!(u16).range(1..=4096))
+        .default_value("64")
+        .help("Blocks of 2 MiB that the games may reserve, 1 to 4096");
+    Command::new(alloc, "serve")
+        .about("Plays the games of a command file and writes their transcript")
+        .arg(file)?
+        .arg(blocks)
+}
+
+fn arena_command<'a>(alloc: Global) -> Result<Command<'a>, AllocError> {
+    Command::new(alloc, "arena")
+        .about("A host for many Battlesnake games")
+        .subcommand_required(true)
+        .subcommand(serve_command(alloc)?)
+}
+
+fn request_of<'a>(matches: &ArgMatches<'a>) -> Request<'a> {
+    Request {
+        file: matches.get_str("FILE").unwrap_or(STANDARD_INPUT),
+        blocks: matches.get_one::<u16>("blocks").unwrap_or(DEFAULT_BLOCKS),
+    }
+}
+
+/// Reads the words of a command line, the program's name first. With no word behind it the standard input is served.
+pub fn read_words<'a>(alloc: Global, words: &'a [&'a str]) -> Result<Request<'a>, Error> {
+    if words.len() <= 1 {
+        return Ok(Request {
+            file: STANDARD_INPUT,
+            blocks: DEFAULT_BLOCKS,
+        });
+    }
+    let matches = arena_command(alloc)?.try_get_matches_from(words)?;
+    match matches.subcommand() {
+        Some((_, serve)) => Ok(request_of(serve)),
+        None => Ok(request_of(&matches)),
+    }
+}
+
+/// Whether the words were not judged for want of memory.
+pub fn is_memory(error: &Error) -> bool {
+    matches!(error.kind(), ErrorKind::OutOfMemory)
+}

@@ -1,0 +1,33 @@
+use bs_host::{Fault, ReadFault};
+use thiserror::Error;
+
+/// Why a run ended with a status other than 0 once its command line was understood.
+#[derive(Debug, Drop, Error)]
+pub enum Failure {
+    #[error(transparent)]
+    Read(ReadFault),
+    #[error(transparent)]
+    Serve(Fault),
+    #[error("flush failed")]
+    Flush,
+    #[error("out of memory")]
+    Memory,
+}
+
+impl Failure {
+    /// The exit status: 3 where the file was not read, 4 where its plan was refused, 5 for want of memory, 6 where the
+    /// output failed.
+    pub fn status(&self) -> u8 {
+        match self {
+            Failure::Read(ReadFault::Device) => 3,
+            Failure::Read(ReadFault::TooLong) => 3,
+            Failure::Read(ReadFault::Memory) => 5,
+            Failure::Serve(Fault::TooLong) => 3,
+            Failure::Serve(Fault::Plan(_)) => 4,
+            Failure::Serve(Fault::Memory) => 5,
+            Failure::Serve(Fault::Write(_)) => 6,
+            Failure::Flush => 6,
+            Failure::Memory => 5,
+        }
+    }
+}

@@ -1,0 +1,76 @@
+use crate::command_line::{Request, STANDARD_INPUT, is_memory, read_words};
+use crate::failure::Failure;
+use bs_host::{ReadFault, read_input, serve};
+use std::alloc::Global;
+use std::fs;
+use std::io::{self, Read, Write};
+use std::rt::Files;
+
+/// The status of a refused command line.
+const REFUSED: u8 = 2;
+
+/// All bytes of the file that a request names.
+fn input_of<F: Files, R: Read>(rt: &F, alloc: Global, file: &str, input: &mut R) -> Result<Vec<u8>, ReadFault> {
+    if file == STANDARD_INPUT {
+        return read_input(alloc, input);
+    }
+    match fs::open(rt, file) {
+        Ok(mut opened) => read_input(alloc, &mut opened),
+        Err(error) => Err(if error.kind() == io::ErrorKind::OutOfMemory {
+            ReadFault::Memory
+        } else {
+            ReadFault::Device
+        }),
+    }
+}
+
+fn run<F: Files, R: Read, W: Write>(
+    rt: &F,
+    alloc: Global,
+    request: Request<'_>,
+    input: &mut R,
+    output: &mut W,
+) -> Result<(), Failure> {
+    let bytes = input_of(rt, alloc, request.file, input).map_err(Failure::Read)?;
+    serve(alloc, &bytes, usize::from(request.blocks), output).map_err(Failure::Serve)?;
+    output.flush().map_err(|_| Failure::Flush)
+}
+
+/// Writes the one line of a fault, and gives its exit status.
+pub fn reported<E: Write>(failure: &Failure, errors: &mut E) -> u8 {
+    // Where the line itself can't be written, the status still tells.
+    let _ = writeln!(errors, "arena: {failure}");
+    failure.status()
+}
+
+/// The text of a command line that asks for nothing to be served: a mistake, or a request for help.
+fn explained<W: Write, E: Write>(error: &clap::Error, output: &mut W, errors: &mut E) -> u8 {
+    if is_memory(error) {
+        return reported(&Failure::Memory, errors);
+    }
+    if error.use_stderr() {
+        let _ = write!(errors, "{error}");
+        return REFUSED;
+    }
+    let shown = write!(output, "{error}").and_then(|()| output.flush());
+    if shown.is_err() { reported(&Failure::Flush, errors) } else { 0 }
+}
+
+/// Runs the program on these words, of which the first is its own name, and gives its exit status. The transcript goes
+/// to `output`, which is flushed at the end; a fault is one line on `errors`.
+pub fn arena_run<F: Files, R: Read, W: Write, E: Write>(
+    rt: &F,
+    alloc: Global,
+    words: &[&str],
+    input: &mut R,
+    output: &mut W,
+    errors: &mut E,
+) -> u8 {
+    match read_words(alloc, words) {
+        Err(error) => explained(&error, output, errors),
+        Ok(request) => match run(rt, alloc, request, input, output) {
+            Ok(()) => 0,
+            Err(failure) => reported(&failure, errors),
+        },
+    }
+}

@@ -1,0 +1,6 @@
+pub mod Known
+pub mod Sizes
+pub mod Games
+pub mod Cutting
+pub mod Sorting
+pub mod Files

@@ -1,0 +1,54 @@
+-- When a command file is not served, and what each fault leaves.
+use Rattle.std.specs.Prelude.{◌≡◌, ℕ, ◌+◌, ◌/◌, ◌<◌, List, length, take, sum_by, nat_lt, Option, Some, None, Result, Ok, Err, if◌then◌else◌}
+use Rattle.std.specs.Io.KnownBytes.{Appends}
+use Rattle.bs_board.specs.declared.plan.Plan.{Plan}
+use Rattle.bs_board.specs.Plan.{GameRow}
+use Rattle.bs_json.specs.declared.plan.PlanFault.{PlanFault}
+use Rattle.bs_json.specs.declared.plan.PlanFault.TheVariants as plan
+use Rattle.bs_host.specs.declared.fault.Fault.{Fault}
+use Rattle.bs_host.specs.declared.fault.Fault.TheVariants.{TooLong, Plan as OfPlan, Memory, Write}
+use Rattle.bs_host.specs.declared.fault.PlanRefusal.TheVariants as refusal
+use Rattle.bs_host.specs.File.{plan_of}
+
+-- Blocks of 2,097,152 bytes are reserved for a game: as many as its records can need, when none has more than 262,144
+-- bytes and a block is closed where the next record does not fit, and four for the parts of a turn.
+abbrev pub blocks_of : GameRow → ℕ
+blocks_of row = row.quota / 1835008 + 2 + 4
+
+abbrev pub reserved : List GameRow → ℕ
+reserved = sum_by blocks_of
+
+abbrev pub fault_of : PlanFault → Fault
+fault_of plan.Malformed = OfPlan refusal.Malformed
+fault_of plan.BadRow = OfPlan refusal.BadRow
+fault_of plan.TooMany = OfPlan refusal.TooMany
+fault_of plan.Memory = Memory
+
+abbrev pub refusal_of_plan : ℕ → Result Plan PlanFault → Option Fault
+refusal_of_plan blocks (Err fault) = Some (fault_of fault)
+refusal_of_plan blocks (Ok plan) = if nat_lt blocks (reserved plan.rows) then Some (OfPlan refusal.Short) else None
+
+-- the first reason against serving the file from that many blocks
+unfoldable pub refusal_of : ℕ → List ℕ → Option Fault
+refusal_of blocks file = if nat_lt 16777216 (length file) then Some TooLong else refusal_of_plan blocks (plan_of file)
+
+-- that reason was found; of want of memory nothing is said
+abbrev pub IsRefusal : Option Fault → Fault → Type 0
+IsRefusal refusal TooLong = refusal ≡ Some TooLong
+IsRefusal refusal (OfPlan reason) = refusal ≡ Some (OfPlan reason)
+IsRefusal refusal Memory = Unit {0}
+IsRefusal refusal (Write written) = ⊥
+
+-- the writer failed only where nothing was against the file
+abbrev pub IsFault : Option Fault → Fault → Type 0
+IsFault refusal TooLong = refusal ≡ Some TooLong
+IsFault refusal (OfPlan reason) = refusal ≡ Some (OfPlan reason)
+IsFault refusal Memory = Unit {0}
+IsFault refusal (Write written) = refusal ≡ None
+
+-- what the writer then holds: as much of the text as the fault says, fewer bytes than all, or nothing new
+abbrev pub Leaves : {W : Type 0} → (W → Option (List ℕ)) → List ℕ → W → W → Fault → Type 0
+Leaves contents text old new TooLong = new ≡ old
+Leaves contents text old new (OfPlan reason) = new ≡ old
+Leaves contents text old new Memory = new ≡ old
+Leaves contents text old new (Write written) = (written < length text) × Appends (contents old) (contents new) (take written text)

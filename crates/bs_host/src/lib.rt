@@ -1,0 +1,19 @@
+//! Serves a command file: reads its bytes, runs each game of its plan by that game's own lines, and writes what they
+//! are answered, game by game.
+#![tactic(auto)]
+
+mod answer;
+mod fault;
+mod game;
+mod lines;
+mod reading;
+mod requests;
+mod sections;
+mod serving;
+#[cfg(test)]
+mod tests;
+mod writing;
+
+pub use fault::{Fault, PlanRefusal};
+pub use reading::{ReadFault, read_input};
+pub use serving::serve;

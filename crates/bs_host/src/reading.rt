@@ -1,0 +1,46 @@
+ghost use Rattle.std.specs.Prelude.{◌≡◌, ◌<◌, ◌≤◌, length, IfOk, IfErr, OnOk, IfSome, IsErrOf};
+ghost use Rattle.std.specs.Io.KnownBytes.{Consumes, IsAtEnd};
+
+use std::alloc::{AllocError, Global};
+use std::io::Read;
+use thiserror::Error;
+
+/// The most bytes that a command file may have.
+pub(crate) const MOST_BYTES: usize = 16_777_216;
+
+const BLOCK: usize = 8_192;
+
+/// Why a command file was not read.
+#[derive(Debug, Drop, Error)]
+pub enum ReadFault {
+    /// The reader answered an error, an interruption among them.
+    #[error("cannot read the file")]
+    Device,
+    #[error("file too long")]
+    TooLong,
+    #[error("out of memory")]
+    Memory,
+}
+
+/// All bytes that the reader has left, at most 16,777,216. After an error nothing is said of how many were taken.
+pub fn read_input<R: Read>(alloc: Global, input: &mut R) -> Result<Vec<u8>, ReadFault>
+    ensures all { IfOk result (λ bytes. IfSome (R.remaining input.old) (λ left. bytes.items ≡ left)) }
+    ensures end { OnOk result (IsAtEnd (R.remaining input.new)) }
+    ensures short { IfOk result (λ bytes. length bytes.items ≤ 16777216) }
+    ensures long { IsErrOf result ReadFault.TooLong → IfSome (R.remaining input.old) (λ left. 16777216 < length left) }
+{
+    let mut bytes = Vec::new(alloc);
+    let mut block = [0u8; BLOCK];
+    'reads: while bytes.len() <= MOST_BYTES {
+        let Ok(count) = input.read(&mut block) else {
+            return Err(ReadFault::Device);
+        };
+        if count == 0 {
+            return Ok(bytes);
+        }
+        if bytes.extend_from_slice(&block[..count]).is_err() {
+            return Err(ReadFault::Memory);
+        }
+    }
+    Err(ReadFault::TooLong)
+}

@@ -1,0 +1,55 @@
+-- The plan that the first line of a command file is.
+use Rattle.std.specs.Prelude.{◌≡◌, ℕ, codes, length, List, Bool, true, Option, Some, None, Result, Ok, Err, nat_lt, nat_le, nat_eq, if◌then◌else◌}
+use Rattle.serde_json.specs.Data.{Data, Items}
+use Rattle.serde_json.specs.Find.{get, as_array}
+use Rattle.bs_board.specs.declared.plan.Plan.{Plan}
+use Rattle.bs_board.specs.Plan.{GameRow, row_of, is_fit_row, have_distinct_names}
+use Rattle.bs_json.specs.declared.plan.PlanFault.{PlanFault}
+use Rattle.bs_json.specs.declared.plan.PlanFault.TheVariants.{Malformed, BadRow, TooMany, Memory}
+use Rattle.bs_json.specs.Values.{◌>>=◌, value_of, whole, number_at, text_at, each}
+
+-- the version of this format is 1
+abbrev pub is_version : Option ℕ → Bool
+is_version None = Bool.false
+is_version (Some n) = nat_eq n 1
+
+-- it may be left out
+abbrev pub is_known_version : Option Data → Bool
+is_known_version None = true
+is_known_version (Some d) = is_version (whole d)
+
+abbrev pub fit_row : GameRow → Option GameRow
+fit_row row = if is_fit_row row then Some row else None
+
+abbrev pub row_from : Data → Option GameRow
+row_from d = do
+  game ← text_at (codes "game") d
+  quota ← number_at (codes "quota") 16777216 d
+  fit_row (row_of game quota)
+
+-- a row or a name that is refused comes before their number
+abbrev pub plan_of_rows : Option (List GameRow) → Result Plan PlanFault
+plan_of_rows None = Err BadRow
+plan_of_rows (Some rows) =
+    if have_distinct_names rows then (if nat_le (length rows) 64 then Ok (record { rows = rows }) else Err TooMany)
+    else Err BadRow
+
+abbrev pub plan_of_games : Option Items → Result Plan PlanFault
+plan_of_games None = Err Malformed
+plan_of_games (Some games) = plan_of_rows (each row_from games)
+
+abbrev pub plan_from : Option Data → Result Plan PlanFault
+plan_from None = Err Malformed
+plan_from (Some d) =
+    if is_known_version (get (codes "version") d) then plan_of_games (get (codes "games") d >>= as_array)
+    else Err Malformed
+
+unfoldable pub plan_line_of : List ℕ → Result Plan PlanFault
+plan_line_of bytes = if nat_lt 65536 (length bytes) then Err Malformed else plan_from (value_of bytes)
+
+-- that fault was found; of want of memory nothing is said
+abbrev pub IsPlanFault : Result Plan PlanFault → PlanFault → Type 0
+IsPlanFault plan Malformed = plan ≡ Err Malformed
+IsPlanFault plan BadRow = plan ≡ Err BadRow
+IsPlanFault plan TooMany = plan ≡ Err TooMany
+IsPlanFault plan Memory = Unit {0}

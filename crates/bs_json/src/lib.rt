@@ -1,0 +1,19 @@
+//! The lines of command files and of transcripts. A line is read to a plan or a command, and a reply is written to a
+//! line, each by itself; what the lines of a whole file are together is another crate's matter.
+#![tactic(auto)]
+
+mod boards;
+mod commands;
+pub mod line;
+mod moves;
+pub mod plan;
+mod replies;
+mod setups;
+#[cfg(test)]
+mod tests;
+mod values;
+
+pub use boards::board_value;
+pub use line::{Line, Stray, read_line};
+pub use plan::{PlanFault, read_plan};
+pub use replies::{final_line, reply_line, stray_line};

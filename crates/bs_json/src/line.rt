@@ -1,0 +1,79 @@
+ghost use Rattle.std.specs.Prelude.{◌≡◌, IfOk};
+ghost use Rattle.std.specs.List.{list_all};
+ghost use Rattle.serde_json.specs.View.{view};
+ghost use Rattle.bs_json.specs.Line.{is_space, line_from, line_of};
+
+use crate::commands::command_of;
+use crate::values::{id_at, parsed};
+use bs_board::{Command, Id};
+use serde_json::Value;
+use std::alloc::{AllocError, Global};
+
+/// The most bytes of a line, without its line feed.
+pub const MAX_LINE: usize = 65_536;
+
+/// Why a line belongs to no game.
+#[derive(Clone, Copy, Debug, PartialEq, Eq)]
+pub enum Stray {
+    /// L1: it is no JSON text, or no object.
+    Json,
+    /// L2: it names no game, or none of the plan.
+    Game,
+    /// L3: it is longer than a line may be.
+    Long,
+}
+
+/// What a line of a command file is, after its first.
+#[derive(Debug, Drop)]
+pub enum Line {
+    /// Nothing but white space: it is passed over.
+    Blank,
+    Command { game: Id, command: Command },
+    /// It names its game, and no command that can be carried out.
+    Bad { game: Id },
+    Stray(Stray),
+}
+
+fn is_space(byte: u8) -> bool
+    ensures { result ≡ is_space byte }
+{
+    matches!(byte, b' ' | b'\t' | b'\n' | b'\r')
+}
+
+fn is_blank(line: &[u8]) -> bool
+    ensures { result ≡ list_all is_space line.now }
+{
+    line.iter().all(|byte| is_space(*byte))
+}
+
+fn line_from(alloc: Global, value: &Value) -> Result<Line, AllocError>
+    ensures { IfOk result (λ line. line ≡ line_from (Some (view value.now))) }
+{
+    if !value.is_object() {
+        return Ok(Line::Stray(Stray::Json));
+    }
+    let Some(game) = id_at(alloc, value, "game")? else {
+        return Ok(Line::Stray(Stray::Game));
+    };
+    match command_of(alloc, value)? {
+        Some(command) => Ok(Line::Command { game, command }),
+        None => Ok(Line::Bad { game }),
+    }
+}
+
+/// Reads one line, given without its line feed. Whether the plan has the game is for the caller to see.
+#[tactic(auto, unfolding(crate::specs::Line::line_of))]
+pub fn read_line(alloc: Global, line: &[u8]) -> Result<Line, AllocError>
+    ensures { IfOk result (λ l. l ≡ line_of line.now) }
+{
+    if line.len() > MAX_LINE {
+        return Ok(Line::Stray(Stray::Long));
+    }
+    if is_blank(line) {
+        return Ok(Line::Blank);
+    }
+    match parsed(alloc, line)? {
+        Some(value) => line_from(alloc, &value),
+        None => Ok(Line::Stray(Stray::Json)),
+    }
+}

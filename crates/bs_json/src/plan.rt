@@ -1,0 +1,119 @@
+ghost use Rattle.std.specs.Prelude.{◌≡◌, codes, option_map, IfOk, MatchResult};
+ghost use Rattle.serde_json.specs.Find.{get};
+ghost use Rattle.serde_json.specs.View.{view, items_view};
+ghost use Rattle.bs_json.specs.PlanLine.{is_known_version, row_from, plan_of_rows, plan_from, plan_line_of, IsPlanFault};
+ghost use Rattle.bs_json.specs.Values.{each};
+
+use crate::line::MAX_LINE;
+use crate::values::{id_at, number_at, parsed};
+use bs_board::plan::have_distinct_names;
+use bs_board::{Plan, Row, Rows};
+use serde_json::Value;
+use std::alloc::{AllocError, Global};
+use thiserror::Error;
+
+/// Why the first line of a file is no plan.
+#[derive(Clone, Copy, Debug, Drop, Error, PartialEq, Eq)]
+pub enum PlanFault {
+    /// P1: it is too long, no JSON, no object with an array of games, or of another version.
+    #[error("the first line is no plan")]
+    Malformed,
+    /// P2: a row that is out of range, or a name that stands twice.
+    #[error("the plan has a bad row")]
+    BadRow,
+    /// P3
+    #[error("the plan has too many games")]
+    TooMany,
+    #[error("out of memory")]
+    Memory,
+}
+
+impl From<AllocError> for PlanFault {
+    ghost use Rattle.bs_json.specs.declared.plan.PlanFault.TheVariants.{Memory};
+
+    ghost from_gives = { λ _ e. e ≡ Memory };
+
+    fn from(_e: AllocError) -> PlanFault {
+        PlanFault::Memory
+    }
+}
+
+fn is_known_version(line: &Value) -> bool
+    ensures { result ≡ is_known_version (get (codes "version") (view line.now)) }
+{
+    match line.get("version") {
+        Some(version) => version.as_u64() == Some(1),
+        None => true,
+    }
+}
+
+fn row_from(alloc: Global, value: &Value) -> Result<Option<Row>, AllocError>
+    ensures { IfOk result (λ row. row ≡ row_from (view value.now)) }
+{
+    let Some(game) = id_at(alloc, value, "game")? else {
+        return Ok(None);
+    };
+    match number_at(value, "quota", 16_777_216) {
+        Some(quota) => Ok(Row::new(game, quota)),
+        None => Ok(None),
+    }
+}
+
+fn rows_in(alloc: Global, items: &[Value]) -> Result<Option<Vec<Row>>, AllocError>
+    ensures { IfOk result
+        (λ rows. option_map (λ r. r.items) rows ≡ each row_from (items_view items.now)) }
+{
+    let mut rows = Vec::with_capacity(alloc, items.len())?;
+    for item in items {
+        let Some(row) = row_from(alloc, item)? else {
+            return Ok(None);
+        };
+        rows.push(row)?;
+    }
+    Ok(Some(rows))
+}
+
+fn plan_of_rows(rows: Option<Vec<Row>>) -> Result<Plan, PlanFault>
+    ensures { result ≡ plan_of_rows (option_map (λ r. r.items) rows) }
+{
+    let Some(rows) = rows else {
+        return Err(PlanFault::BadRow);
+    };
+    if !have_distinct_names(rows.as_slice()) {
+        return Err(PlanFault::BadRow);
+    }
+    if rows.len() > 64 {
+        return Err(PlanFault::TooMany);
+    }
+    Ok(Plan {
+        rows: Rows::from_vec(rows),
+    })
+}
+
+fn plan_from(alloc: Global, line: &Value) -> Result<Plan, PlanFault>
+    ensures { let plan = plan_from (Some (view line.now))
+        in MatchResult result (λ p. plan ≡ Ok p) (IsPlanFault plan) }
+{
+    if !is_known_version(line) {
+        return Err(PlanFault::Malformed);
+    }
+    match line.get("games").and_then(Value::as_array) {
+        Some(games) => plan_of_rows(rows_in(alloc, games.as_slice())?),
+        None => Err(PlanFault::Malformed),
+    }
+}
+
+/// Reads the first line of a command file, given without its line feed.
+#[tactic(auto, unfolding(crate::specs::PlanLine::plan_line_of))]
+pub fn read_plan(alloc: Global, line: &[u8]) -> Result<Plan, PlanFault>
+    ensures { let plan = plan_line_of line.now
+        in MatchResult result (λ p. plan ≡ Ok p) (IsPlanFault plan) }
+{
+    if line.len() > MAX_LINE {
+        return Err(PlanFault::Malformed);
+    }
+    match parsed(alloc, line)? {
+        Some(value) => plan_from(alloc, &value),
+        None => Err(PlanFault::Malformed),
+    }
+}

@@ -1,0 +1,545 @@
+// Lines of worked games, with the ends of each range, and what is written for them.
+use crate::{
+    Line, PlanFault, Stray, board_value, final_line, read_line, read_plan, reply_line, stray_line,
+};
+use bs_board::{
+    Board, Cause, Cells, Command, Id, Mode, Move, New, Plan, Point, Refusal, Reply, Snake, Snakes,
+    Word,
+};
+use std::alloc::{AllocError, Global};
+use std::test::Fail;
+
+fn told_new(alloc: Global, new: &New) -> Result<String, AllocError> {
+    let mut told = format!(in alloc;
+        "new {:?} {}x{} min {} chance {}",
+        new.mode, new.width, new.height, new.min_food, new.chance
+    )?;
+    for (id, cell) in new.snakes.as_slice() {
+        told.push_str(format!(in alloc; " {}@{},{}", id.as_str(), cell.x, cell.y)?.as_str())?;
+    }
+    for cell in new.food.as_slice() {
+        told.push_str(format!(in alloc; " food {},{}", cell.x, cell.y)?.as_str())?;
+    }
+    Ok(told)
+}
+
+fn told_move(alloc: Global, order: &Move) -> Result<String, AllocError> {
+    let mut told = String::from_str(alloc, "move")?;
+    for (id, direction) in order.moves.as_slice() {
+        told.push_str(format!(in alloc; " {} {direction:?}", id.as_str())?.as_str())?;
+    }
+    for word in order.words.as_slice() {
+        told.push_str(format!(in alloc; " {word}")?.as_str())?;
+    }
+    Ok(told)
+}
+
+// What was read, in a few words.
+fn told(alloc: Global, line: &Line) -> Result<String, AllocError> {
+    match line {
+        Line::Blank => String::from_str(alloc, "blank"),
+        Line::Bad { game } => format!(in alloc; "{}: bad", game.as_str()),
+        Line::Stray(stray) => format!(in alloc; "stray {stray:?}"),
+        Line::Command { game, command } => {
+            let asked = match command {
+                Command::New(new) => told_new(alloc, new)?,
+                Command::Move(order) => told_move(alloc, order)?,
+                other => format!(in alloc; "{other:?}")?,
+            };
+            format!(in alloc; "{}: {asked}", game.as_str())
+        }
+    }
+}
+
+#[test]
+fn lines_are_read(rt: HostRuntime) -> Result<(), Fail> {
+    let alloc = rt.alloc();
+    for (line, want) in [
+        (
+            r#"{"game":"a","do":"new","mode":"solo","width":3,"height":3,"snakes":[{"id":"s","x":1,"y":1}],"food":[],"min_food":0,"food_chance":0}"#,
+            "a: new Solo 3x3 min 0 chance 0 s@1,1",
+        ),
+        (
+            r#"{"game":"b","do":"new","mode":"standard","width":7,"height":7,"snakes":[{"id":"s","x":1,"y":1},{"id":"t","x":5,"y":1},{"id":"u","x":3,"y":5}],"food":[{"x":1,"y":2}],"min_food":0,"food_chance":0}"#,
+            "b: new Standard 7x7 min 0 chance 0 s@1,1 t@5,1 u@3,5 food 1,2",
+        ),
+        (
+            r#"{"game":"c","do":"new","mode":"constrictor","width":7,"height":7,"snakes":[{"id":"s","x":1,"y":1},{"id":"t","x":5,"y":1}],"food":[{"x":3,"y":3}]}"#,
+            "c: new Constrictor 7x7 min 1 chance 15 s@1,1 t@5,1 food 3,3",
+        ),
+        (r#"{"game":"a","do":"move","moves":{}}"#, "a: move"),
+        (
+            r#"{"game":"b","do":"move","moves":{"u":"down"}}"#,
+            "b: move u Down",
+        ),
+        (
+            r#"{"do":"move","game":"a","moves":{"v":"up","s":"north","t":"left","u":1,"":"right"},"more":null}"#,
+            "a: move  Right t Left v Up",
+        ),
+        (
+            r#"{"game":"a","do":"move","moves":{},"words":[5,4294967295]}"#,
+            "a: move 5 4294967295",
+        ),
+        (
+            r#"{"game":"a","do":"move","moves":{},"words":[4294967296]}"#,
+            "a: bad",
+        ),
+        (
+            r#"{"game":"a","do":"move","moves":{},"words":[0,0,0,0,0,0,0,0,0,0,0,0,0,0,0,0,0,0,0,0,0,0,0,0,0,0,0,0,0,0,0,9]}"#,
+            "a: move 0 0 0 0 0 0 0 0 0 0 0 0 0 0 0 0 0 0 0 0 0 0 0 0 0 0 0 0 0 0 0 9",
+        ),
+        (
+            r#"{"game":"a","do":"move","moves":{},"words":[0,0,0,0,0,0,0,0,0,0,0,0,0,0,0,0,0,0,0,0,0,0,0,0,0,0,0,0,0,0,0,0,9]}"#,
+            "a: bad",
+        ),
+        (
+            r#"{"game":"a","do":"move","moves":{},"words":[1.0]}"#,
+            "a: bad",
+        ),
+        (
+            r#"{"game":"a","do":"move","moves":{},"words":null}"#,
+            "a: bad",
+        ),
+        (r#"{"game":"a","do":"move","moves":[]}"#, "a: bad"),
+        (r#"{"game":"a","do":"move"}"#, "a: bad"),
+        (r#"{"game":"b","do":"show"}"#, "b: Show"),
+        (r#" {"game" : "z", "do" : "show"} "#, "z: Show"),
+        (r#"{"game":"a","do":"turn","at":0}"#, "a: bad"),
+        (r#"{"game":"a","do":"turn","at":10001}"#, "a: bad"),
+        (r#"{"game":"a","do":"free"}"#, "a: bad"),
+        (r#"{"game":"a","do":"end"}"#, "a: bad"),
+        (r#"{"game":"a","do":"jump"}"#, "a: bad"),
+        (r#"{"game":"a"}"#, "a: bad"),
+        (r#"{"game":1,"do":"show"}"#, "stray Game"),
+        (r#"{"do":"show"}"#, "stray Game"),
+        ("{oops", "stray Json"),
+        ("show", "stray Json"),
+        ("[{\"game\":\"a\"}]", "stray Json"),
+        ("", "blank"),
+        (" \t\r", "blank"),
+    ] {
+        let read = read_line(alloc, line.as_bytes())?;
+        assert_eq!(rt; told(alloc, &read)?.as_str(), want, "at {line}");
+    }
+    Ok(())
+}
+
+#[test]
+fn a_new_game_is_within_the_limits(rt: HostRuntime) -> Result<(), Fail> {
+    let alloc = rt.alloc();
+    let eight =
+        r#"{"id":"a","x":0,"y":0},{"id":"b","x":3,"y":0},{"id":"c","x":6,"y":0},{"id":"d","x":9,"y":0},{"id":"e","x":12,"y":0},{"id":"f","x":15,"y":0},{"id":"g","x":18,"y":0},{"id":"h","x":21,"y":0}"#;
+    let one = r#"{"id":"s","x":1,"y":1}"#;
+    let long = "0123456789012345678901234567890123456789012345678901234567890123";
+    for (sides, snakes, food, rest, is_read) in [
+        (
+            "25,\"height\":25",
+            format!(in alloc; "{eight}")?,
+            "",
+            "",
+            true,
+        ),
+        (
+            "25,\"height\":25",
+            format!(in alloc; "{eight},{one}")?,
+            "",
+            "",
+            false,
+        ),
+        (
+            "26,\"height\":25",
+            format!(in alloc; "{one}")?,
+            "",
+            "",
+            false,
+        ),
+        (
+            "25,\"height\":26",
+            format!(in alloc; "{one}")?,
+            "",
+            "",
+            false,
+        ),
+        ("2,\"height\":3", format!(in alloc; "{one}")?, "", "", false),
+        (
+            "-3,\"height\":3",
+            format!(in alloc; "{one}")?,
+            "",
+            "",
+            false,
+        ),
+        ("3,\"height\":3", format!(in alloc; "")?, "", "", false),
+        (
+            "3,\"height\":3",
+            format!(in alloc; "{one},{one}")?,
+            "",
+            "",
+            false,
+        ),
+        (
+            "3,\"height\":3",
+            format!(in alloc; "{one},{{\"id\":\"t\",\"x\":1,\"y\":1}}")?,
+            "",
+            "",
+            false,
+        ),
+        (
+            "3,\"height\":3",
+            format!(in alloc; "{{\"id\":\"{long}\",\"x\":2,\"y\":2}}")?,
+            "",
+            "",
+            true,
+        ),
+        (
+            "3,\"height\":3",
+            format!(in alloc; "{{\"id\":\"{long}4\",\"x\":2,\"y\":2}}")?,
+            "",
+            "",
+            false,
+        ),
+        (
+            "3,\"height\":3",
+            format!(in alloc; "{{\"id\":\"\",\"x\":2,\"y\":2}}")?,
+            "",
+            "",
+            false,
+        ),
+        (
+            "3,\"height\":3",
+            format!(in alloc; "{{\"id\":\"s\",\"x\":3,\"y\":2}}")?,
+            "",
+            "",
+            false,
+        ),
+        (
+            "3,\"height\":3",
+            format!(in alloc; "{one}")?,
+            "{\"x\":1,\"y\":1}",
+            "",
+            true,
+        ),
+        (
+            "3,\"height\":3",
+            format!(in alloc; "{one}")?,
+            "{\"x\":1,\"y\":3}",
+            "",
+            false,
+        ),
+        (
+            "3,\"height\":3",
+            format!(in alloc; "{one}")?,
+            "{\"x\":1,\"y\":1},{\"x\":1,\"y\":1}",
+            "",
+            false,
+        ),
+        (
+            "3,\"height\":3",
+            format!(in alloc; "{one}")?,
+            "",
+            ",\"min_food\":255,\"food_chance\":100",
+            true,
+        ),
+        (
+            "3,\"height\":3",
+            format!(in alloc; "{one}")?,
+            "",
+            ",\"min_food\":256",
+            false,
+        ),
+        (
+            "3,\"height\":3",
+            format!(in alloc; "{one}")?,
+            "",
+            ",\"food_chance\":101",
+            false,
+        ),
+        (
+            "3,\"height\":3",
+            format!(in alloc; "{one}")?,
+            "",
+            ",\"food_chance\":null",
+            false,
+        ),
+    ] {
+        let line = format!(in alloc;
+            "{{\"game\":\"a\",\"do\":\"new\",\"mode\":\"solo\",\"width\":{sides},\"snakes\":[{}],\"food\":[{food}]{rest}}}",
+            snakes.as_str()
+        )?;
+        let read = read_line(alloc, line.as_str().as_bytes())?;
+        assert_eq!(rt;
+            matches!(&read, Line::Command { .. }),
+            is_read,
+            "at {}",
+            line.as_str()
+        );
+    }
+    Ok(())
+}
+
+#[test]
+fn a_long_line_is_judged_first(rt: HostRuntime) -> Result<(), Fail> {
+    let alloc = rt.alloc();
+    for (spaces, want) in [(65_536usize, "blank"), (65_537, "stray Long")] {
+        let line = vec![in alloc; b' '; spaces]?;
+        let read = read_line(alloc, line.as_slice())?;
+        assert_eq!(rt; told(alloc, &read)?.as_str(), want);
+        assert_eq!(rt;
+            read_plan(alloc, line.as_slice()).err(),
+            Some(PlanFault::Malformed)
+        );
+    }
+    Ok(())
+}
+
+// The names and quotas of a plan, or its fault.
+fn told_plan(alloc: Global, plan: &Result<Plan, PlanFault>) -> Result<String, AllocError> {
+    let plan = match plan {
+        Ok(plan) => plan,
+        Err(fault) => return format!(in alloc; "{fault:?}"),
+    };
+    let mut told = String::from_str(alloc, "plan")?;
+    for row in plan.rows.as_slice() {
+        told.push_str(format!(in alloc; " {} {}", row.game.as_str(), row.quota)?.as_str())?;
+    }
+    Ok(told)
+}
+
+#[test]
+fn plans_are_read(rt: HostRuntime) -> Result<(), Fail> {
+    let alloc = rt.alloc();
+    let mut many = String::from_str(alloc, "{\"games\":[{\"game\":\"g\",\"quota\":16}")?;
+    for row in 1..65u8 {
+        many.push_str(format!(in alloc; ",{{\"game\":\"g{row}\",\"quota\":16}}")?.as_str())?;
+    }
+    let with_bad_row = format!(in alloc; "{},1]}}", many.as_str())?;
+    many.push_str("]}")?;
+    for (line, want) in [
+        ("{\"games\":[]}", "plan"),
+        (
+            "{\"games\":[{\"game\":\"a\",\"quota\":4096}]}",
+            "plan a 4096",
+        ),
+        (
+            "{\"version\":1,\"games\":[{\"game\":\"b\",\"quota\":16777216},{\"quota\":16,\"game\":\"a\",\"x\":[]}]}",
+            "plan b 16777216 a 16",
+        ),
+        ("", "Malformed"),
+        ("{\"games\":1}", "Malformed"),
+        ("{}", "Malformed"),
+        ("[]", "Malformed"),
+        ("{\"games\":[],\"version\":2}", "Malformed"),
+        ("{\"games\":[1],\"version\":null}", "Malformed"),
+        ("{\"games\":[{\"game\":\"a\",\"quota\":15}]}", "BadRow"),
+        (
+            "{\"games\":[{\"game\":\"a\",\"quota\":16777217}]}",
+            "BadRow",
+        ),
+        ("{\"games\":[{\"game\":\"\",\"quota\":16}]}", "BadRow"),
+        (
+            "{\"games\":[{\"game\":\"a\",\"quota\":16},{\"game\":\"a\",\"quota\":17}]}",
+            "BadRow",
+        ),
+        ("{\"games\":[{\"quota\":16}]}", "BadRow"),
+        (with_bad_row.as_str(), "BadRow"),
+        (many.as_str(), "TooMany"),
+    ] {
+        let plan = read_plan(alloc, line.as_bytes());
+        assert_eq!(rt; told_plan(alloc, &plan)?.as_str(), want, "at {line}");
+    }
+    Ok(())
+}
+
+fn cells(alloc: Global, points: &[(i16, i16)]) -> Result<Cells, AllocError> {
+    let mut found = Cells::new(alloc);
+    for (x, y) in points {
+        found.push(Point { x: *x, y: *y })?;
+    }
+    Ok(found)
+}
+
+fn living(alloc: Global, id: &str, health: u8, body: &[(i16, i16)]) -> Result<Snake, AllocError> {
+    Ok(Snake {
+        id: Id::from_str(alloc, id)?,
+        body: cells(alloc, body)?,
+        health,
+        cause: None,
+        killer: None,
+        out: None,
+    })
+}
+
+fn solo(alloc: Global, turn: u16, snake: Snake) -> Result<Board, AllocError> {
+    let mut seats = Vec::new(alloc);
+    seats.push(snake)?;
+    Ok(Board {
+        mode: Mode::Solo,
+        width: 3,
+        height: 3,
+        turn,
+        min_food: 0,
+        chance: 0,
+        food: Cells::new(alloc),
+        snakes: Snakes::from_vec(seats),
+    })
+}
+
+fn out(
+    alloc: Global,
+    id: &str,
+    health: u8,
+    cause: Cause,
+    killer: Option<usize>,
+    turn: u16,
+) -> Result<Snake, AllocError> {
+    let mut snake = living(alloc, id, health, &[(-1, 2), (0, 2), (1, 2)])?;
+    snake.cause = Some(cause);
+    snake.killer = killer;
+    snake.out = Some(turn);
+    Ok(snake)
+}
+
+#[test]
+fn a_solo_game_is_written(rt: HostRuntime) -> Result<(), Fail> {
+    let alloc = rt.alloc();
+    let game = Id::from_str(alloc, "a")?;
+    let first = solo(
+        alloc,
+        0,
+        living(alloc, "s", 100, &[(1, 1), (1, 1), (1, 1)])?,
+    )?;
+    let second = solo(alloc, 1, living(alloc, "s", 99, &[(1, 2), (1, 1), (1, 1)])?)?;
+    let mut snake = living(alloc, "s", 98, &[(1, 3), (1, 2), (1, 1)])?;
+    snake.cause = Some(Cause::WallCollision);
+    snake.out = Some(2);
+    let third = solo(alloc, 2, snake)?;
+    let last = final_line(alloc, &game, Some(&third), 96)?;
+    let want =
+        r#"{"board":{"food":[],"food_chance":0,"height":3,"min_food":0,"mode":"solo","over":true,"snakes":[{"body":[{"x":1,"y":3},{"x":1,"y":2},{"x":1,"y":1}],"by":null,"cause":"wall-collision","health":98,"id":"s","out":2}],"turn":2,"width":3},"charge":96,"final":true,"game":"a"}"#;
+    assert_eq!(rt; last.as_slice(), format!(in alloc; "{want}\n")?.as_bytes());
+    for (seq, reply, want) in [
+        (
+            1,
+            Reply::Shown(Word::New, first, 32),
+            r#"{"board":{"food":[],"food_chance":0,"height":3,"min_food":0,"mode":"solo","over":false,"snakes":[{"body":[{"x":1,"y":1},{"x":1,"y":1},{"x":1,"y":1}],"by":null,"cause":null,"health":100,"id":"s","out":null}],"turn":0,"width":3},"charge":32,"do":"new","game":"a","seq":1}"#,
+        ),
+        (
+            2,
+            Reply::Shown(Word::Move, second, 64),
+            r#"{"board":{"food":[],"food_chance":0,"height":3,"min_food":0,"mode":"solo","over":false,"snakes":[{"body":[{"x":1,"y":2},{"x":1,"y":1},{"x":1,"y":1}],"by":null,"cause":null,"health":99,"id":"s","out":null}],"turn":1,"width":3},"charge":64,"do":"move","game":"a","seq":2}"#,
+        ),
+        (
+            3,
+            Reply::Shown(Word::Move, third, 96),
+            r#"{"board":{"food":[],"food_chance":0,"height":3,"min_food":0,"mode":"solo","over":true,"snakes":[{"body":[{"x":1,"y":3},{"x":1,"y":2},{"x":1,"y":1}],"by":null,"cause":"wall-collision","health":98,"id":"s","out":2}],"turn":2,"width":3},"charge":96,"do":"move","game":"a","seq":3}"#,
+        ),
+        (
+            4,
+            Reply::Refused(Refusal::Over),
+            r#"{"game":"a","no":"G4","seq":4,"why":"over"}"#,
+        ),
+    ] {
+        let line = reply_line(alloc, &game, seq, &reply)?;
+        assert_eq!(rt; line.as_slice(), format!(in alloc; "{want}\n")?.as_bytes());
+    }
+    Ok(())
+}
+
+#[test]
+fn replies_without_a_board_are_written(rt: HostRuntime) -> Result<(), Fail> {
+    let alloc = rt.alloc();
+    let game = Id::from_str(alloc, "a\"")?;
+    for (reply, want) in [
+        (
+            Reply::Plain(Word::End, 0),
+            r#"{"charge":0,"do":"end","game":"a\"","seq":3}"#,
+        ),
+        (
+            Reply::Plain(Word::Free, 32),
+            r#"{"charge":32,"do":"free","game":"a\"","seq":3}"#,
+        ),
+        (
+            Reply::Refused(Refusal::Unknown),
+            r#"{"game":"a\"","no":"G1","seq":3,"why":"command"}"#,
+        ),
+        (
+            Reply::Refused(Refusal::NoGame),
+            r#"{"game":"a\"","no":"G2","seq":3,"why":"none"}"#,
+        ),
+        (
+            Reply::Refused(Refusal::Running),
+            r#"{"game":"a\"","no":"G3","seq":3,"why":"running"}"#,
+        ),
+        (
+            Reply::Refused(Refusal::Limit),
+            r#"{"game":"a\"","no":"G5","seq":3,"why":"limit"}"#,
+        ),
+        (
+            Reply::Refused(Refusal::NoRecord),
+            r#"{"game":"a\"","no":"G6","seq":3,"why":"record"}"#,
+        ),
+        (
+            Reply::Refused(Refusal::Quota),
+            r#"{"game":"a\"","no":"G7","seq":3,"why":"quota"}"#,
+        ),
+    ] {
+        let line = reply_line(alloc, &game, 3, &reply)?;
+        assert_eq!(rt; line.as_slice(), format!(in alloc; "{want}\n")?.as_bytes());
+    }
+    let last = final_line(alloc, &game, None, 0)?;
+    let want = "{\"board\":null,\"charge\":0,\"final\":true,\"game\":\"a\\\"\"}\n";
+    assert_eq!(rt; last.as_slice(), want.as_bytes());
+    for (line, stray, want) in [
+        (
+            2,
+            Stray::Json,
+            "{\"line\":2,\"no\":\"L1\",\"why\":\"json\"}\n",
+        ),
+        (
+            4,
+            Stray::Game,
+            "{\"line\":4,\"no\":\"L2\",\"why\":\"game\"}\n",
+        ),
+        (
+            5,
+            Stray::Long,
+            "{\"line\":5,\"no\":\"L3\",\"why\":\"long\"}\n",
+        ),
+    ] {
+        assert_eq!(rt; stray_line(alloc, line, stray)?.as_slice(), want.as_bytes());
+    }
+    Ok(())
+}
+
+#[test]
+fn a_board_is_shown(rt: HostRuntime) -> Result<(), Fail> {
+    let alloc = rt.alloc();
+    let mut seats = Vec::new(alloc);
+    seats.push(out(alloc, "a", 0, Cause::OutOfHealth, None, 9)?)?;
+    seats.push(out(alloc, "b", 90, Cause::WallCollision, None, 10)?)?;
+    seats.push(out(alloc, "c", 91, Cause::SelfCollision, Some(2), 11)?)?;
+    seats.push(out(alloc, "d", 92, Cause::BodyCollision, Some(0), 11)?)?;
+    seats.push(out(alloc, "e", 93, Cause::HeadCollision, Some(3), 11)?)?;
+    seats.push(living(alloc, "f", 94, &[(4, 0), (4, 1)])?)?;
+    let board = Board {
+        mode: Mode::Standard,
+        width: 5,
+        height: 4,
+        turn: 11,
+        min_food: 3,
+        chance: 15,
+        food: cells(alloc, &[(0, 3), (2, 0)])?,
+        snakes: Snakes::from_vec(seats),
+    };
+    let want = concat!(
+        r#"{"food":[{"x":0,"y":3},{"x":2,"y":0}],"food_chance":15,"height":4,"min_food":3,"mode":"standard","over":true,"snakes":["#,
+        r#"{"body":[{"x":-1,"y":2},{"x":0,"y":2},{"x":1,"y":2}],"by":null,"cause":"out-of-health","health":0,"id":"a","out":9},"#,
+        r#"{"body":[{"x":-1,"y":2},{"x":0,"y":2},{"x":1,"y":2}],"by":null,"cause":"wall-collision","health":90,"id":"b","out":10},"#,
+        r#"{"body":[{"x":-1,"y":2},{"x":0,"y":2},{"x":1,"y":2}],"by":"c","cause":"snake-self-collision","health":91,"id":"c","out":11},"#,
+        r#"{"body":[{"x":-1,"y":2},{"x":0,"y":2},{"x":1,"y":2}],"by":"a","cause":"snake-collision","health":92,"id":"d","out":11},"#,
+        r#"{"body":[{"x":-1,"y":2},{"x":0,"y":2},{"x":1,"y":2}],"by":"d","cause":"head-collision","health":93,"id":"e","out":11},"#,
+        r#"{"body":[{"x":4,"y":0},{"x":4,"y":1}],"by":null,"cause":null,"health":94,"id":"f","out":null}],"turn":11,"width":5}"#
+    );
+    let shown = board_value(alloc, &board)?.to_string(alloc)?;
+    assert_eq!(rt; shown.as_str(), want);
+    Ok(())
+}

@@ -1,0 +1,12 @@
+pub mod Collides
+pub mod Fitting
+pub mod Ids
+pub mod Judged
+pub mod Kept
+pub mod Killers
+pub mod Movable
+pub mod Seats
+pub mod Sound
+pub mod SoundCollision
+pub mod SoundSteps
+pub mod TurnLegal

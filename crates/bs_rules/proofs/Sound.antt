@@ -1,0 +1,120 @@
+-- What holds of each snake between the steps of a turn.
+use Rattle.std.proofs.Common.{◌≡◌, ℕ, ◌+◌, ◌-◌, ◌≤◌, true, List, [], ◌∷◌, length, drop, All, MatchOption, Option, Some, None, arith, length-take, pos, negsuc, ℤ, ◌+ℤ◌, ◌-ℤ◌}
+use Rattle.std.specs.Prelude.{int_le, int_lt}
+use Rattle.std.proofs.lemmas.Int.{ints}
+use Rattle.std.proofs.lemmas.List.Elements.{All-cons, All-take}
+use Rattle.bs_board.specs.declared.point.Point.{Point}
+use Rattle.bs_board.specs.declared.point.Direction.{Direction}
+use Rattle.bs_board.specs.declared.point.Direction.TheVariants.{Up, Down, Left, Right}
+use Rattle.bs_board.specs.declared.board.Board.{Board}
+use Rattle.bs_board.specs.declared.snake.Snake.{Snake}
+use Rattle.bs_board.specs.declared.snake.Cause.{Cause}
+use Rattle.bs_board.specs.Cell.{is_on_board}
+use Rattle.bs_board.specs.Legal.{IsLegalSnake, IsLegalLiving, IsLegalOut, IsTurnBy, is_near, head_of}
+use Rattle.bs_board.specs.Texts.{is_short_text}
+use Rattle.bs_rules.specs.Motion.{neighbor, direction_of, moved, moved_body}
+use Rattle.bs_rules.proofs.Movable.{four_parts, four_from}
+
+-- the same board once the turn number has risen
+abbrev pub later : Board → Board
+later b = record b { turn = b.turn + 1 }
+
+-- an id, and a body of at most so many parts that lies on the board behind its head
+pub record IsSoundBody (b : Board) (parts : ℕ) (s : Snake) : Type 0 where
+  pub id : is_short_text s.id ≡ true
+  pub long : 3 ≤ length s.body
+  pub short : length s.body ≤ parts
+  pub inside : All (λ p. is_on_board b.width b.height p ≡ true) (drop 1 s.body)
+
+-- moved and not judged: it may have starved or left the board
+pub record IsMovedLiving (b : Board) (s : Snake) : Type 0 where
+  pub full : s.health ≤ 100
+  pub near : is_near b.width b.height (head_of s.body) ≡ true
+  pub killer : s.killer ≡ None
+  pub out : s.out ≡ None
+
+pub record IsMoved (b : Board) (parts : ℕ) (seat : ℕ) (s : Snake) : Type 0 where
+  pub body : IsSoundBody b parts s
+  pub state : MatchOption s.cause (IsMovedLiving b s) (IsLegalOut b seat s)
+
+-- judged, with a body that may still grow
+pub record IsSound (b : Board) (parts : ℕ) (seat : ℕ) (s : Snake) : Type 0 where
+  pub body : IsSoundBody b parts s
+  pub state : MatchOption s.cause (IsLegalLiving b s) (IsLegalOut b seat s)
+
+pub longer_parts : (b : Board) (m n : ℕ) (s : Snake) → m ≤ n → IsSoundBody b m s → IsSoundBody b n s
+longer_parts b m n s more h = record { id = h.id; long = h.long; short = let short = h.short in omega arith; inside = h.inside }
+
+-- the step of a coordinate
+up_from : (z : ℤ) (n : ℕ) → int_le (pos 0) z ≡ true → int_lt z (pos n) ≡ true → (int_le (negsuc 0) (z +ℤ pos 1) ≡ true) × (int_le (z +ℤ pos 1) (pos n) ≡ true)
+up_from z n low high = (grind (arith, ints), grind (arith, ints))
+
+down_from : (z : ℤ) (n : ℕ) → int_le (pos 0) z ≡ true → int_lt z (pos n) ≡ true → (int_le (negsuc 0) (z -ℤ pos 1) ≡ true) × (int_le (z -ℤ pos 1) (pos n) ≡ true)
+down_from z n low high = (grind (arith, ints), grind (arith, ints))
+
+stays : (z : ℤ) (n : ℕ) → int_le (pos 0) z ≡ true → int_lt z (pos n) ≡ true → (int_le (negsuc 0) z ≡ true) × (int_le z (pos n) ≡ true)
+stays z n low high = (grind (arith, ints), grind (arith, ints))
+
+near_of : (w h : ℕ) (x y : ℤ) → (int_le (negsuc 0) x ≡ true) × (int_le x (pos w) ≡ true) → (int_le (negsuc 0) y ≡ true) × (int_le y (pos h) ≡ true)
+    → is_near w h (record { x = x; y = y }) ≡ true
+near_of w h x y p q = four_from (int_le (negsuc 0) x) (int_le x (pos w)) (int_le (negsuc 0) y) (int_le y (pos h)) p.0 p.1 q.0 q.1
+
+-- a step from the board leads at most one cell beyond it
+neighbor_is_near : (w h : ℕ) (p : Point) (d : Direction) → is_on_board w h p ≡ true → is_near w h (neighbor p d) ≡ true
+neighbor_is_near w h p Up on =
+    let q = four_parts (int_le (pos 0) p.x) (int_lt p.x (pos w)) (int_le (pos 0) p.y) (int_lt p.y (pos h)) on in
+    near_of w h p.x (p.y +ℤ pos 1) (stays p.x w q.0 q.1) (up_from p.y h q.2 q.3)
+neighbor_is_near w h p Down on =
+    let q = four_parts (int_le (pos 0) p.x) (int_lt p.x (pos w)) (int_le (pos 0) p.y) (int_lt p.y (pos h)) on in
+    near_of w h p.x (p.y -ℤ pos 1) (stays p.x w q.0 q.1) (down_from p.y h q.2 q.3)
+neighbor_is_near w h p Left on =
+    let q = four_parts (int_le (pos 0) p.x) (int_lt p.x (pos w)) (int_le (pos 0) p.y) (int_lt p.y (pos h)) on in
+    near_of w h (p.x -ℤ pos 1) p.y (down_from p.x w q.0 q.1) (stays p.y h q.2 q.3)
+neighbor_is_near w h p Right on =
+    let q = four_parts (int_le (pos 0) p.x) (int_lt p.x (pos w)) (int_le (pos 0) p.y) (int_lt p.y (pos h)) on in
+    near_of w h (p.x +ℤ pos 1) p.y (up_from p.x w q.0 q.1) (stays p.y h q.2 q.3)
+
+-- all parts of a living snake are on the board
+all_inside : (P : Point → Type 0) (body : List Point) → 3 ≤ length body → P (head_of body) → All P (drop 1 body) → All P body
+all_inside P [] long head rest = absurd (omega arith)
+all_inside P (p ∷ ps) long head rest = All-cons P p ps head rest
+
+length_moved : (given : Option Direction) (body : List Point) → 3 ≤ length body → length (moved_body given body) ≡ length body
+length_moved given body long = let n = length-take (length body - 1) body in omega arith
+
+-- one turn later it still went out by then
+out_by_later : (turn : ℕ) (out : Option ℕ) → IsTurnBy turn out → IsTurnBy (turn + 1) out
+out_by_later turn None h = h
+out_by_later turn (Some t) h = (h.0, let by = h.1 in omega arith)
+
+out_later : (b : Board) (seat : ℕ) (s : Snake) (cause : Cause) → IsLegalOut b seat s cause → IsLegalOut (later b) seat s cause
+out_later b seat s cause h = record { out = out_by_later b.turn s.out h.out; health = h.health; head = h.head; killer = h.killer }
+
+moves_at : (b : Board) (seat : ℕ) (s : Snake) (given : Option Direction) (cause : Option Cause) → IsLegalSnake b seat (record s { cause = cause })
+    → IsMoved (later b) (b.turn + 3) seat (moved given (record s { cause = cause }))
+moves_at b seat s given None l =
+    let on = λ (p : Point). is_on_board b.width b.height p ≡ true in
+    let living = l.state in
+    let n = length_moved given s.body l.body.long in
+    let all : All on s.body = all_inside on s.body l.body.long living.head l.body.inside in
+    record {
+      body = record {
+        id = l.id;
+        long = let long = l.body.long in omega arith;
+        short = let short = l.body.short in omega arith;
+        inside = All-take on (length s.body - 1) s.body all;
+      };
+      state = record {
+        full = let full = living.full in omega arith;
+        near = neighbor_is_near b.width b.height (head_of s.body) (direction_of given s.body) living.head;
+        killer = living.killer;
+        out = living.out;
+      };
+    }
+moves_at b seat s given (Some cause) l = record {
+  body = record { id = l.id; long = l.body.long; short = l.body.short; inside = l.body.inside };
+  state = out_later b seat (record s { cause = Some cause }) cause l.state;
+}
+
+pub moves : (b : Board) (seat : ℕ) (s : Snake) (given : Option Direction) → IsLegalSnake b seat s → IsMoved (later b) (b.turn + 3) seat (moved given s)
+moves b seat s given l = moves_at b seat s given s.cause l

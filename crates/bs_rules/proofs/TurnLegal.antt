@@ -1,0 +1,176 @@
+-- A turn of a legal board is legal.
+use Rattle.std.proofs.Common.{◌≡◌, ℕ, ◌+◌, ◌≤◌, ◌<◌, Bool, true, List, [], ◌∷◌, length, map, MatchOption, Option, Some, None, not, refl, sym, ◌∙◌, subst, arith, get_or}
+use Rattle.std.specs.List.{list_any}
+use Rattle.std.proofs.lemmas.List.{length-map, get_or-map}
+use Rattle.bs_board.specs.declared.point.Point.{Point}
+use Rattle.bs_board.specs.declared.point.Direction.{Direction}
+use Rattle.bs_board.specs.declared.board.Board.{Board}
+use Rattle.bs_board.specs.declared.board.Mode.{Mode}
+use Rattle.bs_board.specs.declared.board.Mode.TheVariants.{Standard, Solo, Constrictor}
+use Rattle.bs_board.specs.declared.snake.Snake.{Snake}
+use Rattle.bs_board.specs.declared.snake.Cause.{Cause}
+use Rattle.bs_board.specs.Legal.{IsLegal, IsLegalSnake, IsLegalLiving, IsLegalOut, IsWithinLimits, IsFreeOfFood, EachSeat}
+use Rattle.bs_board.specs.Orders.{Orders}
+use Rattle.bs_board.specs.Setup.{is_fit_food}
+use Rattle.bs_food.specs.Spawning.{spawned}
+use Rattle.bs_food.proofs.Fitting.{spawned_refed}
+use Rattle.bs_modes.specs.Growth.{grown, grown_snake}
+use Rattle.bs_rules.specs.Motion.{moved, moved_board, given_to}
+use Rattle.bs_rules.specs.Feeding.{fed, fed_snake, food_left, has_head_on}
+use Rattle.bs_rules.specs.Elimination.{starved_or_outside, first_judged}
+use Rattle.bs_rules.specs.Collision.{collided}
+use Rattle.bs_rules.specs.Turn.{replenished, finished, turn_of}
+use Rattle.bs_rules.proofs.Fitting.{fit_food_left, free_of_food_left}
+use Rattle.bs_rules.proofs.Kept.{ids_stay, seats_stay, grown_ids}
+use Rattle.bs_rules.proofs.Ids.{ids_of, distinct_by_ids}
+use Rattle.bs_rules.proofs.Sound.{later, IsMoved, IsSound, moves}
+use Rattle.bs_rules.proofs.SoundSteps.{feeds, feeds_none, grows, first_judges}
+use Rattle.bs_rules.proofs.SoundCollision.{collides_sound, length_collided}
+
+-- a step at each seat
+each_map : (P Q : ℕ → Snake → Type 0) (f : Snake → Snake) (xs : List Snake) → ((seat : ℕ) (s : Snake) → P seat s → Q seat (f s))
+    → EachSeat P xs → EachSeat Q (map f xs)
+each_map P Q f xs step all seat d within =
+    let n = length-map xs f in
+    let inside : seat < length xs = omega arith in
+    rw (get_or-map f xs seat d d inside) (step seat (get_or xs seat d) (all seat d inside))
+
+-- the board once it is judged, before growth or new food
+abbrev survivors : List (List ℕ × Direction) → Board → Board
+survivors orders b = collided (starved_or_outside (fed (moved_board orders b)))
+
+sound_moved : (b : Board) (orders : List (List ℕ × Direction)) → IsLegal b → EachSeat (IsMoved (later b) (b.turn + 3)) (moved_board orders b).snakes
+sound_moved b orders l =
+    each_map (IsLegalSnake b) (IsMoved (later b) (b.turn + 3)) (λ s. moved (given_to orders s.id) s) b.snakes
+    (λ seat s. moves b seat s (given_to orders s.id)) l.snakes
+
+sound_judged : (b : Board) (orders : List (List ℕ × Direction)) (parts : ℕ) → EachSeat (IsMoved (later b) parts) (fed (moved_board orders b)).snakes
+    → EachSeat (IsSound (later b) parts) (survivors orders b).snakes
+sound_judged b orders parts fed_ones =
+    let judged = starved_or_outside (fed (moved_board orders b)) in
+    let first = each_map (IsMoved (later b) parts) (IsSound (later b) parts) (first_judged b.width b.height (b.turn + 1)) (fed (moved_board orders b)).snakes
+    (λ seat s. first_judges (later b) parts seat s (omega arith)) fed_ones in
+    collides_sound judged (later b) parts refl (sym (seats_stay b orders)) first
+
+-- a body grows by eating
+sound_with_food : (b : Board) (orders : List (List ℕ × Direction)) → IsLegal b → EachSeat (IsSound (later b) (b.turn + 3 + 1)) (survivors orders b).snakes
+sound_with_food b orders l =
+    let feed = each_map (IsMoved (later b) (b.turn + 3)) (IsMoved (later b) (b.turn + 3 + 1)) (fed_snake b.food) (moved_board orders b).snakes
+    (λ seat s. feeds (later b) (b.turn + 3) seat s b.food) (sound_moved b orders l) in
+    sound_judged b orders (b.turn + 3 + 1) feed
+
+-- where there is no food it may grow afterwards
+sound_without_food : (b : Board) (orders : List (List ℕ × Direction)) → b.food ≡ [] → IsLegal b
+    → EachSeat (IsSound (later b) (b.turn + 3)) (survivors orders b).snakes
+sound_without_food b orders none l =
+    let feed = each_map (IsMoved (later b) (b.turn + 3)) (IsMoved (later b) (b.turn + 3)) (fed_snake b.food) (moved_board orders b).snakes
+    (λ seat s. feeds_none (later b) (b.turn + 3) seat s b.food none) (sound_moved b orders l) in
+    sound_judged b orders (b.turn + 3) feed
+
+-- what is sound for one board is legal on another of the same size
+reframe_state : (f c : Board) (seat : ℕ) (s : Snake) (cause : Option Cause) → c.turn ≡ f.turn → c.width ≡ f.width → c.height ≡ f.height
+    → length c.snakes ≡ length f.snakes → MatchOption cause (IsLegalLiving f s) (IsLegalOut f seat s) → MatchOption cause (IsLegalLiving c s) (IsLegalOut c seat s)
+reframe_state f c seat s None turn width height seats state = record {
+  fed = state.fed;
+  full = state.full;
+  head = rw (width, height) state.head;
+  killer = state.killer;
+  out = state.out;
+}
+reframe_state f c seat s (Some cause) turn width height seats state = record {
+  out = rw turn state.out;
+  health = state.health;
+  head = rw (width, height) state.head;
+  killer = rw seats state.killer;
+}
+
+legal_snake : (f c : Board) (parts seat : ℕ) (s : Snake) → c.turn ≡ f.turn → c.width ≡ f.width → c.height ≡ f.height → length c.snakes ≡ length f.snakes
+    → parts ≤ f.turn + 3 → IsSound f parts seat s → IsLegalSnake c seat s
+legal_snake f c parts seat s turn width height seats few sound = record {
+  id = sound.body.id;
+  body = record {
+    long = sound.body.long;
+    short = let short = sound.body.short in omega arith;
+    inside = rw (width, height) sound.body.inside;
+  };
+  state = reframe_state f c seat s s.cause turn width height seats sound.state;
+}
+
+legal_limits : (b c : Board) → c.width ≡ b.width → c.height ≡ b.height → c.chance ≡ b.chance → c.turn ≤ 10000 → length c.snakes ≡ length b.snakes
+    → IsWithinLimits b → IsWithinLimits c
+legal_limits b c width height chance turn seats l = record {
+  width = rw width l.width;
+  height = rw height l.height;
+  turn = turn;
+  chance = let few = l.chance in omega arith;
+  some = let some = l.some in omega arith;
+  few = let few = l.few in omega arith;
+}
+
+-- the board that a turn leaves, by its food and its seats
+next_board_is_legal : (b : Board) (food : List Point) (snakes : List Snake) → is_fit_food b.width b.height food ≡ true → IsFreeOfFood b.mode food
+    → length snakes ≡ length b.snakes → ids_of snakes ≡ ids_of b.snakes → EachSeat (IsSound (later b) (b.turn + 3 + 1)) snakes → IsLegal b → b.turn < 10000
+    → IsLegal (record b { turn = b.turn + 1; food = food; snakes = snakes })
+next_board_is_legal b food snakes fits free same ids sound l early =
+    let next = record b { turn = b.turn + 1; food = food; snakes = snakes } in
+    record {
+      limits = legal_limits b next refl refl refl (omega arith) same l.limits;
+      food = record { fits = fits; mode = free };
+      ids = distinct_by_ids b.snakes snakes ids l.ids;
+      snakes = λ seat d within. legal_snake (later b) next (b.turn + 3 + 1) seat (get_or snakes seat d) refl refl refl same (omega arith) (sound seat d within);
+    }
+
+seats_survive : (b : Board) (orders : List (List ℕ × Direction)) → length (survivors orders b).snakes ≡ length b.snakes
+seats_survive b orders = length_collided (starved_or_outside (fed (moved_board orders b))) ∙ seats_stay b orders
+
+-- no living head is on it
+abbrev is_left : List (List ℕ × Direction) → Board → Point → Bool
+is_left orders b cell = not (list_any (has_head_on cell) (moved_board orders b).snakes)
+
+spawned_is_legal : (b : Board) (orders : List (List ℕ × Direction)) (words : List ℕ) → ((food : List Point) → IsFreeOfFood b.mode food) → IsLegal b → b.turn < 10000
+    → IsLegal (record (spawned words (survivors orders b)) { turn = b.turn + 1 })
+spawned_is_legal b orders words free l early =
+    let last = survivors orders b in
+    let refed = spawned_refed words last in
+    let food = (spawned words last).food in
+    let P : Board → Type 0 = λ c. IsLegal (record c { turn = b.turn + 1 }) in
+    let fits = refed.fits (fit_food_left (is_left orders b) b.width b.height b.food l.food.fits) in
+    subst P (sym refed.only)
+    (next_board_is_legal b food last.snakes fits (free food) (seats_survive b orders) (ids_stay b orders) (sound_with_food b orders l) l early)
+
+empty : (food : List Point) → length food ≡ 0 → food ≡ []
+empty [] h = refl
+empty (p ∷ food) h = absurd (omega arith)
+
+grown_is_legal : (b : Board) (orders : List (List ℕ × Direction)) → b.mode ≡ Constrictor → IsLegal b → b.turn < 10000
+    → IsLegal (record (grown (survivors orders b)) { turn = b.turn + 1 })
+grown_is_legal b orders mode l early =
+    let last = survivors orders b in
+    let none : b.food ≡ [] = empty b.food (rw mode at l.food.mode) in
+    let left = food_left (moved_board orders b).snakes b.food in
+    let seats : length (map grown_snake last.snakes) ≡ length b.snakes = length-map last.snakes grown_snake ∙ seats_survive b orders in
+    let grow = each_map (IsSound (later b) (b.turn + 3)) (IsSound (later b) (b.turn + 3 + 1)) grown_snake last.snakes
+    (λ seat s. grows (later b) (b.turn + 3) seat s) (sound_without_food b orders none l) in
+    next_board_is_legal b left (map grown_snake last.snakes)
+    (fit_food_left (is_left orders b) b.width b.height b.food l.food.fits) (free_of_food_left (is_left orders b) b.mode b.food l.food.mode)
+    seats (grown_ids last.snakes ∙ ids_stay b orders) grow l early
+
+replenished_is_legal : (b : Board) (orders : List (List ℕ × Direction)) (words : List ℕ) (mode : Mode) → b.mode ≡ mode → IsLegal b → b.turn < 10000
+    → IsLegal (record (replenished mode words (survivors orders b)) { turn = b.turn + 1 })
+replenished_is_legal b orders words Standard e l early = spawned_is_legal b orders words (λ food. rw e tt) l early
+replenished_is_legal b orders words Solo e l early = spawned_is_legal b orders words (λ food. rw e tt) l early
+replenished_is_legal b orders words Constrictor e l early = grown_is_legal b orders e l early
+
+-- all seats moved, then the rest of the turn
+pub finished_is_legal : (b : Board) (orders : List (List ℕ × Direction)) (words : List ℕ) → IsLegal b → b.turn < 10000
+    → IsLegal (finished words (moved_board orders b))
+finished_is_legal b orders words l early = replenished_is_legal b orders words b.mode refl l early
+
+pub turn_is_legal : (b : Board) (orders : Orders) → IsLegal b → b.turn < 10000 → IsLegal (turn_of b orders)
+unfolding turn_of
+turn_is_legal b orders l early = finished_is_legal b orders.moves orders.words l early
+
+-- in the steps that the code makes
+pub next_is_legal : (b moved next : Board) (orders : List (List ℕ × Direction)) (words : List ℕ) → moved ≡ moved_board orders b → next ≡ finished words moved
+    → IsLegal b → b.turn < 10000 → IsLegal next
+next_is_legal b moved next orders words e f l early = rw (f, e) (finished_is_legal b orders words l early)

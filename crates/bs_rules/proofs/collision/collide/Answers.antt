@@ -1,0 +1,5 @@
+use Rattle.bs_rules.proofs.Judged.{collided_is_judged}
+use Rattle.bs_rules.proofs.collision.collide.Goals as goal
+
+pub returns-clause-meaning : goal.returns-clause-meaning
+returns-clause-meaning c = let e = c.judge_all.ensures in rw e (collided_is_judged c.args.board.now)

@@ -1,0 +1,28 @@
+-- Snakes that go out, and the first of them in a turn: the starved and those that left the board.
+use Rattle.std.specs.Prelude.{ℕ, ◌+◌, if◌then◌else◌, map, nat_eq, Option, Some, None}
+use Rattle.bs_board.specs.declared.board.Board.{Board}
+use Rattle.bs_board.specs.declared.snake.Snake.{Snake}
+use Rattle.bs_board.specs.declared.snake.Cause.TheVariants.{OutOfHealth, WallCollision}
+use Rattle.bs_board.specs.Cell.{is_on_board}
+use Rattle.bs_board.specs.Legal.{head_of}
+use Rattle.bs_board.specs.Over.{is_living}
+use Rattle.bs_rules.specs.declared.verdict.Verdict.{Verdict}
+
+-- out in that turn by that verdict, if there is one; its body and health it keeps
+abbrev pub judged : ℕ → Option Verdict → Snake → Snake
+judged turn None s = s
+judged turn (Some v) s = record s { cause = Some v.cause; killer = v.killer; out = Some turn }
+
+-- starved, else off the board; nobody's doing
+abbrev pub first_verdict : ℕ → ℕ → Snake → Option Verdict
+first_verdict width height s =
+    if nat_eq s.health 0 then Some (record { cause = OutOfHealth; killer = None })
+    else if is_on_board width height (head_of s.body) then None
+    else Some (record { cause = WallCollision; killer = None })
+
+abbrev pub first_judged : ℕ → ℕ → ℕ → Snake → Snake
+first_judged width height turn s = if is_living s then judged turn (first_verdict width height s) s else s
+
+-- the board's number of turns still is the one before this turn
+abbrev pub starved_or_outside : Board → Board
+starved_or_outside b = record b { snakes = map (first_judged b.width b.height (b.turn + 1)) b.snakes }

@@ -1,0 +1,5 @@
+pub mod Collision
+pub mod Elimination
+pub mod Feeding
+pub mod Motion
+pub mod Turn

@@ -1,0 +1,52 @@
+ghost use Rattle.std.specs.Prelude.{◌≡◌, ◌+◌, ◌<◌, map};
+ghost use Rattle.bs_rules.specs.Elimination.{first_verdict, first_judged, starved_or_outside};
+
+use crate::parts::head_of;
+use crate::verdict::{Verdict, apply};
+use bs_board::{Board, Cause, Snake, Snakes};
+
+fn first_verdict(width: u8, height: u8, snake: &Snake) -> Option<Verdict>
+    ensures { result ≡ first_verdict width height snake.now }
+{
+    if snake.health == 0 {
+        Some(Verdict {
+            cause: Cause::OutOfHealth,
+            killer: None,
+        })
+    } else if head_of(snake.body.as_slice()).is_on_board(width, height) {
+        None
+    } else {
+        Some(Verdict {
+            cause: Cause::WallCollision,
+            killer: None,
+        })
+    }
+}
+
+fn judge_first(width: u8, height: u8, turn: u16, snake: &mut Snake)
+    ensures { snake.new ≡ first_judged width height turn snake.old }
+{
+    if snake.is_living() {
+        let verdict = first_verdict(width, height, snake);
+        apply(verdict, turn, snake);
+    }
+}
+
+#[tactic(auto, using(bs_modes::proofs::InPlace::set_next))]
+fn judge_all_first(width: u8, height: u8, turn: u16, snakes: &mut Snakes)
+    ensures { snakes.new ≡ map (first_judged width height turn) snakes.old }
+{
+    for seat in 0..snakes.len() {
+        judge_first(width, height, turn, snakes.seat_mut(seat));
+    }
+}
+
+/// The first eliminations of the turn that is being played: each living snake that has starved is out, and each
+/// other one whose head has left the board.
+pub fn first_out(board: &mut Board)
+    requires { board.old.turn < 10000 }
+    ensures { board.new ≡ starved_or_outside board.old }
+{
+    let (width, height, turn) = (board.width, board.height, board.turn + 1);
+    judge_all_first(width, height, turn, &mut board.snakes);
+}

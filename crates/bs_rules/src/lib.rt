@@ -1,0 +1,18 @@
+//! One turn of a game, step by step: snakes move, eat, starve or leave the board, and run into one another.
+#![tactic(auto)]
+
+mod collision;
+mod elimination;
+mod feeding;
+mod motion;
+mod parts;
+#[cfg(test)]
+mod tests;
+mod turns;
+mod verdict;
+
+pub use collision::collide;
+pub use elimination::first_out;
+pub use feeding::feed;
+pub use motion::move_snake;
+pub use turns::{finish_turn, turn};

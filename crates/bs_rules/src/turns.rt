@@ -1,0 +1,70 @@
+ghost use Rattle.std.specs.Prelude.{◌≡◌, ◌<◌, ◌≤◌, IfOk, OnOk, All, length};
+ghost use Rattle.bs_board.specs.Legal.{IsLegal};
+ghost use Rattle.bs_rules.specs.Motion.{moved_board, IsMovable};
+ghost use Rattle.bs_rules.specs.Turn.{replenished, finished, turn_of};
+
+use crate::collision::collide;
+use crate::elimination::first_out;
+use crate::feeding::feed;
+use crate::motion::move_snakes;
+use bs_board::{Board, Direction, Id, Mode, Move};
+use bs_food::spawn;
+use bs_modes::grow;
+use std::alloc::{AllocError, Global};
+
+fn move_board(alloc: Global, board: &Board, moves: &[(Id, Direction)]) -> Result<Board, AllocError>
+    requires { All IsMovable board.now.snakes }
+    ensures { IfOk result (λ next. next ≡ moved_board moves.now board.now) }
+{
+    Ok(Board {
+        mode: board.mode,
+        width: board.width,
+        height: board.height,
+        turn: board.turn,
+        min_food: board.min_food,
+        chance: board.chance,
+        food: board.food.copy(alloc)?,
+        snakes: move_snakes(alloc, board.snakes.as_slice(), moves)?,
+    })
+}
+
+/// Growth in constrictor, in the other modes food from the words.
+fn replenish(alloc: Global, board: &mut Board, words: &[u32]) -> Result<(), AllocError>
+    ensures { OnOk result (board.new ≡ replenished board.old.mode words.now board.old) }
+{
+    match board.mode {
+        Mode::Standard => spawn(alloc, board, words),
+        Mode::Solo => spawn(alloc, board, words),
+        Mode::Constrictor => grow(alloc, board),
+    }
+}
+
+/// The rest of a turn, once all seats have moved: feeding, the first eliminations, collisions, growth or new food. The
+/// turn number rises last. Moving all seats and then this is `turn`.
+pub fn finish_turn(alloc: Global, board: Board, words: &[u32]) -> Result<Board, AllocError>
+    requires turn { board.turn < 10000 }
+    requires few { length board.snakes ≤ 8 }
+    ensures { IfOk result (λ next. next ≡ finished words.now board) }
+{
+    let turn = board.turn + 1;
+    let mut next = board;
+    feed(alloc, &mut next)?;
+    first_out(&mut next);
+    collide(&mut next);
+    replenish(alloc, &mut next, words)?;
+    next.turn = turn;
+    Ok(next)
+}
+
+/// The board after one turn. A snake that no direction is given to goes straight on; directions for ids of no living
+/// snake are ignored, and so are words left over.
+#[tactic(auto, using(crate::proofs::Movable::legal_is_movable), unfolding(crate::specs::Turn::turn_of))]
+pub fn turn(alloc: Global, board: &Board, order: &Move) -> Result<Board, AllocError>
+    requires legal { IsLegal board.now }
+    requires turn { board.now.turn < 10000 }
+    ensures value { IfOk result (λ next. next ≡ turn_of board.now order.now) }
+    ensures legal { IfOk result IsLegal }
+{
+    let moved = move_board(alloc, board, order.moves.as_slice())?;
+    finish_turn(alloc, moved, order.words.as_slice())
+}
