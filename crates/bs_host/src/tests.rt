@@ -51,15 +51,24 @@ fn solo_file(alloc: Global) -> Result<String, AllocError> {
     joined(alloc, &[PLAN, NEW, MOVE, MOVE, MOVE])
 }
 
+// A reply's line: its board, and what stands behind it.
+fn board_line(alloc: Global, board: &str, rest: &str) -> Result<String, AllocError> {
+    joined(alloc, &["{\"board\":", board, ",\"charge\":", rest, "}\n"])
+}
+
 fn solo_text(alloc: Global) -> Result<String, AllocError> {
-    format!(in alloc;
-        r#"{{"board":{BOARD_0},"charge":32,"do":"new","game":"a","seq":1}}
-{{"board":{BOARD_1},"charge":64,"do":"move","game":"a","seq":2}}
-{{"board":{BOARD_2},"charge":96,"do":"move","game":"a","seq":3}}
-{{"game":"a","no":"G4","seq":4,"why":"over"}}
-{{"board":{BOARD_2},"charge":96,"final":true,"game":"a"}}
-"#
-    )
+    let mut text = String::new(alloc);
+    let moves = [
+        (BOARD_0, r#"32,"do":"new","game":"a","seq":1"#),
+        (BOARD_1, r#"64,"do":"move","game":"a","seq":2"#),
+        (BOARD_2, r#"96,"do":"move","game":"a","seq":3"#),
+    ];
+    for (board, rest) in moves {
+        text.push_str(&board_line(alloc, board, rest)?)?;
+    }
+    text.push_str("{\"game\":\"a\",\"no\":\"G4\",\"seq\":4,\"why\":\"over\"}\n")?;
+    text.push_str(&board_line(alloc, BOARD_2, r#"96,"final":true,"game":"a""#)?)?;
+    Ok(text)
 }
 
 // A snake alone goes straight on and into the wall; what is asked of it then is refused.
@@ -75,84 +84,75 @@ fn solo_runs_into_the_wall(rt: HostRuntime) -> Result<(), Fail> {
 const FINAL_NOTHING: &str = r#"{"board":null,"charge":0,"final":true,"game":"a"}
 "#;
 
-// Plans that are refused, files that say nothing, lines that belong to no game, and refusals of single commands.
-#[test]
-fn small_files_are_answered(rt: HostRuntime) -> Result<(), Fail> {
-    let alloc = rt.alloc();
+// A plan of 65 games.
+fn many_games(alloc: Global) -> Result<String, AllocError> {
     let mut rows = String::new(alloc);
     for index in 0..65u8 {
         let comma = if index == 0 { "" } else { "," };
         let row = format!(in alloc; r#"{comma}{{"game":"g{index}","quota":64}}"#)?;
         rows.push_str(&row)?;
     }
-    let many = format!(in alloc; r#"{{"games":[{rows}]}}"#)?;
-    let stray = r#"{"games":[]}
-x"#;
-    let twice = r#"{"games":[{"game":"a","quota":64},{"game":"a","quota":64}]}"#;
-    let two = r#"{"games":[{"game":"a","quota":64},{"game":"b","quota":64}]}"#;
-    let finals = r#"{"board":null,"charge":0,"final":true,"game":"a"}
-{"board":null,"charge":0,"final":true,"game":"b"}
-"#;
+    joined(alloc, &["{\"games\":[", &rows, "]}"])
+}
+
+#[test]
+fn plans_are_refused(rt: HostRuntime) -> Result<(), Fail> {
+    let alloc = rt.alloc();
+    let many = many_games(alloc)?;
+    let table = [
+        (r#"{"games":[],"version":2}"#, 64, "plan P1"),
+        (
+            r#"{"games":[{"game":"a","quota":64},{"game":"a","quota":64}]}"#,
+            64,
+            "plan P2",
+        ),
+        (many.as_str(), 4096, "plan P3"),
+        (
+            r#"{"games":[{"game":"a","quota":16777216}]}"#,
+            14,
+            "plan P4",
+        ),
+        (r#"{"games":[{"game":"a","quota":16777216}]}"#, 15, "served"),
+    ];
+    for (file, blocks, wanted) in table {
+        let (told, _) = outcome(alloc, file.as_bytes(), blocks)?;
+        assert_eq!(rt; told.as_str(), wanted, "{file}");
+    }
+    Ok(())
+}
+
+// A command out of its turn, and one whose record has no room, is refused; the game stays as it was.
+#[test]
+fn commands_are_refused(rt: HostRuntime) -> Result<(), Fail> {
+    let alloc = rt.alloc();
     let tiny = joined(
         alloc,
-        &[
-            r#"{"games":[{"game":"a","quota":16}]}
-"#,
-            NEW,
-        ],
+        &["{\"games\":[{\"game\":\"a\",\"quota\":16}]}\n", NEW],
     )?;
     let refused = joined(
         alloc,
         &[
-            r#"{"game":"a","no":"G7","seq":1,"why":"quota"}
-"#,
+            "{\"game\":\"a\",\"no\":\"G7\",\"seq\":1,\"why\":\"quota\"}\n",
             FINAL_NOTHING,
         ],
     )?;
-    let early = joined(alloc, &[PLAN, MOVE, r#"{"game":"a","do":"show"}"#])?;
+    let early = joined(alloc, &[PLAN, MOVE])?;
     let no_game = joined(
         alloc,
         &[
-            r#"{"game":"a","no":"G2","seq":1,"why":"none"}
-{"game":"a","no":"G2","seq":2,"why":"none"}
-"#,
+            "{\"game\":\"a\",\"no\":\"G2\",\"seq\":1,\"why\":\"none\"}\n",
             FINAL_NOTHING,
         ],
     )?;
     let again = joined(alloc, &[PLAN, NEW, NEW])?;
-    let running = format!(in alloc;
-        r#"{{"board":{BOARD_0},"charge":32,"do":"new","game":"a","seq":1}}
-{{"game":"a","no":"G3","seq":2,"why":"running"}}
-{{"board":{BOARD_0},"charge":32,"final":true,"game":"a"}}
-"#
-    )?;
-    let large = r#"{"games":[{"game":"a","quota":16777216}]}"#;
-    let table = [
-        ("", 64, "plan P1", ""),
-        (r#"{"games":1}"#, 64, "plan P1", ""),
-        (r#"{"games":[],"version":2}"#, 64, "plan P1", ""),
-        (r#"{"games":[{"game":"a","quota":15}]}"#, 64, "plan P2", ""),
-        (twice, 64, "plan P2", ""),
-        (many.as_str(), 4096, "plan P3", ""),
-        (two, 11, "plan P4", ""),
-        (two, 12, "served", finals),
-        (large, 14, "plan P4", ""),
-        (large, 15, "served", FINAL_NOTHING),
-        (r#"{"games":[]}"#, 0, "served", ""),
-        (
-            stray,
-            0,
-            "served",
-            "{\"line\":2,\"no\":\"L1\",\"why\":\"json\"}\n",
-        ),
-        (tiny.as_str(), 6, "served", refused.as_str()),
-        (early.as_str(), 6, "served", no_game.as_str()),
-        (again.as_str(), 6, "served", running.as_str()),
-    ];
-    for (file, blocks, wanted, text) in table {
-        let (told, written) = outcome(alloc, file.as_bytes(), blocks)?;
-        assert_eq!(rt; told.as_str(), wanted, "{file}");
-        assert_eq!(rt; written.as_slice(), text.as_bytes(), "{file}");
+    let started = board_line(alloc, BOARD_0, r#"32,"do":"new","game":"a","seq":1"#)?;
+    let last = board_line(alloc, BOARD_0, r#"32,"final":true,"game":"a""#)?;
+    let running = "{\"game\":\"a\",\"no\":\"G3\",\"seq\":2,\"why\":\"running\"}\n";
+    let running = joined(alloc, &[&started, running, &last])?;
+    for (file, text) in [(&tiny, &refused), (&early, &no_game), (&again, &running)] {
+        let (told, written) = outcome(alloc, file.as_bytes(), 6)?;
+        assert_eq!(rt; told.as_str(), "served");
+        assert_eq!(rt; written.as_slice(), text.as_bytes());
     }
     Ok(())
 }
@@ -167,15 +167,13 @@ fn strays_are_told_at_the_end(rt: HostRuntime) -> Result<(), Fail> {
 {"game":"a","do":"show"}
 "#;
     let file = joined(alloc, &[PLAN, NEW, lines])?;
-    let text = format!(in alloc;
-        r#"{{"board":{BOARD_0},"charge":32,"do":"new","game":"a","seq":1}}
-{{"game":"a","no":"G1","seq":2,"why":"command"}}
-{{"board":{BOARD_0},"charge":32,"do":"show","game":"a","seq":3}}
-{{"board":{BOARD_0},"charge":32,"final":true,"game":"a"}}
-{{"line":3,"no":"L1","why":"json"}}
-{{"line":4,"no":"L2","why":"game"}}
-"#
-    )?;
+    let started = board_line(alloc, BOARD_0, r#"32,"do":"new","game":"a","seq":1"#)?;
+    let shown = board_line(alloc, BOARD_0, r#"32,"do":"show","game":"a","seq":3"#)?;
+    let last = board_line(alloc, BOARD_0, r#"32,"final":true,"game":"a""#)?;
+    let refused = "{\"game\":\"a\",\"no\":\"G1\",\"seq\":2,\"why\":\"command\"}\n";
+    let strays =
+        "{\"line\":3,\"no\":\"L1\",\"why\":\"json\"}\n{\"line\":4,\"no\":\"L2\",\"why\":\"game\"}\n";
+    let text = joined(alloc, &[&started, refused, &shown, &last, strays])?;
     let (told, written) = outcome(alloc, file.as_bytes(), 6)?;
     assert_eq!(rt; told.as_str(), "served");
     assert_eq!(rt; written.as_slice(), text.as_bytes());
@@ -202,17 +200,20 @@ fn two_games_interleaved(rt: HostRuntime) -> Result<(), Fail> {
         r#"{"food":[{"x":1,"y":2}],"food_chance":0,"height":7,"min_food":0,"mode":"standard","over":false,"snakes":[{"body":[{"x":1,"y":1},{"x":1,"y":1},{"x":1,"y":1}],"by":null,"cause":null,"health":100,"id":"s","out":null},{"body":[{"x":5,"y":1},{"x":5,"y":1},{"x":5,"y":1}],"by":null,"cause":null,"health":100,"id":"t","out":null},{"body":[{"x":3,"y":5},{"x":3,"y":5},{"x":3,"y":5}],"by":null,"cause":null,"health":100,"id":"u","out":null}],"turn":0,"width":7}"#;
     let b1 =
         r#"{"food":[],"food_chance":0,"height":7,"min_food":0,"mode":"standard","over":false,"snakes":[{"body":[{"x":1,"y":2},{"x":1,"y":1},{"x":1,"y":1},{"x":1,"y":1}],"by":null,"cause":null,"health":100,"id":"s","out":null},{"body":[{"x":5,"y":2},{"x":5,"y":1},{"x":5,"y":1}],"by":null,"cause":null,"health":99,"id":"t","out":null},{"body":[{"x":3,"y":4},{"x":3,"y":5},{"x":3,"y":5}],"by":null,"cause":null,"health":99,"id":"u","out":null}],"turn":1,"width":7}"#;
-    let text = format!(in alloc;
-        r#"{{"board":{a0},"charge":32,"do":"new","game":"a","seq":1}}
-{{"board":{a1},"charge":64,"do":"move","game":"a","seq":2}}
-{{"board":{a1},"charge":64,"do":"show","game":"a","seq":3}}
-{{"board":{a1},"charge":64,"final":true,"game":"a"}}
-{{"board":{b0},"charge":64,"do":"new","game":"b","seq":1}}
-{{"board":{b1},"charge":128,"do":"move","game":"b","seq":2}}
-{{"board":{b1},"charge":128,"do":"show","game":"b","seq":3}}
-{{"board":{b1},"charge":128,"final":true,"game":"b"}}
-"#
-    )?;
+    let mut text = String::new(alloc);
+    let lines = [
+        (a0, r#"32,"do":"new","game":"a","seq":1"#),
+        (a1, r#"64,"do":"move","game":"a","seq":2"#),
+        (a1, r#"64,"do":"show","game":"a","seq":3"#),
+        (a1, r#"64,"final":true,"game":"a""#),
+        (b0, r#"64,"do":"new","game":"b","seq":1"#),
+        (b1, r#"128,"do":"move","game":"b","seq":2"#),
+        (b1, r#"128,"do":"show","game":"b","seq":3"#),
+        (b1, r#"128,"final":true,"game":"b""#),
+    ];
+    for (board, rest) in lines {
+        text.push_str(&board_line(alloc, board, rest)?)?;
+    }
     let (told, written) = outcome(alloc, file.as_bytes(), 12)?;
     assert_eq!(rt; told.as_str(), "served");
     assert_eq!(rt; written.as_slice(), text.as_bytes());
@@ -364,35 +365,51 @@ fn told(alloc: Global, reply: &Reply) -> Result<String, AllocError> {
     }
 }
 
+fn still(alloc: Global) -> Move {
+    Move::new(
+        Moves::from_vec(Vec::new(alloc)),
+        Words::from_vec(Vec::new(alloc)),
+    )
+}
+
+// The command of that name; the other names are those of turns.
+fn command_named(alloc: Global, name: &str) -> Result<Command, AllocError> {
+    match name {
+        "new" => Ok(setup(alloc)?.map_or(Command::Bad, Command::New)),
+        "move" => Ok(Command::Move(still(alloc))),
+        "show" => Ok(Command::Show),
+        "free" => Ok(Command::Free),
+        "end" => Ok(Command::End),
+        "first" => Ok(TurnNumber::new(0).map_or(Command::Bad, Command::Turn)),
+        "second" => Ok(TurnNumber::new(1).map_or(Command::Bad, Command::Turn)),
+        _ => Ok(Command::Bad),
+    }
+}
+
 // A quota of two records: the third is refused until the older ones are given up.
 #[test]
 fn quota_of_two_records(rt: HostRuntime) -> Result<(), Fail> {
     let alloc = rt.alloc();
-    let still = Move::new(
-        Moves::from_vec(Vec::new(alloc)),
-        Words::from_vec(Vec::new(alloc)),
-    );
-    let first = TurnNumber::new(0).ok_or("in range")?;
-    let second = TurnNumber::new(1).ok_or("in range")?;
-    let commands = [
-        (Command::Free, "NoGame"),
-        (Command::New(setup(alloc)?.ok_or("fits")?), "New 0 32"),
-        (Command::Move(still.copy(alloc)?), "Move 1 64"),
-        (Command::Move(still.copy(alloc)?), "Quota"),
-        (Command::Turn(first), "Turn 0 64"),
-        (Command::Free, "Free 32"),
-        (Command::Move(still), "Move 2 64"),
-        (Command::Turn(first), "NoRecord"),
-        (Command::Turn(second), "Turn 1 64"),
-        (Command::Show, "Show 2 64"),
-        (Command::Bad, "Unknown"),
-        (Command::End, "End 0"),
-        (Command::Show, "NoGame"),
+    let table = [
+        ("free", "NoGame"),
+        ("new", "New 0 32"),
+        ("move", "Move 1 64"),
+        ("move", "Quota"),
+        ("first", "Turn 0 64"),
+        ("free", "Free 32"),
+        ("move", "Move 2 64"),
+        ("first", "NoRecord"),
+        ("second", "Turn 1 64"),
+        ("show", "Show 2 64"),
+        ("bad", "Unknown"),
+        ("end", "End 0"),
+        ("show", "NoGame"),
     ];
     let mut game = KeptGame::new(alloc);
-    for (command, wanted) in &commands {
-        let reply = answer(alloc, 64, &mut game, command)?;
-        assert_eq!(rt; told(alloc, &reply)?.as_str(), *wanted);
+    for (name, wanted) in table {
+        let command = command_named(alloc, name)?;
+        let reply = answer(alloc, 64, &mut game, &command)?;
+        assert_eq!(rt; told(alloc, &reply)?.as_str(), wanted);
     }
     Ok(())
 }
