@@ -10,9 +10,8 @@ mod tests;
 use failure::Failure;
 use program::{arena_run, reported};
 use std::alloc::AllocError;
-use std::env;
-use std::io;
 use std::process::ExitCode;
+use std::{env, io};
 
 /// The words of the command line, the program's name first.
 fn words_of(rt: &HostRuntime) -> io::Result<Vec<String>> {

@@ -10,7 +10,12 @@ use std::rt::Files;
 const REFUSED: u8 = 2;
 
 /// All bytes of the file that a request names.
-fn input_of<F: Files, R: Read>(rt: &F, alloc: Global, file: &str, input: &mut R) -> Result<Vec<u8>, ReadFault> {
+fn input_of<F: Files, R: Read>(
+    rt: &F,
+    alloc: Global,
+    file: &str,
+    input: &mut R,
+) -> Result<Vec<u8>, ReadFault> {
     if file == STANDARD_INPUT {
         return read_input(alloc, input);
     }
@@ -53,7 +58,11 @@ fn explained<W: Write, E: Write>(error: &clap::Error, output: &mut W, errors: &m
         return REFUSED;
     }
     let shown = write!(output, "{error}").and_then(|()| output.flush());
-    if shown.is_err() { reported(&Failure::Flush, errors) } else { 0 }
+    if shown.is_err() {
+        reported(&Failure::Flush, errors)
+    } else {
+        0
+    }
 }
 
 /// Runs the program on these words, of which the first is its own name, and gives its exit status. The transcript goes

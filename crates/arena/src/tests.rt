@@ -14,14 +14,50 @@ fn statuses_and_lines(rt: HostRuntime) -> Result<(), Fail> {
     let cases: [(&[&str], &str, u8, &str, &str); 10] = [
         (&["arena"], "", 4, "", "arena: plan P1\n"),
         (&["arena"], "{\"games\":[]}", 0, "", ""),
-        (&["arena"], "{\"games\":[]}\nx\n", 0, "{\"line\":2,\"no\":\"L1\",\"why\":\"json\"}\n", ""),
+        (
+            &["arena"],
+            "{\"games\":[]}\nx\n",
+            0,
+            "{\"line\":2,\"no\":\"L1\",\"why\":\"json\"}\n",
+            "",
+        ),
         (&["arena"], "{\"games\":1}", 4, "", "arena: plan P1\n"),
-        (&["arena"], "{\"games\":[{\"game\":\"a\",\"quota\":15}]}", 4, "", "arena: plan P2\n"),
-        (&["arena", "serve", "-", "--blocks", "11"], TWO_GAMES, 4, "", "arena: plan P4\n"),
-        (&["arena", "serve", "-", "--blocks", "12"], TWO_GAMES, 0, TWO_GAMES_END, ""),
+        (
+            &["arena"],
+            "{\"games\":[{\"game\":\"a\",\"quota\":15}]}",
+            4,
+            "",
+            "arena: plan P2\n",
+        ),
+        (
+            &["arena", "serve", "-", "--blocks", "11"],
+            TWO_GAMES,
+            4,
+            "",
+            "arena: plan P4\n",
+        ),
+        (
+            &["arena", "serve", "-", "--blocks", "12"],
+            TWO_GAMES,
+            0,
+            TWO_GAMES_END,
+            "",
+        ),
         (&["arena", "serve", "-"], TWO_GAMES, 0, TWO_GAMES_END, ""),
-        (&["arena", "serve", "no such file"], "", 3, "", "arena: cannot read the file\n"),
-        (&["arena", "serve", "/"], "", 3, "", "arena: cannot read the file\n"),
+        (
+            &["arena", "serve", "no such file"],
+            "",
+            3,
+            "",
+            "arena: cannot read the file\n",
+        ),
+        (
+            &["arena", "serve", "/"],
+            "",
+            3,
+            "",
+            "arena: cannot read the file\n",
+        ),
     ];
     for (words, file, status, text, line) in cases {
         let mut output = Vec::new(rt.alloc());
@@ -79,11 +115,21 @@ impl Write for Narrow {
 
 #[test]
 fn outputs_that_fail(rt: HostRuntime) -> Result<(), Fail> {
-    for (room, line) in [(10, "arena: write failed after 10 bytes\n"), (1000, "arena: flush failed\n")] {
+    for (room, line) in [
+        (10, "arena: write failed after 10 bytes\n"),
+        (1000, "arena: flush failed\n"),
+    ] {
         let mut output = Narrow { room };
         let mut errors = Vec::new(rt.alloc());
         let mut input = TWO_GAMES.as_bytes();
-        let answer = arena_run(&rt, rt.alloc(), &["arena"], &mut input, &mut output, &mut errors);
+        let answer = arena_run(
+            &rt,
+            rt.alloc(),
+            &["arena"],
+            &mut input,
+            &mut output,
+            &mut errors,
+        );
         assert_eq!(rt; answer, 6);
         assert_eq!(rt; errors.as_slice(), line.as_bytes());
     }

@@ -1,5 +1,5 @@
 -- What a file says, from its first line and the others.
-use Rattle.std.proofs.Common.{◌≡◌, ℕ, ◌<◌, ◌≤◌, Bool, true, false, cond, List, [], ◌∷◌, ◌++◌, Option, Some, None, Result, Ok, Err, length, map, refl, sym, ap, ◌∙◌}
+use Rattle.std.proofs.Common.{◌≡◌, ℕ, ◌<◌, ◌≤◌, List, [], ◌∷◌, ◌++◌, Some, Result, Ok, length, map, refl, sym, ap, ◌∙◌}
 use Rattle.std.proofs.lemmas.Bool.{lt-ltb, le-ltb, cond-true, cond-false}
 use Rattle.std.proofs.lemmas.List.Concat.{flat_map-cons}
 use Rattle.std.specs.List.{flat_map}
@@ -8,7 +8,6 @@ use Rattle.bs_board.specs.declared.plan.Plan.{Plan}
 use Rattle.bs_board.specs.Plan.{GameRow}
 use Rattle.bs_json.specs.declared.plan.PlanFault.{PlanFault}
 use Rattle.bs_json.specs.PlanLine.{plan_line_of}
-use Rattle.bs_host.specs.declared.fault.Fault.{Fault}
 use Rattle.bs_host.specs.declared.fault.Fault.TheVariants.{TooLong}
 use Rattle.bs_host.specs.File.{lines_of, first_line, later_lines, plan_of, rows_in, commands_in, strays_in}
 use Rattle.bs_host.specs.Requests.{requests_of}

@@ -1,9 +1,9 @@
 -- Games that grow, and what they are charged.
-use Rattle.std.proofs.Common.{◌≡◌, ℕ, suc, ◌+◌, ◌-◌, ◌<◌, ◌≤◌, List, [], ◌∷◌, ◌++◌, Option, Some, None, length, slice_get, get_or, refl, sym, ap, ◌∙◌, arith, lit≤, All, drop, zero, Bool, true, false}
+use Rattle.std.proofs.Common.{◌≡◌, ℕ, suc, ◌+◌, ◌-◌, ◌≤◌, [], ◌∷◌, ◌++◌, Some, length, slice_get, refl, sym, ap, ◌∙◌, arith, lit≤, true, false}
 use Rattle.std.proofs.lemmas.List.Sums.{sum_by_push}
 use Rattle.std.proofs.lemmas.List.Elements.{All-push}
 use Rattle.std.proofs.lemmas.Option.{slice_get_within, get_or_from_slice_get, slice_get-get_or}
-use Rattle.std.specs.Prelude.{option_to_list, is_some}
+use Rattle.std.specs.Prelude.{is_some}
 use Rattle.bs_board.specs.Orders.{Orders}
 use Rattle.bs_rules.specs.Turn.{turn_of}
 use Rattle.bs_board.specs.declared.board.Board.{Board}

@@ -1,5 +1,4 @@
 pub mod Known
-pub mod Sizes
 pub mod Games
 pub mod Cutting
 pub mod Sorting

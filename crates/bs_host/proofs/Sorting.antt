@@ -7,7 +7,7 @@ use Rattle.std.proofs.lemmas.Bool.{and_parts, not-true, or_parts, cond-true, con
 use Rattle.std.proofs.lemmas.Cmp.{nat_list_eq_equiv}
 use Rattle.std.proofs.lemmas.List.Folds.{list_any_at}
 use Rattle.std.proofs.lemmas.List.Quantifiers.{position-Some}
-use Rattle.std.specs.List.{list_any, cons_option}
+use Rattle.std.specs.List.{list_any}
 use Rattle.bs_board.specs.declared.command.Command.{Command}
 use Rattle.bs_board.specs.declared.command.Command.TheVariants as command
 use Rattle.bs_board.specs.Plan.{GameRow, have_distinct_names}
@@ -18,7 +18,7 @@ use Rattle.bs_json.specs.declared.line.Stray.{Stray}
 use Rattle.bs_json.specs.declared.line.Stray.TheVariants as stray
 use Rattle.bs_json.specs.Line.{line_of}
 use Rattle.bs_host.specs.declared.requests.Requests.{Requests}
-use Rattle.bs_host.specs.File.{asked_of, commands_in, is_planned, unless_planned, stray_in, numbered_stray, strays_in}
+use Rattle.bs_host.specs.File.{asked_of, commands_in, is_planned, unless_planned, stray_in, strays_in}
 use Rattle.bs_host.specs.Requests.{place_of, handed_at, sorted, requests_of}
 use Rattle.bs_host.proofs.Cutting.{nothing_passes}
 

@@ -1,5 +1,5 @@
 -- What one command of a game is answered, and the game after it.
-use Rattle.std.specs.Prelude.{◌≡◌, ℕ, ◌+◌, ◌≤◌, Bool, true, List, [], ◌∷◌, ◌++◌, Option, Some, None, is_some, nat_le, if◌then◌else◌}
+use Rattle.std.specs.Prelude.{◌≡◌, ℕ, ◌+◌, ◌≤◌, Bool, true, [], ◌∷◌, ◌++◌, Option, Some, None, is_some, nat_le, if◌then◌else◌}
 use Rattle.bs_board.specs.declared.board.Board.{Board}
 use Rattle.bs_board.specs.declared.command.Command.{Command}
 use Rattle.bs_board.specs.declared.command.Command.TheVariants as command

@@ -8,7 +8,7 @@ use std::alloc::{AllocError, Global};
 use std::marker::Model;
 
 /// The record's size rounded up to a multiple of 16 bytes.
-#[tactic(auto, using(crate::proofs::Sizes::legal_size))]
+#[tactic(auto, using(bs_board::proofs::Sizes::legal_size))]
 pub(crate) fn board_charge(board: &Board) -> u32
     requires { IsLegal board.now }
     ensures value { result ≡ board_charge board.now }

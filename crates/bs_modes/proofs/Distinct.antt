@@ -1,5 +1,5 @@
 -- Tests of two facts, and lists in which nothing stands twice.
-use Rattle.std.proofs.Common.{◌≡◌, Bool, true, false, not, ◌&&◌, List, [], ◌∷◌, map, refl, ap, sym}
+use Rattle.std.proofs.Common.{◌≡◌, Bool, true, false, ◌&&◌, List, [], ◌∷◌, map, refl}
 use Rattle.std.specs.List.{list_any}
 use Rattle.bs_board.specs.Distinct.{are_distinct}
 
@@ -14,6 +14,6 @@ list_any_map p f (x ∷ xs) = rw (list_any_map p f xs) refl
 
 -- only what is compared counts
 pub are_distinct_map : {X Y : Type 0} (same : Y → Y → Bool) (f : X → Y) (xs : List X)
-  → are_distinct same (map f xs) ≡ are_distinct (λ a b. same (f a) (f b)) xs
+    → are_distinct same (map f xs) ≡ are_distinct (λ a b. same (f a) (f b)) xs
 are_distinct_map same f [] = refl
 are_distinct_map same f (x ∷ xs) = rw (list_any_map (same (f x)) f xs, are_distinct_map same f xs) refl

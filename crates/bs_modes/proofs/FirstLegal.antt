@@ -1,18 +1,16 @@
 -- The board of turn 0 is legal.
-use Rattle.std.proofs.Common.{◌≡◌, ℕ, ◌+◌, ◌<◌, ◌≤◌, true, List, [], ◌∷◌, length, map, get_or, refl, sym, ◌∙◌, subst, pos, arith, All, zero, suc, lit≤}
+use Rattle.std.proofs.Common.{◌≡◌, ℕ, ◌+◌, ◌<◌, ◌≤◌, true, List, [], ◌∷◌, length, map, get_or, refl, ◌∙◌, pos, arith, All, zero, suc, lit≤}
 use Rattle.std.proofs.lemmas.Bool.{leb-true}
 use Rattle.bs_board.specs.Cell.{is_on_board}
 use Rattle.std.proofs.lemmas.List.{get_or-map, length-map}
 use Rattle.std.proofs.lemmas.List.Sums.{AllPass-from_list_all}
-use Rattle.std.specs.List.{list_all, AllPass}
+use Rattle.std.specs.List.{list_all}
 use Rattle.bs_board.specs.declared.point.Point.{Point}
 use Rattle.bs_board.specs.declared.board.Board.{Board}
 use Rattle.bs_board.specs.declared.board.Mode.{Mode}
 use Rattle.bs_board.specs.declared.board.Mode.TheVariants.{Standard, Solo, Constrictor}
-use Rattle.bs_board.specs.declared.snake.Snake.{Snake}
-use Rattle.bs_board.specs.Legal.{IsLegal, IsLegalSnake, IsLegalFood, IsLegalBody, IsFreeOfFood, EachSeat, are_distinct_ids}
-use Rattle.bs_board.specs.Setup.{Setup, is_fit_setup, is_fit_start, is_fit_food, are_fit_starts}
-use Rattle.bs_board.specs.Texts.{is_same_text}
+use Rattle.bs_board.specs.Legal.{IsLegal, IsLegalSnake, IsFreeOfFood, EachSeat}
+use Rattle.bs_board.specs.Setup.{Setup, is_fit_setup, is_fit_start, is_fit_food}
 use Rattle.bs_modes.specs.FirstBoard.{first_board, first_food, first_snake}
 use Rattle.bs_modes.proofs.Distinct.{and_both, are_distinct_map}
 
@@ -28,13 +26,13 @@ first_food_free Constrictor food = refl
 
 -- the two parts behind the head
 parts_inside : (b : Board) (cell : Point) → is_on_board b.width b.height cell ≡ true
-  → All (λ p. is_on_board b.width b.height p ≡ true) (cell ∷ cell ∷ [])
+    → All (λ p. is_on_board b.width b.height p ≡ true) (cell ∷ cell ∷ [])
 parts_inside b cell on zero d within = on
 parts_inside b cell on (suc zero) d within = on
 parts_inside b cell on (suc (suc k)) d within = absurd (omega arith)
 
 first_snake_is_legal : (b : Board) (seat : ℕ) (start : List ℕ × Point) → is_fit_start b.width b.height start ≡ true
-  → IsLegalSnake b seat (first_snake start)
+    → IsLegalSnake b seat (first_snake start)
 first_snake_is_legal b seat start fits =
     let parts = and_both _ _ fits in
     let three : 3 ≤ b.turn + 3 = omega arith in
@@ -45,12 +43,12 @@ first_snake_is_legal b seat start fits =
     }
 
 first_snakes_are_legal : (b : Board) (starts : List (List ℕ × Point)) → list_all (is_fit_start b.width b.height) starts ≡ true
-  → EachSeat (IsLegalSnake b) (map first_snake starts)
+    → EachSeat (IsLegalSnake b) (map first_snake starts)
 first_snakes_are_legal b starts fits seat d within =
     let origin : List ℕ × Point = ([], record { x = pos 0; y = pos 0 }) in
     let inside : seat < length starts = rw length-map at within in
     let here : is_fit_start b.width b.height (get_or starts seat origin) ≡ true =
-      AllPass-from_list_all _ starts fits seat origin inside in
+    AllPass-from_list_all _ starts fits seat origin inside in
     rw (get_or-map first_snake starts seat origin d inside) (first_snake_is_legal b seat _ here)
 
 pub first_board_is_legal : (s : Setup) → is_fit_setup s ≡ true → IsLegal (first_board s)

@@ -1,8 +1,6 @@
 -- What a snake's growth leaves of its body.
-use Rattle.std.proofs.Common.{◌≡◌, ℕ, ◌+◌, ◌-◌, ◌<◌, ◌≤◌, zero, suc, Bool, true, false, not, ◌&&◌, cond, List, [], ◌∷◌, ◌++◌, length, get_or, drop, All, refl, arith, length-append, pos}
-use Rattle.std.proofs.lemmas.Bool.{leb-true, cond_both}
-use Rattle.std.proofs.lemmas.List.Elements.{All-get_or}
-use Rattle.std.proofs.lemmas.Grind.{common_steps}
+use Rattle.std.proofs.Common.{◌≡◌, ◌+◌, ◌-◌, ◌<◌, ◌≤◌, zero, suc, List, [], ◌∷◌, ◌++◌, length, get_or, drop, All, refl, arith, length-append, pos}
+use Rattle.std.proofs.lemmas.Bool.{cond_both}
 use Rattle.bs_board.specs.declared.point.Point.{Point}
 use Rattle.bs_board.specs.Legal.{head_of}
 use Rattle.bs_modes.specs.Growth.{grown_body, is_stretched, part_from_end}
@@ -32,7 +30,7 @@ pub grown_keeps_head : (body : List Point) → 0 < length body → head_of (grow
 unfolding grown_body
 grown_keeps_head body some =
     cond_both (is_stretched body) (body ++ part_from_end 1 body ∷ []) body (λ b. head_of b ≡ head_of body)
-      (λ _. head_of-append body _ some) (λ _. refl)
+    (λ _. head_of-append body _ some) (λ _. refl)
 
 -- one more element that P holds of
 all_and_last : (P : Point → Type 0) (xs : List Point) (x : Point) → All P xs → P x → All P (xs ++ x ∷ [])
@@ -53,4 +51,4 @@ grown_stays_inside P (p ∷ rest) long all =
     let here : P (part_from_end 1 (p ∷ rest)) = rw same (all (length rest - 1) origin behind) in
     let more = all_and_last P rest (part_from_end 1 (p ∷ rest)) all here in
     cond_both (is_stretched (p ∷ rest)) ((p ∷ rest) ++ part_from_end 1 (p ∷ rest) ∷ []) (p ∷ rest)
-      (λ b. All P (drop 1 b)) (λ _. more) (λ _. all)
+    (λ b. All P (drop 1 b)) (λ _. more) (λ _. all)

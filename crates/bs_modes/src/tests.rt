@@ -12,7 +12,13 @@ fn cells(alloc: Global, parts: &[(i16, i16)]) -> Result<Cells, AllocError> {
     Ok(cells)
 }
 
-fn setup(alloc: Global, mode: Mode, side: u8, starts: &[(&str, i16, i16)], food: Cells) -> Result<Option<New>, AllocError> {
+fn setup(
+    alloc: Global,
+    mode: Mode,
+    side: u8,
+    starts: &[(&str, i16, i16)],
+    food: Cells,
+) -> Result<Option<New>, AllocError> {
     let mut snakes = Vec::new(alloc);
     for &(id, x, y) in starts {
         snakes.push((Id::from_str(alloc, id)?, Point { x, y }))?;
@@ -38,7 +44,14 @@ fn assert_body(rt: &impl Abort, board: &Board, seat: usize, parts: &[(i16, i16)]
 fn constrictor_starts_without_food_and_grows(rt: HostRuntime) -> Result<(), Fail> {
     let alloc = rt.alloc();
     let food = cells(alloc, &[(3, 3)])?;
-    let new = setup(alloc, Mode::Constrictor, 7, &[("s", 1, 1), ("t", 5, 1)], food)?.ok_or("fits")?;
+    let new = setup(
+        alloc,
+        Mode::Constrictor,
+        7,
+        &[("s", 1, 1), ("t", 5, 1)],
+        food,
+    )?
+    .ok_or("fits")?;
     let mut board = start(alloc, &new)?;
     assert!(rt; is_legal(&board));
     assert_eq!(rt; board.food.len(), 0);
@@ -59,7 +72,11 @@ fn constrictor_starts_without_food_and_grows(rt: HostRuntime) -> Result<(), Fail
 #[test]
 fn one_snake_ends_standard_and_not_solo(rt: HostRuntime) -> Result<(), Fail> {
     let alloc = rt.alloc();
-    for (mode, ends) in [(Mode::Standard, true), (Mode::Solo, false), (Mode::Constrictor, true)] {
+    for (mode, ends) in [
+        (Mode::Standard, true),
+        (Mode::Solo, false),
+        (Mode::Constrictor, true),
+    ] {
         let new = setup(alloc, mode, 3, &[("s", 1, 1)], Cells::new(alloc))?.ok_or("fits")?;
         let board = start(alloc, &new)?;
         assert_eq!(rt; over(&board), ends);

@@ -1,7 +1,7 @@
 use Rattle.std.proofs.Common.{◌∙◌, ap, arith}
 use Rattle.std.specs.Prelude.{option_copied}
 use Rattle.bs_host.specs.File.{lines_after}
-use Rattle.bs_host.proofs.Sorting.{begins, goes_on, ends, few_at_first, fewer_left, bytes_left}
+use Rattle.bs_host.proofs.Sorting.{begins, goes_on, ends, few_at_first, fewer_left}
 use Rattle.bs_host.proofs.requests.sort_lines.Goals as goal
 
 pub lines-init : goal.lines-init
