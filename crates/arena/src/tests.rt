@@ -93,6 +93,90 @@ fn command_lines(rt: HostRuntime) -> Result<(), Fail> {
     Ok(())
 }
 
+// The place behind the piece, where it stands in the text from there on.
+fn behind(text: &str, piece: &str) -> Option<usize> {
+    text.find(piece).map(|at| at + piece.len())
+}
+
+const CONSTRICTOR: &str = r#"{"games":[{"game":"a","quota":4096}]}
+{"game":"a","do":"new","mode":"constrictor","width":7,"height":7,"snakes":[{"id":"s","x":1,"y":1},{"id":"t","x":5,"y":1}],"food":[{"x":3,"y":3}]}
+{"game":"a","do":"move","moves":{}}
+{"game":"a","do":"move","moves":{}}
+{"game":"a","do":"move","moves":{}}
+"#;
+
+// Food that is given is dropped, and a stretched body grows: three, three, four and five parts.
+const CONSTRICTOR_PIECES: [&str; 6] = [
+    r#"{"board":{"food":[],"#,
+    r#""turn":0,"width":7},"charge":48,"#,
+    r#""turn":1,"width":7},"charge":96,"#,
+    r#"[{"body":[{"x":1,"y":3},{"x":1,"y":2},{"x":1,"y":1},{"x":1,"y":1}],"by":null,"cause":null,"health":100,"id":"s""#,
+    r#""turn":2,"width":7},"charge":144,"#,
+    r#"[{"body":[{"x":1,"y":4},{"x":1,"y":3},{"x":1,"y":2},{"x":1,"y":1},{"x":1,"y":1}],"by":null,"cause":null,"health":100,"id":"s""#,
+];
+
+const ONE_SNAKE: &str = r#"{"games":[{"game":"a","quota":4096}]}
+{"game":"a","do":"new","mode":"standard","width":3,"height":3,"snakes":[{"id":"s","x":1,"y":1}],"food":[],"min_food":0,"food_chance":0}
+{"game":"a","do":"move","moves":{}}
+"#;
+
+const ONE_SNAKE_PIECES: [&str; 2] = [
+    r#""over":true"#,
+    r#"{"game":"a","no":"G4","seq":2,"why":"over"}"#,
+];
+
+const FOOD_FROM_WORDS: &str = r#"{"games":[{"game":"a","quota":4096}]}
+{"game":"a","do":"new","mode":"solo","width":3,"height":3,"snakes":[{"id":"s","x":1,"y":1}],"food":[],"min_food":2,"food_chance":0}
+{"game":"a","do":"move","moves":{},"words":[5,5]}
+"#;
+
+const FOOD_PIECES: [&str; 2] = [
+    r#"{"board":{"food":[],"#,
+    r#"{"board":{"food":[{"x":0,"y":2},{"x":2,"y":2}],"#,
+];
+
+const EIGHT_SNAKES: &str = r#"{"games":[{"game":"a","quota":4096}]}
+{"game":"a","do":"new","mode":"standard","width":25,"height":25,"snakes":[{"id":"a","x":0,"y":0},{"id":"b","x":3,"y":0},{"id":"c","x":6,"y":0},{"id":"d","x":9,"y":0},{"id":"e","x":12,"y":0},{"id":"f","x":15,"y":0},{"id":"g","x":18,"y":0},{"id":"h","x":21,"y":0}],"food":[],"min_food":0,"food_chance":0}
+{"game":"a","do":"new","mode":"solo","width":26,"height":25,"snakes":[{"id":"a","x":0,"y":0}],"food":[]}
+"#;
+
+const EIGHT_SNAKES_PIECES: [&str; 2] = [
+    r#""turn":0,"width":25},"charge":144,"do":"new","game":"a","seq":1}"#,
+    r#"{"game":"a","no":"G1","seq":2,"why":"command"}"#,
+];
+
+// Games whose transcripts have these pieces, in this order.
+#[test]
+fn transcripts_of_games(rt: HostRuntime) -> Result<(), Fail> {
+    let cases: [(&str, &[&str]); 4] = [
+        (CONSTRICTOR, &CONSTRICTOR_PIECES),
+        (ONE_SNAKE, &ONE_SNAKE_PIECES),
+        (FOOD_FROM_WORDS, &FOOD_PIECES),
+        (EIGHT_SNAKES, &EIGHT_SNAKES_PIECES),
+    ];
+    for (file, pieces) in cases {
+        let mut output = Vec::new(rt.alloc());
+        let mut errors = Vec::new(rt.alloc());
+        let mut input = file.as_bytes();
+        let answer = arena_run(
+            &rt,
+            rt.alloc(),
+            &["arena"],
+            &mut input,
+            &mut output,
+            &mut errors,
+        );
+        assert_eq!(rt; answer, 0);
+        let text = String::from_utf8(output).ok().ok_or("text")?;
+        let mut rest = text.as_str();
+        for piece in pieces {
+            let place = behind(rest, piece).ok_or("a piece is missing")?;
+            rest = rest.get(place..).unwrap_or("");
+        }
+    }
+    Ok(())
+}
+
 /// A device that takes so many bytes, one at a time, and can't be flushed.
 #[derive(Drop)]
 struct Narrow {
