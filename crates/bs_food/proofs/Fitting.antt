@@ -17,7 +17,7 @@ use Rattle.bs_board.specs.Setup.{is_fit_food}
 use Rattle.bs_food.specs.Free.{point_at, row_of_cells, all_cells, free_cells, is_free, stands_on}
 use Rattle.bs_food.specs.Spawning.{chosen, placed, filled, by_chance, spawned}
 use Rattle.bs_food.proofs.Rows.{flat_range_more}
-use Rattle.bs_food.proofs.Places.{and_both}
+use Rattle.bs_board.proofs.Chains.{and_both}
 
 point_on_board : (width height x y : ℕ) → x < width → y < height → is_on_board width height (point_at x y) ≡ true
 point_on_board width height x y wide high =

@@ -1,53 +1,22 @@
 -- The places of cells on a board, row after row, and their marks.
-use Rattle.std.proofs.Common.{◌≡◌, ℕ, ◌+◌, ◌*◌, ◌<◌, Bool, true, false, ◌&&◌, ◌||◌, List, length, set, ℤ, pos, negsuc, nat_abs, refl, sym, ap, ◌∙◌, arith, inl, inr, slice_set}
+use Rattle.std.proofs.Common.{◌≡◌, ℕ, ◌+◌, ◌*◌, ◌<◌, Bool, true, false, ◌||◌, List, length, set, pos, nat_abs, refl, sym, ap, ◌∙◌, arith, inl, inr, slice_set}
 use Rattle.std.specs.Prelude.{int_le, int_lt}
 use Rattle.std.specs.Ordering.{int_eq}
-use Rattle.std.proofs.lemmas.Bool.{ltb-true, lt-ltb, le-leb, cases_Bool, cases_eq}
-use Rattle.std.proofs.lemmas.Bool.Decides.{Decides-int_eq}
+use Rattle.std.proofs.lemmas.Bool.{lt-ltb, le-leb, cases_Bool, cases_eq}
 use Rattle.std.proofs.Math.Bool.{or-true, or-false}
 use Rattle.std.proofs.lemmas.Nat.{mul-add-lt, same_from_place}
 use Rattle.std.proofs.lemmas.List.{get_or-set_same, get_or-set_other}
 use Rattle.bs_board.specs.declared.point.Point.{Point}
 use Rattle.bs_board.specs.Cell.{is_same_cell, is_on_board}
+use Rattle.bs_board.proofs.Chains.{and_both}
+use Rattle.bs_board.proofs.Places.{StandsAt, stands_at, same_int, int_is}
 use Rattle.bs_food.specs.Free.{point_at}
 use Rattle.bs_food.specs.Marks.{MarksCell, is_marked, place_in}
-
--- both tests of a chain passed
-pub and_both : (a b : Bool) → (a && b) ≡ true → (a ≡ true) × (b ≡ true)
-and_both true b h = (refl, h)
-and_both false b h = let wrong : false ≡ true = h in cc
-
--- a number from 0 up to a side
-within_side : (z : ℤ) (side : ℕ) → int_le (pos 0) z ≡ true → int_lt z (pos side) ≡ true → (z ≡ pos (nat_abs z)) × (nat_abs z < side)
-within_side (pos n) side low high = (refl, ltb-true n side high)
-within_side (negsuc n) side low high = let wrong : false ≡ true = low in cc
-
--- where a cell of the board stands
-pub record StandsAt (width height : ℕ) (p : Point) : Type 0 where
-  pub x_is : p.x ≡ pos (nat_abs p.x)
-  pub y_is : p.y ≡ pos (nat_abs p.y)
-  pub x_fits : nat_abs p.x < width
-  pub y_fits : nat_abs p.y < height
-
-pub stands_at : (width height : ℕ) (p : Point) → is_on_board width height p ≡ true → StandsAt width height p
-stands_at width height p on =
-    let last = and_both _ _ on in
-    let low = and_both _ _ last.0 in
-    let first = and_both _ _ low.0 in
-    let x = within_side p.x width first.0 first.1 in
-    let y = within_side p.y height low.1 last.1 in
-    record { x_is = x.0; y_is = y.0; x_fits = x.1; y_fits = y.1 }
 
 pub place_fits : (width height : ℕ) (p : Point) → is_on_board width height p ≡ true → place_in width p < width * height
 place_fits width height p on =
     let at = stands_at width height p on in
     mul-add-lt (nat_abs p.y) width (nat_abs p.x) height at.y_fits at.x_fits
-
-same_int : (x y : ℤ) → x ≡ y → int_eq x y ≡ true
-same_int x y = (Decides-int_eq x y).1
-
-int_is : (x y : ℤ) → int_eq x y ≡ true → x ≡ y
-int_is x y = (Decides-int_eq x y).0
 
 same_cell : {width height : ℕ} (x y : ℕ) (p : Point) → StandsAt width height p → x ≡ nat_abs p.x → y ≡ nat_abs p.y
     → is_same_cell (point_at x y) p ≡ true

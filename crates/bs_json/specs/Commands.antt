@@ -5,7 +5,6 @@ use Rattle.bs_board.specs.declared.command.Command.{Command}
 use Rattle.bs_board.specs.declared.command.Command.TheVariants as command
 use Rattle.bs_board.specs.Texts.{is_same_text}
 use Rattle.bs_json.specs.Moves.{orders_from}
-use Rattle.bs_json.specs.Served.{is_served}
 use Rattle.bs_json.specs.Setups.{setup_from}
 use Rattle.bs_json.specs.Values.{◌>>=◌, number_at, text_at}
 
@@ -19,11 +18,7 @@ command_named word d =
     else (if is_same_text word (codes "end") then Some command.End
     else None)))))
 
-abbrev pub if_served : Command → Option Command
-if_served c = if is_served c then Some c else None
-
 unfoldable pub command_of : Data → Option Command
 command_of d = do
   word ← text_at (codes "do") d
-  command ← command_named word d
-  if_served command
+  command_named word d

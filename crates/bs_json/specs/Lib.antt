@@ -4,6 +4,5 @@ pub mod Line
 pub mod Moves
 pub mod PlanLine
 pub mod Replies
-pub mod Served
 pub mod Setups
 pub mod Values

@@ -2,7 +2,6 @@
 ghost use Rattle.std.specs.Prelude.{◌≡◌, codes, IfOk};
 ghost use Rattle.serde_json.specs.View.{view};
 ghost use Rattle.bs_json.specs.Commands.{command_named, command_of};
-ghost use Rattle.bs_json.specs.Served.{is_served};
 ghost use Rattle.bs_json.specs.Values.{number_at};
 
 use crate::moves::orders_from;
@@ -11,15 +10,6 @@ use crate::values::{number_at, text_at};
 use bs_board::{Command, TurnNumber};
 use serde_json::Value;
 use std::alloc::{AllocError, Global};
-
-fn is_served(command: &Command) -> bool
-    ensures { result ≡ is_served command.now }
-{
-    match command {
-        Command::New(_) | Command::Move(_) | Command::Show => true,
-        Command::Turn(_) | Command::Free | Command::End | Command::Bad => false,
-    }
-}
 
 fn turn_at(line: &Value) -> Option<TurnNumber>
     ensures { result ≡ number_at (codes "at") 10000 (view line.now) }
@@ -44,16 +34,13 @@ fn command_named(alloc: Global, word: &str, line: &Value) -> Result<Option<Comma
     })
 }
 
-/// None where the line asks for nothing that can be carried out.
+/// `None` where `do` is missing or unknown, or a member is missing, of the wrong type or out of range.
 #[tactic(auto, unfolding(crate::specs::Commands::command_of))]
 pub fn command_of(alloc: Global, line: &Value) -> Result<Option<Command>, AllocError>
     ensures { IfOk result (λ command. command ≡ command_of (view line.now)) }
 {
-    let Some(word) = text_at(line, "do") else {
-        return Ok(None);
-    };
-    match command_named(alloc, word, line)? {
-        Some(command) if is_served(&command) => Ok(Some(command)),
-        _ => Ok(None),
+    match text_at(line, "do") {
+        Some(word) => command_named(alloc, word, line),
+        None => Ok(None),
     }
 }

@@ -44,6 +44,7 @@ fn told(alloc: Global, line: &Line) -> Result<String, AllocError> {
             let asked = match command {
                 Command::New(new) => told_new(alloc, new)?,
                 Command::Move(order) => told_move(alloc, order)?,
+                Command::Turn(at) => format!(in alloc; "turn {}", at.number())?,
                 other => format!(in alloc; "{other:?}")?,
             };
             format!(in alloc; "{}: {asked}", game.as_str())
@@ -51,227 +52,84 @@ fn told(alloc: Global, line: &Line) -> Result<String, AllocError> {
     }
 }
 
+// What is read, and behind the bar the line.
+const LINES: &str =
+    r#"a: new Solo 3x3 min 0 chance 0 s@1,1|{"game":"a","do":"new","mode":"solo","width":3,"height":3,"snakes":[{"id":"s","x":1,"y":1}],"food":[],"min_food":0,"food_chance":0}
+b: new Standard 7x7 min 0 chance 0 s@1,1 t@5,1 u@3,5 food 1,2|{"game":"b","do":"new","mode":"standard","width":7,"height":7,"snakes":[{"id":"s","x":1,"y":1},{"id":"t","x":5,"y":1},{"id":"u","x":3,"y":5}],"food":[{"x":1,"y":2}],"min_food":0,"food_chance":0}
+c: new Constrictor 7x7 min 1 chance 15 s@1,1 t@5,1 food 3,3|{"game":"c","do":"new","mode":"constrictor","width":7,"height":7,"snakes":[{"id":"s","x":1,"y":1},{"id":"t","x":5,"y":1}],"food":[{"x":3,"y":3}]}
+a: move|{"game":"a","do":"move","moves":{}}
+b: move u Down|{"game":"b","do":"move","moves":{"u":"down"}}
+a: move  Right t Left v Up|{"do":"move","game":"a","moves":{"v":"up","s":"north","t":"left","u":1,"":"right"},"more":null}
+a: move 5 4294967295|{"game":"a","do":"move","moves":{},"words":[5,4294967295]}
+a: bad|{"game":"a","do":"move","moves":{},"words":[4294967296]}
+a: move 0 0 0 0 0 0 0 0 0 0 0 0 0 0 0 0 0 0 0 0 0 0 0 0 0 0 0 0 0 0 0 9|{"game":"a","do":"move","moves":{},"words":[0,0,0,0,0,0,0,0,0,0,0,0,0,0,0,0,0,0,0,0,0,0,0,0,0,0,0,0,0,0,0,9]}
+a: bad|{"game":"a","do":"move","moves":{},"words":[0,0,0,0,0,0,0,0,0,0,0,0,0,0,0,0,0,0,0,0,0,0,0,0,0,0,0,0,0,0,0,0,9]}
+a: bad|{"game":"a","do":"move","moves":{},"words":[1.0]}
+a: bad|{"game":"a","do":"move","moves":{},"words":null}
+a: bad|{"game":"a","do":"move","moves":[]}
+a: bad|{"game":"a","do":"move"}
+b: Show|{"game":"b","do":"show"}
+z: Show| {"game" : "z", "do" : "show"} 
+a: turn 0|{"game":"a","do":"turn","at":0}
+a: turn 10000|{"game":"a","do":"turn","at":10000}
+a: bad|{"game":"a","do":"turn","at":10001}
+a: bad|{"game":"a","do":"turn"}
+a: Free|{"game":"a","do":"free"}
+a: End|{"game":"a","do":"end"}
+a: bad|{"game":"a","do":"jump"}
+a: bad|{"game":"a"}
+stray Game|{"game":1,"do":"show"}
+stray Game|{"do":"show"}
+stray Json|{oops
+stray Json|show
+stray Json|[{"game":"a"}]
+blank|
+blank|  "#;
+
 #[test]
 fn lines_are_read(rt: HostRuntime) -> Result<(), Fail> {
     let alloc = rt.alloc();
-    for (line, want) in [
-        (
-            r#"{"game":"a","do":"new","mode":"solo","width":3,"height":3,"snakes":[{"id":"s","x":1,"y":1}],"food":[],"min_food":0,"food_chance":0}"#,
-            "a: new Solo 3x3 min 0 chance 0 s@1,1",
-        ),
-        (
-            r#"{"game":"b","do":"new","mode":"standard","width":7,"height":7,"snakes":[{"id":"s","x":1,"y":1},{"id":"t","x":5,"y":1},{"id":"u","x":3,"y":5}],"food":[{"x":1,"y":2}],"min_food":0,"food_chance":0}"#,
-            "b: new Standard 7x7 min 0 chance 0 s@1,1 t@5,1 u@3,5 food 1,2",
-        ),
-        (
-            r#"{"game":"c","do":"new","mode":"constrictor","width":7,"height":7,"snakes":[{"id":"s","x":1,"y":1},{"id":"t","x":5,"y":1}],"food":[{"x":3,"y":3}]}"#,
-            "c: new Constrictor 7x7 min 1 chance 15 s@1,1 t@5,1 food 3,3",
-        ),
-        (r#"{"game":"a","do":"move","moves":{}}"#, "a: move"),
-        (
-            r#"{"game":"b","do":"move","moves":{"u":"down"}}"#,
-            "b: move u Down",
-        ),
-        (
-            r#"{"do":"move","game":"a","moves":{"v":"up","s":"north","t":"left","u":1,"":"right"},"more":null}"#,
-            "a: move  Right t Left v Up",
-        ),
-        (
-            r#"{"game":"a","do":"move","moves":{},"words":[5,4294967295]}"#,
-            "a: move 5 4294967295",
-        ),
-        (
-            r#"{"game":"a","do":"move","moves":{},"words":[4294967296]}"#,
-            "a: bad",
-        ),
-        (
-            r#"{"game":"a","do":"move","moves":{},"words":[0,0,0,0,0,0,0,0,0,0,0,0,0,0,0,0,0,0,0,0,0,0,0,0,0,0,0,0,0,0,0,9]}"#,
-            "a: move 0 0 0 0 0 0 0 0 0 0 0 0 0 0 0 0 0 0 0 0 0 0 0 0 0 0 0 0 0 0 0 9",
-        ),
-        (
-            r#"{"game":"a","do":"move","moves":{},"words":[0,0,0,0,0,0,0,0,0,0,0,0,0,0,0,0,0,0,0,0,0,0,0,0,0,0,0,0,0,0,0,0,9]}"#,
-            "a: bad",
-        ),
-        (
-            r#"{"game":"a","do":"move","moves":{},"words":[1.0]}"#,
-            "a: bad",
-        ),
-        (
-            r#"{"game":"a","do":"move","moves":{},"words":null}"#,
-            "a: bad",
-        ),
-        (r#"{"game":"a","do":"move","moves":[]}"#, "a: bad"),
-        (r#"{"game":"a","do":"move"}"#, "a: bad"),
-        (r#"{"game":"b","do":"show"}"#, "b: Show"),
-        (r#" {"game" : "z", "do" : "show"} "#, "z: Show"),
-        (r#"{"game":"a","do":"turn","at":0}"#, "a: bad"),
-        (r#"{"game":"a","do":"turn","at":10001}"#, "a: bad"),
-        (r#"{"game":"a","do":"free"}"#, "a: bad"),
-        (r#"{"game":"a","do":"end"}"#, "a: bad"),
-        (r#"{"game":"a","do":"jump"}"#, "a: bad"),
-        (r#"{"game":"a"}"#, "a: bad"),
-        (r#"{"game":1,"do":"show"}"#, "stray Game"),
-        (r#"{"do":"show"}"#, "stray Game"),
-        ("{oops", "stray Json"),
-        ("show", "stray Json"),
-        ("[{\"game\":\"a\"}]", "stray Json"),
-        ("", "blank"),
-        (" \t\r", "blank"),
-    ] {
+    for row in LINES.split('\n') {
+        let (want, line) = row.split_once('|').ok_or("a bar in each row")?;
         let read = read_line(alloc, line.as_bytes())?;
         assert_eq!(rt; told(alloc, &read)?.as_str(), want, "at {line}");
     }
     Ok(())
 }
 
+// Games at the ends of each range, and beyond.
+const NEW_GAMES: &str =
+    r#"read|{"game":"a","do":"new","mode":"solo","width":25,"height":25,"snakes":[{"id":"a","x":0,"y":0},{"id":"b","x":3,"y":0},{"id":"c","x":6,"y":0},{"id":"d","x":9,"y":0},{"id":"e","x":12,"y":0},{"id":"f","x":15,"y":0},{"id":"g","x":18,"y":0},{"id":"h","x":21,"y":0}],"food":[]}
+bad|{"game":"a","do":"new","mode":"solo","width":25,"height":25,"snakes":[{"id":"a","x":0,"y":0},{"id":"b","x":3,"y":0},{"id":"c","x":6,"y":0},{"id":"d","x":9,"y":0},{"id":"e","x":12,"y":0},{"id":"f","x":15,"y":0},{"id":"g","x":18,"y":0},{"id":"h","x":21,"y":0},{"id":"s","x":1,"y":1}],"food":[]}
+bad|{"game":"a","do":"new","mode":"solo","width":26,"height":25,"snakes":[{"id":"s","x":1,"y":1}],"food":[]}
+bad|{"game":"a","do":"new","mode":"solo","width":25,"height":26,"snakes":[{"id":"s","x":1,"y":1}],"food":[]}
+bad|{"game":"a","do":"new","mode":"solo","width":2,"height":3,"snakes":[{"id":"s","x":1,"y":1}],"food":[]}
+bad|{"game":"a","do":"new","mode":"solo","width":-3,"height":3,"snakes":[{"id":"s","x":1,"y":1}],"food":[]}
+bad|{"game":"a","do":"new","mode":"solo","width":3,"height":3,"snakes":[],"food":[]}
+bad|{"game":"a","do":"new","mode":"solo","width":3,"height":3,"snakes":[{"id":"s","x":1,"y":1},{"id":"s","x":1,"y":1}],"food":[]}
+bad|{"game":"a","do":"new","mode":"solo","width":3,"height":3,"snakes":[{"id":"s","x":1,"y":1},{"id":"t","x":1,"y":1}],"food":[]}
+read|{"game":"a","do":"new","mode":"solo","width":3,"height":3,"snakes":[{"id":"0123456789012345678901234567890123456789012345678901234567890123","x":2,"y":2}],"food":[]}
+bad|{"game":"a","do":"new","mode":"solo","width":3,"height":3,"snakes":[{"id":"01234567890123456789012345678901234567890123456789012345678901234","x":2,"y":2}],"food":[]}
+read|{"game":"a","do":"new","mode":"solo","width":3,"height":3,"snakes":[{"id":"éééééééééééééééééééééééééééééééé","x":2,"y":2}],"food":[]}
+bad|{"game":"a","do":"new","mode":"solo","width":3,"height":3,"snakes":[{"id":"ééééééééééééééééééééééééééééééééé","x":2,"y":2}],"food":[]}
+bad|{"game":"a","do":"new","mode":"solo","width":3,"height":3,"snakes":[{"id":"","x":2,"y":2}],"food":[]}
+bad|{"game":"a","do":"new","mode":"solo","width":3,"height":3,"snakes":[{"id":"s","x":3,"y":2}],"food":[]}
+read|{"game":"a","do":"new","mode":"solo","width":3,"height":3,"snakes":[{"id":"s","x":1,"y":1}],"food":[{"x":1,"y":1}]}
+bad|{"game":"a","do":"new","mode":"solo","width":3,"height":3,"snakes":[{"id":"s","x":1,"y":1}],"food":[{"x":1,"y":3}]}
+bad|{"game":"a","do":"new","mode":"solo","width":3,"height":3,"snakes":[{"id":"s","x":1,"y":1}],"food":[{"x":1,"y":1},{"x":1,"y":1}]}
+read|{"game":"a","do":"new","mode":"solo","width":3,"height":3,"snakes":[{"id":"s","x":1,"y":1}],"food":[],"min_food":255,"food_chance":100}
+bad|{"game":"a","do":"new","mode":"solo","width":3,"height":3,"snakes":[{"id":"s","x":1,"y":1}],"food":[],"min_food":256}
+bad|{"game":"a","do":"new","mode":"solo","width":3,"height":3,"snakes":[{"id":"s","x":1,"y":1}],"food":[],"food_chance":101}
+bad|{"game":"a","do":"new","mode":"solo","width":3,"height":3,"snakes":[{"id":"s","x":1,"y":1}],"food":[],"food_chance":null}"#;
+
 #[test]
 fn a_new_game_is_within_the_limits(rt: HostRuntime) -> Result<(), Fail> {
     let alloc = rt.alloc();
-    let eight =
-        r#"{"id":"a","x":0,"y":0},{"id":"b","x":3,"y":0},{"id":"c","x":6,"y":0},{"id":"d","x":9,"y":0},{"id":"e","x":12,"y":0},{"id":"f","x":15,"y":0},{"id":"g","x":18,"y":0},{"id":"h","x":21,"y":0}"#;
-    let one = r#"{"id":"s","x":1,"y":1}"#;
-    let long = "0123456789012345678901234567890123456789012345678901234567890123";
-    for (sides, snakes, food, rest, is_read) in [
-        (
-            "25,\"height\":25",
-            format!(in alloc; "{eight}")?,
-            "",
-            "",
-            true,
-        ),
-        (
-            "25,\"height\":25",
-            format!(in alloc; "{eight},{one}")?,
-            "",
-            "",
-            false,
-        ),
-        (
-            "26,\"height\":25",
-            format!(in alloc; "{one}")?,
-            "",
-            "",
-            false,
-        ),
-        (
-            "25,\"height\":26",
-            format!(in alloc; "{one}")?,
-            "",
-            "",
-            false,
-        ),
-        ("2,\"height\":3", format!(in alloc; "{one}")?, "", "", false),
-        (
-            "-3,\"height\":3",
-            format!(in alloc; "{one}")?,
-            "",
-            "",
-            false,
-        ),
-        ("3,\"height\":3", format!(in alloc; "")?, "", "", false),
-        (
-            "3,\"height\":3",
-            format!(in alloc; "{one},{one}")?,
-            "",
-            "",
-            false,
-        ),
-        (
-            "3,\"height\":3",
-            format!(in alloc; "{one},{{\"id\":\"t\",\"x\":1,\"y\":1}}")?,
-            "",
-            "",
-            false,
-        ),
-        (
-            "3,\"height\":3",
-            format!(in alloc; "{{\"id\":\"{long}\",\"x\":2,\"y\":2}}")?,
-            "",
-            "",
-            true,
-        ),
-        (
-            "3,\"height\":3",
-            format!(in alloc; "{{\"id\":\"{long}4\",\"x\":2,\"y\":2}}")?,
-            "",
-            "",
-            false,
-        ),
-        (
-            "3,\"height\":3",
-            format!(in alloc; "{{\"id\":\"\",\"x\":2,\"y\":2}}")?,
-            "",
-            "",
-            false,
-        ),
-        (
-            "3,\"height\":3",
-            format!(in alloc; "{{\"id\":\"s\",\"x\":3,\"y\":2}}")?,
-            "",
-            "",
-            false,
-        ),
-        (
-            "3,\"height\":3",
-            format!(in alloc; "{one}")?,
-            "{\"x\":1,\"y\":1}",
-            "",
-            true,
-        ),
-        (
-            "3,\"height\":3",
-            format!(in alloc; "{one}")?,
-            "{\"x\":1,\"y\":3}",
-            "",
-            false,
-        ),
-        (
-            "3,\"height\":3",
-            format!(in alloc; "{one}")?,
-            "{\"x\":1,\"y\":1},{\"x\":1,\"y\":1}",
-            "",
-            false,
-        ),
-        (
-            "3,\"height\":3",
-            format!(in alloc; "{one}")?,
-            "",
-            ",\"min_food\":255,\"food_chance\":100",
-            true,
-        ),
-        (
-            "3,\"height\":3",
-            format!(in alloc; "{one}")?,
-            "",
-            ",\"min_food\":256",
-            false,
-        ),
-        (
-            "3,\"height\":3",
-            format!(in alloc; "{one}")?,
-            "",
-            ",\"food_chance\":101",
-            false,
-        ),
-        (
-            "3,\"height\":3",
-            format!(in alloc; "{one}")?,
-            "",
-            ",\"food_chance\":null",
-            false,
-        ),
-    ] {
-        let line = format!(in alloc;
-            "{{\"game\":\"a\",\"do\":\"new\",\"mode\":\"solo\",\"width\":{sides},\"snakes\":[{}],\"food\":[{food}]{rest}}}",
-            snakes.as_str()
-        )?;
-        let read = read_line(alloc, line.as_str().as_bytes())?;
-        assert_eq!(rt;
-            matches!(&read, Line::Command { .. }),
-            is_read,
-            "at {}",
-            line.as_str()
-        );
+    for row in NEW_GAMES.split('\n') {
+        let (want, line) = row.split_once('|').ok_or("a bar in each row")?;
+        let read = read_line(alloc, line.as_bytes())?;
+        let is_read = matches!(&read, Line::Command { .. });
+        assert_eq!(rt; is_read, want == "read", "at {line}");
     }
     Ok(())
 }
@@ -304,8 +162,35 @@ fn told_plan(alloc: Global, plan: &Result<Plan, PlanFault>) -> Result<String, Al
     Ok(told)
 }
 
+// What is read, and behind the bar the line of the plan.
+const PLANS: &str = r#"plan|{"games":[]}
+plan a 4096|{"games":[{"game":"a","quota":4096}]}
+plan b 16777216 a 16|{"version":1,"games":[{"game":"b","quota":16777216},{"quota":16,"game":"a","x":[]}]}
+Malformed|
+Malformed|{"games":1}
+Malformed|{}
+Malformed|[]
+Malformed|{"games":[],"version":2}
+Malformed|{"games":[1],"version":null}
+BadRow|{"games":[{"game":"a","quota":15}]}
+BadRow|{"games":[{"game":"a","quota":16777217}]}
+BadRow|{"games":[{"game":"","quota":16}]}
+BadRow|{"games":[{"game":"a","quota":16},{"game":"a","quota":17}]}
+BadRow|{"games":[{"quota":16}]}"#;
+
 #[test]
 fn plans_are_read(rt: HostRuntime) -> Result<(), Fail> {
+    let alloc = rt.alloc();
+    for row in PLANS.split('\n') {
+        let (want, line) = row.split_once('|').ok_or("a bar in each row")?;
+        let plan = read_plan(alloc, line.as_bytes());
+        assert_eq!(rt; told_plan(alloc, &plan)?.as_str(), want, "at {line}");
+    }
+    Ok(())
+}
+
+#[test]
+fn a_bad_row_is_found_before_too_many(rt: HostRuntime) -> Result<(), Fail> {
     let alloc = rt.alloc();
     let mut many = String::from_str(alloc, "{\"games\":[{\"game\":\"g\",\"quota\":16}")?;
     for row in 1..65u8 {
@@ -313,39 +198,14 @@ fn plans_are_read(rt: HostRuntime) -> Result<(), Fail> {
     }
     let with_bad_row = format!(in alloc; "{},1]}}", many.as_str())?;
     many.push_str("]}")?;
-    for (line, want) in [
-        ("{\"games\":[]}", "plan"),
-        (
-            "{\"games\":[{\"game\":\"a\",\"quota\":4096}]}",
-            "plan a 4096",
-        ),
-        (
-            "{\"version\":1,\"games\":[{\"game\":\"b\",\"quota\":16777216},{\"quota\":16,\"game\":\"a\",\"x\":[]}]}",
-            "plan b 16777216 a 16",
-        ),
-        ("", "Malformed"),
-        ("{\"games\":1}", "Malformed"),
-        ("{}", "Malformed"),
-        ("[]", "Malformed"),
-        ("{\"games\":[],\"version\":2}", "Malformed"),
-        ("{\"games\":[1],\"version\":null}", "Malformed"),
-        ("{\"games\":[{\"game\":\"a\",\"quota\":15}]}", "BadRow"),
-        (
-            "{\"games\":[{\"game\":\"a\",\"quota\":16777217}]}",
-            "BadRow",
-        ),
-        ("{\"games\":[{\"game\":\"\",\"quota\":16}]}", "BadRow"),
-        (
-            "{\"games\":[{\"game\":\"a\",\"quota\":16},{\"game\":\"a\",\"quota\":17}]}",
-            "BadRow",
-        ),
-        ("{\"games\":[{\"quota\":16}]}", "BadRow"),
-        (with_bad_row.as_str(), "BadRow"),
-        (many.as_str(), "TooMany"),
-    ] {
-        let plan = read_plan(alloc, line.as_bytes());
-        assert_eq!(rt; told_plan(alloc, &plan)?.as_str(), want, "at {line}");
-    }
+    assert_eq!(rt;
+        read_plan(alloc, many.as_str().as_bytes()).err(),
+        Some(PlanFault::TooMany)
+    );
+    assert_eq!(rt;
+        read_plan(alloc, with_bad_row.as_str().as_bytes()).err(),
+        Some(PlanFault::BadRow)
+    );
     Ok(())
 }
 

@@ -12,7 +12,8 @@ use Rattle.bs_board.specs.declared.board.Mode.TheVariants.{Standard, Solo, Const
 use Rattle.bs_board.specs.Legal.{IsLegal, IsLegalSnake, IsFreeOfFood, EachSeat}
 use Rattle.bs_board.specs.Setup.{Setup, is_fit_setup, is_fit_start, is_fit_food}
 use Rattle.bs_modes.specs.FirstBoard.{first_board, first_food, first_snake}
-use Rattle.bs_modes.proofs.Distinct.{and_both, are_distinct_map}
+use Rattle.bs_board.proofs.Chains.{and_both}
+use Rattle.bs_modes.proofs.Distinct.{are_distinct_map}
 
 first_food_fits : (mode : Mode) (w h : ℕ) (food : List Point) → is_fit_food w h food ≡ true → is_fit_food w h (first_food mode food) ≡ true
 first_food_fits Standard w h food fits = fits

@@ -1,0 +1,139 @@
+#!/usr/bin/env python3
+"""Times the proved program on command files of known shape.
+
+Each shape is served at a size and at twice that size. Printed are the bytes read and written, the time (the best of three runs), turns a
+second, MB a second, the greatest resident memory, and by how much time and bytes grew when the file doubled. Run it from anywhere:
+
+    bench/measure.py [PROGRAM]
+
+PROGRAM is crates/arena/out/arena if not given; `./arena --help` builds it.
+"""
+
+import json
+import os
+import resource
+import subprocess
+import sys
+import tempfile
+import time
+from pathlib import Path
+
+ROOT = Path(__file__).resolve().parent.parent
+RUNS = 3
+
+
+def line(**members):
+    return json.dumps(members, separators=(",", ":"))
+
+
+def plan(names, quota):
+    return line(games=[{"game": name, "quota": quota} for name in names])
+
+
+def many_games(turns):
+    """64 games of four snakes each, which go round in squares of two by two cells, and so stay three parts long."""
+    names = [f"g{index}" for index in range(64)]
+    starts = {"a": (2, 2), "b": (7, 2), "c": (2, 7), "d": (7, 7)}
+    yield plan(names, 1_000_000)
+    for name in names:
+        snakes = [{"id": id, "x": x, "y": y} for id, (x, y) in starts.items()]
+        yield line(game=name, do="new", mode="standard", width=11, height=11, snakes=snakes, food=[], min_food=0, food_chance=0)
+    for turn in range(turns):
+        direction = ("up", "right", "down", "left")[turn % 4]
+        for name in names:
+            yield line(game=name, do="move", moves={id: direction for id in starts})
+
+
+def tour(width, height):
+    """The cells of a board of even width in a round: along the bottom row, then up and down the columns from the right."""
+    cells = [(x, 0) for x in range(width)]
+    for x in reversed(range(width)):
+        column = range(1, height)
+        cells += [(x, y) for y in (column if (width - 1 - x) % 2 == 0 else reversed(column))]
+    return cells
+
+
+DIRECTIONS = {(0, 1): "up", (0, -1): "down", (1, 0): "right", (-1, 0): "left"}
+
+
+def long_game(turns):
+    """One snake that goes on a tour of a board of 20 by 20 cells. The words of every 90th move put food before its head."""
+    width = height = 20
+    cells = tour(width, height)
+    length, food = 3, None
+    body = [cells[0]] * 3
+    yield plan(["g"], 16_777_216)
+    yield line(game="g", do="new", mode="solo", width=width, height=height, snakes=[{"id": "s", "x": 0, "y": 0}], food=[], min_food=0, food_chance=100)
+    for turn in range(turns):
+        here, there = cells[turn % len(cells)], cells[(turn + 1) % len(cells)]
+        body = [there] + body[:-1]
+        if there == food:
+            body.append(body[-1])
+            food = None
+        words = []
+        if turn % 90 == 60:
+            taken = set(body) | {food}
+            free = [(x, y) for y in range(height) for x in range(width) if (x, y) not in taken]
+            food = cells[(turn + 2) % len(cells)]
+            words = [0, free.index(food)]
+        yield line(game="g", do="move", moves={"s": DIRECTIONS[there[0] - here[0], there[1] - here[1]]}, words=words)
+
+
+def short_commands(count):
+    """Commands that are short and change nothing: turns that are not kept, of a game of one record."""
+    yield plan(["g"], 4096)
+    yield line(game="g", do="new", mode="solo", width=3, height=3, snakes=[{"id": "s", "x": 1, "y": 1}], food=[], min_food=0, food_chance=0)
+    for _ in range(count):
+        yield line(game="g", do="turn", at=9)
+
+
+# The shape, its size, and how many turns are played in it.
+SHAPES = [
+    ("64 games, four snakes", many_games, 1_000, lambda turns: 64 * turns),
+    ("one long game", long_game, 5_000, lambda turns: turns),
+    ("short commands", short_commands, 200_000, lambda count: 0),
+]
+
+
+def write(path, lines):
+    with open(path, "w") as file:
+        for text in lines:
+            file.write(text + "\n")
+    return path.stat().st_size
+
+
+def run(program, path, output):
+    """The seconds and the greatest resident memory, in MB, of one run."""
+    with open(output, "wb") as file:
+        began = time.perf_counter()
+        child = subprocess.Popen([program, "serve", str(path)], stdout=file)
+        _, status, usage = os.wait4(child.pid, 0)
+        seconds = time.perf_counter() - began
+    if status != 0:
+        sys.exit(f"{program} ended with status {os.waitstatus_to_exitcode(status)} on {path}")
+    return seconds, usage.ru_maxrss / 1024
+
+
+def measure(program, folder, shape, size):
+    path, output = folder / "file", folder / "transcript"
+    read = write(path, shape(size))
+    runs = [run(program, path, output) for _ in range(RUNS)]
+    seconds, memory = min(seconds for seconds, _ in runs), max(memory for _, memory in runs)
+    return read, output.stat().st_size, seconds, memory
+
+
+def main():
+    program = sys.argv[1] if len(sys.argv) > 1 else str(ROOT / "crates/arena/out/arena")
+    print(f"{'shape':24}{'read MB':>9}{'written MB':>12}{'seconds':>9}{'turns/s':>10}{'read MB/s':>11}{'written MB/s':>14}{'memory MB':>11}")
+    with tempfile.TemporaryDirectory() as name:
+        for title, shape, size, turns in SHAPES:
+            rows = [(count, *measure(program, Path(name), shape, count)) for count in (size, 2 * size)]
+            for count, read, written, seconds, memory in rows:
+                speeds = f"{turns(count) / seconds:10.0f}{read / seconds / 1e6:11.1f}{written / seconds / 1e6:14.1f}"
+                print(f"{title:24}{read / 1e6:9.2f}{written / 1e6:12.2f}{seconds:9.3f}{speeds}{memory:11.1f}")
+            (_, read, written, seconds, _), (_, read2, written2, seconds2, _) = rows
+            print(f"{'':24}file x{read2 / read:.2f}, written x{written2 / written:.2f}, time x{seconds2 / seconds:.2f}")
+
+
+if __name__ == "__main__":
+    main()
