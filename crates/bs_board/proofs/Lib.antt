@@ -3,3 +3,4 @@ pub mod Lengths
 pub mod Places
 pub mod Chains
 pub mod Sizes
+pub mod Utf8

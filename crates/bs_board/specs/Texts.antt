@@ -1,5 +1,6 @@
 -- Texts as their bytes.
 use Rattle.std.specs.Prelude.{ℕ, Bool, ◌&&◌, List, length, nat_eq, nat_le}
+use Rattle.std.specs.Str.{is_utf8}
 use Rattle.std.specs.Cmp.Lexicographic.{pointwise, slice_cmp}
 use Rattle.std.specs.Ordering.{nat_cmp, is_lt}
 
@@ -10,6 +11,6 @@ is_same_text = pointwise nat_eq
 abbrev pub is_text_below : List ℕ → List ℕ → Bool
 is_text_below a b = is_lt (slice_cmp nat_cmp a b)
 
--- 1 to 64 bytes
+-- 1 to 64 bytes of UTF-8
 abbrev pub is_short_text : List ℕ → Bool
-is_short_text text = nat_le 1 (length text) && nat_le (length text) 64
+is_short_text text = is_utf8 text && nat_le 1 (length text) && nat_le (length text) 64

@@ -16,7 +16,8 @@ impl Model for Id {
 }
 
 impl Id {
-    ghost use Rattle.std.specs.Prelude.{◌≡◌, IfOk, length, string_bytes};
+    ghost use Rattle.std.specs.Prelude.{◌≡◌, true, IfOk, length, string_bytes};
+    ghost use Rattle.std.specs.Str.{is_utf8};
     ghost use Rattle.bs_board.specs.Texts.{is_same_text, is_text_below};
 
     pub fn from_string(text: String) -> Id
@@ -37,6 +38,14 @@ impl Id {
         ensures { result.now ≡ self.now }
     {
         self.text.as_str()
+    }
+
+    #[tactic(auto, using(crate::proofs::Utf8::is_text))]
+    pub fn as_bytes(&self) -> &[u8]
+        ensures value { result.now ≡ self.now }
+        ensures text { is_utf8 self.now ≡ true }
+    {
+        self.text.as_str().as_bytes()
     }
 
     /// The number of bytes.

@@ -18,7 +18,8 @@ pub fn is_side(cells: u8) -> bool
 pub fn is_short(id: &Id) -> bool
     ensures { result ≡ is_short_text id.now }
 {
-    1 <= id.len() && id.len() <= 64
+    let bytes = id.as_bytes();
+    1 <= bytes.len() && bytes.len() <= 64
 }
 
 fn is_fit_start(width: u8, height: u8, start: &(Id, Point)) -> bool
