@@ -1,0 +1,5 @@
+pub mod Counting
+pub mod Owners
+pub mod Pigeonhole
+pub mod Reservations
+pub mod Soundness

@@ -1,0 +1,74 @@
+-- A pool as its ledger: who owns each block number, and who reserved how many blocks.
+use Rattle.std.specs.Prelude.{◌≡◌, ◌≢◌, ℕ, ◌-◌, ◌≤◌, Bool, true, false, nat_eq, List, [], ◌∷◌, ◌++◌, length, replicate, count_by, find, position, slice_get, slice_set, AllPairs, Option, Some, None}
+use Rattle.bs_pool.specs.declared.reservation.Reservation.{Reservation}
+use Rattle.bs_pool.specs.Reservations.{is_of, reserved_by, all_reserved, without}
+
+pub record Ledger : Type 0 where
+  -- by block number, None where the block is free
+  pub owners : List (Option ℕ)
+  -- no tag twice
+  pub reservations : List Reservation
+
+abbrev pub ledger_of : List (Option ℕ) → List Reservation → Ledger
+ledger_of owners reservations = record { owners = owners; reservations = reservations }
+
+-- one number's owner
+abbrev pub is_free : Option ℕ → Bool
+is_free None = true
+is_free (Some owner) = false
+
+abbrev pub is_owned_by : ℕ → Option ℕ → Bool
+is_owned_by tag None = false
+is_owned_by tag (Some owner) = nat_eq owner tag
+
+-- how many numbers there are, are free, are the tag's
+abbrev pub size : Ledger → ℕ
+size pool = length pool.owners
+
+abbrev pub free : Ledger → ℕ
+free pool = count_by is_free pool.owners
+
+abbrev pub held : ℕ → Ledger → ℕ
+held tag pool = count_by (is_owned_by tag) pool.owners
+
+-- how many numbers the tag may own, 0 where it has no reservation
+abbrev pub reservation_of : ℕ → Ledger → Option Reservation
+reservation_of tag pool = find (is_of tag) pool.reservations
+
+abbrev pub reserved : ℕ → Ledger → ℕ
+reserved tag pool = reserved_by tag pool.reservations
+
+-- how many can still be reserved
+abbrev pub unreserved : Ledger → ℕ
+unreserved pool = size pool - all_reserved pool.reservations
+
+abbrev pub least_free : Ledger → Option ℕ
+least_free pool = position is_free pool.owners
+
+abbrev pub Owns : ℕ → ℕ → Ledger → Type 0
+Owns tag number pool = slice_get pool.owners number ≡ Some (Some tag)
+
+-- n free numbers, nothing reserved
+abbrev pub opened : ℕ → Ledger
+opened n = ledger_of (replicate n None) []
+
+-- that number is now the tag's
+abbrev pub drawn : ℕ → ℕ → Ledger → Ledger
+drawn tag number pool = record pool { owners = slice_set pool.owners number (Some tag) }
+
+-- that number is free
+abbrev pub given : ℕ → Ledger → Ledger
+given number pool = record pool { owners = slice_set pool.owners number None }
+
+abbrev pub with_reservation : ℕ → ℕ → Ledger → Ledger
+with_reservation tag n pool = record pool { reservations = pool.reservations ++ record { tag = tag; blocks = n } ∷ [] }
+
+abbrev pub without_reservation : ℕ → Ledger → Ledger
+without_reservation tag pool = record pool { reservations = without tag pool.reservations }
+
+-- what is so of every pool
+pub record IsSound (pool : Ledger) : Type 0 where
+  -- the reservations can all be met at once
+  pub within : all_reserved pool.reservations ≤ size pool
+  pub distinct : AllPairs (λ r s. r.tag ≢ s.tag) pool.reservations
+  pub kept : (tag : ℕ) → held tag pool ≤ reserved tag pool

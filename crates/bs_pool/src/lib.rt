@@ -1,0 +1,16 @@
+//! A pool of blocks. Each of its block numbers is free or owned by one tag, and a tag owns no more than it reserved.
+#![tactic(auto)]
+
+mod owned;
+mod pool;
+mod reservation;
+mod slot;
+#[cfg(test)]
+mod tests;
+
+pub use owned::Owned;
+pub use pool::Pool;
+pub use reservation::{Reservation, Reserve};
+// A crate can name a pool in a contract only if the types of its fields are exported.
+#[doc(hidden)]
+pub use slot::{Place, Slot};

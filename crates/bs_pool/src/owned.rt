@@ -1,0 +1,60 @@
+//! A block that its pool has handed out.
+ghost use Rattle.std.specs.Prelude.{◌≡◌};
+ghost use Rattle.std.specs.Borrow.{sem};
+
+use bs_block::Block;
+
+/// One block of a pool, handed out to a tag. Only `Pool::draw` makes one, and it cannot be copied, so its holder alone
+/// reads and writes the block. It goes back by `Pool::give`; one that is dropped stays owned in its pool.
+#[derive(Drop)]
+pub struct Owned<const CAP: usize> {
+    tag: u32,
+    number: usize,
+    block: Block<CAP>,
+}
+
+impl<const CAP: usize> Owned<CAP> {
+    ghost use Rattle.bs_pool.specs.OwnedLends.{lends_block};
+
+    pub(crate) fn new(tag: u32, number: usize, block: Block<CAP>) -> Self
+        ensures tag { result.tag ≡ tag }
+        ensures number { result.number ≡ number }
+        ensures block { result.block ≡ block.entry }
+    {
+        Owned { tag, number, block }
+    }
+
+    pub(crate) fn into_block(self) -> Block<CAP>
+        ensures { result ≡ self.entry.block }
+    {
+        self.block
+    }
+
+    /// The tag that owns the block in the pool.
+    pub fn tag(&self) -> u32
+        ensures { result ≡ self.now.tag }
+    {
+        self.tag
+    }
+
+    /// The number of the block in the pool.
+    pub fn number(&self) -> usize
+        ensures { result ≡ self.now.number }
+    {
+        self.number
+    }
+
+    pub fn block(&self) -> &Block<CAP>
+        ensures { result.now ≡ self.now.block }
+    {
+        &self.block
+    }
+
+    /// The block, to write. Tag and number stay as they are.
+    pub fn block_mut(&mut self) -> &mut Block<CAP>
+        ensures* writes_back { sem 𝓛 (lends_block CAP.row self.entry result) }
+        ensures value { result.now ≡ self.old.block }
+    {
+        &mut self.block
+    }
+}

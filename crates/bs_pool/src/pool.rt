@@ -1,0 +1,132 @@
+//! The pool and its calls. A clause sees a pool as its ledger: who owns each number, and who reserved how many.
+ghost use Rattle.std.specs.Prelude.{◌≡◌, ◌≤◌, IfOk, IsSome};
+ghost use Rattle.bs_block.specs.Bytes.{IsCapacity};
+ghost use Rattle.bs_pool.specs.Ledger.{IsSound, Owns, opened, free, size, held, reserved, unreserved, reservation_of, given, without_reservation};
+ghost use Rattle.bs_pool.specs.Drawing.{Draws};
+ghost use Rattle.bs_pool.specs.Reserving.{Reserves};
+
+use crate::owned::Owned;
+use crate::reservation::{Reservation, Reserve, all_reserved, is_reserved, reserved_by, withdraw};
+use crate::slot::{Slot, count_free, count_owned_by, first_free, new_slots};
+use std::alloc::{AllocError, Global};
+use std::marker::Model;
+
+/// A fixed number of blocks of `CAP` bytes, numbered from 0. Each is free, and then here and empty, or owned by one
+/// tag, and then in an `Owned` of that tag.
+#[derive(Drop)]
+pub struct Pool<const CAP: usize> {
+    slots: Vec<Slot<CAP>>,
+    reservations: Vec<Reservation>,
+}
+
+impl<const CAP: usize> Model for Pool<CAP> {
+    ghost use Rattle.bs_pool.specs.Ledger.{Ledger, ledger_of, IsSound};
+
+    ghost Value = { Ledger };
+
+    ghost view = { λ p. ledger_of p.slots.items p.reservations.items };
+
+    ghost invariant = { λ p. IsSound (ledger_of p.slots.items p.reservations.items) };
+}
+
+impl<const CAP: usize> Pool<CAP> {
+    /// A pool of `n` free blocks with no reservation. It takes the memory of all of them; an error is the allocator's.
+    #[tactic(auto, using(crate::proofs::Soundness::sound_opened))]
+    pub fn open(alloc: Global, n: usize) -> Result<Self, AllocError>
+        requires { IsCapacity CAP }
+        ensures { IfOk result (λ pool. pool ≡ opened n) }
+    {
+        Ok(Pool {
+            slots: new_slots(alloc, n)?,
+            reservations: Vec::new(alloc),
+        })
+    }
+
+    /// The number of free blocks.
+    pub fn free(&self) -> usize
+        ensures { result ≡ free self.now }
+    {
+        count_free(self.slots.as_slice())
+    }
+
+    /// The number of blocks that the tag owns.
+    pub fn held(&self, tag: u32) -> usize
+        ensures { result ≡ held tag self.now }
+    {
+        count_owned_by(self.slots.as_slice(), tag)
+    }
+
+    /// The number of blocks that the tag reserved, 0 where it has no reservation.
+    pub fn reserved(&self, tag: u32) -> usize
+        ensures { result ≡ reserved tag self.now }
+    {
+        reserved_by(self.reservations.as_slice(), tag)
+    }
+
+    /// The number of blocks, free or owned.
+    pub fn size(&self) -> usize
+        ensures value { result ≡ size self.now }
+        ensures sound { IsSound self.now }
+    {
+        self.slots.len()
+    }
+
+    /// The size less all reservations.
+    fn unreserved(&self) -> usize
+        ensures { result ≡ unreserved self.now }
+    {
+        self.size() - all_reserved(self.reservations.as_slice())
+    }
+
+    /// Reserves `n` blocks for the tag: from now on it may own up to so many. `TagTaken` where the tag has a
+    /// reservation, then `Short` where less than `n` blocks are left beside all reservations, whether owned or not.
+    #[tactic(auto, using(crate::proofs::Reservations::none_since, crate::proofs::Reservations::some_since))]
+    pub fn reserve(&mut self, tag: u32, n: usize) -> Result<(), Reserve>
+        requires { 1 ≤ n }
+        ensures { Reserves tag n self.old result self.new }
+    {
+        if is_reserved(self.reservations.as_slice(), tag) {
+            return Err(Reserve::TagTaken);
+        }
+        let free_to_reserve = self.unreserved();
+        if n > free_to_reserve {
+            return Err(Reserve::Short { free_to_reserve });
+        }
+        let reservation = Reservation { tag, blocks: n };
+        if self.reservations.push(reservation).is_err() {
+            return Err(Reserve::Memory);
+        }
+        Ok(())
+    }
+
+    /// The free block of the least number, empty, now owned by the tag. None where the tag owns all that it reserved.
+    #[tactic(auto, using(crate::proofs::Soundness::some_free))]
+    pub fn draw(&mut self, tag: u32) -> Option<Owned<CAP>>
+        ensures { Draws tag self.old result self.new }
+    {
+        if self.reserved(tag) <= self.held(tag) {
+            return None;
+        }
+        let number = first_free(self.slots.as_slice()).unwrap();
+        let block = self.slots[number].hand_out(tag);
+        Some(Owned::new(tag, number, block))
+    }
+
+    /// Takes a block back. It is emptied, and its number is free.
+    pub fn give(&mut self, owned: Owned<CAP>)
+        requires { Owns owned.tag owned.number self.old }
+        ensures { self.new ≡ given owned.entry.number self.old }
+    {
+        let number = owned.number();
+        self.slots[number] = Slot::home(owned.into_block());
+    }
+
+    /// Takes away the reservation of a tag that owns no block.
+    pub fn unreserve(&mut self, tag: u32)
+        requires reserved { IsSome (reservation_of tag self.old) }
+        requires idle { held tag self.old ≡ 0 }
+        ensures { self.new ≡ without_reservation tag self.old }
+    {
+        withdraw(&mut self.reservations, tag);
+    }
+}

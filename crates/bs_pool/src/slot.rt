@@ -1,0 +1,129 @@
+//! The place of one block in a pool. A clause sees it as the tag that owns the block, or None where the block is free.
+ghost use Rattle.std.specs.Prelude.{◌≡◌, IfOk, None, count_by, position, replicate};
+ghost use Rattle.bs_block.specs.Bytes.{IsCapacity};
+ghost use Rattle.bs_pool.specs.Ledger.{is_free, is_owned_by};
+
+use bs_block::Block;
+use std::alloc::{AllocError, Global};
+use std::marker::Model;
+use std::mem;
+
+/// Where the block of a number is: here, or with the tag that owns it.
+#[derive(Drop)]
+pub enum Place<const CAP: usize> {
+    Home(Block<CAP>),
+    Out(u32),
+}
+
+/// The place of a block. A block that is here is empty.
+#[derive(Drop)]
+pub struct Slot<const CAP: usize> {
+    place: Place<CAP>,
+}
+
+impl<const CAP: usize> Model for Slot<CAP> {
+    ghost use Rattle.std.specs.Prelude.{Option, ℕ};
+
+    ghost Value = { Option ℕ };
+
+    ghost use Rattle.bs_pool.specs.Places.{owner_in, IsEmptyAtHome};
+
+    ghost view = { λ s. owner_in s.place };
+
+    ghost invariant = { λ s. IsEmptyAtHome s.place };
+}
+
+impl<const CAP: usize> Slot<CAP> {
+    ghost use Rattle.std.specs.Prelude.{Some, None, []};
+
+    /// The place of a block that is free. It is emptied.
+    pub(crate) fn home(mut block: Block<CAP>) -> Self
+        ensures { result ≡ None }
+    {
+        block.clear();
+        Slot {
+            place: Place::Home(block),
+        }
+    }
+
+    pub(crate) fn is_free(&self) -> bool
+        ensures { result ≡ is_free self.now }
+    {
+        matches!(self.place, Place::Home(_))
+    }
+
+    pub(crate) fn is_owned_by(&self, tag: u32) -> bool
+        ensures { result ≡ is_owned_by tag self.now }
+    {
+        match self.place {
+            Place::Home(_) => false,
+            Place::Out(owner) => owner == tag,
+        }
+    }
+
+    /// Takes the block out of its place, for the tag.
+    pub(crate) fn hand_out(&mut self, tag: u32) -> Block<CAP>
+        requires { self.old ≡ None }
+        ensures block { result ≡ [] }
+        ensures owner { self.new ≡ Some tag }
+    {
+        match mem::replace(&mut self.place, Place::Out(tag)) {
+            Place::Home(block) => block,
+            Place::Out(_) => unreachable!(),
+        }
+    }
+}
+
+/// The places of `n` new blocks.
+pub(crate) fn new_slots<const CAP: usize>(
+    alloc: Global,
+    n: usize,
+) -> Result<Vec<Slot<CAP>>, AllocError>
+    requires { IsCapacity CAP }
+    ensures { IfOk result (λ slots. slots.items ≡ replicate n None) }
+{
+    let mut slots = Vec::with_capacity(alloc, n)?;
+    for _ in 0..n {
+        slots.push(Slot::home(Block::new(alloc)?))?;
+    }
+    Ok(slots)
+}
+
+/// The first number whose block is free.
+pub(crate) fn first_free<const CAP: usize>(slots: &[Slot<CAP>]) -> Option<usize>
+    ensures { result ≡ position is_free slots.now }
+{
+    slots.iter().position(
+        |slot| -> bool
+            ensures { result ≡ is_free slot.now }
+        { slot.is_free() },
+    )
+}
+
+/// The number of free blocks.
+pub(crate) fn count_free<const CAP: usize>(slots: &[Slot<CAP>]) -> usize
+    ensures { result ≡ count_by is_free slots.now }
+{
+    slots
+        .iter()
+        .filter(
+            |slot| -> bool
+                ensures { result ≡ is_free slot.now.now }
+            { slot.is_free() },
+        )
+        .count()
+}
+
+/// The number of blocks that the tag owns.
+pub(crate) fn count_owned_by<const CAP: usize>(slots: &[Slot<CAP>], tag: u32) -> usize
+    ensures { result ≡ count_by (is_owned_by tag) slots.now }
+{
+    slots
+        .iter()
+        .filter(
+            |slot| -> bool
+                ensures { result ≡ is_owned_by tag slot.now.now }
+            { slot.is_owned_by(tag) },
+        )
+        .count()
+}
