@@ -11,13 +11,14 @@ use Rattle.bs_board.specs.Record.{record_of, snake_record}
 use Rattle.bs_board.proofs.Lengths.{length_of_record, length_of_snake}
 use Rattle.bs_board.proofs.Places.{cells_on_board}
 use Rattle.bs_board.proofs.Chains.{and_both}
+use Rattle.bs_board.proofs.Utf8.{short_text}
 
-side_fits : (cells : ℕ) → is_side cells ≡ true → cells ≤ 25
+pub side_fits : (cells : ℕ) → is_side cells ≡ true → cells ≤ 25
 side_fits cells fits = leb-true _ _ (and_both _ _ fits).1
 
 snake_fits : (b : Board) (seat : ℕ) (s : Snake) → b.turn ≤ 10000 → IsLegalSnake b seat s → length (snake_record s) ≤ 20078
 snake_fits b seat s turn legal =
-    let name : length s.id ≤ 64 = leb-true _ _ (and_both _ _ legal.id).1 in
+    let name : length s.id ≤ 64 = short_text s.id legal.id in
     let size = length_of_snake s in
     let short = legal.body.short in
     omega arith

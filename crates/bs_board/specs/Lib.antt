@@ -1,11 +1,12 @@
 pub mod Cell
-pub mod Charge
 pub mod Distinct
 pub mod Legal
 pub mod Lending
 pub mod Orders
 pub mod Over
 pub mod Plan
+pub mod Reading
 pub mod Record
 pub mod Setup
 pub mod Texts
+pub mod Writing

@@ -30,24 +30,26 @@ abbrev pub killer_byte : Option ℕ → ℕ
 killer_byte None = 0
 killer_byte (Some seat) = seat + 1
 
--- a cell of the board
-abbrev pub food_bytes : Point → List ℕ
-food_bytes p = nat_abs p.x ∷ nat_abs p.y ∷ []
+-- the column and the row, raised by so much: by 1 in a body, since its head may stand one cell beyond an edge
+abbrev pub cell_bytes : ℕ → Point → List ℕ
+cell_bytes raised p = nat_abs (p.x +ℤ pos raised) ∷ nat_abs (p.y +ℤ pos raised) ∷ []
 
--- a head may stand one cell beyond the edge, so both numbers are raised by 1
-abbrev pub part_bytes : Point → List ℕ
-part_bytes p = nat_abs (p.x +ℤ pos 1) ∷ nat_abs (p.y +ℤ pos 1) ∷ []
+-- what stands between the id and the parts
+abbrev pub state_bytes : Snake → List ℕ
+state_bytes s =
+    (s.health ∷ cause_byte s.cause ∷ killer_byte s.killer ∷ two_bytes (unwrap_or s.out 0)) ++ two_bytes (length s.body)
 
 unfoldable pub snake_record : Snake → List ℕ
-snake_record s =
-    (length s.id ∷ s.id)
-    ++ (s.health ∷ cause_byte s.cause ∷ killer_byte s.killer ∷ two_bytes (unwrap_or s.out 0))
-    ++ two_bytes (length s.body)
-    ++ flat_map part_bytes s.body
+snake_record s = (length s.id ∷ s.id) ++ state_bytes s ++ flat_map (cell_bytes 1) s.body
+
+-- what stands before the cells of the food
+abbrev pub head_bytes : Board → List ℕ
+head_bytes b =
+    (1 ∷ mode_byte b.mode ∷ b.width ∷ b.height ∷ two_bytes b.turn)
+    ++ (b.min_food ∷ b.chance ∷ length b.snakes ∷ two_bytes (length b.food))
 
 unfoldable pub record_of : Board → List ℕ
 record_of b =
-    (1 ∷ mode_byte b.mode ∷ b.width ∷ b.height ∷ two_bytes b.turn)
-    ++ (b.min_food ∷ b.chance ∷ length b.snakes ∷ two_bytes (length b.food))
-    ++ flat_map food_bytes b.food
+    head_bytes b
+    ++ flat_map (cell_bytes 0) b.food
     ++ flat_map snake_record b.snakes

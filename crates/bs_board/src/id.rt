@@ -41,7 +41,7 @@ impl Id {
     }
 
     #[tactic(auto, using(crate::proofs::Utf8::is_text))]
-    pub fn as_bytes(&self) -> &[u8]
+    pub(crate) fn as_bytes(&self) -> &[u8]
         ensures value { result.now ≡ self.now }
         ensures text { is_utf8 self.now ≡ true }
     {

@@ -183,14 +183,81 @@ fn commands_and_plans_copy(rt: HostRuntime) -> Result<(), Fail> {
     Ok(())
 }
 
-// The record of the three by three game has 26 bytes in each of its turns.
+// The records of the three by three game before its first turn, and after the snake has hit the wall.
+const FIRST: [u8; 26] = [
+    1, 1, 3, 3, 0, 0, 0, 0, 1, 0, 0, 1, 0x73, 0x64, 0, 0, 0, 0, 0, 3, 2, 2, 2, 2, 2, 2,
+];
+
+const LAST: [u8; 26] = [
+    1, 1, 3, 3, 0, 2, 0, 0, 1, 0, 0, 1, 0x73, 0x62, 2, 0, 0, 2, 0, 3, 2, 4, 2, 3, 2, 2,
+];
+
 #[test]
 #[tactic(auto, using(crate::proofs::Sizes::legal_size_fits))]
-fn record_lengths(rt: HostRuntime) -> Result<(), Fail> {
-    for turn in 0..3 {
-        let board = solo(rt.alloc(), turn)?;
+fn records_both_ways(rt: HostRuntime) -> Result<(), Fail> {
+    let alloc = rt.alloc();
+    for (turn, record) in [(0, FIRST), (2, LAST)] {
+        let board = solo(alloc, turn)?;
         assert!(rt; is_legal(&board));
-        assert_eq!(rt; size(&board), 26, "turn {turn}");
+        assert_eq!(rt;
+            encode(alloc, &board)?.as_slice(),
+            record.as_slice(),
+            "turn {turn}"
+        );
+        assert_same_board(&rt, &decode(alloc, &record)?, &board);
     }
+    let mut board = solo(alloc, 0)?;
+    board.turn = 10_000;
+    assert!(rt; is_legal(&board));
+    let mut record = [0; 26];
+    assert_eq!(rt; size(&board), record.len());
+    encode_into(&board, &mut record);
+    assert_eq!(rt; (record[4], record[5]), (0x27, 0x10));
+    Ok(())
+}
+
+#[test]
+fn bytes_that_are_no_record(rt: HostRuntime) -> Result<(), Fail> {
+    let alloc = rt.alloc();
+    let mut longer = Vec::from_slice(alloc, &FIRST)?;
+    longer.push(0)?;
+    assert_eq!(rt; decode(alloc, &longer).err(), Some(Decode::NotARecord));
+    assert_eq!(rt; decode(alloc, &FIRST[..25]).err(), Some(Decode::NotARecord));
+    // an unknown mode, and a health of 101
+    for (place, byte) in [(1, 3), (13, 101)] {
+        let mut wrong = FIRST;
+        wrong[place] = byte;
+        assert_eq!(rt;
+            decode(alloc, &wrong).err(),
+            Some(Decode::NotARecord),
+            "byte {place}"
+        );
+    }
+    Ok(())
+}
+
+// Whatever one byte is set to, a board that is read is written as those bytes again; and no record's front is a record.
+#[test]
+fn records_with_one_byte_changed(rt: HostRuntime) -> Result<(), Fail> {
+    let alloc = rt.alloc();
+    let mut read = 0u32;
+    for place in 0..26 {
+        for byte in 0..=255u8 {
+            let mut bytes = FIRST;
+            bytes[place] = byte;
+            match decode(alloc, &bytes) {
+                Ok(board) => {
+                    assert_eq!(rt; encode(alloc, &board)?.as_slice(), bytes.as_slice());
+                    read = read.wrapping_add(1);
+                }
+                Err(error) => assert_eq!(rt; error, Decode::NotARecord),
+            }
+        }
+        assert_eq!(rt;
+            decode(alloc, &FIRST[..place]).err(),
+            Some(Decode::NotARecord)
+        );
+    }
+    assert!(rt; read > 26, "more than the record itself, {read}");
     Ok(())
 }

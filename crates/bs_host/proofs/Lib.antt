@@ -1,5 +1,6 @@
 pub mod Known
-pub mod Games
 pub mod Cutting
+pub mod Kept
+pub mod SetAside
 pub mod Sorting
 pub mod Files

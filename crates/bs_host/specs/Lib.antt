@@ -1,7 +1,6 @@
-pub mod Alone
-pub mod Answer
 pub mod File
-pub mod Game
+pub mod Kept
 pub mod Requests
+pub mod Reserving
 pub mod Serve
 pub mod Transcript

@@ -1,22 +1,14 @@
 -- When a command file is not served, and what each fault leaves.
-use Rattle.std.specs.Prelude.{◌≡◌, ℕ, ◌+◌, ◌/◌, ◌<◌, List, length, take, sum_by, nat_lt, Option, Some, None, Result, Ok, Err, if◌then◌else◌}
+use Rattle.std.specs.Prelude.{◌≡◌, ℕ, ◌<◌, List, length, take, nat_lt, Option, Some, None, Result, Ok, Err, if◌then◌else◌}
 use Rattle.std.specs.Io.KnownBytes.{Appends}
 use Rattle.bs_board.specs.declared.plan.Plan.{Plan}
-use Rattle.bs_board.specs.Plan.{GameRow}
 use Rattle.bs_json.specs.declared.plan.PlanFault.{PlanFault}
 use Rattle.bs_json.specs.declared.plan.PlanFault.TheVariants as plan
 use Rattle.bs_host.specs.declared.fault.Fault.{Fault}
 use Rattle.bs_host.specs.declared.fault.Fault.TheVariants.{TooLong, Plan as OfPlan, Memory, Write}
 use Rattle.bs_host.specs.declared.fault.PlanRefusal.TheVariants as refusal
 use Rattle.bs_host.specs.File.{plan_of}
-
--- Blocks of 2,097,152 bytes are reserved for a game: as many as its records can need, when none has more than 262,144
--- bytes and a block is closed where the next record does not fit, and four for the parts of a turn.
-abbrev pub blocks_of : GameRow → ℕ
-blocks_of row = row.quota / 1835008 + 2 + 4
-
-abbrev pub reserved : List GameRow → ℕ
-reserved = sum_by blocks_of
+use Rattle.bs_host.specs.Reserving.{blocks_of_all}
 
 abbrev pub fault_of : PlanFault → Fault
 fault_of plan.Malformed = OfPlan refusal.Malformed
@@ -26,7 +18,7 @@ fault_of plan.Memory = Memory
 
 abbrev pub refusal_of_plan : ℕ → Result Plan PlanFault → Option Fault
 refusal_of_plan blocks (Err fault) = Some (fault_of fault)
-refusal_of_plan blocks (Ok plan) = if nat_lt blocks (reserved plan.rows) then Some (OfPlan refusal.Short) else None
+refusal_of_plan blocks (Ok plan) = if nat_lt blocks (blocks_of_all plan.rows) then Some (OfPlan refusal.Short) else None
 
 -- the first reason against serving the file from that many blocks
 unfoldable pub refusal_of : ℕ → List ℕ → Option Fault

@@ -7,8 +7,8 @@ use Rattle.bs_board.specs.Plan.{GameRow}
 use Rattle.bs_json.specs.declared.line.Stray.{Stray}
 use Rattle.bs_json.specs.Replies.{reply_line_of, final_line_of, stray_line_of}
 use Rattle.bs_host.specs.declared.requests.Requests.{Requests}
-use Rattle.bs_host.specs.Game.{Game, last_board, game_charge}
-use Rattle.bs_host.specs.Alone.{Course, alone}
+use Rattle.bs_game.specs.Game.{Game, last_board, game_charge}
+use Rattle.bs_game.specs.Alone.{Course, alone}
 use Rattle.bs_host.specs.File.{rows_of, commands_of, strays_of}
 
 -- a game's replies, numbered from `seq` on

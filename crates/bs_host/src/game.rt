@@ -1,106 +1,202 @@
-ghost use Rattle.std.specs.Prelude.{◌≡◌, ◌≤◌, length};
-ghost use Rattle.bs_board.specs.Legal.{IsLegal};
-ghost use Rattle.bs_board.specs.Record.{record_of};
-ghost use Rattle.bs_host.specs.Game.{board_charge};
+//! One game of the plan, kept as the records of its tag's heap.
+ghost use Rattle.std.specs.Prelude.{◌≡◌, ◌<◌, ◌≤◌, Some, IfOk, OnOk, IfSome, length, slice_get};
+ghost use Rattle.bs_pool.specs.Ledger.{reserved};
+ghost use Rattle.bs_heap.specs.Charge.{charge_of, blocks_for};
+ghost use Rattle.bs_game.specs.Answer.{Fits, answer_to};
+ghost use Rattle.bs_game.specs.Game.{Game, last_board, board_of_turn};
+ghost use Rattle.bs_game.specs.Law.{IsViewOf, IsAnswerTo, IsFitEffect, asked_board, effected};
+ghost use Rattle.bs_game.specs.View.{IsFitView};
+ghost use Rattle.bs_heap.specs.Holding.{IsKeptIn, LeavesOthers};
+ghost use Rattle.bs_host.specs.Kept.{IsRecorded, IsKept};
 
-use bs_board::{Board, size};
+use bs_board::{Board, Command, Decode, Reply, TurnNumber, decode};
+use bs_game::{Answer, Effect, View, answer, place_of_turn};
+use bs_heap::TagHeap;
+use bs_pool::Pool;
 use std::alloc::{AllocError, Global};
-use std::marker::Model;
 
-/// The record's size rounded up to a multiple of 16 bytes.
-#[tactic(auto, using(bs_board::proofs::Sizes::legal_size))]
-pub(crate) fn board_charge(board: &Board) -> u32
-    requires { IsLegal board.now }
-    ensures value { result ≡ board_charge board.now }
-    ensures small { result ≤ 161888 }
+/// The size of a block, in bytes.
+pub(crate) const BLOCK_BYTES: usize = 2_097_152;
+
+fn board_at(alloc: Global, heap: &TagHeap<BLOCK_BYTES>, place: usize) -> Result<Board, AllocError>
+    ghost game: { Game }
+    requires kept { IsRecorded game heap.now.records }
+    requires place { place < length game }
+    ensures { IfOk result (λ board. slice_get game place ≡ Some board) }
 {
-    ((size(board) + 15) / 16 * 16) as u32
+    match decode(alloc, heap.record(place)) {
+        Ok(board) => Ok(board),
+        Err(Decode::Memory) => Err(AllocError),
+        Err(Decode::NotARecord) => unreachable!(),
+    }
 }
 
-/// The boards that a game keeps, the newest last, or none where no game runs; and the sum of their charges.
-#[derive(Debug, Drop)]
-pub(crate) struct KeptGame {
-    boards: Vec<Board>,
-    charge: u32,
+/// The newest board.
+pub(crate) fn last_board(
+    alloc: Global,
+    heap: &TagHeap<BLOCK_BYTES>,
+) -> Result<Option<Board>, AllocError>
+    ghost game: { Game }
+    requires { IsRecorded game heap.now.records }
+    ensures { IfOk result (λ last. last ≡ last_board game) }
+{
+    match heap.count() {
+        0 => Ok(None),
+        count => Ok(Some(board_at(alloc, heap, count - 1)?)),
+    }
 }
 
-impl Model for KeptGame {
-    ghost use Rattle.bs_host.specs.Game.{Game, IsKept};
-
-    ghost Value = { Game };
-
-    ghost view = { λ g. g.boards.items };
-
-    ghost invariant = { λ g. IsKept g.boards.items g.charge };
+/// The board of that turn, where it is kept. `last` is the newest board.
+#[tactic(auto, using(crate::proofs::Kept::nothing_of_turn, crate::proofs::Kept::kept_turns, crate::proofs::Kept::turn_is_gone, crate::proofs::Kept::turn_is_there, crate::proofs::Kept::turn_is_within, crate::proofs::Kept::as_many))]
+fn board_of_turn(
+    alloc: Global,
+    heap: &TagHeap<BLOCK_BYTES>,
+    last: &Option<Board>,
+    at: TurnNumber,
+) -> Result<Option<Board>, AllocError>
+    ghost game: { Game }
+    requires kept { IsRecorded game heap.now.records }
+    requires last { last.now ≡ last_board game }
+    ensures { IfOk result (λ board. board ≡ board_of_turn at game) }
+{
+    let Some(last) = last else {
+        return Ok(None);
+    };
+    match place_of_turn(heap.count(), last.turn, at) {
+        None => Ok(None),
+        Some(place) => Ok(Some(board_at(alloc, heap, place)?)),
+    }
 }
 
-impl KeptGame {
-    ghost use Rattle.std.specs.Prelude.{◌+◌, [], ◌∷◌, ◌++◌, nat_eq, OnOk, OnErr, MatchOption, Some, None, option_copied, option_to_list};
-    ghost use Rattle.bs_host.specs.Game.{IsGame, last_board, board_of_turn, game_charge};
+/// The board that the command asks for by its turn, where it is kept.
+fn asked_board(
+    alloc: Global,
+    heap: &TagHeap<BLOCK_BYTES>,
+    last: &Option<Board>,
+    command: &Command,
+) -> Result<Option<Board>, AllocError>
+    ghost game: { Game }
+    requires kept { IsRecorded game heap.now.records }
+    requires last { last.now ≡ last_board game }
+    ensures { IfOk result (λ asked. asked ≡ asked_board command.now game) }
+{
+    match command {
+        Command::Turn(at) => board_of_turn(alloc, heap, last, *at),
+        Command::New(_) => Ok(None),
+        Command::Move(_) => Ok(None),
+        Command::Show => Ok(None),
+        Command::Free => Ok(None),
+        Command::End => Ok(None),
+        Command::Bad => Ok(None),
+    }
+}
 
-    pub(crate) fn new(alloc: Global) -> KeptGame
-        ensures { result ≡ [] }
-    {
-        KeptGame {
-            boards: Vec::new(alloc),
-            charge: 0,
+/// What an answer needs to see of the game.
+fn view_of(
+    alloc: Global,
+    quota: u32,
+    heap: &TagHeap<BLOCK_BYTES>,
+    command: &Command,
+) -> Result<View, AllocError>
+    ghost game: { Game }
+    requires kept { IsRecorded game heap.now.records }
+    requires small { quota ≤ 16777216 }
+    requires quota { heap.now.quota ≡ quota }
+    ensures view { IfOk result (λ view. IsViewOf view quota game command.now) }
+    ensures fit { IfOk result (λ view. IsFitView view) }
+{
+    let last = last_board(alloc, heap)?;
+    let asked = asked_board(alloc, heap, &last, command)?;
+    Ok(View {
+        quota,
+        charge: heap.charge(),
+        kept: heap.count(),
+        last,
+        asked,
+    })
+}
+
+/// What a command holds is within the limits, since its types keep them.
+fn keeps_limits(command: &Command)
+    ensures { Fits command.now }
+{
+    match command {
+        Command::New(new) => {
+            let _mode = new.mode;
         }
+        Command::Move(order) => {
+            let _words = order.words.as_slice();
+        }
+        Command::Turn(at) => {
+            let _number = at.number();
+        }
+        Command::Show => {}
+        Command::Free => {}
+        Command::End => {}
+        Command::Bad => {}
     }
+}
 
-    pub(crate) fn charge(&self) -> u32
-        ensures value { result ≡ game_charge self.now }
-        ensures small { result ≤ 16777216 }
-    {
-        self.charge
-    }
+/// What the command is answered, and what becomes of the records.
+fn answer_seen(
+    alloc: Global,
+    quota: u32,
+    heap: &TagHeap<BLOCK_BYTES>,
+    command: &Command,
+) -> Result<Answer, AllocError>
+    ghost game: { Game }
+    requires kept { IsRecorded game heap.now.records }
+    requires small { quota ≤ 16777216 }
+    requires quota { heap.now.quota ≡ quota }
+    ensures { IfOk result (IsAnswerTo quota game (answer_to quota game command.now)) }
+{
+    keeps_limits(command);
+    let view = view_of(alloc, quota, heap, command)?;
+    answer(alloc, &view, command)
+}
 
-    /// The newest board.
-    pub(crate) fn last(&self) -> Option<&Board>
-        ensures value { option_copied result ≡ last_board self.now }
-        ensures right { IsGame self.now }
-    {
-        self.boards.last()
+/// What an answer does to the records.
+#[tactic(auto, using(crate::proofs::Kept::record_is_small, crate::proofs::Kept::nothing_left))]
+fn apply(heap: &mut TagHeap<BLOCK_BYTES>, pool: &mut Pool<BLOCK_BYTES>, effect: Effect)
+    requires room { 0 < heap.old.index_room }
+    requires blocks { blocks_for 2097152 heap.old.quota ≤ reserved heap.old.tag pool.old }
+    requires held { IsKeptIn heap.old pool.old }
+    requires fits { IsFitEffect heap.old.quota (charge_of heap.old.records) effect }
+    ensures records { heap.new.records ≡ effected effect heap.old.records }
+    ensures tag { heap.new.tag ≡ heap.old.tag }
+    ensures quota { heap.new.quota ≡ heap.old.quota }
+    ensures held { IsKeptIn heap.new pool.new }
+    ensures others { LeavesOthers heap.old.tag pool.old pool.new }
+{
+    match effect {
+        Effect::Keep => {}
+        Effect::Add(record) => heap.add(pool, record.as_slice()).unwrap(),
+        Effect::Trim => heap.keep_last(pool),
+        Effect::Drop => heap.free(pool),
     }
+}
 
-    /// The board of that turn, where it is kept.
-    #[tactic(auto, unfolding(crate::specs::Game::board_of_turn))]
-    pub(crate) fn at(&self, turn: u16) -> Option<&Board>
-        ensures { option_copied result ≡ board_of_turn turn self.now }
-    {
-        self.boards.iter().find(|board| board.turn == turn)
-    }
-
-    #[tactic(auto, using(crate::proofs::Games::one_more_is_kept))]
-    pub(crate) fn add(&mut self, board: Board) -> Result<(), AllocError>
-        requires right { IsGame (self.old ++ board ∷ []) }
-        requires small { game_charge self.old + board_charge board ≤ 16777216 }
-        requires legal { IsLegal board }
-        ensures ok { OnOk result (self.new ≡ self.old ++ board ∷ []) }
-        ensures err { OnErr result (self.new ≡ self.old) }
-    {
-        let charge = board_charge(&board);
-        self.boards.push(board)?;
-        self.charge += charge;
-        Ok(())
-    }
-
-    /// Gives up all boards but the newest.
-    pub(crate) fn keep_last(&mut self)
-        ensures { self.new ≡ option_to_list (last_board self.old) }
-    {
-        let Some(last) = self.boards.pop() else {
-            return;
-        };
-        self.charge = board_charge(&last);
-        self.boards.clear();
-        self.boards.push(last).unwrap();
-    }
-
-    /// Gives up all boards.
-    pub(crate) fn clear(&mut self)
-        ensures { self.new ≡ [] }
-    {
-        self.boards.clear();
-        self.charge = 0;
-    }
+/// Answers the command at that place, and changes the records as the answer says.
+pub(crate) fn carry_out(
+    alloc: Global,
+    quota: u32,
+    heap: &mut TagHeap<BLOCK_BYTES>,
+    pool: &mut Pool<BLOCK_BYTES>,
+    commands: &[Command],
+    place: usize,
+) -> Result<Reply, AllocError>
+    ghost game: { Game }
+    requires place { place < length commands.now }
+    requires kept { IsKept 2097152 game heap.old pool.old }
+    requires quota { heap.old.quota ≡ quota }
+    ensures reply { IfOk result (λ reply. IfSome (slice_get commands.now place) (λ command. reply ≡ (answer_to quota game command).reply)) }
+    ensures kept { OnOk result (IfSome (slice_get commands.now place) (λ command. IsKept 2097152 (answer_to quota game command).game heap.new pool.new)) }
+    ensures tag { OnOk result (heap.new.tag ≡ heap.old.tag) }
+    ensures quota { OnOk result (heap.new.quota ≡ heap.old.quota) }
+    ensures others { OnOk result (LeavesOthers heap.old.tag pool.old pool.new) }
+{
+    heap.grow_index()?;
+    let answer = answer_seen(alloc, quota, heap, &commands[place])?;
+    apply(heap, pool, answer.effect);
+    Ok(answer.reply)
 }

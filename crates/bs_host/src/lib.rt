@@ -2,12 +2,12 @@
 //! are answered, game by game.
 #![tactic(auto)]
 
-mod answer;
 mod fault;
 mod game;
 mod lines;
 mod reading;
 mod requests;
+mod reserving;
 mod sections;
 mod serving;
 #[cfg(test)]

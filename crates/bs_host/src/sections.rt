@@ -1,62 +1,113 @@
-ghost use Rattle.std.specs.Prelude.{◌≡◌, ◌≤◌, ◌++◌, length, OnOk, IfOk};
-ghost use Rattle.bs_host.specs.Alone.{replies_to, game_after};
-ghost use Rattle.bs_host.specs.Transcript.{reply_lines_of, section_of, sections_in, stray_lines_of, requests_text_of};
+ghost use Rattle.std.specs.Prelude.{◌≡◌, ◌<◌, ◌≤◌, ◌*◌, ◌++◌, [], length, OnOk, IfOk};
+ghost use Rattle.bs_game.specs.Alone.{replies_to, game_after};
+ghost use Rattle.bs_game.specs.Game.{Game};
+ghost use Rattle.bs_heap.specs.Charge.{blocks_for};
+ghost use Rattle.bs_heap.specs.Holding.{LeavesOthers};
+ghost use Rattle.bs_pool.specs.Ledger.{reserved};
+ghost use Rattle.bs_host.specs.Kept.{IsKept, IsRecorded};
+ghost use Rattle.bs_host.specs.Reserving.{AreIdle, AreReserved};
+ghost use Rattle.bs_host.specs.Transcript.{reply_lines_of, last_line_of, section_of, sections_in, stray_lines_of, requests_text_of};
 
-use crate::answer::answer;
-use crate::game::KeptGame;
+use crate::game::{BLOCK_BYTES, carry_out, last_board};
 use crate::requests::{Inbox, Requests};
+use crate::reserving::record_tag;
 use bs_board::{Command, Row};
+use bs_heap::TagHeap;
 use bs_json::{Stray, final_line, reply_line, stray_line};
+use bs_pool::Pool;
 use std::alloc::{AllocError, Global};
 
 /// The replies to the commands, numbered from 1.
 fn push_replies(
     alloc: Global,
     row: &Row,
-    game: &mut KeptGame,
+    heap: &mut TagHeap<BLOCK_BYTES>,
+    pool: &mut Pool<BLOCK_BYTES>,
     commands: &[Command],
     text: &mut Vec<u8>,
 ) -> Result<(), AllocError>
-    ensures game { OnOk result (game.new ≡ game_after row.now.quota game.old commands.now) }
+    requires kept { IsKept 2097152 [] heap.old pool.old }
+    requires quota { heap.old.quota ≡ row.now.quota }
+    ensures kept { OnOk result (IsKept 2097152 (game_after row.now.quota [] commands.now) heap.new pool.new) }
+    ensures tag { OnOk result (heap.new.tag ≡ heap.old.tag) }
+    ensures others { OnOk result (LeavesOthers heap.old.tag pool.old pool.new) }
     ensures text { OnOk result (text.new.items
-        ≡ text.old.items ++ reply_lines_of row.now.game 1 (replies_to row.now.quota game.old commands.now)) }
+        ≡ text.old.items ++ reply_lines_of row.now.game 1 (replies_to row.now.quota [] commands.now)) }
 {
-    for (index, command) in commands.iter().enumerate() {
-        let reply = answer(alloc, row.quota, game, command)?;
+    for index in 0..commands.len() {
+        let reply = carry_out(alloc, row.quota, heap, pool, commands, index)?;
         let line = reply_line(alloc, &row.game, index as u64 + 1, &reply)?;
         text.extend_from_slice(&line)?;
     }
     Ok(())
 }
 
-/// What one game is answered, and how it stands in the end.
-#[tactic(auto, unfolding(crate::specs::Transcript::section_of))]
+/// How the game stands in the end.
+#[tactic(auto, using(crate::proofs::Kept::same_charge))]
+fn push_last(
+    alloc: Global,
+    row: &Row,
+    heap: &TagHeap<BLOCK_BYTES>,
+    text: &mut Vec<u8>,
+) -> Result<(), AllocError>
+    ghost game: { Game }
+    requires { IsRecorded game heap.now.records }
+    ensures { OnOk result (text.new.items ≡ text.old.items ++ last_line_of row.now.game game) }
+{
+    let last = last_board(alloc, heap)?;
+    let line = final_line(alloc, &row.game, last.as_ref(), heap.charge())?;
+    text.extend_from_slice(&line)?;
+    Ok(())
+}
+
+/// What one game is answered, and how it stands in the end. Its blocks then go back to the pool.
+#[tactic(auto, unfolding(crate::specs::Transcript::section_of), using(crate::proofs::Kept::begins_kept))]
 fn push_section(
     alloc: Global,
+    pool: &mut Pool<BLOCK_BYTES>,
+    tag: u32,
     row: &Row,
     commands: &[Command],
     text: &mut Vec<u8>,
 ) -> Result<(), AllocError>
-    ensures { OnOk result (text.new.items ≡ text.old.items ++ section_of row.now commands.now) }
+    ghost game: { Game }
+    // the game that the commands leave
+    requires game { game ≡ game_after row.now.quota [] commands.now }
+    requires idle { AreIdle pool.old }
+    requires blocks { blocks_for 2097152 row.now.quota ≤ reserved tag pool.old }
+    ensures idle { OnOk result (AreIdle pool.new) }
+    ensures reservations { OnOk result (pool.new.reservations ≡ pool.old.reservations) }
+    ensures text { OnOk result (text.new.items ≡ text.old.items ++ section_of row.now commands.now) }
 {
-    let mut game = KeptGame::new(alloc);
-    push_replies(alloc, row, &mut game, commands, text)?;
-    let line = final_line(alloc, &row.game, game.last(), game.charge())?;
-    text.extend_from_slice(&line)?;
+    let mut heap = TagHeap::new(alloc, tag, row.quota)?;
+    push_replies(alloc, row, &mut heap, pool, commands, text)?;
+    push_last(alloc, row, &heap, text)?;
+    heap.free(pool);
     Ok(())
 }
 
 fn push_sections(
     alloc: Global,
+    pool: &mut Pool<BLOCK_BYTES>,
     rows: &[Row],
     inboxes: &[Inbox],
     text: &mut Vec<u8>,
 ) -> Result<(), AllocError>
-    requires { length inboxes.now ≡ length rows.now }
+    requires inboxes { length inboxes.now ≡ length rows.now }
+    requires few { length rows.now ≤ 64 }
+    requires idle { AreIdle pool.old }
+    requires reserved { AreReserved rows.now pool.old.reservations }
     ensures { OnOk result (text.new.items ≡ text.old.items ++ sections_in rows.now inboxes.now) }
 {
     for index in 0..rows.len() {
-        push_section(alloc, &rows[index], inboxes[index].as_slice(), text)?;
+        push_section(
+            alloc,
+            pool,
+            record_tag(index),
+            &rows[index],
+            inboxes[index].as_slice(),
+            text,
+        )?;
     }
     Ok(())
 }
@@ -74,14 +125,18 @@ fn push_strays(alloc: Global, strays: &[(u64, Stray)], text: &mut Vec<u8>) -> Re
 /// The games' sections in the order of the plan, then the lines that belong to no game.
 pub(crate) fn text_of(
     alloc: Global,
+    pool: &mut Pool<BLOCK_BYTES>,
     rows: &[Row],
     requests: &Requests,
 ) -> Result<Vec<u8>, AllocError>
-    requires { length requests.now.inboxes ≡ length rows.now }
+    requires inboxes { length requests.now.inboxes ≡ length rows.now }
+    requires few { length rows.now ≤ 64 }
+    requires idle { AreIdle pool.old }
+    requires reserved { AreReserved rows.now pool.old.reservations }
     ensures { IfOk result (λ text. text.items ≡ requests_text_of rows.now requests.now) }
 {
     let mut text = Vec::new(alloc);
-    push_sections(alloc, rows, requests.inboxes.as_slice(), &mut text)?;
+    push_sections(alloc, pool, rows, requests.inboxes.as_slice(), &mut text)?;
     push_strays(alloc, requests.strays.as_slice(), &mut text)?;
     Ok(text)
 }

@@ -4,13 +4,15 @@ ghost use Rattle.bs_board.specs.Plan.{have_distinct_names};
 ghost use Rattle.bs_json.specs.PlanLine.{plan_line_of};
 ghost use Rattle.bs_host.specs.File.{lines_after};
 ghost use Rattle.bs_host.specs.Requests.{requests_of};
-ghost use Rattle.bs_host.specs.Serve.{blocks_of, reserved, refusal_of, refusal_of_plan, IsRefusal, IsFault, Leaves};
+ghost use Rattle.bs_host.specs.Reserving.{blocks_of_all};
+ghost use Rattle.bs_host.specs.Serve.{refusal_of, refusal_of_plan, IsRefusal, IsFault, Leaves};
 ghost use Rattle.bs_host.specs.Transcript.{transcript_of, requests_text_of};
 
 use crate::fault::{Fault, PlanRefusal};
 use crate::lines::cut_line;
 use crate::reading::MOST_BYTES;
 use crate::requests::sort_lines;
+use crate::reserving::{blocks_of_all, open_pool};
 use crate::sections::text_of;
 use crate::writing::write_all_of;
 use bs_board::{Plan, Row};
@@ -18,50 +20,34 @@ use bs_json::read_plan;
 use std::alloc::{AllocError, Global};
 use std::io::Write;
 
-const BLOCK_BYTES: u32 = 2_097_152;
-
-const MOST_RECORD_BYTES: u32 = 262_144;
-/// A game has as many for its records as its quota can need, and these besides.
-const SPARE_RECORD_BLOCKS: usize = 2;
-
-const FRAME_BLOCKS: usize = 4;
-
-fn blocks_of(row: &Row) -> usize
-    ensures value { result ≡ blocks_of row.now }
-    ensures few { result ≤ 15 }
-{
-    (row.quota / (BLOCK_BYTES - MOST_RECORD_BYTES)) as usize + SPARE_RECORD_BLOCKS + FRAME_BLOCKS
-}
-
-fn reserved(rows: &[Row]) -> usize
-    requires { length rows.now ≤ 64 }
-    ensures { result ≡ reserved rows.now }
-{
-    let mut total = 0;
-    for row in rows {
-        total += blocks_of(row);
-    }
-    total
-}
-
-fn lines_text(alloc: Global, rows: &[Row], rest: Option<&[u8]>) -> Result<Vec<u8>, AllocError>
+/// Plays the games of the plan, over a pool of that many blocks.
+fn lines_text(
+    alloc: Global,
+    rows: &[Row],
+    blocks: usize,
+    rest: Option<&[u8]>,
+) -> Result<Vec<u8>, AllocError>
     requires distinct { have_distinct_names rows.now ≡ true }
+    requires few { length rows.now ≤ 64 }
+    requires room { blocks_of_all rows.now ≤ blocks }
     requires short { IfSome rest (λ text. length text.now ≤ 16777216) }
     ensures { IfOk result (λ text. text.items
         ≡ requests_text_of rows.now (requests_of rows.now 2 (lines_after (option_copied rest.entry)))) }
 {
     let requests = sort_lines(alloc, rows, rest)?;
-    text_of(alloc, rows, &requests)
+    let mut pool = open_pool(alloc, rows, blocks)?;
+    text_of(alloc, &mut pool, rows, &requests)
 }
 
 /// The plan of a file with that first line, where the blocks suffice for it.
 fn open_plan(alloc: Global, first: &[u8], blocks: usize) -> Result<Plan, Fault>
     ensures plan { IfOk result (λ plan. plan_line_of first.now ≡ Ok plan) }
+    ensures room { IfOk result (λ plan. blocks_of_all plan.rows ≤ blocks) }
     ensures served { OnOk result (refusal_of_plan blocks (plan_line_of first.now) ≡ None) }
     ensures fault { IfErr result (IsRefusal (refusal_of_plan blocks (plan_line_of first.now))) }
 {
     let plan = read_plan(alloc, first)?;
-    if reserved(plan.rows.as_slice()) > blocks {
+    if blocks_of_all(plan.rows.as_slice()) > blocks {
         return Err(Fault::Plan(PlanRefusal::Short));
     }
     Ok(plan)
@@ -79,7 +65,7 @@ fn transcript(alloc: Global, input: &[u8], blocks: usize) -> Result<Vec<u8>, Fau
     }
     let (first, rest) = cut_line(input);
     let plan = open_plan(alloc, first, blocks)?;
-    Ok(lines_text(alloc, plan.rows.as_slice(), rest)?)
+    Ok(lines_text(alloc, plan.rows.as_slice(), blocks, rest)?)
 }
 
 /// Serves a command file from that many blocks: carries out each game's commands in the order of their lines, and

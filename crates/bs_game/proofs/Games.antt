@@ -1,0 +1,110 @@
+-- Games that grow, and what they are charged.
+use Rattle.std.proofs.Common.{◌≡◌, suc, ◌+◌, ◌-◌, ◌≤◌, [], ◌∷◌, ◌++◌, Some, length, slice_get, ◌<◌, ◌^◌, lit<, refl, sym, ap, ◌∙◌, arith, true, false}
+use Rattle.std.proofs.lemmas.List.Sums.{sum_by_push, get_or-le-sum_by}
+use Rattle.std.proofs.lemmas.List.Elements.{All-push}
+use Rattle.std.proofs.lemmas.Option.{slice_get_within, get_or_from_slice_get, slice_get-get_or}
+use Rattle.std.specs.Prelude.{is_some}
+use Rattle.bs_block.specs.Rounding.{rounded}
+use Rattle.bs_board.proofs.Sizes.{legal_size}
+use Rattle.bs_board.specs.Orders.{Orders}
+use Rattle.bs_rules.specs.Turn.{turn_of}
+use Rattle.bs_board.specs.declared.board.Board.{Board}
+use Rattle.bs_board.specs.Legal.{IsLegal}
+use Rattle.bs_board.specs.Record.{record_of}
+use Rattle.bs_game.specs.Game.{Game, IsGame, AreConsecutive, last_board, board_charge, game_charge}
+
+pub charge_of_nothing : game_charge [] ≡ 0
+unfolding game_charge
+charge_of_nothing = refl
+
+pub charge_of_one_more : (game : Game) (board : Board) → game_charge (game ++ board ∷ []) ≡ game_charge game + board_charge board
+unfolding game_charge
+charge_of_one_more game board = sum_by_push board_charge game board
+
+pub nothing_is_a_game : IsGame []
+nothing_is_a_game = record { legal = λ k d within. absurd (omega arith); turns = tt }
+
+-- the newest board
+
+pub last_behind : (first second : Board) (rest : Game) → last_board (first ∷ second ∷ rest) ≡ last_board (second ∷ rest)
+last_behind first second rest =
+    let place : length (first ∷ second ∷ rest) - 1 ≡ suc (length (second ∷ rest) - 1) = omega arith in
+    rw place refl
+
+pub last_of_more : (game : Game) (board : Board) → last_board (game ++ board ∷ []) ≡ Some board
+last_of_more [] board = refl
+last_of_more (first ∷ []) board = refl
+last_of_more (first ∷ second ∷ rest) board = last_behind first second (rest ++ board ∷ []) ∙ last_of_more (second ∷ rest) board
+
+pub legal_last : (game : Game) (last : Board) → IsGame game → Some last ≡ last_board game → IsLegal last
+legal_last game last right is =
+    let there : slice_get game (length game - 1) ≡ Some last = sym is in
+    let within = slice_get_within game (length game - 1) last there in
+    let same = get_or_from_slice_get game (length game - 1) last last there in
+    rw same at (right.legal (length game - 1) last within)
+
+-- no game runs where there is no newest board
+pub nothing_runs : (game : Game) → is_some (last_board game) ≡ false → game ≡ []
+nothing_runs [] none = refl
+nothing_runs (first ∷ rest) none =
+    let there = slice_get-get_or (first ∷ rest) (length (first ∷ rest) - 1) first (omega arith) in
+    let some : is_some (last_board (first ∷ rest)) ≡ true = ap is_some there in
+    let wrong : false ≡ true = sym none ∙ some in cc
+
+pub one_board_is_a_game : (board : Board) → IsLegal board → IsGame (board ∷ [])
+one_board_is_a_game board legal = record { legal = All-push IsLegal [] board nothing_is_a_game.legal legal; turns = tt }
+
+pub first_is_a_game : (game : Game) (board : Board) → is_some (last_board game) ≡ false → IsLegal board → IsGame (game ++ board ∷ [])
+first_is_a_game game board none legal = rw (nothing_runs game none) (one_board_is_a_game board legal)
+
+-- a turn is the one after the last
+
+consecutive_and_next : (game : Game) (last board : Board) → AreConsecutive game → Some last ≡ last_board game → board.turn ≡ last.turn + 1
+    → AreConsecutive (game ++ board ∷ [])
+consecutive_and_next [] last board turns is next = tt
+consecutive_and_next (first ∷ []) last board turns is next =
+    let same : last ≡ first = cc in
+    (rw same at next, tt)
+consecutive_and_next (first ∷ second ∷ rest) last board turns is next =
+    (turns.0, consecutive_and_next (second ∷ rest) last board turns.1 (is ∙ last_behind first second rest) next)
+
+turn_after : (b : Board) (orders : Orders) → (turn_of b orders).turn ≡ b.turn + 1
+unfolding turn_of
+turn_after b orders = refl
+
+pub next_is_a_game : (game : Game) (last board : Board) (orders : Orders) → IsGame game → Some last ≡ last_board game
+    → board ≡ turn_of last orders → IsLegal board → IsGame (game ++ board ∷ [])
+next_is_a_game game last board orders right is moved legal =
+    let next : board.turn ≡ last.turn + 1 = rw moved (turn_after last orders) in
+    record {
+      legal = All-push IsLegal game board right.legal legal;
+      turns = consecutive_and_next game last board right.turns is next;
+    }
+
+-- what records are charged
+
+pub board_charge_small : (b : Board) → IsLegal b → board_charge b ≤ 161888
+unfolding rounded
+board_charge_small b legal =
+    let size = legal_size b legal in
+    omega arith
+
+-- so its size can be rounded up
+pub legal_size_rounds : (b : Board) → IsLegal b → length (record_of b) + 15 < 2 ^ 64
+legal_size_rounds b legal =
+    let size = legal_size b legal in
+    let small : 161900 < 2 ^ 64 = lit< tt in
+    omega arith
+
+pub charge_of_one : (board : Board) → game_charge (board ∷ []) ≡ board_charge board
+charge_of_one board =
+    let sum = charge_of_one_more [] board in
+    let none = charge_of_nothing in
+    omega arith
+
+pub charge_of_last : (game : Game) (last : Board) → last_board game ≡ Some last → board_charge last ≤ game_charge game
+unfolding game_charge
+charge_of_last game last is =
+    let within = slice_get_within game (length game - 1) last is in
+    let same = get_or_from_slice_get game (length game - 1) last last is in
+    rw same at (get_or-le-sum_by board_charge game (length game - 1) last within)

@@ -1,0 +1,4 @@
+pub mod Accepting
+pub mod Games
+pub mod Placing
+pub mod Viewed

@@ -1,0 +1,35 @@
+-- A game: nothing, or the boards of its turns.
+use Rattle.std.specs.Prelude.{◌≡◌, ℕ, ◌+◌, ◌-◌, List, [], ◌∷◌, length, Option, slice_get, sum_by, nat_eq, All}
+use Rattle.std.specs.List.{find}
+use Rattle.bs_block.specs.Rounding.{rounded}
+use Rattle.bs_board.specs.declared.board.Board.{Board}
+use Rattle.bs_board.specs.Legal.{IsLegal}
+use Rattle.bs_board.specs.Record.{record_of}
+
+-- the empty list where no game runs; the newest board comes last
+abbrev pub Game : Type 0
+Game = List Board
+
+abbrev pub last_board : Game → Option Board
+last_board game = slice_get game (length game - 1)
+
+-- the kept board of that turn
+unfoldable pub board_of_turn : ℕ → Game → Option Board
+board_of_turn turn game = find (λ board. nat_eq board.turn turn) game
+
+-- what a kept board is charged, in bytes
+abbrev pub board_charge : Board → ℕ
+board_charge board = rounded (length (record_of board))
+
+unfoldable pub game_charge : Game → ℕ
+game_charge game = sum_by board_charge game
+
+-- each board is of the turn after the one before it
+abbrev pub AreConsecutive : List Board → Type 0
+AreConsecutive [] = Unit {0}
+AreConsecutive (_ ∷ []) = Unit {0}
+AreConsecutive (first ∷ second ∷ rest) = (second.turn ≡ first.turn + 1) × AreConsecutive (second ∷ rest)
+
+pub record IsGame (game : Game) : Type 0 where
+  pub legal : All IsLegal game
+  pub turns : AreConsecutive game

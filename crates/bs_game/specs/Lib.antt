@@ -1,0 +1,7 @@
+pub mod Alone
+pub mod Answer
+pub mod Game
+pub mod Law
+pub mod Reasons
+pub mod Turns
+pub mod View

@@ -1,0 +1,181 @@
+ghost use Rattle.std.specs.Prelude.{◌≡◌, ◌+◌, ◌≤◌, ◌<◌, Some, None, IfOk, IfSome, option_map};
+ghost use Rattle.bs_board.specs.declared.command.Command.TheVariants as command;
+ghost use Rattle.bs_board.specs.declared.command.Word.TheVariants as Word;
+ghost use Rattle.bs_board.specs.declared.reply.Refusal.TheVariants as Refusal;
+ghost use Rattle.bs_game.specs.declared.reply.Effect.TheVariants as Effect;
+ghost use Rattle.bs_board.specs.Legal.{IsLegal};
+ghost use Rattle.bs_rules.specs.Motion.{moved_board};
+ghost use Rattle.bs_game.specs.Game.{board_charge};
+ghost use Rattle.bs_game.specs.Law.{IsFitEffect};
+ghost use Rattle.bs_game.specs.Reasons.{first_reason};
+ghost use Rattle.bs_game.specs.View.{IsFitView, refused_for, recorded, showing_kept, told, with_board, accepted, answer_of};
+
+use crate::checking::check;
+use crate::reply::{Answer, Effect, Record};
+use crate::view::View;
+use bs_block::round_up;
+use bs_board::{Board, Command, Move, New, Refusal, Reply, Word, encode, size};
+use bs_modes::start;
+use bs_rules::{finish_turn, turn};
+use std::alloc::{AllocError, Global};
+
+/// What the board's record is charged, in bytes.
+#[tactic(auto, using(bs_board::proofs::Sizes::legal_size_fits, crate::proofs::Games::legal_size_rounds, crate::proofs::Games::board_charge_small))]
+fn board_charge(board: &Board) -> u32
+    requires { IsLegal board.now }
+    ensures value { result ≡ board_charge board.now }
+    ensures small { result ≤ 161888 }
+{
+    round_up(size(board)) as u32
+}
+
+fn refuse(reason: Refusal) -> Answer
+    ensures { result ≡ refused_for reason }
+{
+    Answer {
+        reply: Reply::Refused(reason),
+        effect: Effect::Keep,
+    }
+}
+
+fn show(alloc: Global, word: Word, charge: u32, board: &Board) -> Result<Answer, AllocError>
+    ensures { IfOk result (λ answer. answer ≡ showing_kept word charge board.now) }
+{
+    Ok(Answer {
+        reply: Reply::Shown(word, board.copy(alloc)?, charge),
+        effect: Effect::Keep,
+    })
+}
+
+/// A new board is kept where the quota has room for its record.
+fn record_board(alloc: Global, view: &View, word: Word, board: Board) -> Result<Answer, AllocError>
+    requires view { IsFitView view.now }
+    requires legal { IsLegal board }
+    ensures value { IfOk result (λ answer. answer ≡ recorded view.now word board) }
+    ensures fits { IfOk result (λ answer. IsFitEffect view.now.quota view.now.charge answer.effect) }
+{
+    let charge = view.charge + board_charge(&board);
+    if charge > view.quota {
+        return Ok(refuse(Refusal::Quota));
+    }
+    let record = Record::from_vec(encode(alloc, &board)?);
+    Ok(Answer {
+        reply: Reply::Shown(word, board, charge),
+        effect: Effect::Add(record),
+    })
+}
+
+/// The board of a game that begins.
+fn begin(alloc: Global, view: &View, new: &New) -> Result<Answer, AllocError>
+    requires { IsFitView view.now }
+    ensures value { IfOk result (λ answer. answer ≡ accepted view.now (command.New new.now)) }
+    ensures fits { IfOk result (λ answer. IsFitEffect view.now.quota view.now.charge answer.effect) }
+{
+    let board = start(alloc, new)?;
+    record_board(alloc, view, Word::New, board)
+}
+
+/// One turn of the last board.
+fn advance(alloc: Global, view: &View, orders: &Move) -> Result<Answer, AllocError>
+    requires view { IsFitView view.now }
+    requires early { IfSome view.now.last (λ last. last.turn < 10000) }
+    ensures value { IfOk result (λ answer. answer ≡ accepted view.now (command.Move orders.now)) }
+    ensures fits { IfOk result (λ answer. IsFitEffect view.now.quota view.now.charge answer.effect) }
+{
+    match &view.last {
+        None => Ok(refuse(Refusal::NoGame)),
+        Some(last) => {
+            let board = turn(alloc, last, orders)?;
+            record_board(alloc, view, Word::Move, board)
+        }
+    }
+}
+
+fn show_last(alloc: Global, view: &View) -> Result<Answer, AllocError>
+    ensures value { IfOk result (λ answer. answer ≡ accepted view.now command.Show) }
+    ensures fits { IfOk result (λ answer. IsFitEffect view.now.quota view.now.charge answer.effect) }
+{
+    match &view.last {
+        None => Ok(refuse(Refusal::NoGame)),
+        Some(last) => show(alloc, Word::Show, view.charge, last),
+    }
+}
+
+fn show_asked(alloc: Global, view: &View) -> Result<Answer, AllocError>
+    ensures value { IfOk result
+        (λ answer. answer ≡ with_board Refusal.NoRecord view.now.asked (showing_kept Word.Turn view.now.charge)) }
+    ensures fits { IfOk result (λ answer. IsFitEffect view.now.quota view.now.charge answer.effect) }
+{
+    match &view.asked {
+        None => Ok(refuse(Refusal::NoRecord)),
+        Some(board) => show(alloc, Word::Turn, view.charge, board),
+    }
+}
+
+fn free(view: &View) -> Answer
+    requires { IsFitView view.now }
+    ensures value { result ≡ accepted view.now command.Free }
+    ensures fits { IsFitEffect view.now.quota view.now.charge result.effect }
+{
+    match &view.last {
+        None => refuse(Refusal::NoGame),
+        Some(last) => Answer {
+            reply: Reply::Plain(Word::Free, board_charge(last)),
+            effect: Effect::Trim,
+        },
+    }
+}
+
+fn end() -> Answer
+    ensures { result ≡ told Word.End 0 Effect.Drop }
+{
+    Answer {
+        reply: Reply::Plain(Word::End, 0),
+        effect: Effect::Drop,
+    }
+}
+
+/// A command that `check` lets pass, which so finds each board that it needs.
+#[tactic(auto, using(crate::proofs::Accepting::move_is_early))]
+fn carry_out(alloc: Global, view: &View, command: &Command) -> Result<Answer, AllocError>
+    requires view { IsFitView view.now }
+    requires passes { first_reason view.now command.now ≡ None }
+    ensures value { IfOk result (λ answer. answer ≡ accepted view.now command.now) }
+    ensures fits { IfOk result (λ answer. IsFitEffect view.now.quota view.now.charge answer.effect) }
+{
+    match command {
+        Command::New(new) => begin(alloc, view, new),
+        Command::Move(orders) => advance(alloc, view, orders),
+        Command::Show => show_last(alloc, view),
+        Command::Turn(_) => show_asked(alloc, view),
+        Command::Free => Ok(free(view)),
+        Command::End => Ok(end()),
+        Command::Bad => Ok(refuse(Refusal::Unknown)),
+    }
+}
+
+/// The reply to the command, with the charge after it, and what becomes of the records. It is refused for the first
+/// reason that `check` finds, and then where the quota has no room for the record of its new board.
+#[tactic(auto, unfolding(crate::specs::View::answer_of))]
+pub fn answer(alloc: Global, view: &View, command: &Command) -> Result<Answer, AllocError>
+    requires { IsFitView view.now }
+    ensures value { IfOk result (λ answer. answer ≡ answer_of view.now command.now) }
+    ensures fits { IfOk result (λ answer. IsFitEffect view.now.quota view.now.charge answer.effect) }
+{
+    match check(view, command) {
+        Some(reason) => Ok(refuse(reason)),
+        None => carry_out(alloc, view, command),
+    }
+}
+
+/// The same answer to a move that `check` lets pass, of the last board with all its seats moved already.
+pub fn joined(alloc: Global, view: &View, orders: &Move, moved: Board) -> Result<Answer, AllocError>
+    requires view { IsFitView view.now }
+    requires passes { first_reason view.now (command.Move orders.now) ≡ None }
+    requires moved { option_map (moved_board orders.now.moves) view.now.last ≡ Some moved }
+    ensures value { IfOk result (λ answer. answer ≡ answer_of view.now (command.Move orders.now)) }
+    ensures fits { IfOk result (λ answer. IsFitEffect view.now.quota view.now.charge answer.effect) }
+{
+    let board = finish_turn(alloc, moved, orders.words.as_slice())?;
+    record_board(alloc, view, Word::Move, board)
+}

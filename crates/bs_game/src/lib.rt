@@ -1,0 +1,18 @@
+//! One command of a game: whether it is accepted, what it is answered, and what becomes of the records that are kept.
+#![tactic(auto)]
+
+mod answering;
+mod checking;
+mod law;
+mod reply;
+#[cfg(test)]
+mod tests;
+mod turns;
+mod view;
+
+pub use answering::{answer, joined};
+pub use checking::check;
+pub use law::answer_law;
+pub use reply::{Answer, Effect, Record};
+pub use turns::{place_law, place_of_turn};
+pub use view::View;

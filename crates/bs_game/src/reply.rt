@@ -1,0 +1,58 @@
+use bs_board::Reply;
+use std::marker::Model;
+
+/// The bytes that a board is kept as.
+#[derive(Debug, Drop)]
+pub struct Record {
+    bytes: Vec<u8>,
+}
+
+impl Model for Record {
+    ghost use Rattle.std.specs.Prelude.{ℕ, List};
+
+    ghost Value = { List ℕ };
+
+    ghost view = { λ r. r.bytes.items };
+}
+
+impl Record {
+    ghost use Rattle.std.specs.Prelude.{◌≡◌};
+
+    pub fn from_vec(bytes: Vec<u8>) -> Record
+        ensures { result ≡ bytes.items }
+    {
+        Record { bytes }
+    }
+
+    pub fn into_vec(self) -> Vec<u8>
+        ensures { result.items ≡ self }
+    {
+        self.bytes
+    }
+
+    pub fn as_slice(&self) -> &[u8]
+        ensures { result.now ≡ self.now }
+    {
+        self.bytes.as_slice()
+    }
+}
+
+/// What becomes of a game's records.
+#[derive(Debug, Drop)]
+pub enum Effect {
+    /// They stay as they are.
+    Keep,
+    /// One more, the newest.
+    Add(Record),
+    /// All but the newest are given up.
+    Trim,
+    /// The game is gone with all of them.
+    Drop,
+}
+
+/// What a command is answered, and what it does.
+#[derive(Debug, Drop)]
+pub struct Answer {
+    pub reply: Reply,
+    pub effect: Effect,
+}

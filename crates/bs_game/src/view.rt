@@ -1,0 +1,41 @@
+ghost use Rattle.std.specs.Prelude.{◌↔◌, IsTrue, IfSome};
+ghost use Rattle.bs_board.specs.Legal.{IsLegal};
+
+use bs_board::{Board, is_legal};
+
+const MOST_QUOTA: u32 = 16_777_216;
+
+/// What an answer needs to see of a game. No game runs where there is no last board.
+#[derive(Debug, Drop)]
+pub struct View {
+    /// What the game's records may be charged at most, in bytes.
+    pub quota: u32,
+    /// What the kept records are charged, in bytes.
+    pub charge: u32,
+    /// How many turns are kept. They end with the last board's.
+    pub kept: usize,
+    /// The newest board.
+    pub last: Option<Board>,
+    /// The board of the turn that the command asks for: there exactly where the command is `Turn` and that turn is kept.
+    pub asked: Option<Board>,
+}
+
+fn is_legal_last(last: &Option<Board>) -> bool
+    ensures { IsTrue result ↔ IfSome last.now IsLegal }
+{
+    match last {
+        None => true,
+        Some(board) => is_legal(board),
+    }
+}
+
+impl View {
+    ghost use Rattle.bs_game.specs.View.{IsFitView};
+
+    /// Whether the last board is legal, and the charge within a quota of at most 16,777,216 bytes.
+    pub fn is_fit(&self) -> bool
+        ensures { IsTrue result ↔ IsFitView self.now }
+    {
+        is_legal_last(&self.last) && self.charge <= self.quota && self.quota <= MOST_QUOTA
+    }
+}

@@ -1,0 +1,9 @@
+pub mod Adding
+pub mod Charging
+pub mod Filling
+pub mod Freeing
+pub mod Giving
+pub mod Holding
+pub mod Keeping
+pub mod Placing
+pub mod Storing

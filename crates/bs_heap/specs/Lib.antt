@@ -1,0 +1,9 @@
+pub mod Adding
+pub mod Blocks
+pub mod Charge
+pub mod Heap
+pub mod Holding
+pub mod Layout
+pub mod Lent
+pub mod OwnedBlocks
+pub mod Packing

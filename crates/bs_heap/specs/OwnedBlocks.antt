@@ -1,0 +1,17 @@
+-- How the blocks of a tag lie in their fields.
+use Rattle.std.specs.Prelude.{◌≡◌, ◌≢◌, ℕ, List, map, All, AllPairs, IfSome, option_map, vec_capacity}
+use Rattle.bs_pool.specs.Ledger.{Ledger, Owns}
+use Rattle.bs_pool.specs.declared.owned.Owned.{Owned}
+use Rattle.bs_heap.specs.declared.blocks.TagBlocks.TheInside.{Inside}
+use Rattle.bs_heap.specs.Blocks.{Filled, Blocks}
+
+abbrev pub filled : {most : ℕ} → Owned most → Filled
+filled owned = record { number = owned.number; bytes = owned.block }
+
+abbrev pub blocks_in : {most : ℕ} → Inside most → Blocks
+blocks_in b = record { tag = b.tag; room = vec_capacity b.closed; closed = map filled b.closed.items; current = option_map filled b.current }
+
+-- each block is the tag's
+pub record AreTagged {most : ℕ} (b : Inside most) : Type 0 where
+  pub closed : All (λ owned. owned.tag ≡ b.tag) b.closed.items
+  pub current : IfSome b.current (λ owned. owned.tag ≡ b.tag)

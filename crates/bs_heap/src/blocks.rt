@@ -1,0 +1,181 @@
+//! The blocks of one tag: those that are closed, and the current one, into which bytes go.
+ghost use Rattle.std.specs.Prelude.{◌≡◌, ◌+◌, ◌^◌, ◌<◌, ◌≤◌, ◌++◌, true, false, Some, [], length, IfOk, vec_capacity};
+ghost use Rattle.bs_block.specs.Bytes.{Fits, padded, range};
+ghost use Rattle.bs_block.specs.Rounding.{rounded};
+ghost use Rattle.bs_pool.specs.Ledger.{held, reserved, least_free, drawn};
+ghost use Rattle.bs_heap.specs.Holding.{AreOwned, all_given, next_number};
+ghost use Rattle.bs_heap.specs.Lent.{AreLent, owned_numbers};
+
+use bs_block::{Block, round_up};
+use bs_pool::{Owned, Pool};
+use std::alloc::{AllocError, Global};
+use std::marker::Model;
+
+/// Where a record lies: the position of its block among its tag's, its first byte in it, and its length.
+#[derive(Clone, Copy, Debug, PartialEq, Eq)]
+pub struct Entry {
+    pub(crate) position: usize,
+    pub(crate) at: usize,
+    pub(crate) len: usize,
+}
+
+/// The blocks of a tag in the order in which they were drawn.
+#[derive(Drop)]
+pub struct TagBlocks<const CAP: usize> {
+    tag: u32,
+    closed: Vec<Owned<CAP>>,
+    current: Option<Owned<CAP>>,
+}
+
+impl<const CAP: usize> Model for TagBlocks<CAP> {
+    ghost use Rattle.bs_heap.specs.Blocks.{Blocks};
+
+    ghost Value = { Blocks };
+
+    ghost use Rattle.bs_heap.specs.OwnedBlocks.{blocks_in, AreTagged};
+
+    ghost view = { λ b. blocks_in b };
+
+    ghost invariant = { λ b. AreTagged b };
+}
+
+/// Appends the bytes, and zeros up to a multiple of 16, and answers where they now lie.
+fn append<const CAP: usize>(owned: &mut Owned<CAP>, bytes: &[u8]) -> usize
+    requires { Fits CAP owned.old.block (length bytes.now) }
+    ensures at { result ≡ length owned.old.block }
+    ensures owned { owned.new ≡ record owned.old { block = owned.old.block ++ padded bytes.now } }
+{
+    owned.block_mut().push(bytes).unwrap()
+}
+
+/// Gives all the blocks back to the pool, the last one first.
+fn give_back<const CAP: usize>(blocks: &mut Vec<Owned<CAP>>, pool: &mut Pool<CAP>)
+    requires { AreLent blocks.old.items pool.old }
+    ensures none { blocks.new.items ≡ [] }
+    ensures room { vec_capacity blocks.new ≡ vec_capacity blocks.old }
+    ensures given { pool.new ≡ all_given (owned_numbers blocks.old.items) pool.old }
+{
+    while let Some(owned) = blocks.pop() {
+        pool.give(owned);
+    }
+}
+
+impl<const CAP: usize> TagBlocks<CAP> {
+    ghost use Rattle.bs_heap.specs.Blocks.{no_blocks, all_blocks, block_at, filled_numbers, fits_current, with_empty, written, opened_for, stored, entry_of, pool_for};
+
+    /// No blocks, with memory for that many.
+    pub(crate) fn new(alloc: Global, tag: u32, room: usize) -> Result<Self, AllocError>
+        ensures { IfOk result (λ blocks. blocks ≡ no_blocks tag room) }
+    {
+        Ok(TagBlocks {
+            tag,
+            closed: Vec::with_capacity(alloc, room)?,
+            current: None,
+        })
+    }
+
+    /// The bytes from `at` on of the block at that position.
+    pub(crate) fn get(&self, position: usize, at: usize, n: usize) -> &[u8]
+        requires position { position < length (all_blocks self.now) }
+        requires range { at + n ≤ length (block_at self.now position).bytes }
+        ensures { result.now ≡ range at n (block_at self.now position).bytes }
+    {
+        self.block(position).get(at, n)
+    }
+
+    fn block(&self, position: usize) -> &Block<CAP>
+        requires { position < length (all_blocks self.now) }
+        ensures { result.now ≡ (block_at self.now position).bytes }
+    {
+        match self.closed.get(position) {
+            Some(owned) => owned.block(),
+            None => match &self.current {
+                Some(owned) => owned.block(),
+                None => unreachable!(),
+            },
+        }
+    }
+
+    /// Whether a record of that many bytes fits into the current block.
+    fn fits(&self, len: usize) -> bool
+        requires { len + 15 < 2 ^ 64 }
+        ensures { result ≡ fits_current CAP len self.now }
+    {
+        match &self.current {
+            Some(owned) => round_up(len) <= owned.block().room(),
+            None => false,
+        }
+    }
+
+    /// Closes the current block, and draws another.
+    fn draw(&mut self, pool: &mut Pool<CAP>)
+        requires reserved { held self.old.tag pool.old < reserved self.old.tag pool.old }
+        requires room { length self.old.closed < self.old.room }
+        ensures blocks { self.new ≡ with_empty (next_number pool.old) self.old }
+        ensures pool { pool.new ≡ drawn self.old.tag (next_number pool.old) pool.old }
+        ensures number { least_free pool.old ≡ Some (next_number pool.old) }
+    {
+        let Some(owned) = pool.draw(self.tag) else {
+            unreachable!()
+        };
+        if let Some(full) = self.current.replace(owned) {
+            self.closed.push_reserved(full);
+        }
+    }
+
+    /// Writes the bytes behind those of the current block.
+    fn write(&mut self, bytes: &[u8]) -> Entry
+        requires { fits_current CAP (length bytes.now) self.old ≡ true }
+        ensures blocks { self.new ≡ written bytes.now self.old }
+        ensures entry { result ≡ entry_of (length bytes.now) self.old }
+    {
+        match &mut self.current {
+            Some(owned) => {
+                let at = append(owned, bytes);
+                Entry {
+                    position: self.closed.len(),
+                    at,
+                    len: bytes.len(),
+                }
+            }
+            None => unreachable!(),
+        }
+    }
+
+    /// Writes the bytes behind those of the current block where they fit there, else into a block that it draws.
+    pub(crate) fn put(&mut self, pool: &mut Pool<CAP>, bytes: &[u8]) -> Entry
+        requires size { rounded (length bytes.now) ≤ CAP }
+        requires reserved { fits_current CAP (length bytes.now) self.old ≡ false → held self.old.tag pool.old < reserved self.old.tag pool.old }
+        requires room { length self.old.closed < self.old.room }
+        ensures blocks { self.new ≡ stored CAP (next_number pool.old) bytes.now self.old }
+        ensures pool { pool.new ≡ pool_for CAP bytes.now self.old pool.old }
+        ensures number { fits_current CAP (length bytes.now) self.old ≡ false → least_free pool.old ≡ Some (next_number pool.old) }
+        ensures entry { result ≡ entry_of (length bytes.now) (opened_for CAP (next_number pool.old) bytes.now self.old) }
+    {
+        if !self.fits(bytes.len()) {
+            self.draw(pool);
+        }
+        self.write(bytes)
+    }
+
+    /// Gives the closed blocks back.
+    pub(crate) fn give_closed(&mut self, pool: &mut Pool<CAP>)
+        requires { AreOwned self.old.tag (filled_numbers self.old.closed) pool.old }
+        ensures blocks { self.new ≡ record self.old { closed = [] } }
+        ensures pool { pool.new ≡ all_given (filled_numbers self.old.closed) pool.old }
+    {
+        give_back(&mut self.closed, pool);
+    }
+
+    /// Gives all the blocks back.
+    pub(crate) fn give_all(&mut self, pool: &mut Pool<CAP>)
+        requires { AreOwned self.old.tag (filled_numbers (all_blocks self.old)) pool.old }
+        ensures blocks { self.new ≡ no_blocks self.old.tag self.old.room }
+        ensures pool { pool.new ≡ all_given (filled_numbers (all_blocks self.old)) pool.old }
+    {
+        self.give_closed(pool);
+        if let Some(owned) = self.current.take() {
+            pool.give(owned);
+        }
+    }
+}

@@ -1,0 +1,158 @@
+//! A heap: the records of one tag, within a quota.
+ghost use Rattle.std.specs.Prelude.{◌≡◌, ◌<◌, ◌≤◌, false, Some, length, slice_index_or, [], IfOk, OnOk, OnErr};
+ghost use Rattle.bs_block.specs.Rounding.{rounded};
+ghost use Rattle.bs_pool.specs.Ledger.{held, reserved, least_free};
+ghost use Rattle.bs_heap.specs.Adding.{Adds};
+ghost use Rattle.bs_heap.specs.Charge.{charge_of, most_record_bytes, blocks_for};
+ghost use Rattle.bs_heap.specs.Heap.{empty_heap, with_index_room, with_last, without_records};
+ghost use Rattle.bs_heap.specs.Holding.{IsKeptIn, LeavesOthers, all_given, next_number};
+ghost use Rattle.bs_heap.specs.Packing.{numbers_of, closed_numbers, fits};
+
+use crate::blocks::{Entry, TagBlocks};
+use bs_block::round_up;
+use bs_pool::Pool;
+use std::alloc::{AllocError, Global};
+use std::marker::Model;
+use thiserror::Error;
+
+/// The largest rounded size of a record.
+pub const MOST_RECORD_BYTES: usize = 262_144;
+
+/// The charge with the record would exceed the quota.
+#[derive(Clone, Copy, Debug, PartialEq, Eq, Error)]
+#[error("quota exceeded")]
+pub struct Quota;
+
+/// The records of one tag. Each is charged its size rounded up to a multiple of 16, and all together no more than the quota.
+#[derive(Drop)]
+pub struct TagHeap<const CAP: usize> {
+    blocks: TagBlocks<CAP>,
+    index: Vec<Entry>,
+    charge: u32,
+    quota: u32,
+}
+
+impl<const CAP: usize> Model for TagHeap<CAP> {
+    ghost use Rattle.bs_heap.specs.Heap.{Heap};
+
+    ghost Value = { Heap };
+
+    ghost use Rattle.bs_heap.specs.Layout.{heap_in, IsHeap};
+
+    ghost view = { λ h. heap_in h };
+
+    ghost invariant = { λ h. IsHeap CAP h };
+}
+
+impl<const CAP: usize> TagHeap<CAP> {
+    /// A heap without records, with memory for the list of all blocks that it can come to own.
+    pub fn new(alloc: Global, tag: u32, quota: u32) -> Result<Self, AllocError>
+        requires { most_record_bytes < CAP }
+        ensures { IfOk result (λ heap. heap ≡ empty_heap tag quota) }
+    {
+        let room = quota as usize / (CAP - MOST_RECORD_BYTES) + 2;
+        Ok(TagHeap {
+            blocks: TagBlocks::new(alloc, tag, room)?,
+            index: Vec::new(alloc),
+            charge: 0,
+            quota,
+        })
+    }
+
+    /// The number of records.
+    pub fn count(&self) -> usize
+        ensures { result ≡ length self.now.records }
+    {
+        self.index.len()
+    }
+
+    /// The sum of the rounded sizes of the records.
+    pub fn charge(&self) -> u32
+        ensures value { result ≡ charge_of self.now.records }
+        ensures within { result ≤ self.now.quota }
+    {
+        self.charge
+    }
+
+    /// The bytes of record `i`, from 0 for the oldest.
+    pub fn record(&self, i: usize) -> &[u8]
+        requires { i < length self.now.records }
+        ensures { result.now ≡ slice_index_or self.now.records i [] }
+    {
+        let entry = self.index[i];
+        self.blocks.get(entry.position, entry.at, entry.len)
+    }
+
+    /// How many records can be added before the index has to grow.
+    pub fn index_room(&self) -> usize
+        ensures { result ≡ self.now.index_room }
+    {
+        self.index.capacity() - self.index.len()
+    }
+
+    /// Makes room in the index for a record. An error is the allocator's, and leaves all as it was.
+    pub fn grow_index(&mut self) -> Result<(), AllocError>
+        ensures heap { self.new ≡ with_index_room self.new.index_room self.old }
+        ensures more { self.old.index_room ≤ self.new.index_room }
+        ensures ok { OnOk result (1 ≤ self.new.index_room) }
+        ensures err { OnErr result (self.new ≡ self.old) }
+    {
+        self.index.reserve(1)
+    }
+
+    /// Appends a record. `Quota` where its rounded size and the charge together exceed the quota.
+    pub fn add(&mut self, pool: &mut Pool<CAP>, bytes: &[u8]) -> Result<(), Quota>
+        requires index { 0 < self.old.index_room }
+        requires size { rounded (length bytes.now) ≤ most_record_bytes }
+        requires reserved { blocks_for CAP self.old.quota ≤ reserved self.old.tag pool.old }
+        requires kept { IsKeptIn self.old pool.old }
+        ensures added { Adds CAP bytes.now self.old pool.old result self.new pool.new }
+        ensures free { OnOk result (fits CAP (rounded (length bytes.now)) self.old.packing.current ≡ false → least_free pool.old ≡ Some (next_number pool.old)) }
+        ensures kept { IsKeptIn self.new pool.new }
+        ensures held { held self.new.tag pool.new ≤ blocks_for CAP self.new.quota }
+        ensures others { LeavesOthers self.old.tag pool.old pool.new }
+    {
+        let size = round_up(bytes.len());
+        let left = (self.quota - self.charge) as usize;
+        if size > left {
+            return Err(Quota);
+        }
+        let entry = self.blocks.put(pool, bytes);
+        self.index.push_reserved(entry);
+        self.charge += size as u32;
+        Ok(())
+    }
+
+    /// Gives up all records but the last, and gives their blocks back. The last record stays where it is.
+    pub fn keep_last(&mut self, pool: &mut Pool<CAP>)
+        requires { IsKeptIn self.old pool.old }
+        ensures heap { self.new ≡ with_last self.old }
+        ensures pool { pool.new ≡ all_given (closed_numbers self.old.packing) pool.old }
+        ensures none { self.old.records ≡ [] → (self.new ≡ self.old) × (pool.new ≡ pool.old) }
+        ensures kept { IsKeptIn self.new pool.new }
+        ensures others { LeavesOthers self.old.tag pool.old pool.new }
+    {
+        self.blocks.give_closed(pool);
+        if let Some(last) = self.index.pop() {
+            self.index.clear();
+            self.index.push_reserved(Entry {
+                position: 0,
+                ..last
+            });
+            self.charge = round_up(last.len) as u32;
+        }
+    }
+
+    /// Gives up all records and gives all blocks back.
+    pub fn free(&mut self, pool: &mut Pool<CAP>)
+        requires { IsKeptIn self.old pool.old }
+        ensures heap { self.new ≡ without_records self.old }
+        ensures pool { pool.new ≡ all_given (numbers_of self.old.packing) pool.old }
+        ensures kept { IsKeptIn self.new pool.new }
+        ensures others { LeavesOthers self.old.tag pool.old pool.new }
+    {
+        self.blocks.give_all(pool);
+        self.index.clear();
+        self.charge = 0;
+    }
+}

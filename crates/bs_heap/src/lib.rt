@@ -1,0 +1,12 @@
+//! The records of one tag within a quota, kept in blocks that the heap draws from a pool by itself.
+#![tactic(auto)]
+
+mod blocks;
+mod heap;
+#[cfg(test)]
+mod tests;
+
+// A crate can name a heap in a contract only if the types of its fields are exported.
+#[doc(hidden)]
+pub use blocks::{Entry, TagBlocks};
+pub use heap::{MOST_RECORD_BYTES, Quota, TagHeap};
