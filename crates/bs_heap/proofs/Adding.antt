@@ -1,18 +1,17 @@
 -- A record comes to a heap.
-use Rattle.std.proofs.Common.{◌≡◌, ℕ, ◌+◌, ◌-◌, ◌<◌, ◌≤◌, Bool, true, false, List, [], ◌∷◌, ◌++◌, length, Some, refl, sym, ap, subst, subst₂, ◌∙◌, arith, vec_len, vec_capacity}
+use Rattle.std.proofs.Common.{◌≡◌, ℕ, ◌+◌, ◌-◌, ◌<◌, ◌≤◌, Bool, false, List, [], ◌∷◌, ◌++◌, length, Some, refl, sym, ap, subst, subst₂, ◌∙◌, arith, vec_len, vec_capacity}
 use Rattle.std.proofs.lemmas.List.{length-map}
 use Rattle.std.proofs.lemmas.List.Sums.{sum_by_push}
 use Rattle.bs_block.specs.Rounding.{rounded}
 use Rattle.bs_pool.specs.Ledger.{Ledger, least_free, held, reserved}
 use Rattle.bs_heap.specs.declared.blocks.Entry.{Entry}
 use Rattle.bs_heap.specs.declared.heap.TagHeap.TheInside.{Inside}
-use Rattle.bs_heap.specs.Adding.{heap_with, pool_with}
+use Rattle.bs_heap.specs.Adding.{heap_with}
 use Rattle.bs_heap.specs.Blocks.{Filled, Blocks, all_blocks, filled_numbers, fits_current, opened_for, stored, entry_of, pool_for}
 use Rattle.bs_heap.specs.Charge.{charge_of, most_record_bytes, blocks_for}
-use Rattle.bs_heap.specs.Heap.{Heap}
 use Rattle.bs_heap.specs.Holding.{Holds, IsKeptIn, LeavesOthers, next_number}
 use Rattle.bs_heap.specs.Layout.{heap_in, records_in, packing_in, IsHeap, IsIndexed, AreFull}
-use Rattle.bs_heap.specs.Packing.{Packing, numbers_of}
+use Rattle.bs_heap.specs.Packing.{numbers_of}
 use Rattle.bs_heap.proofs.Filling.{few, few_closed, may_draw, full_by}
 use Rattle.bs_heap.proofs.Storing.{some_fits, Stores, stores_by, numbers_are, kept_by, leaves_by}
 

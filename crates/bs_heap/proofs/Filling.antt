@@ -1,7 +1,6 @@
 -- How many blocks a charge can need.
-use Rattle.std.proofs.Common.{◌≡◌, ℕ, ◌+◌, ◌-◌, ◌*◌, ◌/◌, ◌<◌, ◌≤◌, Bool, true, false, if◌then◌else◌, List, [], ◌∷◌, ◌++◌, length, drop, Option, Some, None, refl, sym, ap, ◌∙◌, arith, length-append, suc-mul, zero-mul, leb-false}
-use Rattle.std.specs.Prelude.{All, sum_by, nat_le, option_map, option_to_list}
-use Rattle.std.proofs.lemmas.List.{length_push}
+use Rattle.std.proofs.Common.{◌≡◌, ℕ, ◌+◌, ◌-◌, ◌*◌, ◌<◌, ◌≤◌, Bool, true, false, if◌then◌else◌, List, [], ◌∷◌, ◌++◌, length, drop, Option, Some, None, ap, ◌∙◌, arith, length-append, suc-mul, zero-mul, leb-false}
+use Rattle.std.specs.Prelude.{All, sum_by, option_map, option_to_list}
 use Rattle.std.proofs.lemmas.List.Elements.{All-head, All-tail, All-append, All-push}
 use Rattle.std.proofs.lemmas.List.Sums.{sum_by-cons, sum_by-append, sum_by_push}
 use Rattle.std.proofs.lemmas.Nat.{le-div}

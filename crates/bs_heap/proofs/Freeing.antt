@@ -1,5 +1,5 @@
 -- The blocks of a heap go back to its pool.
-use Rattle.std.proofs.Common.{◌≡◌, ℕ, List, [], ◌++◌, sym, subst, append-nil}
+use Rattle.std.proofs.Common.{ℕ, List, [], ◌++◌, sym, subst, append-nil}
 use Rattle.std.specs.Prelude.{option_to_list}
 use Rattle.bs_pool.specs.Ledger.{Ledger}
 use Rattle.bs_heap.specs.declared.heap.TagHeap.TheInside.{Inside}

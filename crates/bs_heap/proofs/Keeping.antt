@@ -1,20 +1,18 @@
 -- A heap gives up all records but the last.
-use Rattle.std.proofs.Common.{◌≡◌, ℕ, ◌+◌, ◌-◌, ◌<◌, ◌≤◌, List, [], ◌∷◌, ◌++◌, length, map, drop, slice_index_or, Option, Some, None, refl, sym, ap, subst, subst₂, ◌∙◌, arith, length-append, drop_at, zero-add, vec_len, vec_capacity}
-use Rattle.std.specs.Prelude.{All, sum_by, option_map, option_to_list}
+use Rattle.std.proofs.Common.{◌≡◌, ℕ, ◌+◌, ◌-◌, ◌<◌, ◌≤◌, List, [], ◌∷◌, ◌++◌, length, map, slice_index_or, Option, Some, None, refl, sym, ap, subst, subst₂, ◌∙◌, arith, drop_at, zero-add, vec_len, vec_capacity}
 use Rattle.std.proofs.lemmas.List.{map_push, length-map, length_push, get_or_push, append-nil}
 use Rattle.std.proofs.lemmas.List.Elements.{All-nil, All-cons}
-use Rattle.std.proofs.lemmas.List.Sums.{sum_by-cons, sum_by_push}
+use Rattle.std.proofs.lemmas.List.Sums.{sum_by_push}
 use Rattle.bs_block.specs.Bytes.{range}
 use Rattle.bs_block.specs.Rounding.{rounded}
-use Rattle.bs_block.proofs.Rounded.{rounded_above}
 use Rattle.bs_block.proofs.Runs.{length-range}
 use Rattle.bs_heap.specs.declared.blocks.Entry.{Entry}
 use Rattle.bs_heap.specs.declared.heap.TagHeap.TheInside.{Inside}
-use Rattle.bs_heap.specs.Blocks.{Filled, Blocks, all_blocks, block_at, use_of}
+use Rattle.bs_heap.specs.Blocks.{Filled, Blocks, block_at, use_of}
 use Rattle.bs_heap.specs.Charge.{charge_of, most_record_bytes, blocks_for}
-use Rattle.bs_heap.specs.Heap.{Heap, with_last}
+use Rattle.bs_heap.specs.Heap.{with_last}
 use Rattle.bs_heap.specs.Layout.{bytes_of, place_of, records_in, packing_in, heap_in, IsWithin, IsIndexed, AreFull, IsHeap}
-use Rattle.bs_heap.specs.Packing.{Place, Packing, last_alone, packing_of_last}
+use Rattle.bs_heap.specs.Packing.{last_alone, packing_of_last}
 
 last_of_push : {X : Type 0} (xs : List X) (x : X) → last_alone (xs ++ x ∷ []) ≡ x ∷ []
 last_of_push xs x = drop_at xs (x ∷ []) (length (xs ++ x ∷ []) - 1) (omega (arith, length_push xs x))

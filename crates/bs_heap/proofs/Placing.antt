@@ -1,5 +1,5 @@
 -- Records stay where they are while blocks come and grow.
-use Rattle.std.proofs.Common.{◌≡◌, ℕ, ◌+◌, ◌-◌, ◌<◌, ◌≤◌, List, [], ◌∷◌, ◌++◌, length, map, take, drop, replicate, slice_index_or, Option, Some, None, refl, sym, ap, subst, ◌∙◌, arith, inl, inr, length-append, length-drop, append-nil, append_assoc, take_at, drop_at}
+use Rattle.std.proofs.Common.{◌≡◌, ℕ, ◌+◌, ◌-◌, ◌<◌, ◌≤◌, List, [], ◌∷◌, ◌++◌, length, map, take, drop, replicate, Option, Some, None, refl, sym, ap, ◌∙◌, arith, inl, inr, length-append, length-drop, append-nil, take_at, drop_at}
 use Rattle.std.specs.Prelude.{All, option_map, option_to_list}
 use Rattle.std.proofs.lemmas.Bool.{cases_lt}
 use Rattle.std.proofs.lemmas.List.{map-append, map_push, length_push, get_or_append_left, get_or_push, drop-append-le, take-append-le}
@@ -9,9 +9,9 @@ use Rattle.bs_block.specs.Rounding.{rounded}
 use Rattle.bs_block.proofs.Rounded.{rounded_above}
 use Rattle.bs_block.proofs.Runs.{length-padded}
 use Rattle.bs_heap.specs.declared.blocks.Entry.{Entry}
-use Rattle.bs_heap.specs.Blocks.{Filled, Blocks, all_blocks, block_at, use_of, with_empty, with_bytes, written, entry_of}
+use Rattle.bs_heap.specs.Blocks.{Filled, Blocks, all_blocks, block_at, use_of, with_empty, with_bytes, entry_of}
 use Rattle.bs_heap.specs.Layout.{bytes_of, place_of, records_in, packing_in, IsWithin, IsIndexed}
-use Rattle.bs_heap.specs.Packing.{Place, Packing, with_block, placed}
+use Rattle.bs_heap.specs.Packing.{Place, with_block, placed}
 
 -- the blocks of `old` are there in `new`, with their bytes and perhaps more behind them
 pub record Grows (old new : Blocks) : Type 0 where

@@ -1,13 +1,13 @@
 -- What a record makes of the blocks, the index and the pool.
-use Rattle.std.proofs.Common.{◌≡◌, ℕ, ◌+◌, Bool, true, false, if◌then◌else◌, List, [], ◌∷◌, ◌++◌, length, map, Option, Some, None, IsSome, refl, sym, ap, subst, ◌∙◌}
+use Rattle.std.proofs.Common.{◌≡◌, ℕ, Bool, true, false, if◌then◌else◌, List, [], ◌∷◌, ◌++◌, length, map, Option, Some, None, IsSome, refl, sym, ap, subst, ◌∙◌}
 use Rattle.std.specs.Prelude.{All, option_map, option_to_list}
 use Rattle.std.proofs.lemmas.List.{map-append, map_push}
 use Rattle.bs_pool.specs.Ledger.{Ledger, least_free, drawn}
 use Rattle.bs_heap.specs.declared.blocks.Entry.{Entry}
-use Rattle.bs_heap.specs.Blocks.{Filled, Blocks, all_blocks, filled_numbers, use_of, fits_current, with_empty, with_bytes, written, entry_of}
+use Rattle.bs_heap.specs.Blocks.{Filled, Blocks, all_blocks, filled_numbers, use_of, with_empty, with_bytes, written, entry_of}
 use Rattle.bs_heap.specs.Holding.{Holds, LeavesOthers}
 use Rattle.bs_heap.specs.Layout.{records_in, packing_in, IsWithin, IsIndexed}
-use Rattle.bs_heap.specs.Packing.{Use, Packing, fits, with_block, placed, numbers_of, closed_numbers}
+use Rattle.bs_heap.specs.Packing.{Use, fits, with_block, placed, numbers_of, closed_numbers}
 use Rattle.bs_heap.proofs.Giving.{all_numbers}
 use Rattle.bs_heap.proofs.Holding.{holds_drawn, others_drawn, leaves_none}
 use Rattle.bs_heap.proofs.Placing.{opening_grows, packing_with_block, same_records, all_within, records_written, packing_written, index_written}

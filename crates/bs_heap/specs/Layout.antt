@@ -1,9 +1,9 @@
 -- How a heap lies in its fields.
-use Rattle.std.specs.Prelude.{◌≡◌, ℕ, ◌+◌, ◌-◌, ◌≤◌, ◌<◌, List, [], length, map, drop, sum_by, All, option_map, slice_index_or, vec_len, vec_capacity}
+use Rattle.std.specs.Prelude.{◌≡◌, ℕ, ◌+◌, ◌-◌, ◌≤◌, ◌<◌, List, length, map, drop, sum_by, All, option_map, slice_index_or, vec_len, vec_capacity}
 use Rattle.bs_block.specs.Bytes.{range}
 use Rattle.bs_heap.specs.declared.blocks.Entry.{Entry}
 use Rattle.bs_heap.specs.declared.heap.TagHeap.TheInside.{Inside}
-use Rattle.bs_heap.specs.Blocks.{Filled, Blocks, all_blocks, block_at, use_of}
+use Rattle.bs_heap.specs.Blocks.{Blocks, all_blocks, block_at, use_of}
 use Rattle.bs_heap.specs.Charge.{charge_of, most_record_bytes, blocks_for}
 use Rattle.bs_heap.specs.Heap.{Heap}
 use Rattle.bs_heap.specs.Packing.{Place, Packing}

@@ -1,5 +1,5 @@
 -- Blocks that a pool has handed out.
-use Rattle.std.specs.Prelude.{◌≡◌, ◌≢◌, ℕ, List, map, All, AllPairs}
+use Rattle.std.specs.Prelude.{◌≢◌, ℕ, List, map, All, AllPairs}
 use Rattle.bs_pool.specs.Ledger.{Ledger, Owns}
 use Rattle.bs_pool.specs.declared.owned.Owned.{Owned}
 

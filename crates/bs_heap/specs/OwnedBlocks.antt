@@ -1,6 +1,5 @@
 -- How the blocks of a tag lie in their fields.
-use Rattle.std.specs.Prelude.{◌≡◌, ◌≢◌, ℕ, List, map, All, AllPairs, IfSome, option_map, vec_capacity}
-use Rattle.bs_pool.specs.Ledger.{Ledger, Owns}
+use Rattle.std.specs.Prelude.{◌≡◌, ℕ, map, All, IfSome, option_map, vec_capacity}
 use Rattle.bs_pool.specs.declared.owned.Owned.{Owned}
 use Rattle.bs_heap.specs.declared.blocks.TagBlocks.TheInside.{Inside}
 use Rattle.bs_heap.specs.Blocks.{Filled, Blocks}

@@ -62,6 +62,24 @@ fn close_heap<const CAP: usize>(
     pool.unreserve(tag);
 }
 
+/// Block 0 comes, and no byte is in it but those that are filled.
+fn draw_an_empty_block<const CAP: usize>(
+    rt: &impl Abort,
+    pool: &mut Pool<CAP>,
+    tag: u32,
+) -> Result<(), Fail> {
+    let mut owned = pool.draw(tag).ok_or("a block is reserved")?;
+    assert_eq!(rt; owned.number(), 0);
+    assert_eq!(rt; owned.block().len(), 0);
+    let (front, fresh) = owned
+        .block_mut()
+        .split_fill(16)
+        .ok_or("the block is empty")?;
+    assert_eq!(rt; front.len(), 0);
+    assert_eq!(rt; &*fresh, [0; 16].as_slice());
+    Ok(())
+}
+
 #[test]
 fn pool_of_two_with_two_heaps(rt: HostRuntime) -> Result<(), Fail> {
     let mut pool = Pool::<524_288>::open(rt.alloc(), 2)?;
@@ -79,16 +97,7 @@ fn pool_of_two_with_two_heaps(rt: HostRuntime) -> Result<(), Fail> {
     assert_eq!(rt; second.charge(), 16);
     second.free(&mut pool);
 
-    let mut owned = pool.draw(1).ok_or("two blocks are reserved")?;
-    assert_eq!(rt; owned.number(), 0);
-    assert_eq!(rt; owned.block().len(), 0);
-    let (front, fresh) = owned
-        .block_mut()
-        .split_fill(16)
-        .ok_or("the block is empty")?;
-    assert_eq!(rt; front.len(), 0);
-    assert_eq!(rt; &*fresh, [0; 16].as_slice());
-    Ok(())
+    draw_an_empty_block(&rt, &mut pool, 1)
 }
 
 #[test]

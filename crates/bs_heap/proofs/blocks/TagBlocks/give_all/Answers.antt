@@ -1,4 +1,4 @@
-use Rattle.std.proofs.Common.{◌≡◌, List, [], ◌∷◌, ℕ, Some, None, Option, IfSome, sym, ap, ◌∙◌, subst, arith, refl}
+use Rattle.std.proofs.Common.{◌≡◌, List, [], ℕ, Some, None, Option, IfSome, sym, ap, ◌∙◌, subst, arith}
 use Rattle.std.specs.Prelude.{option_to_list, option_map}
 use Rattle.bs_pool.specs.declared.owned.Owned.{Owned}
 use Rattle.bs_heap.specs.Blocks.{Blocks, Filled, filled_numbers}

@@ -1,7 +1,6 @@
-use Rattle.std.proofs.Common.{◌≡◌, sym, ap, ◌∙◌, subst, arith}
+use Rattle.std.proofs.Common.{sym, ap, ◌∙◌, subst, arith}
 use Rattle.bs_heap.specs.Blocks.{Blocks, filled_numbers}
 use Rattle.bs_heap.specs.Holding.{AreOwned, all_given}
-use Rattle.bs_heap.specs.Lent.{owned_numbers}
 use Rattle.bs_heap.proofs.Giving.{numbers_filled, lent_from_owned}
 use Rattle.bs_heap.proofs.blocks.TagBlocks.give_closed.Goals as goal
 

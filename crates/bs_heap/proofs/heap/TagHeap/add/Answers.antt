@@ -1,13 +1,13 @@
-use Rattle.std.proofs.Common.{◌≡◌, ◌≤◌, ◌<◌, ◌+◌, ◌-◌, ℕ, List, [], ◌∷◌, ◌++◌, length, false, true, Some, sym, ap, ◌∙◌, subst, arith, refl, vec_len, vec_capacity}
+use Rattle.std.proofs.Common.{◌≡◌, ◌≤◌, ◌+◌, [], ◌∷◌, ◌++◌, length, false, Some, sym, ap, ◌∙◌, subst, arith, refl}
 use Rattle.bs_block.specs.Rounding.{rounded}
 use Rattle.bs_pool.specs.Ledger.{held, reserved, least_free}
 use Rattle.bs_heap.specs.Adding.{heap_with, pool_with, charge_with}
 use Rattle.bs_heap.specs.Blocks.{entry_of, opened_for}
-use Rattle.bs_heap.specs.Charge.{blocks_for, charge_of, most_record_bytes}
+use Rattle.bs_heap.specs.Charge.{blocks_for}
 use Rattle.bs_heap.specs.Heap.{Heap}
 use Rattle.bs_heap.specs.declared.heap.TagHeap.TheInside.{Inside}
 use Rattle.bs_heap.specs.Holding.{IsKeptIn, LeavesOthers, next_number}
-use Rattle.bs_heap.specs.Layout.{heap_in, IsHeap}
+use Rattle.bs_heap.specs.Layout.{heap_in}
 use Rattle.bs_heap.specs.Packing.{fits}
 use Rattle.bs_heap.proofs.Adding.{few_held, has_room, drawable, still_heap, heap_is, kept_after, few_after, others_after}
 use Rattle.bs_heap.proofs.heap.TagHeap.add.Given.{Over}

@@ -1,4 +1,4 @@
-use Rattle.std.proofs.Common.{◌≡◌, sym, ap, ◌∙◌, subst, subst₂, arith}
+use Rattle.std.proofs.Common.{sym, ap, ◌∙◌, subst, subst₂, arith}
 use Rattle.bs_pool.specs.Ledger.{Ledger}
 use Rattle.bs_heap.specs.Blocks.{Blocks}
 use Rattle.bs_heap.specs.Heap.{Heap}

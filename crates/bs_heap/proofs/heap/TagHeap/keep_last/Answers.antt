@@ -1,15 +1,12 @@
-use Rattle.std.proofs.Common.{◌≡◌, ◌+◌, ◌-◌, ◌≤◌, ◌^◌, ◌<◌, [], ◌∷◌, ◌++◌, List, length, sym, ap, ◌∙◌, subst, subst₂, arith, refl, vec_len, vec_capacity}
-use Rattle.std.specs.Prelude.{option_to_list}
-use Rattle.bs_block.specs.Rounding.{rounded}
+use Rattle.std.proofs.Common.{◌≡◌, [], ◌∷◌, ◌++◌, List, sym, ap, ◌∙◌, subst, subst₂, arith, refl, vec_len}
 use Rattle.bs_block.proofs.Rounded.{rounded_above}
 use Rattle.bs_pool.specs.Ledger.{Ledger}
 use Rattle.bs_heap.specs.declared.blocks.Entry.{Entry}
 use Rattle.bs_heap.specs.declared.heap.TagHeap.TheInside.{Inside}
-use Rattle.bs_heap.specs.Blocks.{Blocks, all_blocks, filled_numbers}
-use Rattle.bs_heap.specs.Charge.{charge_of}
+use Rattle.bs_heap.specs.Blocks.{Blocks, filled_numbers}
 use Rattle.bs_heap.specs.Heap.{Heap, with_last}
 use Rattle.bs_heap.specs.Holding.{Holds, IsKeptIn, LeavesOthers, all_given}
-use Rattle.bs_heap.specs.Layout.{heap_in, records_in, packing_in, IsHeap, IsIndexed, AreFull}
+use Rattle.bs_heap.specs.Layout.{packing_in}
 use Rattle.bs_heap.specs.Packing.{numbers_of, closed_numbers}
 use Rattle.bs_heap.proofs.Freeing.{owned_closed, holds_current, others_of_closed}
 use Rattle.bs_heap.proofs.Keeping.{current_alone, moved, charged_less, last_is_heap, last_heap_is}
