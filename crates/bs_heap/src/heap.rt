@@ -18,6 +18,16 @@ use thiserror::Error;
 /// The largest rounded size of a record.
 pub const MOST_RECORD_BYTES: usize = 262_144;
 
+/// How many blocks of `cap` bytes the records of one tag can come to need within the quota. A block is closed where the
+/// next record does not fit, so it has more than `cap - MOST_RECORD_BYTES` bytes in use; two more are the oldest, which
+/// may hold bytes of records that were given up, and the newest, which may have room left.
+pub fn blocks_for(cap: usize, quota: u32) -> usize
+    requires { most_record_bytes < cap }
+    ensures { result ≡ blocks_for cap quota }
+{
+    quota as usize / (cap - MOST_RECORD_BYTES) + 2
+}
+
 /// The charge with the record would exceed the quota.
 #[derive(Clone, Copy, Debug, PartialEq, Eq, Error)]
 #[error("quota exceeded")]
@@ -50,7 +60,7 @@ impl<const CAP: usize> TagHeap<CAP> {
         requires { most_record_bytes < CAP }
         ensures { IfOk result (λ heap. heap ≡ empty_heap tag quota) }
     {
-        let room = quota as usize / (CAP - MOST_RECORD_BYTES) + 2;
+        let room = blocks_for(CAP, quota);
         Ok(TagHeap {
             blocks: TagBlocks::new(alloc, tag, room)?,
             index: Vec::new(alloc),

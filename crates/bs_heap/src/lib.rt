@@ -9,4 +9,4 @@ mod tests;
 // A crate can name a heap in a contract only if the types of its fields are exported.
 #[doc(hidden)]
 pub use blocks::{Entry, TagBlocks};
-pub use heap::{MOST_RECORD_BYTES, Quota, TagHeap};
+pub use heap::{MOST_RECORD_BYTES, Quota, TagHeap, blocks_for};

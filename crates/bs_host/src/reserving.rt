@@ -7,14 +7,9 @@ ghost use Rattle.bs_host.specs.Reserving.{AreIdle, AreReserved, blocks_of, block
 
 use crate::game::BLOCK_BYTES;
 use bs_board::Row;
-use bs_heap::MOST_RECORD_BYTES;
+use bs_heap::blocks_for;
 use bs_pool::{Pool, Reserve};
 use std::alloc::{AllocError, Global};
-
-/// A game has as many for its records as its quota can need when none has more than `MOST_RECORD_BYTES` and a block is
-/// closed where the next record does not fit, and these besides: the oldest block, which may hold records that were
-/// given up, and the newest, which may have room left.
-const SPARE_RECORD_BLOCKS: usize = 2;
 
 /// For the parts of a turn, of which there are at most as many.
 const FRAME_BLOCKS: usize = 4;
@@ -23,7 +18,7 @@ fn record_blocks(row: &Row) -> usize
     ensures value { result ≡ blocks_for 2097152 row.now.quota }
     ensures few { result ≤ 11 }
 {
-    row.quota as usize / (BLOCK_BYTES - MOST_RECORD_BYTES) + SPARE_RECORD_BLOCKS
+    blocks_for(BLOCK_BYTES, row.quota)
 }
 
 /// How many blocks are set aside for all the games.
