@@ -106,7 +106,7 @@ def run(program, path, output):
     """The seconds and the greatest resident memory, in MB, of one run."""
     with open(output, "wb") as file:
         began = time.perf_counter()
-        child = subprocess.Popen([program, "serve", str(path)], stdout=file)
+        child = subprocess.Popen([program, "serve", str(path), "--blocks", "4096"], stdout=file)
         _, status, usage = os.wait4(child.pid, 0)
         seconds = time.perf_counter() - began
     if status != 0:

@@ -1,5 +1,7 @@
 use crate::program::arena_run;
+use std::alloc::Global;
 use std::io::{self, ErrorKind, Write};
+use std::rt::Files;
 use std::test::Fail;
 
 // The plan of two games that reserve six blocks each.
@@ -7,6 +9,15 @@ const TWO_GAMES: &str = "{\"games\":[{\"game\":\"a\",\"quota\":64},{\"game\":\"b
 
 const TWO_GAMES_END: &str = "{\"board\":null,\"charge\":0,\"final\":true,\"game\":\"a\"}\n\
     {\"board\":null,\"charge\":0,\"final\":true,\"game\":\"b\"}\n";
+
+// The status, the output and the errors of a run on those words and that standard input.
+fn ran<F: Files>(rt: &F, alloc: Global, words: &[&str], file: &str) -> (u8, Vec<u8>, Vec<u8>) {
+    let mut output = Vec::new(alloc);
+    let mut errors = Vec::new(alloc);
+    let mut input = file.as_bytes();
+    let status = arena_run(rt, alloc, words, &mut input, &mut output, &mut errors);
+    (status, output, errors)
+}
 
 // Words behind the program's name, the standard input, and the status, output and errors that they give.
 #[test]
@@ -60,10 +71,7 @@ fn statuses_and_lines(rt: HostRuntime) -> Result<(), Fail> {
         ),
     ];
     for (words, file, status, text, line) in cases {
-        let mut output = Vec::new(rt.alloc());
-        let mut errors = Vec::new(rt.alloc());
-        let mut input = file.as_bytes();
-        let answer = arena_run(&rt, rt.alloc(), words, &mut input, &mut output, &mut errors);
+        let (answer, output, errors) = ran(&rt, rt.alloc(), words, file);
         assert_eq!(rt; answer, status, "{file}");
         assert_eq!(rt; output.as_slice(), text.as_bytes(), "{file}");
         assert_eq!(rt; errors.as_slice(), line.as_bytes(), "{file}");
@@ -82,10 +90,7 @@ fn command_lines(rt: HostRuntime) -> Result<(), Fail> {
         (&["arena", "serve", "--help"], 0),
     ];
     for (words, status) in cases {
-        let mut output = Vec::new(rt.alloc());
-        let mut errors = Vec::new(rt.alloc());
-        let mut input = "{\"games\":[]}".as_bytes();
-        let answer = arena_run(&rt, rt.alloc(), words, &mut input, &mut output, &mut errors);
+        let (answer, output, errors) = ran(&rt, rt.alloc(), words, "{\"games\":[]}");
         assert_eq!(rt; answer, status, "{words:?}");
         assert_eq!(rt; output.is_empty(), status == 2, "{words:?}");
         assert_eq!(rt; errors.is_empty(), status == 0, "{words:?}");
@@ -155,17 +160,7 @@ fn transcripts_of_games(rt: HostRuntime) -> Result<(), Fail> {
         (EIGHT_SNAKES, &EIGHT_SNAKES_PIECES),
     ];
     for (file, pieces) in cases {
-        let mut output = Vec::new(rt.alloc());
-        let mut errors = Vec::new(rt.alloc());
-        let mut input = file.as_bytes();
-        let answer = arena_run(
-            &rt,
-            rt.alloc(),
-            &["arena"],
-            &mut input,
-            &mut output,
-            &mut errors,
-        );
+        let (answer, output, _) = ran(&rt, rt.alloc(), &["arena"], file);
         assert_eq!(rt; answer, 0);
         let text = String::from_utf8(output).ok().ok_or("text")?;
         let mut rest = text.as_str();
