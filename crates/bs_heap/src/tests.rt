@@ -3,7 +3,7 @@ ghost use Rattle.bs_pool.specs.Ledger.{reserved};
 ghost use Rattle.bs_heap.specs.Charge.{most_record_bytes, blocks_for};
 ghost use Rattle.bs_heap.specs.Holding.{IsKeptIn};
 
-use crate::{MOST_RECORD_BYTES, Quota, TagHeap};
+use crate::{Quota, TagHeap, blocks_for};
 use bs_pool::Pool;
 use std::alloc::{AllocError, Global};
 use std::process::Abort;
@@ -22,7 +22,7 @@ fn open_heap<const CAP: usize>(
     ensures kept { IfOk result (λ heap. IsKeptIn heap pool.new) }
     ensures reserved { IfOk result (λ heap. blocks_for CAP heap.quota ≤ reserved heap.tag pool.new) }
 {
-    let blocks = quota as usize / (CAP - MOST_RECORD_BYTES) + 2;
+    let blocks = blocks_for(CAP, quota);
     pool.reserve(tag, blocks)?;
     assert_eq!(rt; pool.reserved(tag), blocks);
     assert_eq!(rt; pool.held(tag), 0);
