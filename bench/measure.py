@@ -1,7 +1,7 @@
 #!/usr/bin/env python3
 """Times the proved program on command files of known shape.
 
-Each shape is served at a size and at twice that size. Printed are the bytes read and written, the time (the best of three runs), turns a
+Each shape is served at a size and at twice that size. Printed are the bytes read and written, the time (the best of five runs), turns a
 second, MB a second, the greatest resident memory, and by how much time and bytes grew when the file doubled. Run it from anywhere:
 
     bench/measure.py [PROGRAM]
@@ -19,7 +19,7 @@ import time
 from pathlib import Path
 
 ROOT = Path(__file__).resolve().parent.parent
-RUNS = 3
+RUNS = 5
 
 
 def line(**members):
@@ -30,18 +30,24 @@ def plan(names, quota):
     return line(games=[{"game": name, "quota": quota} for name in names])
 
 
-def many_games(turns):
-    """64 games of four snakes each, which go round in squares of two by two cells, and so stay three parts long."""
+ROUND = 95  # turns, fewer than a snake lives without food
+
+
+def many_games(rounds):
+    """64 games of four snakes each, which go round in squares of two by two cells. Each game is ended and begun anew, round by round."""
     names = [f"g{index}" for index in range(64)]
     starts = {"a": (2, 2), "b": (7, 2), "c": (2, 7), "d": (7, 7)}
-    yield plan(names, 1_000_000)
-    for name in names:
-        snakes = [{"id": id, "x": x, "y": y} for id, (x, y) in starts.items()]
-        yield line(game=name, do="new", mode="standard", width=11, height=11, snakes=snakes, food=[], min_food=0, food_chance=0)
-    for turn in range(turns):
-        direction = ("up", "right", "down", "left")[turn % 4]
+    snakes = [{"id": id, "x": x, "y": y} for id, (x, y) in starts.items()]
+    yield plan(names, 16_384)
+    for _ in range(rounds):
         for name in names:
-            yield line(game=name, do="move", moves={id: direction for id in starts})
+            yield line(game=name, do="new", mode="standard", width=11, height=11, snakes=snakes, food=[], min_food=0, food_chance=0)
+        for turn in range(ROUND):
+            direction = ("up", "right", "down", "left")[turn % 4]
+            for name in names:
+                yield line(game=name, do="move", moves={id: direction for id in starts})
+        for name in names:
+            yield line(game=name, do="end")
 
 
 def tour(width, height):
@@ -89,7 +95,7 @@ def short_commands(count):
 
 # The shape, its size, and how many turns are played in it.
 SHAPES = [
-    ("64 games, four snakes", many_games, 1_000, lambda turns: 64 * turns),
+    ("64 games, four snakes", many_games, 10, lambda rounds: 64 * ROUND * rounds),
     ("one long game", long_game, 5_000, lambda turns: turns),
     ("short commands", short_commands, 200_000, lambda count: 0),
 ]
