@@ -5,13 +5,15 @@ Each shape is served at a size and at twice that size. Printed are the bytes rea
 second, MB a second, the greatest resident memory, and by how much time and bytes grew when the file doubled. Run it from anywhere:
 
     bench/measure.py [PROGRAM]
+    bench/measure.py --write FOLDER
 
-PROGRAM is crates/arena/out/arena if not given; `./arena --help` builds it.
+PROGRAM is crates/arena/out/arena if not given; `./arena --help` builds it. With --write nothing is timed: the command file of each shape, at
+the smaller size, is written into the folder.
 """
 
+import argparse
 import json
 import os
-import resource
 import subprocess
 import sys
 import tempfile
@@ -20,6 +22,7 @@ from pathlib import Path
 
 ROOT = Path(__file__).resolve().parent.parent
 RUNS = 5
+BLOCKS = "512"  # enough for every shape; each block is a mapping of its own, so thousands of them cost time
 
 
 def line(**members):
@@ -85,6 +88,78 @@ def long_game(turns):
         yield line(game="g", do="move", moves={"s": DIRECTIONS[there[0] - here[0], there[1] - here[1]]}, words=words)
 
 
+def corner_tours(side, columns, rows):
+    """The tours of the equal parts that a square board is cut into, each from the lower left corner of its part."""
+    width, height = side // columns, side // rows
+    corners = [(column * width, row * height) for row in range(rows) for column in range(columns)]
+    return [[(left + x, low + y) for x, y in tour(width, height)] for left, low in corners]
+
+
+def orders(tours, turn):
+    """Each snake's next direction on its tour. The snakes are named by letters."""
+    steps = [(cells[turn % len(cells)], cells[(turn + 1) % len(cells)]) for cells in tours]
+    return {"abcdefgh"[seat]: DIRECTIONS[there[0] - here[0], there[1] - here[1]] for seat, (here, there) in enumerate(steps)}
+
+
+def starts(tours):
+    return [{"id": "abcdefgh"[seat], "x": cells[0][0], "y": cells[0][1]} for seat, cells in enumerate(tours)]
+
+
+LARGE = 24  # cells of a side, which can be cut into halves, thirds and quarters
+GROWING = 240  # turns, in which each of four snakes grows to 62 parts
+
+
+def feeding_words(side, tours):
+    """For each turn the words that put food before the head of one snake after the other, in games without any other food."""
+    bodies = [[cells[0]] * 3 for cells in tours]
+    food = None
+    for turn in range(GROWING):
+        for seat, cells in enumerate(tours):
+            head = cells[(turn + 1) % len(cells)]
+            bodies[seat] = [head] + bodies[seat][:-1]
+            if head == food:
+                bodies[seat].append(bodies[seat][-1])
+        taken = {cell for body in bodies for cell in body}
+        free = [(x, y) for y in range(side) for x in range(side) if (x, y) not in taken]
+        fed = tours[turn % len(tours)]
+        food = fed[(turn + 2) % len(fed)]
+        yield [0, free.index(food)]
+
+
+def growing_snakes(rounds):
+    """Eight games on large boards, in each of which four snakes go on tours of a quarter and grow. Each is ended and begun anew, round by round."""
+    names = [f"g{index}" for index in range(8)]
+    tours = corner_tours(LARGE, 2, 2)
+    words = list(feeding_words(LARGE, tours))
+    yield plan(names, 1_048_576)
+    for _ in range(rounds):
+        for name in names:
+            yield line(game=name, do="new", mode="standard", width=LARGE, height=LARGE, snakes=starts(tours), food=[], min_food=0, food_chance=100)
+        for turn in range(GROWING):
+            for name in names:
+                yield line(game=name, do="move", moves=orders(tours, turn), words=words[turn])
+        for name in names:
+            yield line(game=name, do="end")
+
+
+FILLING = 64  # turns, after which eight snakes of a constrictor game fill most of a large board
+
+
+def constrictor(rounds):
+    """Eight games of constrictor, in each of which eight snakes fill an eighth of a large board. Each is ended and begun anew, round by round."""
+    names = [f"g{index}" for index in range(8)]
+    tours = corner_tours(LARGE, 2, 4)
+    yield plan(names, 1_048_576)
+    for _ in range(rounds):
+        for name in names:
+            yield line(game=name, do="new", mode="constrictor", width=LARGE, height=LARGE, snakes=starts(tours), food=[])
+        for turn in range(FILLING):
+            for name in names:
+                yield line(game=name, do="move", moves=orders(tours, turn))
+        for name in names:
+            yield line(game=name, do="end")
+
+
 def short_commands(count):
     """Commands that are short and change nothing: turns that are not kept, of a game of one record."""
     yield plan(["g"], 4096)
@@ -97,6 +172,8 @@ def short_commands(count):
 SHAPES = [
     ("64 games, four snakes", many_games, 10, lambda rounds: 64 * ROUND * rounds),
     ("one long game", long_game, 5_000, lambda turns: turns),
+    ("growing, large boards", growing_snakes, 4, lambda rounds: 8 * GROWING * rounds),
+    ("constrictor, eight", constrictor, 8, lambda rounds: 8 * FILLING * rounds),
     ("short commands", short_commands, 200_000, lambda count: 0),
 ]
 
@@ -112,7 +189,7 @@ def run(program, path, output):
     """The seconds and the greatest resident memory, in MB, of one run."""
     with open(output, "wb") as file:
         began = time.perf_counter()
-        child = subprocess.Popen([program, "serve", str(path), "--blocks", "4096"], stdout=file)
+        child = subprocess.Popen([program, "serve", str(path), "--blocks", BLOCKS], stdout=file)
         _, status, usage = os.wait4(child.pid, 0)
         seconds = time.perf_counter() - began
     if status != 0:
@@ -128,8 +205,14 @@ def measure(program, folder, shape, size):
     return read, output.stat().st_size, seconds, memory
 
 
-def main():
-    program = sys.argv[1] if len(sys.argv) > 1 else str(ROOT / "crates/arena/out/arena")
+def write_all(folder):
+    folder.mkdir(parents=True, exist_ok=True)
+    for _, shape, size, _ in SHAPES:
+        path = folder / f"{shape.__name__}.jsonl"
+        print(f"{path}: {write(path, shape(size))} bytes")
+
+
+def measure_all(program):
     print(f"{'shape':24}{'read MB':>9}{'written MB':>12}{'seconds':>9}{'turns/s':>10}{'read MB/s':>11}{'written MB/s':>14}{'memory MB':>11}")
     with tempfile.TemporaryDirectory() as name:
         for title, shape, size, turns in SHAPES:
@@ -139,6 +222,17 @@ def main():
                 print(f"{title:24}{read / 1e6:9.2f}{written / 1e6:12.2f}{seconds:9.3f}{speeds}{memory:11.1f}")
             (_, read, written, seconds, _), (_, read2, written2, seconds2, _) = rows
             print(f"{'':24}file x{read2 / read:.2f}, written x{written2 / written:.2f}, time x{seconds2 / seconds:.2f}")
+
+
+def main():
+    parser = argparse.ArgumentParser(description=__doc__, formatter_class=argparse.RawDescriptionHelpFormatter)
+    parser.add_argument("program", nargs="?", default=str(ROOT / "crates/arena/out/arena"))
+    parser.add_argument("--write", metavar="FOLDER", type=Path)
+    given = parser.parse_args()
+    if given.write:
+        write_all(given.write)
+    else:
+        measure_all(given.program)
 
 
 if __name__ == "__main__":

@@ -1,3 +1,4 @@
+//! The command line: what its words ask for.
 use clap::error::ErrorKind;
 use clap::{Arg, ArgAction, ArgMatches, Command, Error, value_parser};
 use std::alloc::{AllocError, Global};
@@ -6,6 +7,8 @@ use std::alloc::{AllocError, Global};
 pub const STANDARD_INPUT: &str = "-";
 
 const DEFAULT_BLOCKS: u16 = 64;
+
+const VERSION: &str = "0.1.0";
 
 /// What a command line asks for.
 #[derive(Clone, Copy, Debug)]
@@ -35,6 +38,7 @@ fn serve_command<'a>(alloc: Global) -> Result<Command<'a>, AllocError> {
 fn arena_command<'a>(alloc: Global) -> Result<Command<'a>, AllocError> {
     Command::new(alloc, "arena")
         .about("A host for many Battlesnake games")
+        .version(VERSION)
         .subcommand_required(true)
         .subcommand(serve_command(alloc)?)
 }

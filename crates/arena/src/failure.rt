@@ -1,3 +1,4 @@
+//! Why a run fails, and the exit status of each reason.
 use bs_host::{Fault, ReadFault};
 use thiserror::Error;
 

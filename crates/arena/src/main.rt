@@ -8,7 +8,7 @@ mod program;
 mod tests;
 
 use failure::Failure;
-use program::{arena_run, reported};
+use program::{arena_run, reported, unread_words};
 use std::alloc::AllocError;
 use std::process::ExitCode;
 use std::{env, io};
@@ -31,8 +31,9 @@ fn status_on(rt: &HostRuntime, words: &[String]) -> Result<u8, AllocError> {
 }
 
 fn main(rt: HostRuntime) -> ExitCode {
-    let Ok(words) = words_of(&rt) else {
-        return ExitCode::from(reported(&Failure::Memory, &mut rt.stderr()));
+    let words = match words_of(&rt) {
+        Ok(words) => words,
+        Err(error) => return ExitCode::from(unread_words(&error, &mut rt.stderr())),
     };
     match status_on(&rt, words.as_slice()) {
         Ok(status) => ExitCode::from(status),

@@ -1,3 +1,4 @@
+//! A run of the program, over any reader and writers.
 use crate::command_line::{Request, STANDARD_INPUT, is_memory, read_words};
 use crate::failure::Failure;
 use bs_host::{ReadFault, read_input, serve};
@@ -46,6 +47,16 @@ pub fn reported<E: Write>(failure: &Failure, errors: &mut E) -> u8 {
     // Where the line itself can't be written, the status still tells.
     let _ = writeln!(errors, "arena: {failure}");
     failure.status()
+}
+
+/// Tells why the words of the command line were not read: one of them is no UTF-8, so that the command line is refused, or
+/// memory ran out.
+pub fn unread_words<E: Write>(error: &io::Error, errors: &mut E) -> u8 {
+    if error.kind() != io::ErrorKind::InvalidData {
+        return reported(&Failure::Memory, errors);
+    }
+    let _ = writeln!(errors, "arena: a word of the command line is no UTF-8");
+    REFUSED
 }
 
 /// The text of a command line that asks for nothing to be served: a mistake, or a request for help.

@@ -1,6 +1,7 @@
-use crate::program::arena_run;
+//! What the program does with command lines, files and devices.
+use crate::program::{arena_run, unread_words};
 use std::alloc::Global;
-use std::io::{self, ErrorKind, Write};
+use std::io::{self, ErrorKind, Read, Write};
 use std::rt::Files;
 use std::test::Fail;
 
@@ -82,12 +83,13 @@ fn statuses_and_lines(rt: HostRuntime) -> Result<(), Fail> {
 // A refused command line is status 2, with clap's text on the errors; help is status 0, on the output.
 #[test]
 fn command_lines(rt: HostRuntime) -> Result<(), Fail> {
-    let cases: [(&[&str], u8); 5] = [
+    let cases: [(&[&str], u8); 6] = [
         (&["arena", "serve", "-", "--blocks", "0"], 2),
         (&["arena", "serve", "-", "--blocks", "4097"], 2),
         (&["arena", "serve"], 2),
         (&["arena", "play"], 2),
         (&["arena", "serve", "--help"], 0),
+        (&["arena", "--version"], 0),
     ];
     for (words, status) in cases {
         let (answer, output, errors) = ran(&rt, rt.alloc(), words, "{\"games\":[]}");
@@ -95,6 +97,64 @@ fn command_lines(rt: HostRuntime) -> Result<(), Fail> {
         assert_eq!(rt; output.is_empty(), status == 2, "{words:?}");
         assert_eq!(rt; errors.is_empty(), status == 0, "{words:?}");
     }
+    let (_, output, _) = ran(&rt, rt.alloc(), &["arena", "--version"], "");
+    assert_eq!(rt; output.as_slice(), b"arena 0.1.0\n".as_slice());
+    for (kind, status, line) in [
+        (
+            ErrorKind::InvalidData,
+            2,
+            "arena: a word of the command line is no UTF-8\n",
+        ),
+        (ErrorKind::OutOfMemory, 5, "arena: out of memory\n"),
+    ] {
+        let mut errors = Vec::new(rt.alloc());
+        let answer = unread_words(&io::Error::from(kind), &mut errors);
+        assert_eq!(rt; answer, status);
+        assert_eq!(rt; errors.as_slice(), line.as_bytes());
+    }
+    Ok(())
+}
+
+// A plan of 65 games.
+fn many_games(alloc: Global) -> Result<String, Fail> {
+    let mut rows = String::from_str(alloc, "{\"games\":[{\"game\":\"g\",\"quota\":64}")?;
+    for index in 0..64u8 {
+        let row = format!(in alloc; ",{{\"game\":\"g{index}\",\"quota\":64}}")?;
+        rows.push_str(&row)?;
+    }
+    rows.push_str("]}")?;
+    Ok(rows)
+}
+
+/// A device that always has more to read.
+#[derive(Drop)]
+struct Endless;
+
+impl Read for Endless {
+    fn read(&mut self, buf: &mut [u8]) -> io::Result<usize> {
+        Ok(buf.len())
+    }
+}
+
+#[test]
+fn files_that_are_too_long(rt: HostRuntime) -> Result<(), Fail> {
+    let many = many_games(rt.alloc())?;
+    let (answer, _, errors) = ran(&rt, rt.alloc(), &["arena"], many.as_str());
+    assert_eq!(rt; answer, 4);
+    assert_eq!(rt; errors.as_slice(), b"arena: plan P3\n".as_slice());
+    let mut output = Vec::new(rt.alloc());
+    let mut errors = Vec::new(rt.alloc());
+    let answer = arena_run(
+        &rt,
+        rt.alloc(),
+        &["arena"],
+        &mut Endless,
+        &mut output,
+        &mut errors,
+    );
+    assert_eq!(rt; answer, 3);
+    assert_eq!(rt; output.len(), 0);
+    assert_eq!(rt; errors.as_slice(), b"arena: file too long\n".as_slice());
     Ok(())
 }
 

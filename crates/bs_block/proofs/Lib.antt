@@ -1,6 +1,6 @@
-pub mod Crossing
-pub mod Keeping
-pub mod Memory
+pub mod BlockBytes
+pub mod RegionSharing
+pub mod RegionWalks
 pub mod Rounded
 pub mod Runs
-pub mod Sharing
+pub mod ThreadSafety

@@ -4,8 +4,8 @@ use Rattle.std.proofs.lemmas.List.{length-map, length-replicate, map-append, tak
 use Rattle.std.proofs.lemmas.Slice.{drop-append-drop}
 use Rattle.std.proofs.Math.Seq.{drop-append-add}
 use Rattle.std.specs.List.{refill, length_refill}
-use Rattle.bs_block.specs.Bytes.{range, with_range, filled, padded}
-use Rattle.bs_block.specs.Places.{somes, spliced}
+use Rattle.bs_block.specs.Bytes.{range, with_range, extended, padded}
+use Rattle.bs_block.specs.Region.{somes, spliced}
 use Rattle.bs_block.specs.Rounding.{rounded}
 use Rattle.bs_block.proofs.Rounded.{rounded_above}
 
@@ -69,13 +69,27 @@ module _ (cs : List (Option ℕ)) (len : ℕ) (xs : List ℕ) (holds : take len 
   overwritten at n ws le within long = take_spliced cs at n ws long (omega (arith, le, within)) len within ∙ ap (λ l. spliced l at n ws) holds ∙ spliced_map xs at n ws
 
 -- to write over the first n of the fresh zeros
-pub filled_is : (xs : List ℕ) (n : ℕ) (ws : List ℕ) → with_range (xs ++ replicate (rounded n) 0) (length xs) n ws ≡ filled xs n ws
-filled_is xs n ws =
+pub extended_is : (xs : List ℕ) (n : ℕ) (ws : List ℕ) → with_range (xs ++ replicate (rounded n) 0) (length xs) n ws ≡ extended xs n ws
+extended_is xs n ws =
     let at = length xs in let m = rounded n in let zs = replicate m 0 in
     let run : range at n (xs ++ zs) ≡ replicate n 0 = ap (take n) (drop_at xs zs at refl) ∙ take-replicate n m 0 (rounded_above n) in
     let rest : drop (at + n) (xs ++ zs) ≡ replicate (m - n) 0 = drop-append-add xs zs n ∙ drop-replicate n m 0 in
     let new = refill n (replicate n 0) ws in let long : length new ≡ n = sym (length_refill n (replicate n 0) ws (sym (length-replicate n 0))) in
     (λ i. take_at xs zs at refl i ++ (refill n (run i) ws ++ rest i)) ∙ ap (λ k. xs ++ (new ++ replicate (rounded k - k) 0)) (sym long)
+
+-- the same splice, where its place is found equal by arithmetic
+pub spliced_at : (cs ds : List (Option ℕ)) (k at n : ℕ) (ws : List ℕ) → ds ≡ spliced cs k n ws → k ≡ at → ds ≡ spliced cs at n ws
+spliced_at cs ds k at n ws is at_is = is ∙ ap (λ j. spliced cs j n ws) at_is
+
+-- what `fill` lends of ys, which are xs and fresh zeros
+pub extended_by : (xs ys : List ℕ) (at n : ℕ) (ws : List ℕ) → ys ≡ xs ++ replicate (rounded n) 0 → at ≡ length xs → with_range ys at n ws ≡ extended xs n ws
+extended_by xs ys at n ws is at_is = (λ i. with_range (is i) (at_is i) n ws) ∙ extended_is xs n ws
+
+pub old_by : (xs ys zs : List ℕ) (at : ℕ) → ys ≡ xs ++ zs → at ≡ length xs → take at ys ≡ xs
+old_by xs ys zs at is at_is = ap (take at) is ∙ take_at xs zs at (sym at_is)
+
+pub fresh_by : (xs ys : List ℕ) (at n : ℕ) → ys ≡ xs ++ replicate (rounded n) 0 → at ≡ length xs → range at n ys ≡ replicate n 0
+fresh_by xs ys at n is at_is = ap (range at n) is ∙ ap (take n) (drop_at xs (replicate (rounded n) 0) at (sym at_is)) ∙ take-replicate n (rounded n) 0 (rounded_above n)
 
 pub length-range : (xs : List ℕ) (at n : ℕ) → at + n ≤ length xs → length (range at n xs) ≡ n
 length-range xs at n le = omega (arith, le, length-take n (drop at xs), length-drop at xs)
@@ -90,7 +104,7 @@ pub length-padded : (ws : List ℕ) → length (padded ws) ≡ rounded (length w
 length-padded ws = let n = length ws in omega (arith, rounded_above n, length-append ws (replicate (rounded n - n) 0), length-replicate {A = ℕ} (rounded n - n) 0)
 
 -- so do the bytes that `fill` lends
-pub length-filled : (xs : List ℕ) (n : ℕ) (ws : List ℕ) → length (filled xs n ws) ≡ length xs + rounded n
-length-filled xs n ws =
+pub length-extended : (xs : List ℕ) (n : ℕ) (ws : List ℕ) → length (extended xs n ws) ≡ length xs + rounded n
+length-extended xs n ws =
     let new = refill n (replicate n 0) ws in let long : n ≡ length new = length_refill n (replicate n 0) ws (sym (length-replicate {A = ℕ} n 0)) in
     omega (arith, length-append xs (padded new), length-padded new, ap rounded long)

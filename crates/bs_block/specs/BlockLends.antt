@@ -1,7 +1,7 @@
 -- What a block ends as, once a `&mut` into it has ended.
 use Rattle.std.specs.Prelude.{ℕ, List}
 use Rattle.std.specs.Borrow.{Fml, MutBor, RattleType, Array, Lends, u8}
-use Rattle.bs_block.specs.Bytes.{with_range, filled}
+use Rattle.bs_block.specs.Bytes.{with_range, extended}
 use Rattle.bs_block.specs.contracts.block.Block.{the_row}
 
 module _ (CAP : RattleType) (b : MutBor (List ℕ)) where
@@ -11,4 +11,4 @@ module _ (CAP : RattleType) (b : MutBor (List ℕ)) where
 
   -- the old bytes are as before, and those behind the n are zeros
   abbrev pub lends_fresh : ℕ → MutBor (List ℕ) → Fml
-  lends_fresh n r = Lends (the_row CAP) (Array u8 0) b r (filled b.now n)
+  lends_fresh n r = Lends (the_row CAP) (Array u8 0) b r (extended b.now n)

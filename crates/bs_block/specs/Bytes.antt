@@ -2,15 +2,18 @@
 use Rattle.std.specs.Prelude.{◌≡◌, ℕ, ◌+◌, ◌-◌, ◌%◌, ◌≤◌, ◌<◌, List, ◌++◌, length, take, drop, replicate, Option, MatchOption}
 use Rattle.std.specs.List.{refill}
 use Rattle.bs_block.specs.Rounding.{rounded}
+use Rattle.bs_block.specs.declared.block.TheConstants.{MOST_CAPACITY}
+use Rattle.bs_block.specs.declared.rounding.TheConstants.{UNIT}
 
 -- the capacities that a block may have
 abbrev pub IsCapacity : ℕ → Type 0
-IsCapacity most = (most % 16 ≡ 0) × (16 ≤ most) × (most ≤ 1073741824)
+IsCapacity cap = (cap % UNIT ≡ 0) × (UNIT ≤ cap) × (cap ≤ MOST_CAPACITY)
 
 -- n more bytes, rounded up, fit behind xs in a block of most bytes
-abbrev pub Fits : ℕ → List ℕ → ℕ → Type 0
-Fits most xs n = length xs + rounded n ≤ most
+abbrev pub HasRoom : ℕ → List ℕ → ℕ → Type 0
+HasRoom most xs n = length xs + rounded n ≤ most
 
+-- they do not
 abbrev pub Overflows : ℕ → List ℕ → ℕ → Type 0
 Overflows most xs n = most < length xs + rounded n
 
@@ -22,17 +25,17 @@ padded ws = ws ++ replicate (rounded (length ws) - length ws) 0
 abbrev pub range : ℕ → ℕ → List ℕ → List ℕ
 range at n xs = take n (drop at xs)
 
--- xs, with ws in place of the n bytes from at on; a list of another length than n is cut, or filled up with the old bytes
+-- xs, with ws in place of the n bytes from at on; a list of another length than n is cut, or extended up with the old bytes
 abbrev pub with_range : List ℕ → ℕ → ℕ → List ℕ → List ℕ
 with_range xs at n ws = take at xs ++ (refill n (range at n xs) ws ++ drop (at + n) xs)
 
 -- xs, and behind them ws in n zeros, rounded up
-abbrev pub filled : List ℕ → ℕ → List ℕ → List ℕ
-filled xs n ws = xs ++ padded (refill n (replicate n 0) ws)
+abbrev pub extended : List ℕ → ℕ → List ℕ → List ℕ
+extended xs n ws = xs ++ padded (refill n (replicate n 0) ws)
 
 -- what `push` answers, and makes of xs
 abbrev pub Pushes : ℕ → List ℕ → List ℕ → Option ℕ → List ℕ → Type 0
 Pushes most xs bytes answer ys =
     MatchOption answer
     (Overflows most xs (length bytes) × (ys ≡ xs))
-    (λ at. Fits most xs (length bytes) × (at ≡ length xs) × (ys ≡ xs ++ padded bytes))
+    (λ at. HasRoom most xs (length bytes) × (at ≡ length xs) × (ys ≡ xs ++ padded bytes))

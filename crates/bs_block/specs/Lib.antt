@@ -1,7 +1,7 @@
+pub mod BlockLayout
 pub mod BlockLends
 pub mod Bytes
-pub mod Layout
-pub mod Lends
 pub mod Ownership
-pub mod Places
+pub mod Region
+pub mod RegionLends
 pub mod Rounding

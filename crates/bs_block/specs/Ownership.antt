@@ -30,13 +30,13 @@ row_lent b o (c ∷ cs) = beside (place_lent b o c) (row_lent b (o + 1) cs)
 abbrev pub fit : List (Option ℕ) → Fml
 fit cs = flt (length cs) (2 ^ 63)
 
-abbrev pub places_own : Ptr → List (Option ℕ) → Fml
-places_own (block_ptr b o) cs = fsep (fit cs) (row b o cs)
-places_own null_ptr cs = ffalse
+abbrev pub region_own : Ptr → List (Option ℕ) → Fml
+region_own (block_ptr b o) cs = fsep (fit cs) (row b o cs)
+region_own null_ptr cs = ffalse
 
-abbrev pub places_lent : Ptr → List (Option ℕ) → Lft → Fml
-places_lent (block_ptr b o) cs = beside (said (fit cs)) (row_lent b o cs)
-places_lent null_ptr cs = said ffalse
+abbrev pub region_lent : Ptr → List (Option ℕ) → Lft → Fml
+region_lent (block_ptr b o) cs = beside (said (fit cs)) (row_lent b o cs)
+region_lent null_ptr cs = said ffalse
 
 -- the allocator's token for a block of n bytes
 abbrev pub deed_owns : (Ty → Ptr → Fml) → Ptr → ℕ → Fml

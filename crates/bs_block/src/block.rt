@@ -1,20 +1,23 @@
 //! A block and its calls. A clause sees a block as the list of its bytes.
-ghost use Rattle.std.specs.Prelude.{◌≡◌, ◌+◌, ◌-◌, ◌≤◌, [], ◌++◌, length, replicate, IfOk, MatchOption};
+ghost use Rattle.std.specs.Prelude.{◌≡◌, ◌+◌, ◌-◌, ◌≤◌, [], ◌++◌, length, take, replicate, IfOk, MatchOption};
 ghost use Rattle.std.specs.Borrow.{sem};
-ghost use Rattle.bs_block.specs.Bytes.{IsCapacity, Fits, Overflows, Pushes, range};
+ghost use Rattle.bs_block.specs.Bytes.{IsCapacity, HasRoom, Overflows, Pushes, range};
 ghost use Rattle.bs_block.specs.Rounding.{rounded};
 
-use crate::raw::{Base, Deed, Places, allocate, deallocate};
+use crate::raw::{Base, Deed, Region, allocate, deallocate};
 use crate::rounding::round_up;
 use std::alloc::{AllocError, Global};
 use std::marker::Model;
 
-/// One allocation of `CAP` bytes, seen as the list of those in use. `CAP` is a multiple of 16 from 16 to 1,073,741,824.
-/// Each append takes its size rounded up to a multiple of 16. The block alone owns its bytes, and its drop frees them.
+/// The most bytes that a block may have.
+pub const MOST_CAPACITY: usize = 1_073_741_824;
+
+/// One allocation of `CAP` bytes, seen as the list of those in use. `CAP` is a multiple of `UNIT`, not 0, of at most
+/// `MOST_CAPACITY`. Each append takes its size rounded up to a multiple of `UNIT`. The block alone owns its bytes, and its drop frees them.
 pub struct Block<const CAP: usize> {
     base: Base,
     len: usize,
-    places: Places,
+    region: Region,
     deed: Deed<Global>,
     alloc: Global,
 }
@@ -24,7 +27,7 @@ impl<const CAP: usize> Model for Block<CAP> {
 
     ghost Value = { List ℕ };
 
-    ghost use Rattle.bs_block.specs.Layout.{bytes_of, IsBlock};
+    ghost use Rattle.bs_block.specs.BlockLayout.{bytes_of, IsBlock};
 
     ghost view = { λ b. bytes_of b };
 
@@ -40,11 +43,11 @@ impl<const CAP: usize> Block<CAP> {
         requires { IsCapacity CAP }
         ensures { IfOk result (λ b. b ≡ []) }
     {
-        let (base, places, deed) = allocate(&alloc, CAP)?;
+        let (base, region, deed) = allocate(&alloc, CAP)?;
         Ok(Block {
             base,
             len: 0,
-            places,
+            region,
             deed,
             alloc,
         })
@@ -60,7 +63,7 @@ impl<const CAP: usize> Block<CAP> {
     /// The number of bytes that are left.
     pub fn room(&self) -> usize
         ensures room { result + length self.now ≡ CAP }
-        ensures most { result ≤ 1073741824 }
+        ensures most { result ≤ MOST_CAPACITY }
     {
         CAP - self.len
     }
@@ -78,7 +81,19 @@ impl<const CAP: usize> Block<CAP> {
         ensures value { result.now ≡ range at n self.now }
         ensures len { length result.now ≡ n }
     {
-        self.places.slice(self.base, at, n)
+        self.region.slice(self.base, at, n)
+    }
+
+    /// The bytes before `at`, to read, and the `n` from `at` on, to write.
+    fn lend(&mut self, at: usize, n: usize) -> (&[u8], &mut [u8])
+        requires { at + n ≤ length self.old }
+        ensures* writes_back { sem 𝓛 (lends_range CAP.row self.entry at n result.1) }
+        ensures front { result.0.now ≡ take at self.old }
+        ensures run { result.1.now ≡ range at n self.old }
+        ensures len { length result.1.now ≡ n }
+    {
+        let base = self.base;
+        self.region.split(base, at, n)
     }
 
     /// The `n` bytes from `at` on, to write.
@@ -88,15 +103,36 @@ impl<const CAP: usize> Block<CAP> {
         ensures value { result.now ≡ range at n self.old }
         ensures len { length result.now ≡ n }
     {
-        let base = self.base;
-        let (_, run) = self.places.split(base, at, n);
+        let (_, run) = self.lend(at, n);
         run
+    }
+
+    /// Appends the bytes, and no zeros.
+    fn append(&mut self, bytes: &[u8])
+        requires { length self.old + length bytes.now ≤ CAP }
+        ensures bytes { self.new ≡ self.old ++ bytes.now }
+        ensures len { length self.new ≡ length self.old + length bytes.now }
+    {
+        let (base, at) = (self.base, self.len);
+        self.region.write_slice(base, at, bytes);
+        self.len = at + bytes.len();
+    }
+
+    /// Appends `n` zeros.
+    fn append_zeros(&mut self, n: usize)
+        requires { length self.old + n ≤ CAP }
+        ensures bytes { self.new ≡ self.old ++ replicate n 0 }
+        ensures len { length self.new ≡ length self.old + n }
+    {
+        let (base, at) = (self.base, self.len);
+        self.region.write_zeros(base, at, n);
+        self.len = at + n;
     }
 
     /// The rounded size of `n` bytes, where it does not exceed the room.
     #[tactic(auto, using(crate::proofs::Rounded::rounded_above))]
     fn fitting(&self, n: usize) -> Option<usize>
-        ensures { MatchOption result (Overflows CAP self.now n) (λ size. Fits CAP self.now n × (size ≡ rounded n)) }
+        ensures { MatchOption result (Overflows CAP self.now n) (λ size. HasRoom CAP self.now n × (size ≡ rounded n)) }
     {
         let room = self.room();
         if n > room {
@@ -109,41 +145,38 @@ impl<const CAP: usize> Block<CAP> {
         Some(size)
     }
 
-    /// Appends the bytes, then zeros up to a multiple of 16, and answers the old length: where the bytes now lie.
+    /// Appends the bytes, then zeros up to a multiple of `UNIT`, and answers the old length: where the bytes now lie.
     /// `None` where the rounded size exceeds the room.
     #[tactic(auto, using(crate::proofs::Rounded::rounded_above))]
     pub fn push(&mut self, bytes: &[u8]) -> Option<usize>
         ensures { Pushes CAP self.old bytes.now result self.new }
     {
         let size = self.fitting(bytes.len())?;
-        let (base, at, n) = (self.base, self.len, bytes.len());
-        self.places.write_slice(base, at, bytes);
-        self.places.write_zeros(base, at + n, size - n);
-        self.len = at + size;
+        let at = self.len;
+        self.append(bytes);
+        self.append_zeros(size - bytes.len());
         Some(at)
     }
 
     /// Appends `n` zeros, rounded up, and lends at once all the old bytes, to read, and the `n` zeros, to write.
     /// Test first that it fits: `round_up(n) <= room()`.
-    #[tactic(auto, using(crate::proofs::Rounded::rounded_above))]
+    #[tactic(auto, using(crate::proofs::Rounded::rounded_above, crate::proofs::Runs::extended_by, crate::proofs::Runs::old_by, crate::proofs::Runs::fresh_by))]
     pub fn fill(&mut self, n: usize) -> (&[u8], &mut [u8])
-        requires { Fits CAP self.old n }
+        requires { HasRoom CAP self.old n }
         ensures* writes_back { sem 𝓛 (lends_fresh CAP.row self.entry n result.1) }
         ensures old { result.0.now ≡ self.old }
         ensures fresh { result.1.now ≡ replicate n 0 }
         ensures len { length result.1.now ≡ n }
     {
-        let (base, old) = (self.base, self.len);
-        let size = round_up(n);
-        self.places.write_zeros(base, old, size);
-        self.len += size;
-        self.places.split(base, old, n)
+        let old = self.len;
+        self.append_zeros(round_up(n));
+        self.lend(old, n)
     }
 
     /// `fill`, or `None` where the rounded size exceeds the room. A caller's proof does not learn from it what stands in
     /// the block after the loan, as it does from `fill`.
     pub fn split_fill(&mut self, n: usize) -> Option<(&[u8], &mut [u8])>
-        ensures { MatchOption result (Overflows CAP self.old n) (λ parts. Fits CAP self.old n × (parts.0.now ≡ self.old) × (parts.1.now ≡ replicate n 0)) }
+        ensures { MatchOption result (Overflows CAP self.old n) (λ parts. HasRoom CAP self.old n × (parts.0.now ≡ self.old) × (parts.1.now ≡ replicate n 0)) }
     {
         self.fitting(n)?;
         Some(self.fill(n))
@@ -155,10 +188,10 @@ impl<const CAP: usize> Drop for Block<CAP> {
         let Block {
             base,
             len: _,
-            places,
+            region,
             deed,
             alloc,
         } = self;
-        deallocate(&alloc, base, CAP, places, deed);
+        deallocate(&alloc, base, CAP, region, deed);
     }
 }

@@ -7,8 +7,8 @@ mod rounding;
 #[cfg(test)]
 mod tests;
 
-pub use block::Block;
+pub use block::{Block, MOST_CAPACITY};
 // A crate can name a block in a contract only if the types of its fields are exported.
 #[doc(hidden)]
-pub use raw::{Base, Deed, Places};
-pub use rounding::round_up;
+pub use raw::{Base, Deed, Region};
+pub use rounding::{UNIT, round_up};

@@ -3,8 +3,8 @@ ghost use Rattle.std.specs.Prelude.{◌≡◌, ℕ, ◌+◌, ◌<◌, ◌≤◌,
 ghost use Rattle.std.specs.Borrow.{sem};
 ghost use base.Fml.{ftrue};
 ghost use denote.RawPtr.{Ptr};
-ghost use Rattle.bs_block.specs.Places.{IsRun, spliced};
-ghost use Rattle.bs_block.specs.Ownership.{places_own, places_lent, deed_owns};
+ghost use Rattle.bs_block.specs.Region.{IsRun, spliced};
+ghost use Rattle.bs_block.specs.Ownership.{region_own, region_lent, deed_owns};
 
 use std::alloc::{AllocError, Allocator};
 use std::marker::{Model, PhantomData, Send, Sync};
@@ -32,21 +32,21 @@ unsafe impl Send for Base {}
 unsafe impl Sync for Base {}
 
 /// The owner of the places. It takes no space.
-pub struct Places {
+pub struct Region {
     mark: PhantomData<*const u8>,
     ghost at: { Ptr },
     ghost slots: { List (Option ℕ) },
 }
 
-impl Model for Places {
-    ghost also_owns = { λ p. places_own p.at p.slots };
+impl Model for Region {
+    ghost also_owns = { λ p. region_own p.at p.slots };
 
-    ghost also_shares = { λ p _ κ. places_lent p.at p.slots κ };
+    ghost also_shares = { λ p _ κ. region_lent p.at p.slots κ };
 }
 
-unsafe impl Send for Places {}
+unsafe impl Send for Region {}
 
-unsafe impl Sync for Places {}
+unsafe impl Sync for Region {}
 
 /// The right to give `len` bytes at `at` back to `alloc`. It takes no space.
 pub struct Deed<A: Allocator> {
@@ -71,14 +71,14 @@ unsafe impl<A: Allocator> Sync for Deed<A> {}
 pub(crate) fn allocate<A: Allocator>(
     alloc: &A,
     len: usize,
-) -> Result<(Base, Places, Deed<A>), AllocError>
+) -> Result<(Base, Region, Deed<A>), AllocError>
     requires { len < 2 ^ 63 }
     ensures { IfOk result (λ r. (r.1.at ≡ r.0.ptr) × (r.1.slots ≡ replicate len None) × (r.2.at ≡ r.0.ptr) × (r.2.len ≡ len) × (r.2.alloc ≡ alloc.now)) }
 {
     match alloc.allocate(len, 1) {
         Ok(ptr) => Ok((
             Base { ptr },
-            Places { mark: PhantomData },
+            Region { mark: PhantomData },
             Deed { mark: PhantomData },
         )),
         Err(error) => Err(error),
@@ -89,18 +89,18 @@ pub(crate) fn deallocate<A: Allocator>(
     alloc: &A,
     base: Base,
     len: usize,
-    places: Places,
+    region: Region,
     deed: Deed<A>,
 )
-    requires { (places.at ≡ base.ptr) × (length places.slots ≡ len) × (deed.at ≡ base.ptr) × (deed.len ≡ len) × (deed.alloc ≡ alloc.now) }
+    requires { (region.at ≡ base.ptr) × (length region.slots ≡ len) × (deed.at ≡ base.ptr) × (deed.len ≡ len) × (deed.alloc ≡ alloc.now) }
 {
-    let Places { mark: _ } = places;
+    let Region { mark: _ } = region;
     let Deed { mark: _ } = deed;
     unsafe { alloc.deallocate(base.ptr, len, 1) }
 }
 
-impl Places {
-    ghost use Rattle.bs_block.specs.Lends.{lends_run};
+impl Region {
+    ghost use Rattle.bs_block.specs.RegionLends.{lends_run};
 
     pub(crate) fn write(&mut self, base: Base, at: usize, byte: u8)
         requires { (base.ptr ≡ self.old.at) × (at < length self.old.slots) }
@@ -134,7 +134,7 @@ impl Places {
 }
 
 /// Safe steps over runs of places.
-impl Places {
+impl Region {
     pub(crate) fn write_slice(&mut self, base: Base, at: usize, bytes: &[u8])
         requires { (base.ptr ≡ self.old.at) × (at + length bytes.now ≤ length self.old.slots) × (length self.old.slots < 2 ^ 63) }
         ensures { (self.new.at ≡ self.old.at) × (self.new.slots ≡ spliced self.old.slots at (length bytes.now) bytes.now) }

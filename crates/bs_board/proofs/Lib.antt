@@ -1,12 +1,4 @@
-pub mod Ascending
-pub mod Fields
-pub mod Lengths
-pub mod Places
 pub mod Chains
-pub mod ReadBoard
-pub mod ReadSnake
-pub mod Repeats
-pub mod Sizes
+pub mod Distinct
+pub mod Seen
 pub mod Utf8
-pub mod Writable
-pub mod Writing

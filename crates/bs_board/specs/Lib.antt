@@ -1,12 +1,6 @@
-pub mod Cell
 pub mod Distinct
-pub mod Legal
-pub mod Lending
-pub mod Orders
-pub mod Over
-pub mod Plan
-pub mod Reading
-pub mod Record
-pub mod Setup
 pub mod Texts
-pub mod Writing
+pub mod boards
+pub mod commands
+pub mod plans
+pub mod records

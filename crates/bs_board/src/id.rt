@@ -1,7 +1,11 @@
+//! Short texts that name snakes and games.
+
+use crate::limits::LONGEST_ID;
 use std::alloc::{AllocError, Global};
 use std::marker::Model;
 
-/// A short text that names a snake or a game; where it is read from a line it has 1 to 64 bytes. Clauses see its bytes.
+/// A text that names a snake or a game: in a setup, on a board and in a plan of 1 to 64 bytes, in a move of any length.
+/// Clauses see its bytes.
 #[derive(Debug, Drop)]
 pub struct Id {
     text: String,
@@ -18,14 +22,16 @@ impl Model for Id {
 impl Id {
     ghost use Rattle.std.specs.Prelude.{◌≡◌, true, IfOk, length, string_bytes};
     ghost use Rattle.std.specs.Str.{is_utf8};
-    ghost use Rattle.bs_board.specs.Texts.{is_same_text, is_text_below};
+    ghost use Rattle.bs_board.specs.Texts.{is_same_text, is_short_text, is_text_below};
 
+    /// The id that is this text.
     pub fn from_string(text: String) -> Id
         ensures { result ≡ string_bytes text }
     {
         Id { text }
     }
 
+    /// The id that is a copy of this text.
     pub fn from_str(alloc: Global, text: &str) -> Result<Id, AllocError>
         ensures { IfOk result (λ id. id ≡ text.now) }
     {
@@ -34,6 +40,7 @@ impl Id {
         })
     }
 
+    /// Its text.
     pub fn as_str(&self) -> &str
         ensures { result.now ≡ self.now }
     {
@@ -41,36 +48,47 @@ impl Id {
     }
 
     #[tactic(auto, using(crate::proofs::Utf8::is_text))]
-    pub(crate) fn as_bytes(&self) -> &[u8]
+    /// Its bytes, which are UTF-8.
+    pub fn as_bytes(&self) -> &[u8]
         ensures value { result.now ≡ self.now }
         ensures text { is_utf8 self.now ≡ true }
     {
-        self.text.as_str().as_bytes()
+        self.as_str().as_bytes()
     }
 
     /// The number of bytes.
     pub fn len(&self) -> usize
         ensures { result ≡ length self.now }
     {
-        self.text.as_str().len()
+        self.as_bytes().len()
     }
 
+    /// Whether it has 1 to 64 bytes.
+    pub fn is_short(&self) -> bool
+        ensures { result ≡ is_short_text self.now }
+    {
+        let bytes = self.as_bytes();
+        1 <= bytes.len() && bytes.len() <= LONGEST_ID
+    }
+
+    /// Whether it is the other one, byte for byte.
     pub fn is_same(&self, other: &Id) -> bool
         ensures { result ≡ is_same_text self.now other.now }
     {
-        self.text.as_str() == other.text.as_str()
+        self.as_str() == other.as_str()
     }
 
     /// Whether this id comes before the other one, by their bytes.
     pub fn is_below(&self, other: &Id) -> bool
         ensures { result ≡ is_text_below self.now other.now }
     {
-        self.text.as_str() < other.text.as_str()
+        self.as_str() < other.as_str()
     }
 
+    /// The same value in memory of its own.
     pub fn copy(&self, alloc: Global) -> Result<Id, AllocError>
         ensures { IfOk result (λ id. id ≡ self.now) }
     {
-        Id::from_str(alloc, self.text.as_str())
+        Id::from_str(alloc, self.as_str())
     }
 }

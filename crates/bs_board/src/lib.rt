@@ -3,39 +3,34 @@
 //! its record: how long it is, and how it is written and read.
 #![tactic(auto)]
 
-pub mod board;
-pub mod cells;
-pub mod command;
-pub mod decode_error;
-pub mod decoding;
-pub mod encoding;
+pub mod boards;
+pub mod commands;
 pub mod id;
-pub mod legal;
-mod limits;
-pub mod orders;
-pub mod plan;
-pub mod point;
-pub mod record;
-pub mod reply;
-pub mod setup;
-pub mod snake;
-pub mod snakes;
+pub mod limits;
+pub mod plans;
+pub mod records;
 #[cfg(test)]
 mod tests;
 
-pub use board::{Board, Mode};
-pub use cells::Cells;
-pub use command::{Command, TurnNumber, Word};
-pub use decode_error::Decode;
-pub use decoding::decode;
-pub use encoding::{encode, encode_into};
+pub use boards::board::{Board, Mode};
+pub use boards::body::head_of;
+pub use boards::cells::Cells;
+pub use boards::legal::is_legal;
+pub use boards::point::{Direction, Point};
+pub use boards::snake::{Cause, Snake};
+pub use boards::snakes::Snakes;
+pub use commands::command::{Command, TurnNumber, Word};
+pub use commands::moves::Moves;
+pub use commands::orders::Move;
+pub use commands::reply::{Refusal, Reply};
+pub use commands::setup::New;
+pub use commands::starts::Starts;
+pub use commands::words::Words;
 pub use id::Id;
-pub use legal::is_legal;
-pub use orders::{Move, Moves, Words};
-pub use plan::{Plan, Row, Rows};
-pub use point::{Direction, Point};
-pub use record::size;
-pub use reply::{Refusal, Reply};
-pub use setup::{New, Starts};
-pub use snake::{Cause, Snake};
-pub use snakes::Snakes;
+pub use plans::plan::{Plan, Rows};
+pub use plans::row::Row;
+pub use records::decode_error::Decode;
+pub use records::decoding::decode;
+pub use records::encoding::{encode, encode_into};
+pub use records::sizes::size;
+pub use records::turn::turn_of_record;

@@ -1,110 +1,43 @@
-// The limits of a new game, each a test of its own.
-ghost use Rattle.std.specs.Prelude.{◌≡◌};
-ghost use Rattle.std.specs.List.{list_all, list_any};
-ghost use Rattle.bs_board.specs.Cell.{is_on_board, are_distinct_cells, is_same_cell};
-ghost use Rattle.bs_board.specs.Distinct.{are_distinct};
-ghost use Rattle.bs_board.specs.Setup.{is_side, is_fit_start, are_fit_starts, is_fit_food};
-ghost use Rattle.bs_board.specs.Texts.{is_same_text, is_short_text};
+//! The limits of boards, games, commands and plans, each named once.
 
-use crate::id::Id;
-use crate::point::Point;
+/// The shortest side of a board, in cells.
+pub const SHORTEST_SIDE: u8 = 3;
 
-pub fn is_side(cells: u8) -> bool
-    ensures { result ≡ is_side cells }
-{
-    3 <= cells && cells <= 25
-}
+/// The longest side of a board, in cells.
+pub const LONGEST_SIDE: u8 = 25;
 
-pub fn is_short(id: &Id) -> bool
-    ensures { result ≡ is_short_text id.now }
-{
-    let bytes = id.as_bytes();
-    1 <= bytes.len() && bytes.len() <= 64
-}
+/// The most snakes that a board has.
+pub const MOST_SNAKES: usize = 8;
 
-fn is_fit_start(width: u8, height: u8, start: &(Id, Point)) -> bool
-    ensures { result ≡ is_fit_start width height start.now }
-{
-    is_short(&start.0) && start.1.is_on_board(width, height)
-}
+/// The parts that a snake starts with. It never has fewer, and at most one more for each turn.
+pub const FIRST_PARTS: usize = 3;
 
-fn has_id(starts: &[(Id, Point)], id: &Id) -> bool
-    ensures { result ≡ list_any (λ start. is_same_text id.now start.0) starts.now }
-{
-    starts.iter().any(|start| id.is_same(&start.0))
-}
+/// The health that a snake starts with and that food gives back.
+pub const FULL_HEALTH: u8 = 100;
 
-fn has_distinct_ids(starts: &[(Id, Point)]) -> bool
-    ensures { result ≡ are_distinct (λ s t. is_same_text s.0 t.0) starts.now }
-{
-    for seat in 0..starts.len() {
-        if has_id(&starts[seat + 1..], &starts[seat].0) {
-            return false;
-        }
-    }
-    true
-}
+/// The greatest minimum of food: what a byte holds.
+pub const MOST_MIN_FOOD: u8 = 255;
 
-fn has_start(starts: &[(Id, Point)], cell: Point) -> bool
-    ensures { result ≡ list_any (λ start. is_same_cell cell start.1) starts.now }
-{
-    starts.iter().any(|start| cell.is_same_cell(start.1))
-}
+/// The greatest chance of food, in percent.
+pub const MOST_CHANCE: u8 = 100;
 
-fn has_distinct_cells(starts: &[(Id, Point)]) -> bool
-    ensures { result ≡ are_distinct (λ s t. is_same_cell s.1 t.1) starts.now }
-{
-    for seat in 0..starts.len() {
-        if has_start(&starts[seat + 1..], starts[seat].1) {
-            return false;
-        }
-    }
-    true
-}
+/// The number of the last turn that a game plays.
+pub const LAST_TURN: u16 = 10_000;
 
-pub fn has_cell(cells: &[Point], cell: Point) -> bool
-    ensures { result ≡ list_any (is_same_cell cell) cells.now }
-{
-    cells.iter().any(|other| cell.is_same_cell(*other))
-}
+/// The most bytes of a short text, which names a snake or a game.
+pub const LONGEST_ID: usize = 64;
 
-pub fn are_distinct_cells(cells: &[Point]) -> bool
-    ensures { result ≡ are_distinct_cells cells.now }
-{
-    for index in 0..cells.len() {
-        if has_cell(&cells[index + 1..], cells[index]) {
-            return false;
-        }
-    }
-    true
-}
+/// The most words of a move.
+pub const MOST_WORDS: usize = 32;
 
-fn have_fit_members(width: u8, height: u8, starts: &[(Id, Point)]) -> bool
-    ensures { result ≡ list_all (is_fit_start width height) starts.now }
-{
-    starts
-        .iter()
-        .all(|start| is_fit_start(width, height, start))
-}
+/// The most games of a plan.
+pub const MOST_ROWS: usize = 64;
 
-pub fn are_fit_starts(width: u8, height: u8, starts: &[(Id, Point)]) -> bool
-    ensures { result ≡ are_fit_starts width height starts.now }
-{
-    1 <= starts.len()
-        && starts.len() <= 8
-        && have_fit_members(width, height, starts)
-        && has_distinct_ids(starts)
-        && has_distinct_cells(starts)
-}
+/// The smallest quota of a game, in bytes.
+pub const LEAST_QUOTA: u32 = 16;
 
-fn are_on_board(width: u8, height: u8, cells: &[Point]) -> bool
-    ensures { result ≡ list_all (is_on_board width height) cells.now }
-{
-    cells.iter().all(|cell| cell.is_on_board(width, height))
-}
+/// The greatest quota of a game, in bytes.
+pub const MOST_QUOTA: u32 = 16_777_216;
 
-pub fn is_fit_food(width: u8, height: u8, food: &[Point]) -> bool
-    ensures { result ≡ is_fit_food width height food.now }
-{
-    are_on_board(width, height, food) && are_distinct_cells(food)
-}
+/// The most bytes of a legal board's record.
+pub const LONGEST_RECORD: usize = 161_885;

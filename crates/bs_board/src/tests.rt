@@ -1,3 +1,5 @@
+//! Tests of what no clause says: that calls succeed while there is memory, and whole examples.
+
 use crate::*;
 use std::alloc::{AllocError, Global};
 use std::process::Abort;
@@ -108,8 +110,9 @@ fn limits_of_a_setup(rt: HostRuntime) -> Result<(), Fail> {
             "quota {quota}"
         );
     }
-    for (number, fits) in [(10_000, true), (10_001, false)] {
-        assert_eq!(rt; TurnNumber::new(number).is_some(), fits, "turn {number}");
+    for (number, want) in [(10_000, Some(10_000)), (10_001, None)] {
+        let read = TurnNumber::new(number).map(|turn| turn.number());
+        assert_eq!(rt; read, want, "turn {number}");
     }
     Ok(())
 }
@@ -149,31 +152,65 @@ fn copies_are_as_their_sources(rt: HostRuntime) -> Result<(), Fail> {
     Ok(())
 }
 
-#[test]
-fn commands_and_plans_copy(rt: HostRuntime) -> Result<(), Fail> {
-    let alloc = rt.alloc();
+fn orders(rt: &impl Abort, alloc: Global) -> Result<Move, Fail> {
     let given = vec![in alloc;
         (Id::from_str(alloc, "a")?, Direction::Up),
         (Id::from_str(alloc, "b")?, Direction::Left),
     ]?;
-    assert!(rt; orders::is_ascending(&given));
+    assert!(rt; commands::orders::is_ascending(&given));
     let words = Words::from_vec(vec![in alloc; 5, 6]?);
-    assert!(rt; words.as_slice().len() <= 32);
-    let order = Command::Move(Move::new(Moves::from_vec(given), words));
-    match order.copy(alloc)? {
-        Command::Move(copy) => {
-            let moves = copy.moves.as_slice();
-            assert_eq!(rt; moves.len(), 2);
-            assert_eq!(rt; moves[1].0.as_str(), "b");
-            assert_eq!(rt; (moves[0].1, moves[1].1), (Direction::Up, Direction::Left));
-            assert_eq!(rt; copy.words.as_slice(), [5, 6].as_slice());
-        }
-        _ => assert!(rt; false, "another command"),
-    }
+    assert!(rt; words.as_slice().len() <= limits::MOST_WORDS);
+    Ok(Move::new(Moves::from_vec(given), words))
+}
+
+#[test]
+fn a_move_is_copied(rt: HostRuntime) -> Result<(), Fail> {
+    let alloc = rt.alloc();
+    let command = Command::Move(orders(&rt, alloc)?);
+    let Command::Move(copy) = command.copy(alloc)? else {
+        return Err(Fail::from("another command"));
+    };
+    let moves = copy.moves.as_slice();
+    assert_eq!(rt; moves.len(), 2);
+    assert_eq!(rt; moves[1].0.as_str(), "b");
+    assert_eq!(rt; (moves[0].1, moves[1].1), (Direction::Up, Direction::Left));
+    assert_eq!(rt; copy.words.as_slice(), [5, 6].as_slice());
+    Ok(())
+}
+
+fn assert_start(rt: &impl Abort, start: &(Id, Point), id: &str, cell: Point) {
+    assert_eq!(rt; start.0.as_str(), id);
+    assert_eq!(rt; start.1, cell);
+}
+
+#[test]
+fn a_setup_is_copied(rt: HostRuntime) -> Result<(), Fail> {
+    let alloc = rt.alloc();
+    let starts = vec![in alloc; start(alloc, "s", 1, 1)?, start(alloc, "t", 2, 0)?]?;
+    let new = setup(alloc, 3, starts, &[(0, 2)])?.ok_or("fits")?;
+    let Command::New(copy) = Command::New(new).copy(alloc)? else {
+        return Err(Fail::from("another command"));
+    };
+    assert_eq!(rt;
+        (copy.mode, copy.width, copy.height),
+        (Mode::Standard, 3, 3)
+    );
+    assert_eq!(rt; (copy.min_food, copy.chance), (1, 15));
+    assert_eq!(rt; copy.food.as_slice(), [Point { x: 0, y: 2 }].as_slice());
+    let starts = copy.snakes.as_slice();
+    assert_eq!(rt; starts.len(), 2);
+    assert_start(&rt, &starts[0], "s", Point { x: 1, y: 1 });
+    assert_start(&rt, &starts[1], "t", Point { x: 2, y: 0 });
+    Ok(())
+}
+
+#[test]
+fn a_plan_is_copied(rt: HostRuntime) -> Result<(), Fail> {
+    let alloc = rt.alloc();
     let row = Row::new(Id::from_str(alloc, "a")?, 64).ok_or("fits")?;
     let rows = vec![in alloc; row]?;
-    assert!(rt; plan::have_distinct_names(&rows));
-    assert!(rt; rows.len() <= 64);
+    assert!(rt; plans::plan::have_distinct_names(&rows));
+    assert!(rt; rows.len() <= limits::MOST_ROWS);
     let plan = Plan {
         rows: Rows::from_vec(rows),
     }
@@ -193,7 +230,7 @@ const LAST: [u8; 26] = [
 ];
 
 #[test]
-#[tactic(auto, using(crate::proofs::Sizes::legal_size_fits))]
+#[tactic(auto, using(crate::proofs::records::Longest::legal_size_fits))]
 fn records_both_ways(rt: HostRuntime) -> Result<(), Fail> {
     let alloc = rt.alloc();
     for (turn, record) in [(0, FIRST), (2, LAST)] {

@@ -1,5 +1,5 @@
-pub mod Filling
-pub mod Fitting
-pub mod Freedom
-pub mod Places
+pub mod FreeCells
+pub mod MarkedCells
+pub mod Minimum
+pub mod NewFood
 pub mod Rows

@@ -4,7 +4,7 @@ use Rattle.std.specs.Prelude.{if◌then◌else◌}
 use Rattle.std.specs.List.{filter, flat_map, range_with_len}
 use Rattle.std.proofs.lemmas.List.FromFn.{filter_of_map_range_with_len_more}
 use Rattle.std.proofs.lemmas.Grind.{flat_map-append}
-use Rattle.bs_board.specs.declared.point.Point.{Point}
+use Rattle.bs_board.specs.declared.boards.point.Point.{Point}
 use Rattle.bs_food.specs.Free.{point_at, row_of_cells}
 use Rattle.bs_food.specs.Marks.{is_marked, unmarked, unmarked_cell, unmarked_row}
 

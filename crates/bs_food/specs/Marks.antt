@@ -1,30 +1,27 @@
--- Marks of a board's cells, row after row.
-use Rattle.std.specs.Prelude.{◌≡◌, ℕ, ◌+◌, ◌*◌, ◌<◌, Bool, false, not, ◌||◌, if◌then◌else◌, List, [], ◌∷◌, slice_index_or, filter, flat_map, nat_abs}
+-- Marks of a board's cells by their index. Only the contracts of private functions cite these words.
+use Rattle.std.specs.Prelude.{◌≡◌, ℕ, ◌<◌, Bool, false, not, ◌||◌, if◌then◌else◌, List, [], ◌∷◌, slice_index_or, filter, flat_map}
 use Rattle.std.specs.List.{list_any, range_with_len}
-use Rattle.bs_board.specs.declared.point.Point.{Point}
-use Rattle.bs_board.specs.declared.snake.Snake.{Snake}
-use Rattle.bs_board.specs.Cell.{is_same_cell}
+use Rattle.bs_board.specs.declared.boards.point.Point.{Point}
+use Rattle.bs_board.specs.declared.boards.snake.Snake.{Snake}
+use Rattle.bs_board.specs.boards.Cell.{is_same_cell, cell_index}
 use Rattle.bs_food.specs.Free.{point_at, row_of_cells, stands_on}
 
-abbrev pub place_in : ℕ → Point → ℕ
-place_in width p = nat_abs p.y * width + nat_abs p.x
-
 abbrev pub is_marked : ℕ → List Bool → Point → Bool
-is_marked width marks p = slice_index_or marks (place_in width p) false
+is_marked width marks p = slice_index_or marks (cell_index width p) false
 
 -- the new marks are the old ones and those of the cells that pass the test
-abbrev pub Adds : ℕ → ℕ → (Point → Bool) → List Bool → List Bool → Type 0
-Adds width height test old new =
+abbrev pub AddMarks : ℕ → ℕ → (Point → Bool) → List Bool → List Bool → Type 0
+AddMarks width height test old new =
     (x y : ℕ) → x < width → y < height → is_marked width new (point_at x y) ≡ (is_marked width old (point_at x y) || test (point_at x y))
 
 pub record MarksCell (width height : ℕ) (cell : Point) (old new : List Bool) : Type 0 where
-  pub adds : Adds width height (λ p. is_same_cell p cell) old new
+  pub adds : AddMarks width height (λ p. is_same_cell p cell) old new
 
 pub record MarksCells (width height : ℕ) (cells : List Point) (old new : List Bool) : Type 0 where
-  pub adds : Adds width height (λ p. list_any (is_same_cell p) cells) old new
+  pub adds : AddMarks width height (λ p. list_any (is_same_cell p) cells) old new
 
 pub record MarksSnakes (width height : ℕ) (snakes : List Snake) (old new : List Bool) : Type 0 where
-  pub adds : Adds width height (λ p. list_any (stands_on p) snakes) old new
+  pub adds : AddMarks width height (λ p. list_any (stands_on p) snakes) old new
 
 -- the cell itself, where it has no mark
 abbrev pub unmarked_cell : ℕ → ℕ → ℕ → List Bool → List Point

@@ -1,31 +1,32 @@
 -- Where new food appears: a function of the board and of the words alone.
-use Rattle.std.specs.Prelude.{ℕ, ◌%◌, ◌==◌, if◌then◌else◌, List, [], ◌∷◌, ◌++◌, length, nat_lt, slice_index_or, pos}
-use Rattle.bs_board.specs.declared.point.Point.{Point}
-use Rattle.bs_board.specs.declared.board.Board.{Board}
+use Rattle.std.specs.Prelude.{ℕ, ◌-◌, ◌%◌, ◌==◌, if◌then◌else◌, List, [], ◌∷◌, ◌++◌, length, take, fold, nat_lt, slice_index_or}
+use Rattle.bs_board.specs.declared.boards.point.Point.{Point}
+use Rattle.bs_board.specs.declared.boards.board.Board.{Board}
+use Rattle.bs_board.specs.boards.Cell.{origin}
+use Rattle.bs_board.specs.declared.limits.TheConstants.{MOST_CHANCE}
 use Rattle.bs_food.specs.Free.{free_cells}
 
 -- the newest food comes last
-abbrev pub with_food : Board → Point → Board
-with_food b cell = record b { food = b.food ++ cell ∷ [] }
+abbrev pub with_new_food : Board → Point → Board
+with_new_food b cell = record b { food = b.food ++ cell ∷ [] }
 
 -- the free cell that a word chooses
-abbrev pub chosen : ℕ → List Point → Point
-chosen word free = slice_index_or free (word % length free) (record { x = pos 0; y = pos 0 })
+abbrev pub cell_by_word : ℕ → List Point → Point
+cell_by_word word free = slice_index_or free (word % length free) origin
 
 -- one food on a free cell, where there is one
-unfoldable pub placed : ℕ → Board → Board
-placed word b = if length (free_cells b) == 0 then b else with_food b (chosen word (free_cells b))
+unfoldable pub with_one_food : ℕ → Board → Board
+with_one_food word b = if length (free_cells b) == 0 then b else with_new_food b (cell_by_word word (free_cells b))
 
--- up to the minimum, a word for each
-abbrev pub filled : List ℕ → Board → Board
-filled [] b = b
-filled (word ∷ words) b = if nat_lt (length b.food) b.min_food then filled words (placed word b) else b
+-- up to the minimum, a word for each that is missing
+abbrev pub with_food_up_to_minimum : List ℕ → Board → Board
+with_food_up_to_minimum words b = fold (λ c word. with_one_food word c) b (take (b.min_food - length b.food) words)
 
 -- the first word decides whether there is food, the second where
-abbrev pub by_chance : List ℕ → Board → Board
-by_chance [] b = b
-by_chance (_ ∷ []) b = b
-by_chance (first ∷ second ∷ _) b = if nat_lt (first % 100) b.chance then placed second b else b
+abbrev pub with_food_by_chance : List ℕ → Board → Board
+with_food_by_chance [] b = b
+with_food_by_chance (_ ∷ []) b = b
+with_food_by_chance (first ∷ second ∷ _) b = if nat_lt (first % MOST_CHANCE) b.chance then with_one_food second b else b
 
 unfoldable pub spawned : List ℕ → Board → Board
-spawned words b = if nat_lt (length b.food) b.min_food then filled words b else by_chance words b
+spawned words b = if nat_lt (length b.food) b.min_food then with_food_up_to_minimum words b else with_food_by_chance words b

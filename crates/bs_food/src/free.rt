@@ -1,3 +1,5 @@
+//! The cells on which food may appear.
+
 ghost use Rattle.std.specs.Prelude.{◌≡◌, ◌≤◌, ◌+◌, ◌*◌, ◌<◌, ◌++◌, IfOk, OnOk, length, replicate, false};
 ghost use Rattle.bs_food.specs.Free.{free_cells};
 ghost use Rattle.bs_food.specs.Marks.{unmarked, unmarked_cell, unmarked_row};
@@ -6,13 +8,15 @@ use crate::marks::{mark_all, mark_snakes};
 use bs_board::{Board, Point};
 use std::alloc::{AllocError, Global};
 
-#[tactic(auto, using(crate::proofs::Freedom::unmarked_are_free))]
+#[tactic(auto, using(crate::proofs::FreeCells::unmarked_are_free))]
 fn mark_taken(taken: &mut [bool], board: &Board)
     requires { taken.old ≡ replicate (board.now.width * board.now.height) false }
     ensures { unmarked board.now.width board.now.height taken.new ≡ free_cells board.now }
 {
-    mark_all(taken, board.width, board.height, board.food.as_slice());
-    mark_snakes(taken, board.width, board.height, board.snakes.as_slice());
+    let food = board.food.as_slice();
+    mark_all(taken, board.width, board.height, food);
+    let snakes = board.snakes.as_slice();
+    mark_snakes(taken, board.width, board.height, snakes);
 }
 
 /// The cells with no food and no part of a living snake, row by row from the bottom, each from the left.

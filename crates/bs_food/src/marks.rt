@@ -1,30 +1,33 @@
+//! Marks of the cells that are taken.
+
 ghost use Rattle.std.specs.Prelude.{◌≡◌, ◌<◌, ◌*◌, true, length};
-ghost use Rattle.bs_board.specs.Cell.{is_on_board};
-ghost use Rattle.bs_food.specs.Marks.{MarksCell, MarksCells, MarksSnakes, place_in};
+ghost use Rattle.bs_board.specs.boards.Cell.{is_on_board, cell_index};
+ghost use Rattle.bs_food.specs.Marks.{MarksCell, MarksCells, MarksSnakes};
 
 use bs_board::{Point, Snake};
 
 /// A cell's place, counted row after row from the bottom left.
-#[tactic(auto, using(crate::proofs::Places::place_fits))]
-fn place_of(width: u8, height: u8, cell: Point) -> usize
+#[tactic(auto, using(crate::proofs::MarkedCells::place_fits))]
+fn cell_index(width: u8, height: u8, cell: Point) -> usize
     requires { is_on_board width height cell ≡ true }
-    ensures value { result ≡ place_in width cell }
+    ensures value { result ≡ cell_index width cell }
     ensures fits { result < width * height }
 {
     usize::from(cell.y.unsigned_abs()) * usize::from(width) + usize::from(cell.x.unsigned_abs())
 }
 
 /// Marks a cell's place, row after row; a cell off the board has none.
-#[tactic(auto, using(crate::proofs::Places::marks_place, crate::proofs::Places::marks_nothing))]
+#[tactic(auto, using(crate::proofs::MarkedCells::marks_place, crate::proofs::MarkedCells::marks_nothing))]
 fn mark(marks: &mut [bool], width: u8, height: u8, cell: Point)
     requires { length marks.old ≡ width * height }
     ensures { MarksCell width height cell marks.old marks.new }
 {
     if cell.is_on_board(width, height) {
-        marks[place_of(width, height, cell)] = true;
+        marks[cell_index(width, height, cell)] = true;
     }
 }
 
+/// Marks all of the cells that lie on the board.
 pub fn mark_all(marks: &mut [bool], width: u8, height: u8, cells: &[Point])
     requires { length marks.old ≡ width * height }
     ensures { MarksCells width height cells.now marks.old marks.new }
@@ -34,6 +37,7 @@ pub fn mark_all(marks: &mut [bool], width: u8, height: u8, cells: &[Point])
     }
 }
 
+/// Marks all cells that living snakes stand on.
 pub fn mark_snakes(marks: &mut [bool], width: u8, height: u8, snakes: &[Snake])
     requires { length marks.old ≡ width * height }
     ensures { MarksSnakes width height snakes.now marks.old marks.new }

@@ -1,14 +1,17 @@
+//! New food.
+
 ghost use Rattle.std.specs.Prelude.{◌≡◌, OnOk};
-ghost use Rattle.bs_food.specs.Spawning.{by_chance, filled, placed, spawned};
+ghost use Rattle.bs_food.specs.Spawning.{with_food_by_chance, with_food_up_to_minimum, with_one_food, spawned};
 
 use crate::free::free_cells;
 use bs_board::Board;
+use bs_board::limits::MOST_CHANCE;
 use std::alloc::{AllocError, Global};
 
 /// One food on the free cell that the word chooses; nothing where no cell is free.
-#[tactic(auto, unfolding(crate::specs::Spawning::placed))]
-fn place(alloc: Global, board: &mut Board, word: u32) -> Result<(), AllocError>
-    ensures { OnOk result (board.new ≡ placed word board.old) }
+#[tactic(auto, unfolding(crate::specs::Spawning::with_one_food))]
+fn place_food(alloc: Global, board: &mut Board, word: u32) -> Result<(), AllocError>
+    ensures { OnOk result (board.new ≡ with_one_food word board.old) }
 {
     let free = free_cells(alloc, board)?;
     if free.is_empty() {
@@ -18,27 +21,27 @@ fn place(alloc: Global, board: &mut Board, word: u32) -> Result<(), AllocError>
     board.food.push(cell)
 }
 
-#[tactic(auto, using(crate::proofs::Filling::filled_enough))]
-fn fill(alloc: Global, board: &mut Board, words: &[u32]) -> Result<(), AllocError>
-    ensures { OnOk result (board.new ≡ filled words.now board.old) }
+/// A word for each food that is missing; with fewer words, as many as there are.
+#[tactic(auto, using(crate::proofs::Minimum::one_word_more))]
+fn make_up_food(alloc: Global, board: &mut Board, words: &[u32]) -> Result<(), AllocError>
+    ensures { OnOk result (board.new ≡ with_food_up_to_minimum words.now board.old) }
 {
-    for word in words {
-        if board.food.len() >= usize::from(board.min_food) {
-            return Ok(());
-        }
-        place(alloc, board, *word)?;
+    let missing = usize::from(board.min_food).saturating_sub(board.food.len());
+    let count = missing.min(words.len());
+    for word in &words[..count] {
+        place_food(alloc, board, *word)?;
     }
     Ok(())
 }
 
 fn add_by_chance(alloc: Global, board: &mut Board, words: &[u32]) -> Result<(), AllocError>
-    ensures { OnOk result (board.new ≡ by_chance words.now board.old) }
+    ensures { OnOk result (board.new ≡ with_food_by_chance words.now board.old) }
 {
     let [first, second, ..] = words else {
         return Ok(());
     };
-    if first % 100 < u32::from(board.chance) {
-        place(alloc, board, *second)
+    if first % u32::from(MOST_CHANCE) < u32::from(board.chance) {
+        place_food(alloc, board, *second)
     } else {
         Ok(())
     }
@@ -52,7 +55,7 @@ pub fn spawn(alloc: Global, board: &mut Board, words: &[u32]) -> Result<(), Allo
     ensures { OnOk result (board.new ≡ spawned words.now board.old) }
 {
     if board.food.len() < usize::from(board.min_food) {
-        fill(alloc, board, words)
+        make_up_food(alloc, board, words)
     } else {
         add_by_chance(alloc, board, words)
     }

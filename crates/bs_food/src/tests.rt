@@ -1,3 +1,5 @@
+//! Tests of what no clause says.
+
 use crate::{free_cells, spawn};
 use bs_board::{Board, Cells, Id, Mode, Point, Snake, Snakes};
 use std::alloc::{AllocError, Global};

@@ -1,17 +1,20 @@
 -- Games that grow, and what they are charged.
-use Rattle.std.proofs.Common.{◌≡◌, suc, ◌+◌, ◌-◌, ◌≤◌, [], ◌∷◌, ◌++◌, Some, length, slice_get, ◌<◌, ◌^◌, lit<, refl, sym, ap, ◌∙◌, arith, true, false}
+use Rattle.std.proofs.Common.{◌≡◌, suc, ◌+◌, ◌-◌, ◌≤◌, List, [], ◌∷◌, ◌++◌, Some, length, map, drop, slice_get, ◌<◌, ◌^◌, lit<, refl, sym, ap, ◌∙◌, arith, true, false}
+use Rattle.std.proofs.Math.Seq.{drop-cons}
+use Rattle.std.proofs.Math.ListN.{drop_of_length-le}
+use Rattle.std.proofs.lemmas.List.{length-map, drop-map}
 use Rattle.std.proofs.lemmas.List.Sums.{sum_by_push, get_or-le-sum_by}
 use Rattle.std.proofs.lemmas.List.Elements.{All-push}
 use Rattle.std.proofs.lemmas.Option.{slice_get_within, get_or_from_slice_get, slice_get-get_or}
 use Rattle.std.specs.Prelude.{is_some}
 use Rattle.bs_block.specs.Rounding.{rounded}
-use Rattle.bs_board.proofs.Sizes.{legal_size}
-use Rattle.bs_board.specs.Orders.{Orders}
+use Rattle.bs_board.proofs.records.Longest.{legal_size}
+use Rattle.bs_board.specs.commands.Orders.{Orders}
 use Rattle.bs_rules.specs.Turn.{turn_of}
-use Rattle.bs_board.specs.declared.board.Board.{Board}
-use Rattle.bs_board.specs.Legal.{IsLegal}
-use Rattle.bs_board.specs.Record.{record_of}
-use Rattle.bs_game.specs.Game.{Game, IsGame, AreConsecutive, last_board, board_charge, game_charge}
+use Rattle.bs_board.specs.declared.boards.board.Board.{Board}
+use Rattle.bs_board.specs.boards.Legal.{IsLegal}
+use Rattle.bs_board.specs.records.Record.{record_of}
+use Rattle.bs_game.specs.Game.{Game, IsGame, AreConsecutive, last_board, newest, board_charge, game_charge}
 
 pub charge_of_nothing : game_charge [] ≡ 0
 unfolding game_charge
@@ -108,3 +111,18 @@ charge_of_last game last is =
     let within = slice_get_within game (length game - 1) last is in
     let same = get_or_from_slice_get game (length game - 1) last last is in
     rw same at (get_or-le-sum_by board_charge game (length game - 1) last within)
+
+-- the newest alone
+
+pub newest_of_map : {X Y : Type 0} (f : X → Y) (xs : List X) → newest (map f xs) ≡ map f (newest xs)
+newest_of_map f xs =
+    let many : length (map f xs) ≡ length xs = length-map xs f in
+    rw many (drop-map f (length xs - 1) xs)
+
+pub newest_is_last : (game : Game) (last : Board) → last_board game ≡ Some last → newest game ≡ last ∷ []
+newest_is_last game last is =
+    let at = length game - 1 in
+    let inside : at < length game = slice_get_within game at last is in
+    let here = get_or_from_slice_get game at last last is in
+    let rest : drop (suc at) game ≡ [] = drop_of_length-le game {i = suc at} (omega arith) in
+    drop-cons game at last inside ∙ (rw (here, rest) refl)

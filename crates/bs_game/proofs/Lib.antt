@@ -1,4 +1,6 @@
-pub mod Accepting
+pub mod Acceptance
+pub mod AnswerLaw
+pub mod Courses
 pub mod Games
-pub mod Placing
-pub mod Viewed
+pub mod KeptTurns
+pub mod Recorded

@@ -1,25 +1,28 @@
 -- A game by itself: from nothing, its commands one after the other.
-use Rattle.std.specs.Prelude.{ℕ, List, [], ◌∷◌}
-use Rattle.bs_board.specs.declared.command.Command.{Command}
-use Rattle.bs_board.specs.declared.reply.Reply.{Reply}
-use Rattle.bs_board.specs.Plan.{GameRow}
+use Rattle.std.specs.Prelude.{ℕ, List, [], ◌∷◌, ◌++◌, fold}
+use Rattle.bs_board.specs.declared.commands.command.Command.{Command}
+use Rattle.bs_board.specs.declared.commands.reply.Reply.{Reply}
+use Rattle.bs_board.specs.plans.Plan.{GameRow}
 use Rattle.bs_game.specs.Game.{Game}
-use Rattle.bs_game.specs.Answer.{answer_to}
+use Rattle.bs_game.specs.Answer.{Outcome, answer_to}
 
--- the reply to each command, in order
-abbrev pub replies_to : ℕ → Game → List Command → List Reply
-replies_to quota game [] = []
-replies_to quota game (command ∷ commands) =
-    (answer_to quota game command).reply ∷ replies_to quota (answer_to quota game command).game commands
-
--- the game that they leave
-abbrev pub game_after : ℕ → Game → List Command → Game
-game_after quota game [] = game
-game_after quota game (command ∷ commands) = game_after quota (answer_to quota game command).game commands
-
+-- the replies so far, and the game that they leave
 pub record Course : Type 0 where
   pub replies : List Reply
   pub game : Game
 
+abbrev pub no_course : Course
+no_course = record { replies = []; game = [] }
+
+abbrev pub course_after : Course → Outcome → Course
+course_after course outcome = record { replies = course.replies ++ outcome.reply ∷ []; game = outcome.game }
+
+-- the course after one more command
+abbrev pub course_with : ℕ → Course → Command → Course
+course_with quota course command = course_after course (answer_to quota course.game command)
+
+abbrev pub course_of : ℕ → List Command → Course
+course_of quota commands = fold (course_with quota) no_course commands
+
 abbrev pub alone : GameRow → List Command → Course
-alone row commands = record { replies = replies_to row.quota [] commands; game = game_after row.quota [] commands }
+alone row commands = course_of row.quota commands

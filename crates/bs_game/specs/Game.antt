@@ -1,10 +1,10 @@
 -- A game: nothing, or the boards of its turns.
-use Rattle.std.specs.Prelude.{◌≡◌, ℕ, ◌+◌, ◌-◌, List, [], ◌∷◌, length, Option, slice_get, sum_by, nat_eq, All}
+use Rattle.std.specs.Prelude.{◌≡◌, ℕ, ◌+◌, ◌-◌, List, [], ◌∷◌, length, drop, Option, slice_get, sum_by, nat_eq, All}
 use Rattle.std.specs.List.{find}
 use Rattle.bs_block.specs.Rounding.{rounded}
-use Rattle.bs_board.specs.declared.board.Board.{Board}
-use Rattle.bs_board.specs.Legal.{IsLegal}
-use Rattle.bs_board.specs.Record.{record_of}
+use Rattle.bs_board.specs.declared.boards.board.Board.{Board}
+use Rattle.bs_board.specs.boards.Legal.{IsLegal}
+use Rattle.bs_board.specs.records.Record.{record_of}
 
 -- the empty list where no game runs; the newest board comes last
 abbrev pub Game : Type 0
@@ -12,6 +12,10 @@ Game = List Board
 
 abbrev pub last_board : Game → Option Board
 last_board game = slice_get game (length game - 1)
+
+-- the last one alone; nothing of nothing
+abbrev pub newest : {X : Type 0} → List X → List X
+newest xs = drop (length xs - 1) xs
 
 -- the kept board of that turn
 unfoldable pub board_of_turn : ℕ → Game → Option Board

@@ -1,36 +1,19 @@
--- An answer from a view is the answer to the game that is viewed.
-use Rattle.std.specs.Prelude.{◌≡◌, ℕ, ◌+◌, ◌-◌, ◌≤◌, List, [], ◌∷◌, ◌++◌, length, Option, None, drop, map}
+-- What holds of all answers and courses.
+use Rattle.std.specs.Prelude.{◌≡◌, ℕ, ◌+◌, ◌≤◌, List, [], ◌∷◌, ◌++◌, length, map, All}
 use Rattle.bs_block.specs.Rounding.{rounded}
-use Rattle.bs_board.specs.declared.board.Board.{Board}
-use Rattle.bs_board.specs.declared.command.Command.{Command}
-use Rattle.bs_board.specs.declared.command.Command.TheVariants as command
-use Rattle.bs_board.specs.Legal.{IsLegal}
-use Rattle.bs_board.specs.Record.{record_of}
+use Rattle.bs_board.specs.declared.boards.board.Board.{Board}
+use Rattle.bs_board.specs.declared.commands.command.Command.{Command}
+use Rattle.bs_board.specs.boards.Legal.{IsLegal}
+use Rattle.bs_board.specs.records.Record.{record_of}
 use Rattle.bs_game.specs.declared.reply.Answer.{Answer}
 use Rattle.bs_game.specs.declared.reply.Effect.{Effect}
 use Rattle.bs_game.specs.declared.reply.Effect.TheVariants as effect
-use Rattle.bs_game.specs.declared.view.View.{View}
-use Rattle.bs_game.specs.Answer.{Fits, Outcome, answer_to}
-use Rattle.bs_game.specs.Game.{Game, IsGame, board_of_turn, game_charge, last_board}
-use Rattle.bs_game.specs.View.{answer_of}
+use Rattle.bs_game.specs.Alone.{Course, course_of}
+use Rattle.bs_game.specs.Answer.{Fits, Outcome, answer_to, view_of_game}
+use Rattle.bs_game.specs.Game.{Game, IsGame, newest, game_charge}
+use Rattle.bs_game.specs.View.{effect_of, answer_of}
 
--- the kept board that a command asks for by its turn
-abbrev pub asked_board : Command → Game → Option Board
-asked_board (command.Turn at) game = board_of_turn at game
-asked_board _ game = None
-
--- what a game of that quota shows to an answer to that command
-pub record IsViewOf (view : View) (most : ℕ) (game : Game) (command : Command) : Type 0 where
-  pub quota : view.quota ≡ most
-  pub charge : view.charge ≡ game_charge game
-  pub kept : view.kept ≡ length game
-  pub last : view.last ≡ last_board game
-  pub asked : view.asked ≡ asked_board command game
-
--- the newest record alone
-abbrev pub newest : List (List ℕ) → List (List ℕ)
-newest records = drop (length records - 1) records
-
+-- the records after an effect
 abbrev pub effected : Effect → List (List ℕ) → List (List ℕ)
 effected effect.Keep records = records
 effected (effect.Add bytes) records = records ++ bytes ∷ []
@@ -53,6 +36,7 @@ IsFitEffect most charge effect.Drop = Unit {0}
 -- an answer and the records that it leaves, against the definition's reply and game
 pub record IsAnswerTo (most : ℕ) (game : Game) (outcome : Outcome) (answer : Answer) : Type 0 where
   pub reply : answer.reply ≡ outcome.reply
+  pub told : answer.effect ≡ effect_of outcome.reply
   pub records : effected answer.effect (map record_of game) ≡ map record_of outcome.game
   pub fits : IsFitEffect most (game_charge game) answer.effect
   pub right : IsGame outcome.game
@@ -60,5 +44,14 @@ pub record IsAnswerTo (most : ℕ) (game : Game) (outcome : Outcome) (answer : A
 
 abbrev pub AnswerLaw : Type 0
 AnswerLaw =
-    (view : View) (most : ℕ) (game : Game) (command : Command) → IsGame game → game_charge game ≤ most → Fits command
-    → IsViewOf view most game command → IsAnswerTo most game (answer_to most game command) (answer_of view command)
+    (most : ℕ) (game : Game) (command : Command) → IsGame game → game_charge game ≤ most → Fits command
+    → IsAnswerTo most game (answer_to most game command) (answer_of (view_of_game most game command) command)
+
+-- a game within its quota, and a reply to each command
+pub record IsCourse (quota : ℕ) (commands : List Command) (course : Course) : Type 0 where
+  pub right : IsGame course.game
+  pub within : game_charge course.game ≤ quota
+  pub answered : length course.replies ≡ length commands
+
+abbrev pub CourseLaw : Type 0
+CourseLaw = (quota : ℕ) (commands : List Command) → All Fits commands → IsCourse quota commands (course_of quota commands)

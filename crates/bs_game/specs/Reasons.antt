@@ -1,13 +1,17 @@
--- Why a command is refused before there is a new board.
-use Rattle.std.specs.Prelude.{Bool, true, false, not, ◌&&◌, [], ◌∷◌, Option, Some, None, is_some, is_none, nat_le, if◌then◌else◌}
+-- Why a command is refused.
+use Rattle.std.specs.Prelude.{◌+◌, Bool, true, false, not, ◌&&◌, List, [], ◌∷◌, ◌++◌, Option, Some, None, is_some, is_none, option_map, nat_le, nat_lt}
 use Rattle.std.specs.List.{find}
-use Rattle.bs_board.specs.declared.board.Board.{Board}
-use Rattle.bs_board.specs.declared.command.Command.{Command}
-use Rattle.bs_board.specs.declared.command.Command.TheVariants as command
-use Rattle.bs_board.specs.declared.reply.Refusal.{Refusal}
-use Rattle.bs_board.specs.declared.reply.Refusal.TheVariants as refusal
-use Rattle.bs_board.specs.Over.{is_over}
+use Rattle.bs_board.specs.declared.boards.board.Board.{Board}
+use Rattle.bs_board.specs.declared.commands.command.Command.{Command}
+use Rattle.bs_board.specs.declared.commands.command.Command.TheVariants as command
+use Rattle.bs_board.specs.declared.commands.reply.Refusal.{Refusal}
+use Rattle.bs_board.specs.declared.commands.reply.Refusal.TheVariants as refusal
+use Rattle.bs_board.specs.declared.limits.TheConstants.{LAST_TURN}
+use Rattle.bs_board.specs.boards.Over.{is_over}
+use Rattle.bs_modes.specs.FirstBoard.{first_board}
+use Rattle.bs_rules.specs.Turn.{turn_of}
 use Rattle.bs_game.specs.declared.view.View.{View}
+use Rattle.bs_game.specs.Game.{board_charge}
 
 abbrev pub is_bad : Command → Bool
 is_bad command.Bad = true
@@ -32,23 +36,41 @@ is_board_over (Some board) = is_over board
 -- no turn has a higher number
 abbrev pub is_last_turn : Option Board → Bool
 is_last_turn None = false
-is_last_turn (Some board) = nat_le 10000 board.turn
+is_last_turn (Some board) = nat_le LAST_TURN board.turn
 
--- whether the reason speaks against the command; the quota is judged of a new board, and so not here
-abbrev pub speaks : View → Command → Refusal → Bool
-speaks view command refusal.Unknown = is_bad command
-speaks view command refusal.NoGame = not (is_new command) && is_none view.last
-speaks view command refusal.Running = is_new command && is_some view.last
-speaks view command refusal.Over = is_move command && is_board_over view.last
-speaks view command refusal.Limit = is_move command && is_last_turn view.last
-speaks view command refusal.NoRecord = is_turn command && is_none view.asked
-speaks view command refusal.Quota = false
+-- the board that a command is to add to the game
+abbrev pub new_board : View → Command → Option Board
+new_board view (command.New setup) = Some (first_board setup)
+new_board view (command.Move orders) = option_map (λ last. turn_of last orders) view.last
+new_board view _ = None
+
+-- whether the quota has no room for the record of one more board
+abbrev pub is_over_quota : View → Option Board → Bool
+is_over_quota view None = false
+is_over_quota view (Some board) = nat_lt view.quota (view.charge + board_charge board)
+
+-- whether the reason speaks against the command
+abbrev pub speaks_against : View → Command → Refusal → Bool
+speaks_against view command refusal.Unknown = is_bad command
+speaks_against view command refusal.NoGame = not (is_new command) && is_none view.last
+speaks_against view command refusal.Running = is_new command && is_some view.last
+speaks_against view command refusal.Over = is_move command && is_board_over view.last
+speaks_against view command refusal.Limit = is_move command && is_last_turn view.last
+speaks_against view command refusal.NoRecord = is_turn command && is_none view.asked
+speaks_against view command refusal.Quota = is_over_quota view (new_board view command)
+
+-- the reasons that are judged before there is a new board, in their order
+abbrev pub early_refusals : List Refusal
+early_refusals =
+    refusal.Unknown ∷ refusal.NoGame ∷ refusal.Running ∷ refusal.Over ∷ refusal.Limit ∷ refusal.NoRecord ∷ []
+
+-- all of them; the quota comes last
+abbrev pub refusals_in_order : List Refusal
+refusals_in_order = early_refusals ++ refusal.Quota ∷ []
 
 unfoldable pub first_reason : View → Command → Option Refusal
-first_reason view command =
-    find (speaks view command)
-    (refusal.Unknown ∷ refusal.NoGame ∷ refusal.Running ∷ refusal.Over ∷ refusal.Limit ∷ refusal.NoRecord ∷ [])
+first_reason view command = find (speaks_against view command) early_refusals
 
--- of a game that runs
-abbrev pub first_of_move : Board → Option Refusal
-first_of_move last = if is_over last then Some refusal.Over else (if nat_le 10000 last.turn then Some refusal.Limit else None)
+-- why the command is refused, if it is
+unfoldable pub reason_against : View → Command → Option Refusal
+reason_against view command = find (speaks_against view command) refusals_in_order

@@ -1,6 +1,6 @@
 -- Where the board of a turn stands among the kept ones.
 use Rattle.std.specs.Prelude.{◌≡◌, ℕ, ◌+◌, ◌-◌, Bool, ◌&&◌, List, length, Option, Some, None, slice_get, nat_le, if◌then◌else◌}
-use Rattle.bs_board.specs.declared.board.Board.{Board}
+use Rattle.bs_board.specs.declared.boards.board.Board.{Board}
 use Rattle.bs_game.specs.Game.{Game, IsGame, board_of_turn, last_board}
 
 -- so many turns are kept, and they end with the last one

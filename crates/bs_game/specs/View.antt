@@ -1,65 +1,86 @@
 -- What a command is answered, and what becomes of the records, from what a view holds of a game.
-use Rattle.std.specs.Prelude.{ℕ, ◌+◌, ◌≤◌, Option, Some, None, nat_le, if◌then◌else◌, IfSome}
-use Rattle.bs_board.specs.declared.board.Board.{Board}
-use Rattle.bs_board.specs.declared.command.Command.{Command}
-use Rattle.bs_board.specs.declared.command.Command.TheVariants as command
-use Rattle.bs_board.specs.declared.command.Word.{Word}
-use Rattle.bs_board.specs.declared.command.Word.TheVariants as word
-use Rattle.bs_board.specs.declared.reply.Reply.TheVariants.{Shown, Plain, Refused}
-use Rattle.bs_board.specs.declared.reply.Refusal.{Refusal}
-use Rattle.bs_board.specs.declared.reply.Refusal.TheVariants as refusal
-use Rattle.bs_board.specs.Legal.{IsLegal}
-use Rattle.bs_board.specs.Record.{record_of}
-use Rattle.bs_modes.specs.FirstBoard.{first_board}
-use Rattle.bs_rules.specs.Turn.{turn_of}
+use Rattle.std.specs.Prelude.{◌+◌, ◌≤◌, Option, Some, None, if◌then◌else◌, IfSome}
+use Rattle.bs_board.specs.declared.boards.board.Board.{Board}
+use Rattle.bs_board.specs.declared.commands.command.Command.{Command}
+use Rattle.bs_board.specs.declared.commands.command.Command.TheVariants as command
+use Rattle.bs_board.specs.declared.commands.command.Word.{Word}
+use Rattle.bs_board.specs.declared.commands.command.Word.TheVariants as word
+use Rattle.bs_board.specs.declared.commands.reply.Reply.{Reply}
+use Rattle.bs_board.specs.declared.commands.reply.Reply.TheVariants.{Shown, Plain, Refused}
+use Rattle.bs_board.specs.declared.commands.reply.Refusal.{Refusal}
+use Rattle.bs_board.specs.declared.commands.reply.Refusal.TheVariants as refusal
+use Rattle.bs_board.specs.declared.limits.TheConstants.{MOST_QUOTA}
+use Rattle.bs_board.specs.boards.Legal.{IsLegal}
+use Rattle.bs_board.specs.records.Record.{record_of}
 use Rattle.bs_game.specs.declared.reply.Answer.{Answer}
 use Rattle.bs_game.specs.declared.reply.Effect.{Effect}
 use Rattle.bs_game.specs.declared.reply.Effect.TheVariants as effect
 use Rattle.bs_game.specs.declared.view.View.{View}
 use Rattle.bs_game.specs.Game.{board_charge}
-use Rattle.bs_game.specs.Reasons.{first_reason}
+use Rattle.bs_game.specs.Reasons.{new_board, is_over_quota, reason_against}
 
--- a refusal keeps all records
-abbrev pub refused_for : Refusal → Answer
-refused_for reason = record { reply = Refused reason; effect = effect.Keep }
+-- what is told of a board, where it is there
+abbrev pub told_of : Refusal → Option Board → (Board → Reply) → Reply
+told_of reason None reply = Refused reason
+told_of reason (Some board) reply = reply board
 
-abbrev pub told : Word → ℕ → Effect → Answer
-told word charge effect = record { reply = Plain word charge; effect = effect }
+-- a board that is kept beside those that are charged already
+abbrev pub shown_as_new : View → Word → Board → Reply
+shown_as_new view word board = Shown word board (view.charge + board_charge board)
 
-abbrev pub showing_kept : Word → ℕ → Board → Answer
-showing_kept word charge board = record { reply = Shown word board charge; effect = effect.Keep }
+-- the reply to a command that no reason speaks against; its number is the charge after the command
+abbrev pub accepted_reply : View → Command → Reply
+accepted_reply view (command.New setup) = told_of refusal.NoGame (new_board view (command.New setup)) (shown_as_new view word.New)
+accepted_reply view (command.Move orders) = told_of refusal.NoGame (new_board view (command.Move orders)) (shown_as_new view word.Move)
+accepted_reply view command.Show = told_of refusal.NoGame view.last (λ last. Shown word.Show last view.charge)
+accepted_reply view (command.Turn at) = told_of refusal.NoRecord view.asked (λ board. Shown word.Turn board view.charge)
+accepted_reply view command.Free = told_of refusal.NoGame view.last (λ last. Plain word.Free (board_charge last))
+accepted_reply view command.End = Plain word.End 0
+accepted_reply view command.Bad = Refused refusal.Unknown
 
--- a new board is kept where the quota has room for its record
-abbrev pub recorded : View → Word → Board → Answer
-recorded view word board =
-    if nat_le (view.charge + board_charge board) view.quota
-    then record { reply = Shown word board (view.charge + board_charge board); effect = effect.Add (record_of board) }
-    else refused_for refusal.Quota
+abbrev pub unless_refused : Option Refusal → Reply → Reply
+unless_refused (Some reason) reply = Refused reason
+unless_refused None reply = reply
 
--- what is done with a board, where it is there
-abbrev pub with_board : Refusal → Option Board → (Board → Answer) → Answer
-with_board reason None answer = refused_for reason
-with_board reason (Some board) answer = answer board
+unfoldable pub reply_to : View → Command → Reply
+reply_to view command = unless_refused (reason_against view command) (accepted_reply view command)
 
--- of a command that no reason speaks against before its new board is there
-abbrev pub accepted : View → Command → Answer
-accepted view (command.New setup) = recorded view word.New (first_board setup)
-accepted view (command.Move orders) = with_board refusal.NoGame view.last (λ last. recorded view word.Move (turn_of last orders))
-accepted view command.Show = with_board refusal.NoGame view.last (showing_kept word.Show view.charge)
-accepted view (command.Turn at) = with_board refusal.NoRecord view.asked (showing_kept word.Turn view.charge)
-accepted view command.Free = with_board refusal.NoGame view.last (λ last. told word.Free (board_charge last) effect.Trim)
-accepted view command.End = told word.End 0 effect.Drop
-accepted view command.Bad = refused_for refusal.Unknown
+-- a board that is shown for `new` or `move` is added
+abbrev pub effect_of_shown : Word → Board → Effect
+effect_of_shown word.New board = effect.Add (record_of board)
+effect_of_shown word.Move board = effect.Add (record_of board)
+effect_of_shown word.Show board = effect.Keep
+effect_of_shown word.Turn board = effect.Keep
+effect_of_shown word.Free board = effect.Keep
+effect_of_shown word.End board = effect.Keep
 
-abbrev pub unless_refused : Option Refusal → Answer → Answer
-unless_refused (Some reason) answer = refused_for reason
-unless_refused None answer = answer
+abbrev pub effect_of_plain : Word → Effect
+effect_of_plain word.New = effect.Keep
+effect_of_plain word.Move = effect.Keep
+effect_of_plain word.Show = effect.Keep
+effect_of_plain word.Turn = effect.Keep
+effect_of_plain word.Free = effect.Trim
+effect_of_plain word.End = effect.Drop
+
+-- what becomes of the records, which the reply tells; a refusal keeps all
+abbrev pub effect_of : Reply → Effect
+effect_of (Shown word board charge) = effect_of_shown word board
+effect_of (Plain word charge) = effect_of_plain word
+effect_of (Refused reason) = effect.Keep
+
+abbrev pub answer_with : Reply → Answer
+answer_with reply = record { reply = reply; effect = effect_of reply }
 
 unfoldable pub answer_of : View → Command → Answer
-answer_of view command = unless_refused (first_reason view command) (accepted view command)
+answer_of view command = answer_with (reply_to view command)
+
+-- what a new board comes to: refused where the quota has no room for its record
+abbrev pub shown_within_quota : View → Word → Board → Reply
+shown_within_quota view word board =
+    if is_over_quota view (Some board) then Refused refusal.Quota else shown_as_new view word board
 
 -- of a game that is within its quota; no quota is above 16,777,216
 pub record IsFitView (view : View) : Type 0 where
   pub legal : IfSome view.last IsLegal
   pub within : view.charge ≤ view.quota
-  pub small : view.quota ≤ 16777216
+  pub small : view.quota ≤ MOST_QUOTA

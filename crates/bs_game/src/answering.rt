@@ -1,26 +1,36 @@
+//! What a command is answered, and what becomes of the records.
 ghost use Rattle.std.specs.Prelude.{◌≡◌, ◌+◌, ◌≤◌, ◌<◌, Some, None, IfOk, IfSome, option_map};
-ghost use Rattle.bs_board.specs.declared.command.Command.TheVariants as command;
-ghost use Rattle.bs_board.specs.declared.command.Word.TheVariants as Word;
-ghost use Rattle.bs_board.specs.declared.reply.Refusal.TheVariants as Refusal;
+ghost use Rattle.bs_board.specs.declared.commands.command.Command.TheVariants as command;
+ghost use Rattle.bs_board.specs.declared.commands.command.Word.TheVariants as Word;
+ghost use Rattle.bs_board.specs.declared.commands.reply.Refusal.TheVariants as Refusal;
+ghost use Rattle.bs_board.specs.declared.commands.reply.Reply.TheVariants as Reply;
 ghost use Rattle.bs_game.specs.declared.reply.Effect.TheVariants as Effect;
-ghost use Rattle.bs_board.specs.Legal.{IsLegal};
+ghost use Rattle.bs_board.specs.boards.Legal.{IsLegal};
+ghost use Rattle.bs_board.specs.records.Record.{record_of};
 ghost use Rattle.bs_rules.specs.Motion.{moved_board};
 ghost use Rattle.bs_game.specs.Game.{board_charge};
 ghost use Rattle.bs_game.specs.Law.{IsFitEffect};
 ghost use Rattle.bs_game.specs.Reasons.{first_reason};
-ghost use Rattle.bs_game.specs.View.{IsFitView, refused_for, recorded, showing_kept, told, with_board, accepted, answer_of};
+ghost use Rattle.bs_game.specs.View.{
+  IsFitView,
+  accepted_reply,
+  answer_of,
+  answer_with,
+  effect_of_shown,
+  shown_within_quota,
+};
 
 use crate::checking::check;
 use crate::reply::{Answer, Effect, Record};
 use crate::view::View;
 use bs_block::round_up;
-use bs_board::{Board, Command, Move, New, Refusal, Reply, Word, encode, size};
+use bs_board::{Board, Command, Move, New, Refusal, Reply, TurnNumber, Word, encode, size};
 use bs_modes::start;
 use bs_rules::{finish_turn, turn};
 use std::alloc::{AllocError, Global};
 
 /// What the board's record is charged, in bytes.
-#[tactic(auto, using(bs_board::proofs::Sizes::legal_size_fits, crate::proofs::Games::legal_size_rounds, crate::proofs::Games::board_charge_small))]
+#[tactic(auto, using(bs_board::proofs::records::Longest::legal_size_fits, crate::proofs::Games::legal_size_rounds, crate::proofs::Games::board_charge_small))]
 fn board_charge(board: &Board) -> u32
     requires { IsLegal board.now }
     ensures value { result ≡ board_charge board.now }
@@ -30,7 +40,7 @@ fn board_charge(board: &Board) -> u32
 }
 
 fn refuse(reason: Refusal) -> Answer
-    ensures { result ≡ refused_for reason }
+    ensures { result ≡ answer_with (Reply.Refused reason) }
 {
     Answer {
         reply: Reply::Refused(reason),
@@ -39,7 +49,7 @@ fn refuse(reason: Refusal) -> Answer
 }
 
 fn show(alloc: Global, word: Word, charge: u32, board: &Board) -> Result<Answer, AllocError>
-    ensures { IfOk result (λ answer. answer ≡ showing_kept word charge board.now) }
+    ensures { IfOk result (λ answer. answer ≡ record { reply = Reply.Shown word board.now charge; effect = Effect.Keep }) }
 {
     Ok(Answer {
         reply: Reply::Shown(word, board.copy(alloc)?, charge),
@@ -51,7 +61,8 @@ fn show(alloc: Global, word: Word, charge: u32, board: &Board) -> Result<Answer,
 fn record_board(alloc: Global, view: &View, word: Word, board: Board) -> Result<Answer, AllocError>
     requires view { IsFitView view.now }
     requires legal { IsLegal board }
-    ensures value { IfOk result (λ answer. answer ≡ recorded view.now word board) }
+    requires adds { effect_of_shown word board ≡ Effect.Add (record_of board) }
+    ensures value { IfOk result (λ answer. answer ≡ answer_with (shown_within_quota view.now word board)) }
     ensures fits { IfOk result (λ answer. IsFitEffect view.now.quota view.now.charge answer.effect) }
 {
     let charge = view.charge + board_charge(&board);
@@ -66,9 +77,11 @@ fn record_board(alloc: Global, view: &View, word: Word, board: Board) -> Result<
 }
 
 /// The board of a game that begins.
+#[tactic(auto, using(crate::proofs::Acceptance::first_is_shown))]
 fn begin(alloc: Global, view: &View, new: &New) -> Result<Answer, AllocError>
-    requires { IsFitView view.now }
-    ensures value { IfOk result (λ answer. answer ≡ accepted view.now (command.New new.now)) }
+    requires view { IsFitView view.now }
+    requires passes { first_reason view.now (command.New new.now) ≡ None }
+    ensures value { IfOk result (λ answer. answer ≡ answer_of view.now (command.New new.now)) }
     ensures fits { IfOk result (λ answer. IsFitEffect view.now.quota view.now.charge answer.effect) }
 {
     let board = start(alloc, new)?;
@@ -76,14 +89,15 @@ fn begin(alloc: Global, view: &View, new: &New) -> Result<Answer, AllocError>
 }
 
 /// One turn of the last board.
+#[tactic(auto, using(crate::proofs::Acceptance::move_is_early, crate::proofs::Acceptance::no_game_no_move, crate::proofs::Acceptance::next_is_shown))]
 fn advance(alloc: Global, view: &View, orders: &Move) -> Result<Answer, AllocError>
     requires view { IsFitView view.now }
-    requires early { IfSome view.now.last (λ last. last.turn < 10000) }
-    ensures value { IfOk result (λ answer. answer ≡ accepted view.now (command.Move orders.now)) }
+    requires passes { first_reason view.now (command.Move orders.now) ≡ None }
+    ensures value { IfOk result (λ answer. answer ≡ answer_of view.now (command.Move orders.now)) }
     ensures fits { IfOk result (λ answer. IsFitEffect view.now.quota view.now.charge answer.effect) }
 {
     match &view.last {
-        None => Ok(refuse(Refusal::NoGame)),
+        None => unreachable!(),
         Some(last) => {
             let board = turn(alloc, last, orders)?;
             record_board(alloc, view, Word::Move, board)
@@ -92,7 +106,7 @@ fn advance(alloc: Global, view: &View, orders: &Move) -> Result<Answer, AllocErr
 }
 
 fn show_last(alloc: Global, view: &View) -> Result<Answer, AllocError>
-    ensures value { IfOk result (λ answer. answer ≡ accepted view.now command.Show) }
+    ensures value { IfOk result (λ answer. answer ≡ answer_with (accepted_reply view.now command.Show)) }
     ensures fits { IfOk result (λ answer. IsFitEffect view.now.quota view.now.charge answer.effect) }
 {
     match &view.last {
@@ -101,9 +115,8 @@ fn show_last(alloc: Global, view: &View) -> Result<Answer, AllocError>
     }
 }
 
-fn show_asked(alloc: Global, view: &View) -> Result<Answer, AllocError>
-    ensures value { IfOk result
-        (λ answer. answer ≡ with_board Refusal.NoRecord view.now.asked (showing_kept Word.Turn view.now.charge)) }
+fn show_asked(alloc: Global, view: &View, at: TurnNumber) -> Result<Answer, AllocError>
+    ensures value { IfOk result (λ answer. answer ≡ answer_with (accepted_reply view.now (command.Turn at))) }
     ensures fits { IfOk result (λ answer. IsFitEffect view.now.quota view.now.charge answer.effect) }
 {
     match &view.asked {
@@ -114,7 +127,7 @@ fn show_asked(alloc: Global, view: &View) -> Result<Answer, AllocError>
 
 fn free(view: &View) -> Answer
     requires { IsFitView view.now }
-    ensures value { result ≡ accepted view.now command.Free }
+    ensures value { result ≡ answer_with (accepted_reply view.now command.Free) }
     ensures fits { IsFitEffect view.now.quota view.now.charge result.effect }
 {
     match &view.last {
@@ -127,7 +140,7 @@ fn free(view: &View) -> Answer
 }
 
 fn end() -> Answer
-    ensures { result ≡ told Word.End 0 Effect.Drop }
+    ensures { result ≡ record { reply = Reply.Plain Word.End 0; effect = Effect.Drop } }
 {
     Answer {
         reply: Reply::Plain(Word::End, 0),
@@ -136,18 +149,18 @@ fn end() -> Answer
 }
 
 /// A command that `check` lets pass, which so finds each board that it needs.
-#[tactic(auto, using(crate::proofs::Accepting::move_is_early))]
-fn carry_out(alloc: Global, view: &View, command: &Command) -> Result<Answer, AllocError>
+#[tactic(auto, using(crate::proofs::Acceptance::answered_at_once))]
+fn answer_passed(alloc: Global, view: &View, command: &Command) -> Result<Answer, AllocError>
     requires view { IsFitView view.now }
     requires passes { first_reason view.now command.now ≡ None }
-    ensures value { IfOk result (λ answer. answer ≡ accepted view.now command.now) }
+    ensures value { IfOk result (λ answer. answer ≡ answer_of view.now command.now) }
     ensures fits { IfOk result (λ answer. IsFitEffect view.now.quota view.now.charge answer.effect) }
 {
     match command {
         Command::New(new) => begin(alloc, view, new),
         Command::Move(orders) => advance(alloc, view, orders),
         Command::Show => show_last(alloc, view),
-        Command::Turn(_) => show_asked(alloc, view),
+        Command::Turn(at) => show_asked(alloc, view, *at),
         Command::Free => Ok(free(view)),
         Command::End => Ok(end()),
         Command::Bad => Ok(refuse(Refusal::Unknown)),
@@ -156,7 +169,7 @@ fn carry_out(alloc: Global, view: &View, command: &Command) -> Result<Answer, Al
 
 /// The reply to the command, with the charge after it, and what becomes of the records. It is refused for the first
 /// reason that `check` finds, and then where the quota has no room for the record of its new board.
-#[tactic(auto, unfolding(crate::specs::View::answer_of))]
+#[tactic(auto, using(crate::proofs::Acceptance::early_reason))]
 pub fn answer(alloc: Global, view: &View, command: &Command) -> Result<Answer, AllocError>
     requires { IsFitView view.now }
     ensures value { IfOk result (λ answer. answer ≡ answer_of view.now command.now) }
@@ -164,7 +177,7 @@ pub fn answer(alloc: Global, view: &View, command: &Command) -> Result<Answer, A
 {
     match check(view, command) {
         Some(reason) => Ok(refuse(reason)),
-        None => carry_out(alloc, view, command),
+        None => answer_passed(alloc, view, command),
     }
 }
 

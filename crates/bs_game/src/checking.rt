@@ -1,15 +1,17 @@
-ghost use Rattle.std.specs.Prelude.{◌≡◌, Some, None, is_none, if◌then◌else◌};
-ghost use Rattle.bs_board.specs.declared.reply.Refusal.TheVariants as Refusal;
-ghost use Rattle.bs_game.specs.Reasons.{first_reason, first_of_move};
+//! Whether a command is refused before there is a new board.
+ghost use Rattle.std.specs.Prelude.{◌≡◌, Some, None, is_none, nat_le, if◌then◌else◌};
+ghost use Rattle.bs_board.specs.declared.commands.reply.Refusal.TheVariants as Refusal;
+ghost use Rattle.bs_board.specs.declared.limits.TheConstants.{LAST_TURN};
+ghost use Rattle.bs_board.specs.boards.Over.{is_over};
+ghost use Rattle.bs_game.specs.Reasons.{first_reason};
 
 use crate::view::View;
+use bs_board::limits::LAST_TURN;
 use bs_board::{Board, Command, Refusal};
 use bs_modes::over;
 
-const LAST_TURN: u16 = 10_000;
-
 fn check_move(last: &Board) -> Option<Refusal>
-    ensures { result ≡ first_of_move last.now }
+    ensures { result ≡ (if is_over last.now then Some Refusal.Over else (if nat_le LAST_TURN last.now.turn then Some Refusal.Limit else None)) }
 {
     if over(last) {
         Some(Refusal::Over)

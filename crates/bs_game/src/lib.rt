@@ -12,7 +12,7 @@ mod view;
 
 pub use answering::{answer, joined};
 pub use checking::check;
-pub use law::answer_law;
+pub use law::{answer_law, course_law};
 pub use reply::{Answer, Effect, Record};
 pub use turns::{place_law, place_of_turn};
 pub use view::View;

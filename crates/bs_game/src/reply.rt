@@ -1,3 +1,4 @@
+//! What an answer holds.
 use bs_board::Reply;
 use std::marker::Model;
 
@@ -18,18 +19,21 @@ impl Model for Record {
 impl Record {
     ghost use Rattle.std.specs.Prelude.{◌≡◌};
 
+    /// The record with those bytes.
     pub fn from_vec(bytes: Vec<u8>) -> Record
         ensures { result ≡ bytes.items }
     {
         Record { bytes }
     }
 
+    /// Its bytes, with the memory that holds them.
     pub fn into_vec(self) -> Vec<u8>
         ensures { result.items ≡ self }
     {
         self.bytes
     }
 
+    /// Its bytes.
     pub fn as_slice(&self) -> &[u8]
         ensures { result.now ≡ self.now }
     {
@@ -53,6 +57,8 @@ pub enum Effect {
 /// What a command is answered, and what it does.
 #[derive(Debug, Drop)]
 pub struct Answer {
+    /// What it is answered.
     pub reply: Reply,
+    /// What becomes of the records.
     pub effect: Effect,
 }

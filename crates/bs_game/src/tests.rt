@@ -1,5 +1,6 @@
+//! Commands of small games, with the answers that the rules give.
 ghost use Rattle.std.specs.Prelude.{◌≡◌, [], IfOk, All};
-ghost use Rattle.bs_board.specs.Orders.{orders_of};
+ghost use Rattle.bs_board.specs.commands.Orders.{orders_of};
 ghost use Rattle.bs_rules.specs.Motion.{moved_board, IsMovable};
 
 use crate::{Answer, Effect, Record, View, answer, check, joined, place_of_turn};

@@ -1,3 +1,4 @@
+//! Where the record of a turn stands.
 ghost use Rattle.std.specs.Prelude.{◌≡◌, ◌+◌, ◌≤◌};
 ghost use Rattle.bs_game.specs.Turns.{place_of_turn, PlaceLaw};
 
@@ -19,6 +20,7 @@ pub fn place_of_turn(kept: usize, last: u16, at: TurnNumber) -> Option<usize>
 }
 
 /// The place that `place_of_turn` tells is the board's of that turn, in each game.
+#[tactic(auto, using(crate::proofs::KeptTurns::places))]
 pub fn place_law()
     ensures { PlaceLaw }
 {}

@@ -1,9 +1,9 @@
+//! What an answer needs to see of a game.
 ghost use Rattle.std.specs.Prelude.{◌↔◌, IsTrue, IfSome};
-ghost use Rattle.bs_board.specs.Legal.{IsLegal};
+ghost use Rattle.bs_board.specs.boards.Legal.{IsLegal};
 
+use bs_board::limits::MOST_QUOTA;
 use bs_board::{Board, is_legal};
-
-const MOST_QUOTA: u32 = 16_777_216;
 
 /// What an answer needs to see of a game. No game runs where there is no last board.
 #[derive(Debug, Drop)]

@@ -3,6 +3,7 @@ use Rattle.std.specs.Prelude.{◌≢◌, ℕ, List, map, All, AllPairs}
 use Rattle.bs_pool.specs.Ledger.{Ledger, Owns}
 use Rattle.bs_pool.specs.declared.owned.Owned.{Owned}
 
+-- the numbers of the blocks
 abbrev pub owned_numbers : {most : ℕ} → List (Owned most) → List ℕ
 owned_numbers = map (λ owned. owned.number)
 

@@ -1,9 +1,12 @@
-pub mod Adding
+pub mod AddAnswer
 pub mod Blocks
 pub mod Charge
+pub mod Entries
+pub mod Fullness
 pub mod Heap
-pub mod Holding
-pub mod Layout
+pub mod HeapLayout
+pub mod HeldBlocks
 pub mod Lent
 pub mod OwnedBlocks
+pub mod PackedPlaces
 pub mod Packing

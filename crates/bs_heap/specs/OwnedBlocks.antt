@@ -2,13 +2,15 @@
 use Rattle.std.specs.Prelude.{◌≡◌, ℕ, map, All, IfSome, option_map, vec_capacity}
 use Rattle.bs_pool.specs.declared.owned.Owned.{Owned}
 use Rattle.bs_heap.specs.declared.blocks.TagBlocks.TheInside.{Inside}
-use Rattle.bs_heap.specs.Blocks.{Filled, Blocks}
+use Rattle.bs_heap.specs.Blocks.{NumberedBlock, Blocks}
 
-abbrev pub filled : {most : ℕ} → Owned most → Filled
-filled owned = record { number = owned.number; bytes = owned.block }
+-- a block with its number, without its tag
+abbrev pub numbered_block : {most : ℕ} → Owned most → NumberedBlock
+numbered_block owned = record { number = owned.number; bytes = owned.block }
 
+-- the blocks of a tag, of their fields
 abbrev pub blocks_in : {most : ℕ} → Inside most → Blocks
-blocks_in b = record { tag = b.tag; room = vec_capacity b.closed; closed = map filled b.closed.items; current = option_map filled b.current }
+blocks_in b = record { tag = b.tag; room = vec_capacity b.closed; closed = map numbered_block b.closed.items; current = option_map numbered_block b.current }
 
 -- each block is the tag's
 pub record AreTagged {most : ℕ} (b : Inside most) : Type 0 where

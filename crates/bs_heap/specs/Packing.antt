@@ -38,21 +38,21 @@ abbrev pub with_block : ℕ → Packing → Packing
 with_block number packing = record { closed = uses packing; current = Some (record { number = number; used = 0 }); places = packing.places }
 
 -- len bytes go behind those of the current block
-abbrev pub placed_in : ℕ → Packing → Option Use → Packing
-placed_in len packing None = packing
-placed_in len packing (Some u) =
+abbrev pub with_place_in : ℕ → Packing → Option Use → Packing
+with_place_in len packing None = packing
+with_place_in len packing (Some u) =
     record {
       closed = packing.closed;
       current = Some (record { number = u.number; used = u.used + rounded len });
       places = packing.places ++ record { number = u.number; at = u.used; len = len } ∷ [];
     }
 
-abbrev pub placed : ℕ → Packing → Packing
-placed len packing = placed_in len packing packing.current
+abbrev pub with_place : ℕ → Packing → Packing
+with_place len packing = with_place_in len packing packing.current
 
 -- a record of len bytes goes behind those of the current block where its rounded size fits there, else into a block of that number
 abbrev pub packed : ℕ → ℕ → ℕ → Packing → Packing
-packed cap number len packing = placed len (if fits cap (rounded len) packing.current then packing else with_block number packing)
+packed cap number len packing = with_place len (if fits cap (rounded len) packing.current then packing else with_block number packing)
 
 -- the last element alone, if there is one
 abbrev pub last_alone : {X : Type 0} → List X → List X

@@ -1,9 +1,9 @@
 //! The blocks of one tag: those that are closed, and the current one, into which bytes go.
-ghost use Rattle.std.specs.Prelude.{◌≡◌, ◌+◌, ◌^◌, ◌<◌, ◌≤◌, ◌++◌, true, false, Some, [], length, IfOk, vec_capacity};
-ghost use Rattle.bs_block.specs.Bytes.{Fits, padded, range};
+ghost use Rattle.std.specs.Prelude.{◌≡◌, ◌+◌, ◌^◌, ◌<◌, ◌≤◌, ◌++◌, true, false, if◌then◌else◌, Some, [], length, option_map, unwrap_or, IfOk, vec_capacity};
+ghost use Rattle.bs_block.specs.Bytes.{HasRoom, padded, range};
 ghost use Rattle.bs_block.specs.Rounding.{rounded};
 ghost use Rattle.bs_pool.specs.Ledger.{held, reserved, least_free, drawn};
-ghost use Rattle.bs_heap.specs.Holding.{AreOwned, all_given, next_number};
+ghost use Rattle.bs_heap.specs.HeldBlocks.{AreOwned, all_given, next_number};
 ghost use Rattle.bs_heap.specs.Lent.{AreLent, owned_numbers};
 
 use bs_block::{Block, round_up};
@@ -41,7 +41,7 @@ impl<const CAP: usize> Model for TagBlocks<CAP> {
 
 /// Appends the bytes, and zeros up to a multiple of 16, and answers where they now lie.
 fn append<const CAP: usize>(owned: &mut Owned<CAP>, bytes: &[u8]) -> usize
-    requires { Fits CAP owned.old.block (length bytes.now) }
+    requires { HasRoom CAP owned.old.block (length bytes.now) }
     ensures at { result ≡ length owned.old.block }
     ensures owned { owned.new ≡ record owned.old { block = owned.old.block ++ padded bytes.now } }
 {
@@ -61,7 +61,8 @@ fn give_back<const CAP: usize>(blocks: &mut Vec<Owned<CAP>>, pool: &mut Pool<CAP
 }
 
 impl<const CAP: usize> TagBlocks<CAP> {
-    ghost use Rattle.bs_heap.specs.Blocks.{no_blocks, all_blocks, block_at, filled_numbers, fits_current, with_empty, written, opened_for, stored, entry_of, pool_for};
+    ghost use Rattle.bs_heap.specs.Blocks.{NumberedBlock, no_blocks, all_blocks, block_at, block_numbers, fits_current};
+    ghost use Rattle.bs_heap.specs.Entries.{PutsRecord};
 
     /// No blocks, with memory for that many.
     pub(crate) fn new(alloc: Global, tag: u32, room: usize) -> Result<Self, AllocError>
@@ -111,7 +112,7 @@ impl<const CAP: usize> TagBlocks<CAP> {
     fn draw(&mut self, pool: &mut Pool<CAP>)
         requires reserved { held self.old.tag pool.old < reserved self.old.tag pool.old }
         requires room { length self.old.closed < self.old.room }
-        ensures blocks { self.new ≡ with_empty (next_number pool.old) self.old }
+        ensures blocks { self.new ≡ record self.old { closed = all_blocks self.old; current = Some (record { number = next_number pool.old; bytes = [] }) } }
         ensures pool { pool.new ≡ drawn self.old.tag (next_number pool.old) pool.old }
         ensures number { least_free pool.old ≡ Some (next_number pool.old) }
     {
@@ -126,8 +127,8 @@ impl<const CAP: usize> TagBlocks<CAP> {
     /// Writes the bytes behind those of the current block.
     fn write(&mut self, bytes: &[u8]) -> Entry
         requires { fits_current CAP (length bytes.now) self.old ≡ true }
-        ensures blocks { self.new ≡ written bytes.now self.old }
-        ensures entry { result ≡ entry_of (length bytes.now) self.old }
+        ensures blocks { self.new ≡ record self.old { current = option_map (λ (b : NumberedBlock). record b { bytes = b.bytes ++ padded bytes.now }) self.old.current } }
+        ensures entry { result ≡ record { position = length self.old.closed; at = unwrap_or (option_map (λ (b : NumberedBlock). length b.bytes) self.old.current) 0; len = length bytes.now } }
     {
         match &mut self.current {
             Some(owned) => {
@@ -147,10 +148,9 @@ impl<const CAP: usize> TagBlocks<CAP> {
         requires size { rounded (length bytes.now) ≤ CAP }
         requires reserved { fits_current CAP (length bytes.now) self.old ≡ false → held self.old.tag pool.old < reserved self.old.tag pool.old }
         requires room { length self.old.closed < self.old.room }
-        ensures blocks { self.new ≡ stored CAP (next_number pool.old) bytes.now self.old }
-        ensures pool { pool.new ≡ pool_for CAP bytes.now self.old pool.old }
+        ensures put { PutsRecord CAP (next_number pool.old) bytes.now self.old self.new result }
+        ensures pool { pool.new ≡ (if fits_current CAP (length bytes.now) self.old then pool.old else drawn self.old.tag (next_number pool.old) pool.old) }
         ensures number { fits_current CAP (length bytes.now) self.old ≡ false → least_free pool.old ≡ Some (next_number pool.old) }
-        ensures entry { result ≡ entry_of (length bytes.now) (opened_for CAP (next_number pool.old) bytes.now self.old) }
     {
         if !self.fits(bytes.len()) {
             self.draw(pool);
@@ -160,18 +160,18 @@ impl<const CAP: usize> TagBlocks<CAP> {
 
     /// Gives the closed blocks back.
     pub(crate) fn give_closed(&mut self, pool: &mut Pool<CAP>)
-        requires { AreOwned self.old.tag (filled_numbers self.old.closed) pool.old }
+        requires { AreOwned self.old.tag (block_numbers self.old.closed) pool.old }
         ensures blocks { self.new ≡ record self.old { closed = [] } }
-        ensures pool { pool.new ≡ all_given (filled_numbers self.old.closed) pool.old }
+        ensures pool { pool.new ≡ all_given (block_numbers self.old.closed) pool.old }
     {
         give_back(&mut self.closed, pool);
     }
 
     /// Gives all the blocks back.
     pub(crate) fn give_all(&mut self, pool: &mut Pool<CAP>)
-        requires { AreOwned self.old.tag (filled_numbers (all_blocks self.old)) pool.old }
+        requires { AreOwned self.old.tag (block_numbers (all_blocks self.old)) pool.old }
         ensures blocks { self.new ≡ no_blocks self.old.tag self.old.room }
-        ensures pool { pool.new ≡ all_given (filled_numbers (all_blocks self.old)) pool.old }
+        ensures pool { pool.new ≡ all_given (block_numbers (all_blocks self.old)) pool.old }
     {
         self.give_closed(pool);
         if let Some(owned) = self.current.take() {

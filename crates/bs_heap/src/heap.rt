@@ -2,10 +2,12 @@
 ghost use Rattle.std.specs.Prelude.{◌≡◌, ◌<◌, ◌≤◌, false, Some, length, slice_index_or, [], IfOk, OnOk, OnErr};
 ghost use Rattle.bs_block.specs.Rounding.{rounded};
 ghost use Rattle.bs_pool.specs.Ledger.{held, reserved, least_free};
-ghost use Rattle.bs_heap.specs.Adding.{Adds};
-ghost use Rattle.bs_heap.specs.Charge.{charge_of, most_record_bytes, blocks_for};
+ghost use Rattle.bs_heap.specs.AddAnswer.{AddsRecord};
+ghost use Rattle.bs_heap.specs.Charge.{charge_of, blocks_for};
+ghost use Rattle.bs_heap.specs.Fullness.{AreFull};
 ghost use Rattle.bs_heap.specs.Heap.{empty_heap, with_index_room, with_last, without_records};
-ghost use Rattle.bs_heap.specs.Holding.{IsKeptIn, LeavesOthers, all_given, next_number};
+ghost use Rattle.bs_heap.specs.HeldBlocks.{IsKeptIn, LeavesOthers, all_given, next_number};
+ghost use Rattle.bs_heap.specs.PackedPlaces.{AreApart};
 ghost use Rattle.bs_heap.specs.Packing.{numbers_of, closed_numbers, fits};
 
 use crate::blocks::{Entry, TagBlocks};
@@ -22,7 +24,7 @@ pub const MOST_RECORD_BYTES: usize = 262_144;
 /// next record does not fit, so it has more than `cap - MOST_RECORD_BYTES` bytes in use; two more are the oldest, which
 /// may hold bytes of records that were given up, and the newest, which may have room left.
 pub fn blocks_for(cap: usize, quota: u32) -> usize
-    requires { most_record_bytes < cap }
+    requires { MOST_RECORD_BYTES < cap }
     ensures { result ≡ blocks_for cap quota }
 {
     quota as usize / (cap - MOST_RECORD_BYTES) + 2
@@ -47,7 +49,7 @@ impl<const CAP: usize> Model for TagHeap<CAP> {
 
     ghost Value = { Heap };
 
-    ghost use Rattle.bs_heap.specs.Layout.{heap_in, IsHeap};
+    ghost use Rattle.bs_heap.specs.HeapLayout.{heap_in, IsHeap};
 
     ghost view = { λ h. heap_in h };
 
@@ -57,7 +59,7 @@ impl<const CAP: usize> Model for TagHeap<CAP> {
 impl<const CAP: usize> TagHeap<CAP> {
     /// A heap without records, with memory for the list of all blocks that it can come to own.
     pub fn new(alloc: Global, tag: u32, quota: u32) -> Result<Self, AllocError>
-        requires { most_record_bytes < CAP }
+        requires { MOST_RECORD_BYTES < CAP }
         ensures { IfOk result (λ heap. heap ≡ empty_heap tag quota) }
     {
         let room = blocks_for(CAP, quota);
@@ -69,17 +71,19 @@ impl<const CAP: usize> TagHeap<CAP> {
         })
     }
 
-    /// The number of records.
+    /// The number of records. No two of them share a byte.
     pub fn count(&self) -> usize
-        ensures { result ≡ length self.now.records }
+        ensures value { result ≡ length self.now.records }
+        ensures apart { AreApart self.now.packing }
     {
         self.index.len()
     }
 
-    /// The sum of the rounded sizes of the records.
+    /// The sum of the rounded sizes of the records. The blocks are no more than it needs.
     pub fn charge(&self) -> u32
         ensures value { result ≡ charge_of self.now.records }
         ensures within { result ≤ self.now.quota }
+        ensures full { AreFull CAP result self.now.packing }
     {
         self.charge
     }
@@ -113,10 +117,10 @@ impl<const CAP: usize> TagHeap<CAP> {
     /// Appends a record. `Quota` where its rounded size and the charge together exceed the quota.
     pub fn add(&mut self, pool: &mut Pool<CAP>, bytes: &[u8]) -> Result<(), Quota>
         requires index { 0 < self.old.index_room }
-        requires size { rounded (length bytes.now) ≤ most_record_bytes }
+        requires size { rounded (length bytes.now) ≤ MOST_RECORD_BYTES }
         requires reserved { blocks_for CAP self.old.quota ≤ reserved self.old.tag pool.old }
         requires kept { IsKeptIn self.old pool.old }
-        ensures added { Adds CAP bytes.now self.old pool.old result self.new pool.new }
+        ensures added { AddsRecord CAP bytes.now self.old pool.old result self.new pool.new }
         ensures free { OnOk result (fits CAP (rounded (length bytes.now)) self.old.packing.current ≡ false → least_free pool.old ≡ Some (next_number pool.old)) }
         ensures kept { IsKeptIn self.new pool.new }
         ensures held { held self.new.tag pool.new ≤ blocks_for CAP self.new.quota }

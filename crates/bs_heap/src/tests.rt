@@ -1,16 +1,17 @@
+//! Heaps in one pool: within a quota, over two blocks, and given back.
 ghost use Rattle.std.specs.Prelude.{◌≡◌, ◌≤◌, ◌<◌, IfOk, length};
 ghost use Rattle.bs_pool.specs.Ledger.{reserved};
-ghost use Rattle.bs_heap.specs.Charge.{most_record_bytes, blocks_for};
-ghost use Rattle.bs_heap.specs.Holding.{IsKeptIn};
+ghost use Rattle.bs_heap.specs.Charge.{blocks_for};
+ghost use Rattle.bs_heap.specs.HeldBlocks.{IsKeptIn};
 
-use crate::{Quota, TagHeap, blocks_for};
+use crate::{MOST_RECORD_BYTES, Quota, TagHeap, blocks_for};
 use bs_pool::Pool;
 use std::alloc::{AllocError, Global};
 use std::process::Abort;
 use std::test::Fail;
 
 /// A heap, for which the pool reserves what its quota can need.
-#[tactic(auto, using(crate::proofs::Holding::kept_empty))]
+#[tactic(auto, using(crate::proofs::HeldBlocks::kept_empty))]
 fn open_heap<const CAP: usize>(
     rt: &impl Abort,
     alloc: Global,
@@ -18,7 +19,7 @@ fn open_heap<const CAP: usize>(
     tag: u32,
     quota: u32,
 ) -> Result<TagHeap<CAP>, Fail>
-    requires { most_record_bytes < CAP }
+    requires { MOST_RECORD_BYTES < CAP }
     ensures kept { IfOk result (λ heap. IsKeptIn heap pool.new) }
     ensures reserved { IfOk result (λ heap. blocks_for CAP heap.quota ≤ reserved heap.tag pool.new) }
 {
@@ -30,13 +31,13 @@ fn open_heap<const CAP: usize>(
 }
 
 /// Grows the index, and adds the record.
-#[tactic(auto, using(crate::proofs::Charging::small_enough, crate::proofs::Holding::kept_with_room))]
+#[tactic(auto, using(crate::proofs::Charges::small_enough, crate::proofs::HeldBlocks::kept_with_room))]
 fn add<const CAP: usize>(
     heap: &mut TagHeap<CAP>,
     pool: &mut Pool<CAP>,
     bytes: &[u8],
 ) -> Result<Result<(), Quota>, AllocError>
-    requires size { length bytes.now ≤ most_record_bytes }
+    requires size { length bytes.now ≤ MOST_RECORD_BYTES }
     requires reserved { blocks_for CAP heap.old.quota ≤ reserved heap.old.tag pool.old }
     requires kept { IsKeptIn heap.old pool.old }
     ensures reserved { IfOk result (λ _. blocks_for CAP heap.new.quota ≤ reserved heap.new.tag pool.new) }
@@ -47,7 +48,7 @@ fn add<const CAP: usize>(
 }
 
 /// Frees the heap of that tag, and takes its reservation away.
-#[tactic(auto, using(crate::proofs::Charging::has_reservation))]
+#[tactic(auto, using(crate::proofs::Charges::has_reservation))]
 fn close_heap<const CAP: usize>(
     rt: &impl Abort,
     heap: &mut TagHeap<CAP>,
@@ -62,7 +63,7 @@ fn close_heap<const CAP: usize>(
     pool.unreserve(tag);
 }
 
-/// Block 0 comes, and no byte is in it but those that are filled.
+/// Block 0 comes, and no byte is in it but those that `split_fill` lends.
 fn draw_an_empty_block<const CAP: usize>(
     rt: &impl Abort,
     pool: &mut Pool<CAP>,

@@ -1,6 +1,6 @@
-pub mod Known
-pub mod Cutting
-pub mod Kept
-pub mod SetAside
-pub mod Sorting
-pub mod Files
+pub mod CutPieces
+pub mod FileTexts
+pub mod KeptGame
+pub mod PlanBlocks
+pub mod SortedLines
+pub mod WrittenBytes

@@ -1,6 +1,7 @@
 pub mod File
-pub mod Kept
+pub mod KeptGame
+pub mod PlanBlocks
 pub mod Requests
-pub mod Reserving
+pub mod Routing
 pub mod Serve
 pub mod Transcript

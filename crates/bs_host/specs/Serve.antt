@@ -1,14 +1,15 @@
 -- When a command file is not served, and what each fault leaves.
 use Rattle.std.specs.Prelude.{◌≡◌, ℕ, ◌<◌, List, length, take, nat_lt, Option, Some, None, Result, Ok, Err, if◌then◌else◌}
 use Rattle.std.specs.Io.KnownBytes.{Appends}
-use Rattle.bs_board.specs.declared.plan.Plan.{Plan}
+use Rattle.bs_board.specs.declared.plans.plan.Plan.{Plan}
 use Rattle.bs_json.specs.declared.plan.PlanFault.{PlanFault}
 use Rattle.bs_json.specs.declared.plan.PlanFault.TheVariants as plan
 use Rattle.bs_host.specs.declared.fault.Fault.{Fault}
 use Rattle.bs_host.specs.declared.fault.Fault.TheVariants.{TooLong, Plan as OfPlan, Memory, Write}
 use Rattle.bs_host.specs.declared.fault.PlanRefusal.TheVariants as refusal
+use Rattle.bs_host.specs.declared.limits.TheConstants.{BLOCK_BYTES, MOST_FILE_BYTES}
 use Rattle.bs_host.specs.File.{plan_of}
-use Rattle.bs_host.specs.Reserving.{blocks_of_all}
+use Rattle.bs_host.specs.PlanBlocks.{blocks_of_all}
 
 abbrev pub fault_of : PlanFault → Fault
 fault_of plan.Malformed = OfPlan refusal.Malformed
@@ -18,11 +19,11 @@ fault_of plan.Memory = Memory
 
 abbrev pub refusal_of_plan : ℕ → Result Plan PlanFault → Option Fault
 refusal_of_plan blocks (Err fault) = Some (fault_of fault)
-refusal_of_plan blocks (Ok plan) = if nat_lt blocks (blocks_of_all plan.rows) then Some (OfPlan refusal.Short) else None
+refusal_of_plan blocks (Ok plan) = if nat_lt blocks (blocks_of_all BLOCK_BYTES plan.rows) then Some (OfPlan refusal.Short) else None
 
 -- the first reason against serving the file from that many blocks
 unfoldable pub refusal_of : ℕ → List ℕ → Option Fault
-refusal_of blocks file = if nat_lt 16777216 (length file) then Some TooLong else refusal_of_plan blocks (plan_of file)
+refusal_of blocks file = if nat_lt MOST_FILE_BYTES (length file) then Some TooLong else refusal_of_plan blocks (plan_of file)
 
 -- that reason was found; of want of memory nothing is said
 abbrev pub IsRefusal : Option Fault → Fault → Type 0

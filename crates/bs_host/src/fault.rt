@@ -1,3 +1,4 @@
+//! Why a command file is not served.
 ghost use Rattle.std.specs.Prelude.{◌≡◌};
 
 use crate::writing::WriteFault;

@@ -3,11 +3,13 @@
 #![tactic(auto)]
 
 mod fault;
-mod game;
-mod lines;
+mod kept_game;
+mod limits;
+mod pieces;
+mod plan_blocks;
 mod reading;
 mod requests;
-mod reserving;
+mod routing;
 mod sections;
 mod serving;
 #[cfg(test)]
@@ -15,5 +17,6 @@ mod tests;
 mod writing;
 
 pub use fault::{Fault, PlanRefusal};
+pub use limits::{BLOCK_BYTES, MOST_FILE_BYTES};
 pub use reading::{ReadFault, read_input};
 pub use serving::serve;

@@ -1,12 +1,11 @@
+//! The bytes of a command file, read from any reader.
 ghost use Rattle.std.specs.Prelude.{◌≡◌, ◌<◌, ◌≤◌, length, IfOk, IfErr, OnOk, IfSome, IsErrOf};
 ghost use Rattle.std.specs.Io.KnownBytes.{Consumes, IsAtEnd};
 
+use crate::limits::MOST_FILE_BYTES;
 use std::alloc::{AllocError, Global};
 use std::io::Read;
 use thiserror::Error;
-
-/// The most bytes that a command file may have.
-pub(crate) const MOST_BYTES: usize = 16_777_216;
 
 const BLOCK: usize = 8_192;
 
@@ -26,12 +25,12 @@ pub enum ReadFault {
 pub fn read_input<R: Read>(alloc: Global, input: &mut R) -> Result<Vec<u8>, ReadFault>
     ensures all { IfOk result (λ bytes. IfSome (R.remaining input.old) (λ left. bytes.items ≡ left)) }
     ensures end { OnOk result (IsAtEnd (R.remaining input.new)) }
-    ensures short { IfOk result (λ bytes. length bytes.items ≤ 16777216) }
-    ensures long { IsErrOf result ReadFault.TooLong → IfSome (R.remaining input.old) (λ left. 16777216 < length left) }
+    ensures short { IfOk result (λ bytes. length bytes.items ≤ MOST_FILE_BYTES) }
+    ensures long { IsErrOf result ReadFault.TooLong → IfSome (R.remaining input.old) (λ left. MOST_FILE_BYTES < length left) }
 {
     let mut bytes = Vec::new(alloc);
     let mut block = [0u8; BLOCK];
-    'reads: while bytes.len() <= MOST_BYTES {
+    'reads: while bytes.len() <= MOST_FILE_BYTES {
         let Ok(count) = input.read(&mut block) else {
             return Err(ReadFault::Device);
         };

@@ -1,11 +1,14 @@
-ghost use Rattle.std.specs.Prelude.{◌≡◌, ◌≤◌, true, length, IfOk, IfSome, option_copied};
-ghost use Rattle.bs_board.specs.Plan.{have_distinct_names};
-ghost use Rattle.bs_host.specs.File.{lines_after};
-ghost use Rattle.bs_host.specs.Requests.{place_of, requests_of};
+//! What the lines of a file ask for, sorted by the games of its plan.
+ghost use Rattle.std.specs.Prelude.{◌≡◌, ◌≤◌, length, IfOk, IfSome, option_copied};
+ghost use Rattle.bs_host.specs.File.{pieces_after};
+ghost use Rattle.bs_host.specs.Requests.{requests_of};
+ghost use Rattle.bs_host.specs.Routing.{routes_from};
 
-use crate::lines::cut_line;
-use bs_board::{Command, Id, Row};
-use bs_json::{Line, Stray, read_line};
+use crate::limits::MOST_FILE_BYTES;
+use crate::pieces::cut_piece;
+use crate::routing::{Route, route_of};
+use bs_board::{Command, Row};
+use bs_json::{Stray, read_line};
 use std::alloc::{AllocError, Global};
 use std::marker::Model;
 
@@ -17,7 +20,7 @@ pub(crate) struct Inbox {
 
 impl Model for Inbox {
     ghost use Rattle.std.specs.Prelude.{List};
-    ghost use Rattle.bs_board.specs.declared.command.Command.{Command};
+    ghost use Rattle.bs_board.specs.declared.commands.command.Command.{Command};
 
     ghost Value = { List Command };
 
@@ -57,7 +60,7 @@ pub(crate) struct Inboxes {
 
 impl Model for Inboxes {
     ghost use Rattle.std.specs.Prelude.{List};
-    ghost use Rattle.bs_board.specs.declared.command.Command.{Command};
+    ghost use Rattle.bs_board.specs.declared.commands.command.Command.{Command};
 
     ghost Value = { List (List Command) };
 
@@ -132,12 +135,6 @@ impl Strays {
     }
 }
 
-fn place_of(rows: &[Row], game: &Id) -> Option<usize>
-    ensures { result ≡ place_of rows.now game.now }
-{
-    rows.iter().position(|row| game.is_same(&row.game))
-}
-
 /// What the lines of a file ask for, sorted by the games of its plan.
 #[derive(Debug, Drop)]
 pub(crate) struct Requests {
@@ -146,8 +143,9 @@ pub(crate) struct Requests {
 }
 
 impl Requests {
-    ghost use Rattle.std.specs.Prelude.{[], ◌∷◌, ◌++◌, length, map, IfOk, OnOk};
-    ghost use Rattle.bs_host.specs.Requests.{handed, sorted};
+    ghost use Rattle.std.specs.Prelude.{[], map, OnOk};
+    ghost use Rattle.bs_host.specs.Requests.{HandsOn};
+    ghost use Rattle.bs_host.specs.Routing.{IsWithinPlan};
 
     pub(crate) fn new(alloc: Global, rows: &[Row]) -> Result<Requests, AllocError>
         ensures inboxes { IfOk result (λ r. r.inboxes ≡ map (λ _. []) rows.now) }
@@ -159,33 +157,18 @@ impl Requests {
         })
     }
 
-    fn hand(
-        &mut self,
-        rows: &[Row],
-        number: u64,
-        game: &Id,
-        command: Command,
-    ) -> Result<(), AllocError>
-        requires { length self.old.inboxes ≡ length rows.now }
-        ensures { OnOk result (self.new ≡ handed rows.now number game.now command self.old) }
+    /// Puts what the line of that number asks for where it goes.
+    #[tactic(auto, using(crate::proofs::SortedLines::hands_on_command, crate::proofs::SortedLines::hands_on_stray, crate::proofs::SortedLines::hands_on_nothing))]
+    fn hand_on(&mut self, number: u64, route: Route) -> Result<(), AllocError>
+        requires { IsWithinPlan (length self.old.inboxes) route }
+        ensures { OnOk result (HandsOn number route self.old self.new) }
     {
-        match place_of(rows, game) {
-            Some(place) => self.inboxes.add(place, command),
-            None => self.strays.add(number, Stray::Game),
+        match route {
+            Route::Game(row, command) => self.inboxes.add(row, command)?,
+            Route::Stray(kind) => self.strays.add(number, kind)?,
+            Route::Nowhere => {}
         }
-    }
-
-    /// Puts what a line asks for where it belongs.
-    pub(crate) fn sort(&mut self, rows: &[Row], number: u64, line: Line) -> Result<(), AllocError>
-        requires { length self.old.inboxes ≡ length rows.now }
-        ensures { OnOk result (self.new ≡ sorted rows.now number line self.old) }
-    {
-        match line {
-            Line::Blank => Ok(()),
-            Line::Command { game, command } => self.hand(rows, number, &game, command),
-            Line::Bad { game } => self.hand(rows, number, &game, Command::Bad),
-            Line::Stray(stray) => self.strays.add(number, stray),
-        }
+        Ok(())
     }
 }
 
@@ -195,16 +178,17 @@ pub(crate) fn sort_lines(
     rows: &[Row],
     rest: Option<&[u8]>,
 ) -> Result<Requests, AllocError>
-    requires distinct { have_distinct_names rows.now ≡ true }
-    requires short { IfSome rest (λ text. length text.now ≤ 16777216) }
-    ensures { IfOk result (λ r. r ≡ requests_of rows.now 2 (lines_after (option_copied rest.entry))) }
+    requires short { IfSome rest (λ text. length text.now ≤ MOST_FILE_BYTES) }
+    ensures { IfOk result
+        (λ r. r ≡ requests_of rows.now (routes_from rows.now 2 (pieces_after (option_copied rest.entry)))) }
 {
     let mut requests = Requests::new(alloc, rows)?;
     let mut number = 2;
     let mut left = rest;
     'lines: while let Some(text) = left {
-        let (line, more) = cut_line(text);
-        requests.sort(rows, number, read_line(alloc, line)?)?;
+        let (piece, more) = cut_piece(text);
+        let line = read_line(alloc, piece)?;
+        requests.hand_on(number, route_of(rows, line))?;
         number += 1;
         left = more;
     }

@@ -1,69 +1,70 @@
-ghost use Rattle.std.specs.Prelude.{◌≡◌, ◌≤◌, true, None, Ok, length, sum_by, IfOk, IfErr, OnOk, IfSome, option_copied};
+//! A command file is served: its plan and its lines are read, its games are played, and the transcript is written.
+ghost use Rattle.std.specs.Prelude.{◌≡◌, ◌≤◌, None, Ok, length, IfOk, IfErr, OnOk, IfSome, option_copied};
 ghost use Rattle.std.specs.Io.KnownBytes.{Appends};
-ghost use Rattle.bs_board.specs.Plan.{have_distinct_names};
 ghost use Rattle.bs_json.specs.PlanLine.{plan_line_of};
-ghost use Rattle.bs_host.specs.File.{lines_after};
-ghost use Rattle.bs_host.specs.Requests.{requests_of};
-ghost use Rattle.bs_host.specs.Reserving.{blocks_of_all};
+ghost use Rattle.bs_host.specs.File.{pieces_after};
+ghost use Rattle.bs_host.specs.PlanBlocks.{blocks_of_all};
+ghost use Rattle.bs_host.specs.Routing.{routes_from};
 ghost use Rattle.bs_host.specs.Serve.{refusal_of, refusal_of_plan, IsRefusal, IsFault, Leaves};
-ghost use Rattle.bs_host.specs.Transcript.{transcript_of, requests_text_of};
+ghost use Rattle.bs_host.specs.Transcript.{transcript_of, routed_text_of};
 
 use crate::fault::{Fault, PlanRefusal};
-use crate::lines::cut_line;
-use crate::reading::MOST_BYTES;
+use crate::limits::{BLOCK_BYTES, MOST_FILE_BYTES};
+use crate::pieces::cut_piece;
+use crate::plan_blocks::{blocks_of_all, open_pool};
 use crate::requests::sort_lines;
-use crate::reserving::{blocks_of_all, open_pool};
-use crate::sections::text_of;
+use crate::sections::requests_text;
 use crate::writing::write_all_of;
+use bs_board::limits::MOST_ROWS;
 use bs_board::{Plan, Row};
 use bs_json::read_plan;
 use std::alloc::{AllocError, Global};
 use std::io::Write;
 
 /// Plays the games of the plan, over a pool of that many blocks.
+#[tactic(auto, using(crate::proofs::FileTexts::text_of_requests, crate::proofs::PlanBlocks::opened_is_idle, crate::proofs::PlanBlocks::opened_reserves))]
 fn lines_text(
     alloc: Global,
     rows: &[Row],
     blocks: usize,
     rest: Option<&[u8]>,
 ) -> Result<Vec<u8>, AllocError>
-    requires distinct { have_distinct_names rows.now ≡ true }
-    requires few { length rows.now ≤ 64 }
-    requires room { blocks_of_all rows.now ≤ blocks }
-    requires short { IfSome rest (λ text. length text.now ≤ 16777216) }
+    requires few { length rows.now ≤ MOST_ROWS }
+    requires room { blocks_of_all BLOCK_BYTES rows.now ≤ blocks }
+    requires short { IfSome rest (λ text. length text.now ≤ MOST_FILE_BYTES) }
     ensures { IfOk result (λ text. text.items
-        ≡ requests_text_of rows.now (requests_of rows.now 2 (lines_after (option_copied rest.entry)))) }
+        ≡ routed_text_of rows.now (routes_from rows.now 2 (pieces_after (option_copied rest.entry)))) }
 {
     let requests = sort_lines(alloc, rows, rest)?;
     let mut pool = open_pool(alloc, rows, blocks)?;
-    text_of(alloc, &mut pool, rows, &requests)
+    requests_text(alloc, &mut pool, rows, &requests)
 }
 
 /// The plan of a file with that first line, where the blocks suffice for it.
 fn open_plan(alloc: Global, first: &[u8], blocks: usize) -> Result<Plan, Fault>
     ensures plan { IfOk result (λ plan. plan_line_of first.now ≡ Ok plan) }
-    ensures room { IfOk result (λ plan. blocks_of_all plan.rows ≤ blocks) }
+    ensures room { IfOk result (λ plan. blocks_of_all BLOCK_BYTES plan.rows ≤ blocks) }
     ensures served { OnOk result (refusal_of_plan blocks (plan_line_of first.now) ≡ None) }
     ensures fault { IfErr result (IsRefusal (refusal_of_plan blocks (plan_line_of first.now))) }
 {
     let plan = read_plan(alloc, first)?;
-    if blocks_of_all(plan.rows.as_slice()) > blocks {
+    if blocks_of_all(BLOCK_BYTES, plan.rows.as_slice()) > blocks {
         return Err(Fault::Plan(PlanRefusal::Short));
     }
     Ok(plan)
 }
 
 /// The whole text, where nothing is against the file.
-#[tactic(auto, using(crate::proofs::Files::refusal_of_long, crate::proofs::Files::refusal_of_first, crate::proofs::Files::transcript_of_first))]
+#[tactic(auto, using(crate::proofs::FileTexts::refusal_of_long, crate::proofs::FileTexts::refusal_of_first, crate::proofs::FileTexts::transcript_of_first))]
 fn transcript(alloc: Global, input: &[u8], blocks: usize) -> Result<Vec<u8>, Fault>
     ensures served { OnOk result (refusal_of blocks input.now ≡ None) }
     ensures text { IfOk result (λ text. text.items ≡ transcript_of input.now) }
     ensures fault { IfErr result (IsRefusal (refusal_of blocks input.now)) }
 {
-    if input.len() > MOST_BYTES {
+    if input.len() > MOST_FILE_BYTES {
         return Err(Fault::TooLong);
     }
-    let (first, rest) = cut_line(input);
+    let (first, rest) = cut_piece(input);
     let plan = open_plan(alloc, first, blocks)?;
     Ok(lines_text(alloc, plan.rows.as_slice(), blocks, rest)?)
 }

@@ -1,3 +1,4 @@
+//! Whole files and what is written for them, and readers and writers that fail.
 use crate::{read_input, serve};
 use std::alloc::{AllocError, Global};
 use std::io;

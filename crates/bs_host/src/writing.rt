@@ -1,3 +1,4 @@
+//! Writes a text to any writer, and counts what that took.
 ghost use Rattle.std.specs.Prelude.{◌<◌, length, take, OnOk, IfErr};
 ghost use Rattle.std.specs.Io.KnownBytes.{Appends};
 
@@ -10,7 +11,7 @@ pub(crate) struct WriteFault {
 }
 
 /// Every error is a fault, also an interruption, and so is a writer that takes nothing.
-#[tactic(auto, using(crate::proofs::Known::appends_more, crate::proofs::Known::appends_nothing))]
+#[tactic(auto, using(crate::proofs::WrittenBytes::appends_more, crate::proofs::WrittenBytes::appends_nothing))]
 pub(crate) fn write_all_of<W: Write>(text: &[u8], output: &mut W) -> Result<(), WriteFault>
     ensures ok { OnOk result (Appends (W.contents output.old) (W.contents output.new) text.now) }
     ensures fewer { IfErr result (λ fault. fault.written < length text.now) }

@@ -5,10 +5,10 @@ use Rattle.std.specs.List.Sorted.{IsStrictlySortedBy}
 use Rattle.std.specs.Map.{keys_of}
 use Rattle.serde_json.specs.View.{view, members_view}
 use Rattle.serde_json.specs.declared.value.Value.{Value}
-use Rattle.bs_board.specs.declared.point.Direction.{Direction}
-use Rattle.bs_board.specs.Orders.{is_ascending}
+use Rattle.bs_board.specs.declared.boards.point.Direction.{Direction}
+use Rattle.bs_board.specs.commands.Orders.{is_ascending}
 use Rattle.bs_board.specs.Texts.{is_text_below}
-use Rattle.bs_json.specs.Moves.{direction_of, directions_of}
+use Rattle.bs_json.specs.Moves.{direction_from, directions_of}
 
 abbrev Given : Type 0
 Given = List (List ℕ × Direction)
@@ -33,7 +33,7 @@ above_or_later id next (Some d) rest below later = below
 first_is_above : (id : String Global) (entries : List (String Global × Value)) → AllByRecursion (λ next. string_cmp id next ≡ Less) (keys_of entries) → FirstIsAbove (string_bytes id) (directions_of (members_view entries))
 first_is_above id [] h = tt
 first_is_above id (e ∷ entries) h =
-    above_or_later (string_bytes id) (string_bytes e.0) (direction_of (view e.1)) _ (rw h.0 refl) (first_is_above id entries h.1)
+    above_or_later (string_bytes id) (string_bytes e.0) (direction_from (view e.1)) _ (rw h.0 refl) (first_is_above id entries h.1)
 
 ascends_with : (id : List ℕ) (d : Option Direction) (rest : Given) → FirstIsAbove id rest → is_ascending rest ≡ true → is_ascending (after id d rest) ≡ true
 ascends_with id None rest above up = up
@@ -43,4 +43,4 @@ pub directions_ascend : (entries : List (String Global × Value)) → IsStrictly
 unfolding IsStrictlySortedBy
 directions_ascend [] h = refl
 directions_ascend (e ∷ entries) h =
-    ascends_with (string_bytes e.0) (direction_of (view e.1)) _ (first_is_above e.0 entries h.0) (directions_ascend entries h.1)
+    ascends_with (string_bytes e.0) (direction_from (view e.1)) _ (first_is_above e.0 entries h.0) (directions_ascend entries h.1)

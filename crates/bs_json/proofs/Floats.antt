@@ -4,12 +4,12 @@ use Rattle.serde_json.specs.Data.{Data}
 use Rattle.serde_json.specs.Find.{is_float, of_integer}
 use Rattle.serde_json.specs.View.{items_of}
 use Rattle.serde_json.specs.Written.{has_float, items_have_float}
-use Rattle.bs_board.specs.declared.point.Point.{Point}
-use Rattle.bs_board.specs.declared.board.Board.{Board}
-use Rattle.bs_board.specs.declared.snake.Snake.{Snake}
-use Rattle.bs_board.specs.declared.snake.Cause.{Cause}
-use Rattle.bs_board.specs.declared.reply.Reply.{Reply}
-use Rattle.bs_board.specs.declared.reply.Reply.TheVariants.{Shown, Plain, Refused}
+use Rattle.bs_board.specs.declared.boards.point.Point.{Point}
+use Rattle.bs_board.specs.declared.boards.board.Board.{Board}
+use Rattle.bs_board.specs.declared.boards.snake.Snake.{Snake}
+use Rattle.bs_board.specs.declared.boards.snake.Cause.{Cause}
+use Rattle.bs_board.specs.declared.commands.reply.Reply.{Reply}
+use Rattle.bs_board.specs.declared.commands.reply.Reply.TheVariants.{Shown, Plain, Refused}
 use Rattle.bs_json.specs.declared.line.Stray.{Stray}
 use Rattle.bs_json.specs.Boards.{cell_data, cause_data, killer_data, id_data, out_data, snake_data, board_data}
 use Rattle.bs_json.specs.Replies.{reply_data, last_data, final_data, stray_data}
@@ -35,8 +35,7 @@ id_has_no_float None = refl
 id_has_no_float (Some snake) = refl
 
 killer_has_no_float : (snakes : List Snake) (killer : Option ℕ) → has_float (killer_data snakes killer) ≡ false
-killer_has_no_float snakes None = refl
-killer_has_no_float snakes (Some seat) = id_has_no_float _
+killer_has_no_float snakes killer = id_has_no_float _
 
 out_has_no_float : (out : Option ℕ) → has_float (out_data out) ≡ false
 out_has_no_float None = refl

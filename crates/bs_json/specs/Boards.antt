@@ -1,16 +1,16 @@
 -- The JSON value that shows a board.
-use Rattle.std.specs.Prelude.{ℕ, codes, List, [], ◌∷◌, Option, Some, None, map, slice_get}
+use Rattle.std.specs.Prelude.{ℕ, codes, List, [], ◌∷◌, Option, Some, None, option_and_then, map, slice_get}
 use Rattle.serde_json.specs.Data.{Data, null, boolean, number, string, array, object, unsigned, Members, no_members, member}
 use Rattle.serde_json.specs.Find.{of_integer}
 use Rattle.serde_json.specs.View.{items_of}
-use Rattle.bs_board.specs.declared.point.Point.{Point}
-use Rattle.bs_board.specs.declared.board.Board.{Board}
-use Rattle.bs_board.specs.declared.board.Mode.{Mode}
-use Rattle.bs_board.specs.declared.board.Mode.TheVariants.{Standard, Solo, Constrictor}
-use Rattle.bs_board.specs.declared.snake.Snake.{Snake}
-use Rattle.bs_board.specs.declared.snake.Cause.{Cause}
-use Rattle.bs_board.specs.declared.snake.Cause.TheVariants.{OutOfHealth, WallCollision, SelfCollision, BodyCollision, HeadCollision}
-use Rattle.bs_board.specs.Over.{is_over}
+use Rattle.bs_board.specs.declared.boards.point.Point.{Point}
+use Rattle.bs_board.specs.declared.boards.board.Board.{Board}
+use Rattle.bs_board.specs.declared.boards.board.Mode.{Mode}
+use Rattle.bs_board.specs.declared.boards.board.Mode.TheVariants.{Standard, Solo, Constrictor}
+use Rattle.bs_board.specs.declared.boards.snake.Snake.{Snake}
+use Rattle.bs_board.specs.declared.boards.snake.Cause.{Cause}
+use Rattle.bs_board.specs.declared.boards.snake.Cause.TheVariants.{OutOfHealth, WallCollision, SelfCollision, BodyCollision, HeadCollision}
+use Rattle.bs_board.specs.boards.Over.{is_over}
 
 abbrev pub members_from : List (List ℕ × Data) → Members
 members_from [] = no_members
@@ -45,8 +45,7 @@ id_data (Some snake) = string snake.id
 
 -- the id of the snake in that seat
 abbrev pub killer_data : List Snake → Option ℕ → Data
-killer_data snakes None = null
-killer_data snakes (Some seat) = id_data (slice_get snakes seat)
+killer_data snakes seat = id_data (option_and_then (slice_get snakes) seat)
 
 abbrev pub out_data : Option ℕ → Data
 out_data None = null

@@ -1,6 +1,7 @@
 pub mod Boards
 pub mod Commands
 pub mod Line
+pub mod Members
 pub mod Moves
 pub mod PlanLine
 pub mod Replies

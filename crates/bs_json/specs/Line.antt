@@ -3,7 +3,8 @@ use Rattle.std.specs.Prelude.{ℕ, codes, length, List, Bool, ◌||◌, ◌==◌
 use Rattle.std.specs.List.{list_all}
 use Rattle.serde_json.specs.Data.{Data}
 use Rattle.serde_json.specs.Find.{as_object}
-use Rattle.bs_board.specs.declared.command.Command.{Command}
+use Rattle.bs_board.specs.declared.commands.command.Command.{Command}
+use Rattle.bs_json.specs.declared.limits.TheConstants.{MAX_LINE}
 use Rattle.bs_json.specs.declared.line.Line.{Line}
 use Rattle.bs_json.specs.declared.line.Line.TheVariants as line
 use Rattle.bs_json.specs.declared.line.Stray.TheVariants as stray
@@ -28,6 +29,6 @@ line_from (Some d) = if is_some (as_object d) then line_in d (text_at (codes "ga
 
 unfoldable pub line_of : List ℕ → Line
 line_of bytes =
-    if nat_lt 65536 (length bytes) then line.Stray stray.Long
+    if nat_lt MAX_LINE (length bytes) then line.Stray stray.Long
     else (if list_all is_space bytes then line.Blank
     else line_from (value_of bytes))

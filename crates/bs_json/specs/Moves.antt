@@ -3,10 +3,12 @@ use Rattle.std.specs.Prelude.{ℕ, codes, length, List, [], ◌∷◌, Option, S
 use Rattle.std.specs.List.{filter_map}
 use Rattle.serde_json.specs.Data.{Data, Members, no_members, member}
 use Rattle.serde_json.specs.Find.{get, as_str, as_object}
-use Rattle.bs_board.specs.declared.point.Direction.{Direction}
-use Rattle.bs_board.specs.declared.point.Direction.TheVariants.{Up, Down, Left, Right}
-use Rattle.bs_board.specs.Orders.{Orders, orders_of}
+use Rattle.bs_board.specs.declared.boards.point.Direction.{Direction}
+use Rattle.bs_board.specs.declared.boards.point.Direction.TheVariants.{Up, Down, Left, Right}
+use Rattle.bs_board.specs.commands.Orders.{Orders, orders_of}
 use Rattle.bs_board.specs.Texts.{is_same_text}
+use Rattle.bs_board.specs.declared.limits.TheConstants.{MOST_WORDS}
+use Rattle.bs_json.specs.declared.limits.TheConstants.{MOST_WORD}
 use Rattle.bs_json.specs.Values.{◌>>=◌, or_default, list_of, whole_to}
 
 abbrev pub direction_named : List ℕ → Option Direction
@@ -17,8 +19,8 @@ direction_named word =
     else (if is_same_text word (codes "right") then Some Right
     else None)))
 
-abbrev pub direction_of : Data → Option Direction
-direction_of d = as_str d >>= direction_named
+abbrev pub direction_from : Data → Option Direction
+direction_from d = as_str d >>= direction_named
 
 abbrev pub entries_of : Members → List (List ℕ × Data)
 entries_of no_members = []
@@ -26,21 +28,24 @@ entries_of (member id d rest) = (id, d) ∷ entries_of rest
 
 -- a value that names no direction counts as missing
 abbrev pub direction_entry : List ℕ × Data → Option (List ℕ × Direction)
-direction_entry entry = option_map (λ direction. (entry.0, direction)) (direction_of entry.1)
+direction_entry entry = option_map (λ direction. (entry.0, direction)) (direction_from entry.1)
 
 abbrev pub directions_of : Members → List (List ℕ × Direction)
 directions_of members = filter_map direction_entry (entries_of members)
 
 abbrev pub few_words : List ℕ → Option (List ℕ)
-few_words words = if nat_le (length words) 32 then Some words else None
+few_words words = if nat_le (length words) MOST_WORDS then Some words else None
 
--- at most 32 words of at most 32 bits
-abbrev pub words_of : Data → Option (List ℕ)
-words_of d = list_of (whole_to 4294967295) d >>= few_words
+-- the words, where they are few enough and none is too great
+abbrev pub words_from : Data → Option (List ℕ)
+words_from d = list_of (whole_to MOST_WORD) d >>= few_words
+
+abbrev pub moves_of : Data → Option Members
+moves_of d = get (codes "moves") d >>= as_object
 
 -- there are no words where the line does not bring any
 unfoldable pub orders_from : Data → Option Orders
 orders_from d = do
-  members ← get (codes "moves") d >>= as_object
-  words ← or_default words_of [] (get (codes "words") d)
+  words ← or_default words_from [] (get (codes "words") d)
+  members ← moves_of d
   Some (orders_of (directions_of members) words)

@@ -2,16 +2,18 @@
 use Rattle.std.specs.Prelude.{◌≡◌, ℕ, codes, length, List, Bool, true, Option, Some, None, Result, Ok, Err, nat_lt, nat_le, nat_eq, if◌then◌else◌}
 use Rattle.serde_json.specs.Data.{Data, Items}
 use Rattle.serde_json.specs.Find.{get, as_array}
-use Rattle.bs_board.specs.declared.plan.Plan.{Plan}
-use Rattle.bs_board.specs.Plan.{GameRow, row_of, is_fit_row, have_distinct_names}
+use Rattle.bs_board.specs.declared.plans.plan.Plan.{Plan}
+use Rattle.bs_board.specs.plans.Plan.{GameRow, row_of, is_fit_row, have_distinct_names}
+use Rattle.bs_board.specs.declared.limits.TheConstants.{MOST_QUOTA, MOST_ROWS}
+use Rattle.bs_json.specs.declared.limits.TheConstants.{FORMAT_VERSION, MAX_LINE}
 use Rattle.bs_json.specs.declared.plan.PlanFault.{PlanFault}
 use Rattle.bs_json.specs.declared.plan.PlanFault.TheVariants.{Malformed, BadRow, TooMany, Memory}
 use Rattle.bs_json.specs.Values.{◌>>=◌, value_of, whole, number_at, text_at, each}
 
--- the version of this format is 1
+-- the version of this format
 abbrev pub is_version : Option ℕ → Bool
 is_version None = Bool.false
-is_version (Some n) = nat_eq n 1
+is_version (Some n) = nat_eq n FORMAT_VERSION
 
 -- it may be left out
 abbrev pub is_known_version : Option Data → Bool
@@ -24,14 +26,14 @@ fit_row row = if is_fit_row row then Some row else None
 abbrev pub row_from : Data → Option GameRow
 row_from d = do
   game ← text_at (codes "game") d
-  quota ← number_at (codes "quota") 16777216 d
+  quota ← number_at (codes "quota") MOST_QUOTA d
   fit_row (row_of game quota)
 
 -- a row or a name that is refused comes before their number
 abbrev pub plan_of_rows : Option (List GameRow) → Result Plan PlanFault
 plan_of_rows None = Err BadRow
 plan_of_rows (Some rows) =
-    if have_distinct_names rows then (if nat_le (length rows) 64 then Ok (record { rows = rows }) else Err TooMany)
+    if have_distinct_names rows then (if nat_le (length rows) MOST_ROWS then Ok (record { rows = rows }) else Err TooMany)
     else Err BadRow
 
 abbrev pub plan_of_games : Option Items → Result Plan PlanFault
@@ -45,7 +47,7 @@ plan_from (Some d) =
     else Err Malformed
 
 unfoldable pub plan_line_of : List ℕ → Result Plan PlanFault
-plan_line_of bytes = if nat_lt 65536 (length bytes) then Err Malformed else plan_from (value_of bytes)
+plan_line_of bytes = if nat_lt MAX_LINE (length bytes) then Err Malformed else plan_from (value_of bytes)
 
 -- that fault was found; of want of memory nothing is said
 abbrev pub IsPlanFault : Result Plan PlanFault → PlanFault → Type 0

@@ -1,14 +1,16 @@
 -- The lines of a transcript: compact JSON, each closed by a line feed.
-use Rattle.std.specs.Prelude.{ℕ, codes, List, [], ◌∷◌, ◌++◌, Option, Some, None, true}
+use Rattle.std.specs.Prelude.{◌≡◌, ℕ, codes, List, [], ◌∷◌, ◌++◌, Option, Some, None, true}
 use Rattle.serde_json.specs.Data.{Data, null, boolean, string}
+use Rattle.serde_json.specs.Sent.{IsTextOf}
 use Rattle.serde_json.specs.Written.{compact_text}
-use Rattle.bs_board.specs.declared.board.Board.{Board}
-use Rattle.bs_board.specs.declared.command.Word.{Word}
-use Rattle.bs_board.specs.declared.command.Word.TheVariants as word
-use Rattle.bs_board.specs.declared.reply.Reply.{Reply}
-use Rattle.bs_board.specs.declared.reply.Reply.TheVariants.{Shown, Plain, Refused}
-use Rattle.bs_board.specs.declared.reply.Refusal.{Refusal}
-use Rattle.bs_board.specs.declared.reply.Refusal.TheVariants.{Unknown, NoGame, Running, Over, Limit, NoRecord, Quota}
+use Rattle.serde.specs.Event.{Log}
+use Rattle.bs_board.specs.declared.boards.board.Board.{Board}
+use Rattle.bs_board.specs.declared.commands.command.Word.{Word}
+use Rattle.bs_board.specs.declared.commands.command.Word.TheVariants as word
+use Rattle.bs_board.specs.declared.commands.reply.Reply.{Reply}
+use Rattle.bs_board.specs.declared.commands.reply.Reply.TheVariants.{Shown, Plain, Refused}
+use Rattle.bs_board.specs.declared.commands.reply.Refusal.{Refusal}
+use Rattle.bs_board.specs.declared.commands.reply.Refusal.TheVariants.{Unknown, NoGame, Running, Over, Limit, NoRecord, Quota}
 use Rattle.bs_json.specs.declared.line.Stray.{Stray}
 use Rattle.bs_json.specs.declared.line.Stray.TheVariants as stray
 use Rattle.bs_json.specs.Boards.{object_of, whole_data, board_data}
@@ -101,3 +103,7 @@ final_line_of game board charge = text_line (final_data game board charge)
 
 abbrev pub stray_line_of : ℕ → Stray → List ℕ
 stray_line_of line stray = text_line (stray_data line stray)
+
+-- the text of what was sent to an empty log, and a line feed
+abbrev pub IsLineOf : (Log → Log → Type 0) → List ℕ → Type 0
+IsLineOf Sends line = (text : List ℕ) × (log : Log) × Sends (Some []) log × IsTextOf log text × (line ≡ text ++ 10 ∷ [])

@@ -1,11 +1,13 @@
 -- What a `new` line asks for.
-use Rattle.std.specs.Prelude.{ℕ, pos, codes, List, Option, Some, None, if◌then◌else◌}
+use Rattle.std.specs.Prelude.{ℕ, ◌-◌, pos, codes, List, Option, Some, None, if◌then◌else◌}
 use Rattle.serde_json.specs.Data.{Data}
-use Rattle.bs_board.specs.declared.point.Point.{Point}
-use Rattle.bs_board.specs.declared.board.Mode.{Mode}
-use Rattle.bs_board.specs.declared.board.Mode.TheVariants.{Standard, Solo, Constrictor}
-use Rattle.bs_board.specs.Setup.{Setup, setup_of, is_fit_setup}
+use Rattle.bs_board.specs.declared.boards.point.Point.{Point}
+use Rattle.bs_board.specs.declared.boards.board.Mode.{Mode}
+use Rattle.bs_board.specs.declared.boards.board.Mode.TheVariants.{Standard, Solo, Constrictor}
+use Rattle.bs_board.specs.commands.Setup.{Setup, setup_of, is_fit_setup}
 use Rattle.bs_board.specs.Texts.{is_same_text}
+use Rattle.bs_board.specs.declared.limits.TheConstants.{LONGEST_SIDE, MOST_CHANCE, MOST_MIN_FOOD}
+use Rattle.bs_json.specs.declared.limits.TheConstants.{USUAL_CHANCE, USUAL_MIN_FOOD}
 use Rattle.bs_json.specs.Values.{◌>>=◌, number_at, number_or, text_at, list_at}
 
 abbrev pub mode_named : List ℕ → Option Mode
@@ -18,30 +20,30 @@ mode_named word =
 abbrev pub mode_at : Data → Option Mode
 mode_at d = text_at (codes "mode") d >>= mode_named
 
--- no board has a column or a row above 24
-abbrev pub cell_of : Data → Option Point
-cell_of d = do
-  x ← number_at (codes "x") 24 d
-  y ← number_at (codes "y") 24 d
+-- columns and rows are counted from 0, and no board has more than the longest side
+abbrev pub cell_from : Data → Option Point
+cell_from d = do
+  x ← number_at (codes "x") (LONGEST_SIDE - 1) d
+  y ← number_at (codes "y") (LONGEST_SIDE - 1) d
   Some (record { x = pos x; y = pos y })
 
-abbrev pub start_of : Data → Option (List ℕ × Point)
-start_of d = do
+abbrev pub start_from : Data → Option (List ℕ × Point)
+start_from d = do
   id ← text_at (codes "id") d
-  cell ← cell_of d
+  cell ← cell_from d
   Some (id, cell)
 
 abbrev pub fit_setup : Setup → Option Setup
 fit_setup setup = if is_fit_setup setup then Some setup else None
 
--- the minimum of food is 1 and its chance 15 percent where the line does not say
+-- the minimum of food and its chance are the usual ones where the line does not say
 unfoldable pub setup_from : Data → Option Setup
 setup_from d = do
   mode ← mode_at d
-  width ← number_at (codes "width") 25 d
-  height ← number_at (codes "height") 25 d
-  snakes ← list_at (codes "snakes") start_of d
-  food ← list_at (codes "food") cell_of d
-  min_food ← number_or (codes "min_food") 255 1 d
-  chance ← number_or (codes "food_chance") 100 15 d
+  width ← number_at (codes "width") LONGEST_SIDE d
+  height ← number_at (codes "height") LONGEST_SIDE d
+  snakes ← list_at (codes "snakes") start_from d
+  food ← list_at (codes "food") cell_from d
+  min_food ← number_or (codes "min_food") MOST_MIN_FOOD USUAL_MIN_FOOD d
+  chance ← number_or (codes "food_chance") MOST_CHANCE USUAL_CHANCE d
   fit_setup (setup_of mode width height snakes food min_food chance)

@@ -1,14 +1,15 @@
-// The JSON value that shows a board.
-ghost use Rattle.std.specs.Prelude.{◌≡◌, IfOk};
+//! The JSON value that shows a board, and the words in it.
+ghost use Rattle.std.specs.Prelude.{◌≡◌, IfOk, option_and_then, slice_get};
+ghost use Rattle.std.specs.Option.{option_copied};
 ghost use Rattle.serde_json.specs.View.{view};
-ghost use Rattle.bs_board.specs.Over.{is_over};
+ghost use Rattle.bs_board.specs.boards.Over.{is_over};
 ghost use Rattle.bs_json.specs.Boards.{mode_text, cause_text, cause_data, killer_data, out_data, cell_data, cells_data, snake_data, snakes_data, board_data};
 
 use bs_board::{Board, Cause, Mode, Point, Snake};
 use serde_json::{Value, json};
 use std::alloc::{AllocError, Global};
 
-fn mode_text(mode: Mode) -> &'static str
+pub fn mode_text(mode: Mode) -> &'static str
     ensures { result.now ≡ mode_text mode }
 {
     match mode {
@@ -18,7 +19,7 @@ fn mode_text(mode: Mode) -> &'static str
     }
 }
 
-fn cause_text(cause: Cause) -> &'static str
+pub fn cause_text(cause: Cause) -> &'static str
     ensures { result.now ≡ cause_text cause }
 {
     match cause {
@@ -48,13 +49,17 @@ fn out_value(out: Option<u16>) -> Value
     }
 }
 
+/// None where there is no seat, or no snake in it.
+pub fn snake_in_seat(snakes: &[Snake], seat: Option<usize>) -> Option<&Snake>
+    ensures { option_copied result ≡ option_and_then (slice_get snakes.now) seat }
+{
+    snakes.get(seat?)
+}
+
 fn killer_value(alloc: Global, snakes: &[Snake], killer: Option<usize>) -> Result<Value, AllocError>
     ensures { IfOk result (λ v. view v ≡ killer_data snakes.now killer) }
 {
-    let Some(seat) = killer else {
-        return Ok(Value::Null);
-    };
-    match snakes.get(seat) {
+    match snake_in_seat(snakes, killer) {
         Some(snake) => Value::try_from_str(alloc, snake.id.as_str()),
         None => Ok(Value::Null),
     }
@@ -105,7 +110,7 @@ fn snakes_value(alloc: Global, snakes: &[Snake]) -> Result<Value, AllocError>
     Ok(Value::Array(values))
 }
 
-fn is_over(board: &Board) -> bool
+pub fn is_over(board: &Board) -> bool
     ensures { result ≡ is_over board.now }
 {
     let living = board

@@ -1,46 +1,64 @@
-// The command that a line asks for.
+//! The command that a line asks for.
 ghost use Rattle.std.specs.Prelude.{◌≡◌, codes, IfOk};
 ghost use Rattle.serde_json.specs.View.{view};
-ghost use Rattle.bs_json.specs.Commands.{command_named, command_of};
+ghost use Rattle.bs_json.specs.Commands.{command_for, command_of, word_at, word_named};
 ghost use Rattle.bs_json.specs.Values.{number_at};
 
 use crate::moves::orders_from;
 use crate::setups::setup_from;
 use crate::values::{number_at, text_at};
-use bs_board::{Command, TurnNumber};
+use bs_board::limits::LAST_TURN;
+use bs_board::{Command, TurnNumber, Word};
 use serde_json::Value;
 use std::alloc::{AllocError, Global};
 
 fn turn_at(line: &Value) -> Option<TurnNumber>
-    ensures { result ≡ number_at (codes "at") 10000 (view line.now) }
+    ensures { result ≡ number_at (codes "at") LAST_TURN (view line.now) }
 {
-    match number_at(line, "at", 10_000) {
-        Some(number) => TurnNumber::new(number as u16),
-        None => None,
+    TurnNumber::new(number_at(line, "at", u32::from(LAST_TURN))? as u16)
+}
+
+fn word_named(word: &str) -> Option<Word>
+    ensures { result ≡ word_named word.now }
+{
+    match word {
+        "new" => Some(Word::New),
+        "move" => Some(Word::Move),
+        "show" => Some(Word::Show),
+        "turn" => Some(Word::Turn),
+        "free" => Some(Word::Free),
+        "end" => Some(Word::End),
+        _ => None,
     }
 }
 
-fn command_named(alloc: Global, word: &str, line: &Value) -> Result<Option<Command>, AllocError>
-    ensures { IfOk result (λ command. command ≡ command_named word.now (view line.now)) }
+fn command_for(alloc: Global, word: Word, line: &mut Value) -> Result<Option<Command>, AllocError>
+    ensures { IfOk result (λ command. command ≡ command_for word (view line.old)) }
 {
     Ok(match word {
-        "new" => setup_from(alloc, line)?.map(Command::New),
-        "move" => orders_from(alloc, line)?.map(Command::Move),
-        "show" => Some(Command::Show),
-        "turn" => turn_at(line).map(Command::Turn),
-        "free" => Some(Command::Free),
-        "end" => Some(Command::End),
-        _ => None,
+        Word::New => setup_from(alloc, line)?.map(Command::New),
+        Word::Move => orders_from(alloc, line)?.map(Command::Move),
+        Word::Show => Some(Command::Show),
+        Word::Turn => turn_at(line).map(Command::Turn),
+        Word::Free => Some(Command::Free),
+        Word::End => Some(Command::End),
     })
 }
 
-/// `None` where `do` is missing or unknown, or a member is missing, of the wrong type or out of range.
-#[tactic(auto, unfolding(crate::specs::Commands::command_of))]
-pub fn command_of(alloc: Global, line: &Value) -> Result<Option<Command>, AllocError>
-    ensures { IfOk result (λ command. command ≡ command_of (view line.now)) }
+fn word_at(line: &Value) -> Option<Word>
+    ensures { result ≡ word_at (view line.now) }
 {
-    match text_at(line, "do") {
-        Some(word) => command_named(alloc, word, line),
+    word_named(text_at(line, "do")?)
+}
+
+/// `None` where `do` is missing or unknown, or a member is missing, of the wrong type or out of range. What becomes part
+/// of the command is taken out of the line.
+#[tactic(auto, unfolding(crate::specs::Commands::command_of))]
+pub fn command_of(alloc: Global, line: &mut Value) -> Result<Option<Command>, AllocError>
+    ensures { IfOk result (λ command. command ≡ command_of (view line.old)) }
+{
+    match word_at(line) {
+        Some(word) => command_for(alloc, word, line),
         None => Ok(None),
     }
 }

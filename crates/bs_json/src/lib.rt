@@ -4,16 +4,19 @@
 
 mod boards;
 mod commands;
+mod limits;
 pub mod line;
 mod moves;
 pub mod plan;
 mod replies;
 mod setups;
+mod shown;
 #[cfg(test)]
 mod tests;
 mod values;
 
 pub use boards::board_value;
+pub use limits::MAX_LINE;
 pub use line::{Line, Stray, read_line};
 pub use plan::{PlanFault, read_plan};
 pub use replies::{final_line, reply_line, stray_line};

@@ -1,16 +1,15 @@
+//! What one line of a command file is, after the first.
 ghost use Rattle.std.specs.Prelude.{◌≡◌, IfOk};
 ghost use Rattle.std.specs.List.{list_all};
 ghost use Rattle.serde_json.specs.View.{view};
 ghost use Rattle.bs_json.specs.Line.{is_space, line_from, line_of};
 
 use crate::commands::command_of;
+use crate::limits::MAX_LINE;
 use crate::values::{id_at, parsed};
 use bs_board::{Command, Id};
 use serde_json::Value;
 use std::alloc::{AllocError, Global};
-
-/// The most bytes of a line, without its line feed.
-pub const MAX_LINE: usize = 65_536;
 
 /// Why a line belongs to no game.
 #[derive(Clone, Copy, Debug, PartialEq, Eq)]
@@ -46,8 +45,8 @@ fn is_blank(line: &[u8]) -> bool
     line.iter().all(|byte| is_space(*byte))
 }
 
-fn line_from(alloc: Global, value: &Value) -> Result<Line, AllocError>
-    ensures { IfOk result (λ line. line ≡ line_from (Some (view value.now))) }
+fn line_from(alloc: Global, value: &mut Value) -> Result<Line, AllocError>
+    ensures { IfOk result (λ line. line ≡ line_from (Some (view value.old))) }
 {
     if !value.is_object() {
         return Ok(Line::Stray(Stray::Json));
@@ -73,7 +72,7 @@ pub fn read_line(alloc: Global, line: &[u8]) -> Result<Line, AllocError>
         return Ok(Line::Blank);
     }
     match parsed(alloc, line)? {
-        Some(value) => line_from(alloc, &value),
+        Some(mut value) => line_from(alloc, &mut value),
         None => Ok(Line::Stray(Stray::Json)),
     }
 }

@@ -1,12 +1,13 @@
+//! The first line of a command file, which is its plan.
 ghost use Rattle.std.specs.Prelude.{◌≡◌, codes, option_map, IfOk, MatchResult};
 ghost use Rattle.serde_json.specs.Find.{get};
-ghost use Rattle.serde_json.specs.View.{view, items_view};
+ghost use Rattle.serde_json.specs.View.{view};
 ghost use Rattle.bs_json.specs.PlanLine.{is_known_version, row_from, plan_of_rows, plan_from, plan_line_of, IsPlanFault};
-ghost use Rattle.bs_json.specs.Values.{each};
 
-use crate::line::MAX_LINE;
-use crate::values::{id_at, number_at, parsed};
-use bs_board::plan::have_distinct_names;
+use crate::limits::{FORMAT_VERSION, MAX_LINE};
+use crate::values::{FromItem, each, id_at, number_at, parsed};
+use bs_board::limits::{MOST_QUOTA, MOST_ROWS};
+use bs_board::plans::plan::have_distinct_names;
 use bs_board::{Plan, Row, Rows};
 use serde_json::Value;
 use std::alloc::{AllocError, Global};
@@ -42,7 +43,7 @@ fn is_known_version(line: &Value) -> bool
     ensures { result ≡ is_known_version (get (codes "version") (view line.now)) }
 {
     match line.get("version") {
-        Some(version) => version.as_u64() == Some(1),
+        Some(version) => version.as_u64() == Some(FORMAT_VERSION),
         None => true,
     }
 }
@@ -53,24 +54,18 @@ fn row_from(alloc: Global, value: &Value) -> Result<Option<Row>, AllocError>
     let Some(game) = id_at(alloc, value, "game")? else {
         return Ok(None);
     };
-    match number_at(value, "quota", 16_777_216) {
+    match number_at(value, "quota", MOST_QUOTA) {
         Some(quota) => Ok(Row::new(game, quota)),
         None => Ok(None),
     }
 }
 
-fn rows_in(alloc: Global, items: &[Value]) -> Result<Option<Vec<Row>>, AllocError>
-    ensures { IfOk result
-        (λ rows. option_map (λ r. r.items) rows ≡ each row_from (items_view items.now)) }
-{
-    let mut rows = Vec::with_capacity(alloc, items.len())?;
-    for item in items {
-        let Some(row) = row_from(alloc, item)? else {
-            return Ok(None);
-        };
-        rows.push(row)?;
+impl FromItem for Row {
+    ghost read = { row_from };
+
+    fn from_item(alloc: Global, item: &Value) -> Result<Option<Row>, AllocError> {
+        row_from(alloc, item)
     }
-    Ok(Some(rows))
 }
 
 fn plan_of_rows(rows: Option<Vec<Row>>) -> Result<Plan, PlanFault>
@@ -82,7 +77,7 @@ fn plan_of_rows(rows: Option<Vec<Row>>) -> Result<Plan, PlanFault>
     if !have_distinct_names(rows.as_slice()) {
         return Err(PlanFault::BadRow);
     }
-    if rows.len() > 64 {
+    if rows.len() > MOST_ROWS {
         return Err(PlanFault::TooMany);
     }
     Ok(Plan {
@@ -98,7 +93,7 @@ fn plan_from(alloc: Global, line: &Value) -> Result<Plan, PlanFault>
         return Err(PlanFault::Malformed);
     }
     match line.get("games").and_then(Value::as_array) {
-        Some(games) => plan_of_rows(rows_in(alloc, games.as_slice())?),
+        Some(games) => plan_of_rows(each(alloc, games.as_slice())?),
         None => Err(PlanFault::Malformed),
     }
 }

@@ -1,14 +1,13 @@
-// The lines of a transcript.
-ghost use Rattle.std.specs.Prelude.{◌≡◌, false, IfOk};
+//! The lines of a transcript. A line's type borrows what the line tells, and is sent straight into the line's text.
+ghost use Rattle.std.specs.Prelude.{◌≡◌, IfOk, OnOk};
 ghost use Rattle.std.specs.Option.{option_copied};
-ghost use Rattle.serde_json.specs.View.{view};
-ghost use Rattle.serde_json.specs.Written.{has_float};
-ghost use Rattle.bs_json.specs.Replies.{word_text, refusal_code, refusal_text, stray_code, stray_text, reply_data, last_data, final_data, stray_data, text_line as line_text, reply_line_of, final_line_of, stray_line_of};
+ghost use Rattle.serde_json.specs.Events.{SendsValue};
+ghost use Rattle.bs_json.specs.Replies.{word_text, refusal_code, refusal_text, stray_code, stray_text, reply_data, last_data, final_data, stray_data, IsLineOf, reply_line_of, final_line_of, stray_line_of};
 
-use crate::boards::board_value;
 use crate::line::Stray;
+use crate::shown::{ShownBoard, send_member};
 use bs_board::{Board, Id, Refusal, Reply, Word};
-use serde_json::{Value, json};
+use serde::{Described, Serialize, Serializer};
 use std::alloc::{AllocError, Global};
 
 fn word_text(word: Word) -> &'static str
@@ -72,100 +71,156 @@ fn stray_text(stray: Stray) -> &'static str
     }
 }
 
-/// The text of the value and a line feed.
-fn text_line(alloc: Global, value: &Value) -> Result<Vec<u8>, AllocError>
-    requires { has_float (view value.now) ≡ false }
-    ensures { IfOk result (λ line. line.items ≡ line_text (view value.now)) }
+/// What the value sends, as one line.
+fn sent_line<T: Serialize>(alloc: Global, value: &T) -> Result<Vec<u8>, AllocError>
+    ensures { IfOk result (λ line. IsLineOf (T.writes value.now) line.items) }
 {
-    let mut line = value.to_vec(alloc)?;
-    line.push(b'\n')?;
-    Ok(line)
+    match serde_json::to_vec(alloc, value) {
+        Ok(mut line) => {
+            line.push(b'\n')?;
+            Ok(line)
+        }
+        // Nothing that is sent here is refused but for want of memory.
+        Err(_) => Err(AllocError),
+    }
 }
 
-#[tactic(auto, unfolding(crate::specs::Replies::reply_data))]
-fn reply_value(alloc: Global, game: &Id, seq: u64, reply: &Reply) -> Result<Value, AllocError>
-    ensures { IfOk result (λ v. view v ≡ reply_data game.now seq reply.now) }
-{
-    match reply {
-        Reply::Shown(word, board, charge) => shown_value(alloc, game, seq, *word, board, *charge),
-        Reply::Plain(word, charge) => plain_value(alloc, game, seq, *word, *charge),
-        Reply::Refused(refusal) => refused_value(alloc, game, seq, *refusal),
+/// The line of one answered command.
+#[derive(Clone, Copy)]
+struct ReplyLine<'r> {
+    game: &'r Id,
+    seq: u64,
+    reply: &'r Reply,
+}
+
+impl Described for ReplyLine<'_> {
+    ghost writes = { λ line. SendsValue (reply_data line.game.now line.seq line.reply.now) };
+}
+
+impl Serialize for ReplyLine<'_> {
+    fn serialize<S: Serializer>(&self, out: &mut S) -> Result<(), S::Error> {
+        match self.reply {
+            Reply::Shown(word, board, charge) => {
+                send_shown(self.game, self.seq, *word, board, *charge, out)
+            }
+            Reply::Plain(word, charge) => send_plain(self.game, self.seq, *word, *charge, out),
+            Reply::Refused(refusal) => send_refused(self.game, self.seq, *refusal, out),
+        }
     }
 }
 
 #[tactic(auto, unfolding(crate::specs::Replies::reply_data))]
-fn shown_value(
-    alloc: Global,
+fn send_shown<S: Serializer>(
     game: &Id,
     seq: u64,
     word: Word,
     board: &Board,
     charge: u32,
-) -> Result<Value, AllocError>
-    ensures { IfOk result
-        (λ v. view v ≡ reply_data game.now seq (Reply.Shown word board.now charge)) }
+    out: &mut S,
+) -> Result<(), S::Error>
+    ensures { OnOk result
+        (SendsValue (reply_data game.now seq (Reply.Shown word board.now charge))
+        (S.written out.old) (S.written out.new)) }
 {
-    let board = board_value(alloc, board)?;
-    let (word, game) = (word_text(word), game.as_str());
-    json!(in alloc; {"board": board, "charge": charge, "do": word, "game": game, "seq": seq})
+    out.begin_map(Some(5))?;
+    send_member("board", &ShownBoard(board), out)?;
+    send_member("charge", &charge, out)?;
+    send_member("do", &word_text(word), out)?;
+    send_member("game", &game.as_str(), out)?;
+    send_member("seq", &seq, out)?;
+    out.end_map()
 }
 
 #[tactic(auto, unfolding(crate::specs::Replies::reply_data))]
-fn plain_value(
-    alloc: Global,
+fn send_plain<S: Serializer>(
     game: &Id,
     seq: u64,
     word: Word,
     charge: u32,
-) -> Result<Value, AllocError>
-    ensures { IfOk result (λ v. view v ≡ reply_data game.now seq (Reply.Plain word charge)) }
+    out: &mut S,
+) -> Result<(), S::Error>
+    ensures { OnOk result
+        (SendsValue (reply_data game.now seq (Reply.Plain word charge))
+        (S.written out.old) (S.written out.new)) }
 {
-    let (word, game) = (word_text(word), game.as_str());
-    json!(in alloc; {"charge": charge, "do": word, "game": game, "seq": seq})
+    out.begin_map(Some(4))?;
+    send_member("charge", &charge, out)?;
+    send_member("do", &word_text(word), out)?;
+    send_member("game", &game.as_str(), out)?;
+    send_member("seq", &seq, out)?;
+    out.end_map()
 }
 
 #[tactic(auto, unfolding(crate::specs::Replies::reply_data))]
-fn refused_value(alloc: Global, game: &Id, seq: u64, refusal: Refusal) -> Result<Value, AllocError>
-    ensures { IfOk result (λ v. view v ≡ reply_data game.now seq (Reply.Refused refusal)) }
+fn send_refused<S: Serializer>(
+    game: &Id,
+    seq: u64,
+    refusal: Refusal,
+    out: &mut S,
+) -> Result<(), S::Error>
+    ensures { OnOk result
+        (SendsValue (reply_data game.now seq (Reply.Refused refusal))
+        (S.written out.old) (S.written out.new)) }
 {
-    let (code, why, game) = (refusal_code(refusal), refusal_text(refusal), game.as_str());
-    json!(in alloc; {"game": game, "no": code, "seq": seq, "why": why})
+    out.begin_map(Some(4))?;
+    send_member("game", &game.as_str(), out)?;
+    send_member("no", &refusal_code(refusal), out)?;
+    send_member("seq", &seq, out)?;
+    send_member("why", &refusal_text(refusal), out)?;
+    out.end_map()
 }
 
 /// The line of one answered command. `seq` is its number within the game, from 1.
-#[tactic(auto, using(crate::proofs::Floats::reply_has_no_float))]
+#[tactic(auto, using(crate::proofs::Lines::text_of_written_line, crate::proofs::Floats::reply_has_no_float))]
 pub fn reply_line(alloc: Global, game: &Id, seq: u64, reply: &Reply) -> Result<Vec<u8>, AllocError>
     ensures { IfOk result (λ line. line.items ≡ reply_line_of game.now seq reply.now) }
 {
-    let value = reply_value(alloc, game, seq, reply)?;
-    text_line(alloc, &value)
+    sent_line(alloc, &ReplyLine { game, seq, reply })
 }
 
-fn last_value(alloc: Global, board: Option<&Board>) -> Result<Value, AllocError>
-    ensures { IfOk result (λ v. view v ≡ last_data (option_copied board.entry)) }
-{
-    match board {
-        Some(board) => board_value(alloc, board),
-        None => Ok(Value::Null),
+/// The line behind a game's replies.
+#[derive(Clone, Copy)]
+struct FinalLine<'r> {
+    game: &'r Id,
+    board: Option<&'r Board>,
+    charge: u32,
+}
+
+/// The last board, if there is one.
+#[derive(Clone, Copy)]
+struct LastBoard<'r>(Option<&'r Board>);
+
+impl Described for LastBoard<'_> {
+    ghost writes = { λ last. SendsValue (last_data (option_copied last.0)) };
+}
+
+impl Serialize for LastBoard<'_> {
+    fn serialize<S: Serializer>(&self, out: &mut S) -> Result<(), S::Error> {
+        match self.0 {
+            Some(board) => ShownBoard(board).serialize(out),
+            None => out.unit(),
+        }
     }
 }
 
-#[tactic(auto, unfolding(crate::specs::Replies::final_data))]
-fn final_value(
-    alloc: Global,
-    game: &Id,
-    board: Option<&Board>,
-    charge: u32,
-) -> Result<Value, AllocError>
-    ensures { IfOk result (λ v. view v ≡ final_data game.now (option_copied board.entry) charge) }
-{
-    let board = last_value(alloc, board)?;
-    let game = game.as_str();
-    json!(in alloc; {"board": board, "charge": charge, "final": true, "game": game})
+impl Described for FinalLine<'_> {
+    ghost writes = { λ line. SendsValue (final_data line.game.now (option_copied line.board) line.charge) };
+}
+
+impl Serialize for FinalLine<'_> {
+    #[tactic(auto, unfolding(crate::specs::Replies::final_data))]
+    fn serialize<S: Serializer>(&self, out: &mut S) -> Result<(), S::Error> {
+        out.begin_map(Some(4))?;
+        send_member("board", &LastBoard(self.board), out)?;
+        send_member("charge", &self.charge, out)?;
+        send_member("final", &true, out)?;
+        send_member("game", &self.game.as_str(), out)?;
+        out.end_map()
+    }
 }
 
 /// The line behind a game's replies. There is no board where no game runs.
-#[tactic(auto, using(crate::proofs::Floats::final_has_no_float))]
+#[tactic(auto, using(crate::proofs::Lines::text_of_written_line, crate::proofs::Floats::final_has_no_float))]
 pub fn final_line(
     alloc: Global,
     game: &Id,
@@ -175,23 +230,42 @@ pub fn final_line(
     ensures { IfOk result
         (λ line. line.items ≡ final_line_of game.now (option_copied board.entry) charge) }
 {
-    let value = final_value(alloc, game, board, charge)?;
-    text_line(alloc, &value)
+    sent_line(
+        alloc,
+        &FinalLine {
+            game,
+            board,
+            charge,
+        },
+    )
 }
 
-#[tactic(auto, unfolding(crate::specs::Replies::stray_data))]
-fn stray_value(alloc: Global, line: u64, stray: Stray) -> Result<Value, AllocError>
-    ensures { IfOk result (λ v. view v ≡ stray_data line stray) }
-{
-    let (code, why) = (stray_code(stray), stray_text(stray));
-    json!(in alloc; {"line": line, "no": code, "why": why})
+/// The line of a stray.
+#[derive(Clone, Copy)]
+struct StrayLine {
+    line: u64,
+    stray: Stray,
+}
+
+impl Described for StrayLine {
+    ghost writes = { λ s. SendsValue (stray_data s.line s.stray) };
+}
+
+impl Serialize for StrayLine {
+    #[tactic(auto, unfolding(crate::specs::Replies::stray_data))]
+    fn serialize<S: Serializer>(&self, out: &mut S) -> Result<(), S::Error> {
+        out.begin_map(Some(3))?;
+        send_member("line", &self.line, out)?;
+        send_member("no", &stray_code(self.stray), out)?;
+        send_member("why", &stray_text(self.stray), out)?;
+        out.end_map()
+    }
 }
 
 /// The line of a stray. `line` is its number in the file, from 1.
-#[tactic(auto, using(crate::proofs::Floats::stray_has_no_float))]
+#[tactic(auto, using(crate::proofs::Lines::text_of_written_line, crate::proofs::Floats::stray_has_no_float))]
 pub fn stray_line(alloc: Global, line: u64, stray: Stray) -> Result<Vec<u8>, AllocError>
     ensures { IfOk result (λ text. text.items ≡ stray_line_of line stray) }
 {
-    let value = stray_value(alloc, line, stray)?;
-    text_line(alloc, &value)
+    sent_line(alloc, &StrayLine { line, stray })
 }

@@ -1,10 +1,12 @@
-// What a `new` line asks for.
+//! What a `new` line asks for.
 ghost use Rattle.std.specs.Prelude.{◌≡◌, IfOk, codes};
-ghost use Rattle.serde_json.specs.View.{view, items_view};
-ghost use Rattle.bs_json.specs.Setups.{mode_named, mode_at, cell_of, start_of, setup_from};
-ghost use Rattle.bs_json.specs.Values.{each, list_at};
+ghost use Rattle.serde_json.specs.View.{view};
+ghost use Rattle.bs_json.specs.Setups.{mode_named, mode_at, cell_from, start_from, setup_from};
+ghost use Rattle.bs_json.specs.Values.{list_at};
 
-use crate::values::{byte_at, byte_or, id_at, text_at};
+use crate::limits::{USUAL_CHANCE, USUAL_MIN_FOOD};
+use crate::values::{FromItem, byte_at, byte_or, each, id_at, text_at};
+use bs_board::limits::{LONGEST_SIDE, MOST_CHANCE, MOST_MIN_FOOD};
 use bs_board::{Cells, Id, Mode, New, Point, Starts};
 use serde_json::Value;
 use std::alloc::{AllocError, Global};
@@ -23,75 +25,62 @@ fn mode_named(word: &str) -> Option<Mode>
 fn mode_at(line: &Value) -> Option<Mode>
     ensures { result ≡ mode_at (view line.now) }
 {
-    match text_at(line, "mode") {
-        Some(word) => mode_named(word),
-        None => None,
-    }
+    mode_named(text_at(line, "mode")?)
 }
 
-fn cell_of(value: &Value) -> Option<Point>
-    ensures { result ≡ cell_of (view value.now) }
+fn cell_from(value: &Value) -> Option<Point>
+    ensures { result ≡ cell_from (view value.now) }
 {
-    let x = byte_at(value, "x", 24)?;
-    let y = byte_at(value, "y", 24)?;
+    let x = byte_at(value, "x", LONGEST_SIDE - 1)?;
+    let y = byte_at(value, "y", LONGEST_SIDE - 1)?;
     Some(Point {
         x: i16::from(x),
         y: i16::from(y),
     })
 }
 
-fn start_of(alloc: Global, value: &Value) -> Result<Option<(Id, Point)>, AllocError>
-    ensures { IfOk result (λ start. start ≡ start_of (view value.now)) }
+fn start_from(alloc: Global, value: &Value) -> Result<Option<(Id, Point)>, AllocError>
+    ensures { IfOk result (λ start. start ≡ start_from (view value.now)) }
 {
     let Some(id) = id_at(alloc, value, "id")? else {
         return Ok(None);
     };
-    match cell_of(value) {
+    match cell_from(value) {
         Some(cell) => Ok(Some((id, cell))),
         None => Ok(None),
     }
 }
 
-fn starts_in(alloc: Global, items: &[Value]) -> Result<Option<Starts>, AllocError>
-    ensures { IfOk result (λ starts. starts ≡ each start_of (items_view items.now)) }
-{
-    let mut starts = Vec::with_capacity(alloc, items.len())?;
-    for item in items {
-        let Some(start) = start_of(alloc, item)? else {
-            return Ok(None);
-        };
-        starts.push(start)?;
+impl FromItem for Point {
+    ghost read = { cell_from };
+
+    fn from_item(_alloc: Global, item: &Value) -> Result<Option<Point>, AllocError> {
+        Ok(cell_from(item))
     }
-    Ok(Some(Starts::from_vec(starts)))
 }
 
-fn cells_in(alloc: Global, items: &[Value]) -> Result<Option<Cells>, AllocError>
-    ensures { IfOk result (λ cells. cells ≡ each cell_of (items_view items.now)) }
-{
-    let mut cells = Vec::with_capacity(alloc, items.len())?;
-    for item in items {
-        let Some(cell) = cell_of(item) else {
-            return Ok(None);
-        };
-        cells.push(cell)?;
+impl FromItem for (Id, Point) {
+    ghost read = { start_from };
+
+    fn from_item(alloc: Global, item: &Value) -> Result<Option<(Id, Point)>, AllocError> {
+        start_from(alloc, item)
     }
-    Ok(Some(Cells::from_vec(cells)))
 }
 
 fn starts_at(alloc: Global, line: &Value) -> Result<Option<Starts>, AllocError>
-    ensures { IfOk result (λ starts. starts ≡ list_at (codes "snakes") start_of (view line.now)) }
+    ensures { IfOk result (λ starts. starts ≡ list_at (codes "snakes") start_from (view line.now)) }
 {
     match line.get("snakes").and_then(Value::as_array) {
-        Some(items) => starts_in(alloc, items.as_slice()),
+        Some(items) => Ok(each(alloc, items.as_slice())?.map(Starts::from_vec)),
         None => Ok(None),
     }
 }
 
 fn food_at(alloc: Global, line: &Value) -> Result<Option<Cells>, AllocError>
-    ensures { IfOk result (λ cells. cells ≡ list_at (codes "food") cell_of (view line.now)) }
+    ensures { IfOk result (λ cells. cells ≡ list_at (codes "food") cell_from (view line.now)) }
 {
     match line.get("food").and_then(Value::as_array) {
-        Some(items) => cells_in(alloc, items.as_slice()),
+        Some(items) => Ok(each(alloc, items.as_slice())?.map(Cells::from_vec)),
         None => Ok(None),
     }
 }
@@ -104,10 +93,10 @@ pub fn setup_from(alloc: Global, line: &Value) -> Result<Option<New>, AllocError
     let Some(mode) = mode_at(line) else {
         return Ok(None);
     };
-    let Some(width) = byte_at(line, "width", 25) else {
+    let Some(width) = byte_at(line, "width", LONGEST_SIDE) else {
         return Ok(None);
     };
-    let Some(height) = byte_at(line, "height", 25) else {
+    let Some(height) = byte_at(line, "height", LONGEST_SIDE) else {
         return Ok(None);
     };
     let Some(snakes) = starts_at(alloc, line)? else {
@@ -116,10 +105,10 @@ pub fn setup_from(alloc: Global, line: &Value) -> Result<Option<New>, AllocError
     let Some(food) = food_at(alloc, line)? else {
         return Ok(None);
     };
-    let Some(min_food) = byte_or(line, "min_food", 255, 1) else {
+    let Some(min_food) = byte_or(line, "min_food", MOST_MIN_FOOD, USUAL_MIN_FOOD) else {
         return Ok(None);
     };
-    let Some(chance) = byte_or(line, "food_chance", 100, 15) else {
+    let Some(chance) = byte_or(line, "food_chance", MOST_CHANCE, USUAL_CHANCE) else {
         return Ok(None);
     };
     Ok(New::new(mode, width, height, snakes, food, min_food, chance))

@@ -1,4 +1,4 @@
-// Lines of worked games, with the ends of each range, and what is written for them.
+//! Lines of worked games, with the ends of each range, and what is written for them.
 use crate::{
     Line, PlanFault, Stray, board_value, final_line, read_line, read_plan, reply_line, stray_line,
 };
@@ -258,115 +258,80 @@ fn out(
     Ok(snake)
 }
 
+// The lines of a game of one snake that goes up until it is off the board.
+const SOLO_GAME: &str =
+    r#"{"board":{"food":[],"food_chance":0,"height":3,"min_food":0,"mode":"solo","over":false,"snakes":[{"body":[{"x":1,"y":1},{"x":1,"y":1},{"x":1,"y":1}],"by":null,"cause":null,"health":100,"id":"s","out":null}],"turn":0,"width":3},"charge":32,"do":"new","game":"a","seq":1}
+{"board":{"food":[],"food_chance":0,"height":3,"min_food":0,"mode":"solo","over":false,"snakes":[{"body":[{"x":1,"y":2},{"x":1,"y":1},{"x":1,"y":1}],"by":null,"cause":null,"health":99,"id":"s","out":null}],"turn":1,"width":3},"charge":64,"do":"move","game":"a","seq":2}
+{"board":{"food":[],"food_chance":0,"height":3,"min_food":0,"mode":"solo","over":true,"snakes":[{"body":[{"x":1,"y":3},{"x":1,"y":2},{"x":1,"y":1}],"by":null,"cause":"wall-collision","health":98,"id":"s","out":2}],"turn":2,"width":3},"charge":96,"do":"move","game":"a","seq":3}
+{"game":"a","no":"G4","seq":4,"why":"over"}
+{"board":{"food":[],"food_chance":0,"height":3,"min_food":0,"mode":"solo","over":true,"snakes":[{"body":[{"x":1,"y":3},{"x":1,"y":2},{"x":1,"y":1}],"by":null,"cause":"wall-collision","health":98,"id":"s","out":2}],"turn":2,"width":3},"charge":96,"final":true,"game":"a"}
+"#;
+
+fn last_solo(alloc: Global) -> Result<Board, AllocError> {
+    let mut snake = living(alloc, "s", 98, &[(1, 3), (1, 2), (1, 1)])?;
+    snake.cause = Some(Cause::WallCollision);
+    snake.out = Some(2);
+    solo(alloc, 2, snake)
+}
+
 #[test]
 fn a_solo_game_is_written(rt: HostRuntime) -> Result<(), Fail> {
     let alloc = rt.alloc();
     let game = Id::from_str(alloc, "a")?;
-    let first = solo(
-        alloc,
-        0,
-        living(alloc, "s", 100, &[(1, 1), (1, 1), (1, 1)])?,
-    )?;
-    let second = solo(alloc, 1, living(alloc, "s", 99, &[(1, 2), (1, 1), (1, 1)])?)?;
-    let mut snake = living(alloc, "s", 98, &[(1, 3), (1, 2), (1, 1)])?;
-    snake.cause = Some(Cause::WallCollision);
-    snake.out = Some(2);
-    let third = solo(alloc, 2, snake)?;
-    let last = final_line(alloc, &game, Some(&third), 96)?;
-    let want =
-        r#"{"board":{"food":[],"food_chance":0,"height":3,"min_food":0,"mode":"solo","over":true,"snakes":[{"body":[{"x":1,"y":3},{"x":1,"y":2},{"x":1,"y":1}],"by":null,"cause":"wall-collision","health":98,"id":"s","out":2}],"turn":2,"width":3},"charge":96,"final":true,"game":"a"}"#;
-    assert_eq!(rt; last.as_slice(), format!(in alloc; "{want}\n")?.as_bytes());
-    for (seq, reply, want) in [
-        (
-            1,
-            Reply::Shown(Word::New, first, 32),
-            r#"{"board":{"food":[],"food_chance":0,"height":3,"min_food":0,"mode":"solo","over":false,"snakes":[{"body":[{"x":1,"y":1},{"x":1,"y":1},{"x":1,"y":1}],"by":null,"cause":null,"health":100,"id":"s","out":null}],"turn":0,"width":3},"charge":32,"do":"new","game":"a","seq":1}"#,
-        ),
-        (
-            2,
-            Reply::Shown(Word::Move, second, 64),
-            r#"{"board":{"food":[],"food_chance":0,"height":3,"min_food":0,"mode":"solo","over":false,"snakes":[{"body":[{"x":1,"y":2},{"x":1,"y":1},{"x":1,"y":1}],"by":null,"cause":null,"health":99,"id":"s","out":null}],"turn":1,"width":3},"charge":64,"do":"move","game":"a","seq":2}"#,
-        ),
-        (
-            3,
-            Reply::Shown(Word::Move, third, 96),
-            r#"{"board":{"food":[],"food_chance":0,"height":3,"min_food":0,"mode":"solo","over":true,"snakes":[{"body":[{"x":1,"y":3},{"x":1,"y":2},{"x":1,"y":1}],"by":null,"cause":"wall-collision","health":98,"id":"s","out":2}],"turn":2,"width":3},"charge":96,"do":"move","game":"a","seq":3}"#,
-        ),
-        (
-            4,
-            Reply::Refused(Refusal::Over),
-            r#"{"game":"a","no":"G4","seq":4,"why":"over"}"#,
-        ),
+    let first = living(alloc, "s", 100, &[(1, 1), (1, 1), (1, 1)])?;
+    let second = living(alloc, "s", 99, &[(1, 2), (1, 1), (1, 1)])?;
+    let mut written = Vec::new(alloc);
+    for (seq, reply) in [
+        (1, Reply::Shown(Word::New, solo(alloc, 0, first)?, 32)),
+        (2, Reply::Shown(Word::Move, solo(alloc, 1, second)?, 64)),
+        (3, Reply::Shown(Word::Move, last_solo(alloc)?, 96)),
+        (4, Reply::Refused(Refusal::Over)),
     ] {
-        let line = reply_line(alloc, &game, seq, &reply)?;
-        assert_eq!(rt; line.as_slice(), format!(in alloc; "{want}\n")?.as_bytes());
+        written.extend_from_slice(&reply_line(alloc, &game, seq, &reply)?)?;
     }
+    let last = last_solo(alloc)?;
+    written.extend_from_slice(&final_line(alloc, &game, Some(&last), 96)?)?;
+    assert_eq!(rt; written.as_slice(), SOLO_GAME.as_bytes());
     Ok(())
 }
 
+// The third reply of a game is each of these, then come a game's last line and strays.
+const WITHOUT_A_BOARD: &str = r#"{"charge":0,"do":"end","game":"a\"","seq":3}
+{"charge":32,"do":"free","game":"a\"","seq":3}
+{"game":"a\"","no":"G1","seq":3,"why":"command"}
+{"game":"a\"","no":"G2","seq":3,"why":"none"}
+{"game":"a\"","no":"G3","seq":3,"why":"running"}
+{"game":"a\"","no":"G5","seq":3,"why":"limit"}
+{"game":"a\"","no":"G6","seq":3,"why":"record"}
+{"game":"a\"","no":"G7","seq":3,"why":"quota"}
+{"board":null,"charge":0,"final":true,"game":"a\""}
+{"line":2,"no":"L1","why":"json"}
+{"line":4,"no":"L2","why":"game"}
+{"line":18446744073709551615,"no":"L3","why":"long"}
+"#;
+
 #[test]
-fn replies_without_a_board_are_written(rt: HostRuntime) -> Result<(), Fail> {
+fn lines_without_a_board_are_written(rt: HostRuntime) -> Result<(), Fail> {
     let alloc = rt.alloc();
     let game = Id::from_str(alloc, "a\"")?;
-    for (reply, want) in [
-        (
-            Reply::Plain(Word::End, 0),
-            r#"{"charge":0,"do":"end","game":"a\"","seq":3}"#,
-        ),
-        (
-            Reply::Plain(Word::Free, 32),
-            r#"{"charge":32,"do":"free","game":"a\"","seq":3}"#,
-        ),
-        (
-            Reply::Refused(Refusal::Unknown),
-            r#"{"game":"a\"","no":"G1","seq":3,"why":"command"}"#,
-        ),
-        (
-            Reply::Refused(Refusal::NoGame),
-            r#"{"game":"a\"","no":"G2","seq":3,"why":"none"}"#,
-        ),
-        (
-            Reply::Refused(Refusal::Running),
-            r#"{"game":"a\"","no":"G3","seq":3,"why":"running"}"#,
-        ),
-        (
-            Reply::Refused(Refusal::Limit),
-            r#"{"game":"a\"","no":"G5","seq":3,"why":"limit"}"#,
-        ),
-        (
-            Reply::Refused(Refusal::NoRecord),
-            r#"{"game":"a\"","no":"G6","seq":3,"why":"record"}"#,
-        ),
-        (
-            Reply::Refused(Refusal::Quota),
-            r#"{"game":"a\"","no":"G7","seq":3,"why":"quota"}"#,
-        ),
+    let mut written = Vec::new(alloc);
+    for reply in [
+        Reply::Plain(Word::End, 0),
+        Reply::Plain(Word::Free, 32),
+        Reply::Refused(Refusal::Unknown),
+        Reply::Refused(Refusal::NoGame),
+        Reply::Refused(Refusal::Running),
+        Reply::Refused(Refusal::Limit),
+        Reply::Refused(Refusal::NoRecord),
+        Reply::Refused(Refusal::Quota),
     ] {
-        let line = reply_line(alloc, &game, 3, &reply)?;
-        assert_eq!(rt; line.as_slice(), format!(in alloc; "{want}\n")?.as_bytes());
+        written.extend_from_slice(&reply_line(alloc, &game, 3, &reply)?)?;
     }
-    let last = final_line(alloc, &game, None, 0)?;
-    let want = "{\"board\":null,\"charge\":0,\"final\":true,\"game\":\"a\\\"\"}\n";
-    assert_eq!(rt; last.as_slice(), want.as_bytes());
-    for (line, stray, want) in [
-        (
-            2,
-            Stray::Json,
-            "{\"line\":2,\"no\":\"L1\",\"why\":\"json\"}\n",
-        ),
-        (
-            4,
-            Stray::Game,
-            "{\"line\":4,\"no\":\"L2\",\"why\":\"game\"}\n",
-        ),
-        (
-            5,
-            Stray::Long,
-            "{\"line\":5,\"no\":\"L3\",\"why\":\"long\"}\n",
-        ),
-    ] {
-        assert_eq!(rt; stray_line(alloc, line, stray)?.as_slice(), want.as_bytes());
+    written.extend_from_slice(&final_line(alloc, &game, None, 0)?)?;
+    for (line, stray) in [(2, Stray::Json), (4, Stray::Game), (u64::MAX, Stray::Long)] {
+        written.extend_from_slice(&stray_line(alloc, line, stray)?)?;
     }
+    assert_eq!(rt; written.as_slice(), WITHOUT_A_BOARD.as_bytes());
     Ok(())
 }
 

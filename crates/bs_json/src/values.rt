@@ -1,7 +1,8 @@
-// The parts of a JSON value that commands and plans are made of.
-ghost use Rattle.std.specs.Prelude.{◌≡◌, ◌≤◌, IfOk, IfSome, option_map};
-ghost use Rattle.serde_json.specs.View.{view};
-ghost use Rattle.bs_json.specs.Values.{value_of, whole, whole_to, number_at, number_or, text_at};
+//! The parts of a JSON value that commands and plans are made of.
+ghost use Rattle.std.specs.Prelude.{◌≡◌, ◌≤◌, Option, IfOk, IfSome, option_map};
+ghost use Rattle.serde_json.specs.Data.{Data};
+ghost use Rattle.serde_json.specs.View.{view, items_view};
+ghost use Rattle.bs_json.specs.Values.{value_of, whole, whole_to, number_at, number_or, text_at, each};
 
 use bs_board::Id;
 use serde_json::Value;
@@ -24,7 +25,8 @@ pub fn parsed(alloc: Global, line: &[u8]) -> Result<Option<Value>, AllocError>
     }
 }
 
-pub fn number_of(value: &Value, most: u32) -> Option<u32>
+/// The whole number that the value is, where it is at most `most`.
+pub fn whole_to(value: &Value, most: u32) -> Option<u32>
     ensures value { result ≡ whole_to most (view value.now) }
     ensures fits { IfSome result (λ n. n ≤ most) }
 {
@@ -40,19 +42,13 @@ pub fn number_at(value: &Value, name: &str, most: u32) -> Option<u32>
     ensures value { result ≡ number_at name.now most (view value.now) }
     ensures fits { IfSome result (λ n. n ≤ most) }
 {
-    match value.get(name) {
-        Some(member) => number_of(member, most),
-        None => None,
-    }
+    whole_to(value.get(name)?, most)
 }
 
 pub fn byte_at(value: &Value, name: &str, most: u8) -> Option<u8>
     ensures { result ≡ number_at name.now most (view value.now) }
 {
-    match number_at(value, name, u32::from(most)) {
-        Some(number) => Some(number as u8),
-        None => None,
-    }
+    Some(number_at(value, name, u32::from(most))? as u8)
 }
 
 /// The default stands for a member that is left out.
@@ -60,10 +56,7 @@ pub fn byte_or(value: &Value, name: &str, most: u8, default: u8) -> Option<u8>
     ensures { result ≡ number_or name.now most default (view value.now) }
 {
     match value.get(name) {
-        Some(member) => match number_of(member, u32::from(most)) {
-            Some(number) => Some(number as u8),
-            None => None,
-        },
+        Some(member) => Some(whole_to(member, u32::from(most))? as u8),
         None => Some(default),
     }
 }
@@ -71,10 +64,7 @@ pub fn byte_or(value: &Value, name: &str, most: u8, default: u8) -> Option<u8>
 pub fn text_at<'v>(value: &'v Value, name: &str) -> Option<&'v str>
     ensures { option_map (λ text. text.now) result ≡ text_at name.now (view value.now) }
 {
-    match value.get(name) {
-        Some(member) => member.as_str(),
-        None => None,
-    }
+    value.get(name)?.as_str()
 }
 
 pub fn id_at(alloc: Global, value: &Value, name: &str) -> Result<Option<Id>, AllocError>
@@ -84,4 +74,28 @@ pub fn id_at(alloc: Global, value: &Value, name: &str) -> Result<Option<Id>, All
         Some(text) => Ok(Some(Id::from_str(alloc, text)?)),
         None => Ok(None),
     }
+}
+
+/// What the items of a list are read to.
+pub trait FromItem: Sized + Drop {
+    ghost read: { Data → Option Self };
+
+    /// None where the item is of another type or out of range.
+    fn from_item(alloc: Global, item: &Value) -> Result<Option<Self>, AllocError>
+        ensures { IfOk result (λ value. value ≡ read (view item.now)) };
+}
+
+/// All items, or None where one of them gives none.
+pub fn each<T: FromItem>(alloc: Global, items: &[Value]) -> Result<Option<Vec<T>>, AllocError>
+    ensures { IfOk result
+        (λ all. option_map (λ found. found.items) all ≡ each T.read (items_view items.now)) }
+{
+    let mut found = Vec::with_capacity(alloc, items.len())?;
+    for item in items {
+        let Some(value) = T::from_item(alloc, item)? else {
+            return Ok(None);
+        };
+        found.push(value)?;
+    }
+    Ok(Some(found))
 }

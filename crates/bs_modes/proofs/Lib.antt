@@ -1,4 +1,3 @@
-pub mod Distinct
 pub mod FirstLegal
+pub mod GrownBodies
 pub mod InPlace
-pub mod Growing

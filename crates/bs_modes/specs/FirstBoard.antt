@@ -1,18 +1,19 @@
 -- The board of turn 0.
 use Rattle.std.specs.Prelude.{ℕ, List, [], ◌∷◌, None, map}
-use Rattle.bs_board.specs.declared.point.Point.{Point}
-use Rattle.bs_board.specs.declared.board.Board.{Board}
-use Rattle.bs_board.specs.declared.board.Mode.{Mode}
-use Rattle.bs_board.specs.declared.board.Mode.TheVariants.{Standard, Solo, Constrictor}
-use Rattle.bs_board.specs.declared.snake.Snake.{Snake}
-use Rattle.bs_board.specs.Setup.{Setup}
+use Rattle.bs_board.specs.declared.boards.point.Point.{Point}
+use Rattle.bs_board.specs.declared.boards.board.Board.{Board}
+use Rattle.bs_board.specs.declared.boards.board.Mode.{Mode}
+use Rattle.bs_board.specs.declared.boards.board.Mode.TheVariants.{Standard, Solo, Constrictor}
+use Rattle.bs_board.specs.declared.boards.snake.Snake.{Snake}
+use Rattle.bs_board.specs.declared.limits.TheConstants.{FULL_HEALTH}
+use Rattle.bs_board.specs.commands.Setup.{Setup}
 
 -- three parts on the starting cell, at full health
 abbrev pub first_snake : List ℕ × Point → Snake
 first_snake start = record {
   id = start.0;
   body = start.1 ∷ start.1 ∷ start.1 ∷ [];
-  health = 100;
+  health = FULL_HEALTH;
   cause = None;
   killer = None;
   out = None;

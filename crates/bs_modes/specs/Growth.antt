@@ -1,14 +1,15 @@
 -- How snakes grow in constrictor.
-use Rattle.std.specs.Prelude.{ℕ, ◌-◌, Bool, ◌&&◌, not, if◌then◌else◌, List, [], ◌∷◌, ◌++◌, length, map, nat_le, slice_index_or, pos}
-use Rattle.bs_board.specs.declared.point.Point.{Point}
-use Rattle.bs_board.specs.declared.board.Board.{Board}
-use Rattle.bs_board.specs.declared.snake.Snake.{Snake}
-use Rattle.bs_board.specs.Cell.{is_same_cell}
-use Rattle.bs_board.specs.Over.{is_living}
+use Rattle.std.specs.Prelude.{ℕ, ◌-◌, Bool, ◌&&◌, not, if◌then◌else◌, List, [], ◌∷◌, ◌++◌, length, map, nat_le, slice_index_or}
+use Rattle.bs_board.specs.declared.boards.point.Point.{Point}
+use Rattle.bs_board.specs.declared.boards.board.Board.{Board}
+use Rattle.bs_board.specs.declared.boards.snake.Snake.{Snake}
+use Rattle.bs_board.specs.boards.Cell.{origin, is_same_cell}
+use Rattle.bs_board.specs.declared.limits.TheConstants.{FULL_HEALTH}
+use Rattle.bs_board.specs.boards.Over.{is_living}
 
 -- the part that stands so many places before the end
 abbrev pub part_from_end : ℕ → List Point → Point
-part_from_end places body = slice_index_or body (length body - places) (record { x = pos 0; y = pos 0 })
+part_from_end places body = slice_index_or body (length body - places) origin
 
 -- its last two parts differ
 abbrev pub is_stretched : List Point → Bool
@@ -20,7 +21,7 @@ grown_body body = if is_stretched body then body ++ part_from_end 1 body ∷ [] 
 
 -- a living snake has full health again and grows, one that is out stays as it is
 abbrev pub grown_snake : Snake → Snake
-grown_snake s = if is_living s then record s { health = 100; body = grown_body s.body } else s
+grown_snake s = if is_living s then record s { health = FULL_HEALTH; body = grown_body s.body } else s
 
 abbrev pub grown : Board → Board
 grown b = record b { snakes = map grown_snake b.snakes }

@@ -1,5 +1,7 @@
+//! When a game is over.
+
 ghost use Rattle.std.specs.Prelude.{◌≡◌, count_by};
-ghost use Rattle.bs_board.specs.Over.{is_living, is_over, last_living};
+ghost use Rattle.bs_board.specs.boards.Over.{is_living, is_over, last_living};
 
 use bs_board::{Board, Mode, Snake};
 

@@ -1,6 +1,9 @@
+//! Constrictor's growth.
+
 ghost use Rattle.std.specs.Prelude.{◌≡◌, OnOk, map};
 ghost use Rattle.bs_modes.specs.Growth.{grown, grown_snake, grown_body, is_stretched};
 
+use bs_board::limits::FULL_HEALTH;
 use bs_board::{Board, Cells, Point, Snakes};
 use std::alloc::{AllocError, Global};
 
@@ -31,7 +34,7 @@ fn grow_snakes(snakes: &mut Snakes) -> Result<(), AllocError>
         let snake = snakes.seat_mut(seat);
         if snake.is_living() {
             grow_body(&mut snake.body)?;
-            snake.health = 100;
+            snake.health = FULL_HEALTH;
         }
     }
     Ok(())

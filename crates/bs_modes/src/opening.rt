@@ -1,21 +1,24 @@
+//! The board that a game starts with.
+
 ghost use Rattle.std.specs.Prelude.{◌≡◌, IfOk, List, map};
-ghost use Rattle.bs_board.specs.Legal.{IsLegal};
+ghost use Rattle.bs_board.specs.boards.Legal.{IsLegal};
 ghost use Rattle.bs_modes.specs.FirstBoard.{first_board, first_food, first_snake};
 
+use bs_board::limits::{FIRST_PARTS, FULL_HEALTH};
 use bs_board::{Board, Cells, Id, Mode, New, Point, Snake, Snakes};
 use std::alloc::{AllocError, Global};
 
 fn first_snake(alloc: Global, id: &Id, cell: Point) -> Result<Snake, AllocError>
     ensures { IfOk result (λ snake. snake ≡ first_snake (id.now, cell)) }
 {
-    let mut body = Vec::with_capacity(alloc, 3)?;
+    let mut body = Vec::with_capacity(alloc, FIRST_PARTS)?;
     body.push(cell)?;
     body.push(cell)?;
     body.push(cell)?;
     Ok(Snake {
         id: id.copy(alloc)?,
         body: Cells::from_vec(body),
-        health: 100,
+        health: FULL_HEALTH,
         cause: None,
         killer: None,
         out: None,

@@ -1,3 +1,5 @@
+//! Tests of what no clause says.
+
 use crate::{grow, over, start};
 use bs_board::{Board, Cells, Id, Mode, New, Point, Starts, is_legal};
 use std::alloc::{AllocError, Global};

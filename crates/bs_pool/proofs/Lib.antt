@@ -1,4 +1,4 @@
-pub mod Counting
+pub mod Counts
 pub mod Owners
 pub mod Pigeonhole
 pub mod Reservations

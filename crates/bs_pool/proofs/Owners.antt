@@ -5,21 +5,21 @@ use Rattle.std.proofs.lemmas.Bool.{eq-eqb, ne_eqb}
 use Rattle.std.proofs.lemmas.List.{length-set, get_or-set_same, get_or-set_other}
 use Rattle.std.proofs.lemmas.List.Quantifiers.{position-Some}
 use Rattle.std.proofs.lemmas.Option.{slice_get_within, slice_get-get_or, get_or_from_slice_get}
-use Rattle.bs_pool.specs.Ledger.{Ledger, is_free, is_owned_by, size, free, held, least_free, Owns, drawn, given}
-use Rattle.bs_pool.proofs.Counting.{count_cons, count_set}
+use Rattle.bs_pool.specs.Ledger.{Ledger, is_unowned, is_owned_by, size, free, held, least_free, Owns, drawn, given}
+use Rattle.bs_pool.proofs.Counts.{count_cons, count_set}
 
-free_is_none : (o : Option ℕ) → is_free o ≡ true → o ≡ None
+free_is_none : (o : Option ℕ) → is_unowned o ≡ true → o ≡ None
 free_is_none None free = refl
 free_is_none (Some owner) free = cc
 
-pub free_at : (owners : List (Option ℕ)) (n : ℕ) → position is_free owners ≡ Some n → slice_get owners n ≡ Some None
+pub free_at : (owners : List (Option ℕ)) (n : ℕ) → position is_unowned owners ≡ Some n → slice_get owners n ≡ Some None
 free_at owners n at =
-    let found = position-Some is_free owners n None at in
+    let found = position-Some is_unowned owners n None at in
     slice_get-get_or owners n None found.0 ∙ ap Some (free_is_none _ found.1)
 
 -- the same, as a read of that place gives it
-pub first_is_free : (owners : List (Option ℕ)) (n : ℕ) (o : Option ℕ) → position is_free owners ≡ Some n → o ≡ slice_index_or owners n o → o ≡ None
-first_is_free owners n o at here = free_is_none o (ap is_free here ∙ (position-Some is_free owners n o at).1)
+pub first_is_free : (owners : List (Option ℕ)) (n : ℕ) (o : Option ℕ) → position is_unowned owners ≡ Some n → o ≡ slice_index_or owners n o → o ≡ None
+first_is_free owners n o at here = free_is_none o (ap is_unowned here ∙ (position-Some is_unowned owners n o at).1)
 
 -- a draw: one more of that tag, as many of each other, one free number less
 pub held_drawn : (pool : Ledger) (tag n : ℕ) → least_free pool ≡ Some n → held tag (drawn tag n pool) ≡ held tag pool + 1
@@ -37,7 +37,7 @@ held_drawn_other pool tag n other at apart =
 
 pub free_drawn : (pool : Ledger) (tag n : ℕ) → least_free pool ≡ Some n → free (drawn tag n pool) + 1 ≡ free pool
 free_drawn pool tag n at =
-    let e = count_set is_free pool.owners n None (Some tag) (free_at pool.owners n at) in
+    let e = count_set is_unowned pool.owners n None (Some tag) (free_at pool.owners n at) in
     omega (arith, e)
 
 pub size_drawn : (pool : Ledger) (tag n : ℕ) → size (drawn tag n pool) ≡ size pool
@@ -58,7 +58,7 @@ held_given_other pool tag n other owns apart =
 
 pub free_given : (pool : Ledger) (tag n : ℕ) → Owns tag n pool → free (given n pool) ≡ free pool + 1
 free_given pool tag n owns =
-    let e = count_set is_free pool.owners n (Some tag) None owns in
+    let e = count_set is_unowned pool.owners n (Some tag) None owns in
     omega (arith, e)
 
 pub size_given : (pool : Ledger) (n : ℕ) → size (given n pool) ≡ size pool
@@ -93,17 +93,17 @@ one_owner pool tag other n m owns owns' apart =
 
 -- each number is free or owned
 abbrev pub owned : List (Option ℕ) → ℕ
-owned owners = count_by (λ o. not (is_free o)) owners
+owned owners = count_by (λ o. not (is_unowned o)) owners
 
-free_and_owned : (owners : List (Option ℕ)) → count_by is_free owners + owned owners ≡ length owners
+free_and_owned : (owners : List (Option ℕ)) → count_by is_unowned owners + owned owners ≡ length owners
 free_and_owned [] = refl
 free_and_owned (None ∷ owners) =
-    let e = count_cons is_free None owners in
-    let e' = count_cons (λ o. not (is_free o)) None owners in
+    let e = count_cons is_unowned None owners in
+    let e' = count_cons (λ o. not (is_unowned o)) None owners in
     omega (arith, e, e', free_and_owned owners)
 free_and_owned (Some tag ∷ owners) =
-    let e = count_cons is_free (Some tag) owners in
-    let e' = count_cons (λ o. not (is_free o)) (Some tag) owners in
+    let e = count_cons is_unowned (Some tag) owners in
+    let e' = count_cons (λ o. not (is_unowned o)) (Some tag) owners in
     omega (arith, e, e', free_and_owned owners)
 
 pub all_numbers : (pool : Ledger) → free pool + owned pool.owners ≡ size pool

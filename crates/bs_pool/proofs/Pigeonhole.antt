@@ -5,8 +5,8 @@ use Rattle.std.proofs.lemmas.Bool.{cases_Bool, cases_eq, eq-eqb, ne_eqb}
 use Rattle.std.proofs.lemmas.List.Sums.{sum_by-cons}
 use Rattle.bs_pool.specs.declared.reservation.Reservation.{Reservation}
 use Rattle.bs_pool.specs.Reservations.{reserved_by, all_reserved}
-use Rattle.bs_pool.specs.Ledger.{is_free, is_owned_by}
-use Rattle.bs_pool.proofs.Counting.{count_cons, count_when}
+use Rattle.bs_pool.specs.Ledger.{is_unowned, is_owned_by}
+use Rattle.bs_pool.proofs.Counts.{count_cons, count_when}
 use Rattle.bs_pool.proofs.Owners.{owned}
 
 -- the numbers of a tag made free
@@ -16,22 +16,22 @@ released tag owners = map (λ o. cond (is_owned_by tag o) None o) owners
 owned_released : (tag : ℕ) (owners : List (Option ℕ)) → owned owners ≡ count_by (is_owned_by tag) owners + owned (released tag owners)
 owned_released tag [] = refl
 owned_released tag (None ∷ owners) =
-    let e = count_cons (λ o. not (is_free o)) None owners in
+    let e = count_cons (λ o. not (is_unowned o)) None owners in
     let e' = count_cons (is_owned_by tag) None owners in
-    let e'' = count_cons (λ o. not (is_free o)) None (released tag owners) in
+    let e'' = count_cons (λ o. not (is_unowned o)) None (released tag owners) in
     omega (arith, e, e', e'', owned_released tag owners)
 owned_released tag (Some owner ∷ owners) =
-    let e = count_cons (λ o. not (is_free o)) (Some owner) owners in
+    let e = count_cons (λ o. not (is_unowned o)) (Some owner) owners in
     let rest = owned_released tag owners in
     elim (cases_Bool (nat_eq owner tag)) [
       | inl same ↦
           let one = count_when (is_owned_by tag) (Some owner) owners true same in
           let free = ap (λ b. owned (cond b None (Some owner) ∷ released tag owners)) same in
-          let e'' = count_cons (λ o. not (is_free o)) None (released tag owners) in
+          let e'' = count_cons (λ o. not (is_unowned o)) None (released tag owners) in
           omega (arith, e, one, free, e'', rest)
       | inr differ ↦
           let none = count_when (is_owned_by tag) (Some owner) owners false differ in
-          let e'' = count_cons (λ o. not (is_free o)) (Some owner) (released tag owners) in
+          let e'' = count_cons (λ o. not (is_unowned o)) (Some owner) (released tag owners) in
           rw differ (omega (arith, e, none, e'', rest))
     ]
 
@@ -74,7 +74,7 @@ held_released_other tag other (Some owner ∷ owners) apart =
 none_owned : (owners : List (Option ℕ)) → ((tag : ℕ) → count_by (is_owned_by tag) owners ≤ 0) → owned owners ≡ 0
 none_owned [] none = refl
 none_owned (None ∷ owners) none =
-    let e = count_cons (λ o. not (is_free o)) None owners in
+    let e = count_cons (λ o. not (is_unowned o)) None owners in
     let rest = none_owned owners (λ tag. let e' = count_cons (is_owned_by tag) None owners in omega (arith, e', none tag)) in
     omega (arith, e, rest)
 none_owned (Some owner ∷ owners) none =

@@ -7,8 +7,8 @@ use Rattle.std.proofs.lemmas.List.Quantifiers.{all_pairs_push}
 use Rattle.std.proofs.lemmas.List.Kept.{AllPairs-filter}
 use Rattle.bs_pool.specs.declared.reservation.Reservation.{Reservation}
 use Rattle.bs_pool.specs.Reservations.{is_of, is_reserved, reserved_by, all_reserved, without}
-use Rattle.bs_pool.specs.Ledger.{Ledger, IsSound, is_free, is_owned_by, free, held, reserved, least_free, opened, ledger_of}
-use Rattle.bs_pool.proofs.Counting.{count_cons, count_when}
+use Rattle.bs_pool.specs.Ledger.{Ledger, IsSound, is_unowned, is_owned_by, free, held, reserved, least_free, opened, ledger_of}
+use Rattle.bs_pool.proofs.Counts.{count_cons, count_when}
 use Rattle.bs_pool.proofs.Owners.{all_numbers, held_drawn, held_drawn_other, size_drawn}
 use Rattle.bs_pool.proofs.Pigeonhole.{left_free}
 use Rattle.bs_pool.proofs.Reservations.{none_since, other_tags, reserved_none, reserved_pushed, reserved_pushed_other, all_reserved_pushed, reserved_without_other, all_reserved_without}
@@ -30,9 +30,10 @@ pub some_free : (pool : Ledger) (tag : ℕ) → IsSound pool → held tag pool <
 some_free pool tag sound less =
     let left = left_free pool.reservations pool.owners tag sound.kept in
     let all = all_numbers pool in
-    first_some is_free pool.owners (omega (arith, left, all, sound.within))
+    first_some is_unowned pool.owners (omega (arith, left, all, sound.within))
 
-held_opened : (tag n : ℕ) → held tag (opened n) ≡ 0
+-- no tag holds a number of a new pool
+pub held_opened : (tag n : ℕ) → held tag (opened n) ≡ 0
 held_opened tag zero = refl
 held_opened tag (suc n) = let e = count_cons (is_owned_by tag) None (replicate n None) in omega (arith, e, held_opened tag n)
 
@@ -44,7 +45,7 @@ sound_opened n = record {
 }
 
 pub sound_drawn : (owners owners' : List (Option ℕ)) (rs : List Reservation) (tag n : ℕ) → IsSound (ledger_of owners rs)
-    → count_by (is_owned_by tag) owners < reserved_by tag rs → position is_free owners ≡ Some n → owners' ≡ slice_set owners n (Some tag)
+    → count_by (is_owned_by tag) owners < reserved_by tag rs → position is_unowned owners ≡ Some n → owners' ≡ slice_set owners n (Some tag)
     → IsSound (ledger_of owners' rs)
 sound_drawn owners owners' rs tag n sound less at is = let pool = ledger_of owners rs in rw is (record {
   within = let e = size_drawn pool tag n in omega (arith, e, sound.within);

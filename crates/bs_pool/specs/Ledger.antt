@@ -3,38 +3,44 @@ use Rattle.std.specs.Prelude.{◌≡◌, ◌≢◌, ℕ, ◌-◌, ◌≤◌, Boo
 use Rattle.bs_pool.specs.declared.reservation.Reservation.{Reservation}
 use Rattle.bs_pool.specs.Reservations.{is_of, reserved_by, all_reserved, without}
 
+-- a pool's value
 pub record Ledger : Type 0 where
   -- by block number, None where the block is free
   pub owners : List (Option ℕ)
   -- no tag twice
   pub reservations : List Reservation
 
+-- a ledger, of its two lists
 abbrev pub ledger_of : List (Option ℕ) → List Reservation → Ledger
 ledger_of owners reservations = record { owners = owners; reservations = reservations }
 
--- one number's owner
-abbrev pub is_free : Option ℕ → Bool
-is_free None = true
-is_free (Some owner) = false
+-- a number of that owner is free
+abbrev pub is_unowned : Option ℕ → Bool
+is_unowned None = true
+is_unowned (Some owner) = false
 
+-- it is the tag's
 abbrev pub is_owned_by : ℕ → Option ℕ → Bool
 is_owned_by tag None = false
 is_owned_by tag (Some owner) = nat_eq owner tag
 
--- how many numbers there are, are free, are the tag's
+-- how many numbers there are
 abbrev pub size : Ledger → ℕ
 size pool = length pool.owners
 
+-- how many are free
 abbrev pub free : Ledger → ℕ
-free pool = count_by is_free pool.owners
+free pool = count_by is_unowned pool.owners
 
+-- how many are the tag's
 abbrev pub held : ℕ → Ledger → ℕ
 held tag pool = count_by (is_owned_by tag) pool.owners
 
--- how many numbers the tag may own, 0 where it has no reservation
+-- the tag's reservation, if it has one
 abbrev pub reservation_of : ℕ → Ledger → Option Reservation
 reservation_of tag pool = find (is_of tag) pool.reservations
 
+-- how many numbers the tag may own, 0 where it has no reservation
 abbrev pub reserved : ℕ → Ledger → ℕ
 reserved tag pool = reserved_by tag pool.reservations
 
@@ -42,9 +48,11 @@ reserved tag pool = reserved_by tag pool.reservations
 abbrev pub unreserved : Ledger → ℕ
 unreserved pool = size pool - all_reserved pool.reservations
 
+-- the least number that is free, if there is one
 abbrev pub least_free : Ledger → Option ℕ
-least_free pool = position is_free pool.owners
+least_free pool = position is_unowned pool.owners
 
+-- that number is the tag's
 abbrev pub Owns : ℕ → ℕ → Ledger → Type 0
 Owns tag number pool = slice_get pool.owners number ≡ Some (Some tag)
 
@@ -60,9 +68,11 @@ drawn tag number pool = record pool { owners = slice_set pool.owners number (Som
 abbrev pub given : ℕ → Ledger → Ledger
 given number pool = record pool { owners = slice_set pool.owners number None }
 
+-- one reservation more
 abbrev pub with_reservation : ℕ → ℕ → Ledger → Ledger
 with_reservation tag n pool = record pool { reservations = pool.reservations ++ record { tag = tag; blocks = n } ∷ [] }
 
+-- the tag's reservation less
 abbrev pub without_reservation : ℕ → Ledger → Ledger
 without_reservation tag pool = record pool { reservations = without tag pool.reservations }
 

@@ -1,6 +1,6 @@
-pub mod Drawing
+pub mod DrawAnswer
 pub mod Ledger
 pub mod OwnedLends
-pub mod Places
 pub mod Reservations
-pub mod Reserving
+pub mod ReserveAnswer
+pub mod Whereabouts

@@ -3,9 +3,11 @@ use Rattle.std.specs.Prelude.{ℕ, Bool, List, nat_eq, find, filter, not, sum_by
 use Rattle.std.specs.List.{list_any}
 use Rattle.bs_pool.specs.declared.reservation.Reservation.{Reservation}
 
+-- the reservation is the tag's
 abbrev pub is_of : ℕ → Reservation → Bool
 is_of tag r = nat_eq r.tag tag
 
+-- the tag has a reservation
 abbrev pub is_reserved : ℕ → List Reservation → Bool
 is_reserved tag rs = list_any (is_of tag) rs
 
@@ -13,9 +15,10 @@ is_reserved tag rs = list_any (is_of tag) rs
 abbrev pub reserved_by : ℕ → List Reservation → ℕ
 reserved_by tag rs = unwrap_or (option_map (λ r. r.blocks) (find (is_of tag) rs)) 0
 
--- all tags together
+-- the blocks of all reservations together
 abbrev pub all_reserved : List Reservation → ℕ
 all_reserved rs = sum_by (λ r. r.blocks) rs
 
+-- all reservations but the tag's
 abbrev pub without : ℕ → List Reservation → List Reservation
 without tag rs = filter (λ r. not (is_of tag r)) rs

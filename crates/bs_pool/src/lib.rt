@@ -13,4 +13,4 @@ pub use pool::Pool;
 pub use reservation::{Reservation, Reserve};
 // A crate can name a pool in a contract only if the types of its fields are exported.
 #[doc(hidden)]
-pub use slot::{Place, Slot};
+pub use slot::{Slot, Whereabouts};

@@ -44,6 +44,7 @@ impl<const CAP: usize> Owned<CAP> {
         self.number
     }
 
+    /// The block, to read.
     pub fn block(&self) -> &Block<CAP>
         ensures { result.now ≡ self.now.block }
     {

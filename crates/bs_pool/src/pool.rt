@@ -2,8 +2,8 @@
 ghost use Rattle.std.specs.Prelude.{◌≡◌, ◌≤◌, IfOk, IsSome};
 ghost use Rattle.bs_block.specs.Bytes.{IsCapacity};
 ghost use Rattle.bs_pool.specs.Ledger.{IsSound, Owns, opened, free, size, held, reserved, unreserved, reservation_of, given, without_reservation};
-ghost use Rattle.bs_pool.specs.Drawing.{Draws};
-ghost use Rattle.bs_pool.specs.Reserving.{Reserves};
+ghost use Rattle.bs_pool.specs.DrawAnswer.{Draws};
+ghost use Rattle.bs_pool.specs.ReserveAnswer.{Reserves};
 
 use crate::owned::Owned;
 use crate::reservation::{Reservation, Reserve, all_reserved, is_reserved, reserved_by, withdraw};

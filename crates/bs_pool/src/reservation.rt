@@ -20,6 +20,7 @@ pub enum Reserve {
     /// More blocks are asked for than the pool has beyond all reservations: `free_to_reserve`.
     #[error("no more than {free_to_reserve} blocks are free to reserve")]
     Short { free_to_reserve: usize },
+    /// There is no memory for the list of reservations.
     #[error("out of memory")]
     Memory,
 }

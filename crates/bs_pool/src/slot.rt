@@ -1,7 +1,7 @@
-//! The place of one block in a pool. A clause sees it as the tag that owns the block, or None where the block is free.
+//! The slot of one block in a pool. A clause sees it as the tag that owns the block, or None where the block is free.
 ghost use Rattle.std.specs.Prelude.{◌≡◌, IfOk, None, count_by, position, replicate};
 ghost use Rattle.bs_block.specs.Bytes.{IsCapacity};
-ghost use Rattle.bs_pool.specs.Ledger.{is_free, is_owned_by};
+ghost use Rattle.bs_pool.specs.Ledger.{is_unowned, is_owned_by};
 
 use bs_block::Block;
 use std::alloc::{AllocError, Global};
@@ -10,15 +10,17 @@ use std::mem;
 
 /// Where the block of a number is: here, or with the tag that owns it.
 #[derive(Drop)]
-pub enum Place<const CAP: usize> {
+pub enum Whereabouts<const CAP: usize> {
+    /// It is here.
     Home(Block<CAP>),
+    /// That tag has it.
     Out(u32),
 }
 
-/// The place of a block. A block that is here is empty.
+/// The slot of a block. A block that is here is empty.
 #[derive(Drop)]
 pub struct Slot<const CAP: usize> {
-    place: Place<CAP>,
+    whereabouts: Whereabouts<CAP>,
 }
 
 impl<const CAP: usize> Model for Slot<CAP> {
@@ -26,55 +28,55 @@ impl<const CAP: usize> Model for Slot<CAP> {
 
     ghost Value = { Option ℕ };
 
-    ghost use Rattle.bs_pool.specs.Places.{owner_in, IsEmptyAtHome};
+    ghost use Rattle.bs_pool.specs.Whereabouts.{owner_in, IsEmptyAtHome};
 
-    ghost view = { λ s. owner_in s.place };
+    ghost view = { λ s. owner_in s.whereabouts };
 
-    ghost invariant = { λ s. IsEmptyAtHome s.place };
+    ghost invariant = { λ s. IsEmptyAtHome s.whereabouts };
 }
 
 impl<const CAP: usize> Slot<CAP> {
     ghost use Rattle.std.specs.Prelude.{Some, None, []};
 
-    /// The place of a block that is free. It is emptied.
+    /// The slot of a block that is free. It is emptied.
     pub(crate) fn home(mut block: Block<CAP>) -> Self
         ensures { result ≡ None }
     {
         block.clear();
         Slot {
-            place: Place::Home(block),
+            whereabouts: Whereabouts::Home(block),
         }
     }
 
-    pub(crate) fn is_free(&self) -> bool
-        ensures { result ≡ is_free self.now }
+    pub(crate) fn is_unowned(&self) -> bool
+        ensures { result ≡ is_unowned self.now }
     {
-        matches!(self.place, Place::Home(_))
+        matches!(self.whereabouts, Whereabouts::Home(_))
     }
 
     pub(crate) fn is_owned_by(&self, tag: u32) -> bool
         ensures { result ≡ is_owned_by tag self.now }
     {
-        match self.place {
-            Place::Home(_) => false,
-            Place::Out(owner) => owner == tag,
+        match self.whereabouts {
+            Whereabouts::Home(_) => false,
+            Whereabouts::Out(owner) => owner == tag,
         }
     }
 
-    /// Takes the block out of its place, for the tag.
+    /// Takes the block out of its slot, for the tag.
     pub(crate) fn hand_out(&mut self, tag: u32) -> Block<CAP>
         requires { self.old ≡ None }
         ensures block { result ≡ [] }
         ensures owner { self.new ≡ Some tag }
     {
-        match mem::replace(&mut self.place, Place::Out(tag)) {
-            Place::Home(block) => block,
-            Place::Out(_) => unreachable!(),
+        match mem::replace(&mut self.whereabouts, Whereabouts::Out(tag)) {
+            Whereabouts::Home(block) => block,
+            Whereabouts::Out(_) => unreachable!(),
         }
     }
 }
 
-/// The places of `n` new blocks.
+/// The slots of `n` new blocks.
 pub(crate) fn new_slots<const CAP: usize>(
     alloc: Global,
     n: usize,
@@ -91,25 +93,25 @@ pub(crate) fn new_slots<const CAP: usize>(
 
 /// The first number whose block is free.
 pub(crate) fn first_free<const CAP: usize>(slots: &[Slot<CAP>]) -> Option<usize>
-    ensures { result ≡ position is_free slots.now }
+    ensures { result ≡ position is_unowned slots.now }
 {
     slots.iter().position(
         |slot| -> bool
-            ensures { result ≡ is_free slot.now }
-        { slot.is_free() },
+            ensures { result ≡ is_unowned slot.now }
+        { slot.is_unowned() },
     )
 }
 
 /// The number of free blocks.
 pub(crate) fn count_free<const CAP: usize>(slots: &[Slot<CAP>]) -> usize
-    ensures { result ≡ count_by is_free slots.now }
+    ensures { result ≡ count_by is_unowned slots.now }
 {
     slots
         .iter()
         .filter(
             |slot| -> bool
-                ensures { result ≡ is_free slot.now.now }
-            { slot.is_free() },
+                ensures { result ≡ is_unowned slot.now.now }
+            { slot.is_unowned() },
         )
         .count()
 }

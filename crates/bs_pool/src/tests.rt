@@ -1,3 +1,4 @@
+//! A small pool, whose blocks are drawn, given back and drawn again.
 use crate::{Pool, Reserve};
 use std::marker::Send;
 use std::test::Fail;

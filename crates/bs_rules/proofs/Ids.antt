@@ -1,11 +1,11 @@
 -- Steps that keep ids keep them distinct.
 use Rattle.std.proofs.Common.{◌≡◌, ℕ, ◌+◌, true, List, [], ◌∷◌, map, refl, ap, sym, ◌∙◌}
-use Rattle.bs_board.specs.declared.snake.Snake.{Snake}
+use Rattle.bs_board.specs.declared.boards.snake.Snake.{Snake}
 use Rattle.bs_board.specs.Distinct.{are_distinct}
-use Rattle.bs_board.specs.Legal.{are_distinct_ids}
+use Rattle.bs_board.specs.boards.Legal.{are_distinct_ids}
 use Rattle.bs_board.specs.Texts.{is_same_text}
 use Rattle.bs_rules.specs.Collision.{map_seats}
-use Rattle.bs_modes.proofs.Distinct.{are_distinct_map}
+use Rattle.bs_board.proofs.Distinct.{are_distinct_map}
 use Rattle.bs_rules.proofs.Seats.{map_from}
 
 abbrev pub ids_of : List Snake → List (List ℕ)

@@ -1,14 +1,14 @@
 -- The killer is the longest that qualifies, then the first seat.
-use Rattle.bs_rules.proofs.Collides.{decides_collides}
+use Rattle.bs_rules.proofs.CollisionTest.{decides_collides}
 use Rattle.std.proofs.Common.{◌≡◌, ℕ, zero, suc, ◌+◌, ◌<◌, ◌≤◌, Bool, true, false, cond, List, [], ◌∷◌, ◌++◌, Some, None, Option, refl, ap, sym, ◌∙◌, arith, MatchOption, add-one, Decides, ltb}
 use Rattle.std.specs.List.{range_with_len, fold, filter}
 use Rattle.std.proofs.lemmas.List.Elements.{filter-append}
 use Rattle.std.proofs.lemmas.List.Sums.{fold-append}
 use Rattle.std.proofs.lemmas.Bool.{ltb-true, ltb-false, false≢true}
 use borrow.Author.Count.{below_more}
-use Rattle.bs_board.specs.declared.snake.Snake.{Snake}
-use Rattle.bs_board.specs.declared.snake.Cause.{Cause}
-use Rattle.bs_rules.specs.Collision.{collides, killer_among, longer_of, CollidesWith, IsKiller, length_at}
+use Rattle.bs_board.specs.declared.boards.snake.Snake.{Snake}
+use Rattle.bs_board.specs.declared.boards.snake.Cause.{Cause}
+use Rattle.bs_rules.specs.Collision.{collides, killer_among, longer_of, CollidesWith, length_at}
 
 range_more : (a n : ℕ) → range_with_len a (suc n) ≡ range_with_len a n ++ (a + n) ∷ []
 range_more a zero = let z : a + 0 ≡ a = omega arith in rw z refl
@@ -36,13 +36,20 @@ killer_among_next n snakes seat cause =
     (ap (λ seats. fold (longer_of snakes) None (filter (collides snakes seat cause) seats)) range
     ∙ fold_passed (collides snakes seat cause) (longer_of snakes) None (range_with_len 0 n) n)
 
+-- of the first n seats that qualify the longest, and of those equally long the first
+pub record IsKillerAmong (n : ℕ) (snakes : List Snake) (seat : ℕ) (cause : Cause) (killer : ℕ) : Type 0 where
+  pub within : killer < n
+  pub collides : CollidesWith snakes seat cause killer
+  pub longest : (other : ℕ) → other < n → CollidesWith snakes seat cause other → length_at snakes other ≤ length_at snakes killer
+  pub first : (other : ℕ) → other < killer → CollidesWith snakes seat cause other → length_at snakes other < length_at snakes killer
+
 -- nobody among the first n seats qualifies
 abbrev pub NoneAmong : ℕ → List Snake → ℕ → Cause → Type 0
 NoneAmong n snakes seat cause = (other : ℕ) → other < n → CollidesWith snakes seat cause other → ⊥
 
 -- what a killer among the first n seats means
 abbrev pub MeansKiller : ℕ → List Snake → ℕ → Cause → Option ℕ → Type 0
-MeansKiller n snakes seat cause killer = MatchOption killer (NoneAmong n snakes seat cause) (IsKiller n snakes seat cause)
+MeansKiller n snakes seat cause killer = MatchOption killer (NoneAmong n snakes seat cause) (IsKillerAmong n snakes seat cause)
 
 -- the next seat does not qualify
 skips : (n : ℕ) (snakes : List Snake) (seat : ℕ) (cause : Cause) (killer : Option ℕ) → (CollidesWith snakes seat cause n → ⊥)
@@ -57,7 +64,7 @@ skips n snakes seat cause (Some k) out m = record {
 
 -- it qualifies, and is the first or longer than the one before
 takes : (n : ℕ) (snakes : List Snake) (seat : ℕ) (cause : Cause) → CollidesWith snakes seat cause n
-    → ((j : ℕ) → j < n → CollidesWith snakes seat cause j → length_at snakes j < length_at snakes n) → IsKiller (n + 1) snakes seat cause n
+    → ((j : ℕ) → j < n → CollidesWith snakes seat cause j → length_at snakes j < length_at snakes n) → IsKillerAmong (n + 1) snakes seat cause n
 takes n snakes seat cause hit shorter = record {
   within = omega arith;
   collides = hit;
@@ -68,7 +75,7 @@ takes n snakes seat cause hit shorter = record {
 
 -- it qualifies, and is no longer than the one before
 keeps : (n : ℕ) (snakes : List Snake) (seat : ℕ) (cause : Cause) (k : ℕ) → length_at snakes n ≤ length_at snakes k
-    → IsKiller n snakes seat cause k → IsKiller (n + 1) snakes seat cause k
+    → IsKillerAmong n snakes seat cause k → IsKillerAmong (n + 1) snakes seat cause k
 keeps n snakes seat cause k short m = record {
   within = let in' = m.within in omega arith;
   collides = m.collides;
@@ -77,7 +84,7 @@ keeps n snakes seat cause k short m = record {
 }
 
 next_longer : (n : ℕ) (snakes : List Snake) (seat : ℕ) (cause : Cause) (k : ℕ) (longer : Bool) → longer ≡ ltb (length_at snakes k) (length_at snakes n)
-    → CollidesWith snakes seat cause n → IsKiller n snakes seat cause k → MeansKiller (n + 1) snakes seat cause (cond longer (Some n) (Some k))
+    → CollidesWith snakes seat cause n → IsKillerAmong n snakes seat cause k → MeansKiller (n + 1) snakes seat cause (cond longer (Some n) (Some k))
 next_longer n snakes seat cause k true e hit m =
     let long = ltb-true (length_at snakes k) (length_at snakes n) (sym e) in
     takes n snakes seat cause hit (λ j l h. let less = m.longest j l h in omega arith)

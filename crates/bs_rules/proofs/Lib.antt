@@ -1,11 +1,12 @@
-pub mod Collides
-pub mod Fitting
+pub mod CollisionLaw
+pub mod CollisionMeaning
+pub mod CollisionTest
+pub mod FoodLeft
 pub mod Ids
-pub mod Judged
-pub mod Kept
 pub mod Killers
 pub mod Movable
 pub mod Seats
+pub mod SeatsAndIds
 pub mod Sound
 pub mod SoundCollision
 pub mod SoundSteps

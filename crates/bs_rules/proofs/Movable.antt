@@ -4,14 +4,15 @@ use Rattle.std.specs.Prelude.{int_le, int_lt}
 use Rattle.std.proofs.lemmas.Int.{ints}
 use Rattle.std.proofs.lemmas.Bool.{and_parts, leb-true}
 use Rattle.std.proofs.lemmas.List.Elements.{All-cons, All-weaker}
-use Rattle.bs_board.specs.declared.point.Point.{Point}
-use Rattle.bs_board.specs.declared.board.Board.{Board}
-use Rattle.bs_board.specs.declared.snake.Snake.{Snake}
-use Rattle.bs_board.specs.declared.snake.Cause.{Cause}
-use Rattle.bs_board.specs.declared.snake.Cause.TheVariants.{OutOfHealth, WallCollision, SelfCollision, BodyCollision, HeadCollision}
-use Rattle.bs_board.specs.Cell.{is_on_board}
-use Rattle.bs_board.specs.Setup.{is_side}
-use Rattle.bs_board.specs.Legal.{IsLegal, IsLegalSnake, IsLegalLiving, IsLegalOut, is_near, is_head_of, head_of}
+use Rattle.bs_board.specs.declared.limits.TheConstants.{LONGEST_SIDE}
+use Rattle.bs_board.specs.declared.boards.point.Point.{Point}
+use Rattle.bs_board.specs.declared.boards.board.Board.{Board}
+use Rattle.bs_board.specs.declared.boards.snake.Snake.{Snake}
+use Rattle.bs_board.specs.declared.boards.snake.Cause.{Cause}
+use Rattle.bs_board.specs.declared.boards.snake.Cause.TheVariants.{OutOfHealth, WallCollision, SelfCollision, BodyCollision, HeadCollision}
+use Rattle.bs_board.specs.boards.Cell.{head_of, is_on_board}
+use Rattle.bs_board.specs.commands.Setup.{is_side}
+use Rattle.bs_board.specs.boards.Legal.{IsLegal, IsLegalSnake, IsLegalLiving, IsLegalOut, is_near, is_head_of}
 use Rattle.bs_rules.specs.Motion.{IsMovable}
 
 -- one coordinate, on the board or one cell beyond it
@@ -38,7 +39,7 @@ near_from_on_board w h p on =
     let y = on_side p.y h q.2 q.3 in
     four_from (int_le (negsuc 0) p.x) (int_le p.x (pos w)) (int_le (negsuc 0) p.y) (int_le p.y (pos h)) x.0 x.1 y.0 y.1
 
-pub near_largest : (w h : ℕ) (p : Point) → w ≤ 25 → h ≤ 25 → is_near w h p ≡ true → is_near 25 25 p ≡ true
+pub near_largest : (w h : ℕ) (p : Point) → w ≤ 25 → h ≤ 25 → is_near w h p ≡ true → is_near LONGEST_SIDE LONGEST_SIDE p ≡ true
 near_largest w h p wide high near =
     let q = four_parts (int_le (negsuc 0) p.x) (int_le p.x (pos w)) (int_le (negsuc 0) p.y) (int_le p.y (pos h)) near in
     four_from (int_le (negsuc 0) p.x) (int_le p.x (pos 25)) (int_le (negsuc 0) p.y) (int_le p.y (pos 25))
@@ -61,16 +62,16 @@ head_is_near b seat s None state = near_from_on_board b.width b.height (head_of 
 head_is_near b seat s (Some cause) state = head_of_out cause b.width b.height (head_of s.body) state.head
 
 -- the head and the parts behind it
-all_near : (body : List Point) → 3 ≤ length body → is_near 25 25 (head_of body) ≡ true → All (λ p. is_near 25 25 p ≡ true) (drop 1 body)
-    → All (λ p. is_near 25 25 p ≡ true) body
+all_near : (body : List Point) → 3 ≤ length body → is_near LONGEST_SIDE LONGEST_SIDE (head_of body) ≡ true → All (λ p. is_near LONGEST_SIDE LONGEST_SIDE p ≡ true) (drop 1 body)
+    → All (λ p. is_near LONGEST_SIDE LONGEST_SIDE p ≡ true) body
 all_near [] long head rest = absurd (omega arith)
-all_near (p ∷ ps) long head rest = All-cons (λ p. is_near 25 25 p ≡ true) p ps head rest
+all_near (p ∷ ps) long head rest = All-cons (λ p. is_near LONGEST_SIDE LONGEST_SIDE p ≡ true) p ps head rest
 
 snake_is_movable : (b : Board) (seat : ℕ) (s : Snake) → b.width ≤ 25 → b.height ≤ 25 → IsLegalSnake b seat s → IsMovable s
 snake_is_movable b seat s wide high l =
     let near = λ (p : Point) (on : is_on_board b.width b.height p ≡ true). near_largest b.width b.height p wide high (near_from_on_board b.width b.height p on) in
     let head = near_largest b.width b.height (head_of s.body) wide high (head_is_near b seat s s.cause l.state) in
-    let rest = All-weaker (λ p. is_on_board b.width b.height p ≡ true) (λ p. is_near 25 25 p ≡ true) near (drop 1 s.body) l.body.inside in
+    let rest = All-weaker (λ p. is_on_board b.width b.height p ≡ true) (λ p. is_near LONGEST_SIDE LONGEST_SIDE p ≡ true) near (drop 1 s.body) l.body.inside in
     record { some = let long = l.body.long in omega arith; near = all_near s.body l.body.long head rest }
 
 pub legal_is_movable : (b : Board) → IsLegal b → All IsMovable b.snakes

@@ -3,7 +3,7 @@ use Rattle.std.proofs.Common.{◌≡◌, ℕ, zero, suc, ◌+◌, ◌<◌, List,
 use Rattle.std.specs.List.{enumerate_from}
 use Rattle.std.proofs.lemmas.List.{get_or-map, length-map}
 use Rattle.std.proofs.lemmas.List.FromFn.{get_or-enumerate_from, length-enumerate_from}
-use Rattle.bs_board.specs.declared.snake.Snake.{Snake}
+use Rattle.bs_board.specs.declared.boards.snake.Snake.{Snake}
 use Rattle.bs_rules.specs.Collision.{map_seats, snake_at, nobody}
 
 -- the seats counted from any number on

@@ -3,16 +3,16 @@ use Rattle.std.proofs.Common.{◌≡◌, ℕ, ◌+◌, ◌-◌, ◌≤◌, true,
 use Rattle.std.specs.Prelude.{int_le, int_lt}
 use Rattle.std.proofs.lemmas.Int.{ints}
 use Rattle.std.proofs.lemmas.List.Elements.{All-cons, All-take}
-use Rattle.bs_board.specs.declared.point.Point.{Point}
-use Rattle.bs_board.specs.declared.point.Direction.{Direction}
-use Rattle.bs_board.specs.declared.point.Direction.TheVariants.{Up, Down, Left, Right}
-use Rattle.bs_board.specs.declared.board.Board.{Board}
-use Rattle.bs_board.specs.declared.snake.Snake.{Snake}
-use Rattle.bs_board.specs.declared.snake.Cause.{Cause}
-use Rattle.bs_board.specs.Cell.{is_on_board}
-use Rattle.bs_board.specs.Legal.{IsLegalSnake, IsLegalLiving, IsLegalOut, IsTurnBy, is_near, head_of}
+use Rattle.bs_board.specs.declared.boards.point.Point.{Point}
+use Rattle.bs_board.specs.declared.boards.point.Direction.{Direction}
+use Rattle.bs_board.specs.declared.boards.point.Direction.TheVariants.{Up, Down, Left, Right}
+use Rattle.bs_board.specs.declared.boards.board.Board.{Board}
+use Rattle.bs_board.specs.declared.boards.snake.Snake.{Snake}
+use Rattle.bs_board.specs.declared.boards.snake.Cause.{Cause}
+use Rattle.bs_board.specs.boards.Cell.{head_of, is_on_board}
+use Rattle.bs_board.specs.boards.Legal.{IsLegalSnake, IsLegalLiving, IsLegalOut, IsTurnBy, is_near}
 use Rattle.bs_board.specs.Texts.{is_short_text}
-use Rattle.bs_rules.specs.Motion.{neighbor, direction_of, moved, moved_body}
+use Rattle.bs_rules.specs.Motion.{neighbor, direction_taken, moved, moved_body}
 use Rattle.bs_rules.proofs.Movable.{four_parts, four_from}
 
 -- the same board once the turn number has risen
@@ -106,7 +106,7 @@ moves_at b seat s given None l =
       };
       state = record {
         full = let full = living.full in omega arith;
-        near = neighbor_is_near b.width b.height (head_of s.body) (direction_of given s.body) living.head;
+        near = neighbor_is_near b.width b.height (head_of s.body) (direction_taken given s.body) living.head;
         killer = living.killer;
         out = living.out;
       };

@@ -1,13 +1,13 @@
 -- Collisions leave each snake sound.
 use Rattle.std.proofs.Common.{◌≡◌, ℕ, ◌+◌, ◌≤◌, ◌<◌, true, length, MatchOption, Option, Some, None, is_none, ap, sym, arith, inl, inr}
 use Rattle.std.proofs.lemmas.Bool.{false≢true}
-use Rattle.bs_board.specs.declared.board.Board.{Board}
-use Rattle.bs_board.specs.declared.snake.Snake.{Snake}
-use Rattle.bs_board.specs.declared.snake.Cause.{Cause}
-use Rattle.bs_board.specs.declared.snake.Cause.TheVariants.{OutOfHealth, WallCollision, SelfCollision, BodyCollision, HeadCollision}
-use Rattle.bs_board.specs.Legal.{EachSeat, IsLegalLiving, IsLegalOut}
+use Rattle.bs_board.specs.declared.boards.board.Board.{Board}
+use Rattle.bs_board.specs.declared.boards.snake.Snake.{Snake}
+use Rattle.bs_board.specs.declared.boards.snake.Cause.{Cause}
+use Rattle.bs_board.specs.declared.boards.snake.Cause.TheVariants.{OutOfHealth, WallCollision, SelfCollision, BodyCollision, HeadCollision}
+use Rattle.bs_board.specs.boards.Legal.{EachSeat, IsLegalLiving, IsLegalOut}
 use Rattle.bs_rules.specs.Collision.{collided, IsJudged, RunsInto, snake_at, nobody}
-use Rattle.bs_rules.proofs.Judged.{collided_is_judged}
+use Rattle.bs_rules.proofs.CollisionMeaning.{collided_is_judged}
 use Rattle.bs_rules.proofs.Seats.{length-map_seats}
 use Rattle.bs_rules.proofs.Sound.{IsSound}
 

@@ -1,17 +1,17 @@
 -- Feeding, growth and the first eliminations leave each snake sound.
-use Rattle.std.proofs.Common.{◌≡◌, ℕ, suc, ◌+◌, ◌-◌, ◌<◌, ◌≤◌, Bool, true, false, not, cond, List, [], ◌∷◌, ◌++◌, length, drop, All, Option, Some, None, refl, sym, arith, get_or, length-append, pos, eqb}
+use Rattle.std.proofs.Common.{◌≡◌, ℕ, suc, ◌+◌, ◌-◌, ◌<◌, ◌≤◌, Bool, true, false, not, cond, List, [], ◌∷◌, ◌++◌, length, drop, All, Option, Some, None, refl, sym, arith, get_or, length-append, eqb}
 use Rattle.std.specs.List.{list_any}
 use Rattle.std.proofs.lemmas.Bool.{cond_both, eqb-true, eqb-false, and_from}
 use Rattle.std.proofs.lemmas.List.Elements.{All-push}
-use Rattle.bs_board.specs.declared.point.Point.{Point}
-use Rattle.bs_board.specs.declared.board.Board.{Board}
-use Rattle.bs_board.specs.declared.snake.Snake.{Snake}
-use Rattle.bs_board.specs.declared.snake.Cause.{Cause}
-use Rattle.bs_board.specs.declared.snake.Cause.TheVariants.{OutOfHealth, WallCollision}
-use Rattle.bs_board.specs.Cell.{is_same_cell, is_on_board}
-use Rattle.bs_board.specs.Legal.{IsLegalLiving, is_near, head_of}
+use Rattle.bs_board.specs.declared.boards.point.Point.{Point}
+use Rattle.bs_board.specs.declared.boards.board.Board.{Board}
+use Rattle.bs_board.specs.declared.boards.snake.Snake.{Snake}
+use Rattle.bs_board.specs.declared.boards.snake.Cause.{Cause}
+use Rattle.bs_board.specs.declared.boards.snake.Cause.TheVariants.{OutOfHealth, WallCollision}
+use Rattle.bs_board.specs.boards.Cell.{origin, head_of, is_same_cell, is_on_board}
+use Rattle.bs_board.specs.boards.Legal.{IsLegalLiving, is_near}
 use Rattle.bs_modes.specs.Growth.{grown_body, grown_snake}
-use Rattle.bs_modes.proofs.Growing.{grown_at_most_one, grown_keeps_length, grown_keeps_head, grown_stays_inside}
+use Rattle.bs_modes.proofs.GrownBodies.{grown_at_most_one, grown_keeps_length, grown_keeps_head, grown_stays_inside}
 use Rattle.bs_rules.specs.Feeding.{fed_snake, last_of}
 use Rattle.bs_rules.specs.Elimination.{first_judged, judged}
 use Rattle.bs_rules.proofs.Sound.{IsSoundBody, IsMoved, IsMovedLiving, IsSound, longer_parts}
@@ -21,8 +21,8 @@ inside_fed : (P : Point → Type 0) (body : List Point) → 3 ≤ length body �
 inside_fed P [] long all = absurd (omega arith)
 inside_fed P (p ∷ rest) long all =
     let place : length (p ∷ rest) - 1 ≡ suc (length rest - 1) = omega arith in
-    let same : last_of (p ∷ rest) ≡ get_or rest (length rest - 1) (record { x = pos 0; y = pos 0 }) = rw place refl in
-    let last : P (get_or rest (length rest - 1) (record { x = pos 0; y = pos 0 })) = all (length rest - 1) (record { x = pos 0; y = pos 0 }) (omega arith) in
+    let same : last_of (p ∷ rest) ≡ get_or rest (length rest - 1) origin = rw place refl in
+    let last : P (get_or rest (length rest - 1) origin) = all (length rest - 1) origin (omega arith) in
     All-push P rest (last_of (p ∷ rest)) all (rw same last)
 
 head_fed : (body tail : List Point) → 3 ≤ length body → head_of (body ++ tail) ≡ head_of body

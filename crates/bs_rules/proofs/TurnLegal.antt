@@ -2,26 +2,26 @@
 use Rattle.std.proofs.Common.{◌≡◌, ℕ, ◌+◌, ◌≤◌, ◌<◌, Bool, true, List, [], ◌∷◌, length, map, MatchOption, Option, Some, None, not, refl, sym, ◌∙◌, subst, arith, get_or}
 use Rattle.std.specs.List.{list_any}
 use Rattle.std.proofs.lemmas.List.{length-map, get_or-map}
-use Rattle.bs_board.specs.declared.point.Point.{Point}
-use Rattle.bs_board.specs.declared.point.Direction.{Direction}
-use Rattle.bs_board.specs.declared.board.Board.{Board}
-use Rattle.bs_board.specs.declared.board.Mode.{Mode}
-use Rattle.bs_board.specs.declared.board.Mode.TheVariants.{Standard, Solo, Constrictor}
-use Rattle.bs_board.specs.declared.snake.Snake.{Snake}
-use Rattle.bs_board.specs.declared.snake.Cause.{Cause}
-use Rattle.bs_board.specs.Legal.{IsLegal, IsLegalSnake, IsLegalLiving, IsLegalOut, IsWithinLimits, IsFreeOfFood, EachSeat}
-use Rattle.bs_board.specs.Orders.{Orders}
-use Rattle.bs_board.specs.Setup.{is_fit_food}
+use Rattle.bs_board.specs.declared.boards.point.Point.{Point}
+use Rattle.bs_board.specs.declared.boards.point.Direction.{Direction}
+use Rattle.bs_board.specs.declared.boards.board.Board.{Board}
+use Rattle.bs_board.specs.declared.boards.board.Mode.{Mode}
+use Rattle.bs_board.specs.declared.boards.board.Mode.TheVariants.{Standard, Solo, Constrictor}
+use Rattle.bs_board.specs.declared.boards.snake.Snake.{Snake}
+use Rattle.bs_board.specs.declared.boards.snake.Cause.{Cause}
+use Rattle.bs_board.specs.boards.Legal.{IsLegal, IsLegalSnake, IsLegalLiving, IsLegalOut, IsWithinLimits, IsFreeOfFood, EachSeat}
+use Rattle.bs_board.specs.commands.Orders.{Orders}
+use Rattle.bs_board.specs.commands.Setup.{is_fit_food}
 use Rattle.bs_food.specs.Spawning.{spawned}
-use Rattle.bs_food.proofs.Fitting.{spawned_refed}
+use Rattle.bs_food.proofs.NewFood.{spawned_refed}
 use Rattle.bs_modes.specs.Growth.{grown, grown_snake}
 use Rattle.bs_rules.specs.Motion.{moved, moved_board, given_to}
 use Rattle.bs_rules.specs.Feeding.{fed, fed_snake, food_left, has_head_on}
 use Rattle.bs_rules.specs.Elimination.{starved_or_outside, first_judged}
 use Rattle.bs_rules.specs.Collision.{collided}
 use Rattle.bs_rules.specs.Turn.{replenished, finished, turn_of}
-use Rattle.bs_rules.proofs.Fitting.{fit_food_left, free_of_food_left}
-use Rattle.bs_rules.proofs.Kept.{ids_stay, seats_stay, grown_ids}
+use Rattle.bs_rules.proofs.FoodLeft.{fit_food_left, free_of_food_left}
+use Rattle.bs_rules.proofs.SeatsAndIds.{ids_stay, seats_stay, grown_ids}
 use Rattle.bs_rules.proofs.Ids.{ids_of, distinct_by_ids}
 use Rattle.bs_rules.proofs.Sound.{later, IsMoved, IsSound, moves}
 use Rattle.bs_rules.proofs.SoundSteps.{feeds, feeds_none, grows, first_judges}
@@ -115,7 +115,7 @@ next_board_is_legal b food snakes fits free same ids sound l early =
     let next = record b { turn = b.turn + 1; food = food; snakes = snakes } in
     record {
       limits = legal_limits b next refl refl refl (omega arith) same l.limits;
-      food = record { fits = fits; mode = free };
+      food = record { fits = fits; mode = free; minimum = l.food.minimum };
       ids = distinct_by_ids b.snakes snakes ids l.ids;
       snakes = λ seat d within. legal_snake (later b) next (b.turn + 3 + 1) seat (get_or snakes seat d) refl refl refl same (omega arith) (sound seat d within);
     }

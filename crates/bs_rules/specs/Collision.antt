@@ -1,13 +1,13 @@
 -- Collisions of a turn. All are judged on the one board after the first eliminations, and applied together.
 use Rattle.std.specs.Prelude.{◌≡◌, ◌≢◌, ℕ, ◌+◌, ◌<◌, ◌≤◌, Bool, true, false, not, ◌&&◌, ◌⊎◌, if◌then◌else◌, List, [], ◌∷◌, length, map, filter, fold, find, drop, Contains, nat_eq, nat_lt, nat_le, Option, Some, None, is_some, option_map, slice_index_or}
 use Rattle.std.specs.List.{list_any, range_with_len, enumerate_from}
-use Rattle.bs_board.specs.declared.board.Board.{Board}
-use Rattle.bs_board.specs.declared.snake.Snake.{Snake}
-use Rattle.bs_board.specs.declared.snake.Cause.{Cause}
-use Rattle.bs_board.specs.declared.snake.Cause.TheVariants.{OutOfHealth, WallCollision, SelfCollision, BodyCollision, HeadCollision}
-use Rattle.bs_board.specs.Cell.{is_same_cell}
-use Rattle.bs_board.specs.Legal.{head_of}
-use Rattle.bs_board.specs.Over.{is_living}
+use Rattle.bs_board.specs.declared.boards.board.Board.{Board}
+use Rattle.bs_board.specs.declared.boards.snake.Snake.{Snake}
+use Rattle.bs_board.specs.declared.boards.snake.Cause.{Cause}
+use Rattle.bs_board.specs.declared.boards.snake.Cause.TheVariants.{OutOfHealth, WallCollision, SelfCollision, BodyCollision, HeadCollision}
+use Rattle.bs_board.specs.boards.Cell.{head_of, is_same_cell}
+use Rattle.bs_board.specs.boards.Legal.{EachSeat}
+use Rattle.bs_board.specs.boards.Over.{is_living}
 use Rattle.bs_rules.specs.declared.verdict.Verdict.{Verdict}
 use Rattle.bs_rules.specs.Elimination.{judged}
 
@@ -42,11 +42,11 @@ pub record CollidesWith (snakes : List Snake) (seat : ℕ) (cause : Cause) (othe
   pub both : is_living (snake_at snakes other) ≡ true
   pub hit : RunsInto cause seat (snake_at snakes seat) other (snake_at snakes other)
 
--- of the first n seats that qualify the longest, and of those equally long the first
-pub record IsKiller (n : ℕ) (snakes : List Snake) (seat : ℕ) (cause : Cause) (killer : ℕ) : Type 0 where
-  pub within : killer < n
+-- of all seats that qualify the longest, and of those equally long the first
+pub record IsKiller (snakes : List Snake) (seat : ℕ) (cause : Cause) (killer : ℕ) : Type 0 where
+  pub within : killer < length snakes
   pub collides : CollidesWith snakes seat cause killer
-  pub longest : (other : ℕ) → other < n → CollidesWith snakes seat cause other → length_at snakes other ≤ length_at snakes killer
+  pub longest : (other : ℕ) → CollidesWith snakes seat cause other → length_at snakes other ≤ length_at snakes killer
   pub first : (other : ℕ) → other < killer → CollidesWith snakes seat cause other → length_at snakes other < length_at snakes killer
 
 abbrev pub EscapesBy : List Snake → ℕ → Cause → Type 0
@@ -63,7 +63,7 @@ EscapesBefore snakes seat HeadCollision = EscapesBy snakes seat SelfCollision ×
 -- what the snake at that seat becomes by running into the killer
 pub record IsPutOut (old : Board) (seat : ℕ) (cause : Cause) (killer : ℕ) (now : Snake) : Type 0 where
   pub earlier : EscapesBefore old.snakes seat cause
-  pub longest : IsKiller (length old.snakes) old.snakes seat cause killer
+  pub longest : IsKiller old.snakes seat cause killer
   pub rest : now ≡ record (snake_at old.snakes seat) { cause = Some cause; killer = Some killer; out = Some (old.turn + 1) }
 
 -- it collides with nobody and stays as it is
@@ -73,6 +73,12 @@ pub record IsSpared (old : Board) (seat : ℕ) (now : Snake) : Type 0 where
 
 abbrev pub IsJudged : Board → ℕ → Snake → Type 0
 IsJudged old seat now = IsSpared old seat now ⊎ ((cause : Cause) × ((killer : ℕ) × IsPutOut old seat cause killer now))
+
+-- the board after the collisions: each seat is judged, and nothing else changes
+pub record IsCollided (old now : Board) : Type 0 where
+  pub only : now ≡ record old { snakes = now.snakes }
+  pub seats : length now.snakes ≡ length old.snakes
+  pub judged : EachSeat (IsJudged old) now.snakes
 
 -- The same as a function.
 
@@ -119,3 +125,7 @@ map_seats f snakes = map (λ entry. f entry.0 entry.1) (enumerate_from 0 snakes)
 
 abbrev pub collided : Board → Board
 collided b = record b { snakes = map_seats (λ seat s. judged (b.turn + 1) (collision_verdict b.snakes seat) s) b.snakes }
+
+-- the relation holds of the function's board, and of no other
+abbrev pub CollisionLaw : Type 0
+CollisionLaw = (old now : Board) → (IsCollided old now → now ≡ collided old) × (now ≡ collided old → IsCollided old now)

@@ -1,11 +1,10 @@
 -- Snakes that go out, and the first of them in a turn: the starved and those that left the board.
 use Rattle.std.specs.Prelude.{ℕ, ◌+◌, if◌then◌else◌, map, nat_eq, Option, Some, None}
-use Rattle.bs_board.specs.declared.board.Board.{Board}
-use Rattle.bs_board.specs.declared.snake.Snake.{Snake}
-use Rattle.bs_board.specs.declared.snake.Cause.TheVariants.{OutOfHealth, WallCollision}
-use Rattle.bs_board.specs.Cell.{is_on_board}
-use Rattle.bs_board.specs.Legal.{head_of}
-use Rattle.bs_board.specs.Over.{is_living}
+use Rattle.bs_board.specs.declared.boards.board.Board.{Board}
+use Rattle.bs_board.specs.declared.boards.snake.Snake.{Snake}
+use Rattle.bs_board.specs.declared.boards.snake.Cause.TheVariants.{OutOfHealth, WallCollision}
+use Rattle.bs_board.specs.boards.Cell.{head_of, is_on_board}
+use Rattle.bs_board.specs.boards.Over.{is_living}
 use Rattle.bs_rules.specs.declared.verdict.Verdict.{Verdict}
 
 -- out in that turn by that verdict, if there is one; its body and health it keeps

@@ -1,9 +1,9 @@
 -- One whole turn.
 use Rattle.std.specs.Prelude.{ℕ, ◌+◌, List}
-use Rattle.bs_board.specs.declared.board.Board.{Board}
-use Rattle.bs_board.specs.declared.board.Mode.{Mode}
-use Rattle.bs_board.specs.declared.board.Mode.TheVariants.{Standard, Solo, Constrictor}
-use Rattle.bs_board.specs.Orders.{Orders}
+use Rattle.bs_board.specs.declared.boards.board.Board.{Board}
+use Rattle.bs_board.specs.declared.boards.board.Mode.{Mode}
+use Rattle.bs_board.specs.declared.boards.board.Mode.TheVariants.{Standard, Solo, Constrictor}
+use Rattle.bs_board.specs.commands.Orders.{Orders}
 use Rattle.bs_modes.specs.Growth.{grown}
 use Rattle.bs_food.specs.Spawning.{spawned}
 use Rattle.bs_rules.specs.Motion.{moved_board}

@@ -1,5 +1,7 @@
+//! Collisions of a turn.
+
 ghost use Rattle.std.specs.Prelude.{◌≡◌, ℕ, ◌<◌, ◌≤◌, None, length, slice_index_or};
-ghost use Rattle.bs_board.specs.Legal.{EachSeat};
+ghost use Rattle.bs_board.specs.boards.Legal.{EachSeat};
 ghost use Rattle.bs_rules.specs.Collision.{
   length_at,
   is_on_later_part,
@@ -15,12 +17,9 @@ ghost use Rattle.bs_rules.specs.Collision.{
 };
 ghost use Rattle.bs_rules.specs.Elimination.{judged};
 
-use crate::parts::head_of;
-use crate::verdict::{Verdict, apply};
-use bs_board::{Board, Cause, Snake, Snakes};
-
-/// The most snakes that a board has.
-const SEATS: usize = 8;
+use crate::verdict::{Verdict, put_out};
+use bs_board::limits::{LAST_TURN, MOST_SNAKES};
+use bs_board::{Board, Cause, Snake, Snakes, head_of};
 
 fn is_on_later_part(snake: &Snake, other: &Snake) -> bool
     ensures { result ≡ is_on_later_part snake.now other.now }
@@ -125,11 +124,11 @@ fn collision_verdict(snakes: &[Snake], seat: usize) -> Option<Verdict>
 }
 
 /// All verdicts before any is applied, by seat.
-fn judge(snakes: &[Snake]) -> [Option<Verdict>; SEATS]
-    requires { length snakes.now ≤ 8 }
+fn judge(snakes: &[Snake]) -> [Option<Verdict>; MOST_SNAKES]
+    requires { length snakes.now ≤ MOST_SNAKES }
     ensures { (seat : ℕ) → seat < length snakes.now → slice_index_or result seat None ≡ collision_verdict snakes.now seat }
 {
-    let mut verdicts = [None; SEATS];
+    let mut verdicts = [None; MOST_SNAKES];
     for seat in 0..snakes.len() {
         verdicts[seat] = collision_verdict(snakes, seat);
     }
@@ -137,29 +136,29 @@ fn judge(snakes: &[Snake]) -> [Option<Verdict>; SEATS]
 }
 
 #[tactic(auto, using(crate::proofs::Seats::set_next_seat))]
-fn apply_all(verdicts: &[Option<Verdict>], turn: u16, snakes: &mut Snakes)
+fn put_all_out(verdicts: &[Option<Verdict>], turn: u16, snakes: &mut Snakes)
     requires { length snakes.old ≤ length verdicts.now }
     ensures { snakes.new ≡ map_seats (λ seat s. judged turn (slice_index_or verdicts.now seat None) s) snakes.old }
 {
     for seat in 0..snakes.len() {
-        apply(verdicts[seat], turn, snakes.seat_mut(seat));
+        put_out(verdicts[seat], turn, snakes.seat_mut(seat));
     }
 }
 
 #[tactic(auto, using(crate::proofs::Seats::map_seats_agree))]
 fn judge_all(turn: u16, snakes: &mut Snakes)
-    requires { length snakes.old ≤ 8 }
+    requires { length snakes.old ≤ MOST_SNAKES }
     ensures { snakes.new ≡ map_seats (λ seat s. judged turn (collision_verdict snakes.old seat) s) snakes.old }
 {
     let verdicts = judge(snakes.as_slice());
-    apply_all(&verdicts, turn, snakes);
+    put_all_out(&verdicts, turn, snakes);
 }
 
 /// The collisions of the turn that is being played, among the snakes that live after the first eliminations: all are
 /// judged on the board as it stands, and then applied together.
 pub fn collide(board: &mut Board)
-    requires turn { board.old.turn < 10000 }
-    requires few { length board.old.snakes ≤ 8 }
+    requires turn { board.old.turn < LAST_TURN }
+    requires few { length board.old.snakes ≤ MOST_SNAKES }
     ensures value { board.new ≡ collided board.old }
     ensures meaning { EachSeat (IsJudged board.old) board.new.snakes }
 {

@@ -1,9 +1,11 @@
+//! The first eliminations of a turn: the starved and those that left the board.
+
 ghost use Rattle.std.specs.Prelude.{◌≡◌, ◌+◌, ◌<◌, map};
 ghost use Rattle.bs_rules.specs.Elimination.{first_verdict, first_judged, starved_or_outside};
 
-use crate::parts::head_of;
-use crate::verdict::{Verdict, apply};
-use bs_board::{Board, Cause, Snake, Snakes};
+use crate::verdict::{Verdict, put_out};
+use bs_board::limits::LAST_TURN;
+use bs_board::{Board, Cause, Snake, Snakes, head_of};
 
 fn first_verdict(width: u8, height: u8, snake: &Snake) -> Option<Verdict>
     ensures { result ≡ first_verdict width height snake.now }
@@ -28,7 +30,7 @@ fn judge_first(width: u8, height: u8, turn: u16, snake: &mut Snake)
 {
     if snake.is_living() {
         let verdict = first_verdict(width, height, snake);
-        apply(verdict, turn, snake);
+        put_out(verdict, turn, snake);
     }
 }
 
@@ -44,7 +46,7 @@ fn judge_all_first(width: u8, height: u8, turn: u16, snakes: &mut Snakes)
 /// The first eliminations of the turn that is being played: each living snake that has starved is out, and each
 /// other one whose head has left the board.
 pub fn first_out(board: &mut Board)
-    requires { board.old.turn < 10000 }
+    requires { board.old.turn < LAST_TURN }
     ensures { board.new ≡ starved_or_outside board.old }
 {
     let (width, height, turn) = (board.width, board.height, board.turn + 1);

@@ -1,10 +1,13 @@
+//! What snakes eat in a turn.
+
 ghost use Rattle.std.specs.Prelude.{◌≡◌, IfOk, OnOk, map};
 ghost use Rattle.std.specs.List.{list_any};
-ghost use Rattle.bs_board.specs.Cell.{is_same_cell};
+ghost use Rattle.bs_board.specs.boards.Cell.{is_same_cell};
 ghost use Rattle.bs_rules.specs.Feeding.{has_head_on, eats, fed_snake, food_left, fed};
 
-use crate::parts::{head_of, last_of};
-use bs_board::{Board, Cells, Point, Snake, Snakes};
+use crate::parts::last_of;
+use bs_board::limits::FULL_HEALTH;
+use bs_board::{Board, Cells, Point, Snake, Snakes, head_of};
 use std::alloc::{AllocError, Global};
 
 fn has_head_on(cell: Point, snake: &Snake) -> bool
@@ -48,7 +51,7 @@ fn feed_snake(food: &[Point], snake: &mut Snake) -> Result<(), AllocError>
     if eats(food, snake) {
         let last = last_of(snake.body.as_slice());
         snake.body.push(last)?;
-        snake.health = 100;
+        snake.health = FULL_HEALTH;
     }
     Ok(())
 }

@@ -4,6 +4,7 @@
 mod collision;
 mod elimination;
 mod feeding;
+mod law;
 mod motion;
 mod parts;
 #[cfg(test)]
@@ -14,5 +15,6 @@ mod verdict;
 pub use collision::collide;
 pub use elimination::first_out;
 pub use feeding::feed;
-pub use motion::move_snake;
+pub use law::collision_law;
+pub use motion::{move_snake, move_snakes};
 pub use turns::{finish_turn, turn};

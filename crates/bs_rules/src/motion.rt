@@ -1,22 +1,26 @@
+//! Where snakes go in a turn.
+
 ghost use Rattle.std.specs.Prelude.{◌≡◌, ◌≤◌, true, IfOk, All, map, length};
-ghost use Rattle.bs_board.specs.Legal.{is_near};
+ghost use Rattle.bs_board.specs.boards.Legal.{is_near};
 ghost use Rattle.bs_rules.specs.Motion.{
   second_of,
   neighbor,
   onward,
-  direction_of,
+  direction_taken,
   moved_body,
   moved,
+  moved_seats,
   given_to,
   IsMovable,
 };
 
-use crate::parts::{head_of, second_of};
-use bs_board::{Cells, Direction, Id, Point, Snake, Snakes};
+use crate::parts::second_of;
+use bs_board::limits::LONGEST_SIDE;
+use bs_board::{Cells, Direction, Id, Point, Snake, Snakes, head_of};
 use std::alloc::{AllocError, Global};
 
 fn neighbor(cell: Point, direction: Direction) -> Point
-    requires { is_near 25 25 cell ≡ true }
+    requires { is_near LONGEST_SIDE LONGEST_SIDE cell ≡ true }
     ensures { result ≡ neighbor cell direction }
 {
     match direction {
@@ -40,7 +44,7 @@ fn neighbor(cell: Point, direction: Direction) -> Point
 }
 
 fn onward(body: &[Point]) -> Direction
-    requires { is_near 25 25 (second_of body.now) ≡ true }
+    requires { is_near LONGEST_SIDE LONGEST_SIDE (second_of body.now) ≡ true }
     ensures { result ≡ onward body.now }
 {
     let head = head_of(body);
@@ -56,9 +60,9 @@ fn onward(body: &[Point]) -> Direction
     }
 }
 
-fn chosen(given: Option<Direction>, body: &[Point]) -> Direction
-    requires { is_near 25 25 (second_of body.now) ≡ true }
-    ensures { result ≡ direction_of given body.now }
+fn direction_taken(given: Option<Direction>, body: &[Point]) -> Direction
+    requires { is_near LONGEST_SIDE LONGEST_SIDE (second_of body.now) ≡ true }
+    ensures { result ≡ direction_taken given body.now }
 {
     match given {
         Some(direction) => direction,
@@ -68,10 +72,10 @@ fn chosen(given: Option<Direction>, body: &[Point]) -> Direction
 
 fn move_body(alloc: Global, body: &[Point], given: Option<Direction>) -> Result<Cells, AllocError>
     requires some { 1 ≤ length body.now }
-    requires near { All (λ p. is_near 25 25 p ≡ true) body.now }
+    requires near { All (λ p. is_near LONGEST_SIDE LONGEST_SIDE p ≡ true) body.now }
     ensures { IfOk result (λ cells. cells ≡ moved_body given body.now) }
 {
-    let head = neighbor(head_of(body), chosen(given, body));
+    let head = neighbor(head_of(body), direction_taken(given, body));
     let mut parts = Vec::with_capacity(alloc, body.len())?;
     parts.push(head)?;
     parts.extend_from_slice(&body[..body.len() - 1])?;
@@ -110,14 +114,15 @@ fn given_to(moves: &[(Id, Direction)], id: &Id) -> Option<Direction>
         .map(|order| order.1)
 }
 
-/// All seats, each in the direction that is given to its id.
+/// Any number of seats, each in the direction that is given to its id. A whole turn moves all of them so, and a part of
+/// a turn some.
 pub fn move_snakes(
     alloc: Global,
     snakes: &[Snake],
     moves: &[(Id, Direction)],
 ) -> Result<Snakes, AllocError>
     requires { All IsMovable snakes.now }
-    ensures { IfOk result (λ next. next ≡ map (λ s. moved (given_to moves.now s.id) s) snakes.now) }
+    ensures { IfOk result (λ next. next ≡ moved_seats moves.now snakes.now) }
 {
     let mut seats = Vec::with_capacity(alloc, snakes.len())?;
     for snake in snakes {

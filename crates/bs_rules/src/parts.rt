@@ -1,34 +1,28 @@
-// Parts of a body. Each snake of a board has at least three.
+//! Parts of a body behind its head. Each snake of a board has at least three.
+
 ghost use Rattle.std.specs.Prelude.{◌≡◌};
-ghost use Rattle.bs_board.specs.Legal.{head_of};
 ghost use Rattle.bs_rules.specs.Feeding.{last_of};
 ghost use Rattle.bs_rules.specs.Motion.{second_of};
 
 use bs_board::Point;
+use bs_board::boards::point::ORIGIN;
 
-pub fn head_of(body: &[Point]) -> Point
-    ensures { result ≡ head_of body.now }
-{
-    match body {
-        [head, ..] => *head,
-        [] => Point { x: 0, y: 0 },
-    }
-}
-
+/// The second part, or the corner of the board where there is none.
 pub fn second_of(body: &[Point]) -> Point
     ensures { result ≡ second_of body.now }
 {
     match body {
         [_, second, ..] => *second,
-        _ => Point { x: 0, y: 0 },
+        _ => ORIGIN,
     }
 }
 
+/// The last part, or the corner of the board where there is none.
 pub fn last_of(body: &[Point]) -> Point
     ensures { result ≡ last_of body.now }
 {
     match body {
         [.., last] => *last,
-        [] => Point { x: 0, y: 0 },
+        [] => ORIGIN,
     }
 }

@@ -1,381 +1,188 @@
-use crate::{collide, feed, finish_turn, first_out, move_snake, turn};
-use bs_board::orders::is_ascending;
+//! Tests of what no clause says: whole turns from texts, and each step once by itself.
+
+use crate::{collide, feed, finish_turn, first_out, move_snake, move_snakes, turn};
+use bs_board::commands::orders::is_ascending;
+use bs_board::limits::{LAST_TURN, MOST_SNAKES, MOST_WORDS};
 use bs_board::{
-    Board, Cause, Cells, Direction, Id, Mode, Move, Moves, Point, Snake, Snakes, Words, is_legal,
+    Board, Cells, Direction, Id, Mode, Move, Moves, Point, Snake, Snakes, Words, is_legal,
 };
 use std::alloc::{AllocError, Global};
 use std::process::Abort;
 use std::test::Fail;
 
-type Parts<'a> = &'a [(i16, i16)];
+fn number(text: &str) -> Result<i16, Fail> {
+    Ok(text.parse::<i16>().ok().ok_or("a number")?)
+}
 
-/// A snake before a turn: its id, its health, its body and where it is told to go.
-type Seat<'a> = (&'a str, u8, Parts<'a>, Direction);
+fn small(text: &str) -> Result<u8, Fail> {
+    Ok(text.parse::<u8>().ok().ok_or("a byte")?)
+}
 
-/// The same snake after it: health, body, cause and killer.
-type Want<'a> = (u8, Parts<'a>, Option<Cause>, Option<usize>);
-
-fn cells(alloc: Global, parts: Parts) -> Result<Cells, AllocError> {
+fn cells(alloc: Global, text: &str) -> Result<Cells, Fail> {
     let mut cells = Cells::new(alloc);
-    for &(x, y) in parts {
-        cells.push(Point { x, y })?;
+    for word in text.split(' ') {
+        if let Some((x, y)) = word.split_once(',') {
+            cells.push(Point {
+                x: number(x)?,
+                y: number(y)?,
+            })?;
+        }
     }
     Ok(cells)
 }
 
-fn snake(alloc: Global, id: &str, health: u8, parts: Parts) -> Result<Snake, AllocError> {
+// "ID HEALTH CELLS"
+fn snake(alloc: Global, text: &str) -> Result<Snake, Fail> {
+    let (id, rest) = text.split_once(' ').ok_or("an id")?;
+    let (health, body) = rest.split_once(' ').ok_or("a health")?;
     Ok(Snake {
         id: Id::from_str(alloc, id)?,
-        body: cells(alloc, parts)?,
-        health,
+        body: cells(alloc, body)?,
+        health: small(health)?,
         cause: None,
         killer: None,
         out: None,
     })
 }
 
-fn board(
-    alloc: Global,
-    mode: Mode,
-    side: u8,
-    turn: u16,
-    food: Parts,
-    seats: &[Seat],
-) -> Result<Board, AllocError> {
+fn mode(text: &str) -> Mode {
+    match text {
+        "standard" => Mode::Standard,
+        "solo" => Mode::Solo,
+        _ => Mode::Constrictor,
+    }
+}
+
+// "MODE SIDE TURN MIN_FOOD|FOOD|SNAKE|SNAKE"
+fn board(alloc: Global, text: &str) -> Result<Board, Fail> {
+    let (head, rest) = text.split_once('|').ok_or("a head")?;
+    let (food, seats) = rest.split_once('|').ok_or("food")?;
+    let (mode_name, rest) = head.split_once(' ').ok_or("a mode")?;
+    let (side, rest) = rest.split_once(' ').ok_or("a side")?;
+    let (played, min_food) = rest.split_once(' ').ok_or("a turn")?;
     let mut snakes = Vec::new(alloc);
-    for &(id, health, parts, _) in seats {
-        snakes.push(snake(alloc, id, health, parts)?)?;
+    for seat in seats.split('|') {
+        snakes.push(snake(alloc, seat)?)?;
     }
     Ok(Board {
-        mode,
-        width: side,
-        height: side,
-        turn,
-        min_food: 0,
+        mode: mode(mode_name),
+        width: small(side)?,
+        height: small(side)?,
+        turn: u16::from(small(played)?),
+        min_food: small(min_food)?,
         chance: 0,
         food: cells(alloc, food)?,
         snakes: Snakes::from_vec(snakes),
     })
 }
 
-fn moves(alloc: Global, seats: &[Seat]) -> Result<Moves, AllocError> {
+fn direction(text: &str) -> Option<Direction> {
+    match text {
+        "up" => Some(Direction::Up),
+        "down" => Some(Direction::Down),
+        "left" => Some(Direction::Left),
+        "right" => Some(Direction::Right),
+        _ => None,
+    }
+}
+
+// "ID=DIRECTION" and words, in any order
+fn order(rt: &impl Abort, alloc: Global, text: &str) -> Result<Move, Fail> {
     let mut moves = Vec::new(alloc);
-    for &(id, _, _, direction) in seats {
-        moves.push((Id::from_str(alloc, id)?, direction))?;
+    let mut words = Vec::new(alloc);
+    for part in text.split(' ') {
+        if let Some((id, to)) = part.split_once('=') {
+            moves.push((
+                Id::from_str(alloc, id)?,
+                direction(to).ok_or("a direction")?,
+            ))?;
+        } else if let Ok(word) = part.parse::<u32>() {
+            words.push(word)?;
+        }
     }
-    Ok(Moves::from_vec(moves))
-}
-
-fn assert_snake(rt: &impl Abort, snake: &Snake, out: u16, want: Want) {
-    let (health, parts, cause, killer) = want;
-    let id = snake.id.as_str();
-    assert_eq!(rt; snake.health, health, "{id}");
-    assert_eq!(rt; snake.cause, cause, "{id}");
-    assert_eq!(rt; snake.killer, killer, "{id}");
-    assert_eq!(rt; snake.out, cause.map(|_| out), "{id}");
-    assert_eq!(rt; snake.body.len(), parts.len(), "{id}");
-    for (part, &(x, y)) in snake.body.as_slice().iter().zip(parts) {
-        assert_eq!(rt; *part, Point { x, y }, "{id}");
-    }
-}
-
-fn assert_seats(rt: &impl Abort, board: &Board, turn: u16, wants: &[Want]) {
-    assert_eq!(rt; board.snakes.len(), wants.len());
-    for (snake, want) in board.snakes.as_slice().iter().zip(wants) {
-        assert_snake(rt, snake, turn, *want);
-    }
-}
-
-fn assert_board(rt: &impl Abort, board: &Board, turn: u16, food: Parts, wants: &[Want]) {
-    assert_eq!(rt; board.turn, turn);
-    assert_eq!(rt; board.food.len(), food.len());
-    for (cell, &(x, y)) in board.food.as_slice().iter().zip(food) {
-        assert_eq!(rt; *cell, Point { x, y });
-    }
-    assert_seats(rt, board, turn, wants);
-}
-
-fn played(
-    rt: &impl Abort,
-    alloc: Global,
-    before: &Board,
-    moves: Moves,
-    words: &[u32],
-) -> Result<Board, AllocError> {
-    assert!(rt; is_legal(before));
-    assert!(rt; before.turn < 10_000);
     assert!(rt; is_ascending(moves.as_slice()));
-    assert!(rt; words.len() <= 32);
-    let words = Words::from_vec(Vec::from_slice(alloc, words)?);
-    turn(alloc, before, &Move::new(moves, words))
+    assert!(rt; words.len() <= MOST_WORDS);
+    Ok(Move::new(Moves::from_vec(moves), Words::from_vec(words)))
 }
 
-/// A board of turn 10, what is told to its snakes, and what one turn makes of it: the food that is left and the seats.
-type Case<'a> = (
-    Mode,
-    u8,
-    Parts<'a>,
-    &'a [Seat<'a>],
-    Parts<'a>,
-    &'a [Want<'a>],
-);
-
-#[test]
-fn snakes_eat_starve_and_collide(rt: HostRuntime) -> Result<(), Fail> {
-    let alloc = rt.alloc();
-    let (up, left, right, down) = (
-        Direction::Up,
-        Direction::Left,
-        Direction::Right,
-        Direction::Down,
-    );
-    let out_of_health = Some(Cause::OutOfHealth);
-    let wall = Some(Cause::WallCollision);
-    let itself = Some(Cause::SelfCollision);
-    let body = Some(Cause::BodyCollision);
-    let head = Some(Cause::HeadCollision);
-    let a: Seat = ("A", 90, &[(1, 2), (0, 2), (0, 1)], right);
-    let a_after: Parts = &[(2, 2), (1, 2), (0, 2)];
-    let cases: [Case; 11] = [
-        // The last health is enough to reach food, and not enough without.
-        (
-            Mode::Solo,
-            5,
-            &[(2, 3)],
-            &[("s", 1, &[(2, 2), (2, 1), (2, 0)], up)],
-            &[],
-            &[(100, &[(2, 3), (2, 2), (2, 1), (2, 1)], None, None)],
-        ),
-        (
-            Mode::Solo,
-            5,
-            &[],
-            &[("s", 1, &[(2, 2), (2, 1), (2, 0)], up)],
-            &[],
-            &[(0, &[(2, 3), (2, 2), (2, 1)], out_of_health, None)],
-        ),
-        // Two heads on one food are both fed, and equally long.
-        (
-            Mode::Standard,
-            5,
-            &[(2, 2)],
-            &[a, ("B", 90, &[(3, 2), (4, 2), (4, 1)], left)],
-            &[],
-            &[
-                (100, &[(2, 2), (1, 2), (0, 2), (0, 2)], head, Some(1)),
-                (100, &[(2, 2), (3, 2), (4, 2), (4, 2)], head, Some(0)),
-            ],
-        ),
-        // The longer one lives.
-        (
-            Mode::Standard,
-            5,
-            &[],
-            &[a, ("B", 90, &[(3, 2), (4, 2), (4, 1), (4, 0)], left)],
-            &[],
-            &[
-                (89, a_after, head, Some(1)),
-                (89, &[(2, 2), (3, 2), (4, 2), (4, 1)], None, None),
-            ],
-        ),
-        // Of equally long killers the one of the first seat.
-        (
-            Mode::Standard,
-            5,
-            &[],
-            &[
-                a,
-                ("B", 90, &[(3, 2), (4, 2), (4, 1), (4, 0)], left),
-                ("C", 90, &[(2, 3), (2, 4), (3, 4), (4, 4)], down),
-            ],
-            &[],
-            &[
-                (89, a_after, head, Some(1)),
-                (89, &[(2, 2), (3, 2), (4, 2), (4, 1)], head, Some(2)),
-                (89, &[(2, 2), (2, 3), (2, 4), (3, 4)], head, Some(1)),
-            ],
-        ),
-        // A tail that moves away, and one that stays.
-        (
-            Mode::Standard,
-            7,
-            &[],
-            &[
-                ("A", 90, &[(1, 2), (1, 1), (1, 0)], right),
-                ("B", 90, &[(4, 2), (3, 2), (2, 2)], up),
-            ],
-            &[],
-            &[
-                (89, &[(2, 2), (1, 2), (1, 1)], None, None),
-                (89, &[(4, 3), (4, 2), (3, 2)], None, None),
-            ],
-        ),
-        (
-            Mode::Standard,
-            7,
-            &[],
-            &[
-                ("A", 90, &[(1, 2), (1, 1), (1, 0)], right),
-                ("B", 90, &[(4, 2), (3, 2), (2, 2), (2, 2)], up),
-            ],
-            &[],
-            &[
-                (89, &[(2, 2), (1, 2), (1, 1)], body, Some(1)),
-                (89, &[(4, 3), (4, 2), (3, 2), (2, 2)], None, None),
-            ],
-        ),
-        // Who left the board is in nobody's way.
-        (
-            Mode::Standard,
-            5,
-            &[],
-            &[
-                ("A", 90, &[(0, 2), (1, 2), (2, 2)], left),
-                ("B", 90, &[(1, 1), (1, 0), (2, 0)], up),
-            ],
-            &[],
-            &[
-                (89, &[(-1, 2), (0, 2), (1, 2)], wall, None),
-                (89, &[(1, 2), (1, 1), (1, 0)], None, None),
-            ],
-        ),
-        // Two that run into each other's bodies are both out.
-        (
-            Mode::Standard,
-            5,
-            &[],
-            &[
-                ("A", 90, &[(2, 2), (1, 2), (0, 2)], right),
-                ("B", 90, &[(3, 2), (4, 2), (4, 1)], left),
-            ],
-            &[],
-            &[
-                (89, &[(3, 2), (2, 2), (1, 2)], body, Some(1)),
-                (89, &[(2, 2), (3, 2), (4, 2)], body, Some(0)),
-            ],
-        ),
-        // Into its own body.
-        (
-            Mode::Solo,
-            5,
-            &[],
-            &[("s", 90, &[(2, 2), (2, 3), (1, 3), (1, 2), (1, 1)], left)],
-            &[],
-            &[(
-                89,
-                &[(1, 2), (2, 2), (2, 3), (1, 3), (1, 2)],
-                itself,
-                Some(0),
-            )],
-        ),
-        // Food that nobody reaches stays.
-        (
-            Mode::Solo,
-            5,
-            &[(4, 4), (0, 0)],
-            &[("s", 90, &[(2, 2), (2, 1), (2, 0)], right)],
-            &[(4, 4), (0, 0)],
-            &[(89, &[(3, 2), (2, 2), (2, 1)], None, None)],
-        ),
-    ];
-    for (mode, side, food, seats, food_left, wants) in cases {
-        let before = board(alloc, mode, side, 10, food, seats)?;
-        let after = played(&rt, alloc, &before, moves(alloc, seats)?, &[])?;
-        assert_board(&rt, &after, 11, food_left, wants);
+fn tell_cells(alloc: Global, told: &mut String, cells: &[Point]) -> Result<(), AllocError> {
+    for cell in cells {
+        told.push_str(format!(in alloc; " {},{}", cell.x, cell.y)?.as_str())?;
     }
     Ok(())
 }
 
-/// A game with nothing ordered: its mode, side, starting cells, minimum of food and the words of each turn, and what
-/// so many turns make of it: food and seats.
-type Game<'a> = (
-    Mode,
-    u8,
-    &'a [Seat<'a>],
-    u8,
-    &'a [u32],
-    u16,
-    Parts<'a>,
-    &'a [Want<'a>],
-);
+// The turn, the food, and of each seat its health, body, cause, killer and turn of elimination.
+fn told(alloc: Global, board: &Board) -> Result<String, AllocError> {
+    let mut told = format!(in alloc; "{}|", board.turn)?;
+    tell_cells(alloc, &mut told, board.food.as_slice())?;
+    for snake in board.snakes.as_slice() {
+        told.push_str(format!(in alloc; "|{} {}", snake.id.as_str(), snake.health)?.as_str())?;
+        tell_cells(alloc, &mut told, snake.body.as_slice())?;
+        if let Some(cause) = snake.cause {
+            told.push_str(format!(in alloc; " {cause:?}")?.as_str())?;
+        }
+        if let Some(killer) = snake.killer {
+            told.push_str(format!(in alloc; " by {killer}")?.as_str())?;
+        }
+        if let Some(out) = snake.out {
+            told.push_str(format!(in alloc; " in {out}")?.as_str())?;
+        }
+    }
+    Ok(told)
+}
+
+// A board, so many turns of it, what each of them is told, and the board that they make. In order: the last health is
+// enough to reach food, and not enough without; two heads on one food are both fed, and equally long; the longer one
+// lives; of equally long killers the one of the first seat; a tail that moves away, and one that stays; who left the
+// board is in nobody's way; two that run into each other's bodies are both out; into its own body; food that nobody
+// reaches stays. Then, with nothing ordered: a snake that has just started goes up, and then straight on, into the wall;
+// the word chooses the last but one of seven free cells; straight on to each side; in constrictor bodies grow as soon as
+// they are stretched.
+const TURNS: &str = r"solo 5 10 0|2,3|s 1 2,2 2,1 2,0>1>s=up>11||s 100 2,3 2,2 2,1 2,1
+solo 5 10 0||s 1 2,2 2,1 2,0>1>s=up>11||s 0 2,3 2,2 2,1 OutOfHealth in 11
+standard 5 10 0|2,2|A 90 1,2 0,2 0,1|B 90 3,2 4,2 4,1>1>A=right B=left>11||A 100 2,2 1,2 0,2 0,2 HeadCollision by 1 in 11|B 100 2,2 3,2 4,2 4,2 HeadCollision by 0 in 11
+standard 5 10 0||A 90 1,2 0,2 0,1|B 90 3,2 4,2 4,1 4,0>1>A=right B=left>11||A 89 2,2 1,2 0,2 HeadCollision by 1 in 11|B 89 2,2 3,2 4,2 4,1
+standard 5 10 0||A 90 1,2 0,2 0,1|B 90 3,2 4,2 4,1 4,0|C 90 2,3 2,4 3,4 4,4>1>A=right B=left C=down>11||A 89 2,2 1,2 0,2 HeadCollision by 1 in 11|B 89 2,2 3,2 4,2 4,1 HeadCollision by 2 in 11|C 89 2,2 2,3 2,4 3,4 HeadCollision by 1 in 11
+standard 7 10 0||A 90 1,2 1,1 1,0|B 90 4,2 3,2 2,2>1>A=right B=up>11||A 89 2,2 1,2 1,1|B 89 4,3 4,2 3,2
+standard 7 10 0||A 90 1,2 1,1 1,0|B 90 4,2 3,2 2,2 2,2>1>A=right B=up>11||A 89 2,2 1,2 1,1 BodyCollision by 1 in 11|B 89 4,3 4,2 3,2 2,2
+standard 5 10 0||A 90 0,2 1,2 2,2|B 90 1,1 1,0 2,0>1>A=left B=up>11||A 89 -1,2 0,2 1,2 WallCollision in 11|B 89 1,2 1,1 1,0
+standard 5 10 0||A 90 2,2 1,2 0,2|B 90 3,2 4,2 4,1>1>A=right B=left>11||A 89 3,2 2,2 1,2 BodyCollision by 1 in 11|B 89 2,2 3,2 4,2 BodyCollision by 0 in 11
+solo 5 10 0||s 90 2,2 2,3 1,3 1,2 1,1>1>s=left>11||s 89 1,2 2,2 2,3 1,3 1,2 SelfCollision by 0 in 11
+solo 5 10 0|4,4 0,0|s 90 2,2 2,1 2,0>1>s=right>11| 4,4 0,0|s 89 3,2 2,2 2,1
+solo 3 0 0||s 100 1,1 1,1 1,1>1>>1||s 99 1,2 1,1 1,1
+solo 3 0 0||s 100 1,1 1,1 1,1>2>>2||s 98 1,3 1,2 1,1 WallCollision in 2
+solo 3 0 1||s 100 1,1 1,1 1,1>1>5>1| 0,2|s 99 1,2 1,1 1,1
+standard 7 9 0||A 90 2,2 3,2 4,2|B 90 4,4 3,4 2,4|C 90 5,3 5,4 5,5>1>>10||A 89 1,2 2,2 3,2|B 89 5,4 4,4 3,4 BodyCollision by 2 in 10|C 89 5,2 5,3 5,4
+constrictor 7 0 0||s 100 1,1 1,1 1,1|t 100 5,1 5,1 5,1>1>>1||s 100 1,2 1,1 1,1|t 100 5,2 5,1 5,1
+constrictor 7 0 0||s 100 1,1 1,1 1,1|t 100 5,1 5,1 5,1>3>>3||s 100 1,4 1,3 1,2 1,1 1,1|t 100 5,4 5,3 5,2 5,1 5,1";
+
+fn played(
+    rt: &impl Abort,
+    alloc: Global,
+    before: Board,
+    order: &Move,
+    turns: u8,
+) -> Result<Board, AllocError> {
+    let mut next = before;
+    for _ in 0..turns {
+        assert!(rt; is_legal(&next));
+        assert!(rt; next.turn < LAST_TURN);
+        next = turn(alloc, &next, order)?;
+    }
+    Ok(next)
+}
 
 #[test]
-fn snakes_go_straight_on(rt: HostRuntime) -> Result<(), Fail> {
+fn turns_are_played(rt: HostRuntime) -> Result<(), Fail> {
     let alloc = rt.alloc();
-    let wall = Some(Cause::WallCollision);
-    let alone: &[Seat] = &[("s", 100, &[(1, 1), (1, 1), (1, 1)], Direction::Up)];
-    let two: &[Seat] = &[
-        ("s", 100, &[(1, 1), (1, 1), (1, 1)], Direction::Up),
-        ("t", 100, &[(5, 1), (5, 1), (5, 1)], Direction::Up),
-    ];
-    let games: [Game; 5] = [
-        // A snake that has just started goes up, and then straight on, into the wall.
-        (
-            Mode::Solo,
-            3,
-            alone,
-            0,
-            &[],
-            1,
-            &[],
-            &[(99, &[(1, 2), (1, 1), (1, 1)], None, None)],
-        ),
-        (
-            Mode::Solo,
-            3,
-            alone,
-            0,
-            &[],
-            2,
-            &[],
-            &[(98, &[(1, 3), (1, 2), (1, 1)], wall, None)],
-        ),
-        // The word chooses the last but one of seven free cells.
-        (
-            Mode::Solo,
-            3,
-            alone,
-            1,
-            &[5],
-            1,
-            &[(0, 2)],
-            &[(99, &[(1, 2), (1, 1), (1, 1)], None, None)],
-        ),
-        // In constrictor bodies grow as soon as they are stretched.
-        (
-            Mode::Constrictor,
-            7,
-            two,
-            0,
-            &[],
-            1,
-            &[],
-            &[
-                (100, &[(1, 2), (1, 1), (1, 1)], None, None),
-                (100, &[(5, 2), (5, 1), (5, 1)], None, None),
-            ],
-        ),
-        (
-            Mode::Constrictor,
-            7,
-            two,
-            0,
-            &[],
-            3,
-            &[],
-            &[
-                (100, &[(1, 4), (1, 3), (1, 2), (1, 1), (1, 1)], None, None),
-                (100, &[(5, 4), (5, 3), (5, 2), (5, 1), (5, 1)], None, None),
-            ],
-        ),
-    ];
-    for (mode, side, seats, min_food, words, turns, food, wants) in games {
-        let mut next = board(alloc, mode, side, 0, &[], seats)?;
-        next.min_food = min_food;
-        for _ in 0..turns {
-            next = played(&rt, alloc, &next, moves(alloc, &[])?, words)?;
-        }
-        assert_board(&rt, &next, turns, food, wants);
+    for row in TURNS.split('\n') {
+        let (before, rest) = row.split_once('>').ok_or("a board")?;
+        let (turns, rest) = rest.split_once('>').ok_or("turns")?;
+        let (ordered, want) = rest.split_once('>').ok_or("orders")?;
+        let order = order(&rt, alloc, ordered)?;
+        let after = played(&rt, alloc, board(alloc, before)?, &order, small(turns)?)?;
+        assert_eq!(rt; told(alloc, &after)?.as_str(), want, "from {before}");
     }
     Ok(())
 }
@@ -385,49 +192,39 @@ fn snakes_go_straight_on(rt: HostRuntime) -> Result<(), Fail> {
 #[test]
 fn two_heads_meet_at_food(rt: HostRuntime) -> Result<(), Fail> {
     let alloc = rt.alloc();
-    let a: Seat = ("A", 90, &[(1, 2), (0, 2), (0, 1)], Direction::Right);
-    let b: Seat = ("B", 90, &[(3, 2), (4, 2), (4, 1)], Direction::Left);
-    let mut next = board(alloc, Mode::Standard, 5, 10, &[(2, 2)], &[a, b])?;
+    let mut next = board(
+        alloc,
+        "standard 5 10 0|2,2|A 90 1,2 0,2 0,1|B 90 3,2 4,2 4,1",
+    )?;
     assert!(rt; is_legal(&next));
     let before = next.snakes.as_slice();
     assert_eq!(rt; before.len(), 2);
-    let mut seats = Vec::new(alloc);
-    seats.push(move_snake(alloc, &before[0], None)?)?;
-    seats.push(move_snake(alloc, &before[1], None)?)?;
-    next.snakes = Snakes::from_vec(seats);
+    let alone = move_snake(alloc, &before[0], None)?;
+    next.snakes = move_snakes(alloc, before, &[])?;
+    assert_eq!(rt; alone.body.as_slice().first(), Some(&Point { x: 2, y: 2 }));
     let moved = next.copy(alloc)?;
+    assert_eq!(rt;
+        told(alloc, &moved)?.as_str(),
+        "10| 2,2|A 89 2,2 1,2 0,2|B 89 2,2 3,2 4,2"
+    );
     feed(alloc, &mut next)?;
-    assert_eq!(rt; next.turn, 10);
+    assert!(rt; next.turn < LAST_TURN);
     first_out(&mut next);
-    let (a_fed, b_fed): (Parts, Parts) = (
-        &[(2, 2), (1, 2), (0, 2), (0, 2)],
-        &[(2, 2), (3, 2), (4, 2), (4, 2)],
+    assert_eq!(rt;
+        told(alloc, &next)?.as_str(),
+        "10||A 100 2,2 1,2 0,2 0,2|B 100 2,2 3,2 4,2 4,2"
     );
-    assert_seats(
-        &rt,
-        &next,
-        11,
-        &[(100, a_fed, None, None), (100, b_fed, None, None)],
-    );
-    assert_eq!(rt; next.food.len(), 0);
-    assert_eq!(rt; next.turn, 10);
+    assert!(rt; next.turn < LAST_TURN);
+    assert!(rt; next.snakes.len() <= MOST_SNAKES);
     collide(&mut next);
-    let head = Some(Cause::HeadCollision);
-    assert_seats(
-        &rt,
-        &next,
-        11,
-        &[(100, a_fed, head, Some(1)), (100, b_fed, head, Some(0))],
-    );
-    assert_eq!(rt; moved.turn, 10);
-    assert!(rt; moved.snakes.len() <= 8);
+    let seats =
+        "|A 100 2,2 1,2 0,2 0,2 HeadCollision by 1 in 11|B 100 2,2 3,2 4,2 4,2 HeadCollision by 0 in 11";
+    let want = format!(in alloc; "10|{seats}")?;
+    assert_eq!(rt; told(alloc, &next)?.as_str(), want.as_str());
+    assert!(rt; moved.turn < LAST_TURN);
+    assert!(rt; moved.snakes.len() <= MOST_SNAKES);
     let finished = finish_turn(alloc, moved, &[])?;
-    assert_board(
-        &rt,
-        &finished,
-        11,
-        &[],
-        &[(100, a_fed, head, Some(1)), (100, b_fed, head, Some(0))],
-    );
+    let want = format!(in alloc; "11|{seats}")?;
+    assert_eq!(rt; told(alloc, &finished)?.as_str(), want.as_str());
     Ok(())
 }

@@ -1,5 +1,7 @@
+//! One whole turn.
+
 ghost use Rattle.std.specs.Prelude.{◌≡◌, ◌<◌, ◌≤◌, IfOk, OnOk, All, length};
-ghost use Rattle.bs_board.specs.Legal.{IsLegal};
+ghost use Rattle.bs_board.specs.boards.Legal.{IsLegal};
 ghost use Rattle.bs_rules.specs.Motion.{moved_board, IsMovable};
 ghost use Rattle.bs_rules.specs.Turn.{replenished, finished, turn_of};
 
@@ -7,6 +9,7 @@ use crate::collision::collide;
 use crate::elimination::first_out;
 use crate::feeding::feed;
 use crate::motion::move_snakes;
+use bs_board::limits::{LAST_TURN, MOST_SNAKES};
 use bs_board::{Board, Direction, Id, Mode, Move};
 use bs_food::spawn;
 use bs_modes::grow;
@@ -42,8 +45,8 @@ fn replenish(alloc: Global, board: &mut Board, words: &[u32]) -> Result<(), Allo
 /// The rest of a turn, once all seats have moved: feeding, the first eliminations, collisions, growth or new food. The
 /// turn number rises last. Moving all seats and then this is `turn`.
 pub fn finish_turn(alloc: Global, board: Board, words: &[u32]) -> Result<Board, AllocError>
-    requires turn { board.turn < 10000 }
-    requires few { length board.snakes ≤ 8 }
+    requires turn { board.turn < LAST_TURN }
+    requires few { length board.snakes ≤ MOST_SNAKES }
     ensures { IfOk result (λ next. next ≡ finished words.now board) }
 {
     let turn = board.turn + 1;
@@ -61,7 +64,7 @@ pub fn finish_turn(alloc: Global, board: Board, words: &[u32]) -> Result<Board, 
 #[tactic(auto, using(crate::proofs::Movable::legal_is_movable), unfolding(crate::specs::Turn::turn_of))]
 pub fn turn(alloc: Global, board: &Board, order: &Move) -> Result<Board, AllocError>
     requires legal { IsLegal board.now }
-    requires turn { board.now.turn < 10000 }
+    requires turn { board.now.turn < LAST_TURN }
     ensures value { IfOk result (λ next. next ≡ turn_of board.now order.now) }
     ensures legal { IfOk result IsLegal }
 {

@@ -1,3 +1,5 @@
+//! How a snake goes out.
+
 ghost use Rattle.std.specs.Prelude.{◌≡◌};
 ghost use Rattle.bs_rules.specs.Elimination.{judged};
 
@@ -12,7 +14,7 @@ pub struct Verdict {
 }
 
 /// Puts the snake out in that turn, if there is a verdict.
-pub fn apply(verdict: Option<Verdict>, turn: u16, snake: &mut Snake)
+pub fn put_out(verdict: Option<Verdict>, turn: u16, snake: &mut Snake)
     ensures { snake.new ≡ judged turn verdict snake.old }
 {
     if let Some(verdict) = verdict {

@@ -52,9 +52,9 @@ use Rattle.std_alloc.proofs.VecSteps.Shapes.{after, head, arm_body}
 use Rattle.bs_block.specs.Ownership.{row}
 use Rattle.bs_block.specs.contracts.raw.Base as B
 use Rattle.bs_block.specs.contracts.raw.Deed as D
-use Rattle.bs_block.specs.contracts.raw.Places as P
+use Rattle.bs_block.specs.contracts.raw.Region as P
 use Rattle.bs_block.specs.contracts.raw.allocate as f
-use Rattle.bs_block.proofs.Memory.{Fields, mark, mark_made, base_made, of_room}
+use Rattle.bs_block.proofs.RegionWalks.{Fields, mark, mark_made, base_made, of_room}
 use Rattle.bs_block.proofs.raw.allocate.Statement.{statement}
 use Rattle.bs_block.proofs.raw.allocate.Code as code
 
@@ -121,9 +121,9 @@ allocate_spec 𝓤 𝓛 𝓜 𝓡 wired W LW g d dd met md =
     (λ b o e.
     let p : Ptr = block_ptr b o in
     let base : B.the_row.Denot = record { ptr = p } in
-    let places : P.the_row.Denot = record { mark = record {}; at = p; slots = replicate len None } in
+    let region : P.the_row.Denot = record { mark = record {}; at = p; slots = replicate len None } in
     let deed : (D.the_row (Handle Z) g).Denot = record { mark = record {}; at = p; len = len; alloc = h } in
-    let parts : (Parts Z).Denot = (base, places, deed) in
+    let parts : (Parts Z).Denot = (base, region, deed) in
     let made : Val = triple_val (word p) mark mark in
     let typed : Good (layout (Parts Z)) made = (tt, ((tt, tt), ((tt, tt), ((tt, tt), tt)))) in
     let ok = first_Good (layout (Parts Z)) made typed in
@@ -137,9 +137,9 @@ allocate_spec 𝓤 𝓛 𝓜 𝓡 wired W LW g d dd met md =
     exec ! 𝓣.C 𝓣.Λ En (after 2 fn.body) (at_ret En Post) $ sets ! (of_opd ! (get ! refl)) refl ok $
     -- [the room; the right to free it; the token; the other token]
     move ! (1 ∷ []) $ use0 𝓛 (‵ (Fields.own_val (tt, tt) (mark ∷ []))) (mark_made 𝓛) $ fjoin ! $ move ! (1 ∷ []) $
-    use1 𝓛 (‵ (row b o places.slots)) (of_room 𝓛 b len o) $ flt_i ! (length places.slots) (2 ^ 63) (subst (λ k. k < 2 ^ 63) (sym (length-replicate len None)) small) $ fjoin ! $
+    use1 𝓛 (‵ (row b o region.slots)) (of_room 𝓛 b len o) $ flt_i ! (length region.slots) (2 ^ 63) (subst (λ k. k < 2 ^ 63) (sym (length-replicate len None)) small) $ fjoin ! $
     use0 𝓛 (‵ (Fields.own_val (tt, tt) (mark ∷ []))) (mark_made 𝓛) $ fjoin ! $ use0 𝓛 (‵ (B.the_row.own_val base (word p ∷ []))) (base_made 𝓛 p) $
-    use3 𝓛 (‵ ((Parts Z).own_val parts (made ∷ []))) (triple_of 𝓛 B.the_row P.the_row (D.the_row (Handle Z) g) base places deed (word p) mark mark) $
+    use3 𝓛 (‵ ((Parts Z).own_val parts (made ∷ []))) (triple_of 𝓛 B.the_row P.the_row (D.the_row (Handle Z) g) base region deed (word p) mark mark) $
     use1 𝓛 (‵ ((Out Z).own_val (Ok parts) (live 0 (vcons made vnil) ∷ []))) (ok_of 𝓛 (Parts Z) AE.the_row parts made) $
     returns ! (look_at ! 0 refl) $ free_all ! refl $
     suffices ! _ (ends_at 𝓛 E hs c y (live 0 (vcons made vnil)) (Ok parts) (tt, (tt, tt)) (tt, (tt, tt))) $ says ! (refl, refl, refl, refl, refl) $

@@ -37,15 +37,15 @@ use Rattle.core.proofs.alloc.Calls.{Al, token, Gives, at_gives, Gives-goes, Give
 use Rattle.std.proofs.raw_atomic.Walks.{proved}
 use Rattle.std_alloc.proofs.RcSteps.{word, word-Good}
 use Rattle.std_alloc.proofs.VecSteps.Shapes.{after}
-use Rattle.bs_block.specs.Ownership.{places_own, deed_owns}
+use Rattle.bs_block.specs.Ownership.{region_own, deed_owns}
 use Rattle.bs_block.specs.contracts.raw.Base as B
 use Rattle.bs_block.specs.contracts.raw.Deed as D
-use Rattle.bs_block.specs.contracts.raw.Places as P
+use Rattle.bs_block.specs.contracts.raw.Region as P
 use Rattle.bs_block.specs.contracts.raw.deallocate as f
-use Rattle.bs_block.proofs.Memory.{base_vals, base_tells, mark, to_room}
+use Rattle.bs_block.proofs.RegionWalks.{base_vals, base_tells, mark, to_room}
 use Rattle.bs_block.proofs.raw.deallocate.Statement.{statement}
 use Rattle.bs_block.proofs.raw.deallocate.Code as code
-use Rattle.bs_block.proofs.raw.Places.TheLaws as places_laws
+use Rattle.bs_block.proofs.raw.Region.TheLaws as places_laws
 use Rattle.bs_block.proofs.raw.Deed.TheLaws as deed_laws
 
 module _ (Z : Al) where
@@ -85,22 +85,22 @@ deallocate_spec 𝓤 𝓛 𝓜 𝓡 wired W LW g d dd met md =
     (λ κs. (shr_vals, (base_vals, (uint_vals w64, ((λ x. mark ∷ []), ((λ x. mark ∷ []), tt))))))
     (λ κs. (shr_Tells (named 0) κs.0 (Handle Z), (base_tells, (uint_Tells w64, (places_laws.lowers.val_is, ((deed_laws.lowers (Handle Z) g (param_laws 0 W LW)).val_is, tt))))))
     (λ κs qs bounds a _ are.
-    let κ = κs.0 in let q = qs.0 in let rb = a.0.ref_ptr.0 in let ro = a.0.ref_ptr.1 in let h = a.0.now in let base = a.1.0 in let len = a.1.1.0 in let places = a.1.1.1.0 in let deed = a.1.1.1.1.0 in let vs = shr_vals a.0 in
+    let κ = κs.0 in let q = qs.0 in let rb = a.0.ref_ptr.0 in let ro = a.0.ref_ptr.1 in let h = a.0.now in let base = a.1.0 in let len = a.1.1.0 in let region = a.1.1.1.0 in let deed = a.1.1.1.1.0 in let vs = shr_vals a.0 in
     let y : V.Ghost = ((κs, qs, bounds, a, (vs, (base_vals base, (uint_vals w64 len, (mark ∷ [], (mark ∷ [], tt)))))), tt) in
     let fits = are.1.1.0.1 in let τ : Ty = ty_array (ty_int w8) len in
     qed 𝓛 (((‵ (flft κ q) ⊛ ‵ (flft κs.1.0 qs.1.0) ⊛ ‵ ftrue) ⊛ ‵ ((ShrRef (named 0) κ (Handle Z)).own_val a.0 vs) ⊛ ‵ (B.the_row.own_val base (base_vals base)) ⊛ ‵ (usize.own_val len (uint_vals w64 len))
-    ⊛ ‵ (P.the_row.own_val places (mark ∷ [])) ⊛ ‵ ((Right Z).own_val deed (mark ∷ [])) ⊛ ‵ ftrue)
-    ∷ (raw (fact 𝓤 (κs.1.0 ⊑ W.lives)) ⊛ raw (fact 𝓤 ((places.at ≡ base.ptr) × (length places.slots ≡ len) × (deed.at ≡ base.ptr) × (deed.len ≡ len) × (deed.alloc ≡ h)))) ∷ []) ∵
+    ⊛ ‵ (P.the_row.own_val region (mark ∷ [])) ⊛ ‵ ((Right Z).own_val deed (mark ∷ [])) ⊛ ‵ ftrue)
+    ∷ (raw (fact 𝓤 (κs.1.0 ⊑ W.lives)) ⊛ raw (fact 𝓤 ((region.at ≡ base.ptr) × (length region.slots ≡ len) × (deed.at ≡ base.ptr) × (deed.len ≡ len) × (deed.alloc ≡ h)))) ∷ []) ∵
     move ! (1 ∷ []) $ split ! $ heard ! _ (λ within. heard ! _ (λ asked. split ! $ move ! (1 ∷ []) $ split ! $ move ! (1 ∷ []) $ split ! $ skip ! $ split ! $ skip ! $ split ! $ move ! (1 ∷ []) $ split ! $
     fsplit ! $ move ! (3 ∷ []) $ fsplit ! $ move ! (5 ∷ []) $ fsplit ! $ move ! (7 ∷ []) $ split ! $ keep ! (5 ∷ 7 ∷ 3 ∷ 0 ∷ 1 ∷ []) $
     -- [the places; the right to free them; the handle; the token; the other token]
     enter ! _ _ fn (vptr rb ro ∷ word base.ptr ∷ vint w64 len ∷ mark ∷ mark ∷ []) _ $
     alloc_all ! (λ l. pass_all ! refl ((tt, tt), (word-Good [] base.ptr, ((tt, record { fits = fits }), ((tt, (tt, tt)), ((tt, (tt, tt)), tt))))) $
     let En = env fn.locals l in let bytes : size τ ≡ len = omega arith in
-    rewrite ! 0 (λ (p : Ptr). ‵ (places_own p places.slots)) asked.0 refl $
-    in_a_block ! base.ptr (λ p. places_own p places.slots) (id⊢ 𝓤 (never 𝓤)) (λ b o e. fsplit ! $ flt_l ! (λ small.
+    rewrite ! 0 (λ (p : Ptr). ‵ (region_own p region.slots)) asked.0 refl $
+    in_a_block ! base.ptr (λ p. region_own p region.slots) (id⊢ 𝓤 (never 𝓤)) (λ b o e. fsplit ! $ flt_l ! (λ small.
     rewrite ! 1 (λ (x : W.Denot × Ptr × ℕ). ‵ (deed_owns (token Z x.0) x.1 x.2)) (λ i. (asked.4 i, (asked.2 ∙ e) i, asked.3 i)) refl $
-    use1 𝓛 (‵ (froom (ty_array (ty_int w8) (length places.slots)) b o)) (to_room 𝓛 b places.slots o) $ rewrite ! 0 (λ (k : ℕ). ‵ (froom (ty_array (ty_int w8) k) b o)) asked.1 refl $
+    use1 𝓛 (‵ (froom (ty_array (ty_int w8) (length region.slots)) b o)) (to_room 𝓛 b region.slots o) $ rewrite ! 0 (λ (k : ℕ). ‵ (froom (ty_array (ty_int w8) k) b o)) asked.1 refl $
     take_at ! 2 $ rewrite ! 0 (λ (p : Ptr). ‵ (fat full_share (layout B.the_row) (l 2) 0 (word p))) e refl $ give_at ! 2 $ first ! $ blocks ! $
     let asks = at_gives Z 𝓛 𝓜.mem 𝓡.returns κ q (rb, ro) h b o len 1 τ in
     group ! 4 $ use1 𝓛 (raw ((Gives Z 𝓛 𝓜.mem 𝓡.returns).pre asks)) (Gives-goes Z 𝓛 𝓜.mem 𝓡.returns κ q (rb, ro) h (Incl-trans bounds.0 within) b o len 1 τ (ap capped bytes ∙ capped_is len fits) refl fits (lit< tt)) $

@@ -1,8 +1,8 @@
 use Rattle.std.proofs.Common.{◌≡◌, ap, ◌∙◌}
 use Rattle.std.proofs.lemmas.Result.{IfOk-weaker}
 use Rattle.bs_game.specs.View.{answer_of}
-use Rattle.bs_board.specs.declared.command.Command.TheVariants as command
-use Rattle.bs_game.proofs.Accepting.{moved_is_early, joined_is_legal, joined_is_the_answer}
+use Rattle.bs_board.specs.declared.commands.command.Command.TheVariants as command
+use Rattle.bs_game.proofs.Acceptance.{moved_is_early, joined_is_legal, joined_is_the_answer}
 use Rattle.bs_game.proofs.answering.joined.Goals as goal
 
 pub finish_turn-requires-clause-turn : goal.finish_turn-requires-clause-turn

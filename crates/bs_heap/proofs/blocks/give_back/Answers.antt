@@ -1,8 +1,8 @@
 use Rattle.std.proofs.Common.{◌≡◌, [], ◌∷◌, ◌++◌, List, subst, sym, ap, ◌∙◌}
 use Rattle.bs_pool.specs.declared.owned.Owned.{Owned}
-use Rattle.bs_heap.specs.Holding.{all_given}
+use Rattle.bs_heap.specs.HeldBlocks.{all_given}
 use Rattle.bs_heap.specs.Lent.{AreLent, owned_numbers}
-use Rattle.bs_heap.proofs.Giving.{rest_lent, last_given}
+use Rattle.bs_heap.proofs.GivenBlocks.{rest_lent, last_given}
 use Rattle.bs_heap.proofs.blocks.give_back.Goals as goal
 
 pub loop-owned-preserved : goal.loop-owned-preserved

@@ -1,5 +1,5 @@
 use Rattle.std.proofs.Common.{◌≡◌, vec_capacity}
-use Rattle.bs_heap.specs.Holding.{all_given}
+use Rattle.bs_heap.specs.HeldBlocks.{all_given}
 use Rattle.bs_heap.specs.Lent.{AreLent, owned_numbers}
 use Rattle.bs_heap.proofs.blocks.give_back.Given as goal
 

@@ -1,12 +1,12 @@
-use Rattle.std.proofs.Common.{◌≡◌, ◌++◌, [], drop}
-use Rattle.bs_game.specs.Alone.{game_after}
-use Rattle.bs_host.specs.Reserving.{AreIdle}
+use Rattle.std.proofs.Common.{◌≡◌, ◌++◌, drop}
+use Rattle.bs_game.specs.Alone.{alone}
+use Rattle.bs_host.specs.PlanBlocks.{AreIdle}
 use Rattle.bs_host.specs.Transcript.{sections_in}
 use Rattle.bs_host.proofs.sections.push_sections.Given as goal
 
 -- the game that a row's commands leave
 abbrev pub ghost-push_section : goal.ghost-push_section
-ghost-push_section a = game_after a.row.now.quota [] a.commands.now
+ghost-push_section a = (alone a.row.now a.commands.now).game
 
 -- the sections so far, then those that are left; between two games no tag has a block
 abbrev pub invariant-loop-index : goal.invariant-loop-index

@@ -1,4 +1,4 @@
-use Rattle.bs_host.proofs.Known.{appends_more}
+use Rattle.bs_host.proofs.WrittenBytes.{appends_more}
 use Rattle.bs_host.proofs.writing.write_all_of.Goals as goal
 
 pub writes-preserved : goal.writes-preserved

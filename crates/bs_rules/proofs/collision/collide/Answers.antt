@@ -1,4 +1,4 @@
-use Rattle.bs_rules.proofs.Judged.{collided_is_judged}
+use Rattle.bs_rules.proofs.CollisionMeaning.{collided_is_judged}
 use Rattle.bs_rules.proofs.collision.collide.Goals as goal
 
 pub returns-clause-meaning : goal.returns-clause-meaning

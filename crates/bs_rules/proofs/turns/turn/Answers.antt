@@ -1,5 +1,5 @@
 use Rattle.std.proofs.lemmas.Result.{IfOk-weaker}
-use Rattle.bs_board.specs.Legal.{IsLegal}
+use Rattle.bs_board.specs.boards.Legal.{IsLegal}
 use Rattle.bs_rules.proofs.TurnLegal.{next_is_legal}
 use Rattle.bs_rules.proofs.turns.turn.Goals as goal
 

@@ -1,7 +1,7 @@
 use denote.RattleType.{RattleType}
 use denote.Param.Send.{IsSend, Frees}
 use Rattle.core.specs.declared.alloc.Allocator.{Ghosts}
-use Rattle.bs_block.proofs.Crossing.{Deed-send}
+use Rattle.bs_block.proofs.ThreadSafety.{Deed-send}
 use Rattle.bs_block.specs.contracts.raw.Deed.{the_row}
 
 pub send : (A : RattleType) (g : Ghosts A.Denot) → IsSend A → Frees g g.dealloc_token → IsSend (the_row A g)

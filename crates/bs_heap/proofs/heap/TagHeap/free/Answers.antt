@@ -2,11 +2,11 @@ use Rattle.std.proofs.Common.{sym, ap, ◌∙◌, subst, subst₂, arith}
 use Rattle.bs_pool.specs.Ledger.{Ledger}
 use Rattle.bs_heap.specs.Blocks.{Blocks}
 use Rattle.bs_heap.specs.Heap.{Heap}
-use Rattle.bs_heap.specs.Holding.{Holds, IsKeptIn, LeavesOthers, all_given}
-use Rattle.bs_heap.specs.Layout.{packing_in}
+use Rattle.bs_heap.specs.HeldBlocks.{Holds, IsKeptIn, LeavesOthers, all_given}
+use Rattle.bs_heap.specs.Entries.{packing_in}
 use Rattle.bs_heap.specs.Packing.{numbers_of}
-use Rattle.bs_heap.proofs.Freeing.{owned_all, holds_none, others_of_all}
-use Rattle.bs_heap.proofs.Storing.{numbers_are}
+use Rattle.bs_heap.proofs.FreedBlocks.{owned_all, holds_none, others_of_all}
+use Rattle.bs_heap.proofs.PutRecord.{numbers_are}
 use Rattle.bs_heap.proofs.heap.TagHeap.free.Goals as goal
 
 pub give_all-requires : goal.give_all-requires

@@ -1,0 +1,2 @@
+-- Lemmas on boards.
+pub mod CellsOnBoard

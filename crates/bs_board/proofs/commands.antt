@@ -1,0 +1,3 @@
+-- Lemmas on what commands ask for.
+pub mod Ascending
+pub mod SameValues

@@ -1,0 +1,10 @@
+-- Lemmas on the bytes that a board is kept as.
+pub mod BoardRecord
+pub mod Fields
+pub mod Lengths
+pub mod Parts
+pub mod Repeats
+pub mod Longest
+pub mod SnakeRecord
+pub mod Writable
+pub mod TurnBytes

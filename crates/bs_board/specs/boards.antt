@@ -1,0 +1,5 @@
+-- Cells, boards and their snakes.
+pub mod Cell
+pub mod Legal
+pub mod Lending
+pub mod Over

@@ -1,0 +1,3 @@
+-- What a command asks for.
+pub mod Orders
+pub mod Setup

@@ -1,0 +1,43 @@
+-- What a `move` command asks for, and when it is within its limits.
+use Rattle.std.specs.Prelude.{◌≡◌, ℕ, ◌≤◌, ◌<◌, ◌^◌, Bool, true, ◌&&◌, List, [], ◌∷◌, length, All}
+use Rattle.bs_board.specs.declared.boards.point.Direction.{Direction}
+use Rattle.bs_board.specs.declared.commands.orders.Move.TheInside.{Inside}
+use Rattle.bs_board.specs.declared.limits.TheConstants.{MOST_WORDS}
+use Rattle.bs_board.specs.Distinct.{are_distinct}
+use Rattle.bs_board.specs.Texts.{IdsAreTexts, is_same_text, is_text_below}
+
+pub record Orders : Type 0 where
+  pub moves : List (List ℕ × Direction)
+  pub words : List ℕ
+
+abbrev pub orders_of : List (List ℕ × Direction) → List ℕ → Orders
+orders_of moves words = record { moves = moves; words = words }
+
+abbrev pub orders_in : Inside → Orders
+orders_in m = orders_of m.moves m.words
+
+abbrev pub are_distinct_moves : List (List ℕ × Direction) → Bool
+are_distinct_moves = are_distinct (λ a b. is_same_text a.0 b.0)
+
+-- at most 32 words of 32 bits
+pub record AreFitWords (words : List ℕ) : Type 0 where
+  pub few : length words ≤ MOST_WORDS
+  pub small : All (λ word. word < 2 ^ 32) words
+
+-- within the limits: no id twice
+pub record IsFitOrders (orders : Orders) : Type 0 where
+  pub texts : IdsAreTexts orders.moves
+  pub distinct : are_distinct_moves orders.moves ≡ true
+  pub words : AreFitWords orders.words
+
+-- each id is above the one before it
+abbrev pub is_ascending : List (List ℕ × Direction) → Bool
+is_ascending [] = true
+is_ascending (_ ∷ []) = true
+is_ascending (first ∷ second ∷ rest) = is_text_below first.0 second.0 && is_ascending (second ∷ rest)
+
+-- what the type `Move` keeps: its ids ascend, so none stands twice
+pub record IsAscendingOrders (orders : Orders) : Type 0 where
+  pub texts : IdsAreTexts orders.moves
+  pub ascending : is_ascending orders.moves ≡ true
+  pub words : AreFitWords orders.words

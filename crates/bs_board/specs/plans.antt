@@ -1,0 +1,2 @@
+-- The games of a plan.
+pub mod Plan

@@ -1,0 +1,4 @@
+-- The bytes that a board is kept as.
+pub mod Decoder
+pub mod Record
+pub mod Writing

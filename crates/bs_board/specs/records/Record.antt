@@ -1,0 +1,55 @@
+-- The bytes that a board is kept as.
+use Rattle.std.specs.Prelude.{ℕ, ◌+◌, ◌/◌, ◌%◌, List, [], ◌∷◌, ◌++◌, length, Option, Some, None, unwrap_or, flat_map, pos, ◌+ℤ◌, nat_abs}
+use Rattle.bs_board.specs.declared.boards.point.Point.{Point}
+use Rattle.bs_board.specs.declared.boards.board.Board.{Board}
+use Rattle.bs_board.specs.declared.boards.board.Mode.{Mode}
+use Rattle.bs_board.specs.declared.boards.board.Mode.TheVariants.{Standard, Solo, Constrictor}
+use Rattle.bs_board.specs.declared.boards.snake.Snake.{Snake}
+use Rattle.bs_board.specs.declared.boards.snake.Cause.{Cause}
+use Rattle.bs_board.specs.declared.boards.snake.Cause.TheVariants.{OutOfHealth, WallCollision, SelfCollision, BodyCollision, HeadCollision}
+
+-- the higher byte first
+abbrev pub two_bytes : ℕ → List ℕ
+two_bytes n = n / 256 ∷ n % 256 ∷ []
+
+abbrev pub mode_byte : Mode → ℕ
+mode_byte Standard = 0
+mode_byte Solo = 1
+mode_byte Constrictor = 2
+
+abbrev pub cause_byte : Option Cause → ℕ
+cause_byte None = 0
+cause_byte (Some OutOfHealth) = 1
+cause_byte (Some WallCollision) = 2
+cause_byte (Some SelfCollision) = 3
+cause_byte (Some BodyCollision) = 4
+cause_byte (Some HeadCollision) = 5
+
+-- the seat plus 1
+abbrev pub killer_byte : Option ℕ → ℕ
+killer_byte None = 0
+killer_byte (Some seat) = seat + 1
+
+-- the column and the row, raised by so much: by 1 in a body, since its head may stand one cell beyond an edge
+abbrev pub cell_bytes : ℕ → Point → List ℕ
+cell_bytes raised p = nat_abs (p.x +ℤ pos raised) ∷ nat_abs (p.y +ℤ pos raised) ∷ []
+
+-- what stands between the id and the parts
+abbrev pub state_bytes : Snake → List ℕ
+state_bytes s =
+    (s.health ∷ cause_byte s.cause ∷ killer_byte s.killer ∷ two_bytes (unwrap_or s.out 0)) ++ two_bytes (length s.body)
+
+unfoldable pub snake_record : Snake → List ℕ
+snake_record s = (length s.id ∷ s.id) ++ state_bytes s ++ flat_map (cell_bytes 1) s.body
+
+-- what stands before the cells of the food
+abbrev pub head_bytes : Board → List ℕ
+head_bytes b =
+    (1 ∷ mode_byte b.mode ∷ b.width ∷ b.height ∷ two_bytes b.turn)
+    ++ (b.min_food ∷ b.chance ∷ length b.snakes ∷ two_bytes (length b.food))
+
+unfoldable pub record_of : Board → List ℕ
+record_of b =
+    head_bytes b
+    ++ flat_map (cell_bytes 0) b.food
+    ++ flat_map snake_record b.snakes

@@ -1,0 +1,34 @@
+-- Bytes written over part of a slice, from left to right.
+use Rattle.std.specs.Prelude.{◌≡◌, ℕ, ◌+◌, ◌<◌, ◌≤◌, List, ◌++◌, length, take, All, MatchOption, ℤ, pos, ◌+ℤ◌, ◌≤ℤ◌, ◌<ℤ◌}
+use Rattle.bs_board.specs.declared.boards.board.Board.{Board}
+use Rattle.bs_board.specs.declared.boards.point.Point.{Point}
+use Rattle.bs_board.specs.declared.boards.snake.Snake.{Snake}
+
+-- behind what stands before the place come the bytes, up to the next place
+pub record Puts (at : ℕ) (bytes old new : List ℕ) (next : ℕ) : Type 0 where
+  pub place : next ≡ at + length bytes
+  pub front : take next new ≡ take at old ++ bytes
+  pub room : length new ≡ length old
+
+-- a column or a row that is raised to a byte
+abbrev pub IsByte : ℤ → Type 0
+IsByte z = (pos 0 ≤ℤ z) × (z <ℤ pos 256)
+
+pub record IsByteCell (raised : ℕ) (p : Point) : Type 0 where
+  pub x : IsByte (p.x +ℤ pos raised)
+  pub y : IsByte (p.y +ℤ pos raised)
+
+-- a snake whose numbers have the room that a record gives them; a turn of 0 would be read as none
+pub record IsWritable (s : Snake) : Type 0 where
+  pub id : length s.id < 256
+  pub killer : MatchOption s.killer (Unit {0}) (λ seat. seat + 1 < 256)
+  pub out : MatchOption s.out (Unit {0}) (λ turn. 1 ≤ turn)
+  pub parts : length s.body < 65536
+  pub cells : All (IsByteCell 1) s.body
+
+-- a board with such snakes, whose other numbers have their room too
+pub record IsWritableBoard (b : Board) : Type 0 where
+  pub few : length b.snakes < 256
+  pub food : length b.food < 65536
+  pub cells : All (IsByteCell 0) b.food
+  pub snakes : All IsWritable b.snakes

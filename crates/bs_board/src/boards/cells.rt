@@ -1,0 +1,80 @@
+//! Lists of cells.
+
+use crate::boards::point::Point;
+use std::alloc::{AllocError, Global};
+use std::marker::Model;
+
+/// A list of cells: the body of a snake, its head first, or the food on a board, the oldest first.
+#[derive(Debug, Drop)]
+pub struct Cells {
+    points: Vec<Point>,
+}
+
+impl Model for Cells {
+    ghost use Rattle.std.specs.Prelude.{List};
+    ghost use Rattle.bs_board.specs.declared.boards.point.Point.{Point};
+
+    ghost Value = { List Point };
+
+    ghost view = { λ c. c.points.items };
+}
+
+impl Cells {
+    ghost use Rattle.std.specs.Prelude.{◌≡◌, ◌++◌, ◌∷◌, [], IfOk, OnOk, OnErr, length};
+
+    /// No cells.
+    pub fn new(alloc: Global) -> Cells
+        ensures { result ≡ [] }
+    {
+        Cells {
+            points: Vec::new(alloc),
+        }
+    }
+
+    /// The list of these entries, in their order.
+    pub fn from_vec(points: Vec<Point>) -> Cells
+        ensures { result ≡ points.items }
+    {
+        Cells { points }
+    }
+
+    /// The entries as a vector.
+    pub fn into_vec(self) -> Vec<Point>
+        ensures { result.items ≡ self }
+    {
+        let Cells { points } = self;
+        points
+    }
+
+    /// The entries, in their order.
+    pub fn as_slice(&self) -> &[Point]
+        ensures { result.now ≡ self.now }
+    {
+        self.points.as_slice()
+    }
+
+    /// The number of entries.
+    pub fn len(&self) -> usize
+        ensures { result ≡ length self.now }
+    {
+        self.points.len()
+    }
+
+    /// Adds a cell at the end: a body grows at its tail, new food comes last.
+    pub fn push(&mut self, cell: Point) -> Result<(), AllocError>
+        ensures ok { OnOk result (self.new ≡ self.old ++ cell ∷ []) }
+        ensures err { OnErr result (self.new ≡ self.old) }
+    {
+        self.points.push(cell)?;
+        Ok(())
+    }
+
+    /// The same value in memory of its own.
+    pub fn copy(&self, alloc: Global) -> Result<Cells, AllocError>
+        ensures { IfOk result (λ cells. cells ≡ self.now) }
+    {
+        Ok(Cells {
+            points: Vec::from_slice(alloc, self.as_slice())?,
+        })
+    }
+}

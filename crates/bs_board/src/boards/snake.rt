@@ -1,0 +1,55 @@
+//! One snake, and why it is out.
+
+ghost use Rattle.std.specs.Prelude.{◌≡◌, IfOk, IsTrue, is_none};
+
+use crate::boards::cells::Cells;
+use crate::id::Id;
+use std::alloc::{AllocError, Global};
+
+/// Why a snake is out.
+#[derive(Clone, Copy, Debug, PartialEq, Eq)]
+pub enum Cause {
+    OutOfHealth,
+    WallCollision,
+    SelfCollision,
+    BodyCollision,
+    HeadCollision,
+}
+
+/// One snake. It lives as long as it has no cause; once it is out it keeps its last body and health.
+#[derive(Debug, Drop)]
+pub struct Snake {
+    pub id: Id,
+    /// The parts, the head first.
+    pub body: Cells,
+    /// 0 to 100.
+    pub health: u8,
+    pub cause: Option<Cause>,
+    /// The seat of the snake that it ran into, from 0.
+    pub killer: Option<usize>,
+    /// The turn in which it was eliminated.
+    pub out: Option<u16>,
+}
+
+impl Snake {
+    /// Whether it is not out.
+    pub fn is_living(&self) -> bool
+        ensures { result ≡ is_none self.now.cause }
+    {
+        self.cause.is_none()
+    }
+
+    /// The same value in memory of its own.
+    pub fn copy(&self, alloc: Global) -> Result<Snake, AllocError>
+        ensures { IfOk result (λ snake. snake ≡ self.now) }
+    {
+        Ok(Snake {
+            id: self.id.copy(alloc)?,
+            body: self.body.copy(alloc)?,
+            health: self.health,
+            cause: self.cause,
+            killer: self.killer,
+            out: self.out,
+        })
+    }
+}

@@ -1,0 +1,10 @@
+//! Commands, what they ask for, and replies.
+
+pub mod command;
+pub mod equality;
+pub mod moves;
+pub mod orders;
+pub mod reply;
+pub mod setup;
+pub mod starts;
+pub mod words;

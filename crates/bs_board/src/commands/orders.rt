@@ -1,0 +1,75 @@
+//! What a `move` command asks for.
+
+ghost use Rattle.std.specs.Prelude.{◌≡◌};
+ghost use Rattle.bs_board.specs.commands.Orders.{is_ascending};
+
+use crate::boards::point::Direction;
+use crate::commands::moves::Moves;
+use crate::commands::words::Words;
+use crate::id::Id;
+use crate::limits::MOST_WORDS;
+use std::alloc::{AllocError, Global};
+use std::marker::Model;
+
+/// What a `move` command asks for. A value of this type names no snake twice and brings at most 32 words.
+#[derive(Debug, Drop)]
+pub struct Move {
+    pub moves: Moves,
+    pub words: Words,
+}
+
+impl Model for Move {
+    ghost use Rattle.bs_board.specs.commands.Orders.{Orders, orders_in, IsAscendingOrders};
+
+    ghost Value = { Orders };
+
+    ghost view = { orders_in };
+
+    ghost invariant = { λ m. IsAscendingOrders (orders_in m) };
+}
+
+/// Whether each id is above the one before it, by their bytes. Then none stands twice.
+#[tactic(auto, using(crate::proofs::commands::Ascending::ascending_at_end))]
+pub fn is_ascending(moves: &[(Id, Direction)]) -> bool
+    ensures { result ≡ is_ascending moves.now }
+{
+    for index in 1..moves.len() {
+        if !moves[index - 1].0.is_below(&moves[index].0) {
+            return false;
+        }
+    }
+    true
+}
+
+impl Move {
+    ghost use Rattle.std.specs.Prelude.{true, ◌≤◌, length, IfOk};
+    ghost use Rattle.bs_board.specs.commands.Orders.{Orders, orders_of, IsFitOrders};
+
+    /// A move with these directions and words.
+    pub fn new(moves: Moves, words: Words) -> Move
+        requires ascending { is_ascending moves ≡ true }
+        requires few { length words ≤ MOST_WORDS }
+        ensures { result ≡ orders_of moves words }
+    {
+        let (_moves, _words) = (moves.as_slice(), words.as_slice());
+        Move { moves, words }
+    }
+
+    /// That any value is within the limits. It does nothing.
+    #[tactic(auto, using(crate::proofs::commands::Ascending::ascending_orders_fit))]
+    pub fn fits(&self)
+        ensures { IsFitOrders self.now }
+    {
+        let _moves = &self.moves;
+    }
+
+    /// The same value in memory of its own.
+    pub fn copy(&self, alloc: Global) -> Result<Move, AllocError>
+        ensures { IfOk result (λ order. order ≡ self.now) }
+    {
+        Ok(Move {
+            moves: self.moves.copy(alloc)?,
+            words: self.words.copy(alloc)?,
+        })
+    }
+}

@@ -1,0 +1,51 @@
+//! Replies to commands.
+
+ghost use Rattle.std.specs.Prelude.{◌≡◌, IfOk};
+
+use crate::boards::board::Board;
+use crate::commands::command::Word;
+use std::alloc::{AllocError, Global};
+
+/// Why a command was refused, in the order in which the reasons are judged.
+#[derive(Clone, Copy, Debug, PartialEq, Eq)]
+pub enum Refusal {
+    /// G1: no command that can be carried out.
+    Unknown,
+    /// G2: no game runs.
+    NoGame,
+    /// G3: a game runs already.
+    Running,
+    /// G4: the game is over.
+    Over,
+    /// G5: the last turn number is reached.
+    Limit,
+    /// G6: no record of that turn is kept.
+    NoRecord,
+    /// G7: the new record would exceed the quota.
+    Quota,
+}
+
+/// What a command is answered. The number is the charge of the game after the command, in bytes.
+#[derive(Debug, Drop)]
+pub enum Reply {
+    Shown(Word, Board, u32),
+    Plain(Word, u32),
+    Refused(Refusal),
+}
+
+impl Reply {
+    /// The same value in memory of its own.
+    pub fn copy(&self, alloc: Global) -> Result<Reply, AllocError>
+        ensures { IfOk result (λ reply. reply ≡ self.now) }
+    {
+        match self {
+            Reply::Shown(word, board, charge) => Ok(Reply::Shown(
+                *word,
+                board.copy(alloc)?,
+                *charge,
+            )),
+            Reply::Plain(word, charge) => Ok(Reply::Plain(*word, *charge)),
+            Reply::Refused(refusal) => Ok(Reply::Refused(*refusal)),
+        }
+    }
+}

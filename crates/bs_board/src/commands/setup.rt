@@ -1,0 +1,93 @@
+//! What a `new` command asks for.
+
+ghost use Rattle.std.specs.Prelude.{◌≡◌};
+
+use crate::boards::area::{is_fit_food, is_side};
+use crate::boards::board::Mode;
+use crate::boards::cells::Cells;
+use crate::commands::starts::{Starts, are_fit_starts};
+use crate::limits::MOST_CHANCE;
+use std::alloc::{AllocError, Global};
+use std::marker::Model;
+
+/// What a `new` command asks for: the board of turn 0. A value of this type is within the limits of a game.
+#[derive(Debug, Drop)]
+pub struct New {
+    pub mode: Mode,
+    /// Columns, 3 to 25.
+    pub width: u8,
+    /// Rows, 3 to 25.
+    pub height: u8,
+    /// 1 to 8 snakes on the board, with ids of 1 to 64 bytes; no id and no cell twice.
+    pub snakes: Starts,
+    /// Cells of the board, none twice.
+    pub food: Cells,
+    pub min_food: u8,
+    /// 0 to 100, in percent.
+    pub chance: u8,
+}
+
+impl Model for New {
+    ghost use Rattle.std.specs.Prelude.{◌≡◌, true};
+    ghost use Rattle.bs_board.specs.commands.Setup.{Setup, is_fit_setup, setup_in};
+
+    ghost Value = { Setup };
+
+    ghost view = { setup_in };
+
+    ghost invariant = { λ n. is_fit_setup (setup_in n) ≡ true };
+}
+
+impl New {
+    ghost use Rattle.std.specs.Prelude.{◌≡◌, true, Some, None, if◌then◌else◌, IfOk};
+    ghost use Rattle.bs_board.specs.commands.Setup.{Setup, is_fit_setup, setup_of};
+
+    /// None exactly where a limit of a game is passed.
+    #[tactic(auto, unfolding(crate::specs::commands::Setup::is_fit_setup))]
+    pub fn new(
+        mode: Mode,
+        width: u8,
+        height: u8,
+        snakes: Starts,
+        food: Cells,
+        min_food: u8,
+        chance: u8,
+    ) -> Option<New>
+        ensures { let setup = setup_of mode width height snakes food min_food chance
+            in result ≡ (if is_fit_setup setup then Some setup else None) }
+    {
+        let fits = is_side(width)
+            && is_side(height)
+            && chance <= MOST_CHANCE
+            && are_fit_starts(width, height, snakes.as_slice())
+            && is_fit_food(width, height, food.as_slice());
+        if fits {
+            Some(New {
+                mode,
+                width,
+                height,
+                snakes,
+                food,
+                min_food,
+                chance,
+            })
+        } else {
+            None
+        }
+    }
+
+    /// The same value in memory of its own.
+    pub fn copy(&self, alloc: Global) -> Result<New, AllocError>
+        ensures { IfOk result (λ new. new ≡ self.now) }
+    {
+        Ok(New {
+            mode: self.mode,
+            width: self.width,
+            height: self.height,
+            snakes: self.snakes.copy(alloc)?,
+            food: self.food.copy(alloc)?,
+            min_food: self.min_food,
+            chance: self.chance,
+        })
+    }
+}

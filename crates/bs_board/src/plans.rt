@@ -1,0 +1,4 @@
+//! Plans: the games of a command file.
+
+pub mod plan;
+pub mod row;

@@ -1,0 +1,7 @@
+//! Records: the bytes that a board is kept as.
+
+pub mod decode_error;
+pub mod decoding;
+pub mod encoding;
+pub mod sizes;
+pub mod turn;

@@ -1,0 +1,61 @@
+-- When an input is such as a game hands out.
+use Rattle.std.specs.Prelude.{◌≡◌, ℕ, ◌<◌, ◌≤◌, true, List, [], length, Option, Some, None, slice_get, IfSome}
+use Rattle.bs_board.specs.declared.boards.board.Board.{Board}
+use Rattle.bs_board.specs.declared.commands.command.Command.{Command}
+use Rattle.bs_board.specs.declared.commands.command.Command.TheVariants as command
+use Rattle.bs_board.specs.declared.boards.snake.Snake.{Snake}
+use Rattle.bs_board.specs.boards.Legal.{IsLegal}
+use Rattle.bs_board.specs.records.Record.{record_of}
+use Rattle.bs_game.specs.declared.view.View.{View}
+use Rattle.bs_fiber.specs.declared.input.Input.{Input}
+use Rattle.bs_fiber.specs.declared.job.JobKind.{JobKind}
+use Rattle.bs_fiber.specs.declared.job.JobKind.TheVariants.{Begin, Part, Join}
+use Rattle.bs_fiber.specs.Seeing.{IsSeen}
+use Rattle.bs_fiber.specs.Work.{goes, parts_of, snakes_in, moved_part}
+
+pub record IsLegalRecord (bytes : List ℕ) : Type 0 where
+  pub board : Board
+  pub legal : IsLegal board
+  pub is : bytes ≡ record_of board
+
+-- a record is asked for by `turn` alone
+abbrev pub IsAskedBy : Command → Option (List ℕ) → Type 0
+IsAskedBy (command.New setup) asked = asked ≡ None
+IsAskedBy (command.Move orders) asked = asked ≡ None
+IsAskedBy command.Show asked = asked ≡ None
+IsAskedBy (command.Turn at) asked = Unit {0}
+IsAskedBy command.Free asked = asked ≡ None
+IsAskedBy command.End asked = asked ≡ None
+IsAskedBy command.Bad asked = asked ≡ None
+
+-- the records of legal boards, and a charge within its quota; no quota is above 16,777,216
+pub record IsFitGame (i : Input) : Type 0 where
+  pub last : IfSome i.last IsLegalRecord
+  pub asked : IfSome i.asked IsLegalRecord
+  pub asked_by : IsAskedBy i.command i.asked
+  pub within : i.charge ≤ i.quota
+  pub small : i.quota ≤ 16777216
+
+-- a part of a move that goes
+pub record IsFitPart (part : ℕ) (view : View) (command : Command) : Type 0 where
+  pub goes : goes view command ≡ true
+  pub there : part < parts_of (length (snakes_in view.last))
+
+-- what each part of the move comes to
+pub record AreMovedParts (view : View) (command : Command) (parts : List (List Snake)) : Type 0 where
+  pub all : length parts ≡ parts_of (length (snakes_in view.last))
+  pub each : (part : ℕ) → part < length parts → slice_get parts part ≡ Some (moved_part part view command)
+
+pub record IsFitJoin (parts : List (List Snake)) (view : View) (command : Command) : Type 0 where
+  pub goes : goes view command ≡ true
+  pub moved : AreMovedParts view command parts
+
+-- a Begin needs nothing of a view
+abbrev pub IsFitJob : JobKind → Input → View → Type 0
+IsFitJob Begin i view = i.parts ≡ []
+IsFitJob Part i view = (i.parts ≡ []) × IsFitPart i.job.part view i.command
+IsFitJob Join i view = IsFitJoin i.parts view i.command
+
+pub record IsFitInput (i : Input) : Type 0 where
+  pub game : IsFitGame i
+  pub job : (view : View) → IsSeen view i → IsFitJob i.job.kind i view

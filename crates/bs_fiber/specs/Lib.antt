@@ -1,0 +1,4 @@
+pub mod Expected
+pub mod Fit
+pub mod Seeing
+pub mod Work

@@ -1,0 +1,53 @@
+-- What each job comes to.
+use Rattle.std.specs.Prelude.{◌≡◌, ℕ, ◌+◌, ◌*◌, ◌/◌, Bool, ◌&&◌, List, [], length, take, drop, map, Option, Some, None, is_none, if◌then◌else◌}
+use Rattle.bs_board.specs.declared.boards.board.Board.{Board}
+use Rattle.bs_board.specs.declared.commands.command.Command.{Command}
+use Rattle.bs_board.specs.declared.commands.command.Command.TheVariants as command
+use Rattle.bs_board.specs.declared.boards.point.Direction.{Direction}
+use Rattle.bs_board.specs.declared.boards.snake.Snake.{Snake}
+use Rattle.bs_rules.specs.Motion.{moved, given_to}
+use Rattle.bs_game.specs.declared.view.View.{View}
+use Rattle.bs_game.specs.Reasons.{is_move, first_reason}
+use Rattle.bs_game.specs.View.{answer_of}
+use Rattle.bs_fiber.specs.declared.input.Input.{Input}
+use Rattle.bs_fiber.specs.declared.job.JobKind.{JobKind}
+use Rattle.bs_fiber.specs.declared.job.JobKind.TheVariants.{Begin, Part, Join}
+use Rattle.bs_fiber.specs.declared.out.Out.{Out}
+use Rattle.bs_fiber.specs.declared.out.Out.TheVariants.{Goes, Answered, Moved, Joined}
+use Rattle.bs_fiber.specs.Seeing.{IsSeen}
+
+-- a move that no reason speaks against before there is a new board
+abbrev pub goes : View → Command → Bool
+goes view command = is_move command && is_none (first_reason view command)
+
+abbrev pub begun : View → Command → Out
+begun view command = if goes view command then Goes else Answered (answer_of view command)
+
+-- two seats a part; where the number of seats is odd the last part has one
+abbrev pub parts_of : ℕ → ℕ
+parts_of seats = (seats + 1) / 2
+
+abbrev pub seats_of : ℕ → List Snake → List Snake
+seats_of part snakes = take 2 (drop (2 * part) snakes)
+
+abbrev pub snakes_in : Option Board → List Snake
+snakes_in None = []
+snakes_in (Some board) = board.snakes
+
+-- the directions that a move gives by ids
+abbrev pub moves_in : Command → List (List ℕ × Direction)
+moves_in (command.Move orders) = orders.moves
+moves_in _ = []
+
+-- the snakes of the part one step on
+abbrev pub moved_part : ℕ → View → Command → List Snake
+moved_part part view command = map (λ s. moved (given_to (moves_in command) s.id) s) (seats_of part (snakes_in view.last))
+
+abbrev pub out_seen : JobKind → ℕ → View → Command → Out
+out_seen Begin part view command = begun view command
+out_seen Part part view command = Moved (moved_part part view command)
+out_seen Join part view command = Joined (answer_of view command)
+
+-- what the job comes to from all that it sees, which is one view alone
+abbrev pub IsWorked : Input → Out → Type 0
+IsWorked input out = (view : View) → IsSeen view input → out ≡ out_seen input.job.kind input.job.part view input.command

@@ -1,0 +1,22 @@
+//! The jobs' names.
+/// What a job does for the command that its game is at.
+#[derive(Clone, Copy, Debug, PartialEq, Eq)]
+pub enum JobKind {
+    /// Judges the command, and answers it unless it is a move that nothing speaks against.
+    Begin,
+    /// Moves the snakes of two seats.
+    Part,
+    /// Answers the move, once all parts are done.
+    Join,
+}
+
+/// A job of one game.
+#[derive(Clone, Copy, Debug, PartialEq, Eq)]
+pub struct JobName {
+    /// What it does.
+    pub kind: JobKind,
+    /// The game's row in the plan, from 0.
+    pub game: usize,
+    /// Part `p` moves the seats `2p` and `2p + 1`. 0 in a job that is no part.
+    pub part: usize,
+}

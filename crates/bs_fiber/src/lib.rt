@@ -1,0 +1,27 @@
+//! The jobs that a command is carried out by, and what each of them comes to: the one that begins it, for a move the
+//! parts that move the snakes, and the one that joins them. A job reads its ticket alone.
+#![tactic(auto)]
+
+mod beginning;
+mod done;
+mod expected;
+mod input;
+mod job;
+mod joining;
+mod moving;
+mod out;
+mod parts;
+mod stopped;
+#[cfg(test)]
+mod tests;
+mod ticket;
+mod viewing;
+
+pub use done::{Done, work};
+pub use expected::Expected;
+pub use input::Input;
+pub use job::{JobKind, JobName};
+pub use out::Out;
+pub use parts::Parts;
+pub use stopped::Stopped;
+pub use ticket::Ticket;

@@ -1,0 +1,36 @@
+//! What the parts of a move hand to its Join.
+use bs_board::Snakes;
+use std::marker::Model;
+
+/// The moved snakes of each part, from part 0.
+#[derive(Debug, Drop)]
+pub struct Parts {
+    parts: Vec<Snakes>,
+}
+
+impl Model for Parts {
+    ghost use Rattle.std.specs.Prelude.{List};
+    ghost use Rattle.bs_board.specs.declared.boards.snake.Snake.{Snake};
+
+    ghost Value = { List (List Snake) };
+
+    ghost view = { λ p. p.parts.items };
+}
+
+impl Parts {
+    ghost use Rattle.std.specs.Prelude.{◌≡◌};
+
+    /// The list with those parts.
+    pub fn from_vec(parts: Vec<Snakes>) -> Parts
+        ensures { result ≡ parts.items }
+    {
+        Parts { parts }
+    }
+
+    /// The parts in their order.
+    pub fn as_slice(&self) -> &[Snakes]
+        ensures { result.now ≡ self.now }
+    {
+        self.parts.as_slice()
+    }
+}

@@ -1,0 +1,307 @@
+//! The jobs of one move of three snakes, with the boards that the rules give.
+ghost use Rattle.std.specs.Prelude.{◌≡◌, ◌<◌, true, [], Some, None, IfOk, length};
+ghost use Rattle.bs_board.specs.boards.Legal.{IsLegal};
+ghost use Rattle.bs_board.specs.records.Record.{record_of};
+ghost use Rattle.bs_board.specs.declared.commands.command.Command.TheVariants as command;
+ghost use Rattle.bs_fiber.specs.Work.{goes, moved_part, parts_of};
+
+use crate::beginning::goes;
+use crate::{Done, Expected, Input, JobKind, JobName, Out, Parts, Ticket, work};
+use bs_board::{
+    Board, Cells, Command, Direction, Id, Mode, Move, Moves, Point, Reply, Snake, Snakes, Word,
+    Words, encode, is_legal,
+};
+use bs_game::{Answer, Effect, Record, View};
+use std::alloc::{AllocError, Global};
+use std::process::Abort;
+use std::test::Fail;
+
+type Cell = (i16, i16);
+
+fn cells(alloc: Global, parts: &[Cell]) -> Result<Cells, AllocError> {
+    let mut cells = Cells::new(alloc);
+    for &(x, y) in parts {
+        cells.push(Point { x, y })?;
+    }
+    Ok(cells)
+}
+
+fn snake(alloc: Global, id: &str, health: u8, parts: &[Cell]) -> Result<Snake, AllocError> {
+    Ok(Snake {
+        id: Id::from_str(alloc, id)?,
+        body: cells(alloc, parts)?,
+        health,
+        cause: None,
+        killer: None,
+        out: None,
+    })
+}
+
+fn board(alloc: Global, turn: u16, food: &[Cell], snakes: Snakes) -> Result<Board, AllocError> {
+    Ok(Board {
+        mode: Mode::Standard,
+        width: 7,
+        height: 7,
+        turn,
+        min_food: 0,
+        chance: 0,
+        food: cells(alloc, food)?,
+        snakes,
+    })
+}
+
+// Three snakes, the first of them below the only food.
+fn before(alloc: Global) -> Result<Board, AllocError> {
+    let s = snake(alloc, "s", 100, &[(1, 1), (1, 1), (1, 1)])?;
+    let t = snake(alloc, "t", 100, &[(5, 1), (5, 1), (5, 1)])?;
+    let u = snake(alloc, "u", 100, &[(3, 5), (3, 5), (3, 5)])?;
+    board(
+        alloc,
+        0,
+        &[(1, 2)],
+        Snakes::from_vec(vec![in alloc; s, t, u]?),
+    )
+}
+
+// The same board after a move that turns the third snake down.
+fn after(alloc: Global) -> Result<Board, AllocError> {
+    let s = snake(alloc, "s", 100, &[(1, 2), (1, 1), (1, 1), (1, 1)])?;
+    let t = snake(alloc, "t", 99, &[(5, 2), (5, 1), (5, 1)])?;
+    let u = snake(alloc, "u", 99, &[(3, 4), (3, 5), (3, 5)])?;
+    board(alloc, 1, &[], Snakes::from_vec(vec![in alloc; s, t, u]?))
+}
+
+fn third_goes_down(alloc: Global) -> Result<Move, AllocError> {
+    let down = (Id::from_str(alloc, "u")?, Direction::Down);
+    Ok(Move::new(
+        Moves::from_vec(vec![in alloc; down]?),
+        Words::from_vec(Vec::new(alloc)),
+    ))
+}
+
+fn input(
+    alloc: Global,
+    last: &Board,
+    command: Command,
+    job: JobName,
+    parts: Parts,
+) -> Result<Input, AllocError>
+    requires { IsLegal last.now }
+    ensures { IfOk result (λ input. input ≡ record { job = job; worker = 1; seq = 2; quota = 4096; charge = 64; kept = 1; last = Some (record_of last.now); asked = None; command = command; parts = parts }) }
+{
+    Ok(Input {
+        job,
+        worker: 1,
+        seq: 2,
+        quota: 4096,
+        charge: 64,
+        kept: 1,
+        last: Some(Record::from_vec(encode(alloc, last)?)),
+        asked: None,
+        command,
+        parts,
+    })
+}
+
+fn job(kind: JobKind, part: usize) -> JobName
+    ensures { result ≡ record { kind = kind; game = 1; part = part } }
+{
+    JobName {
+        kind,
+        game: 1,
+        part,
+    }
+}
+
+fn no_parts(alloc: Global) -> Parts
+    ensures { result ≡ [] }
+{
+    Parts::from_vec(Vec::new(alloc))
+}
+
+#[test]
+fn begin_lets_the_move_go(rt: HostRuntime) -> Result<(), Fail> {
+    let alloc = rt.alloc();
+    let last = before(alloc)?;
+    assert!(rt; is_legal(&last));
+    let command = Command::Move(third_goes_down(alloc)?);
+    let begin = job(JobKind::Begin, 0);
+    let input = input(alloc, &last, command, begin, no_parts(alloc))?;
+    let done = work(alloc, Ticket::new(input))?;
+    assert!(rt; matches!(done.out(), Out::Goes));
+    let ticket = done.ticket();
+    assert_eq!(rt; ticket.job(), begin);
+    assert_eq!(rt; ticket.worker(), 1);
+    assert_eq!(rt; ticket.seq(), 2);
+    assert_eq!(rt; ticket.quota(), 4096);
+    assert_eq!(rt; ticket.charge(), 64);
+    assert_eq!(rt; ticket.kept(), 1);
+    assert!(rt; ticket.last().is_some() && ticket.asked().is_none());
+    assert!(rt; matches!(ticket.command(), Command::Move(_)));
+    let command = Command::Move(third_goes_down(alloc)?);
+    let record = encode(alloc, &last)?;
+    let mut expected = Expected {
+        job: begin,
+        worker: 1,
+        seq: 2,
+        quota: 4096,
+        charge: 64,
+        kept: 1,
+        last: Some(record.as_slice()),
+        asked: None,
+        command: &command,
+    };
+    assert!(rt; ticket.is_of(&expected));
+    expected.command = &Command::Show;
+    assert!(rt; !ticket.is_of(&expected));
+    Ok(())
+}
+
+#[test]
+fn begin_answers_show(rt: HostRuntime) -> Result<(), Fail> {
+    let alloc = rt.alloc();
+    let last = before(alloc)?;
+    assert!(rt; is_legal(&last));
+    let begin = job(JobKind::Begin, 0);
+    let input = input(alloc, &last, Command::Show, begin, no_parts(alloc))?;
+    let (_, out) = work(alloc, Ticket::new(input))?.into_parts();
+    let Out::Answered(
+        Answer {
+            reply: Reply::Shown(Word::Show, shown, 64),
+            effect: Effect::Keep,
+        },
+    ) = &out
+    else {
+        return Err(Fail::from("not shown"));
+    };
+    assert_eq!(rt; shown.turn, 0);
+    assert_eq!(rt; shown.snakes.len(), 3);
+    Ok(())
+}
+
+// What a job on the board sees.
+fn view_on(alloc: Global, last: &Board) -> Result<View, AllocError>
+    ensures { IfOk result (λ view. view ≡ record { quota = 4096; charge = 64; kept = 1; last = Some last.now; asked = None }) }
+{
+    Ok(View {
+        quota: 4096,
+        charge: 64,
+        kept: 1,
+        last: Some(last.copy(alloc)?),
+        asked: None,
+    })
+}
+
+fn assert_goes(rt: &impl Abort, view: &View, command: &Command)
+    ensures { goes view.now command.now ≡ true }
+{
+    assert!(rt; goes(view, command));
+}
+
+fn assert_part(rt: &impl Abort, last: &Board, part: usize)
+    ensures { part < parts_of (length last.now.snakes) }
+{
+    assert!(rt; last.snakes.len() == 3 && part < 2);
+}
+
+// What a part of the move moves.
+fn part_moved(
+    rt: &impl Abort,
+    alloc: Global,
+    view: &View,
+    last: &Board,
+    orders: &Move,
+    part: usize,
+) -> Result<Snakes, Fail>
+    requires legal { IsLegal last.now }
+    requires view { view.now ≡ record { quota = 4096; charge = 64; kept = 1; last = Some last.now; asked = None } }
+    ensures { IfOk result (λ moved. moved ≡ moved_part part view.now (command.Move orders.now)) }
+{
+    let command = Command::Move(orders.copy(alloc)?);
+    assert_goes(rt, view, &command);
+    assert_part(rt, last, part);
+    let input = input(
+        alloc,
+        last,
+        command,
+        job(JobKind::Part, part),
+        no_parts(alloc),
+    )?;
+    let (_, out) = work(alloc, Ticket::new(input))?.into_parts();
+    match out {
+        Out::Moved(moved) => Ok(moved),
+        Out::Goes => Err(Fail::from("no part")),
+        Out::Answered(_) => Err(Fail::from("no part")),
+        Out::Joined(_) => Err(Fail::from("no part")),
+    }
+}
+
+// The Join of both parts.
+fn join_done(
+    rt: &impl Abort,
+    alloc: Global,
+    view: &View,
+    last: &Board,
+    orders: &Move,
+    moved: (Snakes, Snakes),
+) -> Result<Done, Fail>
+    requires legal { IsLegal last.now }
+    requires three { length last.now.snakes ≡ 3 }
+    requires view { view.now ≡ record { quota = 4096; charge = 64; kept = 1; last = Some last.now; asked = None } }
+    requires first { moved.0 ≡ moved_part 0 view.now (command.Move orders.now) }
+    requires second { moved.1 ≡ moved_part 1 view.now (command.Move orders.now) }
+{
+    let command = Command::Move(orders.copy(alloc)?);
+    assert_goes(rt, view, &command);
+    let parts = Parts::from_vec(vec![in alloc; moved.0, moved.1]?);
+    let input = input(alloc, last, command, job(JobKind::Join, 0), parts)?;
+    let done = work(alloc, Ticket::new(input))?;
+    Ok(done)
+}
+
+fn assert_snake(rt: &impl Abort, snake: &Snake, health: u8, head: Point, len: usize) {
+    assert_eq!(rt; snake.health, health);
+    assert_eq!(rt; snake.body.len(), len);
+    assert_eq!(rt; snake.body.as_slice().first().copied(), Some(head));
+}
+
+// The answer shows the board after the move, and adds its record.
+fn assert_joined(rt: &impl Abort, alloc: Global, out: &Out) -> Result<(), Fail> {
+    let next = after(alloc)?;
+    assert!(rt; is_legal(&next));
+    let Out::Joined(
+        Answer {
+            reply: Reply::Shown(Word::Move, shown, 128),
+            effect: Effect::Add(record),
+        },
+    ) = out
+    else {
+        return Err(Fail::from("not joined"));
+    };
+    assert_eq!(rt; shown.turn, 1);
+    assert_eq!(rt; record.as_slice(), encode(alloc, &next)?.as_slice());
+    Ok(())
+}
+
+#[test]
+fn two_parts_are_joined(rt: HostRuntime) -> Result<(), Fail> {
+    let alloc = rt.alloc();
+    let last = before(alloc)?;
+    assert!(rt; is_legal(&last));
+    assert_eq!(rt; last.snakes.len(), 3);
+    let view = view_on(alloc, &last)?;
+    let orders = third_goes_down(alloc)?;
+    let first = part_moved(&rt, alloc, &view, &last, &orders, 0)?;
+    let second = part_moved(&rt, alloc, &view, &last, &orders, 1)?;
+    match (first.as_slice(), second.as_slice()) {
+        ([s, t], [u]) => {
+            assert_snake(&rt, s, 99, Point { x: 1, y: 2 }, 3);
+            assert_snake(&rt, t, 99, Point { x: 5, y: 2 }, 3);
+            assert_snake(&rt, u, 99, Point { x: 3, y: 4 }, 3);
+        }
+        _ => assert!(rt; false, "not two snakes and one"),
+    }
+    let done = join_done(&rt, alloc, &view, &last, &orders, (first, second))?;
+    assert_eq!(rt; done.ticket().parts().len(), 2);
+    assert_joined(&rt, alloc, done.out())
+}

@@ -1,0 +1,74 @@
+-- Where each line of a command file goes: to a game of the plan, to the strays, or nowhere.
+use Rattle.std.specs.Prelude.{ℕ, ◌+◌, ◌<◌, List, Option, Some, None, map, nat_eq, option_map, if◌then◌else◌}
+use Rattle.std.specs.List.{enumerate_from, filter_map, position}
+use Rattle.bs_board.specs.declared.commands.command.Command.{Command}
+use Rattle.bs_board.specs.declared.commands.command.Command.TheVariants as command
+use Rattle.bs_board.specs.plans.Plan.{GameRow}
+use Rattle.bs_board.specs.Texts.{is_same_text}
+use Rattle.bs_json.specs.declared.line.Line.{Line}
+use Rattle.bs_json.specs.declared.line.Line.TheVariants as line
+use Rattle.bs_json.specs.declared.line.Stray.{Stray}
+use Rattle.bs_json.specs.declared.line.Stray.TheVariants as stray
+use Rattle.bs_json.specs.Line.{line_of}
+use Rattle.bs_host.specs.declared.routing.Route.{Route}
+use Rattle.bs_host.specs.declared.routing.Route.TheVariants as route
+use Rattle.bs_host.specs.File.{pieces_of, later_pieces, rows_of}
+
+-- the row of the game of that name, if the plan has one
+abbrev pub row_named : List GameRow → List ℕ → Option ℕ
+row_named rows game = position (λ row. is_same_text game row.game) rows
+
+-- a line that names no game of the plan is a stray
+abbrev pub route_to : Option ℕ → Command → Route
+route_to None command = route.Stray stray.Game
+route_to (Some row) command = route.Game row command
+
+abbrev pub route_of : List GameRow → Line → Route
+route_of rows line.Blank = route.Nowhere
+route_of rows (line.Command game command) = route_to (row_named rows game) command
+route_of rows (line.Bad game) = route_to (row_named rows game) command.Bad
+route_of rows (line.Stray kind) = route.Stray kind
+
+-- the lines that stand in a file from that number on, with their numbers
+abbrev pub routes_from : List GameRow → ℕ → List (List ℕ) → List (ℕ × Route)
+routes_from rows number pieces = map (λ piece. (piece.0, route_of rows (line_of piece.1))) (enumerate_from number pieces)
+
+-- lines are counted from 1, and the first is the plan
+abbrev pub routes_of : List ℕ → List (ℕ × Route)
+routes_of file = routes_from (rows_of file) 2 (later_pieces (pieces_of file))
+
+-- what a line asks of the game of that row
+abbrev pub command_to : ℕ → Route → Option Command
+command_to row (route.Game to command) = if nat_eq to row then Some command else None
+command_to row (route.Stray kind) = None
+command_to row route.Nowhere = None
+
+-- what the lines ask of it, in their order
+abbrev pub commands_to : ℕ → List (ℕ × Route) → List Command
+commands_to row = filter_map (λ line. command_to row line.1)
+
+-- why a line goes to the strays, where it does
+abbrev pub stray_kind : Route → Option Stray
+stray_kind (route.Game row command) = None
+stray_kind (route.Stray kind) = Some kind
+stray_kind route.Nowhere = None
+
+-- with the number of the line
+abbrev pub numbered_stray : ℕ × Route → Option (ℕ × Stray)
+numbered_stray line = option_map (λ kind. (line.0, kind)) (stray_kind line.1)
+
+abbrev pub strays_in : List (ℕ × Route) → List (ℕ × Stray)
+strays_in = filter_map numbered_stray
+
+-- what a file asks of the game of that row, and its lines that belong to no game
+abbrev pub commands_of : List ℕ → ℕ → List Command
+commands_of file row = commands_to row (routes_of file)
+
+abbrev pub strays_of : List ℕ → List (ℕ × Stray)
+strays_of file = strays_in (routes_of file)
+
+-- to a game of a plan of so many rows, if to a game
+abbrev pub IsWithinPlan : ℕ → Route → Type 0
+IsWithinPlan many (route.Game row command) = row < many
+IsWithinPlan many (route.Stray kind) = Unit {0}
+IsWithinPlan many route.Nowhere = Unit {0}
