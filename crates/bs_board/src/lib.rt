@@ -33,4 +33,4 @@ pub use records::decode_error::Decode;
 pub use records::decoding::decode;
 pub use records::encoding::{encode, encode_into};
 pub use records::sizes::size;
-pub use records::turn::turn_of_record;
+pub use records::turn::{seats_of_record, turn_of_record};

@@ -1,6 +1,12 @@
 //! The input that a core expects of a job.
+ghost use Rattle.std.specs.Prelude.{◌≡◌, option_map, IfOk};
+
+use crate::input::Input;
 use crate::job::JobName;
+use crate::parts::Parts;
 use bs_board::Command;
+use bs_game::Record;
+use std::alloc::{AllocError, Global};
 
 /// All that a job's input holds but for its parts, which the rest determines.
 #[derive(Clone, Copy, Debug)]
@@ -23,4 +29,37 @@ pub struct Expected<'a> {
     pub asked: Option<&'a [u8]>,
     /// The command.
     pub command: &'a Command,
+}
+
+fn copy_record(alloc: Global, bytes: Option<&[u8]>) -> Result<Option<Record>, AllocError>
+    ensures { IfOk result (λ kept. kept ≡ option_map (λ bytes. bytes.now) bytes.entry) }
+{
+    match bytes {
+        None => Ok(None),
+        Some(bytes) => Ok(Some(Record::from_vec(Vec::from_slice(alloc, bytes)?))),
+    }
+}
+
+impl Expected<'_> {
+    ghost use Rattle.std.specs.Prelude.{[]};
+    ghost use Rattle.bs_fiber.specs.Expected.{IsOf};
+
+    /// A copy of all of it: an input that has no parts yet.
+    pub fn to_input(&self, alloc: Global) -> Result<Input, AllocError>
+        ensures expected { IfOk result (λ input. IsOf input self.now) }
+        ensures parts { IfOk result (λ input. input.parts ≡ []) }
+    {
+        Ok(Input {
+            job: self.job,
+            worker: self.worker,
+            seq: self.seq,
+            quota: self.quota,
+            charge: self.charge,
+            kept: self.kept,
+            last: copy_record(alloc, self.last)?,
+            asked: copy_record(alloc, self.asked)?,
+            command: self.command.copy(alloc)?,
+            parts: Parts::from_vec(Vec::new(alloc)),
+        })
+    }
 }

@@ -148,7 +148,8 @@ impl Ticket {
 
     /// Whether all that it holds but for its parts is what was expected.
     pub fn is_of(&self, expected: &Expected) -> bool
-        ensures { IsTrue result ↔ IsOf self.now expected.now }
+        ensures value { IsTrue result ↔ IsOf self.now expected.now }
+        ensures fit { IsFitInput self.now }
     {
         has_numbers_of(&self.input, expected) && has_contents_of(&self.input, expected)
     }

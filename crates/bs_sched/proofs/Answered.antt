@@ -1,0 +1,76 @@
+-- A game whose command is answered: its lane, its records and its heap.
+use Rattle.std.proofs.Common.{◌≡◌, ℕ, ◌+◌, ◌-◌, ◌*◌, ◌<◌, ◌≤◌, Bool, true, false, List, length, map, slice_index_or, refl, sym, ap, subst, ◌∙◌, arith, inl, inr}
+use Rattle.std.specs.Prelude.{All, Some, None, ◌||◌}
+use Rattle.std.proofs.lemmas.List.Elements.{All-get_or}
+use Rattle.bs_board.specs.declared.commands.command.Command.{Command}
+use Rattle.bs_board.specs.declared.commands.command.Command.TheVariants as command
+use Rattle.bs_board.specs.records.Record.{record_of}
+use Rattle.bs_game.specs.declared.reply.Answer.{Answer}
+use Rattle.bs_game.specs.declared.reply.Effect.{Effect}
+use Rattle.bs_game.specs.Answer.{Fits, answer_to}
+use Rattle.bs_game.specs.Game.{Game, IsGame, game_charge}
+use Rattle.bs_game.specs.Law.{IsAnswerTo, IsFitEffect, effected}
+use Rattle.bs_game.specs.View.{answer_of}
+use Rattle.bs_game.proofs.AnswerLaw.{answers_the_game}
+use Rattle.bs_game.specs.Recorded.{IsRecorded}
+use Rattle.bs_game.proofs.Recorded.{same_charge}
+use Rattle.bs_heap.specs.Charge.{charge_of, blocks_for}
+use Rattle.bs_heap.specs.Heap.{Heap}
+use Rattle.bs_heap.specs.HeldBlocks.{IsKeptIn, LeavesOthers}
+use Rattle.bs_pool.specs.Ledger.{Ledger, reserved}
+use Rattle.bs_sched.specs.CoreLayout.{IsHeapOf}
+use Rattle.bs_sched.specs.Courses.{IsRight}
+use Rattle.bs_sched.specs.Insides.{may_answer}
+use Rattle.bs_sched.specs.Lane.{Lane, lane_view, lane_command, lane_outcome, answered, is_idle, occupies, has_begin, has_join}
+use Rattle.bs_sched.specs.declared.stage.Stage.{Stage}
+use Rattle.bs_sched.specs.declared.stage.Stage.TheVariants as stage
+
+-- who has a job that begins or joins is in the middle of a command, which may be answered
+
+occupied : (worker : ℕ) (s : Stage) → (has_begin worker s || has_join worker s) ≡ true → (is_idle s ≡ false) × (may_answer s ≡ true)
+occupied worker stage.Idle has = let wrong : false ≡ true = has in absurd cc
+occupied worker (stage.Begin other) has = (refl, refl)
+occupied worker stage.Parts has = let wrong : false ≡ true = has in absurd cc
+occupied worker (stage.Join None) has = let wrong : false ≡ true = has in absurd cc
+occupied worker (stage.Join (Some other)) has = (refl, refl)
+
+pub is_at_command : (x : Lane) (worker : ℕ) → occupies worker x ≡ true → (is_idle x.stage ≡ false) × (may_answer x.stage ≡ true)
+is_at_command x worker has = occupied worker x.stage has
+
+pub fit_command : (x : Lane) → IsRight x → is_idle x.stage ≡ false → Fits (lane_command x)
+fit_command x right busy =
+    let some = right.some busy in
+    All-get_or Fits x.taken (length x.taken - 1) command.Bad (omega arith) right.taken
+
+-- the answer that the definition gives to the command that the lane is at
+pub told : (x : Lane) → IsRight x → is_idle x.stage ≡ false
+    → IsAnswerTo x.quota x.game (lane_outcome x) (answer_of (lane_view x) (lane_command x))
+told x right busy = answers_the_game x.quota x.game (lane_command x) right.right right.within (fit_command x right busy)
+
+pub told_reply : (x : Lane) (answer : Answer) → IsRight x → is_idle x.stage ≡ false → answer ≡ answer_of (lane_view x) (lane_command x)
+    → answer.reply ≡ (lane_outcome x).reply
+told_reply x answer right busy is = ap (λ (a : Answer). a.reply) is ∙ (told x right busy).reply
+
+pub recorded : (cap own : ℕ) (x : Lane) (heap : Heap) (pool : Ledger) → IsRight x → IsHeapOf cap own x heap pool → IsRecorded x.game heap.records
+recorded cap own x heap pool right kept = record { right = right.right; is = kept.records }
+
+pub fit_effect : (cap own : ℕ) (x : Lane) (answer : Answer) (heap : Heap) (pool : Ledger) → IsRight x → is_idle x.stage ≡ false
+    → answer ≡ answer_of (lane_view x) (lane_command x) → IsHeapOf cap own x heap pool → IsFitEffect heap.quota (charge_of heap.records) answer.effect
+fit_effect cap own x answer heap pool right busy is kept =
+    let charge : charge_of heap.records ≡ game_charge x.game = same_charge x.game heap.records (recorded cap own x heap pool right kept) in
+    rw (is, charge, kept.quota) (told x right busy).fits
+
+-- the heap after the answer keeps the records of the boards after it
+pub answered_heap : (cap own : ℕ) (x : Lane) (answer : Answer) (heap new : Heap) (pool pool' : Ledger) → IsRight x → is_idle x.stage ≡ false
+    → answer ≡ answer_of (lane_view x) (lane_command x) → IsHeapOf cap own x heap pool → new.records ≡ effected answer.effect heap.records
+    → new.tag ≡ heap.tag → new.quota ≡ heap.quota → IsKeptIn new pool' → LeavesOthers heap.tag pool pool' → IsHeapOf cap own (answered x) new pool'
+answered_heap cap own x answer heap new pool pool' right busy is kept records tag quota held others =
+    record {
+      tag = tag ∙ kept.tag;
+      quota = quota ∙ kept.quota;
+      records = records ∙ ap (λ (a : Answer). effected a.effect heap.records) is ∙ ap (effected (answer_of (lane_view x) (lane_command x)).effect) kept.records
+          ∙ (told x right busy).records;
+      held = held;
+      blocks = rw (quota, tag, others.reservations) kept.blocks;
+      room = λ answers. let wrong : false ≡ true = answers in absurd cc;
+    }

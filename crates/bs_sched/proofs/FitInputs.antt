@@ -1,0 +1,200 @@
+-- The input that a lane has for a job that is out is one that a ticket may hold.
+use Rattle.std.proofs.Common.{◌≡◌, ℕ, zero, suc, ◌+◌, ◌-◌, ◌<◌, ◌≤◌, Bool, true, false, ◌&&◌, List, [], ◌∷◌, length, map, Option, Some, None, refl, sym, ap, subst, ◌∙◌, arith, inl, inr, slice_get}
+use Rattle.std.specs.Prelude.{IfSome, option_map, nat_eq, All}
+use Rattle.std.specs.List.{find, range_with_len}
+use Rattle.std.proofs.lemmas.Bool.{cases_Bool}
+use Rattle.std.proofs.lemmas.List.Elements.{All-head, All-tail}
+use Rattle.bs_board.specs.declared.boards.board.Board.{Board}
+use Rattle.bs_board.specs.declared.commands.command.Command.{Command}
+use Rattle.bs_board.specs.declared.commands.command.Command.TheVariants as command
+use Rattle.bs_board.specs.boards.Legal.{IsLegal}
+use Rattle.bs_board.specs.records.Record.{record_of}
+use Rattle.bs_board.proofs.Chains.{and_both}
+use Rattle.bs_game.specs.declared.view.View.{View}
+use Rattle.bs_game.specs.Answer.{asked_board}
+use Rattle.bs_game.specs.Game.{Game, IsGame, board_of_turn, last_board}
+use Rattle.bs_game.proofs.Games.{legal_last}
+use Rattle.bs_fiber.specs.declared.input.Input.{Input}
+use Rattle.bs_fiber.specs.declared.job.JobName.{JobName}
+use Rattle.bs_fiber.specs.declared.job.JobKind.{JobKind}
+use Rattle.bs_fiber.specs.declared.job.JobKind.TheVariants as kind
+use Rattle.bs_fiber.specs.Fit.{IsAskedBy, IsFitGame, IsFitInput, IsFitJob, IsLegalRecord}
+use Rattle.bs_fiber.specs.Seeing.{IsBoardOf, IsSeen}
+use Rattle.bs_fiber.proofs.Seen.{seen_once}
+use Rattle.bs_sched.specs.Courses.{IsRight}
+use Rattle.bs_sched.specs.Inputs.{input_of}
+use Rattle.std.specs.Prelude.{nat_lt, slice_set}
+use Rattle.std.proofs.Common.{get_or}
+use Rattle.std.proofs.lemmas.Bool.{ltb-true, ltb-false, eq-eqb}
+use Rattle.std.proofs.lemmas.List.{get_or_past, get_or-set_same}
+use Rattle.std.proofs.lemmas.List.FromFn.{length-map-range_with_len, get_or-map-range_with_len}
+use Rattle.std.proofs.lemmas.Option.{slice_get-get_or}
+use Rattle.bs_board.specs.declared.boards.snake.Snake.{Snake}
+use Rattle.bs_fiber.specs.Work.{moved_part}
+use Rattle.bs_sched.specs.declared.stage.PartState.{PartState}
+use Rattle.bs_sched.specs.declared.stage.PartState.TheVariants as state
+use Rattle.bs_sched.specs.declared.stage.Stage.{Stage}
+use Rattle.bs_sched.specs.declared.stage.Stage.TheVariants as stage
+use Rattle.bs_sched.specs.Lane.{Lane, lane_view, lane_command, is_ready, is_part_ready, part_at, with_taken, is_out, is_in_parts, is_playing, has_part, has_join}
+
+-- the boards that a game shows are legal
+
+found_legal : (test : Board → Bool) (game : Game) (board : Board) → All IsLegal game → find test game ≡ Some board → IsLegal board
+found_legal test [] board legal is = let wrong : None ≡ Some board = is in absurd cc
+found_legal test (first ∷ game) board legal is =
+    elim (cases_Bool (test first)) [
+      | inl here ↦
+          let some : Some first ≡ Some board = rw here at is in
+          let same : first ≡ board = cc in
+          subst IsLegal same (All-head IsLegal first game legal)
+      | inr later ↦ found_legal test game board (All-tail IsLegal first game legal) (rw later at is)
+    ]
+
+turn_legal : (game : Game) (at : ℕ) (board : Board) → IsGame game → board_of_turn at game ≡ Some board → IsLegal board
+unfolding board_of_turn
+turn_legal game at board right is = found_legal (λ b. nat_eq b.turn at) game board right.legal is
+
+asked_legal : (c : Command) (game : Game) (board : Board) → IsGame game → asked_board c game ≡ Some board → IsLegal board
+asked_legal (command.New setup) game board right is = let wrong : None ≡ Some board = is in absurd cc
+asked_legal (command.Move orders) game board right is = let wrong : None ≡ Some board = is in absurd cc
+asked_legal command.Show game board right is = let wrong : None ≡ Some board = is in absurd cc
+asked_legal (command.Turn at) game board right is = turn_legal game at board right is
+asked_legal command.Free game board right is = let wrong : None ≡ Some board = is in absurd cc
+asked_legal command.End game board right is = let wrong : None ≡ Some board = is in absurd cc
+asked_legal command.Bad game board right is = let wrong : None ≡ Some board = is in absurd cc
+
+-- a record of a legal board, if there is a board
+
+legal_record : (board : Option Board) → ((b : Board) → board ≡ Some b → IsLegal b) → IfSome (option_map record_of board) IsLegalRecord
+legal_record None legal = tt
+legal_record (Some board) legal = record { board = board; legal = legal board refl; is = refl }
+
+board_seen : (board : Option Board) → ((b : Board) → board ≡ Some b → IsLegal b) → IsBoardOf (option_map record_of board) board
+board_seen None legal = tt
+board_seen (Some board) legal = (legal board refl, refl)
+
+asked_by : (c : Command) (game : Game) → IsAskedBy c (option_map record_of (asked_board c game))
+asked_by (command.New setup) game = refl
+asked_by (command.Move orders) game = refl
+asked_by command.Show game = refl
+asked_by (command.Turn at) game = tt
+asked_by command.Free game = refl
+asked_by command.End game = refl
+asked_by command.Bad game = refl
+
+module _ (x : Lane) (worker : ℕ) (job : JobName) (right : IsRight x) where
+  last_legal : (b : Board) → last_board x.game ≡ Some b → IsLegal b
+  last_legal b is = legal_last x.game b right.right (sym is)
+
+  fit_game : IsFitGame (input_of x worker job)
+  fit_game = record {
+    last = legal_record (last_board x.game) last_legal;
+    asked = legal_record (asked_board (lane_command x) x.game) (λ b is. asked_legal (lane_command x) x.game b right.right is);
+    asked_by = asked_by (lane_command x) x.game;
+    within = right.within;
+    small = right.small;
+  }
+
+  -- the job sees what the lane shows
+  pub lane_seen : IsSeen (lane_view x) (input_of x worker job)
+  lane_seen = record {
+    quota = refl;
+    charge = refl;
+    kept = refl;
+    last = board_seen (last_board x.game) last_legal;
+    asked = board_seen (asked_board (lane_command x) x.game) (λ b is. asked_legal (lane_command x) x.game b right.right is);
+  }
+
+  pub fit_input : IsFitJob job.kind (input_of x worker job) (lane_view x) → IsFitInput (input_of x worker job)
+  fit_input fit = record {
+    game = fit_game;
+    job = λ view seen. subst (IsFitJob job.kind (input_of x worker job)) (seen_once (input_of x worker job) (lane_view x) view lane_seen seen) fit;
+  }
+
+-- a job that is out is one that the command and the last board allow
+
+playing_part : (s : Stage) → is_in_parts s ≡ true → is_playing s ≡ true
+playing_part stage.Idle at = let wrong : false ≡ true = at in cc
+playing_part (stage.Begin worker) at = let wrong : false ≡ true = at in cc
+playing_part stage.Parts at = refl
+playing_part (stage.Join taker) at = refl
+
+playing_join : (worker : ℕ) (s : Stage) → has_join worker s ≡ true → is_playing s ≡ true
+playing_join worker stage.Idle at = let wrong : false ≡ true = at in cc
+playing_join worker (stage.Begin other) at = let wrong : false ≡ true = at in cc
+playing_join worker stage.Parts at = refl
+playing_join worker (stage.Join taker) at = refl
+
+-- a part that somebody has is there
+there : (worker p : ℕ) (parts : List PartState) → has_part worker (get_or parts p state.Done) ≡ true → p < length parts
+there worker p parts has =
+    elim (cases_Bool (nat_lt p (length parts))) [
+      | inl less ↦ ltb-true _ _ less
+      | inr more ↦
+          let past : length parts ≤ p = ltb-false _ _ more in
+          let done : get_or parts p state.Done ≡ state.Done = get_or_past parts p state.Done past in
+          let wrong : false ≡ true = rw done at has in
+          absurd cc
+    ]
+
+moved_each : (f : ℕ → List Snake) (many p : ℕ) → p < length (map f (range_with_len 0 many)) → slice_get (map f (range_with_len 0 many)) p ≡ Some (f p)
+moved_each f many p within =
+    let long : length (map f (range_with_len 0 many)) ≡ many = length-map-range_with_len f 0 many in
+    let here : get_or (map f (range_with_len 0 many)) p (f p) ≡ f p = get_or-map-range_with_len f 0 many p p (f p) (omega arith) (omega arith) in
+    slice_get-get_or (map f (range_with_len 0 many)) p (f p) within ∙ ap Some here
+
+pub lane_job : (x : Lane) (worker : ℕ) (job : JobName) (k : JobKind) → job.kind ≡ k → IsRight x → is_out worker x k job.part ≡ true
+    → IsFitJob k (input_of x worker job) (lane_view x)
+lane_job x worker job kind.Begin is right out = rw is refl
+lane_job x worker job kind.Part is right out =
+    let both = and_both _ _ out in
+    let move = right.moves (playing_part x.stage both.0) in
+    (rw is refl, record { goes = move.goes; there = rw (← move.parts) (there worker job.part x.parts both.1) })
+lane_job x worker job kind.Join is right out =
+    let both = and_both _ _ out in
+    let move = right.moves (playing_join worker x.stage both.1) in
+    record {
+      goes = move.goes;
+      moved = record {
+        all = rw is (length-map-range_with_len (λ p. moved_part p (lane_view x) (lane_command x)) 0 (length x.parts) ∙ move.parts);
+        each = rw is (λ p within. moved_each (λ p. moved_part p (lane_view x) (lane_command x)) (length x.parts) p within);
+      };
+    }
+
+pub lane_input : (x : Lane) (worker : ℕ) (job : JobName) → IsRight x → is_out worker x job.kind job.part ≡ true → IsFitInput (input_of x worker job)
+lane_input x worker job right out = fit_input x worker job right (lane_job x worker job job.kind refl right out)
+
+-- a job that is taken is out
+
+part_there : (x : Lane) (p : ℕ) → is_part_ready (part_at x p) ≡ true → p < length x.parts
+part_there x p ready =
+    elim (cases_Bool (nat_lt p (length x.parts))) [
+      | inl less ↦ ltb-true _ _ less
+      | inr more ↦
+          let past : length x.parts ≤ p = ltb-false _ _ more in
+          let done : get_or x.parts p state.Done ≡ state.Done = get_or_past x.parts p state.Done past in
+          let wrong : false ≡ true = rw done at ready in
+          absurd cc
+    ]
+
+same_worker : (worker : ℕ) → nat_eq worker worker ≡ true
+same_worker worker = eq-eqb worker worker refl
+
+pub out_taken : (x : Lane) (worker : ℕ) (k : JobKind) (p : ℕ) → is_ready x k p ≡ true → is_out worker (with_taken worker k p x) k p ≡ true
+out_taken x worker kind.Begin p ready =
+    let none : nat_eq p 0 ≡ true = (and_both _ _ ready).0 in
+    rw (none, same_worker worker) refl
+out_taken x worker kind.Part p ready =
+    let at : is_in_parts x.stage ≡ true = (and_both _ _ ready).0 in
+    let within = part_there x p (and_both _ _ ready).1 in
+    let here : get_or (slice_set x.parts p (state.Out worker)) p state.Done ≡ state.Out worker = get_or-set_same x.parts p (state.Out worker) state.Done within in
+    rw (at, here, same_worker worker) refl
+out_taken x worker kind.Join p ready =
+    let none : nat_eq p 0 ≡ true = (and_both _ _ ready).0 in
+    rw (none, same_worker worker) refl
+
+pub taken_input : (x y : Lane) (worker : ℕ) (job : JobName) (input : Input) → is_ready x job.kind job.part ≡ true → y ≡ with_taken worker job.kind job.part x
+    → IsRight y → input ≡ input_of y worker job → IsFitInput input
+taken_input x y worker job input ready is right held =
+    let out : is_out worker y job.kind job.part ≡ true = rw is (out_taken x worker job.kind job.part ready) in
+    rw held (lane_input y worker job right out)

@@ -1,0 +1,81 @@
+-- The heaps of all games, after one of them changed.
+use Rattle.std.proofs.Common.{◌≡◌, ◌≢◌, ℕ, ◌+◌, ◌*◌, ◌<◌, ◌≤◌, true, false, List, length, map, refl, sym, ap, subst, ◌∙◌, arith, inl, inr}
+use Rattle.std.specs.Prelude.{slice_set, slice_index_or}
+use Rattle.std.proofs.lemmas.Bool.{cases_eq}
+use Rattle.std.proofs.lemmas.Grind.{get_or-set_at}
+use Rattle.std.proofs.lemmas.List.{get_or-set_other, length-set, map-set}
+use Rattle.bs_heap.specs.Heap.{Heap, empty_heap}
+use Rattle.bs_heap.specs.HeldBlocks.{LeavesOthers}
+use Rattle.bs_heap.specs.Packing.{numbers_of}
+use Rattle.bs_pool.specs.Ledger.{Ledger}
+use Rattle.bs_sched.specs.CoreLayout.{AreHeapsOf, IsHeapOf, heap_of}
+use Rattle.bs_sched.specs.Insides.{may_answer}
+use Rattle.std.specs.Prelude.{Bool, None, if◌then◌else◌}
+use Rattle.std.specs.List.{list_all}
+use Rattle.bs_sched.specs.declared.stage.PartState.{PartState}
+use Rattle.bs_sched.specs.declared.stage.Stage.TheVariants as stage
+use Rattle.bs_sched.specs.Lane.{Lane, empty_lane, stage_with, is_part_done}
+use Rattle.bs_sched.specs.Machine.{lane_of}
+use Rattle.bs_sched.specs.Storage.{record_tag}
+
+-- what another tag draws or gives back leaves a game's heap
+left_heap : (cap own tag : ℕ) (x : Lane) (heap : Heap) (pool pool' : Ledger) → IsHeapOf cap own x heap pool → own ≢ tag
+    → LeavesOthers tag pool pool' → IsHeapOf cap own x heap pool'
+left_heap cap own tag x heap pool pool' kept other leaves =
+    let differ : heap.tag ≢ tag = λ same. other (sym kept.tag ∙ same) in
+    record {
+      tag = kept.tag;
+      quota = kept.quota;
+      records = kept.records;
+      held = leaves.holds heap.tag (numbers_of heap.packing) differ kept.held;
+      blocks = rw leaves.reservations kept.blocks;
+      room = kept.room;
+    }
+
+pub changed_heaps : (cap game : ℕ) (lanes : List Lane) (heaps : List Heap) (pool pool' : Ledger) (x : Lane) (heap : Heap)
+    → AreHeapsOf cap lanes heaps pool → length heaps ≡ length lanes → game < length lanes → IsHeapOf cap (record_tag game) x heap pool'
+    → LeavesOthers (record_tag game) pool pool' → AreHeapsOf cap (slice_set lanes game x) (slice_set heaps game heap) pool'
+changed_heaps cap game lanes heaps pool pool' x heap all many within here leaves other less =
+    elim (cases_eq other game) [
+      | inl same ↦
+          rw (get_or-set_at lanes game other x (empty_lane 0) same within, get_or-set_at heaps game other heap (empty_heap 0 0) same (omega (arith, many)), same) here
+      | inr differ ↦
+          let before : other < length lanes = let l = length-set lanes game x in omega (arith, l) in
+          rw (get_or-set_other lanes game other x (empty_lane 0) differ, get_or-set_other heaps game other heap (empty_heap 0 0) differ)
+          (left_heap cap (record_tag other) (record_tag game) (lane_of lanes other) (heap_of heaps other) pool pool' (all other before)
+          (λ same. differ (let twice : 2 * other ≡ 2 * game = same in omega (arith, twice))) leaves)
+    ]
+
+pub unchanged_pool : (tag : ℕ) (pool : Ledger) → LeavesOthers tag pool pool
+unchanged_pool tag pool = record { holds = λ other numbers differ held. held; reservations = refl }
+
+-- a lane that keeps its boards, and at which no answer may come, needs no other heap
+pub same_heap : (cap own : ℕ) (x y : Lane) (heap : Heap) (pool : Ledger) → IsHeapOf cap own x heap pool → y.quota ≡ x.quota → y.game ≡ x.game
+    → may_answer y.stage ≡ false → IsHeapOf cap own y heap pool
+same_heap cap own x y heap pool kept quota boards none =
+    record {
+      tag = kept.tag;
+      quota = kept.quota ∙ sym quota;
+      records = rw boards kept.records;
+      held = kept.held;
+      blocks = kept.blocks;
+      room = λ answers. let wrong : false ≡ true = sym none ∙ answers in absurd cc;
+    }
+
+pub changed_lane : (cap game : ℕ) (lanes : List Lane) (heaps : List Heap) (pool : Ledger) (x : Lane)
+    → AreHeapsOf cap lanes heaps pool → game < length lanes → IsHeapOf cap (record_tag game) x (heap_of heaps game) pool
+    → AreHeapsOf cap (slice_set lanes game x) heaps pool
+changed_lane cap game lanes heaps pool x all within here other less =
+    elim (cases_eq other game) [
+      | inl same ↦ rw (get_or-set_at lanes game other x (empty_lane 0) same within, same) here
+      | inr differ ↦
+          let before : other < length lanes = let l = length-set lanes game x in omega (arith, l) in
+          rw (get_or-set_other lanes game other x (empty_lane 0) differ) (all other before)
+    ]
+
+may_answer_if : (done : Bool) → may_answer (if done then stage.Join None else stage.Parts) ≡ false
+may_answer_if true = refl
+may_answer_if false = refl
+
+pub no_answer_parts : (parts : List PartState) → may_answer (stage_with parts) ≡ false
+no_answer_parts parts = may_answer_if (list_all is_part_done parts)

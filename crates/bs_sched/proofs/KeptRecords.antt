@@ -1,0 +1,100 @@
+-- Records of games.
+use Rattle.std.proofs.Common.{◌≡◌, ℕ, zero, suc, ◌+◌, Option, ◌-◌, ◌<◌, ◌≤◌, List, [], ◌∷◌, length, map, slice_index_or, refl, sym, ap, ◌∙◌, arith}
+use Rattle.std.specs.Prelude.{Some, None, option_map, slice_get}
+use Rattle.std.proofs.lemmas.List.{length-map}
+use Rattle.std.proofs.lemmas.Option.{slice_get-get_or, slice_get-map}
+use Rattle.bs_board.specs.records.Record.{record_of}
+use Rattle.bs_board.specs.declared.boards.board.Board.{Board}
+use Rattle.bs_game.specs.Turns.{place_of_turn}
+use Rattle.bs_game.proofs.Recorded.{board_at_place, nothing_of_turn, turn_is_gone, turn_is_there, turn_is_within}
+use Rattle.bs_sched.specs.Turns.{FindsTurn}
+use Rattle.bs_game.specs.Game.{Game, last_board, board_of_turn}
+use Rattle.bs_game.specs.Recorded.{IsRecorded}
+use Rattle.bs_game.proofs.Recorded.{as_many}
+use Rattle.bs_block.specs.Rounding.{rounded}
+use Rattle.bs_game.specs.Law.{IsFitRecord}
+use Rattle.bs_game.proofs.Games.{board_charge_small}
+use Rattle.bs_heap.specs.declared.heap.TheConstants.{MOST_RECORD_BYTES}
+use Rattle.bs_heap.specs.HeldBlocks.{LeavesOthers}
+use Rattle.bs_pool.specs.Ledger.{Ledger}
+
+pub no_record : (game : Game) (records : List (List ℕ)) → IsRecorded game records → 0 ≡ length records → None ≡ option_map record_of (last_board game)
+no_record [] records kept none = refl
+no_record (first ∷ game) records kept none =
+    let many = as_many (first ∷ game) records kept in
+    absurd (omega arith)
+
+pub newest_record : (game : Game) (records : List (List ℕ)) → IsRecorded game records → 0 < length records
+    → Some (slice_index_or records (length records - 1) []) ≡ option_map record_of (last_board game)
+newest_record game records kept some =
+    let many = as_many game records kept in
+    let there = slice_get-get_or records (length records - 1) [] (omega arith) in
+    let same : slice_get records (length records - 1) ≡ slice_get (map record_of game) (length records - 1)
+    = ap (λ all. slice_get all (length records - 1)) kept.is in
+    let last = slice_get-map record_of game (length records - 1) in
+    sym there ∙ same ∙ last ∙ ap (λ n. option_map record_of (slice_get game (n - 1))) many
+
+pub nothing_left : (tag : ℕ) (pool : Ledger) → LeavesOthers tag pool pool
+nothing_left tag pool = record { holds = λ other numbers differ held. held; reservations = refl }
+
+-- the last record is that of the newest board
+pub last_recorded : (game : Game) (records : List (List ℕ)) → IsRecorded game records
+    → slice_get records (length records - 1) ≡ option_map record_of (last_board game)
+last_recorded game records kept =
+    let many = as_many game records kept in
+    ap (λ all. slice_get all (length records - 1)) kept.is ∙ slice_get-map record_of game (length records - 1)
+    ∙ ap (λ n. option_map record_of (slice_get game (n - 1))) many
+
+-- a record that is added is small enough for a heap
+pub record_is_small : (most charge : ℕ) (bytes : List ℕ) → IsFitRecord most charge bytes → rounded (length bytes) ≤ MOST_RECORD_BYTES
+record_is_small most charge bytes fit =
+    let small = board_charge_small fit.board fit.legal in
+    rw fit.is (omega (arith, small))
+
+one_there : {X : Type 0} (xs : List X) (place : ℕ) → place < length xs → (x : X) × (slice_get xs place ≡ Some x)
+one_there [] place within = absurd (omega arith)
+one_there (x ∷ xs) zero within = (x, refl)
+one_there (x ∷ xs) (suc place) within = one_there xs place (omega arith)
+
+no_last : (game : Game) → length game ≡ 0 → None ≡ last_board game
+no_last [] none = refl
+no_last (first ∷ game) none = absurd (omega arith)
+
+-- the newest board and its record
+
+pub record Newest (game : Game) (bytes : List ℕ) : Type 0 where
+  pub board : Board
+  pub last : Some board ≡ last_board game
+  pub is : bytes ≡ record_of board
+
+pub newest : (game : Game) (records : List (List ℕ)) (bytes : List ℕ) → IsRecorded game records → 0 < length records
+    → bytes ≡ slice_index_or records (length records - 1) [] → Newest game bytes
+newest game records bytes kept some is =
+    let many = as_many game records kept in
+    let place = length game - 1 in
+    let at = board_at_place game records place bytes kept (omega (arith, many)) (is ∙ ap (λ n. slice_index_or records (n - 1) []) many) in
+    record { board = at.board; last = sym at.there; is = at.recorded }
+
+pub newest_counted : (game : Game) (records : List (List ℕ)) (bytes : List ℕ) (count : ℕ) → IsRecorded game records → count ≡ length records → 0 < count
+    → bytes ≡ slice_index_or records (count - 1) [] → Newest game bytes
+newest_counted game records bytes count kept counted some is =
+    newest game records bytes kept (omega (arith, counted, some)) (is ∙ ap (λ n. slice_index_or records (n - 1) []) counted)
+
+pub no_turn : (game : Game) (records : List (List ℕ)) (at : ℕ) → IsRecorded game records → 0 ≡ length records → board_of_turn at game ≡ None
+no_turn game records at kept none =
+    let many = as_many game records kept in
+    nothing_of_turn game at (no_last game (omega (arith, many)))
+
+pub finds_turn : (game : Game) (records : List (List ℕ)) (bytes : List ℕ) (last count at : ℕ) (result : Option ℕ) → IsRecorded game records
+    → (new : Newest game bytes) → last ≡ new.board.turn → count ≡ length records → result ≡ place_of_turn count last at → FindsTurn game records at result
+finds_turn game records bytes last count at None kept new turn counted is =
+    turn_is_gone game records new.board count at kept new.last counted (rw (← turn) is)
+finds_turn game records bytes last count at (Some place) kept new turn counted is =
+    let found : Some place ≡ place_of_turn count new.board.turn at = rw (← turn) is in
+    let many = as_many game records kept in
+    let within = turn_is_within game records new.board count at place kept counted found in
+    let here = one_there game place within in
+    let there = turn_is_there game records new.board here.0 count at place kept new.last counted found here.1 in
+    let same : slice_get records place ≡ option_map record_of (slice_get game place)
+    = ap (λ all. slice_get all place) kept.is ∙ slice_get-map record_of game place in
+    (omega (arith, many), same ∙ ap (option_map record_of) (here.1 ∙ sym there))

@@ -1,0 +1,80 @@
+-- A core that was just opened: each game's lane and heap are empty, and its blocks are set aside.
+use Rattle.std.proofs.Common.{◌≡◌, ℕ, zero, suc, ◌+◌, ◌*◌, ◌<◌, ◌≤◌, true, false, List, [], ◌∷◌, length, map, slice_index_or, refl, sym, ap, ◌∙◌, arith}
+use Rattle.std.proofs.Math.ListN.{get_or-map}
+use Rattle.std.proofs.lemmas.List.{length-map}
+use Rattle.bs_board.specs.plans.Plan.{GameRow, IsFitPlan, row_of}
+use Rattle.bs_heap.specs.Charge.{blocks_for}
+use Rattle.bs_heap.specs.Heap.{Heap, empty_heap}
+use Rattle.bs_heap.specs.Packing.{Packing, no_packing}
+use Rattle.bs_pool.specs.Ledger.{Ledger, ledger_of, opened, reserved}
+use Rattle.bs_sched.specs.declared.cores.Core.TheInside.{Inside}
+use Rattle.bs_sched.specs.declared.cores.TheConstants.{LEAST_CAPACITY}
+use Rattle.bs_sched.specs.Core.{row_at}
+use Rattle.bs_sched.specs.CoreLayout.{AreHeapsOf, IsHeapOf, IsSound, heap_of, opened_heaps, opened_heaps_from}
+use Rattle.bs_sched.specs.Lane.{Lane, empty_lane}
+use Rattle.bs_sched.specs.Machine.{lane_of}
+use Rattle.bs_sched.specs.PlanBlocks.{reservations_of}
+use Rattle.bs_sched.specs.Storage.{record_tag}
+use Rattle.bs_sched.proofs.PlanBlocks.{nothing_held, reserved_for_row}
+
+many_heaps : (from : ℕ) (rows : List GameRow) → length (opened_heaps_from from rows) ≡ length rows
+many_heaps from [] = refl
+many_heaps from (row ∷ rows) = ap suc (many_heaps (from + 1) rows)
+
+-- no heap has a block yet
+nothing_packed : (from : ℕ) (rows : List GameRow) → map (λ (h : Heap). h.packing) (opened_heaps_from from rows) ≡ map (λ _. no_packing) rows
+nothing_packed from [] = refl
+nothing_packed from (row ∷ rows) = ap (λ rest. no_packing ∷ rest) (nothing_packed (from + 1) rows)
+
+pub opened_packings : (rows : List GameRow) → map (λ (h : Heap). h.packing) (opened_heaps rows) ≡ map (λ _. no_packing) rows
+opened_packings rows = nothing_packed 0 rows
+
+heap_from : (from place at : ℕ) (rows : List GameRow) → at ≡ from + place → place < length rows
+    → heap_of (opened_heaps_from from rows) place ≡ empty_heap (record_tag at) (row_at rows place).quota
+heap_from from place at [] is within = absurd (omega arith)
+heap_from from zero at (row ∷ rows) is within =
+    let here : at ≡ from = omega arith in
+    rw here refl
+heap_from from (suc place) at (row ∷ rows) is within = heap_from (from + 1) place at rows (omega arith) (omega arith)
+
+opened_heap : (game : ℕ) (rows : List GameRow) → game < length rows
+    → heap_of (opened_heaps rows) game ≡ empty_heap (record_tag game) (row_at rows game).quota
+opened_heap game rows within = heap_from 0 game game rows (omega arith) within
+
+opened_lane : (game : ℕ) (rows : List GameRow) → lane_of (map (λ row. empty_lane row.quota) rows) game ≡ empty_lane (row_at rows game).quota
+opened_lane game rows = get_or-map (λ (row : GameRow). empty_lane row.quota) rows game (row_of [] 0)
+
+-- an empty heap is an empty lane's where enough blocks are set aside
+empty_heap_of : (cap own quota blocks : ℕ) (pool : Ledger) → pool.owners ≡ (opened blocks).owners → blocks_for cap quota ≤ reserved own pool
+    → IsHeapOf cap own (empty_lane quota) (empty_heap own quota) pool
+empty_heap_of cap own quota blocks pool owners room =
+    record {
+      tag = refl;
+      quota = refl;
+      records = refl;
+      held = nothing_held blocks own pool owners;
+      blocks = room;
+      room = λ answers. let wrong : false ≡ true = answers in absurd cc;
+    }
+
+heaps_opened : (cap blocks : ℕ) (rows : List GameRow) (pool : Ledger) → pool ≡ ledger_of (opened blocks).owners (reservations_of cap rows)
+    → AreHeapsOf cap (map (λ row. empty_lane row.quota) rows) (opened_heaps rows) pool
+heaps_opened cap blocks rows pool is game less =
+    let within : game < length rows = let long = length-map rows (λ (row : GameRow). empty_lane row.quota) in omega (arith, long) in
+    let set_aside = reserved_for_row cap game rows (row_of [] 0) within in
+    let room : reserved (record_tag game) pool ≡ blocks_for cap (row_at rows game).quota = rw is set_aside in
+    rw (opened_heap game rows within, opened_lane game rows)
+    (empty_heap_of cap (record_tag game) (row_at rows game).quota blocks pool (ap (λ (p : Ledger). p.owners) is) (omega (arith, room)))
+
+pub sound_opened : (cap blocks : ℕ) {at : ℕ} (c : Inside at) → LEAST_CAPACITY ≤ cap → IsFitPlan c.rows
+    → c.fibers.items ≡ map (λ row. empty_lane row.quota) c.rows → c.heaps.items ≡ opened_heaps c.rows
+    → c.pool ≡ ledger_of (opened blocks).owners (reservations_of cap c.rows) → IsSound cap c
+sound_opened cap blocks c wide plan fibers heaps pool =
+    let many : length c.fibers.items ≡ length c.rows = ap length fibers ∙ length-map c.rows (λ (row : GameRow). empty_lane row.quota) in
+    record {
+      wide = wide;
+      plan = plan;
+      lanes = many;
+      many = ap length heaps ∙ many_heaps 0 c.rows ∙ sym many;
+      heaps = rw (fibers, heaps) (heaps_opened cap blocks c.rows c.pool pool);
+    }

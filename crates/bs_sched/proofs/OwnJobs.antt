@@ -1,0 +1,87 @@
+-- When a ticket holds what its lane has for its job.
+use Rattle.std.proofs.Common.{◌≡◌, ℕ, ◌<◌, Bool, true, length, refl, sym, ap, subst, ◌∙◌}
+use Rattle.std.specs.Prelude.{IsTrue, ◌↔◌, nat_lt}
+use Rattle.std.proofs.lemmas.Bool.{ltb-true}
+use Rattle.bs_board.proofs.Chains.{and_both}
+use Rattle.bs_board.specs.declared.commands.command.Command.{Command}
+use Rattle.bs_fiber.specs.declared.expected.Expected.{Expected}
+use Rattle.bs_fiber.specs.declared.input.Input.{Input}
+use Rattle.bs_fiber.specs.declared.job.JobName.{JobName}
+use Rattle.bs_fiber.specs.Expected.{IsOf}
+use Rattle.bs_fiber.specs.declared.out.Out.{Out}
+use Rattle.bs_fiber.specs.Fit.{IsFitInput}
+use Rattle.bs_fiber.specs.Seeing.{IsSeen}
+use Rattle.bs_fiber.specs.Work.{IsWorked, out_seen}
+use Rattle.bs_fiber.proofs.Seen.{both_expected}
+use Rattle.bs_sched.specs.Courses.{IsRight}
+use Rattle.bs_sched.specs.Inputs.{input_for, input_of}
+use Rattle.bs_sched.specs.Lane.{Lane, lane_command, lane_view, is_out}
+use Rattle.bs_sched.specs.Core.{CoreView}
+use Rattle.bs_sched.specs.Machine.{lane_of}
+use Rattle.bs_sched.specs.Putting.{IsOwn, IsOwnOf}
+use Rattle.bs_sched.proofs.FitInputs.{lane_input, lane_seen}
+
+-- what the lane expects does not depend on the parts
+own_expected : (x : Lane) (worker : ℕ) (job : JobName) (command : Command) (seq : ℕ) (e : Expected) → command ≡ lane_command x → seq ≡ length x.taken
+    → IsOf (input_for x command seq worker job) e → IsOf (input_of x worker job) e
+own_expected x worker job command seq e is_command is_seq expects =
+    let here = subst (λ (n : ℕ). IsOf (input_for x (lane_command x) n worker job) e) is_seq
+    (subst (λ (c : Command). IsOf (input_for x c seq worker job) e) is_command expects) in
+    record {
+      numbers = record {
+        job = here.numbers.job;
+        worker = here.numbers.worker;
+        seq = here.numbers.seq;
+        quota = here.numbers.quota;
+        charge = here.numbers.charge;
+        kept = here.numbers.kept;
+      };
+      contents = record { last = here.contents.last; asked = here.contents.asked; command = here.contents.command };
+    }
+
+pub own_of_expected : (x : Lane) (worker : ℕ) (ticket : Input) (command : Command) (seq : ℕ) (e : Expected) (answer : Bool) → IsRight x
+    → is_out worker x ticket.job.kind ticket.job.part ≡ true → command ≡ lane_command x → seq ≡ length x.taken
+    → IsOf (input_for x command seq worker ticket.job) e → IsFitInput ticket → IsTrue answer ↔ IsOf ticket e → IsTrue answer ↔ IsOwnOf x worker ticket
+own_of_expected x worker ticket command seq e answer right out is_command is_seq expects fit both =
+    let mine = own_expected x worker ticket.job command seq e is_command is_seq expects in (
+      (λ yes.
+          record {
+            out = out;
+            input = both_expected ticket (input_of x worker ticket.job) e fit (lane_input x worker ticket.job right out) (both.0 yes) mine;
+          }),
+      (λ own. both.1 (subst (λ (i : Input). IsOf i e) (sym own.input) mine)),
+    )
+
+-- what is brought back of an own job that is out
+
+pub own_there : (core : CoreView) (worker : ℕ) (brought : Input) → IsOwn core worker brought → brought.job.game < length core.lanes
+own_there core worker brought own = ltb-true _ _ (and_both (nat_lt brought.job.game (length core.lanes)) _ own.out).0
+
+pub own_out : (core : CoreView) (worker : ℕ) (brought : Input) → IsOwn core worker brought
+    → is_out worker (lane_of core.lanes brought.job.game) brought.job.kind brought.job.part ≡ true
+own_out core worker brought own =
+    let rest = (and_both (nat_lt brought.job.game (length core.lanes)) _ own.out).1 in
+    (and_both (is_out worker (lane_of core.lanes brought.job.game) brought.job.kind brought.job.part) true rest).0
+
+-- it is what the job comes to from what its lane shows
+pub own_worked : (x : Lane) (worker : ℕ) (brought : Input) (out : Out) → IsRight x → brought ≡ input_of x worker brought.job → IsWorked brought out
+    → out ≡ out_seen brought.job.kind brought.job.part (lane_view x) (lane_command x)
+own_worked x worker brought out right is worked =
+    let seen : IsSeen (lane_view x) brought = subst (IsSeen (lane_view x)) (sym is) (lane_seen x worker brought.job right) in
+    worked (lane_view x) seen ∙ ap (λ (i : Input). out_seen brought.job.kind brought.job.part (lane_view x) i.command) is
+
+pub record IsBrought (core : CoreView) (job : JobName) (value : Out) : Type 0 where
+  pub there : job.game < length core.lanes
+  pub out : (worker : ℕ) × (is_out worker (lane_of core.lanes job.game) job.kind job.part ≡ true)
+  pub worked : value ≡ out_seen job.kind job.part (lane_view (lane_of core.lanes job.game)) (lane_command (lane_of core.lanes job.game))
+
+pub brings : (core : CoreView) (worker : ℕ) (brought : Input) (job : JobName) (out : Out) → IsOwn core worker brought → job ≡ brought.job
+    → IsRight (lane_of core.lanes job.game) → IsWorked brought out → IsBrought core job out
+brings core worker brought job out own is right worked =
+    subst (λ (j : JobName). IsBrought core j out) (sym is)
+    (record {
+      there = own_there core worker brought own;
+      out = (worker, own_out core worker brought own);
+      worked = own_worked (lane_of core.lanes brought.job.game) worker brought out
+          (subst (λ (j : JobName). IsRight (lane_of core.lanes j.game)) is right) own.input worked;
+    })

@@ -1,0 +1,58 @@
+-- What a fiber keeps says that its lane is right.
+use Rattle.std.proofs.Common.{◌≡◌, ℕ, zero, suc, [], ◌∷◌, ◌+◌, ◌-◌, ◌<◌, ◌≤◌, Bool, true, false, List, length, take, drop, map, refl, sym, ap, subst, ◌∙◌, arith, inl, inr}
+use Rattle.std.specs.Prelude.{cond, All, Some, None}
+use Rattle.std.proofs.lemmas.Bool.{cases_Bool}
+use Rattle.std.proofs.lemmas.List.{length-map, length-take-le}
+use Rattle.std.proofs.lemmas.List.Elements.{All-take, All-drop}
+use Rattle.bs_board.specs.declared.commands.command.Command.{Command}
+use Rattle.bs_game.specs.Answer.{Fits}
+use Rattle.bs_game.proofs.Courses.{course_is_game}
+use Rattle.bs_sched.specs.declared.fiber.Fiber.TheInside.{Inside}
+use Rattle.bs_sched.specs.declared.fiber.Slot.{Slot}
+use Rattle.bs_sched.specs.declared.stage.Stage.{Stage}
+use Rattle.bs_sched.specs.declared.stage.Stage.TheVariants as stage
+use Rattle.bs_sched.specs.Courses.{answered_commands, IsOnCourse, IsMove, IsRight}
+use Rattle.bs_sched.specs.Insides.{lane_in, course_in, answered_count, IsFiber, IsAt, IsPlaying}
+use Rattle.bs_sched.specs.Lane.{Lane, is_idle, is_playing, lane_view, lane_command}
+use Rattle.bs_sched.specs.Slots.{state_of}
+
+take_less : {X : Type 0} (n m : ℕ) (xs : List X) → n ≤ m → take n (take m xs) ≡ take n xs
+take_less zero m xs less = refl
+take_less (suc n) zero xs less = absurd (omega arith)
+take_less (suc n) (suc m) [] less = refl
+take_less (suc n) (suc m) (x ∷ xs) less = ap (λ rest. x ∷ rest) (take_less n m xs (omega arith))
+
+-- the commands that are answered, as the fiber counts them
+answered_in : (f : Inside) → f.begun ≤ length f.commands.items
+    → answered_commands (lane_in f) ≡ take (answered_count f.stage f.begun) f.commands.items
+answered_in f within =
+    elim (cases_Bool (is_idle f.stage)) [
+      | inl idle ↦ rw idle refl
+      | inr busy ↦
+          let many : length (take f.begun f.commands.items) ≡ f.begun = length-take-le f.begun f.commands.items within in
+          rw (busy, many) (take_less (f.begun - 1) f.begun f.commands.items (omega arith))
+    ]
+
+playing_of : (s : Stage) (f : Inside) → IsAt s (lane_view (lane_in f)) (lane_command (lane_in f)) f.slots.items → is_playing s ≡ true
+    → IsMove (lane_in f)
+playing_of stage.Idle f at plays = let wrong : false ≡ true = plays in absurd cc
+playing_of (stage.Begin worker) f at plays = let wrong : false ≡ true = plays in absurd cc
+playing_of stage.Parts f at plays = record { goes = at.goes; parts = length-map f.slots.items state_of ∙ at.all }
+playing_of (stage.Join None) f at plays = record { goes = at.playing.goes; parts = length-map f.slots.items state_of ∙ at.playing.all }
+playing_of (stage.Join (Some worker)) f at plays = record { goes = at.playing.goes; parts = length-map f.slots.items state_of ∙ at.playing.all }
+
+pub right_lane : (f : Inside) → IsFiber f → IsRight (lane_in f)
+right_lane f kept =
+    let answered = answered_in f kept.begun in
+    let fits : All Fits (take (answered_count f.stage f.begun) f.commands.items) = All-take Fits (answered_count f.stage f.begun) f.commands.items kept.fits in
+    let game = course_is_game f.quota (take (answered_count f.stage f.begun) f.commands.items) fits in
+    record {
+      small = kept.small;
+      taken = All-take Fits f.begun f.commands.items kept.fits;
+      waiting = All-drop Fits f.begun f.commands.items kept.fits;
+      some = λ busy. let some = kept.at busy in let many = length-take-le f.begun f.commands.items kept.begun in omega (arith, some, many);
+      course = record { replies = rw answered kept.replies; game = rw answered refl };
+      right = game.0;
+      within = game.1;
+      moves = playing_of f.stage f kept.stage;
+    }

@@ -1,0 +1,7 @@
+-- The heaps that were made so far, and then those that are left to make.
+use Rattle.std.proofs.Common.{◌≡◌, ◌++◌, drop}
+use Rattle.bs_sched.specs.CoreLayout.{opened_heaps, opened_heaps_from}
+use Rattle.bs_sched.proofs.opening.open_heaps.Given as goal
+
+abbrev pub invariant-loop-game : goal.invariant-loop-game
+invariant-loop-game g l = l.heaps.items ++ opened_heaps_from l.game (drop l.game l.rows) ≡ opened_heaps l.rows

@@ -1,0 +1,63 @@
+-- How a core lies in its fields.
+use Rattle.std.specs.Prelude.{◌≡◌, ℕ, ◌+◌, ◌≤◌, ◌<◌, true, List, [], ◌∷◌, length, map, slice_index_or}
+use Rattle.bs_board.specs.plans.Plan.{GameRow, IsFitPlan}
+use Rattle.bs_board.specs.records.Record.{record_of}
+use Rattle.bs_pool.specs.Ledger.{Ledger, reserved}
+use Rattle.bs_heap.specs.Charge.{blocks_for}
+use Rattle.bs_heap.specs.Heap.{Heap, empty_heap}
+use Rattle.bs_heap.specs.HeldBlocks.{IsKeptIn}
+use Rattle.bs_sched.specs.declared.cores.Core.TheInside.{Inside}
+use Rattle.bs_sched.specs.declared.cores.TheConstants.{LEAST_CAPACITY}
+use Rattle.bs_sched.specs.Core.{CoreView}
+use Rattle.bs_sched.specs.Insides.{may_answer}
+use Rattle.bs_sched.specs.Lane.{Lane}
+use Rattle.bs_sched.specs.Machine.{lane_of}
+use Rattle.bs_sched.specs.Storage.{Storage, record_tag}
+
+abbrev pub storage_in : List Heap → Ledger → Storage
+storage_in heaps pool = record { packings = map (λ heap. heap.packing) heaps; pool = pool }
+
+abbrev pub core_in : {cap : ℕ} → Inside cap → CoreView
+core_in c =
+    record {
+      rows = c.rows;
+      workers = c.workers;
+      failed = c.failed;
+      lanes = c.fibers.items;
+      storage = storage_in c.heaps.items c.pool;
+    }
+
+abbrev pub heap_of : List Heap → ℕ → Heap
+heap_of heaps game = slice_index_or heaps game (empty_heap 0 0)
+
+-- the heap keeps the records of the lane's boards
+pub record KeepsBoards (x : Lane) (heap : Heap) : Type 0 where
+  pub quota : heap.quota ≡ x.quota
+  pub records : heap.records ≡ map record_of x.game
+
+-- the heaps of a core that was just opened, from that row on
+abbrev pub opened_heaps_from : ℕ → List GameRow → List Heap
+opened_heaps_from game [] = []
+opened_heaps_from game (row ∷ rows) = empty_heap (record_tag game) row.quota ∷ opened_heaps_from (game + 1) rows
+
+abbrev pub opened_heaps : List GameRow → List Heap
+opened_heaps = opened_heaps_from 0
+
+-- the heap keeps the records of the lane's boards, in blocks of the game's own tag, and has room for one more where one may come
+pub record IsHeapOf (cap own : ℕ) (x : Lane) (heap : Heap) (pool : Ledger) : Type 0 where
+  pub tag : heap.tag ≡ own
+  pub quota : heap.quota ≡ x.quota
+  pub records : heap.records ≡ map record_of x.game
+  pub held : IsKeptIn heap pool
+  pub blocks : blocks_for cap heap.quota ≤ reserved heap.tag pool
+  pub room : may_answer x.stage ≡ true → 0 < heap.index_room
+
+abbrev pub AreHeapsOf : ℕ → List Lane → List Heap → Ledger → Type 0
+AreHeapsOf cap lanes heaps pool = (game : ℕ) → game < length lanes → IsHeapOf cap (record_tag game) (lane_of lanes game) (heap_of heaps game) pool
+
+pub record IsSound (cap : ℕ) {at : ℕ} (c : Inside at) : Type 0 where
+  pub wide : LEAST_CAPACITY ≤ cap
+  pub plan : IsFitPlan c.rows
+  pub lanes : length c.fibers.items ≡ length c.rows
+  pub many : length c.heaps.items ≡ length c.fibers.items
+  pub heaps : AreHeapsOf cap c.fibers.items c.heaps.items c.pool

@@ -1,0 +1,40 @@
+-- What a job reads: the input that its lane has for it.
+use Rattle.std.specs.Prelude.{ℕ, List, [], length, map, option_map}
+use Rattle.std.specs.List.{range_with_len}
+use Rattle.bs_board.specs.declared.boards.snake.Snake.{Snake}
+use Rattle.bs_board.specs.declared.commands.command.Command.{Command}
+use Rattle.bs_board.specs.records.Record.{record_of}
+use Rattle.bs_game.specs.Game.{game_charge, last_board}
+use Rattle.bs_game.specs.Answer.{asked_board}
+use Rattle.bs_fiber.specs.declared.input.Input.{Input}
+use Rattle.bs_fiber.specs.declared.job.JobKind.{JobKind}
+use Rattle.bs_fiber.specs.declared.job.JobKind.TheVariants as kind
+use Rattle.bs_fiber.specs.declared.job.JobName.{JobName}
+use Rattle.bs_fiber.specs.Work.{moved_part}
+use Rattle.bs_sched.specs.Lane.{Lane, lane_command, lane_view}
+
+-- what the parts of the move come to, for the job that joins them
+abbrev pub moved_parts_for : JobKind → Lane → List (List Snake)
+moved_parts_for kind.Begin x = []
+moved_parts_for kind.Part x = []
+moved_parts_for kind.Join x = map (λ p. moved_part p (lane_view x) (lane_command x)) (range_with_len 0 (length x.parts))
+
+-- of a job of the lane for that command, before it has parts
+abbrev pub input_for : Lane → Command → ℕ → ℕ → JobName → Input
+input_for x command seq worker job =
+    record {
+      job = job;
+      worker = worker;
+      seq = seq;
+      quota = x.quota;
+      charge = game_charge x.game;
+      kept = length x.game;
+      last = option_map record_of (last_board x.game);
+      asked = option_map record_of (asked_board command x.game);
+      command = command;
+      parts = [];
+    }
+
+-- of a job that is out
+abbrev pub input_of : Lane → ℕ → JobName → Input
+input_of x worker job = record (input_for x (lane_command x) (length x.taken) worker job) { parts = moved_parts_for job.kind x }

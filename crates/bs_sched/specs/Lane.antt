@@ -1,0 +1,161 @@
+-- One game of the machine: its lane, and what taking a job and bringing one back make of it.
+use Rattle.std.specs.Prelude.{◌≡◌, ℕ, ◌-◌, Bool, true, false, ◌&&◌, ◌||◌, not, if◌then◌else◌, List, [], ◌∷◌, ◌++◌, length, take, drop, replicate, nat_eq, nat_lt, slice_index_or, slice_set, Option, Some, None}
+use Rattle.std.specs.List.{list_all}
+use Rattle.bs_board.specs.declared.commands.command.Command.{Command}
+use Rattle.bs_board.specs.declared.commands.command.Command.TheVariants as command
+use Rattle.bs_board.specs.declared.commands.reply.Reply.{Reply}
+use Rattle.bs_game.specs.declared.view.View.{View}
+use Rattle.bs_game.specs.Answer.{Outcome, answer_to}
+use Rattle.bs_game.specs.Game.{Game, last_board}
+use Rattle.bs_game.specs.Answer.{view_of_game}
+use Rattle.bs_fiber.specs.declared.job.JobKind.{JobKind}
+use Rattle.bs_fiber.specs.declared.job.JobKind.TheVariants as kind
+use Rattle.bs_fiber.specs.Work.{goes, parts_of, snakes_in}
+use Rattle.bs_sched.specs.declared.stage.Stage.{Stage}
+use Rattle.bs_sched.specs.declared.stage.Stage.TheVariants as stage
+use Rattle.bs_sched.specs.declared.stage.PartState.{PartState}
+use Rattle.bs_sched.specs.declared.stage.PartState.TheVariants as part
+
+pub record Lane : Type 0 where
+  pub quota : ℕ
+  -- the commands that were begun, the newest last, and those that wait for their turn
+  pub taken : List Command
+  pub waiting : List Command
+  pub replies : List Reply
+  -- the boards that are kept
+  pub game : Game
+  pub stage : Stage
+  -- of the move that the lane is at, by the part's number
+  pub parts : List PartState
+
+abbrev pub empty_lane : ℕ → Lane
+empty_lane quota = record { quota = quota; taken = []; waiting = []; replies = []; game = []; stage = stage.Idle; parts = [] }
+
+-- the command that the lane is at, or was at last
+abbrev pub lane_command : Lane → Command
+lane_command x = slice_index_or x.taken (length x.taken - 1) command.Bad
+
+abbrev pub lane_outcome : Lane → Outcome
+lane_outcome x = answer_to x.quota x.game (lane_command x)
+
+-- what the game shows to a job of the command
+abbrev pub lane_view : Lane → View
+lane_view x = view_of_game x.quota x.game (lane_command x)
+
+-- the command is a move that nothing speaks against
+abbrev pub goes_on : Lane → Bool
+goes_on x = goes (lane_view x) (lane_command x)
+
+-- Who has what.
+
+abbrev pub is_idle : Stage → Bool
+is_idle stage.Idle = true
+is_idle (stage.Begin worker) = false
+is_idle stage.Parts = false
+is_idle (stage.Join taker) = false
+
+abbrev pub is_in_parts : Stage → Bool
+is_in_parts stage.Idle = false
+is_in_parts (stage.Begin worker) = false
+is_in_parts stage.Parts = true
+is_in_parts (stage.Join taker) = false
+
+abbrev pub is_playing : Stage → Bool
+is_playing stage.Idle = false
+is_playing (stage.Begin worker) = false
+is_playing stage.Parts = true
+is_playing (stage.Join taker) = true
+
+abbrev pub is_to_join : Stage → Bool
+is_to_join stage.Idle = false
+is_to_join (stage.Begin worker) = false
+is_to_join stage.Parts = false
+is_to_join (stage.Join None) = true
+is_to_join (stage.Join (Some worker)) = false
+
+abbrev pub has_begin : ℕ → Stage → Bool
+has_begin w stage.Idle = false
+has_begin w (stage.Begin worker) = nat_eq worker w
+has_begin w stage.Parts = false
+has_begin w (stage.Join taker) = false
+
+abbrev pub has_join : ℕ → Stage → Bool
+has_join w stage.Idle = false
+has_join w (stage.Begin worker) = false
+has_join w stage.Parts = false
+has_join w (stage.Join None) = false
+has_join w (stage.Join (Some worker)) = nat_eq worker w
+
+abbrev pub is_part_ready : PartState → Bool
+is_part_ready part.Ready = true
+is_part_ready (part.Out worker) = false
+is_part_ready part.Done = false
+
+abbrev pub has_part : ℕ → PartState → Bool
+has_part w part.Ready = false
+has_part w (part.Out worker) = nat_eq worker w
+has_part w part.Done = false
+
+abbrev pub is_part_done : PartState → Bool
+is_part_done part.Ready = false
+is_part_done (part.Out worker) = false
+is_part_done part.Done = true
+
+-- a part that is not there is as one that is done
+abbrev pub part_at : Lane → ℕ → PartState
+part_at x p = slice_index_or x.parts p part.Done
+
+-- the worker has the job of the lane that begins or joins; while it has, it may take no other
+abbrev pub occupies : ℕ → Lane → Bool
+occupies w x = has_begin w x.stage || has_join w x.stage
+
+-- the job is there to be taken; a job that is no part has the part number 0
+abbrev pub is_ready : Lane → JobKind → ℕ → Bool
+is_ready x kind.Begin p = nat_eq p 0 && (is_idle x.stage && nat_lt 0 (length x.waiting))
+is_ready x kind.Part p = is_in_parts x.stage && is_part_ready (part_at x p)
+is_ready x kind.Join p = nat_eq p 0 && is_to_join x.stage
+
+-- the worker has the job
+abbrev pub is_out : ℕ → Lane → JobKind → ℕ → Bool
+is_out w x kind.Begin p = nat_eq p 0 && has_begin w x.stage
+is_out w x kind.Part p = is_in_parts x.stage && has_part w (part_at x p)
+is_out w x kind.Join p = nat_eq p 0 && has_join w x.stage
+
+-- What the events make of a lane.
+
+abbrev pub with_waiting : Command → Lane → Lane
+with_waiting command x = record x { waiting = x.waiting ++ command ∷ [] }
+
+-- the first command that waits is begun; a part or the joining of all parts goes out
+abbrev pub with_taken : ℕ → JobKind → ℕ → Lane → Lane
+with_taken w kind.Begin p x = record x { taken = x.taken ++ take 1 x.waiting; waiting = drop 1 x.waiting; stage = stage.Begin w }
+with_taken w kind.Part p x = record x { parts = slice_set x.parts p (part.Out w) }
+with_taken w kind.Join p x = record x { stage = stage.Join (Some w) }
+
+-- the command has its reply and its effect
+abbrev pub answered : Lane → Lane
+answered x = record x { replies = x.replies ++ (lane_outcome x).reply ∷ []; game = (lane_outcome x).game; stage = stage.Idle; parts = [] }
+
+-- the parts of the move are there to be taken
+abbrev pub forked : Lane → Lane
+forked x = record x { stage = stage.Parts; parts = replicate (parts_of (length (snakes_in (last_board x.game)))) part.Ready }
+
+abbrev pub stage_with : List PartState → Stage
+stage_with parts = if list_all is_part_done parts then stage.Join None else stage.Parts
+
+-- a part came back; after the last one the move is to be joined
+abbrev pub with_part_done : ℕ → Lane → Lane
+with_part_done p x = record x { parts = slice_set x.parts p part.Done; stage = stage_with (slice_set x.parts p part.Done) }
+
+abbrev pub with_put : JobKind → ℕ → Lane → Lane
+with_put kind.Begin p x = if goes_on x then forked x else answered x
+with_put kind.Part p x = with_part_done p x
+with_put kind.Join p x = answered x
+
+-- What is asked of a lane.
+
+abbrev pub is_quiet : Lane → Bool
+is_quiet x = is_idle x.stage && nat_eq (length x.waiting) 0
+
+abbrev pub HasNoneReady : Lane → Type 0
+HasNoneReady x = (job : JobKind) (p : ℕ) → is_ready x job p ≡ false

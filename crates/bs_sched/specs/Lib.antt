@@ -1,0 +1,14 @@
+pub mod Core
+pub mod CoreLayout
+pub mod Courses
+pub mod Handed
+pub mod Insides
+pub mod Inputs
+pub mod Lane
+pub mod Machine
+pub mod PlanBlocks
+pub mod Putting
+pub mod Slots
+pub mod Storage
+pub mod Taking
+pub mod Turns

@@ -1,0 +1,31 @@
+-- The blocks that are set aside for the games of a plan.
+use Rattle.std.specs.Prelude.{ℕ, ◌+◌, ◌*◌, List, [], ◌∷◌, sum_by}
+use Rattle.bs_board.specs.plans.Plan.{GameRow}
+use Rattle.bs_heap.specs.Charge.{blocks_for}
+use Rattle.bs_pool.specs.declared.reservation.Reservation.{Reservation}
+use Rattle.bs_pool.specs.Ledger.{Ledger, with_reservation}
+use Rattle.bs_sched.specs.declared.plan_blocks.TheConstants.{FRAME_BLOCKS}
+use Rattle.bs_sched.specs.Storage.{record_tag, frame_tag}
+
+-- blocks have `cap` bytes
+abbrev pub record_blocks : ℕ → GameRow → ℕ
+record_blocks cap row = blocks_for cap row.quota
+
+abbrev pub blocks_of : ℕ → GameRow → ℕ
+blocks_of cap row = record_blocks cap row + FRAME_BLOCKS
+
+abbrev pub blocks_of_all : ℕ → List GameRow → ℕ
+blocks_of_all cap = sum_by (blocks_of cap)
+
+-- the game of that row has two tags
+abbrev pub with_row : ℕ → ℕ → GameRow → Ledger → Ledger
+with_row cap game row pool = with_reservation (frame_tag game) FRAME_BLOCKS (with_reservation (record_tag game) (record_blocks cap row) pool)
+
+-- of the games from that row on
+abbrev pub reservations_from : ℕ → ℕ → List GameRow → List Reservation
+reservations_from cap game [] = []
+reservations_from cap game (row ∷ rows) =
+    record { tag = record_tag game; blocks = record_blocks cap row } ∷ record { tag = frame_tag game; blocks = FRAME_BLOCKS } ∷ reservations_from cap (game + 1) rows
+
+abbrev pub reservations_of : ℕ → List GameRow → List Reservation
+reservations_of cap = reservations_from cap 0

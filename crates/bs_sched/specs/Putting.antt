@@ -1,0 +1,17 @@
+-- When what a worker brings back is the core's own.
+use Rattle.std.specs.Prelude.{◌≡◌, ℕ, true}
+use Rattle.bs_fiber.specs.declared.input.Input.{Input}
+use Rattle.bs_sched.specs.declared.event.Event.TheVariants as event
+use Rattle.bs_sched.specs.Core.{CoreView}
+use Rattle.bs_sched.specs.Inputs.{input_of}
+use Rattle.bs_sched.specs.Lane.{Lane, is_out}
+use Rattle.bs_sched.specs.Machine.{lane_of, is_enabled}
+
+-- the worker has the job, and it read what the lane has for it
+pub record IsOwnOf (x : Lane) (worker : ℕ) (brought : Input) : Type 0 where
+  pub out : is_out worker x brought.job.kind brought.job.part ≡ true
+  pub input : brought ≡ input_of x worker brought.job
+
+pub record IsOwn (core : CoreView) (worker : ℕ) (brought : Input) : Type 0 where
+  pub out : is_enabled core.workers core.lanes (event.Put worker brought.job) ≡ true
+  pub input : brought ≡ input_of (lane_of core.lanes brought.job.game) worker brought.job

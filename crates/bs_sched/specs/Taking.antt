@@ -1,0 +1,57 @@
+-- What a worker gets that asks for a job.
+use Rattle.std.specs.Prelude.{◌≡◌, ℕ, ◌<◌, true, false, List, length}
+use Rattle.bs_fiber.specs.declared.input.Input.{Input}
+use Rattle.bs_fiber.specs.declared.job.JobName.{JobName}
+use Rattle.bs_sched.specs.declared.event.Event.TheVariants as event
+use Rattle.bs_sched.specs.declared.taking.Found.{Found}
+use Rattle.bs_sched.specs.declared.taking.Found.TheVariants as found
+use Rattle.bs_sched.specs.declared.taking.Taken.{Taken}
+use Rattle.bs_sched.specs.declared.taking.Taken.TheVariants as taken
+use Rattle.bs_sched.specs.Core.{CoreView, after}
+use Rattle.bs_sched.specs.Inputs.{input_of}
+use Rattle.bs_sched.specs.Lane.{Lane, HasNoneReady, is_ready}
+use Rattle.bs_sched.specs.Machine.{lane_of, is_busy, is_enabled}
+
+-- a job that some lane has for anybody
+pub record IsReadyJob (lanes : List Lane) (job : JobName) : Type 0 where
+  pub there : job.game < length lanes
+  pub ready : is_ready (lane_of lanes job.game) job.kind job.part ≡ true
+
+-- nobody can take anything
+abbrev pub AreNoneReady : List Lane → Type 0
+AreNoneReady lanes = (game : ℕ) → game < length lanes → HasNoneReady (lane_of lanes game)
+
+abbrev pub FindsJob : ℕ → List Lane → Found → Type 0
+FindsJob worker lanes found.Busy = is_busy worker lanes ≡ true
+FindsJob worker lanes found.Nothing = (is_busy worker lanes ≡ false) × AreNoneReady lanes
+FindsJob worker lanes (found.Job job) = (is_busy worker lanes ≡ false) × IsReadyJob lanes job
+
+pub record IsFailed (old new : CoreView) : Type 0 where
+  pub failed : old.failed ≡ true
+  pub same : new ≡ old
+
+pub record IsBusyWorker (old : CoreView) (worker : ℕ) (new : CoreView) : Type 0 where
+  pub failed : old.failed ≡ false
+  pub busy : is_busy worker old.lanes ≡ true
+  pub same : new ≡ old
+
+-- no job can be taken by the worker
+pub record HasNothing (old : CoreView) (worker : ℕ) (new : CoreView) : Type 0 where
+  pub failed : old.failed ≡ false
+  pub free : is_busy worker old.lanes ≡ false
+  pub none : (job : JobName) → is_enabled old.workers old.lanes (event.Take worker job) ≡ false
+  pub same : new ≡ old
+
+-- the worker may take the job, and its ticket holds the core's own input
+pub record TakesJob (cap : ℕ) (old : CoreView) (worker : ℕ) (ticket : Input) (new : CoreView) : Type 0 where
+  pub failed : old.failed ≡ false
+  pub enabled : is_enabled old.workers old.lanes (event.Take worker ticket.job) ≡ true
+  pub after : new ≡ after cap old (event.Take worker ticket.job)
+  pub input : ticket ≡ input_of (lane_of new.lanes ticket.job.game) worker ticket.job
+
+-- the answers in the order in which they are judged
+abbrev pub TakesAs : ℕ → CoreView → ℕ → Taken → CoreView → Type 0
+TakesAs cap old worker taken.Failed new = IsFailed old new
+TakesAs cap old worker taken.Busy new = IsBusyWorker old worker new
+TakesAs cap old worker taken.Nothing new = HasNothing old worker new
+TakesAs cap old worker (taken.Job ticket) new = TakesJob cap old worker ticket new

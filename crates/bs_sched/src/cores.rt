@@ -1,0 +1,182 @@
+//! The core and its readers. Clauses see its games as lanes, and where their records lie.
+ghost use Rattle.std.specs.Prelude.{◌≡◌, ◌+◌, ◌<◌, [], true, length, slice_index_or, map, IfOk, OnOk, OnErr};
+ghost use Rattle.std.specs.List.{list_all};
+ghost use Rattle.bs_board.specs.records.Record.{record_of};
+ghost use Rattle.bs_game.specs.Game.{game_charge, last_board};
+ghost use Rattle.bs_pool.specs.Ledger.{free, size};
+ghost use Rattle.bs_sched.specs.Core.{after, row_at};
+ghost use Rattle.bs_sched.specs.CoreLayout.{KeepsBoards};
+ghost use Rattle.bs_sched.specs.Courses.{IsRight};
+ghost use Rattle.bs_sched.specs.Lane.{is_quiet};
+ghost use Rattle.bs_sched.specs.Machine.{lane_of};
+ghost use Rattle.bs_sched.specs.declared.event.Event.TheVariants as event;
+
+use crate::fiber::Fiber;
+use crate::games::are_quiet;
+use crate::records::decode_last;
+use bs_board::{Board, Command, Reply, Row, Rows};
+use bs_heap::TagHeap;
+use bs_pool::Pool;
+use std::alloc::{AllocError, Global};
+use std::marker::Model;
+
+/// How many blocks a core has.
+#[derive(Clone, Copy, Debug, PartialEq, Eq)]
+pub struct Counts {
+    /// Those that no game holds.
+    pub free: usize,
+    /// Those in which games keep records.
+    pub held: usize,
+    /// All of them.
+    pub size: usize,
+}
+
+/// The least size of a block: a record, or the parts of a turn, fit into one twice.
+pub const LEAST_CAPACITY: usize = 524_288;
+
+/// All games of a plan, with the blocks that their records are kept in.
+#[derive(Drop)]
+pub struct Core<const CAP: usize> {
+    pub(crate) rows: Rows,
+    pub(crate) workers: usize,
+    pub(crate) failed: bool,
+    pub(crate) fibers: Vec<Fiber>,
+    pub(crate) heaps: Vec<TagHeap<CAP>>,
+    pub(crate) pool: Pool<CAP>,
+}
+
+impl<const CAP: usize> Model for Core<CAP> {
+    ghost use Rattle.bs_sched.specs.Core.{CoreView};
+    ghost use Rattle.bs_sched.specs.CoreLayout.{core_in, IsSound};
+
+    ghost Value = { CoreView };
+
+    ghost view = { λ c. core_in c };
+
+    ghost invariant = { λ c. IsSound CAP c };
+}
+
+/// What the records of the fiber's game are charged.
+#[tactic(auto, using(crate::proofs::ReadCore::charge_of_boards))]
+fn kept_charge<const CAP: usize>(fiber: &Fiber, heap: &TagHeap<CAP>) -> u32
+    requires { KeepsBoards fiber.now heap.now }
+    ensures { result ≡ game_charge fiber.now.game }
+{
+    fiber.keeps();
+    heap.charge()
+}
+
+impl<const CAP: usize> Core<CAP> {
+    /// A command goes to the end of those that wait in the game of that row. An error is the allocator's, and leaves
+    /// all as it was.
+    pub fn hand(&mut self, game: usize, command: Command) -> Result<(), AllocError>
+        requires { game < length self.old.lanes }
+        ensures ok { OnOk result (self.new ≡ after CAP self.old (event.Hand game command)) }
+        ensures err { OnErr result (self.new ≡ self.old) }
+    {
+        self.fibers[game].hand(command)
+    }
+
+    /// From now on no job is taken. What is out may still come back.
+    pub fn fail(&mut self)
+        ensures { self.new ≡ record self.old { failed = true } }
+    {
+        self.failed = true;
+    }
+
+    /// How many games the plan has.
+    pub fn rows(&self) -> usize
+        ensures { result ≡ length self.now.lanes }
+    {
+        self.fibers.len()
+    }
+
+    /// The number of the last worker, the caller's own.
+    pub fn workers(&self) -> usize
+        ensures { result ≡ self.now.workers }
+    {
+        self.workers
+    }
+
+    /// The game of that row.
+    pub fn row(&self, game: usize) -> &Row
+        requires { game < length self.now.lanes }
+        ensures { result.now ≡ row_at self.now.rows game }
+    {
+        &self.rows.as_slice()[game]
+    }
+
+    /// The commands that were taken, in their order.
+    pub fn taken(&self, game: usize) -> &[Command]
+        requires { game < length self.now.lanes }
+        ensures { result.now ≡ (lane_of self.now.lanes game).taken }
+    {
+        self.fibers[game].taken()
+    }
+
+    /// The replies to the commands that were answered, in their order.
+    pub fn replies(&self, game: usize) -> &[Reply]
+        requires { game < length self.now.lanes }
+        ensures value { result.now ≡ (lane_of self.now.lanes game).replies }
+        ensures right { IsRight (lane_of self.now.lanes game) }
+    {
+        self.fibers[game].keeps();
+        self.fibers[game].replies()
+    }
+
+    /// How many records are kept.
+    pub fn count(&self, game: usize) -> usize
+        requires { game < length self.now.lanes }
+        ensures { result ≡ length (lane_of self.now.lanes game).game }
+    {
+        self.heaps[game].count()
+    }
+
+    /// The record at that place among the kept ones, the oldest first.
+    pub fn records(&self, game: usize, place: usize) -> &[u8]
+        requires game { game < length self.now.lanes }
+        requires place { place < length (lane_of self.now.lanes game).game }
+        ensures { result.now ≡ slice_index_or (map record_of (lane_of self.now.lanes game).game) place [] }
+    {
+        self.heaps[game].record(place)
+    }
+
+    /// The newest board.
+    pub fn board(&self, alloc: Global, game: usize) -> Result<Option<Board>, AllocError>
+        requires { game < length self.now.lanes }
+        ensures { IfOk result (λ board. board ≡ last_board (lane_of self.now.lanes game).game) }
+    {
+        self.fibers[game].keeps();
+        decode_last(alloc, &self.heaps[game])
+    }
+
+    /// What the kept records are charged, in bytes.
+    pub fn charge(&self, game: usize) -> u32
+        requires { game < length self.now.lanes }
+        ensures { result ≡ game_charge (lane_of self.now.lanes game).game }
+    {
+        kept_charge(&self.fibers[game], &self.heaps[game])
+    }
+
+    /// Whether all commands are answered.
+    pub fn is_quiet(&self) -> bool
+        ensures { result ≡ list_all is_quiet self.now.lanes }
+    {
+        are_quiet(&self.fibers)
+    }
+
+    /// How many blocks are free, how many the games hold, and how many there are.
+    pub fn counts(&self) -> Counts
+        ensures free { result.free ≡ free self.now.storage.pool }
+        ensures size { result.size ≡ size self.now.storage.pool }
+        ensures all { result.free + result.held ≡ result.size }
+    {
+        let free = self.pool.free();
+        let size = self.pool.size();
+        Counts {
+            free,
+            held: size - free,
+            size,
+        }
+    }
+}

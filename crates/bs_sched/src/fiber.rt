@@ -1,0 +1,391 @@
+//! The fiber of one game: its commands, its replies, and where it is in the command that it is at. Clauses see its lane.
+ghost use Rattle.std.specs.Prelude.{◌≡◌, ◌+◌, ◌≤◌, ◌<◌, ℕ, true, false, [], length, replicate, map, vec_len, vec_capacity, option_to_list, slice_index_or, MatchOption, ◌++◌, IfOk, OnOk, OnErr};
+ghost use Rattle.std.specs.List.{list_all, filter_map, position};
+ghost use Rattle.bs_game.specs.Answer.{Fits};
+ghost use Rattle.bs_sched.specs.declared.fiber.Slot.TheVariants as slot;
+ghost use Rattle.bs_sched.specs.declared.stage.PartState.TheVariants as state;
+ghost use Rattle.bs_sched.specs.Lane.{is_part_done, is_part_ready, has_part};
+ghost use Rattle.bs_sched.specs.Slots.{state_of, emptied, moved_in};
+
+use crate::stage::Stage;
+use bs_board::limits::MOST_QUOTA;
+use bs_board::{Command, Reply, Snakes};
+use bs_fiber::{JobKind, Parts};
+use std::alloc::{AllocError, Global};
+use std::marker::Model;
+
+/// A part of the move that is played.
+#[derive(Debug, Drop)]
+pub(crate) enum Slot {
+    Ready,
+    Out(usize),
+    /// What the part moved, until it is joined.
+    Done(Option<Snakes>),
+}
+
+/// The most parts that a move has.
+const MOST_PARTS: usize = 4;
+
+#[derive(Debug, Drop)]
+pub(crate) struct Fiber {
+    quota: u32,
+    /// All that were handed in. The first `begun` of them were taken.
+    commands: Vec<Command>,
+    begun: usize,
+    replies: Vec<Reply>,
+    stage: Stage,
+    slots: Vec<Slot>,
+}
+
+impl Model for Fiber {
+    ghost use Rattle.bs_sched.specs.Lane.{Lane};
+    ghost use Rattle.bs_sched.specs.Insides.{lane_in, IsFiber};
+
+    ghost Value = { Lane };
+
+    ghost view = { lane_in };
+
+    ghost invariant = { IsFiber };
+}
+
+/// What a command holds is within the limits, since its types keep them.
+fn keeps_limits(command: &Command)
+    ensures { Fits command.now }
+{
+    match command {
+        Command::New(new) => {
+            let _mode = new.mode;
+        }
+        Command::Move(orders) => orders.fits(),
+        Command::Turn(at) => {
+            let _number = at.number();
+        }
+        Command::Show => {}
+        Command::Free => {}
+        Command::End => {}
+        Command::Bad => {}
+    }
+}
+
+/// So many parts that are ready.
+fn push_ready(slots: &mut Vec<Slot>, parts: usize)
+    requires none { slots.old.items ≡ [] }
+    requires few { parts ≤ 4 }
+    requires room { 4 ≤ vec_capacity slots.old }
+    ensures slots { slots.new.items ≡ replicate parts (slot.Ready) }
+    ensures room { vec_capacity slots.new ≡ vec_capacity slots.old }
+{
+    for _part in 0..parts {
+        slots.push_reserved(Slot::Ready);
+    }
+}
+
+fn is_done(slot: &Slot) -> bool
+    ensures { result ≡ is_part_done (state_of slot.now) }
+{
+    match slot {
+        Slot::Ready => false,
+        Slot::Out(_) => false,
+        Slot::Done(_) => true,
+    }
+}
+
+/// Whether all parts came back.
+fn are_done(slots: &[Slot]) -> bool
+    ensures { result ≡ list_all (λ slot. is_part_done (state_of slot)) slots.now }
+{
+    slots.iter().all(|slot| is_done(slot))
+}
+
+fn has_part(slots: &[Slot], worker: usize, part: usize) -> bool
+    ensures { result ≡ has_part worker (slice_index_or (map state_of slots.now) part state.Done) }
+{
+    match slots.get(part) {
+        Some(Slot::Out(holder)) => *holder == worker,
+        Some(Slot::Ready) => false,
+        Some(Slot::Done(_)) => false,
+        None => false,
+    }
+}
+
+fn is_ready_slot(slot: &Slot) -> bool
+    ensures { result ≡ is_part_ready (state_of slot.now) }
+{
+    match slot {
+        Slot::Ready => true,
+        Slot::Out(_) => false,
+        Slot::Done(_) => false,
+    }
+}
+
+/// The first part that nobody has taken.
+fn first_ready(slots: &[Slot]) -> Option<usize>
+    ensures { MatchOption result
+        ((p : ℕ) → is_part_ready (slice_index_or (map state_of slots.now) p state.Done) ≡ false)
+        (λ p. is_part_ready (slice_index_or (map state_of slots.now) p state.Done) ≡ true) }
+{
+    for part in 0..slots.len() {
+        if is_ready_slot(&slots[part]) {
+            return Some(part);
+        }
+    }
+    None
+}
+
+/// What a part moved goes out of its slot.
+fn take_moved(slot: &mut Slot) -> Option<Snakes>
+    ensures slot { slot.new ≡ emptied slot.old }
+    ensures moved { result ≡ moved_in slot.old }
+{
+    match slot {
+        Slot::Ready => None,
+        Slot::Out(_) => None,
+        Slot::Done(moved) => moved.take(),
+    }
+}
+
+fn push_if_some(moved: &mut Vec<Snakes>, one: Option<Snakes>)
+    requires { vec_len moved.old < vec_capacity moved.old }
+    ensures items { moved.new.items ≡ moved.old.items ++ option_to_list one }
+    ensures room { vec_capacity moved.new ≡ vec_capacity moved.old }
+{
+    if let Some(snakes) = one {
+        moved.push_reserved(snakes);
+    }
+}
+
+/// What all parts moved, in their order, goes out of their slots.
+fn collect_moved(slots: &mut Vec<Slot>, moved: &mut Vec<Snakes>)
+    requires none { moved.old.items ≡ [] }
+    requires room { length slots.old.items ≤ vec_capacity moved.old }
+    ensures slots { slots.new.items ≡ map emptied slots.old.items }
+    ensures room { vec_capacity slots.new ≡ vec_capacity slots.old }
+    ensures moved { moved.new.items ≡ filter_map moved_in slots.old.items }
+{
+    for part in 0..slots.len() {
+        let one = take_moved(&mut slots[part]);
+        push_if_some(moved, one);
+    }
+}
+
+impl Fiber {
+    ghost use Rattle.std.specs.Prelude.{[], ◌++◌, ◌∷◌, nat_eq, take, drop, map, Option, slice_get};
+    ghost use Rattle.bs_fiber.specs.declared.job.JobKind.TheVariants as kind;
+    ghost use Rattle.bs_fiber.specs.Work.{moved_part, parts_of, snakes_in};
+    ghost use Rattle.bs_game.specs.Game.{last_board};
+    ghost use Rattle.bs_sched.specs.Inputs.{moved_parts_for};
+    ghost use Rattle.bs_sched.specs.Lane.{empty_lane, with_waiting, with_taken, with_put, with_part_done, forked, answered, is_ready, is_out, occupies, lane_view, lane_command, lane_outcome, goes_on, is_idle, is_in_parts, is_quiet, HasNoneReady};
+    ghost use Rattle.bs_sched.specs.Courses.{IsRight};
+
+    /// A game that was handed nothing yet.
+    pub(crate) fn new(alloc: Global, quota: u32) -> Result<Fiber, AllocError>
+        requires { quota ≤ MOST_QUOTA }
+        ensures { IfOk result (λ fiber. fiber ≡ empty_lane quota) }
+    {
+        Ok(Fiber {
+            quota,
+            commands: Vec::new(alloc),
+            begun: 0,
+            replies: Vec::new(alloc),
+            stage: Stage::Idle,
+            slots: Vec::with_capacity(alloc, MOST_PARTS)?,
+        })
+    }
+
+    /// One more command waits.
+    pub(crate) fn hand(&mut self, command: Command) -> Result<(), AllocError>
+        ensures ok { OnOk result (self.new ≡ with_waiting command self.old) }
+        ensures err { OnErr result (self.new ≡ self.old) }
+    {
+        keeps_limits(&command);
+        self.commands.push(command)?;
+        Ok(())
+    }
+
+    /// The worker takes the job that begins the first waiting command. Room for the reply is made first.
+    pub(crate) fn begin(&mut self, worker: usize) -> Result<(), AllocError>
+        requires { is_ready self.old kind.Begin 0 ≡ true }
+        ensures ok { OnOk result (self.new ≡ with_taken worker kind.Begin 0 self.old) }
+        ensures err { OnErr result (self.new ≡ self.old) }
+    {
+        self.replies.reserve(1)?;
+        self.begun += 1;
+        self.stage = Stage::Begin(worker);
+        Ok(())
+    }
+
+    /// The worker takes that part.
+    pub(crate) fn take_part(&mut self, worker: usize, part: usize)
+        requires { is_ready self.old kind.Part part ≡ true }
+        ensures { self.new ≡ with_taken worker kind.Part part self.old }
+    {
+        self.slots[part] = Slot::Out(worker);
+    }
+
+    /// The worker takes the job that joins all parts, with what they moved. Room for the reply is made first.
+    pub(crate) fn join(&mut self, alloc: Global, worker: usize) -> Result<Parts, AllocError>
+        requires { is_ready self.old kind.Join 0 ≡ true }
+        ensures ok { OnOk result (self.new ≡ with_taken worker kind.Join 0 self.old) }
+        ensures parts { IfOk result (λ parts. parts ≡ moved_parts_for kind.Join self.old) }
+        ensures err { OnErr result (self.new ≡ self.old) }
+    {
+        let mut moved = Vec::with_capacity(alloc, self.slots.len())?;
+        self.replies.reserve(1)?;
+        collect_moved(&mut self.slots, &mut moved);
+        self.stage = Stage::Join(Some(worker));
+        Ok(Parts::from_vec(moved))
+    }
+
+    /// The move goes, in so many parts.
+    pub(crate) fn fork(&mut self, parts: usize)
+        requires begun { (worker : ℕ) × (is_out worker self.old kind.Begin 0 ≡ true) }
+        requires goes { goes_on self.old ≡ true }
+        requires parts { parts ≡ parts_of (length (snakes_in (last_board self.old.game))) }
+        requires few { parts ≤ 4 }
+        ensures { self.new ≡ forked self.old }
+    {
+        push_ready(&mut self.slots, parts);
+        self.stage = Stage::Parts;
+    }
+
+    /// The part came back with what it moved.
+    pub(crate) fn put_part(&mut self, part: usize, moved: Snakes)
+        requires out { (worker : ℕ) × (is_out worker self.old kind.Part part ≡ true) }
+        requires moved { moved ≡ moved_part part (lane_view self.old) (lane_command self.old) }
+        ensures { self.new ≡ with_part_done part self.old }
+    {
+        self.slots[part] = Slot::Done(Some(moved));
+        if are_done(&self.slots) {
+            self.stage = Stage::Join(None);
+        }
+    }
+
+    /// The command has its reply.
+    pub(crate) fn answer(&mut self, reply: Reply)
+        requires out { (worker : ℕ) × (occupies worker self.old ≡ true) }
+        requires reply { reply ≡ (lane_outcome self.old).reply }
+        ensures { self.new ≡ answered self.old }
+    {
+        self.slots.clear();
+        self.replies.push_reserved(reply);
+        self.stage = Stage::Idle;
+    }
+
+    /// What is so of each game between two events.
+    pub(crate) fn keeps(&self)
+        ensures { IsRight self.now }
+    {
+        let _quota = self.quota;
+    }
+
+    /// The commands that were taken.
+    pub(crate) fn taken(&self) -> &[Command]
+        ensures { result.now ≡ self.now.taken }
+    {
+        &self.commands.as_slice()[..self.begun]
+    }
+
+    /// The command that is taken next.
+    pub(crate) fn next(&self) -> &Command
+        requires { 0 < length self.now.waiting }
+        ensures { result.now ≡ lane_command (with_taken 0 kind.Begin 0 self.now) }
+    {
+        &self.commands[self.begun]
+    }
+
+    /// The command that the game is at.
+    pub(crate) fn command(&self) -> &Command
+        requires { is_idle self.now.stage ≡ false }
+        ensures { result.now ≡ lane_command self.now }
+    {
+        &self.commands[self.begun - 1]
+    }
+
+    /// How many commands were taken.
+    pub(crate) fn seq(&self) -> usize
+        ensures { result ≡ length self.now.taken }
+    {
+        self.begun
+    }
+
+    /// The number of the command that is taken next, from 1.
+    pub(crate) fn next_seq(&self) -> usize
+        requires { 0 < length self.now.waiting }
+        ensures { result ≡ length self.now.taken + 1 }
+    {
+        self.begun + 1
+    }
+
+    pub(crate) fn replies(&self) -> &[Reply]
+        ensures { result.now ≡ self.now.replies }
+    {
+        self.replies.as_slice()
+    }
+
+    pub(crate) fn quota(&self) -> u32
+        ensures { result ≡ self.now.quota }
+    {
+        self.quota
+    }
+
+    /// Whether nothing is to be done.
+    pub(crate) fn is_quiet(&self) -> bool
+        ensures { result ≡ is_quiet self.now }
+    {
+        self.stage == Stage::Idle && self.begun == self.commands.len()
+    }
+
+    /// Whether the worker has the job that begins or joins.
+    pub(crate) fn occupies(&self, worker: usize) -> bool
+        ensures { result ≡ occupies worker self.now }
+    {
+        match self.stage {
+            Stage::Idle => false,
+            Stage::Begin(holder) => holder == worker,
+            Stage::Parts => false,
+            Stage::Join(None) => false,
+            Stage::Join(Some(holder)) => holder == worker,
+        }
+    }
+
+    /// Whether the worker has that job.
+    pub(crate) fn has_out(&self, worker: usize, kind: JobKind, part: usize) -> bool
+        ensures { result ≡ is_out worker self.now kind part }
+    {
+        match (kind, self.stage) {
+            (JobKind::Begin, Stage::Begin(holder)) => part == 0 && holder == worker,
+            (JobKind::Part, Stage::Parts) => has_part(&self.slots, worker, part),
+            (JobKind::Join, Stage::Join(Some(holder))) => part == 0 && holder == worker,
+            _ => false,
+        }
+    }
+
+    fn ready_part(&self) -> Option<(JobKind, usize)>
+        requires { is_in_parts self.now.stage ≡ true }
+        ensures { MatchOption result (HasNoneReady self.now) (λ job. is_ready self.now job.0 job.1 ≡ true) }
+    {
+        match first_ready(&self.slots) {
+            None => None,
+            Some(part) => Some((JobKind::Part, part)),
+        }
+    }
+
+    /// A job that is there to be taken, the parts from the first on.
+    pub(crate) fn ready(&self) -> Option<(JobKind, usize)>
+        ensures { MatchOption result (HasNoneReady self.now) (λ job. is_ready self.now job.0 job.1 ≡ true) }
+    {
+        match self.stage {
+            Stage::Idle => {
+                if self.begun < self.commands.len() {
+                    Some((JobKind::Begin, 0))
+                } else {
+                    None
+                }
+            }
+            Stage::Begin(_) => None,
+            Stage::Parts => self.ready_part(),
+            Stage::Join(None) => Some((JobKind::Join, 0)),
+            Stage::Join(Some(_)) => None,
+        }
+    }
+}

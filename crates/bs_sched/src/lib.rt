@@ -1,0 +1,20 @@
+//! The core: all games of a plan, the jobs that their commands are carried out by, and the records that they keep.
+#![tactic(auto)]
+
+mod cores;
+mod event;
+mod fiber;
+mod games;
+mod opening;
+mod plan_blocks;
+mod putting;
+mod records;
+mod stage;
+mod taking;
+
+pub use cores::{Core, Counts, LEAST_CAPACITY};
+pub use event::Event;
+pub use opening::Open;
+pub use putting::Stray;
+pub use stage::{PartState, Stage};
+pub use taking::Taken;

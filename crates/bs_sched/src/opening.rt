@@ -1,0 +1,90 @@
+//! Opening a core: a fiber and a heap for each game, and the blocks that are set aside for all of them.
+ghost use Rattle.std.specs.Prelude.{◌≡◌, ◌*◌, ◌≤◌, ◌<◌, map, length, IfOk, IfErr, OnOk};
+ghost use Rattle.bs_block.specs.Bytes.{IsCapacity};
+ghost use Rattle.bs_sched.specs.Core.{opened};
+ghost use Rattle.bs_sched.specs.CoreLayout.{opened_heaps};
+ghost use Rattle.bs_sched.specs.Lane.{empty_lane};
+ghost use Rattle.bs_sched.specs.PlanBlocks.{blocks_of_all};
+ghost use Rattle.bs_sched.specs.declared.opening.Open.TheVariants as cause;
+
+use crate::cores::{Core, LEAST_CAPACITY};
+use crate::fiber::Fiber;
+use crate::plan_blocks::{blocks_of_all, open_pool, record_tag};
+use bs_board::limits::MOST_ROWS;
+use bs_board::{Plan, Row};
+use bs_heap::{MOST_RECORD_BYTES, TagHeap};
+use std::alloc::{AllocError, Global};
+use thiserror::Error;
+
+/// Why a core was not opened.
+#[derive(Clone, Copy, Debug, PartialEq, Eq, Error)]
+pub enum Open {
+    /// More blocks would be set aside for the plan's games than there are.
+    #[error("too few blocks for the plan")]
+    Short,
+    #[error("out of memory")]
+    Memory,
+}
+
+impl From<AllocError> for Open {
+    ghost from_gives = { λ _ error. error ≡ cause.Memory };
+
+    fn from(_error: AllocError) -> Open {
+        Open::Memory
+    }
+}
+
+fn open_fibers(alloc: Global, rows: &[Row]) -> Result<Vec<Fiber>, AllocError>
+    ensures { IfOk result (λ fibers. fibers.items ≡ map (λ row. empty_lane row.quota) rows.now) }
+{
+    let mut fibers = Vec::with_capacity(alloc, rows.len())?;
+    for row in rows {
+        fibers.push(Fiber::new(alloc, row.quota)?)?;
+    }
+    Ok(fibers)
+}
+
+fn open_heaps<const CAP: usize>(
+    alloc: Global,
+    rows: &[Row],
+) -> Result<Vec<TagHeap<CAP>>, AllocError>
+    requires wide { 2 * MOST_RECORD_BYTES ≤ CAP }
+    requires few { length rows.now ≤ MOST_ROWS }
+    ensures { IfOk result (λ heaps. heaps.items ≡ opened_heaps rows.now) }
+{
+    let mut heaps = Vec::with_capacity(alloc, rows.len())?;
+    for game in 0..rows.len() {
+        let row = &rows[game];
+        heaps.push(TagHeap::new(alloc, record_tag(game), row.quota)?)?;
+    }
+    Ok(heaps)
+}
+
+impl<const CAP: usize> Core<CAP> {
+    #[tactic(auto, using(crate::proofs::OpenedCore::opened_packings))]
+    /// A core over so many blocks, in which each game's own are set aside. Workers are numbered from 0 to `workers`,
+    /// the caller's own being the last. `Short` where the plan needs more blocks.
+    pub fn open(alloc: Global, plan: Plan, blocks: usize, workers: usize) -> Result<Self, Open>
+        requires capacity { IsCapacity CAP }
+        requires wide { LEAST_CAPACITY ≤ CAP }
+        ensures core { IfOk result (λ core. core ≡ opened CAP blocks workers plan.rows) }
+        ensures room { OnOk result (blocks_of_all CAP plan.rows ≤ blocks) }
+        ensures short { IfErr result (λ fault. fault ≡ cause.Short → blocks < blocks_of_all CAP plan.rows) }
+    {
+        let rows = plan.rows.as_slice();
+        if blocks_of_all(CAP, rows) > blocks {
+            return Err(Open::Short);
+        }
+        let pool = open_pool(alloc, rows, blocks)?;
+        let fibers = open_fibers(alloc, rows)?;
+        let heaps = open_heaps(alloc, rows)?;
+        Ok(Core {
+            rows: plan.rows,
+            workers,
+            failed: false,
+            fibers,
+            heaps,
+            pool,
+        })
+    }
+}

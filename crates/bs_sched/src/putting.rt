@@ -1,0 +1,132 @@
+//! Bringing jobs back: whether one is the core's own, and what it makes of its game.
+ghost use Rattle.std.specs.Prelude.{◌≡◌, ◌≤◌, ◌<◌, ◌↔◌, IsTrue, true, ℕ, length, slice_set, OnOk, IfErr};
+ghost use Rattle.bs_fiber.specs.declared.job.JobKind.TheVariants as kind;
+ghost use Rattle.bs_fiber.specs.Work.{moved_part, out_seen, parts_of, snakes_in};
+ghost use Rattle.bs_game.specs.Game.{last_board};
+ghost use Rattle.bs_game.specs.View.{answer_of};
+ghost use Rattle.bs_sched.specs.Core.{after, answer_effect};
+ghost use Rattle.bs_sched.specs.Courses.{IsRight};
+ghost use Rattle.bs_sched.specs.Lane.{occupies, answered, forked, with_part_done, is_out, goes_on, lane_view, lane_command};
+ghost use Rattle.bs_sched.specs.Machine.{lane_of};
+ghost use Rattle.bs_sched.specs.Putting.{IsOwn};
+ghost use Rattle.bs_sched.specs.Storage.{stored};
+ghost use Rattle.bs_sched.specs.declared.event.Event.TheVariants as event;
+
+use crate::cores::Core;
+use crate::games::{answer_game, is_own};
+use crate::records::parts_of_last;
+use bs_board::Snakes;
+use bs_fiber::{Done, JobName, Out};
+use bs_game::Answer;
+use thiserror::Error;
+
+/// The worker has no such job of the core out, or what it read is not what the core has for it. It comes back as it
+/// was.
+#[derive(Debug, Drop, Error)]
+#[error("no such job is out with this worker")]
+pub struct Stray {
+    /// What was brought.
+    pub done: Done,
+}
+
+impl<const CAP: usize> Core<CAP> {
+    /// The command of that game has its answer.
+    fn answer(&mut self, game: usize, answer: Answer)
+        requires game { game < length self.old.lanes }
+        requires out { (worker : ℕ) × (occupies worker (lane_of self.old.lanes game) ≡ true) }
+        requires answer { answer ≡ answer_of (lane_view (lane_of self.old.lanes game)) (lane_command (lane_of self.old.lanes game)) }
+        ensures { self.new ≡ record self.old {
+          lanes = slice_set self.old.lanes game (answered (lane_of self.old.lanes game));
+          storage = stored CAP game (answer_effect (lane_of self.old.lanes game)) self.old.storage;
+        } }
+    {
+        answer_game(
+            &mut self.fibers[game],
+            &mut self.heaps[game],
+            &mut self.pool,
+            answer,
+        );
+    }
+
+    /// The move of that game goes, in so many parts.
+    fn fork(&mut self, game: usize, parts: usize)
+        requires game { game < length self.old.lanes }
+        requires begun { (worker : ℕ) × (is_out worker (lane_of self.old.lanes game) kind.Begin 0 ≡ true) }
+        requires goes { goes_on (lane_of self.old.lanes game) ≡ true }
+        requires parts { parts ≡ parts_of (length (snakes_in (last_board (lane_of self.old.lanes game).game))) }
+        requires few { parts ≤ 4 }
+        ensures { self.new ≡ record self.old { lanes = slice_set self.old.lanes game (forked (lane_of self.old.lanes game)) } }
+    {
+        self.fibers[game].fork(parts);
+    }
+
+    /// How many parts a move of that game has.
+    fn parts(&self, game: usize) -> usize
+        requires game { game < length self.now.lanes }
+        requires goes { goes_on (lane_of self.now.lanes game) ≡ true }
+        ensures value { result ≡ parts_of (length (snakes_in (last_board (lane_of self.now.lanes game).game))) }
+        ensures few { result ≤ 4 }
+    {
+        self.fibers[game].keeps();
+        parts_of_last(&self.heaps[game])
+    }
+
+    /// That part of the move came back with what it moved.
+    fn put_part(&mut self, game: usize, part: usize, moved: Snakes)
+        requires game { game < length self.old.lanes }
+        requires out { (worker : ℕ) × (is_out worker (lane_of self.old.lanes game) kind.Part part ≡ true) }
+        requires moved { moved ≡ moved_part part (lane_view (lane_of self.old.lanes game)) (lane_command (lane_of self.old.lanes game)) }
+        ensures { self.new ≡ record self.old { lanes = slice_set self.old.lanes game (with_part_done part (lane_of self.old.lanes game)) } }
+    {
+        self.fibers[game].put_part(part, moved);
+    }
+
+    /// What a job came to that was out.
+    fn bring(&mut self, job: JobName, out: Out)
+        requires game { job.game < length self.old.lanes }
+        requires out { (worker : ℕ) × (is_out worker (lane_of self.old.lanes job.game) job.kind job.part ≡ true) }
+        requires worked { out ≡ out_seen job.kind job.part (lane_view (lane_of self.old.lanes job.game)) (lane_command (lane_of self.old.lanes job.game)) }
+        ensures { (worker : ℕ) → self.new ≡ after CAP self.old (event.Put worker job) }
+    {
+        match out {
+            Out::Goes => self.fork(job.game, self.parts(job.game)),
+            Out::Answered(answer) => self.answer(job.game, answer),
+            Out::Moved(moved) => self.put_part(job.game, job.part, moved),
+            Out::Joined(answer) => self.answer(job.game, answer),
+        }
+    }
+
+    /// What is so of each game between two events.
+    fn keeps(&self, game: usize)
+        requires { game < length self.now.lanes }
+        ensures { IsRight (lane_of self.now.lanes game) }
+    {
+        self.fibers[game].keeps();
+    }
+
+    /// Whether the worker has that job out, and what the job read is what the core has for it.
+    fn is_own(&self, worker: usize, done: &Done) -> bool
+        ensures { IsTrue result ↔ IsOwn self.now worker done.now }
+    {
+        let ticket = done.ticket();
+        let game = ticket.job().game;
+        game < self.fibers.len() && is_own(&self.fibers[game], &self.heaps[game], worker, ticket)
+    }
+
+    /// The worker brings back a job that it took. It asks for no memory. `Stray` gives back what is not the core's, and
+    /// then nothing has changed.
+    pub fn put(&mut self, worker: usize, done: Done) -> Result<(), Stray>
+        ensures own { OnOk result (IsOwn self.old worker done) }
+        ensures ok { OnOk result (self.new ≡ after CAP self.old (event.Put worker done.job)) }
+        ensures stray { IfErr result (λ stray. (stray.done ≡ done) × (self.new ≡ self.old) × (IsOwn self.old worker done → ⊥)) }
+    {
+        if !self.is_own(worker, &done) {
+            return Err(Stray { done });
+        }
+        let job = done.ticket().job();
+        self.keeps(job.game);
+        let (_ticket, out) = done.into_parts();
+        self.bring(job, out);
+        Ok(())
+    }
+}

@@ -1,0 +1,155 @@
+//! The records of one game: what its jobs read of them, and what an answer does to them.
+ghost use Rattle.std.specs.Prelude.{◌≡◌, ◌<◌, ◌≤◌, ◌-◌, [], slice_get, length, option_map, IfOk};
+ghost use Rattle.bs_board.specs.records.Record.{record_of};
+ghost use Rattle.bs_fiber.specs.Expected.{IsOf};
+ghost use Rattle.bs_fiber.specs.Work.{parts_of, snakes_in};
+ghost use Rattle.bs_game.specs.Answer.{asked_board};
+ghost use Rattle.bs_game.specs.Game.{Game, board_of_turn, last_board};
+ghost use Rattle.bs_game.specs.Law.{IsFitEffect, effected};
+ghost use Rattle.bs_game.specs.Recorded.{IsRecorded};
+ghost use Rattle.bs_heap.specs.Charge.{charge_of, blocks_for};
+ghost use Rattle.bs_heap.specs.HeldBlocks.{IsKeptIn, LeavesOthers, next_number};
+ghost use Rattle.bs_pool.specs.Ledger.{reserved};
+ghost use Rattle.bs_sched.specs.CoreLayout.{KeepsBoards};
+ghost use Rattle.bs_sched.specs.Inputs.{input_for};
+ghost use Rattle.bs_sched.specs.Storage.{packing_after, pool_after};
+ghost use Rattle.bs_sched.specs.Turns.{FindsTurn};
+
+use crate::fiber::Fiber;
+use bs_board::{Board, Command, Decode, TurnNumber, decode, seats_of_record, turn_of_record};
+use bs_fiber::{Expected, JobName};
+use bs_game::{Effect, place_of_turn};
+use bs_heap::TagHeap;
+use bs_pool::Pool;
+use std::alloc::{AllocError, Global};
+
+/// The record of the newest board.
+fn last_record<const CAP: usize>(heap: &TagHeap<CAP>) -> Option<&[u8]>
+    ensures { option_map (λ bytes. bytes.now) result ≡ slice_get heap.now.records (length heap.now.records - 1) }
+{
+    match heap.count() {
+        0 => None,
+        count => Some(heap.record(count - 1)),
+    }
+}
+
+/// Where the record of that turn stands, if it is kept.
+fn place_of<const CAP: usize>(heap: &TagHeap<CAP>, at: TurnNumber) -> Option<usize>
+    requires { (game : Game) × IsRecorded game heap.now.records }
+    ensures { (game : Game) → IsRecorded game heap.now.records → FindsTurn game heap.now.records at result }
+{
+    match heap.count() {
+        0 => None,
+        count => {
+            let last = turn_of_record(heap.record(count - 1));
+            place_of_turn(count, last, at)
+        }
+    }
+}
+
+fn turn_record<const CAP: usize>(heap: &TagHeap<CAP>, at: TurnNumber) -> Option<&[u8]>
+    requires { (game : Game) × IsRecorded game heap.now.records }
+    ensures { (game : Game) → IsRecorded game heap.now.records → option_map (λ bytes. bytes.now) result ≡ option_map record_of (board_of_turn at game) }
+{
+    match place_of(heap, at) {
+        None => None,
+        Some(place) => Some(heap.record(place)),
+    }
+}
+
+/// The record that the command asks for by its turn, if it is kept.
+fn asked_record<'a, const CAP: usize>(heap: &'a TagHeap<CAP>, command: &Command) -> Option<&'a [u8]>
+    requires { (game : Game) × IsRecorded game heap.now.records }
+    ensures { (game : Game) → IsRecorded game heap.now.records → option_map (λ bytes. bytes.now) result ≡ option_map record_of (asked_board command.now game) }
+{
+    match command {
+        Command::Turn(at) => turn_record(heap, *at),
+        Command::New(_) => None,
+        Command::Move(_) => None,
+        Command::Show => None,
+        Command::Free => None,
+        Command::End => None,
+        Command::Bad => None,
+    }
+}
+
+/// What the game has for a job of that command.
+pub(crate) fn expected<'a, const CAP: usize>(
+    fiber: &Fiber,
+    heap: &'a TagHeap<CAP>,
+    command: &'a Command,
+    seq: usize,
+    worker: usize,
+    job: JobName,
+) -> Expected<'a>
+    requires { KeepsBoards fiber.now heap.now }
+    ensures { IsOf (input_for fiber.now command.now seq worker job) result }
+{
+    fiber.keeps();
+    Expected {
+        job,
+        worker,
+        seq: seq as u64,
+        quota: fiber.quota(),
+        charge: heap.charge(),
+        kept: heap.count(),
+        last: last_record(heap),
+        asked: asked_record(heap, command),
+        command,
+    }
+}
+
+/// The newest board.
+pub(crate) fn decode_last<const CAP: usize>(
+    alloc: Global,
+    heap: &TagHeap<CAP>,
+) -> Result<Option<Board>, AllocError>
+    requires { (game : Game) × IsRecorded game heap.now.records }
+    ensures { IfOk result (λ last. (game : Game) → IsRecorded game heap.now.records → last ≡ last_board game) }
+{
+    let Some(bytes) = last_record(heap) else {
+        return Ok(None);
+    };
+    match decode(alloc, bytes) {
+        Ok(board) => Ok(Some(board)),
+        Err(Decode::Memory) => Err(AllocError),
+        Err(Decode::NotARecord) => unreachable!(),
+    }
+}
+
+/// How many parts a move of the newest board has: two seats a part.
+pub(crate) fn parts_of_last<const CAP: usize>(heap: &TagHeap<CAP>) -> usize
+    requires kept { (game : Game) × IsRecorded game heap.now.records }
+    requires some { 0 < length heap.now.records }
+    ensures value { (game : Game) → IsRecorded game heap.now.records → result ≡ parts_of (length (snakes_in (last_board game))) }
+    ensures few { result ≤ 4 }
+{
+    (seats_of_record(heap.record(heap.count() - 1)) + 1) / 2
+}
+
+/// What an answer does to the records.
+#[tactic(auto, using(crate::proofs::KeptRecords::nothing_left, crate::proofs::KeptRecords::record_is_small))]
+pub(crate) fn change_records<const CAP: usize>(
+    heap: &mut TagHeap<CAP>,
+    pool: &mut Pool<CAP>,
+    effect: Effect,
+)
+    requires room { 0 < heap.old.index_room }
+    requires blocks { blocks_for CAP heap.old.quota ≤ reserved heap.old.tag pool.old }
+    requires held { IsKeptIn heap.old pool.old }
+    requires fits { IsFitEffect heap.old.quota (charge_of heap.old.records) effect }
+    ensures records { heap.new.records ≡ effected effect heap.old.records }
+    ensures packing { heap.new.packing ≡ packing_after CAP (next_number pool.old) effect heap.old.packing }
+    ensures pool { pool.new ≡ pool_after CAP heap.old.tag effect heap.old.packing pool.old }
+    ensures tag { heap.new.tag ≡ heap.old.tag }
+    ensures quota { heap.new.quota ≡ heap.old.quota }
+    ensures held { IsKeptIn heap.new pool.new }
+    ensures others { LeavesOthers heap.old.tag pool.old pool.new }
+{
+    match effect {
+        Effect::Keep => {}
+        Effect::Add(record) => heap.add(pool, record.as_slice()).unwrap(),
+        Effect::Trim => heap.keep_last(pool),
+        Effect::Drop => heap.free(pool),
+    }
+}

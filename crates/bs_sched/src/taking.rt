@@ -1,0 +1,212 @@
+//! Taking jobs: which one a worker gets, and the copy of all that it reads.
+ghost use Rattle.std.specs.Prelude.{◌≡◌, ◌≤◌, ◌<◌, true, length, MatchOption, IfOk, OnOk, OnErr};
+ghost use Rattle.bs_heap.specs.Heap.{with_index_room};
+ghost use Rattle.bs_fiber.specs.declared.job.JobKind.TheVariants as kind;
+ghost use Rattle.bs_sched.specs.Core.{after};
+ghost use Rattle.bs_sched.specs.CoreLayout.{KeepsBoards};
+ghost use Rattle.bs_sched.specs.Inputs.{input_of};
+ghost use Rattle.bs_sched.specs.Lane.{HasNoneReady, is_ready, with_taken};
+ghost use Rattle.bs_sched.specs.Machine.{lane_of};
+ghost use Rattle.bs_sched.specs.Taking.{FindsJob, TakesAs};
+ghost use Rattle.bs_sched.specs.declared.event.Event.TheVariants as event;
+
+use crate::cores::Core;
+use crate::fiber::Fiber;
+use crate::records::expected;
+use bs_fiber::{Input, JobKind, JobName, Ticket};
+use bs_heap::TagHeap;
+use std::alloc::{AllocError, Global};
+
+/// What a worker gets that asks for a job.
+#[derive(Debug, Drop)]
+pub enum Taken {
+    /// None any more, since the core was told to fail.
+    Failed,
+    /// None, since the worker has a job that begins or joins.
+    Busy,
+    /// None, since no game has one ready.
+    Nothing,
+    /// This one.
+    Job(Ticket),
+}
+
+/// What stands in the fibers for a worker.
+#[derive(Clone, Copy, Debug)]
+pub(crate) enum Found {
+    Busy,
+    Nothing,
+    Job(JobName),
+}
+
+/// A job of that game that is ready.
+fn ready_job(fiber: &Fiber, game: usize) -> Option<JobName>
+    ensures { MatchOption result
+        (HasNoneReady fiber.now)
+        (λ job. (job.game ≡ game) × (is_ready fiber.now job.kind job.part ≡ true)) }
+{
+    match fiber.ready() {
+        None => None,
+        Some((kind, part)) => Some(JobName { kind, game, part }),
+    }
+}
+
+/// The first job that is ready, each game being looked at once.
+fn find_job(fibers: &[Fiber], worker: usize) -> Found
+    ensures { FindsJob worker fibers.now result }
+{
+    let mut found = None;
+    for game in 0..fibers.len() {
+        if fibers[game].occupies(worker) {
+            return Found::Busy;
+        }
+        if found.is_none() {
+            found = ready_job(&fibers[game], game);
+        }
+    }
+    match found {
+        None => Found::Nothing,
+        Some(job) => Found::Job(job),
+    }
+}
+
+/// The next command is begun.
+fn begin_input<const CAP: usize>(
+    alloc: Global,
+    fiber: &mut Fiber,
+    heap: &TagHeap<CAP>,
+    worker: usize,
+    job: JobName,
+) -> Result<Input, AllocError>
+    requires kind { job.kind ≡ kind.Begin }
+    requires ready { is_ready fiber.old kind.Begin job.part ≡ true }
+    requires heap { KeepsBoards fiber.old heap.now }
+    ensures input { IfOk result (λ input. input ≡ input_of fiber.new worker job) }
+    ensures ok { OnOk result (fiber.new ≡ with_taken worker kind.Begin job.part fiber.old) }
+    ensures err { OnErr result (fiber.new ≡ fiber.old) }
+{
+    let seq = fiber.next_seq();
+    let input = expected(fiber, heap, fiber.next(), seq, worker, job).to_input(alloc)?;
+    fiber.begin(worker)?;
+    Ok(input)
+}
+
+/// A part goes out.
+fn part_input<const CAP: usize>(
+    alloc: Global,
+    fiber: &mut Fiber,
+    heap: &TagHeap<CAP>,
+    worker: usize,
+    job: JobName,
+) -> Result<Input, AllocError>
+    requires kind { job.kind ≡ kind.Part }
+    requires ready { is_ready fiber.old kind.Part job.part ≡ true }
+    requires heap { KeepsBoards fiber.old heap.now }
+    ensures input { IfOk result (λ input. input ≡ input_of fiber.new worker job) }
+    ensures ok { OnOk result (fiber.new ≡ with_taken worker kind.Part job.part fiber.old) }
+    ensures err { OnErr result (fiber.new ≡ fiber.old) }
+{
+    let seq = fiber.seq();
+    let input = expected(fiber, heap, fiber.command(), seq, worker, job).to_input(alloc)?;
+    fiber.take_part(worker, job.part);
+    Ok(input)
+}
+
+/// The joining of all parts goes out, with what they moved.
+fn join_input<const CAP: usize>(
+    alloc: Global,
+    fiber: &mut Fiber,
+    heap: &TagHeap<CAP>,
+    worker: usize,
+    job: JobName,
+) -> Result<Input, AllocError>
+    requires kind { job.kind ≡ kind.Join }
+    requires ready { is_ready fiber.old kind.Join job.part ≡ true }
+    requires heap { KeepsBoards fiber.old heap.now }
+    ensures input { IfOk result (λ input. input ≡ input_of fiber.new worker job) }
+    ensures ok { OnOk result (fiber.new ≡ with_taken worker kind.Join job.part fiber.old) }
+    ensures err { OnErr result (fiber.new ≡ fiber.old) }
+{
+    let seq = fiber.seq();
+    let mut input = expected(fiber, heap, fiber.command(), seq, worker, job).to_input(alloc)?;
+    input.parts = fiber.join(alloc, worker)?;
+    Ok(input)
+}
+
+fn take_input<const CAP: usize>(
+    alloc: Global,
+    fiber: &mut Fiber,
+    heap: &TagHeap<CAP>,
+    worker: usize,
+    job: JobName,
+) -> Result<Input, AllocError>
+    requires ready { is_ready fiber.old job.kind job.part ≡ true }
+    requires heap { KeepsBoards fiber.old heap.now }
+    ensures input { IfOk result (λ input. input ≡ input_of fiber.new worker job) }
+    ensures ok { OnOk result (fiber.new ≡ with_taken worker job.kind job.part fiber.old) }
+    ensures err { OnErr result (fiber.new ≡ fiber.old) }
+{
+    match job.kind {
+        JobKind::Begin => begin_input(alloc, fiber, heap, worker, job),
+        JobKind::Part => part_input(alloc, fiber, heap, worker, job),
+        JobKind::Join => join_input(alloc, fiber, heap, worker, job),
+    }
+}
+
+/// The worker takes that job of a game. All memory that its answer will need is asked for here.
+#[tactic(auto, using(crate::proofs::FitInputs::taken_input))]
+fn take_ticket<const CAP: usize>(
+    alloc: Global,
+    fiber: &mut Fiber,
+    heap: &mut TagHeap<CAP>,
+    worker: usize,
+    job: JobName,
+) -> Result<Ticket, AllocError>
+    requires ready { is_ready fiber.old job.kind job.part ≡ true }
+    requires heap { KeepsBoards fiber.old heap.old }
+    ensures ticket { IfOk result (λ ticket. ticket ≡ input_of fiber.new worker job) }
+    ensures ok { OnOk result (fiber.new ≡ with_taken worker job.kind job.part fiber.old) }
+    ensures room { OnOk result (0 < heap.new.index_room) }
+    ensures err { OnErr result (fiber.new ≡ fiber.old) }
+    ensures heap { heap.new ≡ with_index_room heap.new.index_room heap.old }
+    ensures more { heap.old.index_room ≤ heap.new.index_room }
+{
+    heap.grow_index()?;
+    let input = take_input(alloc, fiber, heap, worker, job)?;
+    fiber.keeps();
+    Ok(Ticket::new(input))
+}
+
+impl<const CAP: usize> Core<CAP> {
+    fn take_job(&mut self, alloc: Global, worker: usize, job: JobName) -> Result<Ticket, AllocError>
+        requires game { job.game < length self.old.lanes }
+        requires ready { is_ready (lane_of self.old.lanes job.game) job.kind job.part ≡ true }
+        ensures ticket { IfOk result (λ ticket. ticket ≡ input_of (lane_of self.new.lanes job.game) worker job) }
+        ensures ok { OnOk result (self.new ≡ after CAP self.old (event.Take worker job)) }
+        ensures err { OnErr result (self.new ≡ self.old) }
+    {
+        take_ticket(
+            alloc,
+            &mut self.fibers[job.game],
+            &mut self.heaps[job.game],
+            worker,
+            job,
+        )
+    }
+
+    /// A job for that worker, with a copy of all that it reads. No memory is asked for when it comes back. An error is
+    /// the allocator's, and leaves all as it was.
+    pub fn take(&mut self, alloc: Global, worker: usize) -> Result<Taken, AllocError>
+        requires { worker ≤ self.old.workers }
+        ensures ok { IfOk result (λ taken. TakesAs CAP self.old worker taken self.new) }
+        ensures err { OnErr result (self.new ≡ self.old) }
+    {
+        if self.failed {
+            return Ok(Taken::Failed);
+        }
+        match find_job(&self.fibers, worker) {
+            Found::Busy => Ok(Taken::Busy),
+            Found::Nothing => Ok(Taken::Nothing),
+            Found::Job(job) => Ok(Taken::Job(self.take_job(alloc, worker, job)?)),
+        }
+    }
+}
