@@ -1,6 +1,7 @@
 -- A core of which one game has changed.
-use Rattle.std.proofs.Common.{◌≡◌, ℕ, ◌+◌, ◌*◌, ◌<◌, ◌≤◌, true, false, List, length, map, refl, sym, ap, subst, ◌∙◌, arith, get_or, set, Vec, Global}
-use Rattle.std.specs.Prelude.{slice_set, slice_index_or}
+use Rattle.std.proofs.Common.{◌≡◌, ℕ, ◌+◌, ◌*◌, ◌<◌, ◌≤◌, true, false, List, length, map, refl, sym, ap, subst, ◌∙◌, arith, get_or, set, Vec, Global, Result, Ok, Err}
+use Rattle.std.specs.Prelude.{slice_set, slice_index_or, OnOk, OnErr}
+use Rattle.bs_board.specs.declared.commands.command.Command.{Command}
 use Rattle.std.proofs.lemmas.List.{map-set, length-set, set-get_or}
 use Rattle.std.proofs.Math.Seq.{map-set_same}
 use Rattle.std.proofs.Math.ListN.{get_or-map}
@@ -19,7 +20,7 @@ use Rattle.bs_sched.specs.declared.cores.Core.TheInside.{Inside}
 use Rattle.bs_sched.proofs.Heaps.{changed_lane, changed_heaps, unchanged_pool}
 use Rattle.std.specs.Vec.{with_item}
 use Rattle.bs_sched.specs.Core.{CoreView}
-use Rattle.bs_sched.specs.Lane.{Lane, empty_lane}
+use Rattle.bs_sched.specs.Lane.{Lane, empty_lane, with_waiting}
 use Rattle.bs_sched.specs.Machine.{lane_of}
 use Rattle.bs_sched.specs.Storage.{Storage, packing_of, packing_after, pool_after, record_tag, stored}
 
@@ -48,15 +49,22 @@ pub own_heap : (cap own : ℕ) (x : Lane) (heap : Heap) (pool : Ledger) → IsHe
 own_heap cap own x heap pool kept =
     record { tag = refl; quota = kept.quota; records = kept.records; held = kept.held; blocks = kept.blocks; room = kept.room }
 
+-- a lane keeps its quota
+pub same_quotas : (lanes : List Lane) (game : ℕ) (x : Lane) → x.quota ≡ (lane_of lanes game).quota
+    → map (λ (y : Lane). y.quota) (slice_set lanes game x) ≡ map (λ (y : Lane). y.quota) lanes
+same_quotas lanes game x same = map-set_same (λ (y : Lane). y.quota) lanes game x (empty_lane 0) same
+
 -- a core stays sound where one lane changes, and the game's heap is still the lane's
 pub sound_lane : (cap : ℕ) {at : ℕ} (c : Inside at) (game : ℕ) (x : Lane) → IsSound cap c → game < length c.fibers.items
-    → IsHeapOf cap (record_tag game) x (heap_of c.heaps.items game) c.pool → IsSound cap (record c { fibers = with_item c.fibers game x })
-sound_lane cap c game x sound within here =
+    → x.quota ≡ (lane_of c.fibers.items game).quota → IsHeapOf cap (record_tag game) x (heap_of c.heaps.items game) c.pool
+    → IsSound cap (record c { fibers = with_item c.fibers game x })
+sound_lane cap c game x sound within quota here =
     let long = length-set c.fibers.items game x in
     record {
       wide = sound.wide;
       plan = sound.plan;
       lanes = long ∙ sound.lanes;
+      quotas = same_quotas c.fibers.items game x quota ∙ sound.quotas;
       many = sound.many ∙ sym long;
       heaps = changed_lane cap game c.fibers.items c.heaps.items c.pool x sound.heaps within here;
     }
@@ -87,6 +95,7 @@ sound_game cap c game x y heap new sound within lane is quota boards grown room 
       wide = sound.wide;
       plan = sound.plan;
       lanes = fibers_long ∙ sound.lanes;
+      quotas = same_quotas c.fibers.items game y (quota ∙ ap (λ (z : Lane). z.quota) lane) ∙ sound.quotas;
       many = heaps_long ∙ sound.many ∙ sym fibers_long;
       heaps = changed_heaps cap game c.fibers.items c.heaps.items c.pool c.pool y new sound.heaps sound.many within
           (roomier_heap cap (record_tag game) x y heap new c.pool before quota boards grown room) (unchanged_pool (record_tag game) c.pool);
@@ -101,3 +110,28 @@ same_packings game heaps heap new is grown =
 -- an effect that keeps all records leaves the storage
 pub kept_storage : (cap game : ℕ) (storage : Storage) → stored cap game effect.Keep storage ≡ storage
 kept_storage cap game storage = ap (λ packings. record storage { packings = packings }) (set-get_or storage.packings game no_packing)
+
+-- a command was handed in, or was not for want of memory
+
+pub record SameStage (x y : Lane) : Type 0 where
+  pub quota : y.quota ≡ x.quota
+  pub game : y.game ≡ x.game
+  pub stage : y.stage ≡ x.stage
+
+pub same_stage : {A B : Type 0} (result : Result A B) (x y : Lane) (command : Command) → OnOk result (y ≡ with_waiting command x) → OnErr result (y ≡ x)
+    → SameStage x y
+same_stage (Ok value) x y command handed same =
+    record { quota = ap (λ (z : Lane). z.quota) handed; game = ap (λ (z : Lane). z.game) handed; stage = ap (λ (z : Lane). z.stage) handed }
+same_stage (Err error) x y command handed same =
+    record { quota = ap (λ (z : Lane). z.quota) same; game = ap (λ (z : Lane). z.game) same; stage = ap (λ (z : Lane). z.stage) same }
+
+pub handed_heap : (cap own : ℕ) (x y : Lane) (heap : Heap) (pool : Ledger) → IsHeapOf cap own x heap pool → SameStage x y → IsHeapOf cap own y heap pool
+handed_heap cap own x y heap pool kept same =
+    record {
+      tag = kept.tag;
+      quota = kept.quota ∙ sym same.quota;
+      records = kept.records ∙ ap (map record_of) (sym same.game);
+      held = kept.held;
+      blocks = kept.blocks;
+      room = λ may. kept.room (ap may_answer (sym same.stage) ∙ may);
+    }

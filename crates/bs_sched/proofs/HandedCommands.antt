@@ -109,7 +109,7 @@ none_handed : (rows : List GameRow) → map commands_of (map (λ (row : GameRow)
 none_handed [] = refl
 none_handed (row ∷ rows) = ap (λ rest. [] ∷ rest) (none_handed rows)
 
-quotas_of_rows : (rows : List GameRow) → map quota_of (map (λ (row : GameRow). empty_lane row.quota) rows) ≡ map (λ (row : GameRow). row.quota) rows
+pub quotas_of_rows : (rows : List GameRow) → map quota_of (map (λ (row : GameRow). empty_lane row.quota) rows) ≡ map (λ (row : GameRow). row.quota) rows
 quotas_of_rows [] = refl
 quotas_of_rows (row ∷ rows) = ap (λ rest. row.quota ∷ rest) (quotas_of_rows rows)
 

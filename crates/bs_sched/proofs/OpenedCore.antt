@@ -7,6 +7,7 @@ use Rattle.bs_heap.specs.Charge.{blocks_for}
 use Rattle.bs_heap.specs.Heap.{Heap, empty_heap}
 use Rattle.bs_heap.specs.Packing.{Packing, no_packing}
 use Rattle.bs_pool.specs.Ledger.{Ledger, ledger_of, opened, reserved}
+use Rattle.bs_sched.proofs.HandedCommands.{quotas_of_rows}
 use Rattle.bs_sched.specs.declared.cores.Core.TheInside.{Inside}
 use Rattle.bs_sched.specs.declared.cores.TheConstants.{LEAST_CAPACITY}
 use Rattle.bs_sched.specs.Core.{row_at}
@@ -75,6 +76,7 @@ sound_opened cap blocks c wide plan fibers heaps pool =
       wide = wide;
       plan = plan;
       lanes = many;
+      quotas = ap (map (λ (x : Lane). x.quota)) fibers ∙ quotas_of_rows c.rows;
       many = ap length heaps ∙ many_heaps 0 c.rows ∙ sym many;
       heaps = rw (fibers, heaps) (heaps_opened cap blocks c.rows c.pool pool);
     }

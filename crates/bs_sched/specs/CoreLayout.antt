@@ -59,5 +59,6 @@ pub record IsSound (cap : ℕ) {at : ℕ} (c : Inside at) : Type 0 where
   pub wide : LEAST_CAPACITY ≤ cap
   pub plan : IsFitPlan c.rows
   pub lanes : length c.fibers.items ≡ length c.rows
+  pub quotas : map (λ x. x.quota) c.fibers.items ≡ map (λ row. row.quota) c.rows
   pub many : length c.heaps.items ≡ length c.fibers.items
   pub heaps : AreHeapsOf cap c.fibers.items c.heaps.items c.pool

@@ -7,6 +7,8 @@ ghost use Rattle.bs_pool.specs.Ledger.{free, size};
 ghost use Rattle.bs_sched.specs.Core.{after, row_at};
 ghost use Rattle.bs_sched.specs.CoreLayout.{KeepsBoards};
 ghost use Rattle.bs_sched.specs.Courses.{IsRight};
+ghost use Rattle.bs_board.specs.plans.Plan.{IsFitPlan};
+ghost use Rattle.bs_sched.specs.Handed.{quota_of};
 ghost use Rattle.bs_sched.specs.Lane.{is_quiet};
 ghost use Rattle.bs_sched.specs.Machine.{lane_of};
 ghost use Rattle.bs_sched.specs.declared.event.Event.TheVariants as event;
@@ -86,7 +88,10 @@ impl<const CAP: usize> Core<CAP> {
 
     /// How many games the plan has.
     pub fn rows(&self) -> usize
-        ensures { result ≡ length self.now.lanes }
+        ensures value { result ≡ length self.now.lanes }
+        ensures plan { IsFitPlan self.now.rows }
+        ensures lanes { length self.now.lanes ≡ length self.now.rows }
+        ensures quotas { map quota_of self.now.lanes ≡ map (λ row. row.quota) self.now.rows }
     {
         self.fibers.len()
     }

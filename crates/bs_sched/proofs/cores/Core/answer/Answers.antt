@@ -9,7 +9,7 @@ use Rattle.bs_sched.specs.CoreLayout.{IsHeapOf, heap_of}
 use Rattle.bs_sched.specs.Lane.{Lane, empty_lane, answered, occupies, lane_view, lane_command}
 use Rattle.bs_sched.specs.Machine.{lane_of}
 use Rattle.bs_sched.specs.Storage.{record_tag}
-use Rattle.bs_sched.proofs.ChangedCore.{read_at, changed_storage, heap_there, own_heap}
+use Rattle.bs_sched.proofs.ChangedCore.{read_at, same_quotas, changed_storage, heap_there, own_heap}
 use Rattle.bs_sched.proofs.Heaps.{changed_heaps}
 use Rattle.bs_sched.proofs.cores.Core.answer.Goals as goal
 
@@ -54,6 +54,7 @@ invariant_of-self g c =
       wide = c.self.invariant.wide;
       plan = c.self.invariant.plan;
       lanes = fibers_long ∙ c.self.invariant.lanes;
+      quotas = same_quotas fibers c.args.game c.answer_game.new.fiber (ap (λ (x : Lane). x.quota) (c.answer_game.ensures.lane ∙ ap answered lane)) ∙ c.self.invariant.quotas;
       many = heaps_long ∙ many ∙ sym fibers_long;
       heaps = changed_heaps g.row.CAP c.args.game fibers heaps c.self.inside.pool c.answer_game.new.pool c.answer_game.new.fiber c.answer_game.new.heap
           c.self.invariant.heaps many within here leaves;

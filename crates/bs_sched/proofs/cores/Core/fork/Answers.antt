@@ -35,6 +35,7 @@ invariant_of-self g c =
     (c.self.invariant.heaps c.args.game within) in
     let is = c.fork.ensures in
     sound_lane g.row.CAP c.self.inside c.args.game c.fork.new.self c.self.invariant within
+    (ap (λ (x : Lane). x.quota) (is ∙ ap forked lane))
     (same_heap g.row.CAP (record_tag c.args.game) c.index_mut.result.now c.fork.new.self (heap_of c.self.inside.heaps.items c.args.game) c.self.inside.pool before
     (ap (λ (x : Lane). x.quota) is) (ap (λ (x : Lane). x.game) is) (rw is refl))
 
