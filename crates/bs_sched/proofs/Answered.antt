@@ -1,23 +1,20 @@
 -- A game whose command is answered: its lane, its records and its heap.
-use Rattle.std.proofs.Common.{◌≡◌, ℕ, ◌+◌, ◌-◌, ◌*◌, ◌<◌, ◌≤◌, Bool, true, false, List, length, map, slice_index_or, refl, sym, ap, subst, ◌∙◌, arith, inl, inr}
-use Rattle.std.specs.Prelude.{All, Some, None, ◌||◌}
+use Rattle.std.proofs.Common.{◌≡◌, ℕ, ◌-◌, true, false, length, refl, ap, ◌∙◌, arith}
+use Rattle.std.specs.Prelude.{Some, None, ◌||◌}
 use Rattle.std.proofs.lemmas.List.Elements.{All-get_or}
-use Rattle.bs_board.specs.declared.commands.command.Command.{Command}
 use Rattle.bs_board.specs.declared.commands.command.Command.TheVariants as command
-use Rattle.bs_board.specs.records.Record.{record_of}
 use Rattle.bs_game.specs.declared.reply.Answer.{Answer}
-use Rattle.bs_game.specs.declared.reply.Effect.{Effect}
-use Rattle.bs_game.specs.Answer.{Fits, answer_to}
-use Rattle.bs_game.specs.Game.{Game, IsGame, game_charge}
+use Rattle.bs_game.specs.Answer.{Fits}
+use Rattle.bs_game.specs.Game.{game_charge}
 use Rattle.bs_game.specs.Law.{IsAnswerTo, IsFitEffect, effected}
 use Rattle.bs_game.specs.View.{answer_of}
 use Rattle.bs_game.proofs.AnswerLaw.{answers_the_game}
 use Rattle.bs_game.specs.Recorded.{IsRecorded}
 use Rattle.bs_game.proofs.Recorded.{same_charge}
-use Rattle.bs_heap.specs.Charge.{charge_of, blocks_for}
+use Rattle.bs_heap.specs.Charge.{charge_of}
 use Rattle.bs_heap.specs.Heap.{Heap}
 use Rattle.bs_heap.specs.HeldBlocks.{IsKeptIn, LeavesOthers}
-use Rattle.bs_pool.specs.Ledger.{Ledger, reserved}
+use Rattle.bs_pool.specs.Ledger.{Ledger}
 use Rattle.bs_sched.specs.CoreLayout.{IsHeapOf}
 use Rattle.bs_sched.specs.Courses.{IsRight}
 use Rattle.bs_sched.specs.Insides.{may_answer}

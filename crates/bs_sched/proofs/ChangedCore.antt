@@ -1,17 +1,17 @@
 -- A core of which one game has changed.
-use Rattle.std.proofs.Common.{◌≡◌, ℕ, ◌+◌, ◌*◌, ◌<◌, ◌≤◌, true, false, List, length, map, refl, sym, ap, subst, ◌∙◌, arith, get_or, set, Vec, Global, Result, Ok, Err}
-use Rattle.std.specs.Prelude.{slice_set, slice_index_or, OnOk, OnErr}
+use Rattle.std.proofs.Common.{◌≡◌, ℕ, ◌<◌, ◌≤◌, true, List, length, map, refl, sym, ap, subst, ◌∙◌, get_or, Result, Ok, Err}
+use Rattle.std.specs.Prelude.{slice_set, OnOk, OnErr}
 use Rattle.bs_board.specs.declared.commands.command.Command.{Command}
 use Rattle.std.proofs.lemmas.List.{map-set, length-set, set-get_or}
 use Rattle.std.proofs.Math.Seq.{map-set_same}
 use Rattle.std.proofs.Math.ListN.{get_or-map}
 use Rattle.std.proofs.lemmas.Option.{slice_get_read, get_or_from_slice_get}
 use Rattle.bs_heap.specs.Heap.{Heap, empty_heap, with_index_room}
-use Rattle.bs_heap.specs.HeldBlocks.{IsKeptIn, LeavesOthers, next_number}
+use Rattle.bs_heap.specs.HeldBlocks.{IsKeptIn, next_number}
 use Rattle.bs_heap.specs.Charge.{blocks_for}
 use Rattle.bs_board.specs.records.Record.{record_of}
 use Rattle.bs_sched.specs.Insides.{may_answer}
-use Rattle.bs_heap.specs.Packing.{Packing, no_packing}
+use Rattle.bs_heap.specs.Packing.{no_packing}
 use Rattle.bs_pool.specs.Ledger.{Ledger, reserved}
 use Rattle.bs_game.specs.declared.reply.Effect.{Effect}
 use Rattle.bs_game.specs.declared.reply.Effect.TheVariants as effect
@@ -19,7 +19,6 @@ use Rattle.bs_sched.specs.CoreLayout.{storage_in, heap_of, AreHeapsOf, IsHeapOf,
 use Rattle.bs_sched.specs.declared.cores.Core.TheInside.{Inside}
 use Rattle.bs_sched.proofs.Heaps.{changed_lane, changed_heaps, unchanged_pool}
 use Rattle.std.specs.Vec.{with_item}
-use Rattle.bs_sched.specs.Core.{CoreView}
 use Rattle.bs_sched.specs.Lane.{Lane, empty_lane, with_waiting}
 use Rattle.bs_sched.specs.Machine.{lane_of}
 use Rattle.bs_sched.specs.Storage.{Storage, packing_of, packing_after, pool_after, record_tag, stored}

@@ -1,5 +1,5 @@
 -- What a fiber keeps, after each event.
-use Rattle.std.proofs.Common.{◌≡◌, ℕ, ◌+◌, ◌-◌, ◌<◌, ◌≤◌, true, false, List, length, map, refl, sym, ap, subst, ◌∙◌, arith, Global, Vec, vec_len, vec_capacity}
+use Rattle.std.proofs.Common.{◌≡◌, ℕ, ◌<◌, true, false, List, length, map, refl, sym, ap, subst, ◌∙◌, arith, Global, Vec, vec_len, vec_capacity}
 use Rattle.std.specs.Prelude.{Some, None, slice_set}
 use Rattle.std.specs.List.{list_all, filter_map}
 use Rattle.std.proofs.lemmas.List.{length-map, length-set}
@@ -16,10 +16,10 @@ use Rattle.bs_sched.specs.declared.fiber.Slot.TheVariants as slot
 use Rattle.bs_sched.specs.declared.stage.Stage.{Stage}
 use Rattle.bs_sched.specs.declared.stage.Stage.TheVariants as stage
 use Rattle.bs_sched.specs.Inputs.{moved_parts_for}
-use Rattle.bs_sched.specs.Insides.{lane_in, course_in, IsFiber, IsAt, IsPlaying, IsJoining}
+use Rattle.bs_sched.specs.Insides.{lane_in, IsFiber, IsAt, IsPlaying, IsJoining}
 use Rattle.bs_sched.specs.Lane.{Lane, is_part_done, is_ready, is_out, lane_view, lane_command, with_taken, with_part_done}
 use Rattle.bs_sched.specs.Slots.{state_of, emptied, moved_in}
-use Rattle.bs_sched.proofs.Lanes.{ready_join, out_part, joined_lane, done_lane, undone_lane}
+use Rattle.bs_sched.proofs.Lanes.{ready_join, out_part, joined_lane, done_lane}
 use Rattle.bs_sched.proofs.Parts.{collected, emptied_states, emptied_right, slots_set}
 
 -- the lane of a fiber that is at that stage

@@ -1,5 +1,5 @@
 -- The input that a lane has for a job that is out is one that a ticket may hold.
-use Rattle.std.proofs.Common.{◌≡◌, ℕ, zero, suc, ◌+◌, ◌-◌, ◌<◌, ◌≤◌, Bool, true, false, ◌&&◌, List, [], ◌∷◌, length, map, Option, Some, None, refl, sym, ap, subst, ◌∙◌, arith, inl, inr, slice_get}
+use Rattle.std.proofs.Common.{◌≡◌, ℕ, ◌<◌, ◌≤◌, Bool, true, false, List, [], ◌∷◌, length, map, Option, Some, None, refl, sym, ap, subst, ◌∙◌, arith, inl, inr, slice_get}
 use Rattle.std.specs.Prelude.{IfSome, option_map, nat_eq, All}
 use Rattle.std.specs.List.{find, range_with_len}
 use Rattle.std.proofs.lemmas.Bool.{cases_Bool}
@@ -10,7 +10,6 @@ use Rattle.bs_board.specs.declared.commands.command.Command.TheVariants as comma
 use Rattle.bs_board.specs.boards.Legal.{IsLegal}
 use Rattle.bs_board.specs.records.Record.{record_of}
 use Rattle.bs_board.proofs.Chains.{and_both}
-use Rattle.bs_game.specs.declared.view.View.{View}
 use Rattle.bs_game.specs.Answer.{asked_board}
 use Rattle.bs_game.specs.Game.{Game, IsGame, board_of_turn, last_board}
 use Rattle.bs_game.proofs.Games.{legal_last}

@@ -1,5 +1,5 @@
 -- What the events make of a fiber's lane.
-use Rattle.std.proofs.Common.{◌≡◌, ℕ, zero, suc, ◌+◌, ◌-◌, ◌<◌, ◌≤◌, true, false, List, [], ◌∷◌, ◌++◌, length, take, drop, map, refl, sym, ap, subst, ◌∙◌, arith, Global, Vec}
+use Rattle.std.proofs.Common.{◌≡◌, ℕ, zero, suc, ◌+◌, ◌-◌, ◌<◌, true, false, List, [], ◌∷◌, length, drop, map, refl, sym, ap, subst, ◌∙◌, arith, Global, Vec}
 use Rattle.std.specs.Prelude.{Bool, ◌&&◌, nat_eq, Some, None, slice_set, replicate}
 use Rattle.std.specs.List.{list_all}
 use Rattle.std.proofs.Math.Seq.{take-add}
@@ -18,7 +18,7 @@ use Rattle.bs_sched.specs.declared.fiber.Slot.TheVariants as slot
 use Rattle.bs_sched.specs.declared.stage.Stage.{Stage}
 use Rattle.bs_sched.specs.declared.stage.Stage.TheVariants as stage
 use Rattle.bs_sched.specs.declared.stage.PartState.TheVariants as part
-use Rattle.bs_sched.specs.Insides.{lane_in, course_in}
+use Rattle.bs_sched.specs.Insides.{lane_in}
 use Rattle.bs_sched.specs.Lane.{Lane, HasNoneReady, part_at, is_part_ready, is_idle, is_in_parts, is_to_join, has_begin, is_part_done, is_ready, is_out, with_taken, with_part_done, forked}
 use Rattle.bs_sched.specs.Slots.{state_of, emptied}
 use Rattle.bs_sched.proofs.Parts.{ready_states, emptied_states}

@@ -1,11 +1,11 @@
 -- A core that was just opened: each game's lane and heap are empty, and its blocks are set aside.
-use Rattle.std.proofs.Common.{◌≡◌, ℕ, zero, suc, ◌+◌, ◌*◌, ◌<◌, ◌≤◌, true, false, List, [], ◌∷◌, length, map, slice_index_or, refl, sym, ap, ◌∙◌, arith}
+use Rattle.std.proofs.Common.{◌≡◌, ℕ, zero, suc, ◌+◌, ◌<◌, ◌≤◌, true, false, List, [], ◌∷◌, length, map, refl, sym, ap, ◌∙◌, arith}
 use Rattle.std.proofs.Math.ListN.{get_or-map}
 use Rattle.std.proofs.lemmas.List.{length-map}
 use Rattle.bs_board.specs.plans.Plan.{GameRow, IsFitPlan, row_of}
 use Rattle.bs_heap.specs.Charge.{blocks_for}
 use Rattle.bs_heap.specs.Heap.{Heap, empty_heap}
-use Rattle.bs_heap.specs.Packing.{Packing, no_packing}
+use Rattle.bs_heap.specs.Packing.{no_packing}
 use Rattle.bs_pool.specs.Ledger.{Ledger, ledger_of, opened, reserved}
 use Rattle.bs_sched.proofs.HandedCommands.{quotas_of_rows}
 use Rattle.bs_sched.specs.declared.cores.Core.TheInside.{Inside}

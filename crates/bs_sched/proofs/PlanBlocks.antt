@@ -1,5 +1,5 @@
 -- What is set aside for the games of a plan, and that nothing is drawn of it yet.
-use Rattle.std.proofs.Common.{◌≡◌, ◌≢◌, ℕ, zero, suc, ◌+◌, ◌*◌, ◌<◌, ◌≤◌, true, false, List, [], ◌∷◌, ◌++◌, None, Some, length, slice_index_or, refl, sym, ap, ◌∙◌, arith, inl, inr, All}
+use Rattle.std.proofs.Common.{◌≡◌, ◌≢◌, ℕ, zero, suc, ◌+◌, ◌*◌, ◌<◌, ◌≤◌, true, false, List, [], ◌∷◌, ◌++◌, None, Some, length, slice_index_or, refl, ap, ◌∙◌, arith, inl, inr, All}
 use Rattle.std.proofs.lemmas.Bool.{cases_Bool, eqb-true, eq-eqb, ne_eqb}
 use Rattle.std.proofs.lemmas.List.Elements.{All-tail}
 use Rattle.std.specs.Prelude.{nat_eq, find, count_by}
@@ -8,7 +8,7 @@ use Rattle.bs_pool.specs.declared.reservation.Reservation.{Reservation}
 use Rattle.bs_pool.proofs.Soundness.{held_opened}
 use Rattle.bs_pool.proofs.Reservations.{unreserved_pushed}
 use Rattle.bs_sched.specs.declared.plan_blocks.TheConstants.{FRAME_BLOCKS}
-use Rattle.bs_pool.specs.Ledger.{size, unreserved, Ledger, reservation_of, opened, held, is_owned_by, with_reservation}
+use Rattle.bs_pool.specs.Ledger.{size, unreserved, Ledger, reservation_of, opened, is_owned_by, with_reservation}
 use Rattle.bs_pool.specs.Reservations.{is_of, reserved_by, all_reserved}
 use Rattle.bs_heap.specs.HeldBlocks.{Holds}
 use Rattle.bs_sched.specs.PlanBlocks.{record_blocks, reservations_from, reservations_of}

@@ -1,19 +1,17 @@
 -- What a fiber keeps says that its lane is right.
-use Rattle.std.proofs.Common.{◌≡◌, ℕ, zero, suc, [], ◌∷◌, ◌+◌, ◌-◌, ◌<◌, ◌≤◌, Bool, true, false, List, length, take, drop, map, refl, sym, ap, subst, ◌∙◌, arith, inl, inr}
-use Rattle.std.specs.Prelude.{cond, All, Some, None}
+use Rattle.std.proofs.Common.{◌≡◌, ℕ, zero, suc, [], ◌∷◌, ◌-◌, ◌≤◌, true, false, List, length, take, refl, ap, ◌∙◌, arith, inl, inr}
+use Rattle.std.specs.Prelude.{All, Some, None}
 use Rattle.std.proofs.lemmas.Bool.{cases_Bool}
 use Rattle.std.proofs.lemmas.List.{length-map, length-take-le}
 use Rattle.std.proofs.lemmas.List.Elements.{All-take, All-drop}
-use Rattle.bs_board.specs.declared.commands.command.Command.{Command}
 use Rattle.bs_game.specs.Answer.{Fits}
 use Rattle.bs_game.proofs.Courses.{course_is_game}
 use Rattle.bs_sched.specs.declared.fiber.Fiber.TheInside.{Inside}
-use Rattle.bs_sched.specs.declared.fiber.Slot.{Slot}
 use Rattle.bs_sched.specs.declared.stage.Stage.{Stage}
 use Rattle.bs_sched.specs.declared.stage.Stage.TheVariants as stage
-use Rattle.bs_sched.specs.Courses.{answered_commands, IsOnCourse, IsMove, IsRight}
-use Rattle.bs_sched.specs.Insides.{lane_in, course_in, answered_count, IsFiber, IsAt, IsPlaying}
-use Rattle.bs_sched.specs.Lane.{Lane, is_idle, is_playing, lane_view, lane_command}
+use Rattle.bs_sched.specs.Courses.{answered_commands, IsMove, IsRight}
+use Rattle.bs_sched.specs.Insides.{lane_in, answered_count, IsFiber, IsAt}
+use Rattle.bs_sched.specs.Lane.{is_idle, is_playing, lane_view, lane_command}
 use Rattle.bs_sched.specs.Slots.{state_of}
 
 take_less : {X : Type 0} (n m : ℕ) (xs : List X) → n ≤ m → take n (take m xs) ≡ take n xs

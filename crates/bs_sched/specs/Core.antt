@@ -1,5 +1,5 @@
 -- The core as its calls see it.
-use Rattle.std.specs.Prelude.{ℕ, Bool, false, if◌then◌else◌, List, map, replicate, [], slice_index_or, None}
+use Rattle.std.specs.Prelude.{ℕ, Bool, false, if◌then◌else◌, List, map, replicate, [], slice_index_or, slice_set, None}
 use Rattle.bs_board.specs.plans.Plan.{GameRow, row_of}
 use Rattle.bs_pool.specs.Ledger.{ledger_of}
 use Rattle.bs_heap.specs.Packing.{no_packing}
@@ -8,9 +8,10 @@ use Rattle.bs_game.specs.declared.reply.Effect.TheVariants as effect
 use Rattle.bs_game.specs.View.{answer_of}
 use Rattle.bs_fiber.specs.declared.job.JobKind.{JobKind}
 use Rattle.bs_fiber.specs.declared.job.JobKind.TheVariants as kind
+use Rattle.bs_fiber.specs.declared.job.JobName.{JobName}
 use Rattle.bs_sched.specs.declared.event.Event.{Event}
 use Rattle.bs_sched.specs.declared.event.Event.TheVariants as event
-use Rattle.bs_sched.specs.Lane.{Lane, empty_lane, lane_view, lane_command, goes_on}
+use Rattle.bs_sched.specs.Lane.{Lane, empty_lane, lane_view, lane_command, goes_on, with_put}
 use Rattle.bs_sched.specs.Machine.{game_of, lane_of, lane_effect}
 use Rattle.bs_sched.specs.PlanBlocks.{reservations_of}
 use Rattle.bs_sched.specs.Storage.{Storage, stored}
@@ -59,4 +60,12 @@ after cap core e =
     record core {
       lanes = lane_effect core.lanes e;
       storage = storage_after cap e (lane_of core.lanes (game_of e)) core.storage;
+    }
+
+-- the core after a job was brought back; by whom does not matter
+abbrev pub brought : ℕ → CoreView → JobName → CoreView
+brought cap core job =
+    record core {
+      lanes = slice_set core.lanes job.game (with_put job.kind job.part (lane_of core.lanes job.game));
+      storage = stored cap job.game (put_effect job.kind (lane_of core.lanes job.game)) core.storage;
     }

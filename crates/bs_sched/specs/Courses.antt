@@ -1,12 +1,12 @@
 -- What is so of each lane between two events: its replies and its boards are those of its commands' course.
-use Rattle.std.specs.Prelude.{◌≡◌, ℕ, ◌-◌, ◌≤◌, ◌<◌, Bool, true, false, if◌then◌else◌, List, length, take, All}
+use Rattle.std.specs.Prelude.{◌≡◌, ◌-◌, ◌≤◌, ◌<◌, true, false, if◌then◌else◌, List, length, take, All}
 use Rattle.bs_board.specs.declared.limits.TheConstants.{MOST_QUOTA}
 use Rattle.bs_board.specs.declared.commands.command.Command.{Command}
 use Rattle.bs_game.specs.Alone.{course_of}
 use Rattle.bs_game.specs.Answer.{Fits}
 use Rattle.bs_game.specs.Game.{IsGame, last_board, game_charge}
 use Rattle.bs_fiber.specs.Work.{parts_of, snakes_in}
-use Rattle.bs_sched.specs.Lane.{Lane, goes_on, is_idle, is_in_parts, is_playing}
+use Rattle.bs_sched.specs.Lane.{Lane, goes_on, is_idle, is_playing}
 
 -- the commands that have their reply: all that were taken but the one that the lane is at
 abbrev pub answered_commands : Lane → List Command

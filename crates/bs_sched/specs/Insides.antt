@@ -1,9 +1,8 @@
 -- How a lane lies in the fields of its fiber.
-use Rattle.std.specs.Prelude.{◌≡◌, ℕ, ◌-◌, ◌≤◌, ◌<◌, Bool, true, false, if◌then◌else◌, List, [], length, map, take, drop, replicate, slice_index_or, All, Option, Some, None, vec_len, vec_capacity}
+use Rattle.std.specs.Prelude.{◌≡◌, ℕ, ◌-◌, ◌≤◌, ◌<◌, Bool, true, false, if◌then◌else◌, List, [], length, map, take, drop, slice_index_or, All, Some, None, vec_len, vec_capacity}
 use Rattle.std.specs.List.{list_all}
 use Rattle.bs_board.specs.declared.limits.TheConstants.{MOST_QUOTA}
 use Rattle.bs_board.specs.declared.commands.command.Command.{Command}
-use Rattle.bs_board.specs.declared.boards.snake.Snake.{Snake}
 use Rattle.bs_game.specs.Alone.{Course, course_of}
 use Rattle.bs_game.specs.Answer.{Fits}
 use Rattle.bs_game.specs.declared.view.View.{View}
@@ -13,8 +12,6 @@ use Rattle.bs_sched.specs.declared.fiber.Slot.{Slot}
 use Rattle.bs_sched.specs.declared.fiber.Slot.TheVariants as slot
 use Rattle.bs_sched.specs.declared.stage.Stage.{Stage}
 use Rattle.bs_sched.specs.declared.stage.Stage.TheVariants as stage
-use Rattle.bs_sched.specs.declared.stage.PartState.{PartState}
-use Rattle.bs_sched.specs.declared.stage.PartState.TheVariants as part
 use Rattle.bs_sched.specs.Slots.{state_of}
 use Rattle.bs_sched.specs.Lane.{Lane, is_idle, is_part_done, lane_view, lane_command}
 

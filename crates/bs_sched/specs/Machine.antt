@@ -1,7 +1,6 @@
 -- The core as a machine over events: its lanes, which events are enabled, and what each makes of them.
-use Rattle.std.specs.Prelude.{ℕ, Bool, true, ◌&&◌, not, if◌then◌else◌, List, [], ◌∷◌, length, fold, nat_lt, nat_le, slice_index_or, slice_set}
+use Rattle.std.specs.Prelude.{ℕ, Bool, true, ◌&&◌, not, if◌then◌else◌, List, length, fold, nat_lt, nat_le, slice_index_or, slice_set}
 use Rattle.std.specs.List.{list_any}
-use Rattle.bs_fiber.specs.declared.job.JobName.{JobName}
 use Rattle.bs_sched.specs.declared.event.Event.{Event}
 use Rattle.bs_sched.specs.declared.event.Event.TheVariants as event
 use Rattle.bs_sched.specs.Lane.{Lane, empty_lane, occupies, is_ready, is_out, with_waiting, with_taken, with_put}

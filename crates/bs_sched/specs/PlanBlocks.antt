@@ -1,5 +1,5 @@
 -- The blocks that are set aside for the games of a plan.
-use Rattle.std.specs.Prelude.{ℕ, ◌+◌, ◌*◌, List, [], ◌∷◌, sum_by}
+use Rattle.std.specs.Prelude.{ℕ, ◌+◌, List, [], ◌∷◌, sum_by}
 use Rattle.bs_board.specs.plans.Plan.{GameRow}
 use Rattle.bs_heap.specs.Charge.{blocks_for}
 use Rattle.bs_pool.specs.declared.reservation.Reservation.{Reservation}

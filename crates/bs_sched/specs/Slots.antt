@@ -1,5 +1,5 @@
 -- The slots in which a fiber keeps the parts of a move.
-use Rattle.std.specs.Prelude.{List, Option, Some, None}
+use Rattle.std.specs.Prelude.{List, Option, None}
 use Rattle.bs_board.specs.declared.boards.snake.Snake.{Snake}
 use Rattle.bs_sched.specs.declared.fiber.Slot.{Slot}
 use Rattle.bs_sched.specs.declared.fiber.Slot.TheVariants as slot

@@ -1,5 +1,5 @@
 -- Where the record of a turn stands among those that are kept.
-use Rattle.std.specs.Prelude.{◌≡◌, ℕ, ◌<◌, List, length, Option, Some, None, MatchOption, slice_get, option_map}
+use Rattle.std.specs.Prelude.{◌≡◌, ℕ, ◌<◌, List, length, Option, None, MatchOption, slice_get, option_map}
 use Rattle.bs_board.specs.records.Record.{record_of}
 use Rattle.bs_game.specs.Game.{Game, board_of_turn}
 

@@ -11,6 +11,8 @@ mod putting;
 mod records;
 mod stage;
 mod taking;
+#[cfg(test)]
+mod tests;
 
 pub use cores::{Core, Counts, LEAST_CAPACITY};
 pub use event::Event;

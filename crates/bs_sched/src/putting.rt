@@ -4,7 +4,7 @@ ghost use Rattle.bs_fiber.specs.declared.job.JobKind.TheVariants as kind;
 ghost use Rattle.bs_fiber.specs.Work.{moved_part, out_seen, parts_of, snakes_in};
 ghost use Rattle.bs_game.specs.Game.{last_board};
 ghost use Rattle.bs_game.specs.View.{answer_of};
-ghost use Rattle.bs_sched.specs.Core.{after, answer_effect};
+ghost use Rattle.bs_sched.specs.Core.{after, answer_effect, brought};
 ghost use Rattle.bs_sched.specs.Courses.{IsRight};
 ghost use Rattle.bs_sched.specs.Lane.{occupies, answered, forked, with_part_done, is_out, goes_on, lane_view, lane_command};
 ghost use Rattle.bs_sched.specs.Machine.{lane_of};
@@ -86,7 +86,7 @@ impl<const CAP: usize> Core<CAP> {
         requires game { job.game < length self.old.lanes }
         requires out { (worker : ℕ) × (is_out worker (lane_of self.old.lanes job.game) job.kind job.part ≡ true) }
         requires worked { out ≡ out_seen job.kind job.part (lane_view (lane_of self.old.lanes job.game)) (lane_command (lane_of self.old.lanes job.game)) }
-        ensures { (worker : ℕ) → self.new ≡ after CAP self.old (event.Put worker job) }
+        ensures { self.new ≡ brought CAP self.old job }
     {
         match out {
             Out::Goes => self.fork(job.game, self.parts(job.game)),
@@ -113,6 +113,17 @@ impl<const CAP: usize> Core<CAP> {
         game < self.fibers.len() && is_own(&self.fibers[game], &self.heaps[game], worker, ticket)
     }
 
+    /// An own job is done.
+    fn settle(&mut self, done: Done)
+        requires { (worker : ℕ) × IsOwn self.old worker done }
+        ensures { self.new ≡ brought CAP self.old done.job }
+    {
+        let job = done.ticket().job();
+        self.keeps(job.game);
+        let (_ticket, out) = done.into_parts();
+        self.bring(job, out);
+    }
+
     /// The worker brings back a job that it took. It asks for no memory. `Stray` gives back what is not the core's, and
     /// then nothing has changed.
     pub fn put(&mut self, worker: usize, done: Done) -> Result<(), Stray>
@@ -123,10 +134,7 @@ impl<const CAP: usize> Core<CAP> {
         if !self.is_own(worker, &done) {
             return Err(Stray { done });
         }
-        let job = done.ticket().job();
-        self.keeps(job.game);
-        let (_ticket, out) = done.into_parts();
-        self.bring(job, out);
+        self.settle(done);
         Ok(())
     }
 }

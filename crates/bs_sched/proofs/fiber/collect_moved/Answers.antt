@@ -1,4 +1,4 @@
-use Rattle.std.proofs.Common.{rules, ◌≡◌, ◌<◌, ap, ◌∙◌, arith, length, refl}
+use Rattle.std.proofs.Common.{rules, ◌≡◌, ◌<◌, ap, ◌∙◌, arith, length}
 use Rattle.bs_sched.proofs.Parts.{emptied_next, moved_next, few_collected, same_length}
 use Rattle.bs_sched.specs.Slots.{emptied}
 use Rattle.bs_sched.proofs.fiber.collect_moved.Goals as goal

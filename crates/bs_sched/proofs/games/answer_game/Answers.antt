@@ -1,4 +1,4 @@
-use Rattle.std.proofs.Common.{◌≡◌, arith, subst, sym}
+use Rattle.std.proofs.Common.{arith, subst, sym}
 use Rattle.bs_sched.specs.CoreLayout.{IsHeapOf}
 use Rattle.bs_sched.specs.Lane.{Lane}
 use Rattle.bs_sched.proofs.Answered.{is_at_command, told_reply, fit_effect, answered_heap}

@@ -1,4 +1,4 @@
-use Rattle.std.proofs.Common.{◌≡◌, ◌∙◌, ap, arith}
+use Rattle.std.proofs.Common.{arith}
 use Rattle.bs_sched.proofs.PlanBlocks.{frames_fit}
 use Rattle.bs_sched.proofs.plan_blocks.reserve_row.Goals as goal
 

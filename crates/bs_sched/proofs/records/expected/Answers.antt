@@ -1,5 +1,4 @@
-use Rattle.std.proofs.Common.{◌≡◌, refl, sym, ap, ◌∙◌, map, length, slice_get, ◌-◌, option_map}
-use Rattle.bs_board.specs.records.Record.{record_of}
+use Rattle.std.proofs.Common.{refl, sym, ◌∙◌}
 use Rattle.bs_game.specs.Recorded.{IsRecorded}
 use Rattle.bs_game.proofs.Recorded.{as_many, same_charge}
 use Rattle.bs_sched.proofs.KeptRecords.{last_recorded}

@@ -1,4 +1,4 @@
-use Rattle.std.proofs.Common.{◌≡◌, ◌<◌, refl, sym, ◌∙◌, arith}
+use Rattle.std.proofs.Common.{sym, ◌∙◌, arith}
 use Rattle.bs_board.proofs.records.TurnBytes.{record_reaches_seats}
 use Rattle.bs_game.proofs.Recorded.{kept_turns}
 use Rattle.bs_sched.proofs.KeptRecords.{newest_counted, no_turn, finds_turn}

@@ -1,8 +1,7 @@
-use Rattle.std.proofs.Common.{◌≡◌, ℕ, ◌<◌, true, List, length, refl, sym, ap, subst, ◌∙◌, arith}
-use Rattle.std.specs.Prelude.{slice_set}
+use Rattle.std.proofs.Common.{◌≡◌, ℕ, ◌<◌, true, length, refl, sym, ap, subst, ◌∙◌, arith}
 use Rattle.std.proofs.lemmas.List.{length-set}
 use Rattle.bs_game.specs.View.{answer_of}
-use Rattle.bs_heap.specs.Heap.{Heap, empty_heap}
+use Rattle.bs_heap.specs.Heap.{empty_heap}
 use Rattle.bs_heap.specs.HeldBlocks.{LeavesOthers}
 use Rattle.bs_sched.specs.Core.{CoreView, answer_effect}
 use Rattle.bs_sched.specs.CoreLayout.{IsHeapOf, heap_of}

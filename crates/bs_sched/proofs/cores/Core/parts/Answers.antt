@@ -1,4 +1,4 @@
-use Rattle.std.proofs.Common.{◌≡◌, ◌<◌, true, length, refl, sym, ap, subst, ◌∙◌, arith}
+use Rattle.std.proofs.Common.{◌≡◌, ◌<◌, true, length, sym, ap, subst, ◌∙◌, arith}
 use Rattle.bs_heap.specs.Heap.{empty_heap}
 use Rattle.bs_game.specs.Recorded.{IsRecorded}
 use Rattle.bs_game.proofs.Recorded.{as_many}

@@ -1,11 +1,9 @@
-use Rattle.std.proofs.Common.{◌≡◌, ℕ, ◌<◌, true, false, length, refl, sym, ap, subst, ◌∙◌, arith}
-use Rattle.bs_board.specs.declared.boards.snake.Snake.{Snake}
+use Rattle.std.proofs.Common.{◌≡◌, ℕ, ◌<◌, true, length, refl, sym, ap, subst, ◌∙◌}
 use Rattle.bs_fiber.specs.declared.job.JobKind.TheVariants as kind
-use Rattle.bs_fiber.specs.Work.{moved_part, parts_of, snakes_in}
-use Rattle.bs_game.specs.Game.{last_board}
+use Rattle.bs_fiber.specs.Work.{moved_part}
 use Rattle.bs_sched.specs.Core.{CoreView}
 use Rattle.bs_sched.specs.CoreLayout.{IsHeapOf, heap_of}
-use Rattle.bs_sched.specs.Lane.{Lane, empty_lane, goes_on, is_out, lane_view, lane_command, stage_with, forked, with_part_done}
+use Rattle.bs_sched.specs.Lane.{Lane, empty_lane, is_out, lane_view, lane_command, with_part_done}
 use Rattle.bs_sched.specs.Machine.{lane_of}
 use Rattle.bs_sched.specs.Storage.{record_tag}
 use Rattle.bs_sched.proofs.ChangedCore.{read_at, sound_lane}

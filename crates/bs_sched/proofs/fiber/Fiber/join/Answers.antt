@@ -1,4 +1,4 @@
-use Rattle.std.proofs.Common.{◌≡◌, ◌∙◌, arith}
+use Rattle.std.proofs.Common.{◌∙◌, arith}
 use Rattle.bs_sched.proofs.Fibers.{joined_fiber, joined_parts}
 use Rattle.bs_sched.proofs.Lanes.{joined_lane}
 use Rattle.bs_sched.proofs.fiber.Fiber.join.Goals as goal

@@ -1,4 +1,4 @@
-use Rattle.std.proofs.Common.{◌≡◌, refl, sym, ap, ◌∙◌, Some}
+use Rattle.std.proofs.Common.{refl, sym, ap, ◌∙◌, Some}
 use Rattle.std.specs.List.{list_all}
 use Rattle.std.specs.Vec.{with_item}
 use Rattle.bs_sched.specs.declared.fiber.Slot.{Slot}

@@ -1,0 +1,326 @@
+//! Cores of small plans, played job by job.
+use crate::{Core, Counts, Open, Taken};
+use bs_board::limits::MOST_ROWS;
+use bs_board::plans::plan::have_distinct_names;
+use bs_board::{
+    Cells, Command, Direction, Id, Mode, Move, Moves, New, Plan, Point, Refusal, Reply, Row, Rows,
+    Starts, TurnNumber, Word, Words,
+};
+use bs_fiber::{Done, JobKind, work};
+use std::alloc::{AllocError, Global};
+use std::process::Abort;
+use std::sync::Wait;
+use std::test::Fail;
+
+const CAP: usize = 524_288;
+
+fn plan_of(rt: &impl Abort, alloc: Global, rows: &[(&str, u32)]) -> Result<Plan, Fail> {
+    let mut all = Vec::new(alloc);
+    for &(name, quota) in rows {
+        all.push(Row::new(Id::from_str(alloc, name)?, quota).ok_or("a row")?)?;
+    }
+    assert!(rt; have_distinct_names(&all));
+    assert!(rt; all.len() <= MOST_ROWS);
+    Ok(Plan {
+        rows: Rows::from_vec(all),
+    })
+}
+
+fn core_of(rt: &impl Abort, alloc: Global, name: &str, quota: u32) -> Result<Core<CAP>, Fail> {
+    Ok(Core::<CAP>::open(alloc, plan_of(rt, alloc, &[(name, quota)])?, 6, 2)?)
+}
+
+fn starts(alloc: Global, places: &[(&str, i16, i16)]) -> Result<Starts, AllocError> {
+    let mut starts = Vec::new(alloc);
+    for &(name, x, y) in places {
+        starts.push((Id::from_str(alloc, name)?, Point { x, y }))?;
+    }
+    Ok(Starts::from_vec(starts))
+}
+
+fn new_solo(alloc: Global, side: u8) -> Result<Command, Fail> {
+    let starts = starts(alloc, &[("s", 1, 1)])?;
+    let new = New::new(Mode::Solo, side, side, starts, Cells::new(alloc), 0, 0);
+    Ok(Command::New(new.ok_or("a setup")?))
+}
+
+// Three snakes, the first of them below the only food.
+fn new_of_three(alloc: Global) -> Result<Command, Fail> {
+    let starts = starts(alloc, &[("s", 1, 1), ("t", 5, 1), ("u", 3, 5)])?;
+    let mut food = Cells::new(alloc);
+    food.push(Point { x: 1, y: 2 })?;
+    let new = New::new(Mode::Standard, 7, 7, starts, food, 0, 0);
+    Ok(Command::New(new.ok_or("a setup")?))
+}
+
+fn third_goes_down(alloc: Global) -> Result<Command, Fail> {
+    let down = (Id::from_str(alloc, "u")?, Direction::Down);
+    Ok(Command::Move(Move::new(
+        Moves::from_vec(vec![in alloc; down]?),
+        Words::from_vec(Vec::new(alloc)),
+    )))
+}
+
+fn straight_on(alloc: Global) -> Command {
+    Command::Move(Move::new(
+        Moves::from_vec(Vec::new(alloc)),
+        Words::from_vec(Vec::new(alloc)),
+    ))
+}
+
+fn hand(rt: &impl Abort, core: &mut Core<CAP>, command: Command) -> Result<(), Fail> {
+    assert!(rt; core.rows() == 1);
+    Ok(core.hand(0, command)?)
+}
+
+fn take(
+    rt: &impl Abort,
+    alloc: Global,
+    core: &mut Core<CAP>,
+    worker: usize,
+) -> Result<Taken, Fail> {
+    assert!(rt; worker <= core.workers());
+    Ok(core.take(alloc, worker)?)
+}
+
+fn take_done(
+    rt: &impl Abort,
+    alloc: Global,
+    core: &mut Core<CAP>,
+    worker: usize,
+) -> Result<Done, Fail> {
+    match take(rt, alloc, core, worker)? {
+        Taken::Job(ticket) => Ok(work(alloc, ticket)?),
+        Taken::Failed => Err(Fail::from("failed")),
+        Taken::Busy => Err(Fail::from("busy")),
+        Taken::Nothing => Err(Fail::from("nothing")),
+    }
+}
+
+fn put(core: &mut Core<CAP>, worker: usize, done: Done) -> Result<(), Fail> {
+    core.put(worker, done)
+        .map_err(|_| Fail::from("a stray of its own core"))
+}
+
+// Takes, works and brings back all that there is, as the worker of that number.
+fn play<R: Abort + Wait>(
+    rt: &R,
+    alloc: Global,
+    core: &mut Core<CAP>,
+    worker: usize,
+) -> Result<(), Fail> {
+    for _ in rt.forever() {
+        let Taken::Job(ticket) = take(rt, alloc, core, worker)? else {
+            break;
+        };
+        put(core, worker, work(alloc, ticket)?)?;
+    }
+    Ok(())
+}
+
+fn assert_job(rt: &impl Abort, done: &Done, kind: JobKind, part: usize) {
+    let job = done.ticket().job();
+    assert_eq!(rt; job.kind, kind);
+    assert_eq!(rt; job.game, 0);
+    assert_eq!(rt; job.part, part);
+}
+
+fn counts_of(free: usize) -> Counts {
+    Counts {
+        free,
+        held: 6usize.saturating_sub(free),
+        size: 6,
+    }
+}
+
+#[test]
+fn opens_within_its_blocks(rt: HostRuntime) -> Result<(), Fail> {
+    let two = [("a", 64), ("b", 64)];
+    let short = Core::<CAP>::open(rt.alloc(), plan_of(&rt, rt.alloc(), &two)?, 11, 3);
+    assert_eq!(rt; short.err(), Some(Open::Short));
+
+    let core = Core::<CAP>::open(rt.alloc(), plan_of(&rt, rt.alloc(), &two)?, 12, 3)?;
+    let counts = Counts {
+        free: 12,
+        held: 0,
+        size: 12,
+    };
+    assert_eq!(rt; core.counts(), counts);
+    assert!(rt; core.is_quiet());
+    assert_eq!(rt; core.workers(), 3);
+    assert_eq!(rt; core.rows(), 2);
+    assert_eq!(rt; core.row(1).quota, 64);
+    assert_eq!(rt; core.count(0), 0);
+    assert_eq!(rt; core.charge(0), 0);
+    assert!(rt; core.board(rt.alloc(), 0)?.is_none());
+    Ok(())
+}
+
+#[test]
+fn results_of_another_core_are_strays(rt: HostRuntime) -> Result<(), Fail> {
+    let alloc = rt.alloc();
+    let mut core = core_of(&rt, alloc, "a", 4096)?;
+    let mut other = core_of(&rt, alloc, "a", 4096)?;
+    hand(&rt, &mut core, new_solo(alloc, 3)?)?;
+    hand(&rt, &mut other, new_solo(alloc, 3)?)?;
+    let done = take_done(&rt, alloc, &mut core, 0)?;
+    let foreign = take_done(&rt, alloc, &mut other, 0)?;
+    assert_job(&rt, &done, JobKind::Begin, 0);
+    assert!(rt; matches!(take(&rt, alloc, &mut core, 1)?, Taken::Nothing));
+    assert!(rt; matches!(take(&rt, alloc, &mut core, 0)?, Taken::Busy));
+    put(&mut core, 0, done)?;
+
+    let Err(stray) = core.put(0, foreign) else {
+        return Err(Fail::from("a job that is not out"));
+    };
+    assert_job(&rt, &stray.done, JobKind::Begin, 0);
+    assert!(rt; core.rows() == 1);
+    assert_eq!(rt; core.replies(0).len(), 1);
+
+    hand(&rt, &mut core, Command::Show)?;
+    let done = take_done(&rt, alloc, &mut core, 0)?;
+    assert!(rt; core.put(0, stray.done).is_err());
+    assert_eq!(rt; core.counts(), counts_of(5));
+    assert!(rt; core.put(1, done).is_err());
+    assert!(rt; core.rows() == 1);
+    assert_eq!(rt; core.taken(0).len(), 2);
+    let board = core.board(alloc, 0)?.ok_or("a board")?;
+    assert_eq!(rt; board.turn, 0);
+    Ok(())
+}
+
+fn assert_nothing(
+    rt: &impl Abort,
+    alloc: Global,
+    core: &mut Core<CAP>,
+    worker: usize,
+) -> Result<(), Fail> {
+    assert!(rt; matches!(take(rt, alloc, core, worker)?, Taken::Nothing));
+    Ok(())
+}
+
+// The job that the worker takes next is of that kind and part, and comes back at once.
+fn play_job(
+    rt: &impl Abort,
+    alloc: Global,
+    core: &mut Core<CAP>,
+    worker: usize,
+    kind: JobKind,
+) -> Result<(), Fail> {
+    let done = take_done(rt, alloc, core, worker)?;
+    assert_job(rt, &done, kind, 0);
+    put(core, worker, done)
+}
+
+// Both parts are out with one worker, and come back in the other order.
+fn play_parts(rt: &impl Abort, alloc: Global, core: &mut Core<CAP>) -> Result<(), Fail> {
+    let one = take_done(rt, alloc, core, 0)?;
+    assert_job(rt, &one, JobKind::Part, 0);
+    let two = take_done(rt, alloc, core, 0)?;
+    assert_job(rt, &two, JobKind::Part, 1);
+    assert_nothing(rt, alloc, core, 1)?;
+    put(core, 0, two)?;
+    assert_nothing(rt, alloc, core, 1)?;
+    put(core, 0, one)
+}
+
+fn play_join(rt: &impl Abort, alloc: Global, core: &mut Core<CAP>) -> Result<(), Fail> {
+    let join = take_done(rt, alloc, core, 1)?;
+    assert_job(rt, &join, JobKind::Join, 0);
+    assert_nothing(rt, alloc, core, 0)?;
+    assert!(rt; !core.is_quiet());
+    put(core, 1, join)?;
+    assert!(rt; core.is_quiet());
+    Ok(())
+}
+
+#[test]
+fn a_move_goes_in_parts(rt: HostRuntime) -> Result<(), Fail> {
+    let alloc = rt.alloc();
+    let mut core = core_of(&rt, alloc, "b", 4096)?;
+    hand(&rt, &mut core, new_of_three(alloc)?)?;
+    hand(&rt, &mut core, third_goes_down(alloc)?)?;
+    play_job(&rt, alloc, &mut core, 1, JobKind::Begin)?;
+    play_job(&rt, alloc, &mut core, 0, JobKind::Begin)?;
+    assert_eq!(rt; core.counts(), counts_of(5));
+    play_parts(&rt, alloc, &mut core)?;
+    play_join(&rt, alloc, &mut core)?;
+    assert_eq!(rt; core.counts(), counts_of(5));
+    assert!(rt; core.rows() == 1);
+    assert_eq!(rt; core.charge(0), 128);
+    assert_eq!(rt; core.count(0), 2);
+    assert_eq!(rt; core.replies(0).len(), 2);
+    let board = core.board(alloc, 0)?.ok_or("a board")?;
+    assert_eq!(rt; board.turn, 1);
+    Ok(())
+}
+
+fn assert_shown(rt: &impl Abort, reply: &Reply, word: Word, turn: u16, charge: u32) {
+    let is_so = match reply {
+        Reply::Shown(said, board, charged) => {
+            *said == word && board.turn == turn && *charged == charge
+        }
+        Reply::Plain(_, _) => false,
+        Reply::Refused(_) => false,
+    };
+    assert!(rt; is_so);
+}
+
+fn assert_refused(rt: &impl Abort, reply: &Reply, reason: Refusal) {
+    let is_so = match reply {
+        Reply::Shown(_, _, _) => false,
+        Reply::Plain(_, _) => false,
+        Reply::Refused(why) => *why == reason,
+    };
+    assert!(rt; is_so);
+}
+
+#[test]
+fn quota_of_two_records(rt: HostRuntime) -> Result<(), Fail> {
+    let alloc = rt.alloc();
+    let mut core = core_of(&rt, alloc, "a", 64)?;
+    hand(&rt, &mut core, new_solo(alloc, 5)?)?;
+    for _ in 0..2 {
+        hand(&rt, &mut core, straight_on(alloc))?;
+    }
+    hand(&rt, &mut core, Command::Free)?;
+    hand(&rt, &mut core, straight_on(alloc))?;
+    for turn in 0u16..2 {
+        hand(
+            &rt,
+            &mut core,
+            Command::Turn(TurnNumber::new(turn).ok_or("a turn")?),
+        )?;
+    }
+    play(&rt, alloc, &mut core, 2)?;
+    assert!(rt; core.is_quiet());
+    assert!(rt; core.rows() == 1);
+    let replies = core.replies(0);
+    assert!(rt; replies.len() == 7);
+    assert_shown(&rt, &replies[0], Word::New, 0, 32);
+    assert_shown(&rt, &replies[1], Word::Move, 1, 64);
+    assert_refused(&rt, &replies[2], Refusal::Quota);
+    assert!(rt; matches!(&replies[3], Reply::Plain(Word::Free, 32)));
+    assert_shown(&rt, &replies[4], Word::Move, 2, 64);
+    assert_refused(&rt, &replies[5], Refusal::NoRecord);
+    assert_shown(&rt, &replies[6], Word::Turn, 1, 64);
+    assert!(rt; core.count(0) == 2);
+    Ok(())
+}
+
+#[test]
+fn jobs_come_back_after_a_failure(rt: HostRuntime) -> Result<(), Fail> {
+    let alloc = rt.alloc();
+    let mut core = core_of(&rt, alloc, "a", 64)?;
+    hand(&rt, &mut core, new_solo(alloc, 5)?)?;
+    hand(&rt, &mut core, Command::End)?;
+    let done = take_done(&rt, alloc, &mut core, 0)?;
+    core.fail();
+    assert!(rt; matches!(take(&rt, alloc, &mut core, 0)?, Taken::Failed));
+    assert!(rt; matches!(take(&rt, alloc, &mut core, 1)?, Taken::Failed));
+    put(&mut core, 0, done)?;
+    assert!(rt; core.rows() == 1);
+    assert_eq!(rt; core.replies(0).len(), 1);
+    assert!(rt; matches!(take(&rt, alloc, &mut core, 0)?, Taken::Failed));
+    Ok(())
+}
