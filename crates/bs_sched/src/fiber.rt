@@ -301,19 +301,19 @@ impl Fiber {
         &self.commands[self.begun - 1]
     }
 
-    /// How many commands were taken.
-    pub(crate) fn seq(&self) -> usize
+    /// How many commands were taken: the number of the newest of them, from 1.
+    pub(crate) fn seq(&self) -> u64
         ensures { result ≡ length self.now.taken }
     {
-        self.begun
+        self.begun as u64
     }
 
     /// The number of the command that is taken next, from 1.
-    pub(crate) fn next_seq(&self) -> usize
+    pub(crate) fn next_seq(&self) -> u64
         requires { 0 < length self.now.waiting }
         ensures { result ≡ length self.now.taken + 1 }
     {
-        self.begun + 1
+        self.begun as u64 + 1
     }
 
     pub(crate) fn replies(&self) -> &[Reply]

@@ -78,7 +78,7 @@ pub(crate) fn expected<'a, const CAP: usize>(
     fiber: &Fiber,
     heap: &'a TagHeap<CAP>,
     command: &'a Command,
-    seq: usize,
+    seq: u64,
     worker: usize,
     job: JobName,
 ) -> Expected<'a>
@@ -89,7 +89,7 @@ pub(crate) fn expected<'a, const CAP: usize>(
     Expected {
         job,
         worker,
-        seq: seq as u64,
+        seq,
         quota: fiber.quota(),
         charge: heap.charge(),
         kept: heap.count(),
