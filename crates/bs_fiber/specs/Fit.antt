@@ -4,6 +4,7 @@ use Rattle.bs_board.specs.declared.boards.board.Board.{Board}
 use Rattle.bs_board.specs.declared.commands.command.Command.{Command}
 use Rattle.bs_board.specs.declared.commands.command.Command.TheVariants as command
 use Rattle.bs_board.specs.declared.boards.snake.Snake.{Snake}
+use Rattle.bs_board.specs.declared.limits.TheConstants.{MOST_QUOTA}
 use Rattle.bs_board.specs.boards.Legal.{IsLegal}
 use Rattle.bs_board.specs.records.Record.{record_of}
 use Rattle.bs_game.specs.declared.view.View.{View}
@@ -34,7 +35,7 @@ pub record IsFitGame (i : Input) : Type 0 where
   pub asked : IfSome i.asked IsLegalRecord
   pub asked_by : IsAskedBy i.command i.asked
   pub within : i.charge ≤ i.quota
-  pub small : i.quota ≤ 16777216
+  pub small : i.quota ≤ MOST_QUOTA
 
 -- a part of a move that goes
 pub record IsFitPart (part : ℕ) (view : View) (command : Command) : Type 0 where

@@ -14,6 +14,7 @@ use Rattle.bs_rules.specs.Turn.{turn_of}
 use Rattle.bs_board.specs.declared.boards.board.Board.{Board}
 use Rattle.bs_board.specs.boards.Legal.{IsLegal}
 use Rattle.bs_board.specs.records.Record.{record_of}
+use Rattle.bs_game.specs.declared.quota.TheConstants.{MOST_BOARD_CHARGE}
 use Rattle.bs_game.specs.Game.{Game, IsGame, AreConsecutive, last_board, newest, board_charge, game_charge}
 
 pub charge_of_nothing : game_charge [] ≡ 0
@@ -86,7 +87,7 @@ next_is_a_game game last board orders right is moved legal =
 
 -- what records are charged
 
-pub board_charge_small : (b : Board) → IsLegal b → board_charge b ≤ 161888
+pub board_charge_small : (b : Board) → IsLegal b → board_charge b ≤ MOST_BOARD_CHARGE
 unfolding rounded
 board_charge_small b legal =
     let size = legal_size b legal in

@@ -1,12 +1,10 @@
 //! What a command is answered, and what becomes of the records.
-ghost use Rattle.std.specs.Prelude.{◌≡◌, ◌+◌, ◌≤◌, ◌<◌, Some, None, IfOk, IfSome, option_map};
+ghost use Rattle.std.specs.Prelude.{◌≡◌, ◌<◌, Some, None, IfOk, option_map};
 ghost use Rattle.bs_board.specs.declared.commands.command.Command.TheVariants as command;
 ghost use Rattle.bs_board.specs.declared.commands.command.Word.TheVariants as Word;
 ghost use Rattle.bs_board.specs.declared.commands.reply.Refusal.TheVariants as Refusal;
 ghost use Rattle.bs_board.specs.declared.commands.reply.Reply.TheVariants as Reply;
 ghost use Rattle.bs_game.specs.declared.reply.Effect.TheVariants as Effect;
-ghost use Rattle.bs_board.specs.boards.Legal.{IsLegal};
-ghost use Rattle.bs_board.specs.records.Record.{record_of};
 ghost use Rattle.bs_rules.specs.Motion.{moved_board};
 ghost use Rattle.bs_game.specs.Game.{board_charge};
 ghost use Rattle.bs_game.specs.Law.{IsFitEffect};
@@ -16,30 +14,18 @@ ghost use Rattle.bs_game.specs.View.{
   accepted_reply,
   answer_of,
   answer_with,
-  effect_of_shown,
-  shown_within_quota,
 };
 
 use crate::checking::check;
-use crate::reply::{Answer, Effect, Record};
+use crate::quota::{board_charge, record_board};
+use crate::reply::{Answer, Effect};
 use crate::view::View;
-use bs_block::round_up;
-use bs_board::{Board, Command, Move, New, Refusal, Reply, TurnNumber, Word, encode, size};
+use bs_board::{Board, Command, Move, New, Refusal, Reply, TurnNumber, Word};
 use bs_modes::start;
 use bs_rules::{finish_turn, turn};
 use std::alloc::{AllocError, Global};
 
-/// What the board's record is charged, in bytes.
-#[tactic(auto, using(bs_board::proofs::records::Longest::legal_size_fits, crate::proofs::Games::legal_size_rounds, crate::proofs::Games::board_charge_small))]
-fn board_charge(board: &Board) -> u32
-    requires { IsLegal board.now }
-    ensures value { result ≡ board_charge board.now }
-    ensures small { result ≤ 161888 }
-{
-    round_up(size(board)) as u32
-}
-
-fn refuse(reason: Refusal) -> Answer
+pub(crate) fn refuse(reason: Refusal) -> Answer
     ensures { result ≡ answer_with (Reply.Refused reason) }
 {
     Answer {
@@ -54,25 +40,6 @@ fn show(alloc: Global, word: Word, charge: u32, board: &Board) -> Result<Answer,
     Ok(Answer {
         reply: Reply::Shown(word, board.copy(alloc)?, charge),
         effect: Effect::Keep,
-    })
-}
-
-/// A new board is kept where the quota has room for its record.
-fn record_board(alloc: Global, view: &View, word: Word, board: Board) -> Result<Answer, AllocError>
-    requires view { IsFitView view.now }
-    requires legal { IsLegal board }
-    requires adds { effect_of_shown word board ≡ Effect.Add (record_of board) }
-    ensures value { IfOk result (λ answer. answer ≡ answer_with (shown_within_quota view.now word board)) }
-    ensures fits { IfOk result (λ answer. IsFitEffect view.now.quota view.now.charge answer.effect) }
-{
-    let charge = view.charge + board_charge(&board);
-    if charge > view.quota {
-        return Ok(refuse(Refusal::Quota));
-    }
-    let record = Record::from_vec(encode(alloc, &board)?);
-    Ok(Answer {
-        reply: Reply::Shown(word, board, charge),
-        effect: Effect::Add(record),
     })
 }
 

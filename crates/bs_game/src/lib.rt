@@ -4,6 +4,7 @@
 mod answering;
 mod checking;
 mod law;
+mod quota;
 mod reply;
 #[cfg(test)]
 mod tests;

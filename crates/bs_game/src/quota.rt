@@ -1,0 +1,53 @@
+//! The quota: whether it has room for the record of a new board, and what a board is charged.
+ghost use Rattle.std.specs.Prelude.{◌≡◌, ◌≤◌, IfOk};
+ghost use Rattle.bs_board.specs.declared.commands.reply.Reply.TheVariants as Reply;
+ghost use Rattle.bs_board.specs.boards.Legal.{IsLegal};
+ghost use Rattle.bs_board.specs.records.Record.{record_of};
+ghost use Rattle.bs_game.specs.declared.reply.Effect.TheVariants as Effect;
+ghost use Rattle.bs_game.specs.Game.{board_charge};
+ghost use Rattle.bs_game.specs.Law.{IsFitEffect};
+ghost use Rattle.bs_game.specs.View.{IsFitView, answer_with, effect_of_shown, shown_within_quota};
+
+use crate::answering::refuse;
+use crate::reply::{Answer, Effect, Record};
+use crate::view::View;
+use bs_block::round_up;
+use bs_board::{Board, Refusal, Reply, Word, encode, size};
+use std::alloc::{AllocError, Global};
+
+/// The most that the record of one board is charged, in bytes: 161,885 rounded up.
+pub(crate) const MOST_BOARD_CHARGE: u32 = 161_888;
+
+/// What the board's record is charged, in bytes.
+#[tactic(auto, using(bs_board::proofs::records::Longest::legal_size_fits, crate::proofs::Games::legal_size_rounds, crate::proofs::Games::board_charge_small))]
+pub(crate) fn board_charge(board: &Board) -> u32
+    requires { IsLegal board.now }
+    ensures value { result ≡ board_charge board.now }
+    ensures small { result ≤ MOST_BOARD_CHARGE }
+{
+    round_up(size(board)) as u32
+}
+
+/// A new board is kept where the quota has room for its record.
+pub(crate) fn record_board(
+    alloc: Global,
+    view: &View,
+    word: Word,
+    board: Board,
+) -> Result<Answer, AllocError>
+    requires view { IsFitView view.now }
+    requires legal { IsLegal board }
+    requires adds { effect_of_shown word board ≡ Effect.Add (record_of board) }
+    ensures value { IfOk result (λ answer. answer ≡ answer_with (shown_within_quota view.now word board)) }
+    ensures fits { IfOk result (λ answer. IsFitEffect view.now.quota view.now.charge answer.effect) }
+{
+    let charge = view.charge + board_charge(&board);
+    if charge > view.quota {
+        return Ok(refuse(Refusal::Quota));
+    }
+    let record = Record::from_vec(encode(alloc, &board)?);
+    Ok(Answer {
+        reply: Reply::Shown(word, board, charge),
+        effect: Effect::Add(record),
+    })
+}
