@@ -242,6 +242,8 @@ fn records_both_ways(rt: HostRuntime) -> Result<(), Fail> {
             "turn {turn}"
         );
         assert_same_board(&rt, &decode(alloc, &record)?, &board);
+        assert_eq!(rt; turn_of_record(&record), turn);
+        assert_eq!(rt; seats_of_record(&record), 1);
     }
     let mut board = solo(alloc, 0)?;
     board.turn = 10_000;

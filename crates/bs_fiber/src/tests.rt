@@ -158,6 +158,28 @@ fn begin_lets_the_move_go(rt: HostRuntime) -> Result<(), Fail> {
 }
 
 #[test]
+fn an_expected_input_is_copied(rt: HostRuntime) -> Result<(), Fail> {
+    let alloc = rt.alloc();
+    let expected = Expected {
+        job: job(JobKind::Begin, 0),
+        worker: 1,
+        seq: 2,
+        quota: 4096,
+        charge: 64,
+        kept: 1,
+        last: Some(&[7, 8]),
+        asked: Some(&[9]),
+        command: &Command::Show,
+    };
+    let input = expected.to_input(alloc)?;
+    assert_eq!(rt; (input.worker, input.seq, input.kept), (1, 2, 1));
+    assert!(rt; matches!(&input.last, Some(bytes) if bytes.as_slice() == [7, 8].as_slice()));
+    assert!(rt; matches!(&input.asked, Some(bytes) if bytes.as_slice() == [9].as_slice()));
+    assert!(rt; input.parts.as_slice().is_empty());
+    Ok(())
+}
+
+#[test]
 fn begin_answers_show(rt: HostRuntime) -> Result<(), Fail> {
     let alloc = rt.alloc();
     let last = before(alloc)?;

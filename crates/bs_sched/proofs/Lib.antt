@@ -5,9 +5,11 @@ pub mod FitInputs
 pub mod FoundJobs
 pub mod HandedCommands
 pub mod Heaps
+pub mod Isolation
 pub mod JobWeight
 pub mod KeptRecords
 pub mod Lanes
+pub mod LoneLanes
 pub mod MovingGames
 pub mod NewestRecords
 pub mod OpenedCore
@@ -16,4 +18,5 @@ pub mod Parts
 pub mod PlanBlocks
 pub mod ReadCore
 pub mod RightLanes
+pub mod RightRuns
 pub mod TakenJobs

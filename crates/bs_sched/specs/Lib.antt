@@ -4,6 +4,7 @@ pub mod Courses
 pub mod Handed
 pub mod Insides
 pub mod Inputs
+pub mod Isolation
 pub mod Lane
 pub mod Machine
 pub mod PlanBlocks

@@ -5,6 +5,7 @@ mod cores;
 mod event;
 mod fiber;
 mod games;
+mod law;
 mod opening;
 mod plan_blocks;
 mod putting;
@@ -16,6 +17,7 @@ mod tests;
 
 pub use cores::{Core, Counts, LEAST_CAPACITY};
 pub use event::Event;
+pub use law::isolation_law;
 pub use opening::Open;
 pub use putting::Stray;
 pub use stage::{PartState, Stage};

@@ -1,0 +1,261 @@
+-- Each lane stays right, whatever events come.
+use Rattle.std.proofs.Common.{◌≡◌, ℕ, ◌+◌, ◌-◌, ◌<◌, ◌≤◌, Bool, true, false, List, [], ◌∷◌, ◌++◌, length, take, refl, sym, ap, subst, ◌∙◌, arith, inl, inr}
+use Rattle.std.specs.Prelude.{Some, None, if◌then◌else◌, nat_eq, nat_lt, slice_set, slice_index_or, All}
+use Rattle.std.specs.List.{list_all}
+use Rattle.std.proofs.Math.Seq.{take-length, take-append_seam}
+use Rattle.std.proofs.Math.ListN.{get_or-map}
+use Rattle.std.proofs.lemmas.Bool.{cases_Bool, cond-true, cond-false, ltb-true, leb-true, eqb-true, eqb-false}
+use Rattle.std.proofs.lemmas.List.{length-set, length-append, length-take-le, length-replicate, take_more}
+use Rattle.std.proofs.lemmas.List.Elements.{All-nil, All-push, All-append, All-take, All-drop, All-head, All-tail, All-get_or}
+use Rattle.bs_board.proofs.Chains.{and_both}
+use Rattle.bs_board.specs.declared.limits.TheConstants.{MOST_QUOTA}
+use Rattle.bs_board.specs.declared.commands.command.Command.{Command}
+use Rattle.bs_board.specs.declared.commands.command.Command.TheVariants as command
+use Rattle.bs_board.specs.plans.Plan.{GameRow, IsFitPlan, is_fit_row, row_of}
+use Rattle.bs_game.specs.Alone.{course_of, course_with}
+use Rattle.bs_game.specs.Answer.{Fits, answer_to}
+use Rattle.bs_game.proofs.Courses.{course_snoc, course_is_game}
+use Rattle.bs_fiber.specs.declared.job.JobKind.{JobKind}
+use Rattle.bs_fiber.specs.declared.job.JobKind.TheVariants as kind
+use Rattle.bs_sched.specs.declared.event.Event.{Event}
+use Rattle.bs_sched.specs.declared.event.Event.TheVariants as event
+use Rattle.bs_sched.specs.declared.stage.Stage.{Stage}
+use Rattle.bs_sched.specs.declared.stage.Stage.TheVariants as stage
+use Rattle.bs_sched.specs.declared.stage.PartState.{PartState}
+use Rattle.bs_sched.specs.declared.stage.PartState.TheVariants as part
+use Rattle.bs_sched.specs.Core.{row_at}
+use Rattle.bs_sched.specs.Courses.{answered_commands, IsMove, IsRight}
+use Rattle.bs_sched.specs.Isolation.{opened_lanes, HandsFit}
+use Rattle.bs_sched.specs.Lane.{Lane, empty_lane, lane_command, lane_outcome, goes_on, is_idle, is_in_parts, is_playing, is_to_join, has_begin, has_join, is_part_done, is_ready, is_out, with_waiting, with_taken, with_put, answered, forked, stage_with, with_part_done}
+use Rattle.bs_sched.specs.Machine.{lane_of, game_of, is_allowed, is_enabled, lane_after, step, run_of}
+use Rattle.bs_sched.proofs.Lanes.{ready_part, out_part}
+use Rattle.bs_sched.proofs.LoneLanes.{step_refused, named_lane, others_leave}
+
+-- what an event that is allowed says of the stage
+
+begin_busy : (worker : ℕ) (s : Stage) → has_begin worker s ≡ true → (is_idle s ≡ false) × (is_playing s ≡ false)
+begin_busy worker stage.Idle has = let wrong : false ≡ true = has in absurd cc
+begin_busy worker (stage.Begin other) has = (refl, refl)
+begin_busy worker stage.Parts has = let wrong : false ≡ true = has in absurd cc
+begin_busy worker (stage.Join taker) has = let wrong : false ≡ true = has in absurd cc
+
+join_busy : (worker : ℕ) (s : Stage) → has_join worker s ≡ true → is_idle s ≡ false
+join_busy worker stage.Idle has = let wrong : false ≡ true = has in absurd cc
+join_busy worker (stage.Begin other) has = refl
+join_busy worker stage.Parts has = refl
+join_busy worker (stage.Join taker) has = refl
+
+to_join : (s : Stage) → is_to_join s ≡ true → (is_idle s ≡ false) × (is_playing s ≡ true)
+to_join stage.Idle has = let wrong : false ≡ true = has in absurd cc
+to_join (stage.Begin other) has = let wrong : false ≡ true = has in absurd cc
+to_join stage.Parts has = let wrong : false ≡ true = has in absurd cc
+to_join (stage.Join None) has = (refl, refl)
+to_join (stage.Join (Some other)) has = let wrong : false ≡ true = has in absurd cc
+
+in_parts : (s : Stage) → is_in_parts s ≡ true → s ≡ stage.Parts
+in_parts stage.Idle has = let wrong : false ≡ true = has in cc
+in_parts (stage.Begin other) has = let wrong : false ≡ true = has in cc
+in_parts stage.Parts has = refl
+in_parts (stage.Join taker) has = let wrong : false ≡ true = has in cc
+
+-- the commands that are answered
+
+answered_idle : (x : Lane) → is_idle x.stage ≡ true → answered_commands x ≡ x.taken
+answered_idle x idle = cond-true (is_idle x.stage) x.taken (take (length x.taken - 1) x.taken) idle
+
+answered_busy : (x : Lane) → is_idle x.stage ≡ false → answered_commands x ≡ take (length x.taken - 1) x.taken
+answered_busy x busy = cond-false (is_idle x.stage) x.taken (take (length x.taken - 1) x.taken) busy
+
+all_but_one : {X : Type 0} (xs ys : List X) → length ys ≡ 1 → take (length (xs ++ ys) - 1) (xs ++ ys) ≡ xs
+all_but_one xs ys one =
+    let many : length (xs ++ ys) - 1 ≡ length xs = omega (arith, length-append xs ys, one) in
+    rw many (take-append_seam xs ys)
+
+last_behind : {X : Type 0} (xs : List X) (d : X) → 0 < length xs → xs ≡ take (length xs - 1) xs ++ slice_index_or xs (length xs - 1) d ∷ []
+last_behind xs d some =
+    let whole : length xs - 1 + 1 ≡ length xs = omega arith in
+    let all : take (length xs - 1 + 1) xs ≡ xs = rw whole (take-length xs) in
+    sym all ∙ take_more xs (length xs - 1) d (omega arith)
+
+-- a command is answered
+
+answered_course : (x : Lane) → IsRight x → is_idle x.stage ≡ false → course_of x.quota x.taken ≡ course_with x.quota (course_of x.quota (answered_commands x)) (lane_command x)
+answered_course x right busy =
+    let some = right.some busy in
+    let all : x.taken ≡ answered_commands x ++ lane_command x ∷ []
+    = last_behind x.taken command.Bad some ∙ ap (λ cs. cs ++ lane_command x ∷ []) (sym (answered_busy x busy)) in
+    ap (course_of x.quota) all ∙ course_snoc x.quota (answered_commands x) (lane_command x)
+
+pub right_answered : (x : Lane) → IsRight x → is_idle x.stage ≡ false → IsRight (answered x)
+right_answered x right busy =
+    let course = answered_course x right busy in
+    let game : (lane_outcome x).game ≡ (course_of x.quota x.taken).game
+    = ap (λ g. (answer_to x.quota g (lane_command x)).game) right.course.game ∙ sym (ap (λ c. c.game) course) in
+    let replies : x.replies ++ (lane_outcome x).reply ∷ [] ≡ (course_of x.quota x.taken).replies
+    = ap (λ g. x.replies ++ (answer_to x.quota g (lane_command x)).reply ∷ []) right.course.game
+    ∙ ap (λ rs. rs ++ (answer_to x.quota (course_of x.quota (answered_commands x)).game (lane_command x)).reply ∷ []) right.course.replies
+    ∙ sym (ap (λ c. c.replies) course) in
+    let whole = course_is_game x.quota x.taken right.taken in
+    record {
+      small = right.small;
+      taken = right.taken;
+      waiting = right.waiting;
+      some = λ wrong. let is : true ≡ false = wrong in absurd cc;
+      course = record { replies = replies; game = game };
+      right = rw game whole.0;
+      within = rw game whole.1;
+      moves = λ plays. let wrong : false ≡ true = plays in absurd cc;
+    }
+
+-- each event
+
+right_handed : (x : Lane) (command : Command) → IsRight x → Fits command → IsRight (with_waiting command x)
+right_handed x command right fits =
+    record {
+      small = right.small;
+      taken = right.taken;
+      waiting = All-push Fits x.waiting command right.waiting fits;
+      some = right.some;
+      course = record { replies = right.course.replies; game = right.course.game };
+      right = right.right;
+      within = right.within;
+      moves = λ plays. record { goes = (right.moves plays).goes; parts = (right.moves plays).parts };
+    }
+
+right_begun : (x : Lane) (worker : ℕ) → IsRight x → is_idle x.stage ≡ true → 0 < length x.waiting → IsRight (with_taken worker kind.Begin 0 x)
+right_begun x worker right idle some =
+    let one : length (take 1 x.waiting) ≡ 1 = length-take-le 1 x.waiting (omega arith) in
+    let before : take (length (x.taken ++ take 1 x.waiting) - 1) (x.taken ++ take 1 x.waiting) ≡ answered_commands x
+    = all_but_one x.taken (take 1 x.waiting) one ∙ sym (answered_idle x idle) in
+    record {
+      small = right.small;
+      taken = All-append Fits x.taken (take 1 x.waiting) right.taken (All-take Fits 1 x.waiting right.waiting);
+      waiting = All-drop Fits 1 x.waiting right.waiting;
+      some = λ _. omega (arith, length-append x.taken (take 1 x.waiting), one);
+      course = record { replies = rw before right.course.replies; game = rw before right.course.game };
+      right = right.right;
+      within = right.within;
+      moves = λ plays. let wrong : false ≡ true = plays in absurd cc;
+    }
+
+right_with_stage : (x : Lane) (s : Stage) (parts : List PartState) → IsRight x → is_idle x.stage ≡ false → is_idle s ≡ false
+    → (is_playing s ≡ true → IsMove (record x { stage = s; parts = parts })) → IsRight (record x { stage = s; parts = parts })
+right_with_stage x s parts right busy still moves =
+    let same : (if is_idle s then x.taken else take (length x.taken - 1) x.taken) ≡ answered_commands x
+    = cond-false (is_idle s) x.taken (take (length x.taken - 1) x.taken) still ∙ sym (answered_busy x busy) in
+    record {
+      small = right.small;
+      taken = right.taken;
+      waiting = right.waiting;
+      some = λ _. right.some busy;
+      course = record { replies = rw same right.course.replies; game = rw same right.course.game };
+      right = right.right;
+      within = right.within;
+      moves = moves;
+    }
+
+-- the parts of a move that is played
+
+still_moves : (x : Lane) (s : Stage) (p : ℕ) (new : PartState) → IsMove x → IsMove (record x { stage = s; parts = slice_set x.parts p new })
+still_moves x s p new move = record { goes = move.goes; parts = length-set x.parts p new ∙ move.parts }
+
+busy_of_parts : (s : Stage) → s ≡ stage.Parts → (is_idle s ≡ false) × (is_playing s ≡ true)
+busy_of_parts s is = rw is (refl, refl)
+
+right_part_taken : (x : Lane) (worker p : ℕ) → IsRight x → x.stage ≡ stage.Parts → IsRight (with_taken worker kind.Part p x)
+right_part_taken x worker p right at =
+    let busy = busy_of_parts x.stage at in
+    right_with_stage x x.stage (slice_set x.parts p (part.Out worker)) right busy.0 busy.0
+    (λ _. still_moves x x.stage p (part.Out worker) (right.moves busy.1))
+
+closed_busy : (all : Bool) → is_idle (if all then stage.Join None else stage.Parts) ≡ false
+closed_busy true = refl
+closed_busy false = refl
+
+right_part_done : (x : Lane) (p : ℕ) → IsRight x → x.stage ≡ stage.Parts → IsRight (with_part_done p x)
+right_part_done x p right at =
+    let busy = busy_of_parts x.stage at in
+    let parts = slice_set x.parts p part.Done in
+    right_with_stage x (stage_with parts) parts right busy.0 (closed_busy (list_all is_part_done parts))
+    (λ _. still_moves x (stage_with parts) p part.Done (right.moves busy.1))
+
+right_forked : (x : Lane) → IsRight x → is_idle x.stage ≡ false → goes_on x ≡ true → IsRight (forked x)
+right_forked x right busy on =
+    right_with_stage x stage.Parts (forked x).parts right busy refl
+    (λ _. record { goes = on; parts = length-replicate _ _ })
+
+right_taken : (x : Lane) (worker : ℕ) (k : JobKind) (p : ℕ) → IsRight x → is_ready x k p ≡ true → IsRight (with_taken worker k p x)
+right_taken x worker kind.Begin p right ready =
+    let both = and_both _ _ (and_both (nat_eq p 0) _ ready).1 in
+    right_begun x worker right both.0 (ltb-true _ _ both.1)
+right_taken x worker kind.Part p right ready = right_part_taken x worker p right (ready_part x p ready)
+right_taken x worker kind.Join p right ready =
+    let at = to_join x.stage (and_both (nat_eq p 0) (is_to_join x.stage) ready).1 in
+    right_with_stage x (stage.Join (Some worker)) x.parts right at.0 refl (λ _. record { goes = (right.moves at.1).goes; parts = (right.moves at.1).parts })
+
+right_put : (x : Lane) (worker : ℕ) (k : JobKind) (p : ℕ) → IsRight x → is_out worker x k p ≡ true → IsRight (with_put k p x)
+right_put x worker kind.Begin p right out =
+    let busy = begin_busy worker x.stage (and_both (nat_eq p 0) (has_begin worker x.stage) out).1 in
+    elim (cases_Bool (goes_on x)) [
+      | inl on ↦ rw on (right_forked x right busy.0 on)
+      | inr off ↦ rw off (right_answered x right busy.0)
+    ]
+right_put x worker kind.Part p right out = right_part_done x p right (out_part x worker p out)
+right_put x worker kind.Join p right out = right_answered x right (join_busy worker x.stage (and_both (nat_eq p 0) (has_join worker x.stage) out).1)
+
+pub right_after : (x : Lane) (e : Event) → IsRight x → HandsFit e → is_allowed x e ≡ true → IsRight (lane_after x e)
+right_after x (event.Hand game command) right fits allowed = right_handed x command right fits
+right_after x (event.Take worker job) right fits allowed = right_taken x worker job.kind job.part right allowed
+right_after x (event.Put worker job) right fits allowed = right_put x worker job.kind job.part right allowed
+
+-- all events
+
+pub right_step : (workers : ℕ) (lanes : List Lane) (e : Event) (game : ℕ) → HandsFit e → IsRight (lane_of lanes game) → IsRight (lane_of (step workers lanes e) game)
+right_step workers lanes e game fits right =
+    elim (cases_Bool (is_enabled workers lanes e)) [
+      | inl on ↦
+          elim (cases_Bool (nat_eq (game_of e) game)) [
+            | inl here ↦
+                let allowed : is_allowed (lane_of lanes (game_of e)) e ≡ true = (and_both _ _ (and_both (nat_lt (game_of e) (length lanes)) _ on).1).0 in
+                let same : game_of e ≡ game = eqb-true _ _ here in
+                let before : IsRight (lane_of lanes (game_of e)) = subst (λ row. IsRight (lane_of lanes row)) (sym same) right in
+                subst (λ row. IsRight (lane_of (step workers lanes e) row)) same
+                (rw (named_lane workers lanes e on) (right_after (lane_of lanes (game_of e)) e before fits allowed))
+            | inr other ↦ rw (others_leave workers lanes game e (eqb-false (game_of e) game other)) right
+          ]
+      | inr off ↦ rw (step_refused workers lanes e off) right
+    ]
+
+pub right_run : (workers : ℕ) (lanes : List Lane) (events : List Event) (game : ℕ) → All HandsFit events → IsRight (lane_of lanes game)
+    → IsRight (lane_of (run_of workers lanes events) game)
+right_run workers lanes [] game fit right = right
+right_run workers lanes (e ∷ events) game fit right =
+    right_run workers (step workers lanes e) events game (All-tail HandsFit e events fit)
+    (right_step workers lanes e game (All-head HandsFit e events fit) right)
+
+-- a lane that was just opened
+
+right_empty : (quota : ℕ) → quota ≤ MOST_QUOTA → IsRight (empty_lane quota)
+right_empty quota small =
+    let course = course_is_game quota [] (All-nil Fits) in
+    record {
+      small = small;
+      taken = All-nil Fits;
+      waiting = All-nil Fits;
+      some = λ busy. let wrong : true ≡ false = busy in absurd cc;
+      course = record { replies = refl; game = refl };
+      right = course.0;
+      within = course.1;
+      moves = λ plays. let wrong : false ≡ true = plays in absurd cc;
+    }
+
+small_quota : (row : GameRow) → is_fit_row row ≡ true → row.quota ≤ MOST_QUOTA
+small_quota row fit = leb-true row.quota MOST_QUOTA (and_both _ _ fit).1
+
+pub opened_lane : (rows : List GameRow) (game : ℕ) → lane_of (opened_lanes rows) game ≡ empty_lane (row_at rows game).quota
+opened_lane rows game = get_or-map (λ (row : GameRow). empty_lane row.quota) rows game (row_of [] 0)
+
+pub right_opened : (rows : List GameRow) (game : ℕ) → IsFitPlan rows → game < length rows → IsRight (lane_of (opened_lanes rows) game)
+right_opened rows game plan within =
+    rw (opened_lane rows game)
+    (right_empty (row_at rows game).quota (small_quota (row_at rows game) (All-get_or (λ row. is_fit_row row ≡ true) rows game (row_of [] 0) within plan.rows_fit)))

@@ -1,0 +1,11 @@
+//! That the games of a core do not notice one another, as a contract.
+ghost use Rattle.bs_sched.specs.Isolation.{IsolationLaw, ShowLaw};
+
+/// For every plan within its limits, every number of workers, every list of events whose commands are within the limits,
+/// and every game: its accepted events run alone to the very same lane, no event of another game changes it, and its
+/// replies and boards are those of its own commands, one after the other. The machine that this speaks of does answer.
+#[tactic(auto, using(crate::proofs::Isolation::show_law))]
+pub fn isolation_law()
+    ensures isolation { IsolationLaw }
+    ensures answers { ShowLaw }
+{}

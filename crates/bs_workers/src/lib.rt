@@ -1,0 +1,17 @@
+//! The workers of a core: threads that take its jobs, work them and bring them back, until every command is answered.
+#![tactic(auto)]
+
+mod comparing;
+mod desk;
+mod fault;
+mod gate;
+mod plan_rows;
+mod running;
+mod shop;
+#[cfg(test)]
+mod tests;
+mod working;
+
+pub use fault::Run;
+pub use gate::{Gate, OpenGate};
+pub use running::run;

@@ -1,0 +1,41 @@
+//! A run: every command is handed in and answered.
+ghost use Rattle.std.specs.Prelude.{◌≡◌, ◌<◌, All, length, IfOk};
+ghost use Rattle.bs_pool.specs.Ledger.{size};
+ghost use Rattle.bs_sched.specs.Core.{opened};
+ghost use Rattle.bs_workers.specs.Run.{IsRunOf};
+
+use crate::comparing::is_run_of;
+use crate::fault::Run;
+use crate::gate::Gate;
+use crate::plan_rows::copy_rows;
+use crate::working::worked;
+use bs_board::Command;
+use bs_sched::Core;
+use std::alloc::Global;
+use std::sync::Wait;
+use std::thread::Threads;
+
+/// Hands the commands, each with the row of its game, to a core that was just opened, in their order, and has its
+/// workers answer all of them.
+pub fn run<const CAP: usize, R: Threads + Wait + Sync, G: Gate>(
+    rt: &R,
+    alloc: Global,
+    core: Core<CAP>,
+    commands: &[(usize, Command)],
+    workers: usize,
+    gate: &G,
+) -> Result<Core<CAP>, Run>
+    requires rows { All (λ command. command.0 < length core.rows) commands.now }
+    requires fresh { core ≡ opened CAP (size core.storage.pool) core.workers core.rows }
+    requires workers { core.workers ≡ workers }
+    ensures { IfOk result (λ done. IsRunOf core.entry commands.now done) }
+{
+    let rows = copy_rows(alloc, &core)?;
+    let blocks = core.counts().size;
+    let core = worked(rt, alloc, core, commands, workers, gate)?;
+    if is_run_of(alloc, &core, rows.as_slice(), blocks, commands)? {
+        Ok(core)
+    } else {
+        Err(Run::Broken)
+    }
+}

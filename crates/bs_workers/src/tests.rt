@@ -1,0 +1,192 @@
+//! Two games of three snakes, played by one worker and by several, and what becomes of them where a gate is shut.
+ghost use Rattle.std.specs.Prelude.{◌≡◌, ◌<◌, ℕ, All, IsTrue, IfOk, length};
+ghost use Rattle.bs_sched.specs.Core.{opened};
+
+use crate::{Gate, OpenGate, Run, run};
+use bs_board::limits::MOST_ROWS;
+use bs_board::plans::plan::have_distinct_names;
+use bs_board::{
+    Cells, Command, Direction, Id, Mode, Move, Moves, New, Plan, Point, Row, Rows, Starts,
+    TurnNumber, Words,
+};
+use bs_fiber::{JobKind, JobName};
+use bs_sched::Core;
+use std::alloc::{AllocError, Global};
+use std::process::Abort;
+use std::sync::Wait;
+use std::sync::atomic::AtomicBool;
+use std::sync::atomic::Ordering::SeqCst;
+use std::test::Fail;
+use std::thread::Threads;
+
+/// Stops each command that is to be joined.
+#[derive(Clone, Copy)]
+struct NoJoin;
+
+impl Gate for NoJoin {
+    fn at(&self, _worker: usize, job: JobName) -> bool {
+        job.kind != JobKind::Join
+    }
+}
+
+/// Lets no part go before both are out.
+#[derive(Drop)]
+struct Meeting {
+    first: AtomicBool,
+    second: AtomicBool,
+}
+
+/// Sets its own flag and waits for the other's. False where that does not come.
+fn meet(own: &AtomicBool, other: &AtomicBool) -> bool {
+    own.store(true, SeqCst);
+    for _ in 0..1_000_000_000u32 {
+        if other.load(SeqCst) {
+            return true;
+        }
+    }
+    false
+}
+
+impl Gate for Meeting {
+    fn at(&self, _worker: usize, job: JobName) -> bool {
+        match (job.kind, job.part) {
+            (JobKind::Part, 0) => meet(&self.first, &self.second),
+            (JobKind::Part, 1) => meet(&self.second, &self.first),
+            _ => true,
+        }
+    }
+}
+
+fn two_games(rt: &impl Abort, alloc: Global) -> Result<Plan, Fail>
+    ensures { IfOk result (λ plan. length plan.rows ≡ 2) }
+{
+    let first = Row::new(Id::from_str(alloc, "a")?, 4096).ok_or("a quota")?;
+    let second = Row::new(Id::from_str(alloc, "b")?, 4096).ok_or("a quota")?;
+    let rows = vec![in alloc; first, second]?;
+    assert!(rt; have_distinct_names(&rows));
+    assert!(rt; rows.len() <= MOST_ROWS);
+    assert!(rt; rows.len() == 2);
+    Ok(Plan {
+        rows: Rows::from_vec(rows),
+    })
+}
+
+fn three_snakes(alloc: Global) -> Result<Command, Fail> {
+    let s = (Id::from_str(alloc, "s")?, Point { x: 1, y: 1 });
+    let t = (Id::from_str(alloc, "t")?, Point { x: 5, y: 1 });
+    let u = (Id::from_str(alloc, "u")?, Point { x: 3, y: 5 });
+    let starts = Starts::from_vec(vec![in alloc; s, t, u]?);
+    let food = Cells::from_vec(vec![in alloc; Point { x: 1, y: 2 }]?);
+    let new = New::new(Mode::Standard, 7, 7, starts, food, 0, 0).ok_or("a setup")?;
+    Ok(Command::New(new))
+}
+
+fn third_goes(alloc: Global, direction: Direction) -> Result<Command, AllocError> {
+    let third = (Id::from_str(alloc, "u")?, direction);
+    Ok(Command::Move(Move::new(
+        Moves::from_vec(vec![in alloc; third]?),
+        Words::from_vec(Vec::new(alloc)),
+    )))
+}
+
+/// The commands of both games in turn.
+fn commands(alloc: Global) -> Result<Vec<(usize, Command)>, Fail> {
+    let mut commands = Vec::new(alloc);
+    for game in 0..2usize {
+        commands.push((game, three_snakes(alloc)?))?;
+    }
+    for (game, direction) in [
+        (0usize, Direction::Down),
+        (1, Direction::Left),
+        (1, Direction::Down),
+        (0, Direction::Right),
+        (1, Direction::Right),
+        (0, Direction::Up),
+    ] {
+        commands.push((game, third_goes(alloc, direction)?))?;
+        commands.push((1 - game, Command::Show))?;
+    }
+    let turn = TurnNumber::new(1).ok_or("a turn")?;
+    commands.push((0, Command::Turn(turn)))?;
+    commands.push((1, Command::End))?;
+    commands.push((1, Command::Show))?;
+    commands.push((0, Command::Bad))?;
+    Ok(commands)
+}
+
+fn are_within(commands: &[(usize, Command)], count: usize) -> bool
+    ensures { IsTrue result → All (λ command. command.0 < count) commands.now }
+{
+    commands.iter().all(|command| command.0 < count)
+}
+
+/// A run of these commands over two games.
+fn played<R: Threads + Wait + Abort + Sync, G: Gate>(
+    rt: &R,
+    alloc: Global,
+    commands: &[(usize, Command)],
+    workers: usize,
+    gate: &G,
+) -> Result<Result<Core<524_288>, Run>, Fail> {
+    assert!(rt; are_within(commands, 2));
+    let core = Core::<524_288>::open(alloc, two_games(rt, alloc)?, 12, workers)?;
+    Ok(run(rt, alloc, core, commands, workers, gate))
+}
+
+/// The replies of both games, as text.
+fn told(rt: &impl Abort, alloc: Global, core: &Core<524_288>) -> Result<String, Fail> {
+    assert!(rt; core.is_quiet());
+    assert!(rt; core.rows() == 2);
+    let (first, second) = (core.replies(0), core.replies(1));
+    assert_eq!(rt; first.len(), 9);
+    assert_eq!(rt; second.len(), 9);
+    Ok(format!(in alloc; "{first:?} {second:?}")?)
+}
+
+fn told_by<R: Threads + Wait + Abort + Sync>(
+    rt: &R,
+    alloc: Global,
+    workers: usize,
+) -> Result<String, Fail> {
+    let commands = commands(alloc)?;
+    let core = played(rt, alloc, commands.as_slice(), workers, &OpenGate)??;
+    told(rt, alloc, &core)
+}
+
+#[test]
+fn any_number_of_workers_gives_the_same_replies(rt: HostRuntime) -> Result<(), Fail> {
+    let alloc = rt.alloc();
+    let alone = told_by(&rt, alloc, 1)?;
+    for workers in [0usize, 2, 4] {
+        let others = told_by(&rt, alloc, workers)?;
+        assert!(rt; alone.as_str() == others.as_str());
+    }
+    Ok(())
+}
+
+#[test]
+fn a_shut_gate_breaks_the_run(rt: HostRuntime) -> Result<(), Fail> {
+    let alloc = rt.alloc();
+    let commands = commands(alloc)?;
+    for workers in [1usize, 2, 4] {
+        let broken = played(&rt, alloc, commands.as_slice(), workers, &NoJoin)?;
+        assert_eq!(rt; broken.err(), Some(Run::Broken));
+    }
+    Ok(())
+}
+
+#[test]
+fn two_workers_are_at_one_move(rt: HostRuntime) -> Result<(), Fail> {
+    let alloc = rt.alloc();
+    let mut commands = Vec::new(alloc);
+    commands.push((0usize, three_snakes(alloc)?))?;
+    commands.push((0usize, third_goes(alloc, Direction::Down)?))?;
+    let gate = Meeting {
+        first: AtomicBool::new(false),
+        second: AtomicBool::new(false),
+    };
+    let core = played(&rt, alloc, commands.as_slice(), 2, &gate)??;
+    assert!(rt; core.is_quiet());
+    assert!(rt; gate.first.load(SeqCst) && gate.second.load(SeqCst));
+    Ok(())
+}

@@ -1,0 +1,115 @@
+//! Working: what a worker makes of its jobs, in a thread of its own or alone with the desk.
+use crate::desk::{Desk, Turn};
+use crate::fault::Run;
+use crate::gate::Gate;
+use crate::shop::Shop;
+use bs_board::Command;
+use bs_fiber::{Done, Ticket, work};
+use bs_sched::Core;
+use std::alloc::Global;
+use std::sync::Wait;
+use std::thread;
+use std::thread::Threads;
+
+/// The job is worked, once the gate lets it pass.
+fn work_job<G: Gate>(alloc: Global, worker: usize, ticket: Ticket, gate: &G) -> Result<Done, Run> {
+    if !gate.at(worker, ticket.job()) {
+        return Err(Run::Broken);
+    }
+    match work(alloc, ticket) {
+        Ok(done) => Ok(done),
+        Err(_) => Err(Run::Memory),
+    }
+}
+
+/// A worker among others: it works what is ready and waits for what becomes so, until the end.
+fn serve<const CAP: usize, R: Wait, G: Gate>(
+    rt: &R,
+    alloc: Global,
+    shop: &Shop<CAP>,
+    worker: usize,
+    gate: &G,
+) {
+    for _ in rt.forever() {
+        match shop.turn(rt, alloc, worker) {
+            Turn::Job(ticket) => {
+                shop.bring(rt, worker, work_job(alloc, worker, ticket, gate));
+            }
+            Turn::Wait(seen) => shop.wait_past(rt, seen),
+            Turn::End => break,
+        }
+    }
+}
+
+/// The caller's own worker does all that is left to do, once no other is there.
+fn finish<const CAP: usize, R: Wait, G: Gate>(
+    rt: &R,
+    alloc: Global,
+    desk: &mut Desk<CAP>,
+    gate: &G,
+) {
+    let worker = desk.own_worker();
+    for _ in rt.forever() {
+        match desk.turn(alloc, worker) {
+            Turn::Job(ticket) => desk.bring(worker, work_job(alloc, worker, ticket, gate)),
+            Turn::Wait(_) => break,
+            Turn::End => break,
+        }
+    }
+}
+
+/// Hands in all commands in their order, or as many as the run goes on for.
+fn hand_all<const CAP: usize, R: Wait>(
+    rt: &R,
+    alloc: Global,
+    shop: &Shop<CAP>,
+    commands: &[(usize, Command)],
+) {
+    for (game, command) in commands {
+        let Ok(command) = command.copy(alloc) else {
+            shop.stop(rt, Run::Memory);
+            break;
+        };
+        if !shop.hand(rt, *game, command) {
+            break;
+        }
+    }
+    shop.close(rt);
+}
+
+/// Hands in all commands beside so many threads that work them. One that the system does not start is left out.
+fn hand_to_threads<const CAP: usize, R: Threads + Wait + Sync, G: Gate>(
+    rt: &R,
+    alloc: Global,
+    shop: &Shop<CAP>,
+    commands: &[(usize, Command)],
+    workers: usize,
+    gate: &G,
+) {
+    thread::scope(thread::scope_env(), rt, |scope| {
+        for worker in 0..workers {
+            let _thread = scope.spawn(move || serve(rt, alloc, shop, worker, gate));
+        }
+        hand_all(rt, alloc, shop, commands);
+    });
+}
+
+/// The core once all commands are worked. A single worker is the caller's own.
+pub(crate) fn worked<const CAP: usize, R: Threads + Wait + Sync, G: Gate>(
+    rt: &R,
+    alloc: Global,
+    core: Core<CAP>,
+    commands: &[(usize, Command)],
+    workers: usize,
+    gate: &G,
+) -> Result<Core<CAP>, Run> {
+    let shop = Shop::new(core);
+    if workers > 1 {
+        hand_to_threads(rt, alloc, &shop, commands, workers, gate);
+    } else {
+        hand_all(rt, alloc, &shop, commands);
+    }
+    let mut desk = shop.into_desk();
+    finish(rt, alloc, &mut desk, gate);
+    desk.into_core()
+}
