@@ -8,6 +8,8 @@ pub const STANDARD_INPUT: &str = "-";
 
 const DEFAULT_BLOCKS: u16 = 64;
 
+const DEFAULT_WORKERS: u16 = 2;
+
 const VERSION: &str = "0.1.0";
 
 /// What a command line asks for.
@@ -15,6 +17,7 @@ const VERSION: &str = "0.1.0";
 pub struct Request<'a> {
     pub file: &'a str,
     pub blocks: u16,
+    pub workers: u16,
 }
 
 fn serve_command<'a>(alloc: Global) -> Result<Command<'a>, AllocError> {
@@ -29,10 +32,18 @@ fn serve_command<'a>(alloc: Global) -> Result<Command<'a>, AllocError> {
         .value_parser(value_parser!(u16).range(1..=4096))
         .default_value("64")
         .help("Blocks of 2 MiB that the games may reserve, 1 to 4096");
+    let workers = Arg::new(alloc, "workers")
+        .long("workers")
+        .value_name("N")
+        .action(ArgAction::Set)
+        .value_parser(value_parser!(u16).range(1..=4))
+        .default_value("2")
+        .help("Workers that play the games, 1 to 4");
     Command::new(alloc, "serve")
         .about("Plays the games of a command file and writes their transcript")
         .arg(file)?
-        .arg(blocks)
+        .arg(blocks)?
+        .arg(workers)
 }
 
 fn arena_command<'a>(alloc: Global) -> Result<Command<'a>, AllocError> {
@@ -47,6 +58,7 @@ fn request_of<'a>(matches: &ArgMatches<'a>) -> Request<'a> {
     Request {
         file: matches.get_str("FILE").unwrap_or(STANDARD_INPUT),
         blocks: matches.get_one::<u16>("blocks").unwrap_or(DEFAULT_BLOCKS),
+        workers: matches.get_one::<u16>("workers").unwrap_or(DEFAULT_WORKERS),
     }
 }
 
@@ -56,6 +68,7 @@ pub fn read_words<'a>(alloc: Global, words: &'a [&'a str]) -> Result<Request<'a>
         return Ok(Request {
             file: STANDARD_INPUT,
             blocks: DEFAULT_BLOCKS,
+            workers: DEFAULT_WORKERS,
         });
     }
     let matches = arena_command(alloc)?.try_get_matches_from(words)?;

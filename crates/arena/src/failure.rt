@@ -17,7 +17,7 @@ pub enum Failure {
 
 impl Failure {
     /// The exit status: 3 where the file was not read, 4 where its plan was refused, 5 for want of memory, 6 where the
-    /// output failed.
+    /// output failed, 7 where the run was broken off.
     pub fn status(&self) -> u8 {
         match self {
             Failure::Read(ReadFault::Device) => 3,
@@ -26,6 +26,7 @@ impl Failure {
             Failure::Serve(Fault::TooLong) => 3,
             Failure::Serve(Fault::Plan(_)) => 4,
             Failure::Serve(Fault::Memory) => 5,
+            Failure::Serve(Fault::Broken) => 7,
             Failure::Serve(Fault::Write(_)) => 6,
             Failure::Flush => 6,
             Failure::Memory => 5,

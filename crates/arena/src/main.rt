@@ -9,8 +9,12 @@ mod tests;
 
 use failure::Failure;
 use program::{arena_run, reported, unread_words};
-use std::alloc::AllocError;
+use std::alloc::{AllocError, Global};
+use std::io::{Read, Write};
 use std::process::ExitCode;
+use std::rt::Files;
+use std::sync::Wait;
+use std::thread::Threads;
 use std::{env, io};
 
 /// The words of the command line, the program's name first.
@@ -18,16 +22,16 @@ fn words_of(rt: &HostRuntime) -> io::Result<Vec<String>> {
     Ok(env::args(rt)?.collect(rt.alloc())?)
 }
 
-fn status_on(rt: &HostRuntime, words: &[String]) -> Result<u8, AllocError> {
-    let texts: Vec<&str> = words.iter().map(|word| word.as_str()).collect(rt.alloc())?;
-    Ok(arena_run(
-        rt,
-        rt.alloc(),
-        texts.as_slice(),
-        &mut rt.stdin(),
-        &mut rt.stdout(),
-        &mut rt.stderr(),
-    ))
+fn status_on<H: Files + Threads + Wait + Sync, R: Read, W: Write, E: Write>(
+    rt: &H,
+    alloc: Global,
+    words: &[String],
+    input: &mut R,
+    output: &mut W,
+    errors: &mut E,
+) -> Result<u8, AllocError> {
+    let texts: Vec<&str> = words.iter().map(|word| word.as_str()).collect(alloc)?;
+    Ok(arena_run(rt, alloc, texts.as_slice(), input, output, errors))
 }
 
 fn main(rt: HostRuntime) -> ExitCode {
@@ -35,8 +39,17 @@ fn main(rt: HostRuntime) -> ExitCode {
         Ok(words) => words,
         Err(error) => return ExitCode::from(unread_words(&error, &mut rt.stderr())),
     };
-    match status_on(&rt, words.as_slice()) {
+    let (mut input, mut output, mut errors) = (rt.stdin(), rt.stdout(), rt.stderr());
+    let status = status_on(
+        &rt,
+        rt.alloc(),
+        words.as_slice(),
+        &mut input,
+        &mut output,
+        &mut errors,
+    );
+    match status {
         Ok(status) => ExitCode::from(status),
-        Err(AllocError) => ExitCode::from(reported(&Failure::Memory, &mut rt.stderr())),
+        Err(AllocError) => ExitCode::from(reported(&Failure::Memory, &mut errors)),
     }
 }

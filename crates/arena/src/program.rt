@@ -2,10 +2,13 @@
 use crate::command_line::{Request, STANDARD_INPUT, is_memory, read_words};
 use crate::failure::Failure;
 use bs_host::{ReadFault, read_input, serve};
+use bs_workers::OpenGate;
 use std::alloc::Global;
 use std::fs;
 use std::io::{self, Read, Write};
 use std::rt::Files;
+use std::sync::Wait;
+use std::thread::Threads;
 
 /// The status of a refused command line.
 const REFUSED: u8 = 2;
@@ -30,15 +33,24 @@ fn input_of<F: Files, R: Read>(
     }
 }
 
-fn run<F: Files, R: Read, W: Write>(
-    rt: &F,
+fn run<H: Files + Threads + Wait + Sync, R: Read, W: Write>(
+    rt: &H,
     alloc: Global,
     request: Request<'_>,
     input: &mut R,
     output: &mut W,
 ) -> Result<(), Failure> {
     let bytes = input_of(rt, alloc, request.file, input).map_err(Failure::Read)?;
-    serve(alloc, &bytes, usize::from(request.blocks), output).map_err(Failure::Serve)?;
+    serve(
+        rt,
+        alloc,
+        &bytes,
+        usize::from(request.blocks),
+        usize::from(request.workers),
+        &OpenGate,
+        output,
+    )
+    .map_err(Failure::Serve)?;
     output.flush().map_err(|_| Failure::Flush)
 }
 
@@ -78,8 +90,8 @@ fn explained<W: Write, E: Write>(error: &clap::Error, output: &mut W, errors: &m
 
 /// Runs the program on these words, of which the first is its own name, and gives its exit status. The transcript goes
 /// to `output`, which is flushed at the end; a fault is one line on `errors`.
-pub fn arena_run<F: Files, R: Read, W: Write, E: Write>(
-    rt: &F,
+pub fn arena_run<H: Files + Threads + Wait + Sync, R: Read, W: Write, E: Write>(
+    rt: &H,
     alloc: Global,
     words: &[&str],
     input: &mut R,

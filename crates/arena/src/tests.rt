@@ -1,9 +1,13 @@
 //! What the program does with command lines, files and devices.
-use crate::program::{arena_run, unread_words};
+use crate::failure::Failure;
+use crate::program::{arena_run, reported, unread_words};
+use bs_host::Fault;
 use std::alloc::Global;
 use std::io::{self, ErrorKind, Read, Write};
 use std::rt::Files;
+use std::sync::Wait;
 use std::test::Fail;
+use std::thread::Threads;
 
 // The plan of two games that reserve six blocks each.
 const TWO_GAMES: &str = "{\"games\":[{\"game\":\"a\",\"quota\":64},{\"game\":\"b\",\"quota\":64}]}";
@@ -12,7 +16,12 @@ const TWO_GAMES_END: &str = "{\"board\":null,\"charge\":0,\"final\":true,\"game\
     {\"board\":null,\"charge\":0,\"final\":true,\"game\":\"b\"}\n";
 
 // The status, the output and the errors of a run on those words and that standard input.
-fn ran<F: Files>(rt: &F, alloc: Global, words: &[&str], file: &str) -> (u8, Vec<u8>, Vec<u8>) {
+fn ran<H: Files + Threads + Wait + Sync>(
+    rt: &H,
+    alloc: Global,
+    words: &[&str],
+    file: &str,
+) -> (u8, Vec<u8>, Vec<u8>) {
     let mut output = Vec::new(alloc);
     let mut errors = Vec::new(alloc);
     let mut input = file.as_bytes();
@@ -23,7 +32,7 @@ fn ran<F: Files>(rt: &F, alloc: Global, words: &[&str], file: &str) -> (u8, Vec<
 // Words behind the program's name, the standard input, and the status, output and errors that they give.
 #[test]
 fn statuses_and_lines(rt: HostRuntime) -> Result<(), Fail> {
-    let cases: [(&[&str], &str, u8, &str, &str); 10] = [
+    let cases: [(&[&str], &str, u8, &str, &str); 12] = [
         (&["arena"], "", 4, "", "arena: plan P1\n"),
         (&["arena"], "{\"games\":[]}", 0, "", ""),
         (
@@ -57,6 +66,20 @@ fn statuses_and_lines(rt: HostRuntime) -> Result<(), Fail> {
         ),
         (&["arena", "serve", "-"], TWO_GAMES, 0, TWO_GAMES_END, ""),
         (
+            &["arena", "serve", "-", "--workers", "1"],
+            TWO_GAMES,
+            0,
+            TWO_GAMES_END,
+            "",
+        ),
+        (
+            &["arena", "serve", "-", "--workers", "4", "--blocks", "12"],
+            TWO_GAMES,
+            0,
+            TWO_GAMES_END,
+            "",
+        ),
+        (
             &["arena", "serve", "no such file"],
             "",
             3,
@@ -83,9 +106,11 @@ fn statuses_and_lines(rt: HostRuntime) -> Result<(), Fail> {
 // A refused command line is status 2, with clap's text on the errors; help is status 0, on the output.
 #[test]
 fn command_lines(rt: HostRuntime) -> Result<(), Fail> {
-    let cases: [(&[&str], u8); 6] = [
+    let cases: [(&[&str], u8); 8] = [
         (&["arena", "serve", "-", "--blocks", "0"], 2),
         (&["arena", "serve", "-", "--blocks", "4097"], 2),
+        (&["arena", "serve", "-", "--workers", "0"], 2),
+        (&["arena", "serve", "-", "--workers", "5"], 2),
         (&["arena", "serve"], 2),
         (&["arena", "play"], 2),
         (&["arena", "serve", "--help"], 0),
@@ -113,6 +138,15 @@ fn command_lines(rt: HostRuntime) -> Result<(), Fail> {
         assert_eq!(rt; errors.as_slice(), line.as_bytes());
     }
     Ok(())
+}
+
+// A run that was broken off has a status and a line of its own.
+#[test]
+fn a_broken_run(rt: HostRuntime) {
+    let mut errors = Vec::new(rt.alloc());
+    let status = reported(&Failure::Serve(Fault::Broken), &mut errors);
+    assert_eq!(rt; status, 7);
+    assert_eq!(rt; errors.as_slice(), b"arena: broken\n".as_slice());
 }
 
 // A plan of 65 games.

@@ -1,6 +1,9 @@
+pub mod CutFile
+pub mod CutLaw
+pub mod CutLines
 pub mod CutPieces
+pub mod CutPlan
+pub mod CutRows
 pub mod FileTexts
-pub mod KeptGame
-pub mod PlanBlocks
+pub mod HostedCore
 pub mod SortedLines
-pub mod WrittenBytes

@@ -1,6 +1,6 @@
+pub mod Cut
 pub mod File
-pub mod KeptGame
-pub mod PlanBlocks
+pub mod Hosted
 pub mod Requests
 pub mod Routing
 pub mod Serve

@@ -1,5 +1,5 @@
 -- Where each line of a command file goes: to a game of the plan, to the strays, or nowhere.
-use Rattle.std.specs.Prelude.{ℕ, ◌+◌, ◌<◌, List, Option, Some, None, map, nat_eq, option_map, if◌then◌else◌}
+use Rattle.std.specs.Prelude.{ℕ, ◌<◌, List, Option, Some, None, map, nat_eq, option_map, if◌then◌else◌}
 use Rattle.std.specs.List.{enumerate_from, filter_map, position}
 use Rattle.bs_board.specs.declared.commands.command.Command.{Command}
 use Rattle.bs_board.specs.declared.commands.command.Command.TheVariants as command

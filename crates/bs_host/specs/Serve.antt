@@ -4,18 +4,30 @@ use Rattle.std.specs.Io.KnownBytes.{Appends}
 use Rattle.bs_board.specs.declared.plans.plan.Plan.{Plan}
 use Rattle.bs_json.specs.declared.plan.PlanFault.{PlanFault}
 use Rattle.bs_json.specs.declared.plan.PlanFault.TheVariants as plan
+use Rattle.bs_sched.specs.declared.opening.Open.{Open}
+use Rattle.bs_sched.specs.declared.opening.Open.TheVariants as opening
+use Rattle.bs_sched.specs.PlanBlocks.{blocks_of_all}
+use Rattle.bs_workers.specs.declared.fault.Run.{Run}
+use Rattle.bs_workers.specs.declared.fault.Run.TheVariants as run
 use Rattle.bs_host.specs.declared.fault.Fault.{Fault}
-use Rattle.bs_host.specs.declared.fault.Fault.TheVariants.{TooLong, Plan as OfPlan, Memory, Write}
+use Rattle.bs_host.specs.declared.fault.Fault.TheVariants.{TooLong, Plan as OfPlan, Memory, Broken, Write}
 use Rattle.bs_host.specs.declared.fault.PlanRefusal.TheVariants as refusal
 use Rattle.bs_host.specs.declared.limits.TheConstants.{BLOCK_BYTES, MOST_FILE_BYTES}
 use Rattle.bs_host.specs.File.{plan_of}
-use Rattle.bs_host.specs.PlanBlocks.{blocks_of_all}
 
 abbrev pub fault_of : PlanFault → Fault
 fault_of plan.Malformed = OfPlan refusal.Malformed
 fault_of plan.BadRow = OfPlan refusal.BadRow
 fault_of plan.TooMany = OfPlan refusal.TooMany
 fault_of plan.Memory = Memory
+
+abbrev pub fault_of_opening : Open → Fault
+fault_of_opening opening.Short = OfPlan refusal.Short
+fault_of_opening opening.Memory = Memory
+
+abbrev pub fault_of_run : Run → Fault
+fault_of_run run.Memory = Memory
+fault_of_run run.Broken = Broken
 
 abbrev pub refusal_of_plan : ℕ → Result Plan PlanFault → Option Fault
 refusal_of_plan blocks (Err fault) = Some (fault_of fault)
@@ -25,11 +37,12 @@ refusal_of_plan blocks (Ok plan) = if nat_lt blocks (blocks_of_all BLOCK_BYTES p
 unfoldable pub refusal_of : ℕ → List ℕ → Option Fault
 refusal_of blocks file = if nat_lt MOST_FILE_BYTES (length file) then Some TooLong else refusal_of_plan blocks (plan_of file)
 
--- that reason was found; of want of memory nothing is said
+-- that reason was found; of want of memory and of a run that was broken off nothing is said
 abbrev pub IsRefusal : Option Fault → Fault → Type 0
 IsRefusal refusal TooLong = refusal ≡ Some TooLong
 IsRefusal refusal (OfPlan reason) = refusal ≡ Some (OfPlan reason)
 IsRefusal refusal Memory = Unit {0}
+IsRefusal refusal Broken = Unit {0}
 IsRefusal refusal (Write written) = ⊥
 
 -- the writer failed only where nothing was against the file
@@ -37,6 +50,7 @@ abbrev pub IsFault : Option Fault → Fault → Type 0
 IsFault refusal TooLong = refusal ≡ Some TooLong
 IsFault refusal (OfPlan reason) = refusal ≡ Some (OfPlan reason)
 IsFault refusal Memory = Unit {0}
+IsFault refusal Broken = Unit {0}
 IsFault refusal (Write written) = refusal ≡ None
 
 -- what the writer then holds: as much of the text as the fault says, fewer bytes than all, or nothing new
@@ -44,4 +58,5 @@ abbrev pub Leaves : {W : Type 0} → (W → Option (List ℕ)) → List ℕ → 
 Leaves contents text old new TooLong = new ≡ old
 Leaves contents text old new (OfPlan reason) = new ≡ old
 Leaves contents text old new Memory = new ≡ old
+Leaves contents text old new Broken = new ≡ old
 Leaves contents text old new (Write written) = (written < length text) × Appends (contents old) (contents new) (take written text)

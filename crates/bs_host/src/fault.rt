@@ -1,8 +1,10 @@
 //! Why a command file is not served.
 ghost use Rattle.std.specs.Prelude.{◌≡◌};
 
-use crate::writing::WriteFault;
 use bs_json::PlanFault;
+use bs_sched::Open;
+use bs_transcript::WriteFault;
+use bs_workers::Run;
 use std::alloc::AllocError;
 use thiserror::Error;
 
@@ -33,6 +35,9 @@ pub enum Fault {
     Plan(PlanRefusal),
     #[error("out of memory")]
     Memory,
+    /// The run was broken off.
+    #[error("broken")]
+    Broken,
     /// The writer failed after it took this many bytes.
     #[error("write failed after {0} bytes")]
     Write(usize),
@@ -59,6 +64,32 @@ impl From<PlanFault> for Fault {
             PlanFault::BadRow => Fault::Plan(PlanRefusal::BadRow),
             PlanFault::TooMany => Fault::Plan(PlanRefusal::TooMany),
             PlanFault::Memory => Fault::Memory,
+        }
+    }
+}
+
+impl From<Open> for Fault {
+    ghost use Rattle.bs_host.specs.Serve.{fault_of_opening};
+
+    ghost from_gives = { λ error fault. fault ≡ fault_of_opening error };
+
+    fn from(error: Open) -> Fault {
+        match error {
+            Open::Short => Fault::Plan(PlanRefusal::Short),
+            Open::Memory => Fault::Memory,
+        }
+    }
+}
+
+impl From<Run> for Fault {
+    ghost use Rattle.bs_host.specs.Serve.{fault_of_run};
+
+    ghost from_gives = { λ error fault. fault ≡ fault_of_run error };
+
+    fn from(error: Run) -> Fault {
+        match error {
+            Run::Memory => Fault::Memory,
+            Run::Broken => Fault::Broken,
         }
     }
 }

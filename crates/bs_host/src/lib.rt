@@ -1,12 +1,14 @@
-//! Serves a command file: reads its bytes, runs each game of its plan by that game's own lines, and writes what they
-//! are answered, game by game.
+//! Serves a command file: reads its bytes, has a core answer the lines of each game of its plan, and writes what they are
+//! answered, game by game. Beside it stands the cut of a file: one game's own lines as a file.
 #![tactic(auto)]
 
+mod cut_fault;
+#[cfg(test)]
+mod cut_tests;
+mod cutting;
 mod fault;
-mod kept_game;
 mod limits;
 mod pieces;
-mod plan_blocks;
 mod reading;
 mod requests;
 mod routing;
@@ -14,8 +16,9 @@ mod sections;
 mod serving;
 #[cfg(test)]
 mod tests;
-mod writing;
 
+pub use cut_fault::Cut;
+pub use cutting::{cut, section_law};
 pub use fault::{Fault, PlanRefusal};
 pub use limits::{BLOCK_BYTES, MOST_FILE_BYTES};
 pub use reading::{ReadFault, read_input};

@@ -1,88 +1,140 @@
-//! A command file is served: its plan and its lines are read, its games are played, and the transcript is written.
+//! A command file is served: its plan and its lines are read, a core answers them, and the transcript is written.
 ghost use Rattle.std.specs.Prelude.{◌≡◌, ◌≤◌, None, Ok, length, IfOk, IfErr, OnOk, IfSome, option_copied};
 ghost use Rattle.std.specs.Io.KnownBytes.{Appends};
-ghost use Rattle.bs_json.specs.PlanLine.{plan_line_of};
+ghost use Rattle.bs_sched.specs.Core.{opened};
 ghost use Rattle.bs_host.specs.File.{pieces_after};
-ghost use Rattle.bs_host.specs.PlanBlocks.{blocks_of_all};
-ghost use Rattle.bs_host.specs.Routing.{routes_from};
+ghost use Rattle.bs_host.specs.Hosted.{Hosts, HostsLines};
+ghost use Rattle.bs_host.specs.Routing.{routes_from, strays_in, strays_of};
 ghost use Rattle.bs_host.specs.Serve.{refusal_of, refusal_of_plan, IsRefusal, IsFault, Leaves};
-ghost use Rattle.bs_host.specs.Transcript.{transcript_of, routed_text_of};
+ghost use Rattle.bs_host.specs.Transcript.{transcript_of};
 
-use crate::fault::{Fault, PlanRefusal};
+use crate::fault::Fault;
 use crate::limits::{BLOCK_BYTES, MOST_FILE_BYTES};
 use crate::pieces::cut_piece;
-use crate::plan_blocks::{blocks_of_all, open_pool};
-use crate::requests::sort_lines;
-use crate::sections::requests_text;
-use crate::writing::write_all_of;
-use bs_board::limits::MOST_ROWS;
-use bs_board::{Plan, Row};
+use crate::requests::{Strays, sort_lines};
+use crate::sections::core_text;
+use bs_board::Plan;
 use bs_json::read_plan;
-use std::alloc::{AllocError, Global};
+use bs_sched::Core;
+use bs_transcript::write_all_of;
+use bs_workers::{Gate, run};
+use std::alloc::Global;
 use std::io::Write;
+use std::sync::Wait;
+use std::thread::Threads;
 
-/// Plays the games of the plan, over a pool of that many blocks.
-#[tactic(auto, using(crate::proofs::FileTexts::text_of_requests, crate::proofs::PlanBlocks::opened_is_idle, crate::proofs::PlanBlocks::opened_reserves))]
-fn lines_text(
+/// A core that has answered the lines of a file, and the lines that belong to no game.
+#[derive(Drop)]
+struct Hosted {
+    core: Core<BLOCK_BYTES>,
+    strays: Strays,
+}
+
+/// A core for the plan, where the blocks suffice for it.
+#[tactic(auto, using(crate::proofs::HostedCore::no_refusal, crate::proofs::HostedCore::opening_refusal))]
+fn open_core(
     alloc: Global,
-    rows: &[Row],
+    plan: Plan,
     blocks: usize,
+    workers: usize,
+) -> Result<Core<BLOCK_BYTES>, Fault>
+    ensures core { IfOk result (λ core. core ≡ opened BLOCK_BYTES blocks workers plan.rows) }
+    ensures served { OnOk result (refusal_of_plan blocks (Ok plan) ≡ None) }
+    ensures fault { IfErr result (IsRefusal (refusal_of_plan blocks (Ok plan))) }
+{
+    Ok(Core::open(alloc, plan, blocks, workers)?)
+}
+
+/// Answers the lines that follow the plan in a file, where there are any.
+#[tactic(auto, using(crate::proofs::HostedCore::run_refusal))]
+fn host_plan<R: Threads + Wait + Sync, G: Gate>(
+    rt: &R,
+    alloc: Global,
+    plan: Plan,
     rest: Option<&[u8]>,
-) -> Result<Vec<u8>, AllocError>
-    requires few { length rows.now ≤ MOST_ROWS }
-    requires room { blocks_of_all BLOCK_BYTES rows.now ≤ blocks }
+    blocks: usize,
+    workers: usize,
+    gate: &G,
+) -> Result<Hosted, Fault>
     requires short { IfSome rest (λ text. length text.now ≤ MOST_FILE_BYTES) }
-    ensures { IfOk result (λ text. text.items
-        ≡ routed_text_of rows.now (routes_from rows.now 2 (pieces_after (option_copied rest.entry)))) }
+    ensures core { IfOk result
+        (λ hosted. HostsLines blocks plan.rows (routes_from plan.rows 2 (pieces_after (option_copied rest.entry))) hosted.core) }
+    ensures strays { IfOk result
+        (λ hosted. hosted.strays ≡ strays_in (routes_from plan.rows 2 (pieces_after (option_copied rest.entry)))) }
+    ensures served { OnOk result (refusal_of_plan blocks (Ok plan) ≡ None) }
+    ensures fault { IfErr result (IsRefusal (refusal_of_plan blocks (Ok plan))) }
 {
-    let requests = sort_lines(alloc, rows, rest)?;
-    let mut pool = open_pool(alloc, rows, blocks)?;
-    requests_text(alloc, &mut pool, rows, &requests)
+    let requests = sort_lines(alloc, plan.rows.as_slice(), rest)?;
+    let core = open_core(alloc, plan, blocks, workers)?;
+    let core = run(rt, alloc, core, requests.commands.as_slice(), workers, gate)?;
+    Ok(Hosted {
+        core,
+        strays: requests.strays,
+    })
 }
 
-/// The plan of a file with that first line, where the blocks suffice for it.
-fn open_plan(alloc: Global, first: &[u8], blocks: usize) -> Result<Plan, Fault>
-    ensures plan { IfOk result (λ plan. plan_line_of first.now ≡ Ok plan) }
-    ensures room { IfOk result (λ plan. blocks_of_all BLOCK_BYTES plan.rows ≤ blocks) }
-    ensures served { OnOk result (refusal_of_plan blocks (plan_line_of first.now) ≡ None) }
-    ensures fault { IfErr result (IsRefusal (refusal_of_plan blocks (plan_line_of first.now))) }
-{
-    let plan = read_plan(alloc, first)?;
-    if blocks_of_all(BLOCK_BYTES, plan.rows.as_slice()) > blocks {
-        return Err(Fault::Plan(PlanRefusal::Short));
-    }
-    Ok(plan)
-}
-
-/// The whole text, where nothing is against the file.
-#[tactic(auto, using(crate::proofs::FileTexts::refusal_of_long, crate::proofs::FileTexts::refusal_of_first, crate::proofs::FileTexts::transcript_of_first))]
-fn transcript(alloc: Global, input: &[u8], blocks: usize) -> Result<Vec<u8>, Fault>
+/// Answers all lines of a file, where nothing is against it.
+#[tactic(auto, using(crate::proofs::FileTexts::refusal_of_long, crate::proofs::FileTexts::refusal_of_first, crate::proofs::FileTexts::hosts_first, crate::proofs::FileTexts::strays_of_first))]
+fn host_file<R: Threads + Wait + Sync, G: Gate>(
+    rt: &R,
+    alloc: Global,
+    input: &[u8],
+    blocks: usize,
+    workers: usize,
+    gate: &G,
+) -> Result<Hosted, Fault>
+    ensures core { IfOk result (λ hosted. Hosts blocks input.now hosted.core) }
+    ensures strays { IfOk result (λ hosted. hosted.strays ≡ strays_of input.now) }
     ensures served { OnOk result (refusal_of blocks input.now ≡ None) }
-    ensures text { IfOk result (λ text. text.items ≡ transcript_of input.now) }
     ensures fault { IfErr result (IsRefusal (refusal_of blocks input.now)) }
 {
     if input.len() > MOST_FILE_BYTES {
         return Err(Fault::TooLong);
     }
     let (first, rest) = cut_piece(input);
-    let plan = open_plan(alloc, first, blocks)?;
-    Ok(lines_text(alloc, plan.rows.as_slice(), blocks, rest)?)
+    let plan = read_plan(alloc, first)?;
+    host_plan(rt, alloc, plan, rest, blocks, workers, gate)
 }
 
-/// Serves a command file from that many blocks: carries out each game's commands in the order of their lines, and
-/// then writes the transcript at once. A fault other than a writer's is found before anything is written.
-pub fn serve<W: Write>(
+/// The core that has answered the file, and the whole text, where nothing is against the file.
+#[tactic(auto, using(crate::proofs::HostedCore::transcript_of_core))]
+fn transcript<R: Threads + Wait + Sync, G: Gate>(
+    rt: &R,
     alloc: Global,
     input: &[u8],
     blocks: usize,
-    output: &mut W,
-) -> Result<(), Fault>
+    workers: usize,
+    gate: &G,
+) -> Result<(Core<BLOCK_BYTES>, Vec<u8>), Fault>
+    ensures core { IfOk result (λ told. Hosts blocks input.now told.0) }
+    ensures text { IfOk result (λ told. told.1.items ≡ transcript_of input.now) }
     ensures served { OnOk result (refusal_of blocks input.now ≡ None) }
+    ensures fault { IfErr result (IsRefusal (refusal_of blocks input.now)) }
+{
+    let hosted = host_file(rt, alloc, input, blocks, workers, gate)?;
+    let text = core_text(alloc, &hosted.core, &hosted.strays)?;
+    Ok((hosted.core, text))
+}
+
+/// Serves a command file from that many blocks, with workers numbered from 0 to `workers`, the caller's own being the last:
+/// has a core answer each game's commands in the order of their lines, and then writes the transcript at once. Before each
+/// job the gate is asked. A fault other than a writer's is found before anything is written. The core is given back.
+pub fn serve<R: Threads + Wait + Sync, G: Gate, W: Write>(
+    rt: &R,
+    alloc: Global,
+    input: &[u8],
+    blocks: usize,
+    workers: usize,
+    gate: &G,
+    output: &mut W,
+) -> Result<Core<BLOCK_BYTES>, Fault>
+    ensures served { OnOk result (refusal_of blocks input.now ≡ None) }
+    ensures core { IfOk result (Hosts blocks input.now) }
     ensures written { OnOk result (Appends (W.contents output.old) (W.contents output.new) (transcript_of input.now)) }
     ensures fault { IfErr result (IsFault (refusal_of blocks input.now)) }
     ensures left { IfErr result (Leaves W.contents (transcript_of input.now) output.old output.new) }
 {
-    let text = transcript(alloc, input, blocks)?;
+    let (core, text) = transcript(rt, alloc, input, blocks, workers, gate)?;
     write_all_of(&text, output)?;
-    Ok(())
+    Ok(core)
 }

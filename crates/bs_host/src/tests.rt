@@ -1,9 +1,13 @@
-//! Whole files and what is written for them, and readers and writers that fail.
+//! Whole files and what is written for them, and readers, writers and runs that fail.
 use crate::{read_input, serve};
+use bs_fiber::JobName;
+use bs_workers::{Gate, OpenGate};
 use std::alloc::{AllocError, Global};
 use std::io;
 use std::io::{ErrorKind, Read, Write};
+use std::sync::Wait;
 use std::test::Fail;
+use std::thread::Threads;
 
 // A snake alone goes straight on and into the wall; what is asked of it then is refused.
 const SOLO: &str = r#"{"games":[{"game":"a","quota":4096}]}
@@ -107,14 +111,31 @@ const TINY_TEXT: &str = r#"{"game":"a","no":"G7","seq":1,"why":"quota"}
 {"board":null,"charge":0,"final":true,"game":"a"}
 "#;
 
-// What the file is answered, "served" or the fault, and what was written.
-fn outcome(alloc: Global, file: &[u8], blocks: usize) -> Result<(String, Vec<u8>), AllocError> {
+// What the file is answered, "served" or the fault, and what was written, with so many workers.
+fn worked<R: Threads + Wait + Sync, G: Gate>(
+    rt: &R,
+    alloc: Global,
+    file: &[u8],
+    blocks: usize,
+    workers: usize,
+    gate: &G,
+) -> Result<(String, Vec<u8>), AllocError> {
     let mut written = Vec::new(alloc);
-    let told = match serve(alloc, file, blocks, &mut written) {
-        Ok(()) => String::from_str(alloc, "served")?,
+    let told = match serve(rt, alloc, file, blocks, workers, gate, &mut written) {
+        Ok(_) => String::from_str(alloc, "served")?,
         Err(fault) => format!(in alloc; "{fault}")?,
     };
     Ok((told, written))
+}
+
+// The same with two workers, which nothing stops.
+fn outcome<R: Threads + Wait + Sync>(
+    rt: &R,
+    alloc: Global,
+    file: &[u8],
+    blocks: usize,
+) -> Result<(String, Vec<u8>), AllocError> {
+    worked(rt, alloc, file, blocks, 2, &OpenGate)
 }
 
 #[test]
@@ -128,10 +149,63 @@ fn files_and_their_transcripts(rt: HostRuntime) -> Result<(), Fail> {
         (STRAYS, STRAYS_TEXT),
         (TINY, TINY_TEXT),
     ] {
-        let (told, written) = outcome(alloc, file.as_bytes(), 12)?;
+        let (told, written) = outcome(&rt, alloc, file.as_bytes(), 12)?;
         assert_eq!(rt; told.as_str(), "served");
         assert_eq!(rt; written.as_slice(), text.as_bytes());
     }
+    Ok(())
+}
+
+// However many workers there are, the same is written, and the core that is given back has answered all.
+#[test]
+fn any_workers_write_the_same(rt: HostRuntime) -> Result<(), Fail> {
+    let alloc = rt.alloc();
+    for workers in 1..5 {
+        for (file, text) in [(TWO_GAMES, TWO_GAMES_TEXT), (SOLO, SOLO_TEXT)] {
+            let (told, written) = worked(&rt, alloc, file.as_bytes(), 12, workers, &OpenGate)?;
+            assert_eq!(rt; told.as_str(), "served", "{workers}");
+            assert_eq!(rt; written.as_slice(), text.as_bytes(), "{workers}");
+        }
+        let mut written = Vec::new(alloc);
+        let file = TWO_GAMES.as_bytes();
+        let served = serve(&rt, alloc, file, 12, workers, &OpenGate, &mut written);
+        let core = served.ok().ok_or("served")?;
+        assert!(rt; core.is_quiet());
+        assert_eq!(rt; core.workers(), workers);
+        assert_eq!(rt; core.counts().size, 12);
+        assert_eq!(rt; core.rows(), 2);
+        for (game, charge) in [(0, 0), (1, 128)] {
+            assert_eq!(rt; core.replies(game).len(), 3);
+            assert_eq!(rt; core.charge(game), charge);
+        }
+    }
+    Ok(())
+}
+
+/// Lets no job pass.
+struct ShutGate;
+
+impl Gate for ShutGate {
+    fn at(&self, _worker: usize, _job: JobName) -> bool {
+        false
+    }
+}
+
+// A run that the gate breaks off writes nothing. Where there is no job, the gate is not asked.
+#[test]
+fn runs_that_are_broken_off(rt: HostRuntime) -> Result<(), Fail> {
+    let alloc = rt.alloc();
+    for workers in 1..5 {
+        let (told, written) = worked(&rt, alloc, SOLO.as_bytes(), 6, workers, &ShutGate)?;
+        assert_eq!(rt; told.as_str(), "broken");
+        assert_eq!(rt; written.len(), 0);
+    }
+    let (told, written) = worked(&rt, alloc, b"{\"games\":[]}\nx", 0, 2, &ShutGate)?;
+    assert_eq!(rt; told.as_str(), "served");
+    assert_eq!(rt;
+        written.as_slice(),
+        b"{\"line\":2,\"no\":\"L1\",\"why\":\"json\"}\n".as_slice()
+    );
     Ok(())
 }
 
@@ -142,7 +216,7 @@ fn every_front_of_a_file_is_served(rt: HostRuntime) -> Result<(), Fail> {
     let bytes = TWO_GAMES.as_bytes();
     let mut number = 1u64;
     for end in 0..bytes.len() {
-        let (told, written) = outcome(alloc, &bytes[..end], 12)?;
+        let (told, written) = outcome(&rt, alloc, &bytes[..end], 12)?;
         let is_line_end = bytes[end] == b'\n';
         if number == 1 && !is_line_end {
             assert_eq!(rt; told.as_str(), "plan P1");
@@ -193,7 +267,7 @@ fn plans_are_refused(rt: HostRuntime) -> Result<(), Fail> {
         (large, 14, "plan P4"),
         (large, 15, "served"),
     ] {
-        let (told, _) = outcome(alloc, file.as_bytes(), blocks)?;
+        let (told, _) = outcome(&rt, alloc, file.as_bytes(), blocks)?;
         assert_eq!(rt; told.as_str(), wanted, "{file}");
     }
     Ok(())
@@ -227,7 +301,8 @@ impl Write for Narrow {
 }
 
 // What the writer is told, and what it took.
-fn narrowed(
+fn narrowed<R: Threads + Wait + Sync>(
+    rt: &R,
     alloc: Global,
     room: usize,
     failure: Option<ErrorKind>,
@@ -237,25 +312,24 @@ fn narrowed(
         room,
         failure,
     };
-    let told = match serve(alloc, SOLO.as_bytes(), 6, &mut narrow) {
-        Ok(()) => String::from_str(alloc, "served")?,
+    let told = match serve(rt, alloc, SOLO.as_bytes(), 6, 2, &OpenGate, &mut narrow) {
+        Ok(_) => String::from_str(alloc, "served")?,
         Err(fault) => format!(in alloc; "{fault}")?,
     };
     Ok((told, narrow.taken))
 }
 
-// A writer that fails anywhere is told how many bytes it took, and they are the first of the text.
+// A writer that fails is told how many bytes it took, and they are the first of the text.
 #[test]
 fn writers_that_fail_have_the_front(rt: HostRuntime) -> Result<(), Fail> {
     let alloc = rt.alloc();
     let text = SOLO_TEXT.as_bytes();
-    for room in 0..text.len() {
-        let (told, taken) = narrowed(alloc, room, Some(ErrorKind::BrokenPipe))?;
-        let wanted = format!(in alloc; "write failed after {room} bytes")?;
-        assert_eq!(rt; told.as_str(), wanted.as_str());
-        assert_eq!(rt; taken.as_slice(), &text[..room]);
-    }
     for (room, failure, wanted) in [
+        (
+            1_000,
+            Some(ErrorKind::BrokenPipe),
+            "write failed after 1000 bytes",
+        ),
         (
             10,
             Some(ErrorKind::Interrupted),
@@ -264,8 +338,9 @@ fn writers_that_fail_have_the_front(rt: HostRuntime) -> Result<(), Fail> {
         (0, None, "write failed after 0 bytes"),
         (5_000, None, "served"),
     ] {
-        let (told, _) = narrowed(alloc, room, failure)?;
+        let (told, taken) = narrowed(&rt, alloc, room, failure)?;
         assert_eq!(rt; told.as_str(), wanted);
+        assert_eq!(rt; taken.as_slice(), &text[..room.min(text.len())]);
     }
     Ok(())
 }
@@ -278,7 +353,7 @@ fn files_have_a_longest_length(rt: HostRuntime) -> Result<(), Fail> {
     file.resize(16_777_216, b'\n')?;
     let read = read_input(alloc, &mut file.as_slice()).map_err(|_| "reads")?;
     assert!(rt; read.as_slice() == file.as_slice());
-    let (told, written) = outcome(alloc, file.as_slice(), 0)?;
+    let (told, written) = outcome(&rt, alloc, file.as_slice(), 0)?;
     assert_eq!(rt; told.as_str(), "served");
     assert_eq!(rt; written.len(), 0);
     file.push(b'\n')?;
@@ -287,7 +362,7 @@ fn files_have_a_longest_length(rt: HostRuntime) -> Result<(), Fail> {
         Err(fault) => format!(in alloc; "{fault}")?,
     };
     assert_eq!(rt; told.as_str(), "file too long");
-    let (told, written) = outcome(alloc, file.as_slice(), 0)?;
+    let (told, written) = outcome(&rt, alloc, file.as_slice(), 0)?;
     assert_eq!(rt; told.as_str(), "file too long");
     assert_eq!(rt; written.len(), 0);
     Ok(())

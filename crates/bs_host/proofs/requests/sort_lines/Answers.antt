@@ -7,7 +7,7 @@ use Rattle.bs_host.proofs.requests.sort_lines.Goals as goal
 
 pub lines-init : goal.lines-init
 lines-init c = record {
-  way = begins c.args.rows.now (pieces_after (option_copied c.args.rest)) c.in_ok-requests.requests c.in_ok-requests.ensures.inboxes c.in_ok-requests.ensures.strays;
+  way = begins c.args.rows.now (pieces_after (option_copied c.args.rest)) c.new-requests.result c.new-requests.ensures.commands c.new-requests.ensures.strays;
   few = few_at_first c.args.rest c.requires.short;
 }
 
@@ -18,14 +18,14 @@ lines-preserved c =
     record {
       way = goes_on c.args.rows.now (routes_from c.args.rows.now 2 (pieces_after (option_copied c.args.rest))) c.lines.number (pieces_after (option_copied c.lines.left))
           c.cut_piece.result.0.now (pieces_after (option_copied c.cut_piece.result.1)) c.route_of.result c.lines.requests c.hand_on.new.self cut
-          (c.route_of.ensures.value ∙ ap (route_of c.args.rows.now) c.in_ok-line.ensures) c.in_ok-hand_on.ensures c.lines.invariant.way;
+          (c.route_of.ensures.value ∙ ap (route_of c.args.rows.now) c.in_ok-line.ensures) c.route_of.ensures.within c.in_ok-hand_on.ensures c.lines.invariant.way;
       few = omega (arith, c.lines.invariant.few);
     }
 
 pub lines-smaller : goal.lines-smaller
 lines-smaller c = fewer_left c.lines.left c.cut_piece.result.1 c.in-Some.text c.in-Some.is c.cut_piece.ensures.shorter
 
-pub returns : goal.returns
-returns c =
+pub returns-clause-value : goal.returns-clause-value
+returns-clause-value c =
     ends c.args.rows.now (routes_from c.args.rows.now 2 (pieces_after (option_copied c.args.rest))) c.lines.number (pieces_after (option_copied c.lines.left)) c.lines.requests
     (ap (λ o. pieces_after (option_copied o)) c.in_default.is) c.lines.invariant.way

@@ -1,0 +1,23 @@
+-- What a core is once it has answered a file.
+use Rattle.std.specs.Prelude.{◌≡◌, ℕ, ◌<◌, true, List, length}
+use Rattle.std.specs.List.{list_all}
+use Rattle.bs_board.specs.plans.Plan.{GameRow}
+use Rattle.bs_pool.specs.Ledger.{size}
+use Rattle.bs_sched.specs.Core.{CoreView, row_at}
+use Rattle.bs_sched.specs.Handed.{IsServed}
+use Rattle.bs_sched.specs.Lane.{is_quiet}
+use Rattle.bs_sched.specs.Machine.{lane_of}
+use Rattle.bs_host.specs.declared.routing.Route.{Route}
+use Rattle.bs_host.specs.File.{rows_of}
+use Rattle.bs_host.specs.Routing.{commands_to, routes_of}
+
+-- the core has these games and so many blocks, nothing is left to do, and each game is as its own lines alone leave it
+pub record HostsLines (blocks : ℕ) (games : List GameRow) (routes : List (ℕ × Route)) (core : CoreView) : Type 0 where
+  pub rows : core.rows ≡ games
+  pub pool : size core.storage.pool ≡ blocks
+  pub quiet : list_all is_quiet core.lanes ≡ true
+  pub served : (row : ℕ) → row < length games → IsServed (row_at games row) (commands_to row routes) (lane_of core.lanes row)
+
+-- the same of the games of a file's plan and its lines: the game of each row is served the file's commands for it
+abbrev pub Hosts : ℕ → List ℕ → CoreView → Type 0
+Hosts blocks file = HostsLines blocks (rows_of file) (routes_of file)

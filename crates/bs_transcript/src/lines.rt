@@ -1,0 +1,69 @@
+//! The text of a transcript: a section for each game, then the lines that belong to no game.
+ghost use Rattle.std.specs.Prelude.{◌≡◌, ◌++◌, OnOk, IfOk};
+ghost use Rattle.bs_transcript.specs.Lines.{reply_lines_of, stray_lines_of, section_lines_of, text_of};
+
+use bs_board::{Board, Id, Reply};
+use bs_json::{Stray, final_line, reply_line, stray_line};
+use std::alloc::{AllocError, Global};
+
+/// What is told of one game.
+#[derive(Debug, Drop)]
+pub struct Section<'t> {
+    pub name: &'t Id,
+    pub replies: &'t [Reply],
+    /// The newest board, where a game runs.
+    pub board: Option<Board>,
+    pub charge: u32,
+}
+
+/// The replies, numbered from 1.
+fn push_replies(
+    alloc: Global,
+    name: &Id,
+    replies: &[Reply],
+    text: &mut Vec<u8>,
+) -> Result<(), AllocError>
+    ensures { OnOk result (text.new.items ≡ text.old.items ++ reply_lines_of name.now replies.now) }
+{
+    for index in 0..replies.len() {
+        let line = reply_line(alloc, name, index as u64 + 1, &replies[index])?;
+        text.extend_from_slice(&line)?;
+    }
+    Ok(())
+}
+
+/// What a game was answered, and how it stands in the end.
+fn push_section(alloc: Global, section: &Section<'_>, text: &mut Vec<u8>) -> Result<(), AllocError>
+    ensures { OnOk result (text.new.items ≡ text.old.items ++ section_lines_of section.now) }
+{
+    push_replies(alloc, section.name, section.replies, text)?;
+    let line = final_line(alloc, section.name, section.board.as_ref(), section.charge)?;
+    text.extend_from_slice(&line)?;
+    Ok(())
+}
+
+fn push_strays(alloc: Global, strays: &[(u64, Stray)], text: &mut Vec<u8>) -> Result<(), AllocError>
+    ensures { OnOk result (text.new.items ≡ text.old.items ++ stray_lines_of strays.now) }
+{
+    for (number, stray) in strays {
+        let line = stray_line(alloc, *number, *stray)?;
+        text.extend_from_slice(&line)?;
+    }
+    Ok(())
+}
+
+/// The games' sections in their order, then the lines that belong to no game, each with its number in the file.
+pub fn text(
+    alloc: Global,
+    sections: &[Section<'_>],
+    strays: &[(u64, Stray)],
+) -> Result<Vec<u8>, AllocError>
+    ensures { IfOk result (λ text. text.items ≡ text_of sections.now strays.now) }
+{
+    let mut text = Vec::new(alloc);
+    for section in sections {
+        push_section(alloc, section, &mut text)?;
+    }
+    push_strays(alloc, strays, &mut text)?;
+    Ok(text)
+}

@@ -1,0 +1,135 @@
+//! Transcripts of replies and strays, and writers that fail.
+use crate::{Section, text, write_all_of};
+use bs_board::{Id, Refusal, Reply, Word};
+use bs_json::Stray;
+use std::alloc::{AllocError, Global};
+use std::io;
+use std::io::{ErrorKind, Write};
+use std::test::Fail;
+
+const TEXT: &str = r#"{"charge":32,"do":"free","game":"a","seq":1}
+{"game":"a","no":"G4","seq":2,"why":"over"}
+{"board":null,"charge":32,"final":true,"game":"a"}
+{"game":"b","no":"G2","seq":1,"why":"none"}
+{"board":null,"charge":0,"final":true,"game":"b"}
+{"board":null,"charge":0,"final":true,"game":"c"}
+{"line":3,"no":"L1","why":"json"}
+{"line":7,"no":"L3","why":"long"}
+"#;
+
+/// What a game was answered and is charged; it has ended.
+#[derive(Drop)]
+struct Ended {
+    name: Id,
+    replies: Vec<Reply>,
+    charge: u32,
+}
+
+// Three games, the last of which was asked nothing.
+fn three_games(alloc: Global) -> Result<Vec<Ended>, AllocError> {
+    let first = vec![in alloc; Reply::Plain(Word::Free, 32), Reply::Refused(Refusal::Over)]?;
+    let second = vec![in alloc; Reply::Refused(Refusal::NoGame)]?;
+    let mut games = Vec::new(alloc);
+    for (name, replies, charge) in [
+        ("a", first, 32),
+        ("b", second, 0),
+        ("c", Vec::new(alloc), 0),
+    ] {
+        games.push(Ended {
+            name: Id::from_str(alloc, name)?,
+            replies,
+            charge,
+        })?;
+    }
+    Ok(games)
+}
+
+fn sections_of<'g>(alloc: Global, games: &'g [Ended]) -> Result<Vec<Section<'g>>, AllocError> {
+    let mut sections = Vec::new(alloc);
+    for game in games {
+        sections.push(Section {
+            name: &game.name,
+            replies: game.replies.as_slice(),
+            board: None,
+            charge: game.charge,
+        })?;
+    }
+    Ok(sections)
+}
+
+// The sections in their order, then two strays.
+#[test]
+fn sections_and_strays(rt: HostRuntime) -> Result<(), Fail> {
+    let alloc = rt.alloc();
+    let games = three_games(alloc)?;
+    let sections = sections_of(alloc, games.as_slice())?;
+    let strays = [(3, Stray::Json), (7, Stray::Long)];
+    let told = text(alloc, sections.as_slice(), &strays)?;
+    assert_eq!(rt; told.as_slice(), TEXT.as_bytes());
+    assert_eq!(rt; text(alloc, &[], &[])?.len(), 0);
+    Ok(())
+}
+
+/// Takes so many bytes, a few at a time, and then fails: by an error, or by taking nothing.
+#[derive(Drop)]
+struct Narrow {
+    taken: Vec<u8>,
+    room: usize,
+    failure: Option<ErrorKind>,
+}
+
+impl Write for Narrow {
+    fn write(&mut self, buf: &[u8]) -> io::Result<usize> {
+        let count = buf.len().min(self.room).min(3);
+        if count == 0 {
+            return match self.failure {
+                Some(kind) => Err(io::Error::from(kind)),
+                None => Ok(0),
+            };
+        }
+        self.taken.extend_from_slice(&buf[..count])?;
+        self.room -= count;
+        Ok(count)
+    }
+
+    fn flush(&mut self) -> io::Result<()> {
+        Ok(())
+    }
+}
+
+// What the fault counts, if there is one, and what the writer took.
+fn narrowed(
+    alloc: Global,
+    room: usize,
+    failure: Option<ErrorKind>,
+) -> Result<(Option<usize>, Vec<u8>), AllocError> {
+    let mut narrow = Narrow {
+        taken: Vec::new(alloc),
+        room,
+        failure,
+    };
+    let fault = write_all_of(TEXT.as_bytes(), &mut narrow).err();
+    Ok((fault.map(|fault| fault.written), narrow.taken))
+}
+
+// A writer that fails anywhere is told how many bytes it took, and they are the first of the text.
+#[test]
+fn writers_that_fail_have_the_front(rt: HostRuntime) -> Result<(), Fail> {
+    let alloc = rt.alloc();
+    let text = TEXT.as_bytes();
+    for room in 0..text.len() {
+        for failure in [
+            Some(ErrorKind::BrokenPipe),
+            Some(ErrorKind::Interrupted),
+            None,
+        ] {
+            let (fault, taken) = narrowed(alloc, room, failure)?;
+            assert_eq!(rt; fault, Some(room));
+            assert_eq!(rt; taken.as_slice(), &text[..room]);
+        }
+    }
+    let (fault, taken) = narrowed(alloc, text.len(), None)?;
+    assert_eq!(rt; fault, None);
+    assert_eq!(rt; taken.as_slice(), text);
+    Ok(())
+}
