@@ -16,22 +16,30 @@ const VERSION: &str = "0.1.0";
 #[derive(Clone, Copy, Debug)]
 pub struct Request<'a> {
     pub file: &'a str,
+    /// The game whose own lines alone are served.
+    pub game: Option<&'a str>,
     pub blocks: u16,
     pub workers: u16,
 }
 
-fn serve_command<'a>(alloc: Global) -> Result<Command<'a>, AllocError> {
-    let file = Arg::new(alloc, "FILE")
+fn file_word<'a>(alloc: Global) -> Arg<'a> {
+    Arg::new(alloc, "FILE")
         .required(true)
         .action(ArgAction::Set)
-        .help("The command file, or - for the standard input");
-    let blocks = Arg::new(alloc, "blocks")
+        .help("The command file, or - for the standard input")
+}
+
+fn blocks_option<'a>(alloc: Global) -> Arg<'a> {
+    Arg::new(alloc, "blocks")
         .long("blocks")
         .value_name("N")
         .action(ArgAction::Set)
         .value_parser(value_parser!(u16).range(1..=4096))
         .default_value("64")
-        .help("Blocks of 2 MiB that the games may reserve, 1 to 4096");
+        .help("Blocks of 2 MiB that the games may reserve, 1 to 4096")
+}
+
+fn serve_command<'a>(alloc: Global) -> Result<Command<'a>, AllocError> {
     let workers = Arg::new(alloc, "workers")
         .long("workers")
         .value_name("N")
@@ -41,9 +49,23 @@ fn serve_command<'a>(alloc: Global) -> Result<Command<'a>, AllocError> {
         .help("Workers that play the games, 1 to 4");
     Command::new(alloc, "serve")
         .about("Plays the games of a command file and writes their transcript")
-        .arg(file)?
-        .arg(blocks)?
+        .arg(file_word(alloc))?
+        .arg(blocks_option(alloc))?
         .arg(workers)
+}
+
+fn alone_command<'a>(alloc: Global) -> Result<Command<'a>, AllocError> {
+    let game = Arg::new(alloc, "game")
+        .long("game")
+        .value_name("NAME")
+        .required(true)
+        .action(ArgAction::Set)
+        .help("The game to play");
+    Command::new(alloc, "alone")
+        .about("Plays one game of a command file by its own lines alone, on one worker")
+        .arg(file_word(alloc))?
+        .arg(game)?
+        .arg(blocks_option(alloc))
 }
 
 fn arena_command<'a>(alloc: Global) -> Result<Command<'a>, AllocError> {
@@ -51,14 +73,25 @@ fn arena_command<'a>(alloc: Global) -> Result<Command<'a>, AllocError> {
         .about("A host for many Battlesnake games")
         .version(VERSION)
         .subcommand_required(true)
-        .subcommand(serve_command(alloc)?)
+        .subcommand(serve_command(alloc)?)?
+        .subcommand(alone_command(alloc)?)
 }
 
-fn request_of<'a>(matches: &ArgMatches<'a>) -> Request<'a> {
+fn serve_request<'a>(matches: &ArgMatches<'a>) -> Request<'a> {
     Request {
         file: matches.get_str("FILE").unwrap_or(STANDARD_INPUT),
+        game: None,
         blocks: matches.get_one::<u16>("blocks").unwrap_or(DEFAULT_BLOCKS),
         workers: matches.get_one::<u16>("workers").unwrap_or(DEFAULT_WORKERS),
+    }
+}
+
+fn alone_request<'a>(matches: &ArgMatches<'a>) -> Request<'a> {
+    Request {
+        file: matches.get_str("FILE").unwrap_or(STANDARD_INPUT),
+        game: matches.get_str("game"),
+        blocks: matches.get_one::<u16>("blocks").unwrap_or(DEFAULT_BLOCKS),
+        workers: 1,
     }
 }
 
@@ -67,14 +100,16 @@ pub fn read_words<'a>(alloc: Global, words: &'a [&'a str]) -> Result<Request<'a>
     if words.len() <= 1 {
         return Ok(Request {
             file: STANDARD_INPUT,
+            game: None,
             blocks: DEFAULT_BLOCKS,
             workers: DEFAULT_WORKERS,
         });
     }
     let matches = arena_command(alloc)?.try_get_matches_from(words)?;
     match matches.subcommand() {
-        Some((_, serve)) => Ok(request_of(serve)),
-        None => Ok(request_of(&matches)),
+        Some(("alone", alone)) => Ok(alone_request(alone)),
+        Some((_, serve)) => Ok(serve_request(serve)),
+        None => Ok(serve_request(&matches)),
     }
 }
 

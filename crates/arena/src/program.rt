@@ -1,7 +1,7 @@
 //! A run of the program, over any reader and writers.
 use crate::command_line::{Request, STANDARD_INPUT, is_memory, read_words};
 use crate::failure::Failure;
-use bs_host::{ReadFault, read_input, serve};
+use bs_host::{ReadFault, cut, read_input, serve};
 use bs_workers::OpenGate;
 use std::alloc::Global;
 use std::fs;
@@ -33,6 +33,14 @@ fn input_of<F: Files, R: Read>(
     }
 }
 
+/// The file to be served: all of it, or the lines of one of its games.
+fn asked_of(alloc: Global, bytes: Vec<u8>, game: Option<&str>) -> Result<Vec<u8>, Failure> {
+    match game {
+        Some(name) => cut(alloc, &bytes, name).map_err(Failure::Cut),
+        None => Ok(bytes),
+    }
+}
+
 fn run<H: Files + Threads + Wait + Sync, R: Read, W: Write>(
     rt: &H,
     alloc: Global,
@@ -41,6 +49,7 @@ fn run<H: Files + Threads + Wait + Sync, R: Read, W: Write>(
     output: &mut W,
 ) -> Result<(), Failure> {
     let bytes = input_of(rt, alloc, request.file, input).map_err(Failure::Read)?;
+    let bytes = asked_of(alloc, bytes, request.game)?;
     serve(
         rt,
         alloc,

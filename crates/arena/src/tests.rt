@@ -103,15 +103,91 @@ fn statuses_and_lines(rt: HostRuntime) -> Result<(), Fail> {
     Ok(())
 }
 
+// A command file of two games, interleaved.
+const INTERLEAVED: &str = r#"{"games":[{"game":"a","quota":64},{"game":"b","quota":4096}]}
+{"game":"a","do":"new","mode":"solo","width":5,"height":5,"snakes":[{"id":"s","x":1,"y":1}],"food":[],"min_food":0,"food_chance":0}
+{"game":"b","do":"new","mode":"standard","width":7,"height":7,"snakes":[{"id":"s","x":1,"y":1},{"id":"t","x":5,"y":1},{"id":"u","x":3,"y":5}],"food":[{"x":1,"y":2}],"min_food":0,"food_chance":0}
+{"game":"a","do":"move","moves":{}}
+{"game":"b","do":"move","moves":{"u":"down"}}
+{"game":"a","do":"end"}
+{"game":"b","do":"show"}
+"#;
+
+// What each game writes alone is its part of what all of them write, with any number of workers.
+#[test]
+fn games_alone(rt: HostRuntime) {
+    let (status, whole, _) = ran(
+        &rt,
+        rt.alloc(),
+        &["arena", "serve", "-", "--workers", "1"],
+        INTERLEAVED,
+    );
+    assert_eq!(rt; status, 0);
+    for workers in ["2", "3", "4"] {
+        let words = ["arena", "serve", "-", "--workers", workers];
+        let (_, again, _) = ran(&rt, rt.alloc(), &words, INTERLEAVED);
+        assert_eq!(rt; again.as_slice(), whole.as_slice(), "{workers}");
+    }
+    let (one, first, _) = ran(
+        &rt,
+        rt.alloc(),
+        &["arena", "alone", "-", "--game", "a"],
+        INTERLEAVED,
+    );
+    let (two, second, _) = ran(
+        &rt,
+        rt.alloc(),
+        &["arena", "alone", "-", "--game", "b"],
+        INTERLEAVED,
+    );
+    assert_eq!(rt; (one, two), (0, 0));
+    assert!(rt; whole.as_slice().starts_with(first.as_slice()));
+    assert!(rt; whole.as_slice().ends_with(second.as_slice()));
+    assert_eq!(rt; first.len() + second.len(), whole.len());
+    assert!(rt; first.len() > 500 && second.len() > 500);
+}
+
+#[test]
+fn games_that_are_not_there(rt: HostRuntime) {
+    let cases: [(&[&str], &str, u8, &str); 3] = [
+        (
+            &["arena", "alone", "-", "--game", "z"],
+            INTERLEAVED,
+            4,
+            "arena: no such game\n",
+        ),
+        (
+            &["arena", "alone", "-", "--game", "z"],
+            "x",
+            4,
+            "arena: plan P1\n",
+        ),
+        (
+            &["arena", "alone", "-", "--game", "b", "--blocks", "5"],
+            INTERLEAVED,
+            4,
+            "arena: plan P4\n",
+        ),
+    ];
+    for (words, file, status, line) in cases {
+        let (answer, output, errors) = ran(&rt, rt.alloc(), words, file);
+        assert_eq!(rt; answer, status, "{words:?}");
+        assert!(rt; output.is_empty());
+        assert_eq!(rt; errors.as_slice(), line.as_bytes());
+    }
+}
+
 // A refused command line is status 2, with clap's text on the errors; help is status 0, on the output.
 #[test]
 fn command_lines(rt: HostRuntime) -> Result<(), Fail> {
-    let cases: [(&[&str], u8); 8] = [
+    let cases: [(&[&str], u8); 10] = [
         (&["arena", "serve", "-", "--blocks", "0"], 2),
         (&["arena", "serve", "-", "--blocks", "4097"], 2),
         (&["arena", "serve", "-", "--workers", "0"], 2),
         (&["arena", "serve", "-", "--workers", "5"], 2),
         (&["arena", "serve"], 2),
+        (&["arena", "alone", "-"], 2),
+        (&["arena", "alone", "-", "--game", "a", "--workers", "2"], 2),
         (&["arena", "play"], 2),
         (&["arena", "serve", "--help"], 0),
         (&["arena", "--version"], 0),
