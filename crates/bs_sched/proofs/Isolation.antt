@@ -28,7 +28,7 @@ many_opened rows = length-map rows (λ (row : GameRow). empty_lane row.quota)
 lone_opened : (rows : List GameRow) (game : ℕ) → lone_lanes rows game ≡ lone (opened_lanes rows) game
 lone_opened rows game = ap (λ x. x ∷ []) (sym (opened_lane rows game))
 
-runs_alone : (workers : ℕ) (rows : List GameRow) (events : List Event) (game : ℕ) → game < length rows → RunsAlone workers rows events game
+pub runs_alone : (workers : ℕ) (rows : List GameRow) (events : List Event) (game : ℕ) → game < length rows → RunsAlone workers rows events game
 runs_alone workers rows events game within =
     let many = many_opened rows in
     let goes = goes_alone workers game (opened_lanes rows) events (omega arith) in

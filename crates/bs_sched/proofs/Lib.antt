@@ -1,5 +1,6 @@
 pub mod Answered
 pub mod ChangedCore
+pub mod EventEffects
 pub mod Fibers
 pub mod FitInputs
 pub mod FoundJobs
@@ -10,13 +11,17 @@ pub mod JobWeight
 pub mod KeptRecords
 pub mod Lanes
 pub mod LoneLanes
+pub mod MemoryLaw
 pub mod MovingGames
 pub mod NewestRecords
 pub mod OpenedCore
 pub mod OwnJobs
 pub mod Parts
+pub mod PlacedRecords
 pub mod PlanBlocks
 pub mod ReadCore
 pub mod RightLanes
 pub mod RightRuns
+pub mod SharedMemory
+pub mod StoredRecords
 pub mod TakenJobs

@@ -7,8 +7,10 @@ pub mod Inputs
 pub mod Isolation
 pub mod Lane
 pub mod Machine
+pub mod Memory
 pub mod PlanBlocks
 pub mod Putting
+pub mod SharedMemory
 pub mod Slots
 pub mod Storage
 pub mod Taking

@@ -1,0 +1,98 @@
+-- The isolation law of the memory: all games keep their records in the blocks of one pool, and none notices the others there.
+use Rattle.std.specs.Prelude.{◌≡◌, ◌≢◌, ℕ, ◌+◌, ◌≤◌, ◌<◌, true, List, [], ◌∷◌, length, map, slice_get, sum_by, Some, None, All}
+use Rattle.bs_board.specs.plans.Plan.{GameRow, IsFitPlan}
+use Rattle.bs_heap.specs.Charge.{blocks_for}
+use Rattle.bs_heap.specs.HeldBlocks.{Holds}
+use Rattle.bs_heap.specs.PackedPlaces.{AreApart}
+use Rattle.bs_heap.specs.Packing.{Packing, numbers_of}
+use Rattle.bs_pool.specs.Ledger.{size, free, held}
+use Rattle.bs_sched.specs.declared.cores.TheConstants.{LEAST_CAPACITY}
+use Rattle.bs_sched.specs.declared.event.Event.{Event}
+use Rattle.bs_sched.specs.Core.{CoreView, row_at, opened}
+use Rattle.bs_sched.specs.Isolation.{HandsFit, own_events, records_of, shared_run}
+use Rattle.bs_sched.specs.Machine.{lane_of, game_of, is_enabled}
+use Rattle.bs_sched.specs.Memory.{World, block_in, bytes_at, effect_at, CanDraw, world_step, world_run, opened_world, core_run}
+use Rattle.bs_sched.specs.PlanBlocks.{blocks_of_all}
+use Rattle.bs_sched.specs.Storage.{packing_of, record_tag, frame_tag}
+
+-- the blocks are large enough, and so many that each game has those that are set aside for it
+pub record IsHosted (cap blocks : ℕ) (rows : List GameRow) : Type 0 where
+  pub wide : LEAST_CAPACITY ≤ cap
+  pub plan : IsFitPlan rows
+  pub room : blocks_of_all cap rows ≤ blocks
+
+-- what all events make of the core of all games
+abbrev pub shared_world : ℕ → ℕ → ℕ → List GameRow → List Event → World
+shared_world cap blocks workers rows events = world_run cap workers (opened_world cap blocks workers rows) events
+
+-- what a game's accepted events make of a core of that game alone, with as many blocks
+abbrev pub lone_world : ℕ → ℕ → ℕ → List GameRow → List Event → ℕ → World
+lone_world cap blocks workers rows events game =
+    world_run cap workers (opened_world cap blocks workers (row_at rows game ∷ [])) (own_events workers rows events game)
+
+-- that core, with the lanes and the storage of the world
+abbrev pub core_with : CoreView → World → CoreView
+core_with core world = record core { lanes = world.lanes; storage = world.storage }
+
+abbrev pub packing_in : World → ℕ → Packing
+packing_in world game = packing_of world.storage game
+
+-- the numbers of the blocks in which a game's records lie
+abbrev pub numbers_in : World → ℕ → List ℕ
+numbers_in world game = numbers_of (packing_in world game)
+
+-- the bytes that the memory has at the places of a game's records
+abbrev pub bytes_in : World → ℕ → List (List ℕ)
+bytes_in world game = map (bytes_at world.memory) (packing_in world game).places
+
+-- how many blocks all games hold
+abbrev pub all_held : List Packing → ℕ
+all_held = sum_by (λ packing. length (numbers_of packing))
+
+-- The blocks of all games. Each of the pool's is free or holds records of a game, and none is in two packings, so no records of two games
+-- share a byte. One that is free has no byte. The blocks for the parts of turns are set aside, and none of them is drawn. Where an event
+-- needs a block there is a free one.
+pub record SharesBlocks (cap blocks workers : ℕ) (world : World) : Type 0 where
+  pub size : size world.storage.pool ≡ blocks
+  pub counts : free world.storage.pool + all_held world.storage.packings ≡ blocks
+  pub apart : (game other : ℕ) → game < length world.lanes → other < length world.lanes → game ≢ other
+      → All (λ number. All (λ n. n ≢ number) (numbers_in world other)) (numbers_in world game)
+  pub records_apart : (game other : ℕ) → game < length world.lanes → other < length world.lanes → game ≢ other
+      → All (λ p. All (λ q. q.number ≢ p.number) (packing_in world other).places) (packing_in world game).places
+  pub empty : (number : ℕ) → slice_get world.storage.pool.owners number ≡ Some None → block_in world.memory number ≡ []
+  pub frames : (game : ℕ) → held (frame_tag game) world.storage.pool ≡ 0
+  pub draws : (e : Event) → is_enabled workers world.lanes e ≡ true
+      → CanDraw cap (effect_at e (lane_of world.lanes (game_of e))) (packing_in world (game_of e)) world.storage.pool
+
+-- The records of one game. Their bytes stand at their places, which lie inside its blocks and one behind the other. The blocks are the
+-- game's own, and no more than are set aside for it.
+pub record KeepsBytes (cap : ℕ) (world : World) (game : ℕ) : Type 0 where
+  pub bytes : bytes_in world game ≡ records_of (lane_of world.lanes game).game
+  pub places : AreApart (packing_in world game)
+  pub own : Holds (record_tag game) (numbers_in world game) world.storage.pool
+  pub few : length (numbers_in world game) ≤ blocks_for cap (lane_of world.lanes game).quota
+
+-- An event that names another game leaves its records where they are, and each of their bytes.
+pub record LeavesBytes (cap workers : ℕ) (world : World) (game : ℕ) (e : Event) : Type 0 where
+  pub packing : packing_in (world_step cap workers world e) game ≡ packing_in world game
+  pub bytes : bytes_in (world_step cap workers world e) game ≡ bytes_in world game
+
+-- Run alone, its accepted events leave the very same bytes at the places that its records have there.
+pub record IsIsolatedInMemory (cap blocks workers : ℕ) (rows : List GameRow) (events : List Event) (game : ℕ) : Type 0 where
+  pub keeps : KeepsBytes cap (shared_world cap blocks workers rows events) game
+  pub alone : bytes_in (lone_world cap blocks workers rows events game) 0 ≡ bytes_in (shared_world cap blocks workers rows events) game
+  pub others : (e : Event) → game_of e ≢ game → LeavesBytes cap workers (shared_world cap blocks workers rows events) game e
+
+-- The core as its calls see it goes just this way, and its lanes are those of which the isolation law speaks.
+pub record SharesMemory (cap blocks workers : ℕ) (rows : List GameRow) (events : List Event) : Type 0 where
+  pub core : core_run cap (opened cap blocks workers rows) events
+      ≡ core_with (opened cap blocks workers rows) (shared_world cap blocks workers rows events)
+  pub lanes : (shared_world cap blocks workers rows events).lanes ≡ shared_run workers rows events
+  pub blocks_shared : SharesBlocks cap blocks workers (shared_world cap blocks workers rows events)
+  pub games : (game : ℕ) → game < length rows → IsIsolatedInMemory cap blocks workers rows events game
+
+-- For every plan that is hosted, every number of workers, and every list of events whose commands are within the limits.
+abbrev pub MemoryLaw : Type 0
+MemoryLaw =
+    (cap blocks workers : ℕ) (rows : List GameRow) (events : List Event) → IsHosted cap blocks rows → All HandsFit events
+    → SharesMemory cap blocks workers rows events
