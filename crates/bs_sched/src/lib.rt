@@ -2,6 +2,8 @@
 #![tactic(auto)]
 
 mod cores;
+#[cfg(test)]
+mod drawn_tests;
 mod event;
 mod fiber;
 mod games;

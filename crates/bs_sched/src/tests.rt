@@ -12,9 +12,9 @@ use std::process::Abort;
 use std::sync::Wait;
 use std::test::Fail;
 
-const CAP: usize = 524_288;
+pub(crate) const CAP: usize = 524_288;
 
-fn plan_of(rt: &impl Abort, alloc: Global, rows: &[(&str, u32)]) -> Result<Plan, Fail> {
+pub(crate) fn plan_of(rt: &impl Abort, alloc: Global, rows: &[(&str, u32)]) -> Result<Plan, Fail> {
     let mut all = Vec::new(alloc);
     for &(name, quota) in rows {
         all.push(Row::new(Id::from_str(alloc, name)?, quota).ok_or("a row")?)?;
@@ -38,14 +38,14 @@ fn starts(alloc: Global, places: &[(&str, i16, i16)]) -> Result<Starts, AllocErr
     Ok(Starts::from_vec(starts))
 }
 
-fn new_solo(alloc: Global, side: u8) -> Result<Command, Fail> {
+pub(crate) fn new_solo(alloc: Global, side: u8) -> Result<Command, Fail> {
     let starts = starts(alloc, &[("s", 1, 1)])?;
     let new = New::new(Mode::Solo, side, side, starts, Cells::new(alloc), 0, 0);
     Ok(Command::New(new.ok_or("a setup")?))
 }
 
 // Three snakes, the first of them below the only food.
-fn new_of_three(alloc: Global) -> Result<Command, Fail> {
+pub(crate) fn new_of_three(alloc: Global) -> Result<Command, Fail> {
     let starts = starts(alloc, &[("s", 1, 1), ("t", 5, 1), ("u", 3, 5)])?;
     let mut food = Cells::new(alloc);
     food.push(Point { x: 1, y: 2 })?;
@@ -53,7 +53,7 @@ fn new_of_three(alloc: Global) -> Result<Command, Fail> {
     Ok(Command::New(new.ok_or("a setup")?))
 }
 
-fn third_goes_down(alloc: Global) -> Result<Command, Fail> {
+pub(crate) fn third_goes_down(alloc: Global) -> Result<Command, Fail> {
     let down = (Id::from_str(alloc, "u")?, Direction::Down);
     Ok(Command::Move(Move::new(
         Moves::from_vec(vec![in alloc; down]?),
@@ -61,7 +61,7 @@ fn third_goes_down(alloc: Global) -> Result<Command, Fail> {
     )))
 }
 
-fn straight_on(alloc: Global) -> Command {
+pub(crate) fn straight_on(alloc: Global) -> Command {
     Command::Move(Move::new(
         Moves::from_vec(Vec::new(alloc)),
         Words::from_vec(Vec::new(alloc)),
