@@ -6,7 +6,7 @@ use bs_sched::{Core, Taken};
 use std::alloc::{AllocError, Global};
 
 /// What a worker is told that asks for a job.
-pub(crate) enum Turn {
+pub(crate) enum Assignment {
     /// Work this one.
     Job(Ticket),
     /// None is ready, and one may become so. The number is that of the changes so far.
@@ -85,27 +85,27 @@ impl<const CAP: usize> Desk<CAP> {
         self.core.take(alloc, worker)
     }
 
-    fn without_job(&self) -> Turn {
+    fn without_job(&self) -> Assignment {
         if self.closed && self.core.is_quiet() {
-            Turn::End
+            Assignment::End
         } else {
-            Turn::Wait(self.changes)
+            Assignment::Wait(self.changes)
         }
     }
 
     /// What the worker, which has no job, is to do.
-    pub(crate) fn turn(&mut self, alloc: Global, worker: usize) -> Turn {
+    pub(crate) fn assign(&mut self, alloc: Global, worker: usize) -> Assignment {
         match self.take(alloc, worker) {
-            Ok(Taken::Job(ticket)) => Turn::Job(ticket),
+            Ok(Taken::Job(ticket)) => Assignment::Job(ticket),
             Ok(Taken::Nothing) => self.without_job(),
-            Ok(Taken::Failed) => Turn::End,
+            Ok(Taken::Failed) => Assignment::End,
             Ok(Taken::Busy) => {
                 self.stop(Run::Broken);
-                Turn::End
+                Assignment::End
             }
             Err(_) => {
                 self.stop(Run::Memory);
-                Turn::End
+                Assignment::End
             }
         }
     }

@@ -1,5 +1,5 @@
 //! The shop: a desk behind a lock, at which threads work and wait.
-use crate::desk::{Desk, Turn};
+use crate::desk::{Assignment, Desk};
 use crate::fault::Run;
 use bs_board::Command;
 use bs_fiber::Done;
@@ -25,12 +25,12 @@ impl<const CAP: usize> Shop<CAP> {
     }
 
     /// What the worker, which has no job, is to do. One that ends wakes all, since they are to end too.
-    pub(crate) fn turn<R: Wait>(&self, rt: &R, alloc: Global, worker: usize) -> Turn {
-        let turn = self.desk.lock(rt).turn(alloc, worker);
-        if matches!(&turn, Turn::End) {
+    pub(crate) fn assign<R: Wait>(&self, rt: &R, alloc: Global, worker: usize) -> Assignment {
+        let assignment = self.desk.lock(rt).assign(alloc, worker);
+        if matches!(&assignment, Assignment::End) {
             self.changed.notify_all();
         }
-        turn
+        assignment
     }
 
     /// Waits until something has changed since there were so many changes.

@@ -1,5 +1,5 @@
 //! Working: what a worker makes of its jobs, in a thread of its own or alone with the desk.
-use crate::desk::{Desk, Turn};
+use crate::desk::{Assignment, Desk};
 use crate::fault::Run;
 use crate::gate::Gate;
 use crate::shop::Shop;
@@ -31,12 +31,12 @@ fn serve<const CAP: usize, R: Wait, G: Gate>(
     gate: &G,
 ) {
     for _ in rt.forever() {
-        match shop.turn(rt, alloc, worker) {
-            Turn::Job(ticket) => {
+        match shop.assign(rt, alloc, worker) {
+            Assignment::Job(ticket) => {
                 shop.bring(rt, worker, work_job(alloc, worker, ticket, gate));
             }
-            Turn::Wait(seen) => shop.wait_past(rt, seen),
-            Turn::End => break,
+            Assignment::Wait(seen) => shop.wait_past(rt, seen),
+            Assignment::End => break,
         }
     }
 }
@@ -50,10 +50,10 @@ fn finish<const CAP: usize, R: Wait, G: Gate>(
 ) {
     let worker = desk.own_worker();
     for _ in rt.forever() {
-        match desk.turn(alloc, worker) {
-            Turn::Job(ticket) => desk.bring(worker, work_job(alloc, worker, ticket, gate)),
-            Turn::Wait(_) => break,
-            Turn::End => break,
+        match desk.assign(alloc, worker) {
+            Assignment::Job(ticket) => desk.bring(worker, work_job(alloc, worker, ticket, gate)),
+            Assignment::Wait(_) => break,
+            Assignment::End => break,
         }
     }
 }
