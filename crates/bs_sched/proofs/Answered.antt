@@ -15,7 +15,7 @@ use Rattle.bs_heap.specs.Charge.{charge_of}
 use Rattle.bs_heap.specs.Heap.{Heap}
 use Rattle.bs_heap.specs.HeldBlocks.{IsKeptIn, LeavesOthers}
 use Rattle.bs_pool.specs.Ledger.{Ledger}
-use Rattle.bs_sched.specs.CoreLayout.{IsHeapOf}
+use Rattle.bs_sched.specs.GamesLayout.{IsHeapOf}
 use Rattle.bs_sched.specs.Courses.{IsRight}
 use Rattle.bs_sched.specs.Insides.{may_answer}
 use Rattle.bs_sched.specs.Lane.{Lane, lane_view, lane_command, lane_outcome, answered, is_idle, occupies, has_begin, has_join}

@@ -17,7 +17,7 @@ use Rattle.bs_sched.specs.declared.event.Event.{Event}
 use Rattle.bs_sched.specs.declared.event.Event.TheVariants as event
 use Rattle.bs_sched.specs.declared.stage.Stage.{Stage}
 use Rattle.bs_sched.specs.declared.stage.Stage.TheVariants as stage
-use Rattle.bs_sched.specs.Core.{answer_effect, put_effect, storage_after}
+use Rattle.bs_sched.specs.Games.{answer_effect, put_effect, storage_after}
 use Rattle.bs_sched.specs.Courses.{IsRight}
 use Rattle.bs_sched.specs.Isolation.{records_of}
 use Rattle.bs_sched.specs.Lane.{Lane, goes_on, is_idle, has_begin, has_join, is_out, forked, answered, with_put, with_taken}

@@ -16,7 +16,7 @@ use Rattle.bs_fiber.specs.declared.job.JobKind.TheVariants as kind
 use Rattle.bs_fiber.specs.declared.job.JobName.{JobName}
 use Rattle.bs_sched.specs.declared.event.Event.{Event}
 use Rattle.bs_sched.specs.declared.event.Event.TheVariants as event
-use Rattle.bs_sched.specs.Core.{opened, row_at}
+use Rattle.bs_sched.specs.Games.{opened, row_at}
 use Rattle.bs_sched.specs.Courses.{IsRight, answered_commands}
 use Rattle.bs_sched.specs.Handed.{commands_of, quota_of, handed_to, handed_after, IsServed}
 use Rattle.bs_sched.specs.Lane.{Lane, empty_lane, goes_on, is_idle, is_quiet, forked, answered, with_waiting, with_taken, with_put}

@@ -8,7 +8,7 @@ use Rattle.bs_heap.specs.Heap.{Heap, empty_heap}
 use Rattle.bs_heap.specs.HeldBlocks.{LeavesOthers}
 use Rattle.bs_heap.specs.Packing.{numbers_of}
 use Rattle.bs_pool.specs.Ledger.{Ledger}
-use Rattle.bs_sched.specs.CoreLayout.{AreHeapsOf, IsHeapOf, heap_of}
+use Rattle.bs_sched.specs.GamesLayout.{AreHeapsOf, IsHeapOf, heap_of}
 use Rattle.bs_sched.specs.Insides.{may_answer}
 use Rattle.std.specs.Prelude.{Bool, None, if◌then◌else◌}
 use Rattle.std.specs.List.{list_all}

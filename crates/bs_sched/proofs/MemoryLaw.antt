@@ -19,13 +19,13 @@ use Rattle.bs_pool.proofs.Counts.{count_cons}
 use Rattle.bs_sched.specs.declared.plan_blocks.TheConstants.{FRAME_BLOCKS}
 use Rattle.bs_sched.specs.declared.event.Event.{Event}
 use Rattle.bs_sched.specs.declared.event.Event.TheVariants as event
-use Rattle.bs_sched.specs.Core.{CoreView, row_at, opened}
+use Rattle.bs_sched.specs.Games.{GamesView, row_at, opened}
 use Rattle.bs_sched.specs.Isolation.{HandsFit, alone_event, accepted, is_accepted, own_events, opened_lanes, lone_run, shared_run, records_of}
 use Rattle.bs_sched.specs.Lane.{Lane, empty_lane}
 use Rattle.bs_sched.specs.Machine.{lane_of, game_of, is_enabled, step, run_of}
-use Rattle.bs_sched.specs.Memory.{Memory, World, block_in, effect_at, world_after, world_step, world_run, opened_world, core_step, core_run}
+use Rattle.bs_sched.specs.Memory.{Memory, World, block_in, effect_at, world_after, world_step, world_run, opened_world, games_step, games_run}
 use Rattle.bs_sched.specs.PlanBlocks.{blocks_of, blocks_of_all, record_blocks, reservations_from}
-use Rattle.bs_sched.specs.SharedMemory.{IsHosted, shared_world, lone_world, core_with, packing_in, numbers_in, bytes_in, all_held, SharesBlocks, KeepsBytes, IsIsolatedInMemory, MemoryLaw}
+use Rattle.bs_sched.specs.SharedMemory.{IsHosted, shared_world, lone_world, games_with, packing_in, numbers_in, bytes_in, all_held, SharesBlocks, KeepsBytes, IsIsolatedInMemory, MemoryLaw}
 use Rattle.bs_sched.specs.Storage.{Storage, packing_of, record_tag, frame_tag, packing_after}
 use Rattle.bs_sched.proofs.EventEffects.{storage_is}
 use Rattle.bs_sched.proofs.Isolation.{runs_alone}
@@ -58,19 +58,19 @@ lanes_run cap workers world (e ∷ events) =
 
 -- so does the core as its calls see it
 
-core_goes_along : (cap : ℕ) (core : CoreView) (world : World) (e : Event)
-    → core_step cap (core_with core world) e ≡ core_with core (world_step cap core.workers world e)
+core_goes_along : (cap : ℕ) (core : GamesView) (world : World) (e : Event)
+    → games_step cap (games_with core world) e ≡ games_with core (world_step cap core.workers world e)
 core_goes_along cap core world e =
     elim (cases_Bool (is_enabled core.workers world.lanes e)) [
       | inl on ↦ rw on refl
       | inr off ↦ rw off refl
     ]
 
-core_runs_along : (cap : ℕ) (core : CoreView) (world : World) (events : List Event)
-    → core_run cap (core_with core world) events ≡ core_with core (world_run cap core.workers world events)
+core_runs_along : (cap : ℕ) (core : GamesView) (world : World) (events : List Event)
+    → games_run cap (games_with core world) events ≡ games_with core (world_run cap core.workers world events)
 core_runs_along cap core world [] = refl
 core_runs_along cap core world (e ∷ events) =
-    ap (λ (next : CoreView). core_run cap next events) (core_goes_along cap core world e)
+    ap (λ (next : GamesView). games_run cap next events) (core_goes_along cap core world e)
     ∙ core_runs_along cap core (world_step cap core.workers world e) events
 
 -- all events keep the records

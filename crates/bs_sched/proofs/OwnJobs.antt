@@ -16,7 +16,7 @@ use Rattle.bs_fiber.proofs.Seen.{both_expected}
 use Rattle.bs_sched.specs.Courses.{IsRight}
 use Rattle.bs_sched.specs.Inputs.{input_for, input_of}
 use Rattle.bs_sched.specs.Lane.{Lane, lane_command, lane_view, is_out}
-use Rattle.bs_sched.specs.Core.{CoreView}
+use Rattle.bs_sched.specs.Games.{GamesView}
 use Rattle.bs_sched.specs.Machine.{lane_of}
 use Rattle.bs_sched.specs.Putting.{IsOwn, IsOwnOf}
 use Rattle.bs_sched.proofs.FitInputs.{lane_input, lane_seen}
@@ -54,10 +54,10 @@ own_of_expected x worker ticket command seq e answer right out is_command is_seq
 
 -- what is brought back of an own job that is out
 
-pub own_there : (core : CoreView) (worker : ℕ) (brought : Input) → IsOwn core worker brought → brought.job.game < length core.lanes
+pub own_there : (core : GamesView) (worker : ℕ) (brought : Input) → IsOwn core worker brought → brought.job.game < length core.lanes
 own_there core worker brought own = ltb-true _ _ (and_both (nat_lt brought.job.game (length core.lanes)) _ own.out).0
 
-pub own_out : (core : CoreView) (worker : ℕ) (brought : Input) → IsOwn core worker brought
+pub own_out : (core : GamesView) (worker : ℕ) (brought : Input) → IsOwn core worker brought
     → is_out worker (lane_of core.lanes brought.job.game) brought.job.kind brought.job.part ≡ true
 own_out core worker brought own =
     let rest = (and_both (nat_lt brought.job.game (length core.lanes)) _ own.out).1 in
@@ -70,12 +70,12 @@ own_worked x worker brought out right is worked =
     let seen : IsSeen (lane_view x) brought = subst (IsSeen (lane_view x)) (sym is) (lane_seen x worker brought.job right) in
     worked (lane_view x) seen ∙ ap (λ (i : Input). out_seen brought.job.kind brought.job.part (lane_view x) i.command) is
 
-pub record IsBrought (core : CoreView) (job : JobName) (value : Out) : Type 0 where
+pub record IsBrought (core : GamesView) (job : JobName) (value : Out) : Type 0 where
   pub there : job.game < length core.lanes
   pub out : (worker : ℕ) × (is_out worker (lane_of core.lanes job.game) job.kind job.part ≡ true)
   pub worked : value ≡ out_seen job.kind job.part (lane_view (lane_of core.lanes job.game)) (lane_command (lane_of core.lanes job.game))
 
-pub brings : (core : CoreView) (worker : ℕ) (brought : Input) (job : JobName) (out : Out) → IsOwn core worker brought → job ≡ brought.job
+pub brings : (core : GamesView) (worker : ℕ) (brought : Input) (job : JobName) (out : Out) → IsOwn core worker brought → job ≡ brought.job
     → IsRight (lane_of core.lanes job.game) → IsWorked brought out → IsBrought core job out
 brings core worker brought job out own is right worked =
     subst (λ (j : JobName). IsBrought core j out) (sym is)

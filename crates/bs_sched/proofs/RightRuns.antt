@@ -23,7 +23,7 @@ use Rattle.bs_sched.specs.declared.stage.Stage.{Stage}
 use Rattle.bs_sched.specs.declared.stage.Stage.TheVariants as stage
 use Rattle.bs_sched.specs.declared.stage.PartState.{PartState}
 use Rattle.bs_sched.specs.declared.stage.PartState.TheVariants as part
-use Rattle.bs_sched.specs.Core.{row_at}
+use Rattle.bs_sched.specs.Games.{row_at}
 use Rattle.bs_sched.specs.Courses.{answered_commands, IsMove, IsRight}
 use Rattle.bs_sched.specs.Isolation.{opened_lanes, HandsFit}
 use Rattle.bs_sched.specs.Lane.{Lane, empty_lane, lane_command, lane_outcome, goes_on, is_idle, is_in_parts, is_playing, is_to_join, has_begin, has_join, is_part_done, is_ready, is_out, with_waiting, with_taken, with_put, answered, forked, stage_with, with_part_done}

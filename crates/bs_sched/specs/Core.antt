@@ -1,71 +1,18 @@
--- The core as its calls see it.
-use Rattle.std.specs.Prelude.{ℕ, Bool, false, if◌then◌else◌, List, map, replicate, [], slice_index_or, slice_set, None}
-use Rattle.bs_board.specs.plans.Plan.{GameRow, row_of}
-use Rattle.bs_pool.specs.Ledger.{ledger_of}
-use Rattle.bs_heap.specs.Packing.{no_packing}
-use Rattle.bs_game.specs.declared.reply.Effect.{Effect}
-use Rattle.bs_game.specs.declared.reply.Effect.TheVariants as effect
-use Rattle.bs_game.specs.View.{answer_of}
-use Rattle.bs_fiber.specs.declared.job.JobKind.{JobKind}
-use Rattle.bs_fiber.specs.declared.job.JobKind.TheVariants as kind
-use Rattle.bs_fiber.specs.declared.job.JobName.{JobName}
+-- The core as its calls see it: all games of its plan, and the list of what happened to them.
+use Rattle.std.specs.Prelude.{ℕ, List, [], ◌∷◌, ◌++◌}
+use Rattle.bs_board.specs.plans.Plan.{GameRow}
 use Rattle.bs_sched.specs.declared.event.Event.{Event}
-use Rattle.bs_sched.specs.declared.event.Event.TheVariants as event
-use Rattle.bs_sched.specs.Lane.{Lane, empty_lane, lane_view, lane_command, goes_on, with_put}
-use Rattle.bs_sched.specs.Machine.{game_of, lane_of, lane_effect}
-use Rattle.bs_sched.specs.PlanBlocks.{reservations_of}
-use Rattle.bs_sched.specs.Storage.{Storage, stored}
+use Rattle.bs_sched.specs.Games.{GamesView, after, opened}
 
 pub record CoreView : Type 0 where
-  -- the games of the plan
-  pub rows : List GameRow
-  -- workers are numbered from 0 to this; the last is the caller's own
-  pub workers : ℕ
-  pub failed : Bool
-  pub lanes : List Lane
-  pub storage : Storage
-
-abbrev pub row_at : List GameRow → ℕ → GameRow
-row_at rows game = slice_index_or rows game (row_of [] 0)
+  pub games : GamesView
+  -- its events, in their order
+  pub journal : List Event
 
 -- a core that was handed nothing yet, over so many blocks of `cap` bytes
-abbrev pub opened : ℕ → ℕ → ℕ → List GameRow → CoreView
-opened cap blocks workers rows =
-    record {
-      rows = rows;
-      workers = workers;
-      failed = false;
-      lanes = map (λ row. empty_lane row.quota) rows;
-      storage = record { packings = map (λ _. no_packing) rows; pool = ledger_of (replicate blocks None) (reservations_of cap rows) };
-    }
-
--- what the answer to the lane's command does to the records of its game
-abbrev pub answer_effect : Lane → Effect
-answer_effect x = (answer_of (lane_view x) (lane_command x)).effect
-
--- a job that was brought back does something to them where it answers
-abbrev pub put_effect : JobKind → Lane → Effect
-put_effect kind.Begin x = if goes_on x then effect.Keep else answer_effect x
-put_effect kind.Part x = effect.Keep
-put_effect kind.Join x = answer_effect x
-
-abbrev pub storage_after : ℕ → Event → Lane → Storage → Storage
-storage_after cap (event.Hand game command) x storage = storage
-storage_after cap (event.Take worker job) x storage = storage
-storage_after cap (event.Put worker job) x storage = stored cap job.game (put_effect job.kind x) storage
+abbrev pub opened_core : ℕ → ℕ → ℕ → List GameRow → CoreView
+opened_core cap blocks workers rows = record { games = opened cap blocks workers rows; journal = [] }
 
 -- the core after an event that is enabled
-abbrev pub after : ℕ → CoreView → Event → CoreView
-after cap core e =
-    record core {
-      lanes = lane_effect core.lanes e;
-      storage = storage_after cap e (lane_of core.lanes (game_of e)) core.storage;
-    }
-
--- the core after a job was brought back; by whom does not matter
-abbrev pub brought : ℕ → CoreView → JobName → CoreView
-brought cap core job =
-    record core {
-      lanes = slice_set core.lanes job.game (with_put job.kind job.part (lane_of core.lanes job.game));
-      storage = stored cap job.game (put_effect job.kind (lane_of core.lanes job.game)) core.storage;
-    }
+abbrev pub core_after : ℕ → CoreView → Event → CoreView
+core_after cap core e = record { games = after cap core.games e; journal = core.journal ++ e ∷ [] }

@@ -13,7 +13,7 @@ use Rattle.bs_fiber.specs.declared.job.JobKind.TheVariants as kind
 use Rattle.bs_fiber.specs.declared.job.JobName.{JobName}
 use Rattle.bs_sched.specs.declared.event.Event.{Event}
 use Rattle.bs_sched.specs.declared.event.Event.TheVariants as event
-use Rattle.bs_sched.specs.Core.{row_at}
+use Rattle.bs_sched.specs.Games.{row_at}
 use Rattle.bs_sched.specs.Courses.{IsRight}
 use Rattle.bs_sched.specs.Handed.{commands_of}
 use Rattle.bs_sched.specs.Lane.{Lane, empty_lane}

@@ -1,10 +1,12 @@
+pub mod Games
+pub mod GamesLayout
 pub mod Core
-pub mod CoreLayout
 pub mod Courses
 pub mod Handed
 pub mod Insides
 pub mod Inputs
 pub mod Isolation
+pub mod Journal
 pub mod Lane
 pub mod Machine
 pub mod Memory

@@ -10,7 +10,7 @@ use Rattle.bs_heap.specs.Packing.{Place, Packing, fits, packed, closed_numbers, 
 use Rattle.bs_pool.specs.Ledger.{Ledger, least_free}
 use Rattle.bs_sched.specs.declared.event.Event.{Event}
 use Rattle.bs_sched.specs.declared.event.Event.TheVariants as event
-use Rattle.bs_sched.specs.Core.{CoreView, opened, after, put_effect, storage_after}
+use Rattle.bs_sched.specs.Games.{GamesView, opened, after, put_effect, storage_after}
 use Rattle.bs_sched.specs.Lane.{Lane}
 use Rattle.bs_sched.specs.Machine.{lane_of, game_of, lane_effect, is_enabled}
 use Rattle.bs_sched.specs.Storage.{Storage, packing_of}
@@ -85,13 +85,13 @@ world_run cap workers = fold (world_step cap workers)
 -- no block has a byte at first
 abbrev pub opened_world : ℕ → ℕ → ℕ → List GameRow → World
 opened_world cap blocks workers rows =
-    let core = opened cap blocks workers rows in
-    record { lanes = core.lanes; storage = core.storage; memory = replicate blocks [] }
+    let games = opened cap blocks workers rows in
+    record { lanes = games.lanes; storage = games.storage; memory = replicate blocks [] }
 
--- The same events in the core as its calls see it, of which no clause tells the bytes.
+-- The same events in the games as the core's calls see them, of which no clause tells the bytes.
 
-abbrev pub core_step : ℕ → CoreView → Event → CoreView
-core_step cap core e = if is_enabled core.workers core.lanes e then after cap core e else core
+abbrev pub games_step : ℕ → GamesView → Event → GamesView
+games_step cap games e = if is_enabled games.workers games.lanes e then after cap games e else games
 
-abbrev pub core_run : ℕ → CoreView → List Event → CoreView
-core_run cap = fold (core_step cap)
+abbrev pub games_run : ℕ → GamesView → List Event → GamesView
+games_run cap = fold (games_step cap)

@@ -2,7 +2,7 @@
 use Rattle.std.specs.Prelude.{◌≡◌, ℕ, true}
 use Rattle.bs_fiber.specs.declared.input.Input.{Input}
 use Rattle.bs_sched.specs.declared.event.Event.TheVariants as event
-use Rattle.bs_sched.specs.Core.{CoreView}
+use Rattle.bs_sched.specs.Games.{GamesView}
 use Rattle.bs_sched.specs.Inputs.{input_of}
 use Rattle.bs_sched.specs.Lane.{Lane, is_out}
 use Rattle.bs_sched.specs.Machine.{lane_of, is_enabled}
@@ -12,6 +12,6 @@ pub record IsOwnOf (x : Lane) (worker : ℕ) (brought : Input) : Type 0 where
   pub out : is_out worker x brought.job.kind brought.job.part ≡ true
   pub input : brought ≡ input_of x worker brought.job
 
-pub record IsOwn (core : CoreView) (worker : ℕ) (brought : Input) : Type 0 where
-  pub out : is_enabled core.workers core.lanes (event.Put worker brought.job) ≡ true
-  pub input : brought ≡ input_of (lane_of core.lanes brought.job.game) worker brought.job
+pub record IsOwn (games : GamesView) (worker : ℕ) (brought : Input) : Type 0 where
+  pub out : is_enabled games.workers games.lanes (event.Put worker brought.job) ≡ true
+  pub input : brought ≡ input_of (lane_of games.lanes brought.job.game) worker brought.job

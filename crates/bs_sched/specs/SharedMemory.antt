@@ -8,10 +8,10 @@ use Rattle.bs_heap.specs.Packing.{Packing, numbers_of}
 use Rattle.bs_pool.specs.Ledger.{size, free, held}
 use Rattle.bs_sched.specs.declared.cores.TheConstants.{LEAST_CAPACITY}
 use Rattle.bs_sched.specs.declared.event.Event.{Event}
-use Rattle.bs_sched.specs.Core.{CoreView, row_at, opened}
+use Rattle.bs_sched.specs.Games.{GamesView, row_at, opened}
 use Rattle.bs_sched.specs.Isolation.{HandsFit, own_events, records_of, shared_run}
 use Rattle.bs_sched.specs.Machine.{lane_of, game_of, is_enabled}
-use Rattle.bs_sched.specs.Memory.{World, block_in, bytes_at, effect_at, CanDraw, world_step, world_run, opened_world, core_run}
+use Rattle.bs_sched.specs.Memory.{World, block_in, bytes_at, effect_at, CanDraw, world_step, world_run, opened_world, games_run}
 use Rattle.bs_sched.specs.PlanBlocks.{blocks_of_all}
 use Rattle.bs_sched.specs.Storage.{packing_of, record_tag, frame_tag}
 
@@ -30,9 +30,9 @@ abbrev pub lone_world : ℕ → ℕ → ℕ → List GameRow → List Event → 
 lone_world cap blocks workers rows events game =
     world_run cap workers (opened_world cap blocks workers (row_at rows game ∷ [])) (own_events workers rows events game)
 
--- that core, with the lanes and the storage of the world
-abbrev pub core_with : CoreView → World → CoreView
-core_with core world = record core { lanes = world.lanes; storage = world.storage }
+-- those games, with the lanes and the storage of the world
+abbrev pub games_with : GamesView → World → GamesView
+games_with games world = record games { lanes = world.lanes; storage = world.storage }
 
 abbrev pub packing_in : World → ℕ → Packing
 packing_in world game = packing_of world.storage game
@@ -83,10 +83,10 @@ pub record IsIsolatedInMemory (cap blocks workers : ℕ) (rows : List GameRow) (
   pub alone : bytes_in (lone_world cap blocks workers rows events game) 0 ≡ bytes_in (shared_world cap blocks workers rows events) game
   pub others : (e : Event) → game_of e ≢ game → LeavesBytes cap workers (shared_world cap blocks workers rows events) game e
 
--- The core as its calls see it goes just this way, and its lanes are those of which the isolation law speaks.
+-- The games as the core's calls see them go just this way, and its lanes are those of which the isolation law speaks.
 pub record SharesMemory (cap blocks workers : ℕ) (rows : List GameRow) (events : List Event) : Type 0 where
-  pub core : core_run cap (opened cap blocks workers rows) events
-      ≡ core_with (opened cap blocks workers rows) (shared_world cap blocks workers rows events)
+  pub core : games_run cap (opened cap blocks workers rows) events
+      ≡ games_with (opened cap blocks workers rows) (shared_world cap blocks workers rows events)
   pub lanes : (shared_world cap blocks workers rows events).lanes ≡ shared_run workers rows events
   pub blocks_shared : SharesBlocks cap blocks workers (shared_world cap blocks workers rows events)
   pub games : (game : ℕ) → game < length rows → IsIsolatedInMemory cap blocks workers rows events game

@@ -7,7 +7,7 @@ use Rattle.bs_sched.specs.declared.taking.Found.{Found}
 use Rattle.bs_sched.specs.declared.taking.Found.TheVariants as found
 use Rattle.bs_sched.specs.declared.taking.Taken.{Taken}
 use Rattle.bs_sched.specs.declared.taking.Taken.TheVariants as taken
-use Rattle.bs_sched.specs.Core.{CoreView, after}
+use Rattle.bs_sched.specs.Core.{CoreView, core_after}
 use Rattle.bs_sched.specs.Inputs.{input_of}
 use Rattle.bs_sched.specs.Lane.{Lane, HasNoneReady, is_ready}
 use Rattle.bs_sched.specs.Machine.{lane_of, is_busy, is_enabled}
@@ -27,27 +27,27 @@ FindsJob worker lanes found.Nothing = (is_busy worker lanes ≡ false) × AreNon
 FindsJob worker lanes (found.Job job) = (is_busy worker lanes ≡ false) × IsReadyJob lanes job
 
 pub record IsFailed (old new : CoreView) : Type 0 where
-  pub failed : old.failed ≡ true
+  pub failed : old.games.failed ≡ true
   pub same : new ≡ old
 
 pub record IsBusyWorker (old : CoreView) (worker : ℕ) (new : CoreView) : Type 0 where
-  pub failed : old.failed ≡ false
-  pub busy : is_busy worker old.lanes ≡ true
+  pub failed : old.games.failed ≡ false
+  pub busy : is_busy worker old.games.lanes ≡ true
   pub same : new ≡ old
 
 -- no job can be taken by the worker
 pub record HasNothing (old : CoreView) (worker : ℕ) (new : CoreView) : Type 0 where
-  pub failed : old.failed ≡ false
-  pub free : is_busy worker old.lanes ≡ false
-  pub none : (job : JobName) → is_enabled old.workers old.lanes (event.Take worker job) ≡ false
+  pub failed : old.games.failed ≡ false
+  pub free : is_busy worker old.games.lanes ≡ false
+  pub none : (job : JobName) → is_enabled old.games.workers old.games.lanes (event.Take worker job) ≡ false
   pub same : new ≡ old
 
 -- the worker may take the job, and its ticket holds the core's own input
 pub record TakesJob (cap : ℕ) (old : CoreView) (worker : ℕ) (ticket : Input) (new : CoreView) : Type 0 where
-  pub failed : old.failed ≡ false
-  pub enabled : is_enabled old.workers old.lanes (event.Take worker ticket.job) ≡ true
-  pub after : new ≡ after cap old (event.Take worker ticket.job)
-  pub input : ticket ≡ input_of (lane_of new.lanes ticket.job.game) worker ticket.job
+  pub failed : old.games.failed ≡ false
+  pub enabled : is_enabled old.games.workers old.games.lanes (event.Take worker ticket.job) ≡ true
+  pub after : new ≡ core_after cap old (event.Take worker ticket.job)
+  pub input : ticket ≡ input_of (lane_of new.games.lanes ticket.job.game) worker ticket.job
 
 -- the answers in the order in which they are judged
 abbrev pub TakesAs : ℕ → CoreView → ℕ → Taken → CoreView → Type 0

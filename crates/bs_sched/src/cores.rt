@@ -1,24 +1,23 @@
-//! The core and its readers. Clauses see its games as lanes, and where their records lie.
-ghost use Rattle.std.specs.Prelude.{◌≡◌, ◌+◌, ◌<◌, [], true, length, slice_index_or, map, IfOk, OnOk, OnErr};
+//! The core: all games of a plan, and the list of all that happened to them.
+ghost use Rattle.std.specs.Prelude.{◌≡◌, ◌+◌, ◌<◌, ◌≤◌, [], true, length, vec_len, vec_capacity, slice_index_or, map, IfOk, OnOk, OnErr};
 ghost use Rattle.std.specs.List.{list_all};
+ghost use Rattle.bs_board.specs.plans.Plan.{IsFitPlan};
 ghost use Rattle.bs_board.specs.records.Record.{record_of};
 ghost use Rattle.bs_game.specs.Game.{game_charge, last_board};
 ghost use Rattle.bs_pool.specs.Ledger.{free, size};
-ghost use Rattle.bs_sched.specs.Core.{after, row_at};
-ghost use Rattle.bs_sched.specs.CoreLayout.{KeepsBoards};
+ghost use Rattle.bs_sched.specs.Core.{core_after};
 ghost use Rattle.bs_sched.specs.Courses.{IsRight};
-ghost use Rattle.bs_board.specs.plans.Plan.{IsFitPlan};
+ghost use Rattle.bs_sched.specs.Games.{row_at};
 ghost use Rattle.bs_sched.specs.Handed.{quota_of};
+ghost use Rattle.bs_sched.specs.Journal.{IsItsJournal, KeepsApart};
 ghost use Rattle.bs_sched.specs.Lane.{is_quiet};
 ghost use Rattle.bs_sched.specs.Machine.{lane_of};
 ghost use Rattle.bs_sched.specs.declared.event.Event.TheVariants as event;
 
-use crate::fiber::Fiber;
-use crate::games::are_quiet;
-use crate::records::decode_last;
-use bs_board::{Board, Command, Reply, Row, Rows};
-use bs_heap::TagHeap;
-use bs_pool::Pool;
+use crate::event::Event;
+use crate::fiber::keeps_limits;
+use crate::games::Games;
+use bs_board::{Board, Command, Reply, Row};
 use std::alloc::{AllocError, Global};
 use std::marker::Model;
 
@@ -36,152 +35,164 @@ pub struct Counts {
 /// The least size of a block: a record, or the parts of a turn, fit into one twice.
 pub const LEAST_CAPACITY: usize = 524_288;
 
-/// All games of a plan, with the blocks that their records are kept in.
+/// All games of a plan, with the blocks that their records are kept in, and the list of all that happened to them.
 #[derive(Drop)]
 pub struct Core<const CAP: usize> {
-    pub(crate) rows: Rows,
-    pub(crate) workers: usize,
-    pub(crate) failed: bool,
-    pub(crate) fibers: Vec<Fiber>,
-    pub(crate) heaps: Vec<TagHeap<CAP>>,
-    pub(crate) pool: Pool<CAP>,
+    pub(crate) games: Games<CAP>,
+    /// Its events, in their order.
+    pub(crate) journal: Vec<Event>,
+    /// How many jobs are out. The journal has room for the coming back of each.
+    pub(crate) out: usize,
 }
 
 impl<const CAP: usize> Model for Core<CAP> {
     ghost use Rattle.bs_sched.specs.Core.{CoreView};
-    ghost use Rattle.bs_sched.specs.CoreLayout.{core_in, IsSound};
+    ghost use Rattle.bs_sched.specs.Journal.{core_in, IsJournaled};
 
     ghost Value = { CoreView };
 
     ghost view = { λ c. core_in c };
 
-    ghost invariant = { λ c. IsSound CAP c };
+    ghost invariant = { λ c. IsJournaled CAP c };
 }
 
-/// What the records of the fiber's game are charged.
-#[tactic(auto, using(crate::proofs::ReadCore::charge_of_boards))]
-fn kept_charge<const CAP: usize>(fiber: &Fiber, heap: &TagHeap<CAP>) -> u32
-    requires { KeepsBoards fiber.now heap.now }
-    ensures { result ≡ game_charge fiber.now.game }
+/// Room for so many events more than those of the jobs that are out.
+pub(crate) fn reserve_events(
+    journal: &mut Vec<Event>,
+    out: usize,
+    more: usize,
+) -> Result<(), AllocError>
+    ensures items { journal.new.items ≡ journal.old.items }
+    ensures len { vec_len journal.new ≡ vec_len journal.old }
+    ensures grown { vec_capacity journal.old ≤ vec_capacity journal.new }
+    ensures room { OnOk result (vec_len journal.new + out + more ≤ vec_capacity journal.new) }
 {
-    fiber.keeps();
-    heap.charge()
+    let room = out.checked_add(more).ok_or(AllocError)?;
+    journal.reserve(room)
 }
 
 impl<const CAP: usize> Core<CAP> {
     /// A command goes to the end of those that wait in the game of that row. An error is the allocator's, and leaves
     /// all as it was.
-    pub fn hand(&mut self, game: usize, command: Command) -> Result<(), AllocError>
-        requires { game < length self.old.lanes }
-        ensures ok { OnOk result (self.new ≡ after CAP self.old (event.Hand game command)) }
+    pub fn hand(&mut self, alloc: Global, game: usize, command: Command) -> Result<(), AllocError>
+        requires { game < length self.old.games.lanes }
+        ensures ok { OnOk result (self.new ≡ core_after CAP self.old (event.Hand game command)) }
         ensures err { OnErr result (self.new ≡ self.old) }
     {
-        self.fibers[game].hand(command)
+        keeps_limits(&command);
+        let noted = command.copy(alloc)?;
+        reserve_events(&mut self.journal, self.out, 1)?;
+        self.games.hand(game, command)?;
+        self.journal.push_reserved(Event::Hand(game, noted));
+        Ok(())
     }
 
     /// From now on no job is taken. What is out may still come back.
     pub fn fail(&mut self)
-        ensures { self.new ≡ record self.old { failed = true } }
+        ensures { self.new ≡ record self.old { games = record self.old.games { failed = true } } }
     {
-        self.failed = true;
+        self.games.fail();
+    }
+
+    /// All that happened, in its order: each command that was handed in, each job that was taken, and each that came
+    /// back. Every event was enabled where it came, and the core is what they make of a core that was just opened. So
+    /// the isolation law speaks of it, between any two calls.
+    pub fn journal(&self) -> &[Event]
+        ensures value { result.now ≡ self.now.journal }
+        ensures journal { IsItsJournal CAP self.now }
+        ensures apart { KeepsApart CAP self.now }
+    {
+        self.journal.as_slice()
     }
 
     /// How many games the plan has.
     pub fn rows(&self) -> usize
-        ensures value { result ≡ length self.now.lanes }
-        ensures plan { IsFitPlan self.now.rows }
-        ensures lanes { length self.now.lanes ≡ length self.now.rows }
-        ensures quotas { map quota_of self.now.lanes ≡ map (λ row. row.quota) self.now.rows }
+        ensures value { result ≡ length self.now.games.lanes }
+        ensures plan { IsFitPlan self.now.games.rows }
+        ensures lanes { length self.now.games.lanes ≡ length self.now.games.rows }
+        ensures quotas { map quota_of self.now.games.lanes ≡ map (λ row. row.quota) self.now.games.rows }
     {
-        self.fibers.len()
+        self.games.count_rows()
     }
 
     /// The number of the last worker, the caller's own.
     pub fn workers(&self) -> usize
-        ensures { result ≡ self.now.workers }
+        ensures { result ≡ self.now.games.workers }
     {
-        self.workers
+        self.games.workers()
     }
 
     /// The game of that row.
     pub fn row(&self, game: usize) -> &Row
-        requires { game < length self.now.lanes }
-        ensures { result.now ≡ row_at self.now.rows game }
+        requires { game < length self.now.games.lanes }
+        ensures { result.now ≡ row_at self.now.games.rows game }
     {
-        &self.rows.as_slice()[game]
+        self.games.row(game)
     }
 
     /// The commands that were taken, in their order.
     pub fn taken(&self, game: usize) -> &[Command]
-        requires { game < length self.now.lanes }
-        ensures { result.now ≡ (lane_of self.now.lanes game).taken }
+        requires { game < length self.now.games.lanes }
+        ensures { result.now ≡ (lane_of self.now.games.lanes game).taken }
     {
-        self.fibers[game].taken()
+        self.games.taken(game)
     }
 
     /// The replies to the commands that were answered, in their order.
     pub fn replies(&self, game: usize) -> &[Reply]
-        requires { game < length self.now.lanes }
-        ensures value { result.now ≡ (lane_of self.now.lanes game).replies }
-        ensures right { IsRight (lane_of self.now.lanes game) }
+        requires { game < length self.now.games.lanes }
+        ensures value { result.now ≡ (lane_of self.now.games.lanes game).replies }
+        ensures right { IsRight (lane_of self.now.games.lanes game) }
     {
-        self.fibers[game].keeps();
-        self.fibers[game].replies()
+        self.games.replies(game)
     }
 
     /// How many records are kept.
     pub fn count(&self, game: usize) -> usize
-        requires { game < length self.now.lanes }
-        ensures { result ≡ length (lane_of self.now.lanes game).game }
+        requires { game < length self.now.games.lanes }
+        ensures { result ≡ length (lane_of self.now.games.lanes game).game }
     {
-        self.heaps[game].count()
+        self.games.count(game)
     }
 
     /// The record at that place among the kept ones, the oldest first.
     pub fn records(&self, game: usize, place: usize) -> &[u8]
-        requires game { game < length self.now.lanes }
-        requires place { place < length (lane_of self.now.lanes game).game }
-        ensures { result.now ≡ slice_index_or (map record_of (lane_of self.now.lanes game).game) place [] }
+        requires game { game < length self.now.games.lanes }
+        requires place { place < length (lane_of self.now.games.lanes game).game }
+        ensures { result.now ≡ slice_index_or (map record_of (lane_of self.now.games.lanes game).game) place [] }
     {
-        self.heaps[game].record(place)
+        self.games.records(game, place)
     }
 
     /// The newest board.
     pub fn board(&self, alloc: Global, game: usize) -> Result<Option<Board>, AllocError>
-        requires { game < length self.now.lanes }
-        ensures { IfOk result (λ board. board ≡ last_board (lane_of self.now.lanes game).game) }
+        requires { game < length self.now.games.lanes }
+        ensures { IfOk result (λ board. board ≡ last_board (lane_of self.now.games.lanes game).game) }
     {
-        self.fibers[game].keeps();
-        decode_last(alloc, &self.heaps[game])
+        self.games.board(alloc, game)
     }
 
     /// What the kept records are charged, in bytes.
     pub fn charge(&self, game: usize) -> u32
-        requires { game < length self.now.lanes }
-        ensures { result ≡ game_charge (lane_of self.now.lanes game).game }
+        requires { game < length self.now.games.lanes }
+        ensures { result ≡ game_charge (lane_of self.now.games.lanes game).game }
     {
-        kept_charge(&self.fibers[game], &self.heaps[game])
+        self.games.charge(game)
     }
 
     /// Whether all commands are answered.
     pub fn is_quiet(&self) -> bool
-        ensures { result ≡ list_all is_quiet self.now.lanes }
+        ensures { result ≡ list_all is_quiet self.now.games.lanes }
     {
-        are_quiet(&self.fibers)
+        self.games.is_quiet()
     }
 
     /// How many blocks are free, how many the games hold, and how many there are.
     pub fn counts(&self) -> Counts
-        ensures free { result.free ≡ free self.now.storage.pool }
-        ensures size { result.size ≡ size self.now.storage.pool }
+        ensures free { result.free ≡ free self.now.games.storage.pool }
+        ensures size { result.size ≡ size self.now.games.storage.pool }
         ensures all { result.free + result.held ≡ result.size }
     {
-        let free = self.pool.free();
-        let size = self.pool.size();
-        Counts {
-            free,
-            held: size - free,
-            size,
-        }
+        self.games.counts()
     }
 }

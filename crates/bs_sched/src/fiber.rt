@@ -49,7 +49,7 @@ impl Model for Fiber {
 }
 
 /// What a command holds is within the limits, since its types keep them.
-fn keeps_limits(command: &Command)
+pub(crate) fn keeps_limits(command: &Command)
     ensures { Fits command.now }
 {
     match command {

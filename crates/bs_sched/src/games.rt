@@ -1,63 +1,169 @@
-//! One game of the core: its fiber, its heap, and what an answer makes of both.
-ghost use Rattle.std.specs.Prelude.{◌≡◌, ◌<◌, ◌≤◌, ◌↔◌, IsTrue, ℕ, true, length};
+//! All games of a plan: what their records lie in, and what is read of them. Clauses see them as lanes, and where their
+//! records lie.
+ghost use Rattle.std.specs.Prelude.{◌≡◌, ◌+◌, ◌<◌, [], true, length, slice_index_or, map, IfOk, OnOk, OnErr};
 ghost use Rattle.std.specs.List.{list_all};
-ghost use Rattle.bs_game.specs.View.{answer_of};
-ghost use Rattle.bs_heap.specs.HeldBlocks.{LeavesOthers, next_number};
-ghost use Rattle.bs_sched.specs.Core.{answer_effect};
-ghost use Rattle.bs_sched.specs.CoreLayout.{IsHeapOf, KeepsBoards};
-ghost use Rattle.bs_sched.specs.Lane.{occupies, answered, is_quiet, lane_view, lane_command};
-ghost use Rattle.bs_sched.specs.Putting.{IsOwnOf};
-ghost use Rattle.bs_sched.specs.Storage.{packing_after, pool_after};
+ghost use Rattle.bs_board.specs.plans.Plan.{IsFitPlan};
+ghost use Rattle.bs_board.specs.records.Record.{record_of};
+ghost use Rattle.bs_game.specs.Game.{game_charge, last_board};
+ghost use Rattle.bs_pool.specs.Ledger.{free, size};
+ghost use Rattle.bs_sched.specs.Courses.{IsRight};
+ghost use Rattle.bs_sched.specs.Games.{after, row_at};
+ghost use Rattle.bs_sched.specs.GamesLayout.{KeepsBoards};
+ghost use Rattle.bs_sched.specs.Handed.{quota_of};
+ghost use Rattle.bs_sched.specs.Lane.{is_quiet};
+ghost use Rattle.bs_sched.specs.Machine.{lane_of};
+ghost use Rattle.bs_sched.specs.declared.event.Event.TheVariants as event;
 
+use crate::cores::Counts;
 use crate::fiber::Fiber;
-use crate::records::{change_records, expected};
-use bs_fiber::Ticket;
-use bs_game::Answer;
+use crate::game::are_quiet;
+use crate::records::decode_last;
+use bs_board::{Board, Command, Reply, Row, Rows};
 use bs_heap::TagHeap;
 use bs_pool::Pool;
+use std::alloc::{AllocError, Global};
+use std::marker::Model;
 
-/// Whether nothing is to be done in any game.
-pub(crate) fn are_quiet(fibers: &[Fiber]) -> bool
-    ensures { result ≡ list_all is_quiet fibers.now }
-{
-    fibers.iter().all(|fiber| fiber.is_quiet())
+/// All games of a plan, with the blocks that their records are kept in.
+#[derive(Drop)]
+pub(crate) struct Games<const CAP: usize> {
+    pub(crate) rows: Rows,
+    pub(crate) workers: usize,
+    pub(crate) failed: bool,
+    pub(crate) fibers: Vec<Fiber>,
+    pub(crate) heaps: Vec<TagHeap<CAP>>,
+    pub(crate) pool: Pool<CAP>,
 }
 
-/// Whether the worker has the ticket's job, and the ticket holds what the game has for it.
-pub(crate) fn is_own<const CAP: usize>(
-    fiber: &Fiber,
-    heap: &TagHeap<CAP>,
-    worker: usize,
-    ticket: &Ticket,
-) -> bool
+impl<const CAP: usize> Model for Games<CAP> {
+    ghost use Rattle.bs_sched.specs.Games.{GamesView};
+    ghost use Rattle.bs_sched.specs.GamesLayout.{games_in, IsSound};
+
+    ghost Value = { GamesView };
+
+    ghost view = { λ c. games_in c };
+
+    ghost invariant = { λ c. IsSound CAP c };
+}
+
+/// What the records of the fiber's game are charged.
+#[tactic(auto, using(crate::proofs::ReadGames::charge_of_boards))]
+fn kept_charge<const CAP: usize>(fiber: &Fiber, heap: &TagHeap<CAP>) -> u32
     requires { KeepsBoards fiber.now heap.now }
-    ensures { IsTrue result ↔ IsOwnOf fiber.now worker ticket.now }
+    ensures { result ≡ game_charge fiber.now.game }
 {
-    let job = ticket.job();
-    if !fiber.has_out(worker, job.kind, job.part) {
-        return false;
-    }
     fiber.keeps();
-    ticket.is_of(&expected(fiber, heap, fiber.command(), fiber.seq(), worker, job))
+    heap.charge()
 }
 
-/// The command of the game has its answer.
-pub(crate) fn answer_game<const CAP: usize>(
-    fiber: &mut Fiber,
-    heap: &mut TagHeap<CAP>,
-    pool: &mut Pool<CAP>,
-    answer: Answer,
-)
-    requires out { (worker : ℕ) × (occupies worker fiber.old ≡ true) }
-    requires answer { answer ≡ answer_of (lane_view fiber.old) (lane_command fiber.old) }
-    requires heap { IsHeapOf CAP heap.old.tag fiber.old heap.old pool.old }
-    ensures lane { fiber.new ≡ answered fiber.old }
-    ensures packing { heap.new.packing ≡ packing_after CAP (next_number pool.old) (answer_effect fiber.old) heap.old.packing }
-    ensures pool { pool.new ≡ pool_after CAP heap.old.tag (answer_effect fiber.old) heap.old.packing pool.old }
-    ensures heap { IsHeapOf CAP heap.old.tag fiber.new heap.new pool.new }
-    ensures others { LeavesOthers heap.old.tag pool.old pool.new }
-{
-    fiber.keeps();
-    change_records(heap, pool, answer.effect);
-    fiber.answer(answer.reply);
+impl<const CAP: usize> Games<CAP> {
+    /// A command goes to the end of those that wait in that game.
+    pub(crate) fn hand(&mut self, game: usize, command: Command) -> Result<(), AllocError>
+        requires { game < length self.old.lanes }
+        ensures ok { OnOk result (self.new ≡ after CAP self.old (event.Hand game command)) }
+        ensures err { OnErr result (self.new ≡ self.old) }
+    {
+        self.fibers[game].hand(command)
+    }
+
+    /// No job is taken any more.
+    pub(crate) fn fail(&mut self)
+        ensures { self.new ≡ record self.old { failed = true } }
+    {
+        self.failed = true;
+    }
+
+    pub(crate) fn has_failed(&self) -> bool
+        ensures { result ≡ self.now.failed }
+    {
+        self.failed
+    }
+
+    pub(crate) fn count_rows(&self) -> usize
+        ensures value { result ≡ length self.now.lanes }
+        ensures plan { IsFitPlan self.now.rows }
+        ensures lanes { length self.now.lanes ≡ length self.now.rows }
+        ensures quotas { map quota_of self.now.lanes ≡ map (λ row. row.quota) self.now.rows }
+    {
+        self.fibers.len()
+    }
+
+    pub(crate) fn workers(&self) -> usize
+        ensures { result ≡ self.now.workers }
+    {
+        self.workers
+    }
+
+    pub(crate) fn row(&self, game: usize) -> &Row
+        requires { game < length self.now.lanes }
+        ensures { result.now ≡ row_at self.now.rows game }
+    {
+        &self.rows.as_slice()[game]
+    }
+
+    pub(crate) fn taken(&self, game: usize) -> &[Command]
+        requires { game < length self.now.lanes }
+        ensures { result.now ≡ (lane_of self.now.lanes game).taken }
+    {
+        self.fibers[game].taken()
+    }
+
+    pub(crate) fn replies(&self, game: usize) -> &[Reply]
+        requires { game < length self.now.lanes }
+        ensures value { result.now ≡ (lane_of self.now.lanes game).replies }
+        ensures right { IsRight (lane_of self.now.lanes game) }
+    {
+        self.fibers[game].keeps();
+        self.fibers[game].replies()
+    }
+
+    pub(crate) fn count(&self, game: usize) -> usize
+        requires { game < length self.now.lanes }
+        ensures { result ≡ length (lane_of self.now.lanes game).game }
+    {
+        self.heaps[game].count()
+    }
+
+    pub(crate) fn records(&self, game: usize, place: usize) -> &[u8]
+        requires game { game < length self.now.lanes }
+        requires place { place < length (lane_of self.now.lanes game).game }
+        ensures { result.now ≡ slice_index_or (map record_of (lane_of self.now.lanes game).game) place [] }
+    {
+        self.heaps[game].record(place)
+    }
+
+    pub(crate) fn board(&self, alloc: Global, game: usize) -> Result<Option<Board>, AllocError>
+        requires { game < length self.now.lanes }
+        ensures { IfOk result (λ board. board ≡ last_board (lane_of self.now.lanes game).game) }
+    {
+        self.fibers[game].keeps();
+        decode_last(alloc, &self.heaps[game])
+    }
+
+    pub(crate) fn charge(&self, game: usize) -> u32
+        requires { game < length self.now.lanes }
+        ensures { result ≡ game_charge (lane_of self.now.lanes game).game }
+    {
+        kept_charge(&self.fibers[game], &self.heaps[game])
+    }
+
+    pub(crate) fn is_quiet(&self) -> bool
+        ensures { result ≡ list_all is_quiet self.now.lanes }
+    {
+        are_quiet(&self.fibers)
+    }
+
+    pub(crate) fn counts(&self) -> Counts
+        ensures free { result.free ≡ free self.now.storage.pool }
+        ensures size { result.size ≡ size self.now.storage.pool }
+        ensures all { result.free + result.held ≡ result.size }
+    {
+        let free = self.pool.free();
+        let size = self.pool.size();
+        Counts {
+            free,
+            held: size - free,
+            size,
+        }
+    }
 }

@@ -1,4 +1,5 @@
-//! The core: all games of a plan, the jobs that their commands are carried out by, and the records that they keep.
+//! The core: all games of a plan, the jobs that their commands are carried out by, the records that they keep, and the
+//! journal of all that happened to them.
 #![tactic(auto)]
 
 mod cores;
@@ -6,6 +7,7 @@ mod cores;
 mod drawn_tests;
 mod event;
 mod fiber;
+mod game;
 mod games;
 mod law;
 mod opening;

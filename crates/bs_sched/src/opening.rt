@@ -1,14 +1,17 @@
 //! Opening a core: a fiber and a heap for each game, and the blocks that are set aside for all of them.
 ghost use Rattle.std.specs.Prelude.{◌≡◌, ◌*◌, ◌≤◌, ◌<◌, map, length, IfOk, IfErr, OnOk};
 ghost use Rattle.bs_block.specs.Bytes.{IsCapacity};
-ghost use Rattle.bs_sched.specs.Core.{opened};
-ghost use Rattle.bs_sched.specs.CoreLayout.{opened_heaps};
+ghost use Rattle.bs_board.specs.plans.Plan.{IsFitPlan};
+ghost use Rattle.bs_sched.specs.Core.{opened_core};
+ghost use Rattle.bs_sched.specs.Games.{opened};
+ghost use Rattle.bs_sched.specs.GamesLayout.{opened_heaps};
 ghost use Rattle.bs_sched.specs.Lane.{empty_lane};
 ghost use Rattle.bs_sched.specs.PlanBlocks.{blocks_of_all};
 ghost use Rattle.bs_sched.specs.declared.opening.Open.TheVariants as cause;
 
 use crate::cores::{Core, LEAST_CAPACITY};
 use crate::fiber::Fiber;
+use crate::games::Games;
 use crate::plan_blocks::{blocks_of_all, open_pool, record_tag};
 use bs_board::limits::MOST_ROWS;
 use bs_board::{Plan, Row};
@@ -60,14 +63,14 @@ fn open_heaps<const CAP: usize>(
     Ok(heaps)
 }
 
-impl<const CAP: usize> Core<CAP> {
-    #[tactic(auto, using(crate::proofs::OpenedCore::opened_packings))]
-    /// A core over so many blocks, in which each game's own are set aside. Workers are numbered from 0 to `workers`,
-    /// the caller's own being the last. `Short` where the plan needs more blocks.
-    pub fn open(alloc: Global, plan: Plan, blocks: usize, workers: usize) -> Result<Self, Open>
+impl<const CAP: usize> Games<CAP> {
+    /// Games that were handed nothing yet.
+    #[tactic(auto, using(crate::proofs::OpenedGames::opened_packings))]
+    fn open(alloc: Global, plan: Plan, blocks: usize, workers: usize) -> Result<Self, Open>
         requires capacity { IsCapacity CAP }
         requires wide { LEAST_CAPACITY ≤ CAP }
-        ensures core { IfOk result (λ core. core ≡ opened CAP blocks workers plan.rows) }
+        ensures games { IfOk result (λ games. games ≡ opened CAP blocks workers plan.rows) }
+        ensures plan { IsFitPlan plan.rows }
         ensures room { OnOk result (blocks_of_all CAP plan.rows ≤ blocks) }
         ensures short { IfErr result (λ fault. fault ≡ cause.Short → blocks < blocks_of_all CAP plan.rows) }
     {
@@ -78,13 +81,31 @@ impl<const CAP: usize> Core<CAP> {
         let pool = open_pool(alloc, rows, blocks)?;
         let fibers = open_fibers(alloc, rows)?;
         let heaps = open_heaps(alloc, rows)?;
-        Ok(Core {
+        Ok(Games {
             rows: plan.rows,
             workers,
             failed: false,
             fibers,
             heaps,
             pool,
+        })
+    }
+}
+
+impl<const CAP: usize> Core<CAP> {
+    /// A core over so many blocks, in which each game's own are set aside. Workers are numbered from 0 to `workers`,
+    /// the caller's own being the last. `Short` where the plan needs more blocks.
+    pub fn open(alloc: Global, plan: Plan, blocks: usize, workers: usize) -> Result<Self, Open>
+        requires capacity { IsCapacity CAP }
+        requires wide { LEAST_CAPACITY ≤ CAP }
+        ensures core { IfOk result (λ core. core ≡ opened_core CAP blocks workers plan.rows) }
+        ensures room { OnOk result (blocks_of_all CAP plan.rows ≤ blocks) }
+        ensures short { IfErr result (λ fault. fault ≡ cause.Short → blocks < blocks_of_all CAP plan.rows) }
+    {
+        Ok(Core {
+            games: Games::open(alloc, plan, blocks, workers)?,
+            journal: Vec::new(alloc),
+            out: 0,
         })
     }
 }

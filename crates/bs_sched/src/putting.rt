@@ -4,7 +4,8 @@ ghost use Rattle.bs_fiber.specs.declared.job.JobKind.TheVariants as kind;
 ghost use Rattle.bs_fiber.specs.Work.{moved_part, out_seen, parts_of, snakes_in};
 ghost use Rattle.bs_game.specs.Game.{last_board};
 ghost use Rattle.bs_game.specs.View.{answer_of};
-ghost use Rattle.bs_sched.specs.Core.{after, answer_effect, brought};
+ghost use Rattle.bs_sched.specs.Core.{core_after};
+ghost use Rattle.bs_sched.specs.Games.{answer_effect, brought};
 ghost use Rattle.bs_sched.specs.Courses.{IsRight};
 ghost use Rattle.bs_sched.specs.Lane.{occupies, answered, forked, with_part_done, is_out, goes_on, lane_view, lane_command};
 ghost use Rattle.bs_sched.specs.Machine.{lane_of};
@@ -13,7 +14,9 @@ ghost use Rattle.bs_sched.specs.Storage.{stored};
 ghost use Rattle.bs_sched.specs.declared.event.Event.TheVariants as event;
 
 use crate::cores::Core;
-use crate::games::{answer_game, is_own};
+use crate::event::Event;
+use crate::game::{answer_game, is_own};
+use crate::games::Games;
 use crate::records::parts_of_last;
 use bs_board::Snakes;
 use bs_fiber::{Done, JobName, Out};
@@ -29,7 +32,7 @@ pub struct Stray {
     pub done: Done,
 }
 
-impl<const CAP: usize> Core<CAP> {
+impl<const CAP: usize> Games<CAP> {
     /// The command of that game has its answer.
     fn answer(&mut self, game: usize, answer: Answer)
         requires game { game < length self.old.lanes }
@@ -123,18 +126,31 @@ impl<const CAP: usize> Core<CAP> {
         let (_ticket, out) = done.into_parts();
         self.bring(job, out);
     }
+}
+
+impl<const CAP: usize> Core<CAP> {
+    /// The worker's own job is done. The journal has room for its coming back.
+    fn settle(&mut self, worker: usize, done: Done)
+        requires { IsOwn self.old.games worker done }
+        ensures { self.new ≡ core_after CAP self.old (event.Put worker done.job) }
+    {
+        let job = done.ticket().job();
+        self.games.settle(done);
+        self.journal.push_reserved(Event::Put(worker, job));
+        self.out -= 1;
+    }
 
     /// The worker brings back a job that it took. It asks for no memory. `Stray` gives back what is not the core's, and
     /// then nothing has changed.
     pub fn put(&mut self, worker: usize, done: Done) -> Result<(), Stray>
-        ensures own { OnOk result (IsOwn self.old worker done) }
-        ensures ok { OnOk result (self.new ≡ after CAP self.old (event.Put worker done.job)) }
-        ensures stray { IfErr result (λ stray. (stray.done ≡ done) × (self.new ≡ self.old) × (IsOwn self.old worker done → ⊥)) }
+        ensures own { OnOk result (IsOwn self.old.games worker done) }
+        ensures ok { OnOk result (self.new ≡ core_after CAP self.old (event.Put worker done.job)) }
+        ensures stray { IfErr result (λ stray. (stray.done ≡ done) × (self.new ≡ self.old) × (IsOwn self.old.games worker done → ⊥)) }
     {
-        if !self.is_own(worker, &done) {
+        if !self.games.is_own(worker, &done) {
             return Err(Stray { done });
         }
-        self.settle(done);
+        self.settle(worker, done);
         Ok(())
     }
 }

@@ -2,16 +2,19 @@
 ghost use Rattle.std.specs.Prelude.{◌≡◌, ◌≤◌, ◌<◌, true, length, MatchOption, IfOk, OnOk, OnErr};
 ghost use Rattle.bs_heap.specs.Heap.{with_index_room};
 ghost use Rattle.bs_fiber.specs.declared.job.JobKind.TheVariants as kind;
-ghost use Rattle.bs_sched.specs.Core.{after};
-ghost use Rattle.bs_sched.specs.CoreLayout.{KeepsBoards};
+ghost use Rattle.bs_sched.specs.Core.{core_after};
+ghost use Rattle.bs_sched.specs.Games.{after};
+ghost use Rattle.bs_sched.specs.GamesLayout.{KeepsBoards};
 ghost use Rattle.bs_sched.specs.Inputs.{input_of};
 ghost use Rattle.bs_sched.specs.Lane.{HasNoneReady, is_ready, with_taken};
-ghost use Rattle.bs_sched.specs.Machine.{lane_of};
+ghost use Rattle.bs_sched.specs.Machine.{is_enabled, lane_of};
 ghost use Rattle.bs_sched.specs.Taking.{FindsJob, TakesAs};
 ghost use Rattle.bs_sched.specs.declared.event.Event.TheVariants as event;
 
-use crate::cores::Core;
+use crate::cores::{Core, reserve_events};
+use crate::event::Event;
 use crate::fiber::Fiber;
+use crate::games::Games;
 use crate::records::expected;
 use bs_fiber::{Input, JobKind, JobName, Ticket};
 use bs_heap::TagHeap;
@@ -176,7 +179,14 @@ fn take_ticket<const CAP: usize>(
     Ok(Ticket::new(input))
 }
 
-impl<const CAP: usize> Core<CAP> {
+impl<const CAP: usize> Games<CAP> {
+    /// What stands in the games for the worker.
+    fn find(&self, worker: usize) -> Found
+        ensures { FindsJob worker self.now.lanes result }
+    {
+        find_job(&self.fibers, worker)
+    }
+
     fn take_job(&mut self, alloc: Global, worker: usize, job: JobName) -> Result<Ticket, AllocError>
         requires game { job.game < length self.old.lanes }
         requires ready { is_ready (lane_of self.old.lanes job.game) job.kind job.part ≡ true }
@@ -192,18 +202,34 @@ impl<const CAP: usize> Core<CAP> {
             job,
         )
     }
+}
+
+impl<const CAP: usize> Core<CAP> {
+    /// The worker takes that job. The journal gets room for its coming back too.
+    fn take_job(&mut self, alloc: Global, worker: usize, job: JobName) -> Result<Ticket, AllocError>
+        requires enabled { is_enabled self.old.games.workers self.old.games.lanes (event.Take worker job) ≡ true }
+        ensures ticket { IfOk result (λ ticket. ticket ≡ input_of (lane_of self.new.games.lanes job.game) worker job) }
+        ensures ok { OnOk result (self.new ≡ core_after CAP self.old (event.Take worker job)) }
+        ensures err { OnErr result (self.new ≡ self.old) }
+    {
+        reserve_events(&mut self.journal, self.out, 2)?;
+        let ticket = self.games.take_job(alloc, worker, job)?;
+        self.journal.push_reserved(Event::Take(worker, job));
+        self.out += 1;
+        Ok(ticket)
+    }
 
     /// A job for that worker, with a copy of all that it reads. No memory is asked for when it comes back. An error is
     /// the allocator's, and leaves all as it was.
     pub fn take(&mut self, alloc: Global, worker: usize) -> Result<Taken, AllocError>
-        requires { worker ≤ self.old.workers }
+        requires { worker ≤ self.old.games.workers }
         ensures ok { IfOk result (λ taken. TakesAs CAP self.old worker taken self.new) }
         ensures err { OnErr result (self.new ≡ self.old) }
     {
-        if self.failed {
+        if self.games.has_failed() {
             return Ok(Taken::Failed);
         }
-        match find_job(&self.fibers, worker) {
+        match self.games.find(worker) {
             Found::Busy => Ok(Taken::Busy),
             Found::Nothing => Ok(Taken::Nothing),
             Found::Job(job) => Ok(Taken::Job(self.take_job(alloc, worker, job)?)),

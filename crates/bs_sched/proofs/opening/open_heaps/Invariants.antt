@@ -1,6 +1,6 @@
 -- The heaps that were made so far, and then those that are left to make.
 use Rattle.std.proofs.Common.{◌≡◌, ◌++◌, drop}
-use Rattle.bs_sched.specs.CoreLayout.{opened_heaps, opened_heaps_from}
+use Rattle.bs_sched.specs.GamesLayout.{opened_heaps, opened_heaps_from}
 use Rattle.bs_sched.proofs.opening.open_heaps.Given as goal
 
 abbrev pub invariant-loop-game : goal.invariant-loop-game

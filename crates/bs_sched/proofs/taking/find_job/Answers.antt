@@ -2,7 +2,7 @@ use Rattle.std.proofs.Common.{◌≡◌, ◌+◌, true, false, None, sym, ap, su
 use Rattle.std.specs.Prelude.{not}
 use Rattle.std.specs.Option.{is_some}
 use Rattle.bs_sched.specs.Lane.{empty_lane, occupies}
-use Rattle.bs_sched.proofs.ChangedCore.{read_at}
+use Rattle.bs_sched.proofs.ChangedGames.{read_at}
 use Rattle.bs_sched.proofs.FoundJobs.{FindsBefore, still_found, next_found, all_free}
 use Rattle.bs_sched.proofs.taking.find_job.Goals as goal
 use Rattle.bs_sched.proofs.taking.find_job.Goals.{then-is_none, else-is_none}

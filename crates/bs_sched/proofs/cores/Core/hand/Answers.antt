@@ -1,18 +1,24 @@
-use Rattle.std.proofs.Common.{◌<◌, length, sym, ap, subst, ◌∙◌}
+use Rattle.std.proofs.Common.{◌≡◌, ◌<◌, true, length, ◌∷◌, ◌++◌, [], refl, sym, subst, ◌∙◌, arith}
+use Rattle.std.specs.Prelude.{nat_lt}
+use Rattle.std.proofs.lemmas.Bool.{lt-ltb}
+use Rattle.bs_sched.specs.declared.event.Event.TheVariants as event
 use Rattle.bs_sched.specs.Core.{CoreView}
-use Rattle.bs_sched.specs.CoreLayout.{IsHeapOf, heap_of}
-use Rattle.bs_sched.specs.Lane.{Lane, empty_lane}
-use Rattle.bs_sched.specs.Storage.{record_tag}
-use Rattle.bs_sched.proofs.ChangedCore.{read_at, sound_lane, same_stage, handed_heap}
+use Rattle.bs_sched.specs.Machine.{is_enabled}
+use Rattle.bs_sched.proofs.JobsOut.{as_many_handed}
+use Rattle.bs_sched.proofs.Journal.{journaled_after}
+use Rattle.bs_sched.proofs.LoneLanes.{both_true}
 use Rattle.bs_sched.proofs.cores.Core.hand.Goals as goal
 
-pub invariant_of-self : goal.invariant_of-self
-invariant_of-self g c =
-    let fibers = c.self.inside.fibers.items in
-    let within : c.args.game < length fibers = subst (λ (v : CoreView). c.args.game < length v.lanes) (sym c.self.view_is) c.requires in
-    let lane = read_at fibers c.args.game c.index_mut.result.now (empty_lane 0) within c.index_mut.ensures.value in
-    let before = subst (λ (x : Lane). IsHeapOf g.row.CAP (record_tag c.args.game) x (heap_of c.self.inside.heaps.items c.args.game) c.self.inside.pool) (sym lane)
-    (c.self.invariant.heaps c.args.game within) in
-    let same = same_stage c.hand.result c.index_mut.result.now c.hand.new.self c.args.command c.hand.ensures.ok c.hand.ensures.err in
-    sound_lane g.row.CAP c.self.inside c.args.game c.hand.new.self c.self.invariant within (same.quota ∙ ap (λ (x : Lane). x.quota) lane)
-    (handed_heap g.row.CAP (record_tag c.args.game) c.index_mut.result.now c.hand.new.self (heap_of c.self.inside.heaps.items c.args.game) c.self.inside.pool before same)
+pub invariant_of-self-2 : goal.invariant_of-self-2
+invariant_of-self-2 g c =
+    let inside = c.self.inside in
+    let e = event.Hand c.args.game c.args.command in
+    let within : c.args.game < length inside.games.lanes = subst (λ (v : CoreView). c.args.game < length v.games.lanes) (sym c.self.view_is) c.requires in
+    let enabled : is_enabled inside.games.workers inside.games.lanes e ≡ true = both_true (nat_lt c.args.game (length inside.games.lanes)) true (lt-ltb _ _ within) refl in
+    let items : c.push_reserved.new.self.items ≡ inside.journal.items ++ e ∷ []
+    = rw (c.push_reserved.ensures.items, c.in_ok-noted.ensures, c.reserve_events.ensures.items) refl in
+    let len = c.push_reserved.ensures.len in
+    let capacity = c.push_reserved.ensures.capacity in
+    let room = c.in_ok-reserve_events.ensures.room in
+    journaled_after g.row.CAP inside e _ c.self.invariant enabled c.keeps_limits.ensures c.in_ok-hand.ensures.ok items
+    (c.self.invariant.out ∙ sym (as_many_handed inside.games.lanes c.args.game c.args.command within)) (omega (arith, len, capacity, room))

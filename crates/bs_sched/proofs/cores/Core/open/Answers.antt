@@ -1,9 +1,28 @@
--- A core that was just opened is sound.
-use Rattle.bs_sched.proofs.OpenedCore.{sound_opened}
+-- A core that was just opened has an empty journal.
+use Rattle.std.proofs.Common.{◌≡◌, None, sym, ap, subst, ◌∙◌, arith}
+use Rattle.std.specs.Prelude.{List}
+use Rattle.std.proofs.lemmas.List.{length-replicate}
+use Rattle.bs_sched.specs.declared.event.Event.{Event}
+use Rattle.bs_sched.specs.Core.{opened_core}
+use Rattle.bs_sched.specs.Games.{GamesView}
+use Rattle.bs_sched.specs.Journal.{IsItsJournal, jobs_out}
+use Rattle.bs_sched.specs.SharedMemory.{IsHosted}
+use Rattle.bs_sched.proofs.JobsOut.{none_out}
+use Rattle.bs_sched.proofs.Journal.{opened_journal}
 use Rattle.bs_sched.proofs.cores.Core.open.Goals as goal
 
 pub invariant_of-result : goal.invariant_of-result
 invariant_of-result g c =
-    let rows = c.as_slice-rows.ensures.value in
-    sound_opened g.row.CAP c.args.blocks _ c.requires.wide c.as_slice-rows.ensures.fits (rw rows at c.in_ok-fibers.ensures)
-    (rw rows at c.in_ok-heaps.ensures) (rw rows at c.in_ok-pool.ensures)
+    let cap = g.row.CAP in
+    let rows = c.args.plan.rows in
+    let is = c.in_ok-open.ensures.games in
+    let hosted : IsHosted cap c.args.blocks rows = record { wide = c.requires.wide; plan = c.open.ensures.plan; room = c.in_ok-open.ensures.room } in
+    let core : record { games = c.in_ok-open.field-0; journal = c.new.result.items } ≡ opened_core cap c.args.blocks c.args.workers rows
+    = ap (λ (games : GamesView). record { games = games; journal = c.new.result.items }) is
+    ∙ ap (λ (events : List Event). record (opened_core cap c.args.blocks c.args.workers rows) { journal = events }) c.new.ensures.items in
+    let len = c.new.ensures.len in
+    record {
+      journal = subst (IsItsJournal cap) (sym core) (opened_journal cap c.args.blocks c.args.workers rows hosted (length-replicate c.args.blocks None));
+      out = sym (ap (λ (games : GamesView). jobs_out games.lanes) is ∙ none_out rows);
+      room = omega (arith, len);
+    }

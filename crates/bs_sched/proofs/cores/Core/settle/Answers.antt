@@ -1,24 +1,25 @@
-use Rattle.std.proofs.Common.{refl, ap, ◌∙◌, arith}
+use Rattle.std.proofs.Common.{◌≡◌, ◌-◌, true, ◌∷◌, ◌++◌, [], refl, sym, ap, subst, ◌∙◌, arith}
 use Rattle.bs_fiber.specs.declared.input.Input.{Input}
-use Rattle.bs_fiber.specs.declared.job.JobName.{JobName}
-use Rattle.bs_sched.specs.Core.{brought}
-use Rattle.bs_sched.proofs.OwnJobs.{brings, own_there}
+use Rattle.bs_sched.specs.declared.event.Event.TheVariants as event
+use Rattle.bs_sched.specs.Core.{CoreView}
+use Rattle.bs_sched.specs.Machine.{is_enabled, lane_effect}
+use Rattle.bs_sched.specs.Journal.{jobs_out}
+use Rattle.bs_sched.proofs.JobsOut.{one_less_out}
+use Rattle.bs_sched.proofs.Journal.{journaled_after}
 use Rattle.bs_sched.proofs.cores.Core.settle.Goals as goal
 
-pub keeps-requires : goal.keeps-requires
-keeps-requires g c =
+pub invariant_of-self : goal.invariant_of-self
+invariant_of-self g c =
+    let inside = c.self.inside in
+    let e = event.Put c.args.worker c.args.done.job in
     let job = c.job-job.ensures ∙ ap (λ (i : Input). i.job) c.ticket.ensures in
-    let there = own_there c.args.self.now c.requires.0 c.args.done c.requires.1 in
-    (omega arith, rw job there)
-
-pub bring-requires : goal.bring-requires
-bring-requires g c =
-    let job = c.job-job.ensures ∙ ap (λ (i : Input). i.job) c.ticket.ensures in
-    let back = brings c.args.self.now c.requires.0 c.args.done c.job-job.result c.into_parts-ticket.result.1 c.requires.1 job c.keeps.ensures
-    c.into_parts-ticket.ensures.out in
-    (omega arith, (back.there, (back.out, back.worked)))
-
-pub returns : goal.returns
-returns g c =
-    let job = c.job-job.ensures ∙ ap (λ (i : Input). i.job) c.ticket.ensures in
-    c.bring.ensures ∙ ap (λ (j : JobName). brought g.row.CAP c.args.self.now j) job
+    let enabled : is_enabled inside.games.workers inside.games.lanes e ≡ true
+    = subst (λ (v : CoreView). is_enabled v.games.workers v.games.lanes e ≡ true) (sym c.self.view_is) c.requires.out in
+    let items : c.push_reserved.new.self.items ≡ inside.journal.items ++ e ∷ [] = rw (c.push_reserved.ensures.items, job) refl in
+    let less = one_less_out inside.games.workers inside.games.lanes c.args.worker c.args.done.job enabled in
+    let counted = c.self.invariant.out in
+    let fewer : inside.out - 1 ≡ jobs_out (lane_effect inside.games.lanes e) = omega (arith, counted, less) in
+    let len = c.push_reserved.ensures.len in
+    let capacity = c.push_reserved.ensures.capacity in
+    let room = c.self.invariant.room in
+    journaled_after g.row.CAP inside e _ c.self.invariant enabled tt c.settle.ensures items fewer (omega (arith, counted, less, len, capacity, room))

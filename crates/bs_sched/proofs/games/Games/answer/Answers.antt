@@ -3,23 +3,23 @@ use Rattle.std.proofs.lemmas.List.{length-set}
 use Rattle.bs_game.specs.View.{answer_of}
 use Rattle.bs_heap.specs.Heap.{empty_heap}
 use Rattle.bs_heap.specs.HeldBlocks.{LeavesOthers}
-use Rattle.bs_sched.specs.Core.{CoreView, answer_effect}
-use Rattle.bs_sched.specs.CoreLayout.{IsHeapOf, heap_of}
+use Rattle.bs_sched.specs.Games.{GamesView, answer_effect}
+use Rattle.bs_sched.specs.GamesLayout.{IsHeapOf, heap_of}
 use Rattle.bs_sched.specs.Lane.{Lane, empty_lane, answered, occupies, lane_view, lane_command}
 use Rattle.bs_sched.specs.Machine.{lane_of}
 use Rattle.bs_sched.specs.Storage.{record_tag}
-use Rattle.bs_sched.proofs.ChangedCore.{read_at, same_quotas, changed_storage, heap_there, own_heap}
+use Rattle.bs_sched.proofs.ChangedGames.{read_at, same_quotas, changed_storage, heap_there, own_heap}
 use Rattle.bs_sched.proofs.Heaps.{changed_heaps}
-use Rattle.bs_sched.proofs.cores.Core.answer.Goals as goal
+use Rattle.bs_sched.proofs.games.Games.answer.Goals as goal
 
 pub answer_game-requires : goal.answer_game-requires
 answer_game-requires g c =
     let fibers = c.self.inside.fibers.items in
     let heaps = c.self.inside.heaps.items in
-    let within : c.args.game < length fibers = subst (λ (v : CoreView). c.args.game < length v.lanes) (sym c.self.view_is) c.requires.game in
+    let within : c.args.game < length fibers = subst (λ (v : GamesView). c.args.game < length v.lanes) (sym c.self.view_is) c.requires.game in
     let lane : c.index_mut.result.now ≡ lane_of fibers c.args.game = read_at fibers c.args.game _ (empty_lane 0) within c.index_mut.ensures.value in
     let same : lane_of c.args.self.now.lanes c.args.game ≡ c.index_mut.result.now
-    = ap (λ (v : CoreView). lane_of v.lanes c.args.game) (sym c.self.view_is) ∙ sym lane in
+    = ap (λ (v : GamesView). lane_of v.lanes c.args.game) (sym c.self.view_is) ∙ sym lane in
     let many = c.self.invariant.many in
     let heap : c.index_mut-2.result.now ≡ heap_of heaps c.args.game = read_at heaps c.args.game _ (empty_heap 0 0) (omega (arith, many)) c.index_mut-2.ensures.value in
     let kept = heap_there g.row.CAP c.args.game fibers heaps c.self.inside.pool _ _ c.self.invariant.heaps within lane heap in (
@@ -40,7 +40,7 @@ pub invariant_of-self : goal.invariant_of-self
 invariant_of-self g c =
     let fibers = c.self.inside.fibers.items in
     let heaps = c.self.inside.heaps.items in
-    let within : c.args.game < length fibers = subst (λ (v : CoreView). c.args.game < length v.lanes) (sym c.self.view_is) c.requires.game in
+    let within : c.args.game < length fibers = subst (λ (v : GamesView). c.args.game < length v.lanes) (sym c.self.view_is) c.requires.game in
     let lane : c.index_mut.result.now ≡ lane_of fibers c.args.game = read_at fibers c.args.game _ (empty_lane 0) within c.index_mut.ensures.value in
     let many = c.self.invariant.many in
     let heap : c.index_mut-2.result.now ≡ heap_of heaps c.args.game = read_at heaps c.args.game _ (empty_heap 0 0) (omega (arith, many)) c.index_mut-2.ensures.value in
@@ -63,7 +63,7 @@ pub returns : goal.returns
 returns g c =
     let fibers = c.self.inside.fibers.items in
     let heaps = c.self.inside.heaps.items in
-    let within : c.args.game < length fibers = subst (λ (v : CoreView). c.args.game < length v.lanes) (sym c.self.view_is) c.requires.game in
+    let within : c.args.game < length fibers = subst (λ (v : GamesView). c.args.game < length v.lanes) (sym c.self.view_is) c.requires.game in
     let lane : c.index_mut.result.now ≡ lane_of fibers c.args.game = read_at fibers c.args.game _ (empty_lane 0) within c.index_mut.ensures.value in
     let many = c.self.invariant.many in
     let heap : c.index_mut-2.result.now ≡ heap_of heaps c.args.game = read_at heaps c.args.game _ (empty_heap 0 0) (omega (arith, many)) c.index_mut-2.ensures.value in

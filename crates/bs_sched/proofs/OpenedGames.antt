@@ -8,10 +8,10 @@ use Rattle.bs_heap.specs.Heap.{Heap, empty_heap}
 use Rattle.bs_heap.specs.Packing.{no_packing}
 use Rattle.bs_pool.specs.Ledger.{Ledger, ledger_of, opened, reserved}
 use Rattle.bs_sched.proofs.HandedCommands.{quotas_of_rows}
-use Rattle.bs_sched.specs.declared.cores.Core.TheInside.{Inside}
+use Rattle.bs_sched.specs.declared.games.Games.TheInside.{Inside}
 use Rattle.bs_sched.specs.declared.cores.TheConstants.{LEAST_CAPACITY}
-use Rattle.bs_sched.specs.Core.{row_at}
-use Rattle.bs_sched.specs.CoreLayout.{AreHeapsOf, IsHeapOf, IsSound, heap_of, opened_heaps, opened_heaps_from}
+use Rattle.bs_sched.specs.Games.{row_at}
+use Rattle.bs_sched.specs.GamesLayout.{AreHeapsOf, IsHeapOf, IsSound, heap_of, opened_heaps, opened_heaps_from}
 use Rattle.bs_sched.specs.Lane.{Lane, empty_lane}
 use Rattle.bs_sched.specs.Machine.{lane_of}
 use Rattle.bs_sched.specs.PlanBlocks.{reservations_of}

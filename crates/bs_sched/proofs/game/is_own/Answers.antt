@@ -4,7 +4,7 @@ use Rattle.bs_fiber.specs.Expected.{IsOf}
 use Rattle.bs_sched.specs.Inputs.{input_for}
 use Rattle.bs_sched.specs.Lane.{is_out}
 use Rattle.bs_sched.proofs.OwnJobs.{own_of_expected}
-use Rattle.bs_sched.proofs.games.is_own.Goals as goal
+use Rattle.bs_sched.proofs.game.is_own.Goals as goal
 
 pub returns : goal.returns
 returns g c =

@@ -1,4 +1,4 @@
--- How a core lies in its fields.
+-- How the games of a plan lie in their fields.
 use Rattle.std.specs.Prelude.{◌≡◌, ℕ, ◌+◌, ◌≤◌, ◌<◌, true, List, [], ◌∷◌, length, map, slice_index_or}
 use Rattle.bs_board.specs.plans.Plan.{GameRow, IsFitPlan}
 use Rattle.bs_board.specs.records.Record.{record_of}
@@ -6,9 +6,9 @@ use Rattle.bs_pool.specs.Ledger.{Ledger, reserved}
 use Rattle.bs_heap.specs.Charge.{blocks_for}
 use Rattle.bs_heap.specs.Heap.{Heap, empty_heap}
 use Rattle.bs_heap.specs.HeldBlocks.{IsKeptIn}
-use Rattle.bs_sched.specs.declared.cores.Core.TheInside.{Inside}
+use Rattle.bs_sched.specs.declared.games.Games.TheInside.{Inside}
 use Rattle.bs_sched.specs.declared.cores.TheConstants.{LEAST_CAPACITY}
-use Rattle.bs_sched.specs.Core.{CoreView}
+use Rattle.bs_sched.specs.Games.{GamesView}
 use Rattle.bs_sched.specs.Insides.{may_answer}
 use Rattle.bs_sched.specs.Lane.{Lane}
 use Rattle.bs_sched.specs.Machine.{lane_of}
@@ -17,8 +17,8 @@ use Rattle.bs_sched.specs.Storage.{Storage, record_tag}
 abbrev pub storage_in : List Heap → Ledger → Storage
 storage_in heaps pool = record { packings = map (λ heap. heap.packing) heaps; pool = pool }
 
-abbrev pub core_in : {cap : ℕ} → Inside cap → CoreView
-core_in c =
+abbrev pub games_in : {cap : ℕ} → Inside cap → GamesView
+games_in c =
     record {
       rows = c.rows;
       workers = c.workers;
@@ -35,7 +35,7 @@ pub record KeepsBoards (x : Lane) (heap : Heap) : Type 0 where
   pub quota : heap.quota ≡ x.quota
   pub records : heap.records ≡ map record_of x.game
 
--- the heaps of a core that was just opened, from that row on
+-- the heaps of games that were just opened, from that row on
 abbrev pub opened_heaps_from : ℕ → List GameRow → List Heap
 opened_heaps_from game [] = []
 opened_heaps_from game (row ∷ rows) = empty_heap (record_tag game) row.quota ∷ opened_heaps_from (game + 1) rows

@@ -1,8 +1,8 @@
 use Rattle.std.proofs.Common.{arith, subst, sym}
-use Rattle.bs_sched.specs.CoreLayout.{IsHeapOf}
+use Rattle.bs_sched.specs.GamesLayout.{IsHeapOf}
 use Rattle.bs_sched.specs.Lane.{Lane}
 use Rattle.bs_sched.proofs.Answered.{is_at_command, told_reply, fit_effect, answered_heap}
-use Rattle.bs_sched.proofs.games.answer_game.Goals as goal
+use Rattle.bs_sched.proofs.game.answer_game.Goals as goal
 
 pub change_records-requires : goal.change_records-requires
 change_records-requires g c =

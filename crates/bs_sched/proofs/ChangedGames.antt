@@ -15,8 +15,8 @@ use Rattle.bs_heap.specs.Packing.{no_packing}
 use Rattle.bs_pool.specs.Ledger.{Ledger, reserved}
 use Rattle.bs_game.specs.declared.reply.Effect.{Effect}
 use Rattle.bs_game.specs.declared.reply.Effect.TheVariants as effect
-use Rattle.bs_sched.specs.CoreLayout.{storage_in, heap_of, AreHeapsOf, IsHeapOf, IsSound}
-use Rattle.bs_sched.specs.declared.cores.Core.TheInside.{Inside}
+use Rattle.bs_sched.specs.GamesLayout.{storage_in, heap_of, AreHeapsOf, IsHeapOf, IsSound}
+use Rattle.bs_sched.specs.declared.games.Games.TheInside.{Inside}
 use Rattle.bs_sched.proofs.Heaps.{changed_lane, changed_heaps, unchanged_pool}
 use Rattle.std.specs.Vec.{with_item}
 use Rattle.bs_sched.specs.Lane.{Lane, empty_lane, with_waiting}

@@ -4,7 +4,7 @@ use Rattle.bs_game.specs.Game.{game_charge}
 use Rattle.bs_game.proofs.Recorded.{same_charge}
 use Rattle.bs_heap.specs.Charge.{charge_of}
 use Rattle.bs_heap.specs.Heap.{Heap}
-use Rattle.bs_sched.specs.CoreLayout.{KeepsBoards}
+use Rattle.bs_sched.specs.GamesLayout.{KeepsBoards}
 use Rattle.bs_sched.specs.Courses.{IsRight}
 use Rattle.bs_sched.specs.Lane.{Lane}
 

@@ -1,0 +1,63 @@
+-- The core is its journal: what the list of its events says of its games.
+use Rattle.std.specs.Prelude.{◌≡◌, ℕ, ◌+◌, ◌≤◌, ◌<◌, false, true, List, length, sum_by, All, Some, None, vec_len, vec_capacity}
+use Rattle.bs_pool.specs.Ledger.{size}
+use Rattle.bs_sched.specs.declared.cores.Core.TheInside.{Inside}
+use Rattle.bs_sched.specs.declared.stage.Stage.{Stage}
+use Rattle.bs_sched.specs.declared.stage.Stage.TheVariants as stage
+use Rattle.bs_sched.specs.declared.stage.PartState.{PartState}
+use Rattle.bs_sched.specs.declared.stage.PartState.TheVariants as part
+use Rattle.bs_sched.specs.Core.{CoreView}
+use Rattle.bs_sched.specs.Games.{opened}
+use Rattle.bs_sched.specs.Isolation.{HandsFit, IsIsolated, are_enabled, opened_lanes, shared_run}
+use Rattle.bs_sched.specs.Lane.{Lane}
+use Rattle.bs_sched.specs.Memory.{games_run}
+use Rattle.bs_sched.specs.SharedMemory.{IsHosted, SharesMemory}
+
+-- how many blocks there are
+abbrev pub blocks_of : CoreView → ℕ
+blocks_of core = size core.games.storage.pool
+
+-- Every event of the journal was enabled where it came, and the games are those that the events make of a core that was just opened over
+-- the same plan, blocks and workers. Only that the core was told to fail is no event.
+pub record IsItsJournal (cap : ℕ) (core : CoreView) : Type 0 where
+  pub hosted : IsHosted cap (blocks_of core) core.games.rows
+  pub fits : All HandsFit core.journal
+  pub enabled : are_enabled core.games.workers (opened_lanes core.games.rows) core.journal ≡ true
+  pub games : games_run cap (opened cap (blocks_of core) core.games.workers core.games.rows) core.journal ≡ record core.games { failed = false }
+
+-- So its lanes are those of which the isolation law speaks: of each game, and of the memory that all of them share.
+pub record KeepsApart (cap : ℕ) (core : CoreView) : Type 0 where
+  pub lanes : shared_run core.games.workers core.games.rows core.journal ≡ core.games.lanes
+  pub games : (game : ℕ) → game < length core.games.rows → IsIsolated core.games.workers core.games.rows core.journal game
+  pub memory : SharesMemory cap (blocks_of core) core.games.workers core.games.rows core.journal
+
+-- The jobs that are out. Each of them comes back at most once.
+
+abbrev pub out_of_part : PartState → ℕ
+out_of_part part.Ready = 0
+out_of_part (part.Out worker) = 1
+out_of_part part.Done = 0
+
+abbrev pub out_of_stage : Stage → List PartState → ℕ
+out_of_stage stage.Idle parts = 0
+out_of_stage (stage.Begin worker) parts = 1
+out_of_stage stage.Parts parts = sum_by out_of_part parts
+out_of_stage (stage.Join None) parts = 0
+out_of_stage (stage.Join (Some worker)) parts = 1
+
+abbrev pub out_of_lane : Lane → ℕ
+out_of_lane x = out_of_stage x.stage x.parts
+
+abbrev pub jobs_out : List Lane → ℕ
+jobs_out = sum_by out_of_lane
+
+-- How a core lies in its fields.
+
+abbrev pub core_in : {cap : ℕ} → Inside cap → CoreView
+core_in c = record { games = c.games; journal = c.journal.items }
+
+-- for each job that is out the journal has room for its coming back
+pub record IsJournaled (cap : ℕ) {at : ℕ} (c : Inside at) : Type 0 where
+  pub journal : IsItsJournal cap (core_in c)
+  pub out : c.out ≡ jobs_out c.games.lanes
+  pub room : vec_len c.journal + c.out ≤ vec_capacity c.journal
