@@ -67,13 +67,13 @@ fn out_seen(alloc: Global, view: &View, input: &Input) -> Result<Out, AllocError
     ensures { IfOk result (λ out. out ≡ out_seen input.now.job.kind input.now.job.part view.now input.now.command) }
 {
     match input.job.kind {
-        JobKind::Begin => begin(alloc, view, &input.command),
+        JobKind::Begin => begin(alloc, view, input.command.get()),
         JobKind::Part => {
-            let moved = move_part(alloc, view, &input.command, input.job.part)?;
+            let moved = move_part(alloc, view, input.command.get(), input.job.part)?;
             Ok(Out::Moved(moved))
         }
         JobKind::Join => {
-            let answer = join(alloc, view, &input.command, &input.parts)?;
+            let answer = join(alloc, view, input.command.get(), &input.parts)?;
             Ok(Out::Joined(answer))
         }
     }

@@ -4,7 +4,7 @@ ghost use Rattle.std.specs.Prelude.{◌≡◌, option_map, IfOk};
 use crate::input::Input;
 use crate::job::JobName;
 use crate::parts::Parts;
-use bs_board::Command;
+use crate::shared::SharedCommand;
 use bs_game::Record;
 use std::alloc::{AllocError, Global};
 
@@ -28,7 +28,7 @@ pub struct Expected<'a> {
     /// The record of the turn that the command asks for, where that is kept.
     pub asked: Option<&'a [u8]>,
     /// The command.
-    pub command: &'a Command,
+    pub command: &'a SharedCommand,
 }
 
 fn copy_record(alloc: Global, bytes: Option<&[u8]>) -> Result<Option<Record>, AllocError>
@@ -44,7 +44,7 @@ impl Expected<'_> {
     ghost use Rattle.std.specs.Prelude.{[]};
     ghost use Rattle.bs_fiber.specs.Expected.{IsOf};
 
-    /// A copy of all of it: an input that has no parts yet.
+    /// All of it, the records copied and the command shared: an input that has no parts yet.
     pub fn to_input(&self, alloc: Global) -> Result<Input, AllocError>
         ensures expected { IfOk result (λ input. IsOf input self.now) }
         ensures parts { IfOk result (λ input. input.parts ≡ []) }
@@ -58,7 +58,7 @@ impl Expected<'_> {
             kept: self.kept,
             last: copy_record(alloc, self.last)?,
             asked: copy_record(alloc, self.asked)?,
-            command: self.command.copy(alloc)?,
+            command: self.command.share()?,
             parts: Parts::from_vec(Vec::new(alloc)),
         })
     }

@@ -1,7 +1,7 @@
 //! What a job reads.
 use crate::job::JobName;
 use crate::parts::Parts;
-use bs_board::Command;
+use crate::shared::SharedCommand;
 use bs_game::Record;
 
 /// All that a job reads.
@@ -24,7 +24,7 @@ pub struct Input {
     /// The record of the turn that the command asks for, where that is kept.
     pub asked: Option<Record>,
     /// The command that the game is at.
-    pub command: Command,
+    pub command: SharedCommand,
     /// What the parts moved; read by a Join alone.
     pub parts: Parts,
 }

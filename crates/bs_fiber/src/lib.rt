@@ -11,6 +11,7 @@ mod joining;
 mod moving;
 mod out;
 mod parts;
+mod shared;
 mod stopped;
 #[cfg(test)]
 mod tests;
@@ -23,5 +24,6 @@ pub use input::Input;
 pub use job::{JobKind, JobName};
 pub use out::Out;
 pub use parts::Parts;
+pub use shared::SharedCommand;
 pub use stopped::Stopped;
 pub use ticket::Ticket;

@@ -36,7 +36,7 @@ fn has_contents_of(input: &Input, expected: &Expected) -> bool
 {
     is_same_record(&input.last, &expected.last)
         && is_same_record(&input.asked, &expected.asked)
-        && input.command.is_same(expected.command)
+        && input.command.get().is_same(expected.command.get())
 }
 
 /// A job to be worked, with a copy of all that it reads. Clauses see its input.
@@ -136,7 +136,7 @@ impl Ticket {
     pub fn command(&self) -> &Command
         ensures { result.now ≡ self.now.command }
     {
-        &self.input.command
+        self.input.command.get()
     }
 
     /// What each part moved, from part 0.

@@ -18,6 +18,7 @@ use crate::event::Event;
 use crate::fiber::keeps_limits;
 use crate::games::Games;
 use bs_board::{Board, Command, Reply, Row};
+use bs_fiber::SharedCommand;
 use std::alloc::{AllocError, Global};
 use std::marker::Model;
 
@@ -80,9 +81,10 @@ impl<const CAP: usize> Core<CAP> {
         ensures err { OnErr result (self.new ≡ self.old) }
     {
         keeps_limits(&command);
-        let noted = command.copy(alloc)?;
+        let handed = SharedCommand::new(alloc, command)?;
+        let noted = handed.share()?;
         reserve_events(&mut self.journal, self.out, 1)?;
-        self.games.hand(game, command)?;
+        self.games.hand(game, handed)?;
         self.journal.push_reserved(Event::Hand(game, noted));
         Ok(())
     }
@@ -131,7 +133,7 @@ impl<const CAP: usize> Core<CAP> {
     }
 
     /// The commands that were taken, in their order.
-    pub fn taken(&self, game: usize) -> &[Command]
+    pub fn taken(&self, game: usize) -> &[SharedCommand]
         requires { game < length self.now.games.lanes }
         ensures { result.now ≡ (lane_of self.now.games.lanes game).taken }
     {

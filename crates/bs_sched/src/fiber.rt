@@ -10,7 +10,7 @@ ghost use Rattle.bs_sched.specs.Slots.{state_of, emptied, moved_in};
 use crate::stage::Stage;
 use bs_board::limits::MOST_QUOTA;
 use bs_board::{Command, Reply, Snakes};
-use bs_fiber::{JobKind, Parts};
+use bs_fiber::{JobKind, Parts, SharedCommand};
 use std::alloc::{AllocError, Global};
 use std::marker::Model;
 
@@ -30,7 +30,7 @@ const MOST_PARTS: usize = 4;
 pub(crate) struct Fiber {
     quota: u32,
     /// All that were handed in. The first `begun` of them were taken.
-    commands: Vec<Command>,
+    commands: Vec<SharedCommand>,
     begun: usize,
     replies: Vec<Reply>,
     stage: Stage,
@@ -193,11 +193,11 @@ impl Fiber {
     }
 
     /// One more command waits.
-    pub(crate) fn hand(&mut self, command: Command) -> Result<(), AllocError>
+    pub(crate) fn hand(&mut self, command: SharedCommand) -> Result<(), AllocError>
         ensures ok { OnOk result (self.new ≡ with_waiting command self.old) }
         ensures err { OnErr result (self.new ≡ self.old) }
     {
-        keeps_limits(&command);
+        keeps_limits(command.get());
         self.commands.push(command)?;
         Ok(())
     }
@@ -279,14 +279,14 @@ impl Fiber {
     }
 
     /// The commands that were taken.
-    pub(crate) fn taken(&self) -> &[Command]
+    pub(crate) fn taken(&self) -> &[SharedCommand]
         ensures { result.now ≡ self.now.taken }
     {
         &self.commands.as_slice()[..self.begun]
     }
 
     /// The command that is taken next.
-    pub(crate) fn next(&self) -> &Command
+    pub(crate) fn next(&self) -> &SharedCommand
         requires { 0 < length self.now.waiting }
         ensures { result.now ≡ lane_command (with_taken 0 kind.Begin 0 self.now) }
     {
@@ -294,7 +294,7 @@ impl Fiber {
     }
 
     /// The command that the game is at.
-    pub(crate) fn command(&self) -> &Command
+    pub(crate) fn command(&self) -> &SharedCommand
         requires { is_idle self.now.stage ≡ false }
         ensures { result.now ≡ lane_command self.now }
     {

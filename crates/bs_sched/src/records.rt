@@ -17,7 +17,7 @@ ghost use Rattle.bs_sched.specs.Turns.{FindsTurn};
 
 use crate::fiber::Fiber;
 use bs_board::{Board, Command, Decode, TurnNumber, decode, seats_of_record, turn_of_record};
-use bs_fiber::{Expected, JobName};
+use bs_fiber::{Expected, JobName, SharedCommand};
 use bs_game::{Effect, place_of_turn};
 use bs_heap::TagHeap;
 use bs_pool::Pool;
@@ -77,7 +77,7 @@ fn asked_record<'a, const CAP: usize>(heap: &'a TagHeap<CAP>, command: &Command)
 pub(crate) fn expected<'a, const CAP: usize>(
     fiber: &Fiber,
     heap: &'a TagHeap<CAP>,
-    command: &'a Command,
+    command: &'a SharedCommand,
     seq: u64,
     worker: usize,
     job: JobName,
@@ -94,7 +94,7 @@ pub(crate) fn expected<'a, const CAP: usize>(
         charge: heap.charge(),
         kept: heap.count(),
         last: last_record(heap),
-        asked: asked_record(heap, command),
+        asked: asked_record(heap, command.get()),
         command,
     }
 }

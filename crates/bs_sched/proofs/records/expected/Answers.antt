@@ -20,7 +20,7 @@ returns g c =
       };
       contents = record {
         last = sym (c.last_record.ensures ∙ last_recorded game records kept);
-        asked = sym (c.asked_record.ensures game kept);
+        asked = sym (rw c.get.ensures at c.asked_record.ensures game kept);
         command = refl;
       };
     }
