@@ -1,5 +1,5 @@
 //! The core: all games of a plan, and the list of all that happened to them.
-ghost use Rattle.std.specs.Prelude.{◌≡◌, ◌+◌, ◌<◌, ◌≤◌, [], true, length, vec_len, vec_capacity, slice_index_or, map, IfOk, OnOk, OnErr};
+ghost use Rattle.std.specs.Prelude.{◌≡◌, ◌+◌, ◌<◌, ◌≤◌, [], ◌∷◌, ◌++◌, true, length, vec_len, vec_capacity, slice_index_or, map, IfOk, OnOk, OnErr};
 ghost use Rattle.std.specs.List.{list_all};
 ghost use Rattle.bs_board.specs.plans.Plan.{IsFitPlan};
 ghost use Rattle.bs_board.specs.records.Record.{record_of};
@@ -72,6 +72,16 @@ pub(crate) fn reserve_events(
     journal.reserve(room)
 }
 
+/// One event more, for which there is room.
+pub(crate) fn note(journal: &mut Vec<Event>, event: Event)
+    requires { vec_len journal.old < vec_capacity journal.old }
+    ensures items { journal.new.items ≡ journal.old.items ++ event ∷ [] }
+    ensures len { vec_len journal.new ≡ vec_len journal.old + 1 }
+    ensures capacity { vec_capacity journal.new ≡ vec_capacity journal.old }
+{
+    journal.push_reserved(event);
+}
+
 impl<const CAP: usize> Core<CAP> {
     /// A command goes to the end of those that wait in the game of that row. An error is the allocator's, and leaves
     /// all as it was.
@@ -85,7 +95,7 @@ impl<const CAP: usize> Core<CAP> {
         let noted = handed.share()?;
         reserve_events(&mut self.journal, self.out, 1)?;
         self.games.hand(game, handed)?;
-        self.journal.push_reserved(Event::Hand(game, noted));
+        note(&mut self.journal, Event::Hand(game, noted));
         Ok(())
     }
 

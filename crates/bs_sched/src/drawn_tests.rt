@@ -78,12 +78,13 @@ fn open_hosts(rt: &impl Abort, alloc: Global) -> Result<Hosts, Fail> {
 
 fn hand(
     rt: &impl Abort,
+    alloc: Global,
     core: &mut Core<CAP>,
     game: usize,
     command: Command,
 ) -> Result<(), AllocError> {
     assert!(rt; game < core.rows());
-    core.hand(game, command)
+    core.hand(alloc, game, command)
 }
 
 fn take(
@@ -109,9 +110,9 @@ fn hand_next(
     game: usize,
     command: &Command,
 ) -> Result<(), Fail> {
-    hand(rt, &mut hosts.shared, game, command.copy(alloc)?)?;
+    hand(rt, alloc, &mut hosts.shared, game, command.copy(alloc)?)?;
     let lone = hosts.lone.get_mut(game).ok_or("a game")?;
-    Ok(hand(rt, lone, 0, command.copy(alloc)?)?)
+    Ok(hand(rt, alloc, lone, 0, command.copy(alloc)?)?)
 }
 
 // Where the worker gets a job among both games, it gets that job in the game's own core.

@@ -13,7 +13,7 @@ ghost use Rattle.bs_sched.specs.Putting.{IsOwn};
 ghost use Rattle.bs_sched.specs.Storage.{stored};
 ghost use Rattle.bs_sched.specs.declared.event.Event.TheVariants as event;
 
-use crate::cores::Core;
+use crate::cores::{Core, note};
 use crate::event::Event;
 use crate::game::{answer_game, is_own};
 use crate::games::Games;
@@ -136,7 +136,7 @@ impl<const CAP: usize> Core<CAP> {
     {
         let job = done.ticket().job();
         self.games.settle(done);
-        self.journal.push_reserved(Event::Put(worker, job));
+        note(&mut self.journal, Event::Put(worker, job));
         self.out -= 1;
     }
 

@@ -11,7 +11,7 @@ ghost use Rattle.bs_sched.specs.Machine.{is_enabled, lane_of};
 ghost use Rattle.bs_sched.specs.Taking.{FindsJob, TakesAs};
 ghost use Rattle.bs_sched.specs.declared.event.Event.TheVariants as event;
 
-use crate::cores::{Core, reserve_events};
+use crate::cores::{Core, note, reserve_events};
 use crate::event::Event;
 use crate::fiber::Fiber;
 use crate::games::Games;
@@ -214,7 +214,7 @@ impl<const CAP: usize> Core<CAP> {
     {
         reserve_events(&mut self.journal, self.out, 2)?;
         let ticket = self.games.take_job(alloc, worker, job)?;
-        self.journal.push_reserved(Event::Take(worker, job));
+        note(&mut self.journal, Event::Take(worker, job));
         self.out += 1;
         Ok(ticket)
     }

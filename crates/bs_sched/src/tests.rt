@@ -68,9 +68,14 @@ pub(crate) fn straight_on(alloc: Global) -> Command {
     ))
 }
 
-fn hand(rt: &impl Abort, core: &mut Core<CAP>, command: Command) -> Result<(), Fail> {
+fn hand(
+    rt: &impl Abort,
+    alloc: Global,
+    core: &mut Core<CAP>,
+    command: Command,
+) -> Result<(), Fail> {
     assert!(rt; core.rows() == 1);
-    Ok(core.hand(0, command)?)
+    Ok(core.hand(alloc, 0, command)?)
 }
 
 fn take(
@@ -161,8 +166,8 @@ fn results_of_another_core_are_strays(rt: HostRuntime) -> Result<(), Fail> {
     let alloc = rt.alloc();
     let mut core = core_of(&rt, alloc, "a", 4096)?;
     let mut other = core_of(&rt, alloc, "a", 4096)?;
-    hand(&rt, &mut core, new_solo(alloc, 3)?)?;
-    hand(&rt, &mut other, new_solo(alloc, 3)?)?;
+    hand(&rt, alloc, &mut core, new_solo(alloc, 3)?)?;
+    hand(&rt, alloc, &mut other, new_solo(alloc, 3)?)?;
     let done = take_done(&rt, alloc, &mut core, 0)?;
     let foreign = take_done(&rt, alloc, &mut other, 0)?;
     assert_job(&rt, &done, JobKind::Begin, 0);
@@ -177,7 +182,7 @@ fn results_of_another_core_are_strays(rt: HostRuntime) -> Result<(), Fail> {
     assert!(rt; core.rows() == 1);
     assert_eq!(rt; core.replies(0).len(), 1);
 
-    hand(&rt, &mut core, Command::Show)?;
+    hand(&rt, alloc, &mut core, Command::Show)?;
     let done = take_done(&rt, alloc, &mut core, 0)?;
     assert!(rt; core.put(0, stray.done).is_err());
     assert_eq!(rt; core.counts(), counts_of(5));
@@ -238,8 +243,8 @@ fn play_join(rt: &impl Abort, alloc: Global, core: &mut Core<CAP>) -> Result<(),
 fn a_move_goes_in_parts(rt: HostRuntime) -> Result<(), Fail> {
     let alloc = rt.alloc();
     let mut core = core_of(&rt, alloc, "b", 4096)?;
-    hand(&rt, &mut core, new_of_three(alloc)?)?;
-    hand(&rt, &mut core, third_goes_down(alloc)?)?;
+    hand(&rt, alloc, &mut core, new_of_three(alloc)?)?;
+    hand(&rt, alloc, &mut core, third_goes_down(alloc)?)?;
     play_job(&rt, alloc, &mut core, 1, JobKind::Begin)?;
     play_job(&rt, alloc, &mut core, 0, JobKind::Begin)?;
     assert_eq!(rt; core.counts(), counts_of(5));
@@ -279,15 +284,16 @@ fn assert_refused(rt: &impl Abort, reply: &Reply, reason: Refusal) {
 fn quota_of_two_records(rt: HostRuntime) -> Result<(), Fail> {
     let alloc = rt.alloc();
     let mut core = core_of(&rt, alloc, "a", 64)?;
-    hand(&rt, &mut core, new_solo(alloc, 5)?)?;
+    hand(&rt, alloc, &mut core, new_solo(alloc, 5)?)?;
     for _ in 0..2 {
-        hand(&rt, &mut core, straight_on(alloc))?;
+        hand(&rt, alloc, &mut core, straight_on(alloc))?;
     }
-    hand(&rt, &mut core, Command::Free)?;
-    hand(&rt, &mut core, straight_on(alloc))?;
+    hand(&rt, alloc, &mut core, Command::Free)?;
+    hand(&rt, alloc, &mut core, straight_on(alloc))?;
     for turn in 0u16..2 {
         hand(
             &rt,
+            alloc,
             &mut core,
             Command::Turn(TurnNumber::new(turn).ok_or("a turn")?),
         )?;
@@ -312,8 +318,8 @@ fn quota_of_two_records(rt: HostRuntime) -> Result<(), Fail> {
 fn jobs_come_back_after_a_failure(rt: HostRuntime) -> Result<(), Fail> {
     let alloc = rt.alloc();
     let mut core = core_of(&rt, alloc, "a", 64)?;
-    hand(&rt, &mut core, new_solo(alloc, 5)?)?;
-    hand(&rt, &mut core, Command::End)?;
+    hand(&rt, alloc, &mut core, new_solo(alloc, 5)?)?;
+    hand(&rt, alloc, &mut core, Command::End)?;
     let done = take_done(&rt, alloc, &mut core, 0)?;
     core.fail();
     assert!(rt; matches!(take(&rt, alloc, &mut core, 0)?, Taken::Failed));

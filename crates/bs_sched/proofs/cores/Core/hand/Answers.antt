@@ -15,10 +15,10 @@ invariant_of-self-2 g c =
     let e = event.Hand c.args.game c.args.command in
     let within : c.args.game < length inside.games.lanes = subst (λ (v : CoreView). c.args.game < length v.games.lanes) (sym c.self.view_is) c.requires in
     let enabled : is_enabled inside.games.workers inside.games.lanes e ≡ true = both_true (nat_lt c.args.game (length inside.games.lanes)) true (lt-ltb _ _ within) refl in
-    let items : c.push_reserved.new.self.items ≡ inside.journal.items ++ e ∷ []
-    = rw (c.push_reserved.ensures.items, c.in_ok-noted.ensures, c.in_ok-handed.ensures, c.reserve_events.ensures.items) refl in
-    let len = c.push_reserved.ensures.len in
-    let capacity = c.push_reserved.ensures.capacity in
+    let items : c.note.new.journal.items ≡ inside.journal.items ++ e ∷ []
+    = rw (c.note.ensures.items, c.in_ok-noted.ensures, c.in_ok-handed.ensures, c.reserve_events.ensures.items) refl in
+    let len = c.note.ensures.len in
+    let capacity = c.note.ensures.capacity in
     let room = c.in_ok-reserve_events.ensures.room in
     journaled_after g.row.CAP inside e _ c.self.invariant enabled c.keeps_limits.ensures (rw c.in_ok-handed.ensures at c.in_ok-hand.ensures.ok) items
     (c.self.invariant.out ∙ sym (as_many_handed inside.games.lanes c.args.game c.args.command within)) (omega (arith, len, capacity, room))

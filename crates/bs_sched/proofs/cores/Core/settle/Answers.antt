@@ -15,11 +15,11 @@ invariant_of-self g c =
     let job = c.job-job.ensures ∙ ap (λ (i : Input). i.job) c.ticket.ensures in
     let enabled : is_enabled inside.games.workers inside.games.lanes e ≡ true
     = subst (λ (v : CoreView). is_enabled v.games.workers v.games.lanes e ≡ true) (sym c.self.view_is) c.requires.out in
-    let items : c.push_reserved.new.self.items ≡ inside.journal.items ++ e ∷ [] = rw (c.push_reserved.ensures.items, job) refl in
+    let items : c.note.new.journal.items ≡ inside.journal.items ++ e ∷ [] = rw (c.note.ensures.items, job) refl in
     let less = one_less_out inside.games.workers inside.games.lanes c.args.worker c.args.done.job enabled in
     let counted = c.self.invariant.out in
     let fewer : inside.out - 1 ≡ jobs_out (lane_effect inside.games.lanes e) = omega (arith, counted, less) in
-    let len = c.push_reserved.ensures.len in
-    let capacity = c.push_reserved.ensures.capacity in
+    let len = c.note.ensures.len in
+    let capacity = c.note.ensures.capacity in
     let room = c.self.invariant.room in
     journaled_after g.row.CAP inside e _ c.self.invariant enabled tt c.settle.ensures items fewer (omega (arith, counted, less, len, capacity, room))

@@ -12,10 +12,10 @@ invariant_of-self-2 g c =
     let e = event.Take c.args.worker c.args.job in
     let enabled : is_enabled inside.games.workers inside.games.lanes e ≡ true
     = subst (λ (v : CoreView). is_enabled v.games.workers v.games.lanes e ≡ true) (sym c.self.view_is) c.requires.enabled in
-    let items : c.push_reserved.new.self.items ≡ inside.journal.items ++ e ∷ [] = rw (c.push_reserved.ensures.items, c.reserve_events.ensures.items) refl in
+    let items : c.note.new.journal.items ≡ inside.journal.items ++ e ∷ [] = rw (c.note.ensures.items, c.reserve_events.ensures.items) refl in
     let more = one_more_out inside.games.workers inside.games.lanes c.args.worker c.args.job enabled in
-    let len = c.push_reserved.ensures.len in
-    let capacity = c.push_reserved.ensures.capacity in
+    let len = c.note.ensures.len in
+    let capacity = c.note.ensures.capacity in
     let room = c.in_ok-reserve_events.ensures.room in
     journaled_after g.row.CAP inside e _ c.self.invariant enabled tt c.in_ok-ticket.ensures.ok items
     (ap (λ n. n + 1) c.self.invariant.out ∙ sym more) (omega (arith, len, capacity, room))
