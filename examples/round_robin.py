@@ -1,0 +1,104 @@
+#!/usr/bin/env python3
+"""Writes the command file of a round robin: each of the given bots meets each other one once, in a game of two snakes.
+
+    examples/round_robin.py [--turns N] [--seed N] BOT.moves .. > FILE
+
+A bot is a file of its moves: the words up, down, left and right, from the first turn on; after the last word it begins with the first
+again, and # starts a comment. It plays under the file's name without the ending. All games go on at once, turn by turn. The numbers that
+decide where food appears are drawn from the seed, so the same words on the command line give the same file. The last line, on the
+standard error, says how many blocks the games need.
+"""
+import argparse
+import json
+import random
+import sys
+from itertools import combinations, cycle, islice
+from pathlib import Path
+
+DIRECTIONS = ("up", "down", "left", "right")
+SIDE = 11  # cells
+STARTS = ({"x": 3, "y": 5}, {"x": 7, "y": 5})
+FOOD = [{"x": 5, "y": 8}]
+QUOTA = 1_835_007  # the most for which a game needs no more than six blocks
+MOST_GAMES = 64
+LONGEST_NAME = 64  # bytes
+WORDS = 2  # of a move: one for the chance of food, one for its place
+
+
+def line(**members):
+    return json.dumps(members, separators=(",", ":"), ensure_ascii=False)
+
+
+def moves_of(text):
+    """The moves of a bot's file, without the comments."""
+    moves = [move for row in text.splitlines() for move in row.split("#")[0].split()]
+    unknown = [move for move in moves if move not in DIRECTIONS]
+    if unknown:
+        raise ValueError(f"'{unknown[0]}' is none of {', '.join(DIRECTIONS)}")
+    if not moves:
+        raise ValueError("there is no move")
+    return moves
+
+
+def pairings(names):
+    """Each two names once. Who is named first starts on the left; that goes back and forth, so no bot starts there always."""
+    pairs = []
+    for (one, a), (other, b) in combinations(enumerate(names), 2):
+        pairs.append((a, b) if (one + other) % 2 else (b, a))
+    return pairs
+
+
+def blocks_for(games, quota=QUOTA):
+    """The blocks that so many games of that quota need: docs/FORMATS.md says how many for each."""
+    return games * (quota // 1_835_008 + 2 + 4)
+
+
+def command_lines(bots, turns, seed):
+    """The lines of the file; bots has the moves of each by its name."""
+    draw = random.Random(seed)
+    games = {f"{a}-{b}": (a, b) for a, b in pairings(sorted(bots))}
+    for name in games:
+        if len(name.encode()) > LONGEST_NAME:
+            raise ValueError(f"the name of the game {name} has more than {LONGEST_NAME} bytes")
+    if not 1 <= len(games) <= MOST_GAMES:
+        raise ValueError(f"{len(bots)} bots are {len(games)} games, and a file has 1 to {MOST_GAMES}")
+    yield line(games=[{"game": name, "quota": QUOTA} for name in games])
+    for name, pair in games.items():
+        snakes = [{"id": id, **start} for id, start in zip(pair, STARTS)]
+        yield line(game=name, do="new", mode="standard", width=SIDE, height=SIDE, snakes=snakes, food=FOOD)
+    played = {bot: list(islice(cycle(moves), turns)) for bot, moves in bots.items()}
+    for turn in range(turns):
+        for name, pair in games.items():
+            words = [draw.getrandbits(32) for _ in range(WORDS)]
+            yield line(game=name, do="move", moves={id: played[id][turn] for id in pair}, words=words)
+
+
+def read_bots(paths):
+    bots = {}
+    for path in paths:
+        if path.stem in bots:
+            raise ValueError(f"two bots are named {path.stem}")
+        try:
+            bots[path.stem] = moves_of(path.read_text())
+        except ValueError as fault:
+            raise ValueError(f"{path}: {fault}") from None
+    return bots
+
+
+def main():
+    parser = argparse.ArgumentParser(description=__doc__, formatter_class=argparse.RawDescriptionHelpFormatter)
+    parser.add_argument("bots", nargs="+", metavar="BOT.moves", type=Path)
+    parser.add_argument("--turns", type=int, default=150, help="moves that each game is given, 150 if left out")
+    parser.add_argument("--seed", type=int, default=1, help="of the numbers for food, 1 if left out")
+    given = parser.parse_args()
+    try:
+        lines = list(command_lines(read_bots(given.bots), given.turns, given.seed))
+    except (OSError, ValueError) as fault:
+        sys.exit(f"round_robin: {fault}")
+    print("\n".join(lines))
+    games = len(json.loads(lines[0])["games"])
+    print(f"{games} games of {given.turns} moves: arena serve needs --blocks {blocks_for(games)} or more", file=sys.stderr)
+
+
+if __name__ == "__main__":
+    main()

@@ -1,0 +1,102 @@
+#!/usr/bin/env python3
+"""Reads a transcript and prints the standings: for each snake its games, wins, draws, losses, turns lived, and how it went out.
+
+    examples/standings.py [TRANSCRIPT]
+
+The standard input is read where no file is named. A snake wins where it alone lives on the final board of a game that is over. It draws
+where it lives on the final board of a game that is not over, or where nobody lives and it was among the last to go out. Any other game
+is lost. Turns lived are up to the turn in which the snake went out, or to the final board's. A game of one snake gives no win, draw or
+loss. Snakes stand in the order of wins, then draws, then turns lived. Below the table stands what the host turned down.
+"""
+import argparse
+import json
+import sys
+from collections import Counter
+from pathlib import Path
+
+TITLES = ("snake", "games", "wins", "draws", "losses", "turns lived", "went out by")
+
+
+class Tally:
+    """What one snake did in all its games."""
+
+    def __init__(self):
+        self.games = self.wins = self.draws = self.losses = self.turns = 0
+        self.causes = Counter()
+
+
+def result_of(snake, board):
+    """wins, draws or losses, or None in a game of one snake."""
+    living = [other["id"] for other in board["snakes"] if other["out"] is None]
+    if len(board["snakes"]) == 1:
+        return None
+    if snake["out"] is None:
+        return "wins" if board["over"] and len(living) == 1 else "draws"
+    last = max(other["out"] or 0 for other in board["snakes"])
+    return "draws" if not living and snake["out"] == last else "losses"
+
+
+def add_board(tallies, board):
+    """Counts one final board for each of its snakes."""
+    for snake in board["snakes"]:
+        tally = tallies.setdefault(snake["id"], Tally())
+        tally.games += 1
+        tally.turns += board["turn"] if snake["out"] is None else snake["out"]
+        result = result_of(snake, board)
+        if result:
+            setattr(tally, result, getattr(tally, result) + 1)
+        if snake["cause"]:
+            tally.causes[snake["cause"]] += 1
+
+
+def counted(counter):
+    return ", ".join(f"{word} {count}" for word, count in sorted(counter.items()))
+
+
+def read_transcript(lines):
+    """The tally of each snake by its id, the refusals and stray lines by their word, and the games that have no final board."""
+    tallies, refused, empty = {}, Counter(), []
+    for text in lines:
+        said = json.loads(text)
+        if "no" in said:
+            refused[f"{said['no']} {said['why']}"] += 1
+        elif "final" in said and said["board"] is None:
+            empty.append(said["game"])
+        elif "final" in said:
+            add_board(tallies, said["board"])
+    return tallies, refused, empty
+
+
+def table(tallies):
+    """The rows of the standings, as one text with columns."""
+    ranked = sorted(tallies.items(), key=lambda item: (-item[1].wins, -item[1].draws, -item[1].turns, item[0]))
+    rows = [TITLES]
+    for id, it in ranked:
+        rows.append((id, it.games, it.wins, it.draws, it.losses, it.turns, counted(it.causes) or "-"))
+    widths = [max(len(str(row[column])) for row in rows) for column in range(len(TITLES))]
+    return "\n".join("  ".join(str(cell).ljust(width) for cell, width in zip(row, widths)).rstrip() for row in rows)
+
+
+def report(lines):
+    tallies, refused, empty = read_transcript(lines)
+    parts = [table(tallies)]
+    if refused:
+        parts.append(f"refused: {counted(refused)}")
+    if empty:
+        parts.append(f"no final board: {', '.join(empty)}")
+    return "\n".join(parts)
+
+
+def main():
+    parser = argparse.ArgumentParser(description=__doc__, formatter_class=argparse.RawDescriptionHelpFormatter)
+    parser.add_argument("transcript", nargs="?", type=Path)
+    given = parser.parse_args()
+    try:
+        text = given.transcript.read_text() if given.transcript else sys.stdin.read()
+        print(report(text.splitlines()))
+    except (OSError, ValueError) as fault:
+        sys.exit(f"standings: {fault}")
+
+
+if __name__ == "__main__":
+    main()
