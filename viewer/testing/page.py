@@ -1,0 +1,106 @@
+# The page as the tests see it: opened by a way of its own, and read for what stands on it.
+from testing.served import ROOT
+
+PAGE = ROOT / "viewer" / "index.html"
+CASES = sorted((ROOT / "examples").glob("*.transcript")) + sorted((ROOT / "crates" / "arena" / "data").glob("*.transcript"))
+TOURNAMENT = ROOT / "viewer" / "testing" / "data" / "tournament.transcript"
+
+GAMES = """
+return [...document.querySelectorAll('#games tbody tr')].map((row) => [...row.cells].map((cell) =>
+    cell.className === 'living' && cell.querySelector('.chip') ? [...cell.querySelectorAll('.chip')].map((chip) => chip.textContent) : cell.textContent));
+"""
+
+BOARD = """
+const cells = (path) => [...path.matchAll(/[ML]([-.0-9]+) ([-.0-9]+)/g)].map((match) => [Number(match[1]), Number(match[2])]);
+return {
+  turn: document.getElementById('turn').textContent,
+  facts: document.getElementById('facts').textContent,
+  view: document.getElementById('board').getAttribute('viewBox'),
+  food: [...document.querySelectorAll('#board .food')].map((disc) => [disc.cx.baseVal.value, disc.cy.baseVal.value]),
+  snakes: [...document.querySelectorAll('#board .snake')].map((snake) => ({
+    seat: Number(snake.dataset.seat),
+    out: snake.classList.contains('out'),
+    crossed: snake.querySelector('.cross') !== null,
+    cells: cells(snake.querySelector('.body').getAttribute('d')),
+    pieces: snake.querySelector('.body').getAttribute('d').split('M').length - 1,
+    looks: snake.querySelector('.head').dataset.looks,
+  })),
+  cards: [...document.querySelectorAll('#snakes li')].map((card) => ({
+    id: card.querySelector('strong').textContent,
+    fate: card.querySelector('.fate').textContent,
+    numbers: card.querySelector('.numbers').textContent,
+    meter: card.querySelector('meter').value,
+  })),
+};
+"""
+
+PLOTS = """
+const points = (path) => [...path.getAttribute('d').matchAll(/[ML]([-.0-9]+) ([-.0-9]+)/g)].map((match) => [Number(match[1]), Number(match[2])]);
+return [...document.querySelectorAll('#snakes .plot')].map((plot) => ({
+  health: plot.querySelector('.health') ? points(plot.querySelector('.health')) : [],
+  length: plot.querySelector('.length') ? points(plot.querySelector('.length')) : [],
+}));
+"""
+
+
+class Page:
+    """A transcript opened in the viewer."""
+
+    def __init__(self, browser):
+        self.browser = browser
+
+    def open_empty(self, fragment=""):
+        """The page as a file of the machine, with nothing opened."""
+        self.browser.go(PAGE.as_uri() + fragment)
+
+    def choose(self, path, seconds=20):
+        """Chooses a file, and waits until it has been opened or refused."""
+        self.browser.type_into("#choose", str(path))
+        self.wait_until_read(path.name, seconds)
+
+    def drop(self, path):
+        self.browser.drop(path)
+        self.wait_until_read(path.name)
+
+    def wait_until_read(self, name, seconds=20):
+        self.browser.wait("return document.getElementById('file').textContent === arguments[0] && ['open', 'fault'].includes(document.body.dataset.state)",
+                          name, seconds=seconds)
+
+    def state(self):
+        return self.browser.run("return document.body.dataset.state")
+
+    def text(self, selector):
+        return self.browser.run("return document.querySelector(arguments[0]).textContent", selector)
+
+    def texts(self, selector):
+        return self.browser.run("return [...document.querySelectorAll(arguments[0])].map((element) => element.textContent)", selector)
+
+    def games(self):
+        return self.browser.run(GAMES)
+
+    def board(self):
+        return self.browser.run(BOARD)
+
+    def plots(self):
+        return self.browser.run(PLOTS)
+
+    def choose_game(self, name):
+        """Clicks a game's name in the table, and waits until the page shows it."""
+        self.browser.run("[...document.querySelectorAll('#games tbody tr')].find((row) => row.dataset.game === arguments[0]).querySelector('button').click()", name)
+        self.browser.wait("return document.getElementById('name').textContent === arguments[0]", name)
+
+    def choose_round(self, number):
+        self.browser.run("const round = document.getElementById('round'); round.value = arguments[0]; round.dispatchEvent(new Event('change'))", number)
+
+    def wait_for_turn(self, turn, last):
+        self.browser.wait("return document.getElementById('turn').textContent === arguments[0]", f"Turn {turn} of {last}")
+
+    def wait_for_plots(self, seconds=20):
+        self.browser.wait("return document.getElementById('snakes').getAttribute('aria-busy') === 'false'", seconds=seconds)
+
+    def seat_colours(self):
+        """The colours in which the bodies on the board are painted, and that of the board's cells."""
+        return self.browser.run("""
+            const painted = (selector, property) => [...document.querySelectorAll(selector)].map((element) => getComputedStyle(element)[property]);
+            return [...painted('#board .body', 'stroke'), ...painted('#board .cells', 'fill')];
+        """)
