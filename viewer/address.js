@@ -15,13 +15,23 @@ function numberInAddress(word) {
   return /^\d+$/.test(word) ? Number(word) : null;
 }
 
-function addressOf({ game, round, turn }) {
-  return `#${new URLSearchParams({ game: game.name, round, turn })}`;
+function addressOf(game, round, turn) {
+  return `#${new URLSearchParams({ game, round, turn })}`;
 }
 
 /** The file that the address of the page names, or null. */
 function fileInAddress(search) {
   return new URLSearchParams(search).get('file');
+}
+
+/** Drops the file from the address of the page, since another was chosen; and the turn as well, where it was one of the file before. */
+function forgetAddress(withTurn) {
+  const address = new URL(location);
+  address.search = '';
+  if (withTurn) {
+    address.hash = '';
+  }
+  history.replaceState(null, '', address);
 }
 
 /** The bytes of a file of the server that the page came from. Its name is relative to the page. */

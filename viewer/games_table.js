@@ -1,4 +1,4 @@
-// The table of games with their outcomes: sorted by any column, a game chosen by its name.
+// The table of games with what became of them: sorted by any column, a game chosen by its name.
 'use strict';
 
 /** What a column sorts by. Numbers that are not known come first. */
@@ -28,8 +28,8 @@ function livingCell(row) {
   if (row.living.length === 0) {
     cell.append(row.state === 'not begun' ? '–' : 'nobody');
   }
-  for (const snake of row.living) {
-    cell.append(made('span', { className: 'chip' }, swatchPicture(snake.seat), snake.id));
+  for (const { snake, seat } of row.living) {
+    cell.append(made('span', { className: 'chip' }, swatchPicture(seat), snake.id));
   }
   return cell;
 }

@@ -2,13 +2,13 @@
 'use strict';
 
 class Player {
-  /** `step` shows the next turn, and says by a promise whether there was one. */
-  constructor(button, speed, step) {
+  /** `step` shows the next turn, which is waited for; `isAtEnd` says whether there is none left. */
+  constructor(button, speed, step, isAtEnd) {
     this.button = button;
     this.speed = speed;
     this.step = step;
+    this.isAtEnd = isAtEnd;
     this.timer = null;
-    button.addEventListener('click', () => this.toggle());
   }
 
   get isPlaying() {
@@ -40,14 +40,14 @@ class Player {
 
   async tick() {
     const timer = this.timer;
-    const hasStepped = await this.step();
+    await this.step();
     if (this.timer !== timer) {
       return;
     }
-    if (hasStepped) {
-      this.schedule();
-    } else {
+    if (this.isAtEnd()) {
       this.pause();
+    } else {
+      this.schedule();
     }
   }
 

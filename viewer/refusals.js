@@ -56,7 +56,7 @@ function refusalItem(refusal, onPlace) {
     return made('li', {}, words + placeOf(refusal));
   }
   const button = made('button', { type: 'button', className: 'place' }, placeOf(refusal));
-  button.addEventListener('click', () => onPlace(refusal.round, refusal.turn));
+  button.addEventListener('click', onPlace);
   return made('li', {}, words, button);
 }
 

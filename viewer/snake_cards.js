@@ -46,9 +46,9 @@ class SnakeCards {
     this.cards.forEach((card, seat) => card.show(board.snakes[seat], board.turn, last));
   }
 
-  drawPlots(courses, turn, last) {
+  drawPlots(curves, turn, last) {
     for (const card of this.cards) {
-      drawPlot(card.plot, courses, card.seat, last);
+      drawPlot(card.plot, curves, card.seat, last);
       movePlotLine(card.plot, turn, last);
     }
   }

@@ -56,10 +56,11 @@ function snakePicture(snake, seat, height) {
   const path = pathAlong(snake.body, height);
   const picture = drawn('g', { class: isLiving(snake) ? 'snake' : 'snake out', 'data-seat': seat },
     drawn('title'),
-    drawn('path', { class: 'casing', d: path }),
-    drawn('path', { class: 'body', d: path, stroke: colour }),
-    drawn('path', { class: `mark ${mark}`, d: path }),
-    headPicture(snake.body, height, colour));
+    drawn('g', { class: 'figure' },
+      drawn('path', { class: 'casing', d: path }),
+      drawn('path', { class: 'body', d: path, stroke: colour }),
+      drawn('path', { class: `mark ${mark}`, d: path }),
+      headPicture(snake.body, height, colour)));
   picture.firstChild.textContent = `${snake.id}: ${fateOf(snake)}`;
   if (!isLiving(snake)) {
     picture.append(crossPicture(snake.body, height));

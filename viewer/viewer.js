@@ -1,14 +1,16 @@
 // The page as a whole: opens a transcript that is chosen, dropped or named in the address, and answers keys.
 'use strict';
 
+const FAR_STEP = 10;
+
 const KEYS = {
-  ' ': (viewer) => viewer.stage.togglePlaying(),
-  ArrowLeft: (viewer, isFar) => viewer.stage.step(isFar ? -FAR_STEP : -1),
-  ArrowRight: (viewer, isFar) => viewer.stage.step(isFar ? FAR_STEP : 1),
-  Home: (viewer) => viewer.stage.goToTurn(0),
-  End: (viewer) => viewer.stage.goToTurn(viewer.stage.lastTurn),
-  '-': (viewer) => viewer.stage.player.changeSpeed(-1),
-  '+': (viewer) => viewer.stage.player.changeSpeed(1),
+  ' ': (viewer) => viewer.panel.togglePlaying(),
+  ArrowLeft: (viewer, isFar) => viewer.panel.step(isFar ? -FAR_STEP : -1),
+  ArrowRight: (viewer, isFar) => viewer.panel.step(isFar ? FAR_STEP : 1),
+  Home: (viewer) => viewer.panel.goToTurn(0),
+  End: (viewer) => viewer.panel.goToTurn(viewer.panel.lastTurn),
+  '-': (viewer) => viewer.panel.player.changeSpeed(-1),
+  '+': (viewer) => viewer.panel.player.changeSpeed(1),
   p: (viewer) => viewer.chooseGameBeside(-1),
   n: (viewer) => viewer.chooseGameBeside(1),
 };
@@ -29,7 +31,7 @@ class Viewer {
     this.transcript = null;
     this.table = new GamesTable(page.games, (game) => this.chooseGame(game));
     this.strays = new LongList(page.strays, strayItem);
-    this.stage = new Stage(page, (game) => this.table.markChosen(game), (fault) => this.tell(fault));
+    this.panel = new GamePanel(page, (game) => this.table.markChosen(game), (fault) => this.tell(fault));
     this.setState('empty');
   }
 
@@ -55,9 +57,9 @@ class Viewer {
       const file = await reading;
       this.page.progress.max = Math.max(1, file.size);
       const transcript = await findTranscript(file, (reached) => this.showProgress(reached, file.size), isWanted);
-      const outcomes = transcript && await outcomesOf(transcript);
+      const endings = transcript && await endingsOf(transcript);
       if (isWanted()) {
-        this.show(transcript, outcomes, file.size);
+        this.show(transcript, endings, file.size);
       }
     } catch (fault) {
       if (isWanted()) {
@@ -70,7 +72,7 @@ class Viewer {
   leave(name) {
     this.setState('opening');
     this.transcript = null;
-    this.stage.close();
+    this.panel.close();
     this.page.notice.textContent = '';
     this.page.file.textContent = name;
     this.page.progress.value = 0;
@@ -82,11 +84,11 @@ class Viewer {
     this.page.size.textContent = `${megabytes(reached)} of ${megabytes(size)}`;
   }
 
-  show(transcript, outcomes, size) {
+  show(transcript, endings, size) {
     this.transcript = transcript;
     this.page.size.textContent = `${megabytes(size)}, ${transcript.starts.length.toLocaleString('en')} lines`;
-    this.stage.open(transcript);
-    this.table.show(outcomes);
+    this.panel.open(transcript);
+    this.table.show(endings);
     this.strays.show(transcript.strays);
     this.setState('open');
     if (!this.goToAddress() && transcript.games.length > 0) {
@@ -102,16 +104,16 @@ class Viewer {
   /** Shows a game from its beginning. */
   showGame(game) {
     if (game.rounds.length === 0) {
-      this.stage.showWithoutBoard(game);
+      this.panel.showWithoutBoard(game);
     } else {
-      this.stage.player.pause();
-      this.stage.goTo(game, 1, 0);
+      this.panel.player.pause();
+      this.panel.goTo(game, game.rounds[0], 0);
     }
   }
 
   chooseGameBeside(step) {
     const game = this.table.gameBeside(step);
-    if (game && game !== this.stage.game) {
+    if (game && game !== this.panel.game) {
       this.chooseGame(game);
     }
   }
@@ -123,17 +125,17 @@ class Viewer {
       return false;
     }
     const game = this.transcript.gameNamed(place.game);
-    const round = numberInAddress(place.round);
+    const number = numberInAddress(place.round);
     const turn = numberInAddress(place.turn);
     this.page.notice.textContent = '';
-    if (game?.rounds[round - 1]?.boards[turn] === undefined) {
+    if (game?.rounds[number - 1]?.boards[turn] === undefined) {
       this.page.notice.textContent = game
         ? `The game ${place.game} has no turn ${place.turn} in round ${place.round}.`
         : `The transcript has no game ${place.game}.`;
       return false;
     }
-    this.stage.player.pause();
-    this.stage.goTo(game, round, turn);
+    this.panel.player.pause();
+    this.panel.goTo(game, game.rounds[number - 1], turn);
     return true;
   }
 }
@@ -156,7 +158,12 @@ function listenToKeys(viewer) {
 }
 
 function listenToFiles(viewer, page) {
-  const open = (file) => file && viewer.open(file.name, Promise.resolve(file));
+  const open = (file) => {
+    if (file) {
+      forgetAddress(viewer.transcript !== null);
+      viewer.open(file.name, Promise.resolve(file));
+    }
+  };
   page.choose.addEventListener('change', () => {
     open(page.choose.files[0]);
     page.choose.value = '';

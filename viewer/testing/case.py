@@ -13,8 +13,7 @@ shared = {}
 def setUpModule():
     """Starts the browser and the server where no module before has done so."""
     if not shared:
-        shared["server"] = Server()
-        shared["browser"] = Browser()
+        shared.update(browser=Browser(), server=Server())
 
 
 def close():

@@ -55,7 +55,7 @@ class Browser:
         raise RuntimeError("chromedriver did not start")
 
     def wishes(self):
-        words = ["--headless=new", "--no-sandbox", "--disable-dev-shm-usage", "--window-size=1500,1000", "--force-device-scale-factor=1",
+        words = ["--headless=new", "--no-sandbox", "--disable-dev-shm-usage", "--window-size=1500,1250", "--force-device-scale-factor=1",
                  "--host-resolver-rules=MAP * ~NOTFOUND, EXCLUDE 127.0.0.1", f"--user-data-dir={self.profile}"]
         return {"browserName": "chrome", "goog:chromeOptions": {"binary": shutil.which("chromium"), "args": words},
                 "goog:loggingPrefs": {"browser": "SEVERE"}}

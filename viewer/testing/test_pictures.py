@@ -14,11 +14,11 @@ from testing.served import ROOT
 
 FOLDER = Path(os.environ.get("VIEWER_PICTURES", ROOT / "viewer" / "out"))
 
-# The name of a picture, the game and the turn that it shows, and whether the bodies that went out earlier are drawn.
+# The name of a picture, the file, the game and the turn that it shows, and whether the bodies that went out earlier are drawn.
 PICTURES = [
-    ("board_of_eight", "eight", 10, False),
-    ("board_of_constrictor", "constrictor", 24, True),
-    ("board_of_hunger", "hungry", 100, False),
+    ("board_of_eight", TOURNAMENT, "eight", 10, False),
+    ("board_of_constrictor", TOURNAMENT, "constrictor", 24, True),
+    ("board_of_four", ROOT / "examples" / "four_snakes.transcript", "arena", 4, False),
 ]
 LEAST_DISTANCE = 20  # of two colours in lab, for each eye; 2 can just be told apart side by side
 
@@ -35,15 +35,14 @@ class PicturesTest(PageCase):
 
     def test_pictures_show_each_living_snake_in_its_colour(self):
         FOLDER.mkdir(exist_ok=True)
-        games = {game.name: game for game in read(TOURNAMENT)[0]}
-        for name, game, turn, with_earlier in PICTURES:
-            boards = games[game].rounds[0]
+        for name, path, game, turn, with_earlier in PICTURES:
+            boards = next(each for each in read(path)[0] if each.name == game).rounds[0]
             self.page.open_empty()
-            self.page.choose(TOURNAMENT)
+            self.page.choose(path)
             self.show(game, turn, len(boards) - 1)
             if with_earlier:
                 self.browser.click("#earlier")
-            (FOLDER / f"{name}.png").write_bytes(self.browser.picture("#stage"))
+            (FOLDER / f"{name}.png").write_bytes(self.browser.picture("#panel"))
             colours = [rgb(painted) for painted in self.page.seat_colours()[:-1]]
             counts = Counter(pixels(self.browser.picture("#board")))
             cell = self.browser.run("return document.querySelector('#board .wall').getBoundingClientRect().width") / boards[turn]["width"]

@@ -74,7 +74,6 @@ class PlayingTest(PageCase):
                            ((RIGHT,), self.last), ((HOME,), 0), ((LEFT,), 0)):
             for key in keys:
                 self.browser.press(key)
-                self.browser.run("return new Promise((done) => setTimeout(done, 60))")
             self.page.wait_for_turn(turn, self.last)
 
     def test_keys_change_the_speed_and_the_game(self):
@@ -132,6 +131,14 @@ class AddressTest(PageCase):
         self.page.choose(TOURNAMENT)
         self.page.wait_for_turn(42, 100)
         self.assertEqual(self.page.text("#name"), "hungry")
+
+    def test_a_file_that_is_chosen_next_takes_the_address_of_the_one_before_away(self):
+        self.browser.go(self.address(TOURNAMENT, game="hungry", turn=42))
+        self.page.wait_for_turn(42, 100)
+        self.page.choose(ROOT / "examples" / "four_snakes.transcript")
+        self.page.wait_for_turn(0, 4)
+        self.assertEqual(self.page.text("#notice"), "")
+        self.browser.wait("return location.href === arguments[0]", f"{shared['server'].root}/viewer/index.html#game=arena&round=1&turn=0")
 
     def test_an_address_of_nothing_is_told(self):
         for fragment, notice in (("game=nobody", "The transcript has no game nobody."),

@@ -2,39 +2,40 @@
 'use strict';
 
 const ADDRESS_DELAY = 300; // milliseconds of rest before the address is written, which browsers let a page do only so often
-const FAR_STEP = 10;
+const NOTHING = { game: null, round: null, turn: 0 };
 
-class Stage {
+class GamePanel {
   /** `onGame` is told which game is looked at, `onFault` what went wrong in reading. */
   constructor(page, onGame, onFault) {
     this.page = page;
     this.onGame = onGame;
     this.onFault = onFault;
     this.cards = new SnakeCards(page.snakes, (turn) => this.goToTurn(turn));
-    this.refusals = new LongList(page.refusals, (refusal) => refusalItem(refusal, (round, turn) => this.goTo(this.game, round, turn)));
-    this.player = new Player(page.play, page.speed, () => this.step(1));
+    this.refusals = new LongList(page.refusals, (refusal) => refusalItem(refusal, () => this.goToRefusal(refusal)));
+    this.player = new Player(page.play, page.speed, () => this.step(1), () => this.isAtEnd);
     this.close();
     this.listen();
   }
 
   listen() {
     const { page } = this;
+    page.play.addEventListener('click', () => this.togglePlaying());
     page.first.addEventListener('click', () => this.goToTurn(0));
     page.back.addEventListener('click', () => this.step(-1));
     page.forward.addEventListener('click', () => this.step(1));
     page.last.addEventListener('click', () => this.goToTurn(this.lastTurn));
     page.slider.addEventListener('input', () => this.goToTurn(Number(page.slider.value)));
-    page.round.addEventListener('change', () => this.goTo(this.game, Number(page.round.value), 0));
-    page.earlier.addEventListener('change', () => this.board && drawBoard(page.board, this.board, page.earlier.checked));
+    page.round.addEventListener('change', () => this.goTo(this.game, this.game.rounds[page.round.value - 1], 0));
+    page.earlier.addEventListener('change', () => drawBoard(page.board, this.board, page.earlier.checked));
   }
 
   /** Nothing is looked at any more, and what is still being read is not shown. */
   close() {
     this.player.pause();
-    this.asked = (this.asked ?? 0) + 1;
-    this.transcript = this.game = this.round = this.board = null;
-    this.turn = 0;
-    this.page.stage.hidden = true;
+    clearTimeout(this.addressTimer);
+    this.asked = NOTHING;
+    this.transcript = this.game = this.round = this.board = this.curves = null;
+    this.page.panel.hidden = true;
     this.cards.clear();
   }
 
@@ -43,47 +44,62 @@ class Stage {
     this.transcript = transcript;
   }
 
-  /** The round as it is counted for people, from 1. */
-  get roundNumber() {
-    return this.game.rounds.indexOf(this.round) + 1;
-  }
-
+  /** The last turn of the round that was asked for. */
   get lastTurn() {
-    return this.round ? this.round.boards.length - 1 : 0;
+    return this.asked.round ? this.asked.round.boards.length - 1 : 0;
   }
 
-  /** Shows the board after a turn of a round; says by a promise whether it is shown. */
-  async goTo(game, roundNumber, turn) {
-    this.asked += 1;
-    const asked = this.asked;
-    const round = game.rounds[roundNumber - 1];
+  get isAtEnd() {
+    return this.asked.turn === this.lastTurn;
+  }
+
+  /** Shows the board after a turn of a round, unless another is asked for before it has been read. */
+  async goTo(game, round, turn) {
+    const asked = { game, round, turn };
+    this.asked = asked;
     try {
       const board = await this.transcript.board(round.boards[turn]);
-      if (asked !== this.asked) {
-        return false;
+      if (asked === this.asked) {
+        this.enter(game, round, board);
+        this.show(board);
       }
-      this.enter(game, round, board);
-      this.show(board);
-      return true;
     } catch (fault) {
-      this.player.pause();
-      this.onFault(fault);
-      return false;
+      if (asked === this.asked) {
+        this.stay();
+        this.onFault(fault);
+      }
     }
   }
 
+  /** What is shown stays, since what was asked for can't be. */
+  stay() {
+    this.player.pause();
+    this.asked = { game: this.game, round: this.round, turn: this.board?.turn ?? 0 };
+    this.page.slider.value = this.asked.turn;
+  }
+
   async goToTurn(turn) {
-    return this.round ? this.goTo(this.game, this.roundNumber, turn) : false;
+    const { game, round } = this.asked;
+    if (round) {
+      await this.goTo(game, round, turn);
+    }
   }
 
-  /** Goes so many turns on or back, at most to an end of the round; says whether a turn was gone. */
+  async goToRefusal(refusal) {
+    await this.goTo(this.game, this.game.rounds[refusal.round - 1], refusal.turn);
+  }
+
+  /** Goes so many turns on or back, at most to an end of the round. */
   async step(turns) {
-    const turn = Math.min(this.lastTurn, Math.max(0, this.turn + turns));
-    return turn === this.turn ? false : this.goToTurn(turn);
+    const turn = Math.min(this.lastTurn, Math.max(0, this.asked.turn + turns));
+    if (turn !== this.asked.turn) {
+      await this.goToTurn(turn);
+    }
   }
 
+  /** Plays or pauses; played at the end, the round begins anew. */
   async togglePlaying() {
-    if (!this.player.isPlaying && this.turn === this.lastTurn) {
+    if (!this.player.isPlaying && this.isAtEnd) {
       await this.goToTurn(0);
     }
     this.player.toggle();
@@ -92,12 +108,14 @@ class Stage {
   /** A game without a round has no board: only what is known of it is shown. */
   showWithoutBoard(game) {
     this.player.pause();
-    this.asked += 1;
+    clearTimeout(this.addressTimer);
+    this.asked = { ...NOTHING, game };
     this.enterGame(game);
-    this.round = this.board = null;
+    this.round = this.board = this.curves = null;
     this.cards.clear();
     this.page.board.replaceChildren();
-    this.page.play.closest('.controls').hidden = true;
+    this.page.board.setAttribute('aria-label', 'No board');
+    this.page.controls.hidden = true;
     this.page.facts.textContent = 'No new of this game was accepted, so the transcript holds no board of it.';
   }
 
@@ -107,10 +125,10 @@ class Stage {
     }
     if (this.round !== round) {
       this.round = round;
-      this.page.round.value = this.roundNumber;
+      this.page.round.selectedIndex = game.rounds.indexOf(round);
       this.page.slider.max = this.lastTurn;
       this.cards.begin(board);
-      this.readCourses(round);
+      this.readCurves();
     }
   }
 
@@ -119,9 +137,9 @@ class Stage {
     this.game = game;
     page.name.textContent = game.name;
     page.round.replaceChildren(...game.rounds.map((round, index) => made('option', { value: index + 1 }, `${index + 1} of ${game.rounds.length}`)));
-    page.round.closest('label').hidden = game.rounds.length < 2;
-    page.play.closest('.controls').hidden = false;
-    page.stage.hidden = false;
+    page.rounds.hidden = game.rounds.length < 2;
+    page.controls.hidden = false;
+    page.panel.hidden = false;
     this.refusals.show(game.refusals);
     this.onGame(game);
   }
@@ -129,7 +147,6 @@ class Stage {
   show(board) {
     const { page } = this;
     this.board = board;
-    this.turn = board.turn;
     drawBoard(page.board, board, page.earlier.checked);
     this.cards.show(board, this.lastTurn);
     page.slider.value = board.turn;
@@ -142,23 +159,25 @@ class Stage {
 
   /** The link names the turn at once, the address of the page when the turns have come to rest. */
   writeAddress() {
-    const address = addressOf({ game: this.game, round: this.roundNumber, turn: this.turn });
+    const address = addressOf(this.game.name, this.game.rounds.indexOf(this.round) + 1, this.board.turn);
     this.page.link.setAttribute('href', address);
     clearTimeout(this.addressTimer);
     this.addressTimer = setTimeout(() => history.replaceState(null, '', address), ADDRESS_DELAY);
   }
 
-  /** Reads all boards of a round for the plots, which grow meanwhile; stops when another round is looked at. */
-  async readCourses(round) {
-    const courses = new Courses();
+  /** Reads all boards of the round for the plots, which grow meanwhile; stops when another round is looked at. */
+  async readCurves() {
+    const curves = new Curves();
+    this.curves = curves;
     this.page.snakes.setAttribute('aria-busy', 'true');
     try {
-      for await (const boards of this.transcript.boardSlices(round)) {
-        if (this.round !== round) {
+      for await (const boards of this.transcript.boardSlices(this.round)) {
+        if (this.curves !== curves) {
           return;
         }
-        boards.forEach((board) => courses.add(board));
-        this.cards.drawPlots(courses, this.turn, this.lastTurn);
+        boards.forEach((board) => curves.add(board));
+        this.cards.drawPlots(curves, this.board.turn, this.lastTurn);
+        this.page.greatest.textContent = curves.longest;
       }
       this.page.snakes.setAttribute('aria-busy', 'false');
     } catch (fault) {

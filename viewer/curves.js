@@ -5,7 +5,7 @@ const PLOT_WIDTH = 240;
 const PLOT_HEIGHT = 48;
 
 /** The health and the length of each seat by turn; a snake's lists end with the turn in which it goes out. */
-class Courses {
+class Curves {
   constructor() {
     this.seats = [];
     this.longest = 1;
@@ -44,14 +44,14 @@ function plotPath(values, greatest, last) {
 }
 
 /** Draws the plot of a seat into its SVG element, with a line at the turn that is shown. */
-function drawPlot(svg, courses, seat, last) {
-  const course = courses.seats[seat] ?? { health: [], length: [] };
+function drawPlot(svg, curves, seat, last) {
+  const curve = curves.seats[seat] ?? { health: [], length: [] };
   svg.setAttribute('viewBox', `-2 -3 ${PLOT_WIDTH + 4} ${PLOT_HEIGHT + 6}`);
   svg.replaceChildren(
     drawn('rect', { class: 'ground', width: PLOT_WIDTH, height: PLOT_HEIGHT }),
     drawn('line', { class: 'now', y1: 0, y2: PLOT_HEIGHT }),
-    drawn('path', { class: 'health', d: plotPath(course.health, 100, last) }),
-    drawn('path', { class: 'length', d: plotPath(course.length, courses.longest, last) }));
+    drawn('path', { class: 'health', d: plotPath(curve.health, 100, last) }),
+    drawn('path', { class: 'length', d: plotPath(curve.length, curves.longest, last) }));
 }
 
 function movePlotLine(svg, turn, last) {
