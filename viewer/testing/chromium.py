@@ -9,8 +9,10 @@ import time
 import urllib.error
 import urllib.request
 
-PACKAGES = {"chromium": "chromium", "chromedriver": "chromium-driver"}
+PACKAGES = {"chromium": ["chromium", "fonts-dejavu-core"], "chromedriver": ["chromium-driver"]}  # what each program comes with
 ELEMENT = "element-6066-11e4-a52e-4f735466cecf"  # the key of an element's reference, as the protocol names it
+PATIENCE = ["-o", "Acquire::Retries=1", "-o", "Acquire::http::Timeout=20", "-o", "Acquire::https::Timeout=20"]
+INSTALL_SECONDS = 900
 ANSWER_SECONDS = 120
 
 
@@ -20,13 +22,13 @@ class NotToBeHad(Exception):
 
 def install():
     """Installs what is missing; raises NotToBeHad where that fails."""
-    missing = [package for program, package in PACKAGES.items() if shutil.which(program) is None]
+    missing = [package for program, packages in PACKAGES.items() if shutil.which(program) is None for package in packages]
     if not missing:
         return
     environment = {**os.environ, "DEBIAN_FRONTEND": "noninteractive"}
     for words in (["update"], ["install", "-y", "--no-install-recommends", *missing]):
         try:
-            run = subprocess.run(["apt-get", *words], env=environment, stdout=subprocess.PIPE, stderr=subprocess.STDOUT, text=True, timeout=900)
+            run = subprocess.run(["apt-get", *PATIENCE, *words], env=environment, stdout=subprocess.PIPE, stderr=subprocess.STDOUT, text=True, timeout=INSTALL_SECONDS)
         except (OSError, subprocess.TimeoutExpired) as fault:
             raise NotToBeHad(f"apt-get {words[0]}: {fault}") from fault
         if run.returncode != 0:

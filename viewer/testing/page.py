@@ -2,12 +2,12 @@
 from testing.served import ROOT
 
 PAGE = ROOT / "viewer" / "index.html"
-CASES = sorted((ROOT / "examples").glob("*.transcript")) + sorted((ROOT / "crates" / "arena" / "data").glob("*.transcript"))
 TOURNAMENT = ROOT / "viewer" / "testing" / "data" / "tournament.transcript"
+CASES = [path for folder in ("examples", "crates/arena/data", "viewer/testing/data") for path in sorted((ROOT / folder).glob("*.transcript"))]
 
 GAMES = """
-return [...document.querySelectorAll('#games tbody tr')].map((row) => [...row.cells].map((cell) =>
-    cell.className === 'living' && cell.querySelector('.chip') ? [...cell.querySelectorAll('.chip')].map((chip) => chip.textContent) : cell.textContent));
+const textOf = (cell) => (cell.querySelector('.chip') ? [...cell.querySelectorAll('.chip')].map((chip) => chip.textContent) : cell.textContent);
+return [...document.querySelectorAll('#games tbody tr')].map((row) => [...row.cells].map(textOf));
 """
 
 BOARD = """
@@ -63,8 +63,10 @@ class Page:
         self.wait_until_read(path.name)
 
     def wait_until_read(self, name, seconds=20):
-        self.browser.wait("return document.getElementById('file').textContent === arguments[0] && ['open', 'fault'].includes(document.body.dataset.state)",
-                          name, seconds=seconds)
+        self.browser.wait("""
+            const isRead = ['open', 'fault'].includes(document.body.dataset.state);
+            return isRead && document.getElementById('file').textContent === arguments[0];
+        """, name, seconds=seconds)
 
     def state(self):
         return self.browser.run("return document.body.dataset.state")
@@ -86,11 +88,17 @@ class Page:
 
     def choose_game(self, name):
         """Clicks a game's name in the table, and waits until the page shows it."""
-        self.browser.run("[...document.querySelectorAll('#games tbody tr')].find((row) => row.dataset.game === arguments[0]).querySelector('button').click()", name)
+        self.browser.run("""
+            const rows = [...document.querySelectorAll('#games tbody tr')];
+            rows.find((row) => row.dataset.game === arguments[0]).querySelector('button').click();
+        """, name)
         self.browser.wait("return document.getElementById('name').textContent === arguments[0]", name)
 
     def choose_round(self, number):
-        self.browser.run("const round = document.getElementById('round'); round.value = arguments[0]; round.dispatchEvent(new Event('change'))", number)
+        self.browser.run("""
+            document.getElementById('round').value = arguments[0];
+            document.getElementById('round').dispatchEvent(new Event('change'));
+        """, number)
 
     def wait_for_turn(self, turn, last):
         self.browser.wait("return document.getElementById('turn').textContent === arguments[0]", f"Turn {turn} of {last}")

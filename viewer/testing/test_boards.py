@@ -67,7 +67,7 @@ class BoardsTest(PageCase):
             self.assertEqual(self.page.board(), expected(board, last))
 
     def test_each_turn_of_each_game_is_drawn(self):
-        for path in [*CASES, TOURNAMENT]:
+        for path in CASES:
             games = self.open(path)
             for game in games:
                 for number, boards in enumerate(game.rounds, 1):

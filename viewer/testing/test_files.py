@@ -40,8 +40,10 @@ BROKEN = {
     "another last board": (changed(8, "board", "turn", to=1), "Line 8 shows turn 1 at last, which is not the turn before it."),
     "no last board": (changed(8, "board", to=None), "Line 8 is a final line without a board, which can't follow the lines before it."),
     "a stray between": (LINES[0] + '{"line":2,"no":"L1","why":"json"}\n', "Line 2 comes before the final line of a game."),
-    "a broken last board": (changed(8, "board", "snakes", 0, "health", to=101), "Line 8 holds no board that can be drawn: the health of s is no number from 0 to 100."),
-    "another kind of board": (changed(8, "board", "mode", to="royale"), "Line 8 holds no board that can be drawn: its mode, or whether it is over, is not told."),
+    "a broken last board": (changed(8, "board", "snakes", 0, "health", to=101),
+                            "Line 8 holds no board that can be drawn: the health of s is no number from 0 to 100."),
+    "another kind of board": (changed(8, "board", "mode", to="royale"),
+                              "Line 8 holds no board that can be drawn: its mode, or whether it is over, is not told."),
     "an endless line": (b"x" * (3 << 20), "The file holds a line that is longer than any line of a transcript."),
 }
 

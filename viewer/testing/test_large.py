@@ -50,7 +50,8 @@ class LargeTest(PageCase):
         took, silence = self.open_timed(path)
         boards = read(TOURNAMENT)[0][0].rounds[0]
         last = len(boards) - 1
-        self.assertEqual(self.page.games(), [[f"game {index}", "ended", ["amber", "fjord"], str(last), str(rounds), "0", "0"] for index in range(GAMES)])
+        living = [snake["id"] for snake in boards[-1]["snakes"] if snake["cause"] is None]
+        self.assertEqual(self.page.games(), [[f"game {index}", "ended", living, str(last), str(rounds), "0", "0"] for index in range(GAMES)])
         self.page.choose_game(f"game {GAMES - 1}")
         self.page.choose_round(rounds)
         began = time.monotonic()

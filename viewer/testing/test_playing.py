@@ -2,7 +2,7 @@
 from urllib.parse import urlencode
 
 from testing.case import PageCase, setUpModule, shared  # noqa: F401
-from testing.page import TOURNAMENT
+from testing.page import PAGE, TOURNAMENT
 from testing.reading import read
 from testing.served import ROOT
 from testing.test_boards import expected
@@ -66,7 +66,7 @@ class PlayingTest(PageCase):
                 }, 1100));
             """)
         self.assertIn(reached["2"], (1, 2))
-        self.assertGreater(reached["20"], 8)
+        self.assertGreater(reached["20"], 5)
         self.assertLessEqual(reached["20"], 22)
 
     def test_keys_step(self):
@@ -93,7 +93,8 @@ class PlayingTest(PageCase):
         self.page.wait_for_turn(5, self.last)
         self.browser.type_into("#slider", END)
         self.page.wait_for_turn(self.last, self.last)
-        self.assertEqual(self.browser.run("return document.getElementById('slider').getAttribute('aria-valuetext')"), f"Turn {self.last} of {self.last}")
+        told = self.browser.run("return document.getElementById('slider').getAttribute('aria-valuetext')")
+        self.assertEqual(told, f"Turn {self.last} of {self.last}")
 
     def test_a_click_on_a_plot_goes_to_its_turn(self):
         self.page.wait_for_plots()
@@ -158,9 +159,11 @@ class AddressTest(PageCase):
 
     def test_no_other_server_is_asked(self):
         name = "http://127.0.0.2:9/some.transcript"
-        self.browser.go(f"{shared['server'].root}/viewer/index.html?{urlencode({'file': name})}")
-        self.page.wait_until_read(name)
-        self.assertIn("only of the server that the page comes from", self.page.text("#notice"))
+        for page in (f"{shared['server'].root}/viewer/index.html", PAGE.as_uri()):
+            self.browser.go(f"{page}?{urlencode({'file': name})}")
+            self.page.wait_until_read(name)
+            self.assertEqual(self.page.text("#notice"),
+                             f"{name} can't be shown. An address can name a file only of the server that the page comes from.")
         self.browser.go(self.address(TOURNAMENT, game="hungry", turn=1))
         self.page.wait_for_turn(1, 100)
         asked = self.browser.run("return performance.getEntriesByType('resource').map((entry) => entry.name)")
