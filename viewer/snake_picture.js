@@ -40,8 +40,7 @@ function headPicture(body, height, colour) {
       drawn('circle', { ...at, cx: at.cx + (direction ? 0.05 : 0), r: 0.07, class: 'pupil' }),
     ];
   });
-  const looks = direction ? { 1: 'right', '-1': 'left' }[direction.x] ?? (direction.y === 1 ? 'up' : 'down') : 'nowhere';
-  return drawn('g', { class: 'head', transform: `translate(${x} ${y}) rotate(${turn})`, 'data-looks': looks }, shape, ...eyes);
+  return drawn('g', { class: 'head', transform: `translate(${x} ${y}) rotate(${turn})` }, shape, ...eyes);
 }
 
 /** The cross over the part behind the head of a snake that is out: its head may lie under the snake that it ran into. */

@@ -11,6 +11,12 @@ return [...document.querySelectorAll('#games tbody tr')].map((row) => [...row.ce
 """
 
 BOARD = """
+// The direction from the middle of a head to the middle between its eyes, as the browser has turned it.
+const looks = (head) => {
+  const { a, b } = head.transform.baseVal.consolidate().matrix;
+  const forward = [...head.querySelectorAll('.eye')].reduce((sum, eye) => sum + eye.cx.baseVal.value, 0);
+  return { '1,0': 'right', '-1,0': 'left', '0,-1': 'up', '0,1': 'down', '0,0': 'nowhere' }[[a, b].map((part) => Math.round(Math.sign(forward) * part) || 0)];
+};
 const cells = (path) => [...path.matchAll(/[ML]([-.0-9]+) ([-.0-9]+)/g)].map((match) => [Number(match[1]), Number(match[2])]);
 return {
   turn: document.getElementById('turn').textContent,
@@ -23,7 +29,7 @@ return {
     crossed: snake.querySelector('.cross') !== null,
     cells: cells(snake.querySelector('.body').getAttribute('d')),
     pieces: snake.querySelector('.body').getAttribute('d').split('M').length - 1,
-    looks: snake.querySelector('.head').dataset.looks,
+    looks: looks(snake.querySelector('.head')),
   })),
   cards: [...document.querySelectorAll('#snakes li')].map((card) => ({
     id: card.querySelector('strong').textContent,

@@ -1,8 +1,8 @@
 # The table of games and the lists below it, compared with what the transcript says.
-import json
 import re
 
 from testing.case import PageCase, setUpModule  # noqa: F401
+from testing.made import text
 from testing.page import CASES, TOURNAMENT
 from testing.reading import read
 
@@ -42,30 +42,35 @@ class GamesTest(PageCase):
                 self.assertEqual(self.page.games(), [row_of(game) for game in games])
 
     def test_a_press_on_a_head_sorts_and_a_second_turns_the_order_round(self):
-        self.page.open_empty()
-        self.page.choose(TOURNAMENT)
-        games, _ = read(TOURNAMENT)
-        for column in COLUMNS:
-            head = f"th[data-column={column}]"
-            for order in ("ascending", "descending"):
-                self.browser.click(f"{head} button")
-                self.assertEqual(self.browser.run("return document.querySelector(arguments[0]).getAttribute('aria-sort')", head), order)
-                self.assertEqual(self.page.games(), [row_of(game) for game in sorted_by(games, column, order == "descending")], (column, order))
+        for path, columns in ((TOURNAMENT, COLUMNS), (self.numbered_games(), ["name"])):
+            self.page.open_empty()
+            self.page.choose(path)
+            games, _ = read(path)
+            for column in columns:
+                for order in ("ascending", "descending"):
+                    self.browser.click(f"th[data-column={column}] button")
+                    self.assertEqual(self.browser.run("return document.querySelector(arguments[0]).ariaSort", f"th[data-column={column}]"), order)
+                    self.assertEqual(self.page.games(), [row_of(game) for game in sorted_by(games, column, order == "descending")], (column, order))
+
+    def numbered_games(self):
+        """A transcript of games that were never begun, named by numbers that are not in their order."""
+        lines = [text({"board": None, "charge": 0, "final": True, "game": f"game {number}"}) for number in (10, 9, 100, 1)]
+        return self.file("numbered.transcript", "\n".join(lines) + "\n")
 
     def test_refused_commands_and_strays_are_listed(self):
         self.page.open_empty()
         self.page.choose(TOURNAMENT)
         games, strays = read(TOURNAMENT)
         self.assertEqual(len(self.page.texts("#strays li")), len(strays))
-        for text, stray in zip(self.page.texts("#strays li"), strays):
-            self.assertIn(f"line {stray['line']} of the command file: {stray['no']} {stray['why']}", text)
+        for shown, stray in zip(self.page.texts("#strays li"), strays):
+            self.assertIn(f"line {stray['line']} of the command file: {stray['no']} {stray['why']}", shown)
         for game in games:
             self.page.choose_game(game.name)
-            texts = self.page.texts("#refusals li")
-            self.assertEqual(len(texts), len(game.refusals), game.name)
-            for text, (line, round_number, turn) in zip(texts, game.refusals):
-                self.assertIn(f"number {line['seq']}: {line['no']} {line['why']}", text)
-                self.assertIn("before the first new" if turn is None else f"after turn {turn} of round {round_number}", text)
+            items = self.page.texts("#refusals li")
+            self.assertEqual(len(items), len(game.refusals), game.name)
+            for shown, (line, round_number, turn) in zip(items, game.refusals):
+                self.assertIn(f"number {line['seq']}: {line['no']} {line['why']}", shown)
+                self.assertIn("before the first new" if turn is None else f"after turn {turn} of round {round_number}", shown)
 
     def test_a_refused_command_leads_to_its_turn(self):
         self.page.open_empty()
@@ -80,7 +85,7 @@ class GamesTest(PageCase):
             self.page.wait_for_turn(turn, len(game.rounds[round_number - 1]) - 1)
 
     def test_a_long_list_is_shown_in_parts(self):
-        lines = [json.dumps({"line": line, "no": "L1", "why": "json"}, separators=(",", ":")) for line in range(2, 502)]
+        lines = [text({"line": line, "no": "L1", "why": "json"}) for line in range(2, 502)]
         self.page.open_empty()
         self.page.choose(self.file("strays.transcript", "\n".join(lines) + "\n"))
         for shown in (200, 400, 500):

@@ -76,6 +76,19 @@ class PlayingTest(PageCase):
                 self.browser.press(key)
             self.page.wait_for_turn(turn, self.last)
 
+    def test_a_board_that_is_read_too_late_is_not_shown(self):
+        self.browser.run("""
+            const read = Blob.prototype.text;
+            Blob.prototype.text = function () {
+              Blob.prototype.text = read;
+              return new Promise((done) => setTimeout(() => read.call(this).then(done).finally(() => { window.isReadLate = true; }), 200));
+            };
+        """)
+        self.browser.press(RIGHT, RIGHT)
+        self.page.wait_for_turn(2, self.last)
+        self.browser.wait("return window.isReadLate")
+        self.assertEqual(self.turn(), 2)
+
     def test_keys_change_the_speed_and_the_game(self):
         speed = "return document.getElementById('speed').value"
         self.browser.press("+")
