@@ -45,9 +45,8 @@ class PlayingTest(PageCase):
         self.browser.press(SPACE)
         self.assertEqual(self.page.text("#play"), "Play")
         held = self.browser.run("""
-            const turn = () => document.getElementById('turn').textContent;
-            const before = turn();
-            return new Promise((done) => setTimeout(() => done([before, turn()]), 300));
+            const turnAfter = (rest) => new Promise((done) => setTimeout(() => done(document.getElementById('turn').textContent), rest));
+            return Promise.all([turnAfter(150), turnAfter(450)]); // a board that was being read at the pause is shown before the first
         """)
         self.assertEqual(held[0], held[1])
         self.assertLess(self.turn(), self.last)
