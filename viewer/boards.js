@@ -1,0 +1,93 @@
+// A board as a line of a transcript shows it, checked before anything is drawn, and what is said of its snakes.
+'use strict';
+
+/** Of each cause what it is called, and which ids its killer can have. */
+const CAUSES = {
+  'out-of-health': { told: () => 'out of health', isKiller: (by) => by === null },
+  'wall-collision': { told: () => 'ran into the wall', isKiller: (by) => by === null },
+  'snake-self-collision': { told: () => 'ran into itself', isKiller: (by, own) => by === own },
+  'snake-collision': { told: (by) => `ran into the body of ${by}`, isKiller: (by, own, ids) => by !== own && ids.includes(by) },
+  'head-collision': { told: (by) => `met the head of ${by}`, isKiller: (by, own, ids) => by !== own && ids.includes(by) },
+};
+
+function isWhole(value, least, most) {
+  return Number.isInteger(value) && value >= least && value <= most;
+}
+
+/** Whether a value is a cell of the board, or at most so many cells beyond its edges. */
+function isCell(value, board, beyond) {
+  return isWhole(value?.x, -beyond, board.width - 1 + beyond) && isWhole(value?.y, -beyond, board.height - 1 + beyond);
+}
+
+function isCause(snake, ids) {
+  if (snake.cause === null) {
+    return snake.by === null && snake.out === null;
+  }
+  return Object.hasOwn(CAUSES, snake.cause) && CAUSES[snake.cause].isKiller(snake.by, snake.id, ids) && isWhole(snake.out, 1, 10000);
+}
+
+/** What is missing in a snake of a board, in words, or null. */
+function faultOfSnake(snake, board, ids) {
+  if (typeof snake?.id !== 'string' || ids.indexOf(snake.id) !== ids.lastIndexOf(snake.id)) {
+    return 'a snake has no id of its own';
+  }
+  if (!isWhole(snake.health, 0, 100)) {
+    return `the health of ${snake.id} is no number from 0 to 100`;
+  }
+  if (!Array.isArray(snake.body) || snake.body.length < 3 || !snake.body.every((cell, part) => isCell(cell, board, part === 0 ? 1 : 0))) {
+    return `the body of ${snake.id} is no list of cells`;
+  }
+  return isCause(snake, ids) ? null : `why ${snake.id} is out can't be read`;
+}
+
+/** What is missing in a board, in words, or null. */
+function faultOfBoard(board) {
+  if (!isWhole(board?.width, 3, 25) || !isWhole(board.height, 3, 25)) {
+    return 'its sides are no numbers from 3 to 25';
+  }
+  if (!isWhole(board.turn, 0, 10000) || !isWhole(board.min_food, 0, 255) || !isWhole(board.food_chance, 0, 100)) {
+    return 'its turn or the numbers for its food are out of their range';
+  }
+  if (!['standard', 'solo', 'constrictor'].includes(board.mode) || typeof board.over !== 'boolean') {
+    return 'its mode, or whether it is over, is not told';
+  }
+  if (!Array.isArray(board.food) || !board.food.every((cell) => isCell(cell, board, 0))) {
+    return 'its food is no list of cells';
+  }
+  if (!Array.isArray(board.snakes) || !isWhole(board.snakes.length, 1, 8)) {
+    return 'it has no list of 1 to 8 snakes';
+  }
+  const ids = board.snakes.map((snake) => snake?.id);
+  return board.snakes.map((snake) => faultOfSnake(snake, board, ids)).find((fault) => fault !== null) ?? null;
+}
+
+/** The board in the text of a line; a fault where it holds none that can be drawn. */
+function boardInLine(text, number) {
+  let board;
+  try {
+    ({ board } = JSON.parse(text));
+  } catch {
+    throw new TranscriptFault(`Line ${number.toLocaleString('en')} is no JSON.`);
+  }
+  const fault = faultOfBoard(board);
+  if (fault) {
+    throw new TranscriptFault(`Line ${number.toLocaleString('en')} holds no board that can be drawn: ${fault}.`);
+  }
+  return board;
+}
+
+function isLiving(snake) {
+  return snake.cause === null;
+}
+
+/** Who is out, why and by whom, in a sentence; of a living snake that it lives. */
+function fateOf(snake) {
+  return isLiving(snake) ? 'lives' : `out in turn ${snake.out}: ${CAUSES[snake.cause].told(snake.by)}`;
+}
+
+/** The direction from a snake's second part to its head, where they are neighbours; null where the board tells none. */
+function directionOf(body) {
+  const x = body[0].x - body[1].x;
+  const y = body[0].y - body[1].y;
+  return Math.abs(x) + Math.abs(y) === 1 ? { x, y } : null;
+}

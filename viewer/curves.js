@@ -1,0 +1,68 @@
+// The small plot of a snake: its health and its length over the turns of a round.
+'use strict';
+
+const PLOT_WIDTH = 240;
+const PLOT_HEIGHT = 48;
+
+/** The health and the length of each seat by turn; a snake's lists end with the turn in which it goes out. */
+class Curves {
+  constructor() {
+    this.seats = [];
+    this.longest = 1;
+  }
+
+  add(board) {
+    board.snakes.forEach((snake, seat) => {
+      this.seats[seat] ??= { health: [], length: [] };
+      if (isLiving(snake) || snake.out === board.turn) {
+        this.seats[seat].health.push(snake.health);
+        this.seats[seat].length.push(snake.body.length);
+        this.longest = Math.max(this.longest, snake.body.length);
+      }
+    });
+  }
+}
+
+/** The place of a turn across a plot of a round that goes to a last turn. */
+function plotX(turn, last) {
+  return last === 0 ? 0 : turn / last * PLOT_WIDTH;
+}
+
+/**
+ * The line through values by turn. Where more than one turn falls on a column of the plot, the line goes through the least and the
+ * greatest of them, so that no peak is lost.
+ */
+function plotPath(values, greatest, last) {
+  const perColumn = Math.max(1, Math.ceil(last / PLOT_WIDTH));
+  const points = [];
+  for (let turn = 0; turn < values.length; turn += perColumn) {
+    const column = values.slice(turn, turn + perColumn);
+    const bounds = [...new Set([Math.max(...column), Math.min(...column)])];
+    points.push(...bounds.map((value) => `${plotX(turn, last).toFixed(1)} ${(PLOT_HEIGHT * (1 - value / greatest)).toFixed(1)}`));
+  }
+  return points.length === 0 ? '' : `M${points.join('L')}h.1`;
+}
+
+/** Draws the plot of a seat into its SVG element, with a line at the turn that is shown. */
+function drawPlot(svg, curves, seat, last) {
+  const curve = curves.seats[seat] ?? { health: [], length: [] };
+  svg.setAttribute('viewBox', `-2 -3 ${PLOT_WIDTH + 4} ${PLOT_HEIGHT + 6}`);
+  svg.replaceChildren(
+    drawn('rect', { class: 'ground', width: PLOT_WIDTH, height: PLOT_HEIGHT }),
+    drawn('line', { class: 'now', y1: 0, y2: PLOT_HEIGHT }),
+    drawn('path', { class: 'health', d: plotPath(curve.health, 100, last) }),
+    drawn('path', { class: 'length', d: plotPath(curve.length, curves.longest, last) }));
+}
+
+function movePlotLine(svg, turn, last) {
+  const line = svg.querySelector('.now');
+  line?.setAttribute('x1', plotX(turn, last));
+  line?.setAttribute('x2', plotX(turn, last));
+}
+
+/** The turn that a click on a plot means. */
+function turnAtPlot(svg, event, last) {
+  const { left, width } = svg.getBoundingClientRect();
+  const across = ((event.clientX - left) / width * (PLOT_WIDTH + 4) - 2) / PLOT_WIDTH;
+  return Math.round(Math.min(1, Math.max(0, across)) * last);
+}

@@ -1,0 +1,106 @@
+// The table of games with what became of them: sorted by any column, a game chosen by its name.
+'use strict';
+
+/** What a column sorts by. Numbers that are not known come first. */
+const SORTED_BY = {
+  name: (row) => row.name,
+  state: (row) => row.state,
+  living: (row) => row.living.length,
+  turns: (row) => row.turns ?? -1,
+  rounds: (row) => row.rounds,
+  refused: (row) => row.refused,
+  charge: (row) => row.charge,
+};
+
+function compareValues(first, second) {
+  return typeof first === 'string' ? first.localeCompare(second, 'en', { numeric: true }) : first - second;
+}
+
+/** The rows in the order of a column; rows that are alike in it keep the order of the plan. */
+function sortedRows(rows, column, isDescending) {
+  const valueOf = SORTED_BY[column];
+  const sign = isDescending ? -1 : 1;
+  return [...rows].sort((first, second) => sign * compareValues(valueOf(first), valueOf(second)));
+}
+
+function livingCell(row) {
+  const cell = made('td', { className: 'living' });
+  if (row.living.length === 0) {
+    cell.append(row.state === 'not begun' ? '–' : 'nobody');
+  }
+  for (const { snake, seat } of row.living) {
+    cell.append(made('span', { className: 'chip' }, swatchPicture(seat), snake.id));
+  }
+  return cell;
+}
+
+function numberCell(value) {
+  return made('td', { className: 'number' }, value === null ? '–' : value.toLocaleString('en'));
+}
+
+class GamesTable {
+  constructor(table, onChoose) {
+    this.table = table;
+    this.onChoose = onChoose;
+    this.rows = [];
+    this.chosen = null;
+    this.column = null;
+    this.isDescending = false;
+    for (const head of table.querySelectorAll('th[data-column]')) {
+      head.querySelector('button').addEventListener('click', () => this.sortBy(head.dataset.column));
+    }
+  }
+
+  /** Shows rows in the order of the plan. */
+  show(rows) {
+    this.rows = rows;
+    this.column = null;
+    this.draw();
+  }
+
+  sortBy(column) {
+    this.isDescending = this.column === column && !this.isDescending;
+    this.column = column;
+    this.draw();
+  }
+
+  inOrder() {
+    return this.column ? sortedRows(this.rows, this.column, this.isDescending) : this.rows;
+  }
+
+  draw() {
+    for (const head of this.table.querySelectorAll('th[data-column]')) {
+      const isSorted = head.dataset.column === this.column;
+      head.setAttribute('aria-sort', isSorted ? (this.isDescending ? 'descending' : 'ascending') : 'none');
+    }
+    this.table.tBodies[0].replaceChildren(...this.inOrder().map((row) => this.rowFor(row)));
+    this.markChosen(this.chosen);
+  }
+
+  rowFor(row) {
+    const button = made('button', { type: 'button' }, row.name);
+    button.addEventListener('click', () => this.onChoose(row.game));
+    const line = made('tr', {}, made('th', { scope: 'row' }, button), made('td', {}, row.state), livingCell(row),
+      numberCell(row.turns), numberCell(row.rounds), numberCell(row.refused), numberCell(row.charge));
+    line.dataset.game = row.name;
+    return line;
+  }
+
+  markChosen(game) {
+    this.chosen = game;
+    for (const line of this.table.tBodies[0].rows) {
+      if (line.dataset.game === game?.name) {
+        line.setAttribute('aria-current', 'true');
+      } else {
+        line.removeAttribute('aria-current');
+      }
+    }
+  }
+
+  /** The game so many rows below the chosen one, as the table is sorted now; the first and the last row are the ends. */
+  gameBeside(step) {
+    const rows = this.inOrder();
+    const at = rows.findIndex((row) => row.game === this.chosen);
+    return rows[Math.min(rows.length - 1, Math.max(0, at + step))]?.game ?? null;
+  }
+}

@@ -1,0 +1,65 @@
+// The lists of refused commands and of stray lines, with what each reason means.
+'use strict';
+
+const REASONS = {
+  G1: 'the command is unknown, or a member is missing, of a wrong type or out of range',
+  G2: 'no game runs',
+  G3: 'a game runs already',
+  G4: 'the game is over',
+  G5: 'turn 10,000 is the last',
+  G6: 'no record of that turn is kept',
+  G7: 'the new record would exceed the quota',
+  L1: 'no JSON text, or no object',
+  L2: 'it names no game of the plan',
+  L3: 'it has more than 65,536 bytes',
+};
+
+const ENTRIES_AT_ONCE = 200;
+
+function placeOf(refusal) {
+  if (refusal.turn === null) {
+    return 'before the first new';
+  }
+  return `after turn ${refusal.turn.toLocaleString('en')} of round ${refusal.round.toLocaleString('en')}`;
+}
+
+/** A list that shows so many entries, and more when a button below it is pressed. */
+class LongList {
+  constructor(section, itemFor) {
+    this.list = section.querySelector('ol');
+    this.count = section.querySelector('.count');
+    this.more = section.querySelector('button.more');
+    this.itemFor = itemFor;
+    this.more.addEventListener('click', () => this.showMore());
+  }
+
+  show(entries) {
+    this.entries = entries;
+    this.count.textContent = entries.length.toLocaleString('en');
+    this.list.replaceChildren();
+    this.showMore();
+  }
+
+  showMore() {
+    const from = this.list.children.length;
+    this.list.append(...this.entries.slice(from, from + ENTRIES_AT_ONCE).map(this.itemFor));
+    const left = this.entries.length - this.list.children.length;
+    this.more.hidden = left === 0;
+    this.more.textContent = `Show more (${left.toLocaleString('en')} left)`;
+  }
+}
+
+/** One refused command; its place leads to the turn after which it was refused, where there is one. */
+function refusalItem(refusal, onPlace) {
+  const words = `number ${refusal.seq.toLocaleString('en')}: ${refusal.reason} ${refusal.why}, ${REASONS[refusal.reason]}; `;
+  if (refusal.turn === null) {
+    return made('li', {}, words + placeOf(refusal));
+  }
+  const button = made('button', { type: 'button', className: 'place' }, placeOf(refusal));
+  button.addEventListener('click', onPlace);
+  return made('li', {}, words, button);
+}
+
+function strayItem(stray) {
+  return made('li', {}, `line ${stray.line.toLocaleString('en')} of the command file: ${stray.reason} ${stray.why}, ${REASONS[stray.reason]}`);
+}

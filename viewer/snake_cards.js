@@ -1,0 +1,60 @@
+// The list of a game's snakes: how each looks, whether it lives, its health and length, and the plot of both.
+'use strict';
+
+/** One snake's place in the list; what changes from turn to turn is written by `show`. */
+class SnakeCard {
+  constructor(snake, seat, onTurn) {
+    this.seat = seat;
+    this.fate = made('span', { className: 'fate' });
+    this.numbers = made('span', { className: 'numbers' });
+    this.meter = made('meter', { min: 0, max: 100, low: 25, high: 50, optimum: 100, ariaLabel: `Health of ${snake.id}` });
+    this.plot = drawn('svg', { class: 'plot', role: 'img', preserveAspectRatio: 'none' });
+    this.plot.addEventListener('click', (event) => onTurn(turnAtPlot(this.plot, event, this.last)));
+    this.look = made('span', {}, swatchPicture(seat));
+    this.item = made('li', {},
+      made('div', { className: 'who' }, this.look, made('strong', {}, snake.id), this.fate),
+      made('div', { className: 'how' }, this.numbers, this.meter), this.plot);
+    this.item.dataset.seat = seat;
+  }
+
+  show(snake, turn, last) {
+    this.last = last;
+    this.item.classList.toggle('out', !isLiving(snake));
+    this.look.replaceChildren(swatchPicture(this.seat, isLiving(snake)));
+    this.fate.textContent = fateOf(snake);
+    this.numbers.textContent = `health ${snake.health}, length ${snake.body.length}`;
+    this.meter.value = snake.health;
+    this.plot.setAttribute('aria-label', `Health and length of ${snake.id} from turn 0 to turn ${last}`);
+    movePlotLine(this.plot, turn, last);
+  }
+}
+
+class SnakeCards {
+  constructor(list, onTurn) {
+    this.list = list;
+    this.onTurn = onTurn;
+    this.cards = [];
+  }
+
+  /** Makes a card for each snake of a board, with plots that are still empty. */
+  begin(board) {
+    this.cards = board.snakes.map((snake, seat) => new SnakeCard(snake, seat, this.onTurn));
+    this.list.replaceChildren(...this.cards.map((card) => card.item));
+  }
+
+  show(board, last) {
+    this.cards.forEach((card, seat) => card.show(board.snakes[seat], board.turn, last));
+  }
+
+  drawPlots(curves, turn, last) {
+    for (const card of this.cards) {
+      drawPlot(card.plot, curves, card.seat, last);
+      movePlotLine(card.plot, turn, last);
+    }
+  }
+
+  clear() {
+    this.cards = [];
+    this.list.replaceChildren();
+  }
+}

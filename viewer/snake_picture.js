@@ -1,0 +1,77 @@
+// The picture of one snake: a joined body in the colour and with the mark of its seat, and a head that looks where it goes.
+'use strict';
+
+/** The middle of a cell in the picture, where y goes down; the board's y goes up. */
+function middleOf(cell, height) {
+  return { x: cell.x + 0.5, y: height - cell.y - 0.5 };
+}
+
+/** The line along a body. It is broken where two parts that follow each other are no neighbours. */
+function pathAlong(body, height) {
+  let path = '';
+  let before = null;
+  for (const cell of body) {
+    const { x, y } = middleOf(cell, height);
+    const step = before ? Math.abs(cell.x - before.x) + Math.abs(cell.y - before.y) : null;
+    if (step === 1) {
+      path += `L${x} ${y}`;
+    } else if (step !== 0) {
+      path += `M${x} ${y}h0`;
+    }
+    before = cell;
+  }
+  return path;
+}
+
+/** A head with two eyes, drawn as it looks to the right and then turned; one without a direction looks out of the picture. */
+function headPicture(body, height, colour) {
+  const { x, y } = middleOf(body[0], height);
+  const direction = directionOf(body);
+  const turn = direction ? Math.atan2(-direction.y, direction.x) * 180 / Math.PI : 0;
+  const shape = direction
+    ? drawn('path', { d: 'M-.2-.4H.1Q.46-.36.46 0Q.46.36.1.4H-.2Q-.4.4-.4 0Q-.4-.4-.2-.4Z' })
+    : drawn('circle', { r: 0.43 });
+  shape.setAttribute('fill', colour);
+  shape.setAttribute('class', 'edge');
+  const eyes = [-0.19, 0.19].flatMap((side) => {
+    const at = direction ? { cx: 0.1, cy: side } : { cx: side, cy: 0 };
+    return [
+      drawn('circle', { ...at, r: 0.13, class: 'eye' }),
+      drawn('circle', { ...at, cx: at.cx + (direction ? 0.05 : 0), r: 0.07, class: 'pupil' }),
+    ];
+  });
+  return drawn('g', { class: 'head', transform: `translate(${x} ${y}) rotate(${turn})` }, shape, ...eyes);
+}
+
+/** The cross over the part behind the head of a snake that is out: its head may lie under the snake that it ran into. */
+function crossPicture(body, height) {
+  const { x, y } = middleOf(body[1], height);
+  return drawn('path', { class: 'cross', d: `M${x - 0.3} ${y - 0.3}l.6 .6m0-.6l-.6 .6` });
+}
+
+/** A snake of a seat on a board of a height. */
+function snakePicture(snake, seat, height) {
+  const { colour, mark } = SEATS[seat];
+  const path = pathAlong(snake.body, height);
+  const picture = drawn('g', { class: isLiving(snake) ? 'snake' : 'snake out', 'data-seat': seat },
+    drawn('title'),
+    drawn('g', { class: 'figure' },
+      drawn('path', { class: 'casing', d: path }),
+      drawn('path', { class: 'body', d: path, stroke: colour }),
+      drawn('path', { class: `mark ${mark}`, d: path }),
+      headPicture(snake.body, height, colour)));
+  picture.firstChild.textContent = `${snake.id}: ${fateOf(snake)}`;
+  if (!isLiving(snake)) {
+    picture.append(crossPicture(snake.body, height));
+  }
+  return picture;
+}
+
+/** A small snake that shows how a seat looks. */
+function swatchPicture(seat, lives = true) {
+  const body = [{ x: 2, y: 0 }, { x: 1, y: 0 }, { x: 0, y: 0 }];
+  const snake = lives ? { body, id: '', cause: null } : { body, id: '', cause: 'wall-collision', by: null, out: 1 };
+  const picture = snakePicture(snake, seat, 1);
+  picture.firstChild.remove();
+  return drawn('svg', { class: 'swatch', viewBox: '0 0 3 1', 'aria-hidden': 'true' }, picture);
+}

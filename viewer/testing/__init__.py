@@ -1,0 +1,1 @@
+# The viewer's tests: a driver for a real browser, an independent reading of transcripts, and the cases.

@@ -1,0 +1,134 @@
+# Chromium without a window: found or installed from Debian's packages, and driven by the WebDriver protocol.
+import base64
+import json
+import os
+import shutil
+import subprocess
+import tempfile
+import time
+import urllib.error
+import urllib.request
+
+PACKAGES = {"chromium": ["chromium", "fonts-dejavu-core"], "chromedriver": ["chromium-driver"]}  # what each program comes with
+ELEMENT = "element-6066-11e4-a52e-4f735466cecf"  # the key of an element's reference, as the protocol names it
+PATIENCE = ["-o", "Acquire::Retries=1", "-o", "Acquire::http::Timeout=20", "-o", "Acquire::https::Timeout=20"]
+INSTALL_SECONDS = 900
+ANSWER_SECONDS = 120
+
+
+class NotToBeHad(Exception):
+    """The browser is not on the machine, and Debian's packages can't be reached."""
+
+
+def install():
+    """Installs what is missing; raises NotToBeHad where that fails."""
+    missing = [package for program, packages in PACKAGES.items() if shutil.which(program) is None for package in packages]
+    if not missing:
+        return
+    environment = {**os.environ, "DEBIAN_FRONTEND": "noninteractive"}
+    for words in (["update"], ["install", "-y", "--no-install-recommends", *missing]):
+        try:
+            run = subprocess.run(["apt-get", *PATIENCE, *words], env=environment, stdout=subprocess.PIPE, stderr=subprocess.STDOUT, text=True, timeout=INSTALL_SECONDS)
+        except (OSError, subprocess.TimeoutExpired) as fault:
+            raise NotToBeHad(f"apt-get {words[0]}: {fault}") from fault
+        if run.returncode != 0:
+            raise NotToBeHad(f"apt-get {words[0]}: {(run.stdout.strip().splitlines() or ['failed'])[-1]}")
+
+
+class Browser:
+    """One window of a Chromium, with a driver of its own. It resolves no name but the machine's own."""
+
+    def __init__(self):
+        self.profile = tempfile.mkdtemp(prefix="viewer-chromium-")
+        self.driver = subprocess.Popen([shutil.which("chromedriver"), "--port=0"], stdout=subprocess.PIPE, stderr=subprocess.DEVNULL, text=True)
+        self.root = f"http://127.0.0.1:{self.port()}"
+        self.session = None
+        try:
+            self.session = self.call("POST", "/session", {"capabilities": {"alwaysMatch": self.wishes()}})["sessionId"]
+        except BaseException:
+            self.close()
+            raise
+
+    def port(self):
+        """The port that the driver chose, which it says in a line."""
+        for line in self.driver.stdout:
+            if "started successfully on port" in line:
+                return int(line.split("port")[1].strip(" .\n"))
+        raise RuntimeError("chromedriver did not start")
+
+    def wishes(self):
+        words = ["--headless=new", "--no-sandbox", "--disable-dev-shm-usage", "--window-size=1500,1250", "--force-device-scale-factor=1",
+                 "--host-resolver-rules=MAP * ~NOTFOUND, EXCLUDE 127.0.0.1", f"--user-data-dir={self.profile}"]
+        return {"browserName": "chrome", "goog:chromeOptions": {"binary": shutil.which("chromium"), "args": words},
+                "goog:loggingPrefs": {"browser": "SEVERE"}}
+
+    def call(self, method, path, body=None):
+        """What the driver answers to a request; a path that is not of the whole driver is of the session."""
+        address = self.root + (path if path == "/session" else f"/session/{self.session}{path}")
+        request = urllib.request.Request(address, None if body is None else json.dumps(body).encode(), method=method)
+        try:
+            with urllib.request.urlopen(request, timeout=ANSWER_SECONDS) as answer:
+                return json.load(answer)["value"]
+        except urllib.error.HTTPError as fault:
+            value = json.load(fault)["value"]
+            raise RuntimeError(f"{method} {path}: {value['error']}: {value['message']}") from None
+
+    def go(self, address):
+        """Loads a page anew, also where only what follows the `#` differs."""
+        self.call("POST", "/url", {"url": "about:blank"})
+        self.call("POST", "/url", {"url": address})
+
+    def run(self, script, *arguments):
+        """What a script, the body of a function, returns in the page; a promise is waited for."""
+        return self.call("POST", "/execute/sync", {"script": script, "args": list(arguments)})
+
+    def element(self, selector):
+        return self.call("POST", "/element", {"using": "css selector", "value": selector})[ELEMENT]
+
+    def click(self, selector):
+        self.call("POST", f"/element/{self.element(selector)}/click", {})
+
+    def type_into(self, selector, text):
+        """Types into an element; into an element that chooses files, their paths."""
+        self.call("POST", f"/element/{self.element(selector)}/value", {"text": text})
+
+    def press(self, *keys):
+        """Presses keys one after the other; a tuple of keys is pressed together."""
+        actions = []
+        for key in keys:
+            together = key if isinstance(key, tuple) else (key,)
+            actions += [{"type": "keyDown", "value": each} for each in together] + [{"type": "keyUp", "value": each} for each in reversed(together)]
+        self.call("POST", "/actions", {"actions": [{"type": "key", "id": "keyboard", "actions": actions}]})
+
+    def drop(self, path):
+        """Drops a file of the machine on the middle of the page, as a hand would."""
+        data = {"items": [], "files": [str(path)], "dragOperationsMask": 1}
+        for event in ("dragEnter", "dragOver", "drop"):
+            self.call("POST", "/goog/cdp/execute", {"cmd": "Input.dispatchDragEvent", "params": {"type": event, "x": 600, "y": 400, "data": data}})
+
+    def picture(self, selector):
+        """The bytes of a PNG of an element."""
+        return base64.b64decode(self.call("GET", f"/element/{self.element(selector)}/screenshot"))
+
+    def complaints(self):
+        """What the page has left in the browser's console as errors since the last call."""
+        return [entry["message"] for entry in self.call("POST", "/se/log", {"type": "browser"})]
+
+    def wait(self, script, *arguments, seconds=20):
+        """Waits until a script returns something true, and returns it."""
+        ends = time.monotonic() + seconds
+        while True:
+            value = self.run(script, *arguments)
+            if value:
+                return value
+            if time.monotonic() > ends:
+                raise AssertionError(f"not so within {seconds} s: {script} {arguments}")
+            time.sleep(0.005)
+
+    def close(self):
+        if self.session is not None:
+            self.call("DELETE", "")
+        self.driver.terminate()
+        self.driver.wait()
+        self.driver.stdout.close()
+        shutil.rmtree(self.profile, ignore_errors=True)

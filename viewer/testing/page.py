@@ -1,0 +1,120 @@
+# The page as the tests see it: opened by a way of its own, and read for what stands on it.
+from testing.served import ROOT
+
+PAGE = ROOT / "viewer" / "index.html"
+TOURNAMENT = ROOT / "viewer" / "testing" / "data" / "tournament.transcript"
+CASES = [path for folder in ("examples", "crates/arena/data", "viewer/testing/data") for path in sorted((ROOT / folder).glob("*.transcript"))]
+
+GAMES = """
+const textOf = (cell) => (cell.querySelector('.chip') ? [...cell.querySelectorAll('.chip')].map((chip) => chip.textContent) : cell.textContent);
+return [...document.querySelectorAll('#games tbody tr')].map((row) => [...row.cells].map(textOf));
+"""
+
+BOARD = """
+// The direction from the middle of a head to the middle between its eyes, as the browser has turned it.
+const looks = (head) => {
+  const { a, b } = head.transform.baseVal.consolidate().matrix;
+  const forward = [...head.querySelectorAll('.eye')].reduce((sum, eye) => sum + eye.cx.baseVal.value, 0);
+  return { '1,0': 'right', '-1,0': 'left', '0,-1': 'up', '0,1': 'down', '0,0': 'nowhere' }[[a, b].map((part) => Math.round(Math.sign(forward) * part) || 0)];
+};
+const cells = (path) => [...path.matchAll(/[ML]([-.0-9]+) ([-.0-9]+)/g)].map((match) => [Number(match[1]), Number(match[2])]);
+return {
+  turn: document.getElementById('turn').textContent,
+  facts: document.getElementById('facts').textContent,
+  view: document.getElementById('board').getAttribute('viewBox'),
+  food: [...document.querySelectorAll('#board .food')].map((disc) => [disc.cx.baseVal.value, disc.cy.baseVal.value]),
+  snakes: [...document.querySelectorAll('#board .snake')].map((snake) => ({
+    seat: Number(snake.dataset.seat),
+    out: snake.classList.contains('out'),
+    crossed: snake.querySelector('.cross') !== null,
+    cells: cells(snake.querySelector('.body').getAttribute('d')),
+    pieces: snake.querySelector('.body').getAttribute('d').split('M').length - 1,
+    looks: looks(snake.querySelector('.head')),
+  })),
+  cards: [...document.querySelectorAll('#snakes li')].map((card) => ({
+    id: card.querySelector('strong').textContent,
+    fate: card.querySelector('.fate').textContent,
+    numbers: card.querySelector('.numbers').textContent,
+    meter: card.querySelector('meter').value,
+  })),
+};
+"""
+
+PLOTS = """
+const points = (path) => [...path.getAttribute('d').matchAll(/[ML]([-.0-9]+) ([-.0-9]+)/g)].map((match) => [Number(match[1]), Number(match[2])]);
+return [...document.querySelectorAll('#snakes .plot')].map((plot) => ({
+  health: plot.querySelector('.health') ? points(plot.querySelector('.health')) : [],
+  length: plot.querySelector('.length') ? points(plot.querySelector('.length')) : [],
+}));
+"""
+
+
+class Page:
+    """A transcript opened in the viewer."""
+
+    def __init__(self, browser):
+        self.browser = browser
+
+    def open_empty(self, fragment=""):
+        """The page as a file of the machine, with nothing opened."""
+        self.browser.go(PAGE.as_uri() + fragment)
+
+    def choose(self, path, seconds=20):
+        """Chooses a file, and waits until it has been opened or refused."""
+        self.browser.type_into("#choose", str(path))
+        self.wait_until_read(path.name, seconds)
+
+    def drop(self, path):
+        self.browser.drop(path)
+        self.wait_until_read(path.name)
+
+    def wait_until_read(self, name, seconds=20):
+        self.browser.wait("""
+            const isRead = ['open', 'fault'].includes(document.body.dataset.state);
+            return isRead && document.getElementById('file').textContent === arguments[0];
+        """, name, seconds=seconds)
+
+    def state(self):
+        return self.browser.run("return document.body.dataset.state")
+
+    def text(self, selector):
+        return self.browser.run("return document.querySelector(arguments[0]).textContent", selector)
+
+    def texts(self, selector):
+        return self.browser.run("return [...document.querySelectorAll(arguments[0])].map((element) => element.textContent)", selector)
+
+    def games(self):
+        return self.browser.run(GAMES)
+
+    def board(self):
+        return self.browser.run(BOARD)
+
+    def plots(self):
+        return self.browser.run(PLOTS)
+
+    def choose_game(self, name):
+        """Clicks a game's name in the table, and waits until the page shows it."""
+        self.browser.run("""
+            const rows = [...document.querySelectorAll('#games tbody tr')];
+            rows.find((row) => row.dataset.game === arguments[0]).querySelector('button').click();
+        """, name)
+        self.browser.wait("return document.getElementById('name').textContent === arguments[0]", name)
+
+    def choose_round(self, number):
+        self.browser.run("""
+            document.getElementById('round').value = arguments[0];
+            document.getElementById('round').dispatchEvent(new Event('change'));
+        """, number)
+
+    def wait_for_turn(self, turn, last):
+        self.browser.wait("return document.getElementById('turn').textContent === arguments[0]", f"Turn {turn} of {last}")
+
+    def wait_for_plots(self, seconds=20):
+        self.browser.wait("return document.getElementById('snakes').getAttribute('aria-busy') === 'false'", seconds=seconds)
+
+    def seat_colours(self):
+        """The colours in which the bodies on the board are painted, and that of the board's cells."""
+        return self.browser.run("""
+            const painted = (selector, property) => [...document.querySelectorAll(selector)].map((element) => getComputedStyle(element)[property]);
+            return [...painted('#board .body', 'stroke'), ...painted('#board .cells', 'fill')];
+        """)

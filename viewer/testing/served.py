@@ -1,0 +1,23 @@
+# The repository's root, served over HTTP on a free port of the machine itself.
+import threading
+from functools import partial
+from http.server import SimpleHTTPRequestHandler, ThreadingHTTPServer
+from pathlib import Path
+
+ROOT = Path(__file__).resolve().parent.parent.parent
+
+
+class Quiet(SimpleHTTPRequestHandler):
+    def log_message(self, *_):
+        """Says nothing of a request."""
+
+
+class Server:
+    def __init__(self):
+        self.server = ThreadingHTTPServer(("127.0.0.1", 0), partial(Quiet, directory=ROOT))
+        self.root = f"http://127.0.0.1:{self.server.server_port}"
+        threading.Thread(target=self.server.serve_forever, daemon=True).start()
+
+    def close(self):
+        self.server.shutdown()
+        self.server.server_close()

@@ -1,0 +1,122 @@
+# Every board of every game, stepped through and compared with the transcript; and the plots.
+from testing.case import PageCase, setUpModule  # noqa: F401
+from testing.page import CASES, TOURNAMENT
+from testing.reading import read
+
+FATES = {
+    "out-of-health": "out of health",
+    "wall-collision": "ran into the wall",
+    "snake-self-collision": "ran into itself",
+    "snake-collision": "ran into the body of {by}",
+    "head-collision": "met the head of {by}",
+}
+LOOKS = {(0, 1): "up", (0, -1): "down", (-1, 0): "left", (1, 0): "right"}
+
+
+def fate(snake):
+    return "lives" if snake["cause"] is None else f"out in turn {snake['out']}: {FATES[snake['cause']].format(by=snake['by'])}"
+
+
+def looks(body):
+    return LOOKS.get((body[0]["x"] - body[1]["x"], body[0]["y"] - body[1]["y"]), "nowhere")
+
+
+def middles(cells, height):
+    """The middles of cells in the picture, each once where it follows itself."""
+    places = [[cell["x"] + 0.5, height - cell["y"] - 0.5] for cell in cells]
+    return [place for index, place in enumerate(places) if index == 0 or place != places[index - 1]]
+
+
+def drawn_snake(seat, snake, height):
+    out = snake["cause"] is not None
+    return {"seat": seat, "out": out, "crossed": out, "cells": middles(snake["body"], height), "pieces": 1, "looks": looks(snake["body"])}
+
+
+def expected(board, last, with_earlier=False):
+    """What has to stand on the page for a board of a round that goes to a last turn."""
+    snakes = list(enumerate(board["snakes"]))
+    out = [(seat, snake) for seat, snake in snakes if snake["cause"] is not None and (with_earlier or snake["out"] == board["turn"])]
+    living = [(seat, snake) for seat, snake in snakes if snake["cause"] is None]
+    return {
+        "turn": f"Turn {board['turn']} of {last}",
+        "facts": f"{board['mode']}, {board['width']} by {board['height']}, food at least {board['min_food']}, chance {board['food_chance']}"
+                 + (", over" if board["over"] else ""),
+        "view": f"-1 -1 {board['width'] + 2} {board['height'] + 2}",
+        "food": middles(board["food"], board["height"]),
+        "snakes": [drawn_snake(seat, snake, board["height"]) for seat, snake in out + living],
+        "cards": [{"id": snake["id"], "fate": fate(snake), "numbers": f"health {snake['health']}, length {len(snake['body'])}",
+                   "meter": snake["health"]} for snake in board["snakes"]],
+    }
+
+
+class BoardsTest(PageCase):
+    maxDiff = None
+
+    def open(self, path):
+        self.page.open_empty()
+        self.page.choose(path)
+        return read(path)[0]
+
+    def step_through(self, boards):
+        last = len(boards) - 1
+        self.page.wait_for_turn(0, last)
+        for board in boards:
+            if board["turn"] > 0:
+                self.browser.click("#forward")
+                self.page.wait_for_turn(board["turn"], last)
+            self.assertEqual(self.page.board(), expected(board, last))
+
+    def test_each_turn_of_each_game_is_drawn(self):
+        for path in CASES:
+            games = self.open(path)
+            for game in games:
+                for number, boards in enumerate(game.rounds, 1):
+                    with self.subTest(f"{path.name}, {game.name}, round {number}"):
+                        self.page.choose_game(game.name)
+                        if number > 1:
+                            self.page.choose_round(number)
+                        self.step_through(boards)
+
+    def test_the_cases_hold_every_cause_and_eight_snakes(self):
+        boards = [board for game in read(TOURNAMENT)[0] for boards in game.rounds for board in boards]
+        self.assertEqual({snake["cause"] for board in boards for snake in board["snakes"]}, {None, *FATES})
+        self.assertEqual(max(len(board["snakes"]) for board in boards), 8)
+
+    def test_bodies_that_went_out_earlier_are_drawn_where_they_are_wished_for(self):
+        boards = self.open(TOURNAMENT)[0].rounds[0]
+        last = len(boards) - 1
+        self.browser.press("\ue010")
+        self.page.wait_for_turn(last, last)
+        self.browser.click("#earlier")
+        self.assertEqual(self.page.board(), expected(boards[-1], last, with_earlier=True))
+        self.assertNotEqual(expected(boards[-1], last, with_earlier=True), expected(boards[-1], last))
+
+    def test_a_game_without_a_board_says_so(self):
+        games = self.open(TOURNAMENT)
+        silent = next(game for game in games if not game.rounds)
+        self.page.choose_game(silent.name)
+        self.assertIn("no board of it", self.page.text("#facts"))
+        self.assertEqual(self.page.board()["snakes"], [])
+        self.page.choose_game(games[0].name)
+        self.page.wait_for_turn(0, len(games[0].rounds[0]) - 1)
+        self.assertEqual(self.page.board(), expected(games[0].rounds[0][0], len(games[0].rounds[0]) - 1))
+
+
+class PlotsTest(PageCase):
+    def test_a_plot_has_a_point_for_each_turn_until_its_snake_is_out(self):
+        self.page.open_empty()
+        self.page.choose(TOURNAMENT)
+        boards = read(TOURNAMENT)[0][0].rounds[0]
+        last = len(boards) - 1
+        longest = max(len(snake["body"]) for board in boards for snake in board["snakes"])
+        shown = [[board["snakes"][seat] for board in boards if board["turn"] <= (boards[-1]["snakes"][seat]["out"] or last)] for seat in range(8)]
+        self.page.wait_for_plots()
+        for plot, snakes in zip(self.page.plots(), shown):
+            self.compare(plot["health"], [snake["health"] for snake in snakes], 100, last)
+            self.compare(plot["length"], [len(snake["body"]) for snake in snakes], longest, last)
+
+    def compare(self, points, values, greatest, last):
+        self.assertEqual(len(points), len(values))
+        for turn, ((x, y), value) in enumerate(zip(points, values)):
+            self.assertAlmostEqual(x, turn / last * 240, delta=0.051)
+            self.assertAlmostEqual(y, 48 * (1 - value / greatest), delta=0.051)

@@ -1,0 +1,92 @@
+# Files that are no transcripts, dropped on the page: each gets a clear line, and the page goes on.
+import json
+
+from testing.case import PageCase, setUpModule  # noqa: F401
+from testing.made import text
+from testing.page import TOURNAMENT
+from testing.reading import read
+from testing.served import ROOT
+from testing.test_boards import expected
+
+GOOD = (ROOT / "examples" / "quota_of_two_records.transcript").read_text()
+LINES = GOOD.splitlines(keepends=True)
+
+
+def changed(line, *path, to):
+    """The good transcript with one member of a line changed, which the path leads to."""
+    value = json.loads(LINES[line - 1])
+    inner = value
+    for member in path[:-1]:
+        inner = inner[member]
+    inner[path[-1]] = to
+    return "".join([*LINES[:line - 1], text(value) + "\n", *LINES[line:]])
+
+
+# The file's content, and what the page says of it.
+BROKEN = {
+    "nothing": ("", "The file is empty."),
+    "picture": (b"\x89PNG\r\n\x1a\n\0\0\0\rIHDR", "Line 1 is no line of a transcript."),
+    "commands": ((ROOT / "examples" / "four_snakes.jsonl").read_text(), "Line 1 is no line of a transcript."),
+    "prose": ("All snakes live.\n", "Line 1 is no line of a transcript."),
+    "cut in a line": (GOOD[:-10], "Line 8 is cut off: no line feed ends it."),
+    "cut between lines": ("".join(LINES[:-1]), "Line 7 is the last, and its game has no final line."),
+    "an empty line": (GOOD + "\n", "Line 9 is no line of a transcript."),
+    "twice": (GOOD + GOOD, "Line 9 is of a game whose lines have to stand further up."),
+    "a line left out": ("".join(LINES[:2] + LINES[3:]), "Line 3 has the number 4 where 3 has to stand."),
+    "another game between": (changed(4, "game", to="b"), "Line 4 is of another game, and the one before has no final line."),
+    "a turn left out": (changed(5, "board", "turn", to=3), "Line 5 shows turn 3, which can't follow the turns before it."),
+    "a second new": (changed(2, "do", to="new"), "Line 2 shows a board after new, while a game runs."),
+    "a move first": (changed(1, "do", to="move"), "Line 1 shows a board after move, where no game runs."),
+    "another last board": (changed(8, "board", "turn", to=1), "Line 8 shows turn 1 at last, which is not the turn before it."),
+    "no last board": (changed(8, "board", to=None), "Line 8 is a final line without a board, which can't follow the lines before it."),
+    "a stray between": (LINES[0] + '{"line":2,"no":"L1","why":"json"}\n', "Line 2 comes before the final line of a game."),
+    "a broken last board": (changed(8, "board", "snakes", 0, "health", to=101),
+                            "Line 8 holds no board that can be drawn: the health of s is no number from 0 to 100."),
+    "another kind of board": (changed(8, "board", "mode", to="royale"),
+                              "Line 8 holds no board that can be drawn: its mode, or whether it is over, is not told."),
+    "an endless line": (b"x" * (3 << 20), "The file holds a line that is longer than any line of a transcript."),
+}
+
+# A member of the board in line 2, which is read only when its turn is asked for, and what the page says of it.
+BROKEN_LATER = [
+    (("width",), 26, "its sides are no numbers from 3 to 25"),
+    (("min_food",), -1, "its turn or the numbers for its food are out of their range"),
+    (("over",), 0, "its mode, or whether it is over, is not told"),
+    (("food",), [{"x": 5, "y": 0}], "its food is no list of cells"),
+    (("snakes",), [], "it has no list of 1 to 8 snakes"),
+    (("snakes", 0, "id"), 7, "a snake has no id of its own"),
+    (("snakes", 0, "body", 1, "x"), 5, "the body of s is no list of cells"),
+    (("snakes", 0, "by"), "s", "why s is out can't be read"),
+    (("snakes", 0, "cause"), "old age", "why s is out can't be read"),
+]
+
+
+class FilesTest(PageCase):
+    def test_what_is_no_transcript_gets_a_clear_line(self):
+        self.page.open_empty()
+        for name, (content, said) in BROKEN.items():
+            with self.subTest(name):
+                self.page.drop(self.file(f"{name}.txt", content))
+                self.assertEqual(self.page.state(), "fault")
+                self.assertEqual(self.page.text("#notice"), f"{name}.txt can't be shown. {said}")
+                self.assertFalse(self.browser.run("return document.querySelector('main').checkVisibility()"))
+
+    def test_after_a_broken_file_a_good_one_opens(self):
+        self.page.open_empty()
+        self.page.drop(self.file("prose.txt", "All snakes live.\n"))
+        self.page.drop(TOURNAMENT)
+        self.assertEqual((self.page.state(), self.page.text("#notice")), ("open", ""))
+        boards = read(TOURNAMENT)[0][0].rounds[0]
+        self.page.wait_for_turn(0, len(boards) - 1)
+        self.assertEqual(self.page.board(), expected(boards[0], len(boards) - 1))
+
+    def test_a_board_that_cannot_be_drawn_is_told_when_it_is_asked_for(self):
+        for path, value, said in BROKEN_LATER:
+            with self.subTest(said):
+                self.page.open_empty()
+                self.page.choose(self.file("broken.transcript", changed(2, "board", *path, to=value)))
+                self.assertEqual(self.page.state(), "open")
+                self.browser.click("#forward")
+                said_of_line = f"Line 2 holds no board that can be drawn: {said}."
+                self.browser.wait("return document.getElementById('notice').textContent === arguments[0]", said_of_line)
+                self.page.wait_for_turn(0, 2)

@@ -1,0 +1,235 @@
+// A transcript: its games with their rounds and refused commands, and its stray lines, found from the ends of its lines.
+'use strict';
+
+const MOST_GAMES = 64;
+const MOST_LINE_BYTES = 2 * 1024 * 1024; // the largest board, eight snakes of 10,003 parts, is written in 1.3 MB
+
+/** What a `turn` in a line has to be, by the word of its command, where so many boards of the round have come before. */
+const FITTING_TURN = {
+  new: (turn) => turn === 0,
+  move: (turn, boards) => turn === boards,
+  show: (turn, boards) => turn === boards - 1,
+  turn: (turn, boards) => turn < boards,
+};
+
+/**
+ * A game of the plan. A round is what lies between a `new` and its `end`: its boards are the numbers of the lines that show
+ * turn 0, turn 1 and so on. A refusal has the round and the turn after which it came, both null before the first `new`.
+ */
+class Game {
+  constructor(name) {
+    this.name = name;
+    this.rounds = [];
+    this.running = null;
+    this.replies = 0;
+    this.refusals = [];
+    this.finalLine = null;
+    this.charge = null;
+  }
+
+  /** The number of the line with the last board that is known of the game, or null. */
+  lastBoardLine() {
+    return this.running ? this.finalLine : this.rounds.at(-1)?.boards.at(-1) ?? null;
+  }
+}
+
+/** A file whose lines have been found. Lines are numbered from 1, and read when they are asked for. */
+class Transcript {
+  constructor(file) {
+    this.file = file;
+    this.starts = [];
+    this.games = [];
+    this.strays = [];
+  }
+
+  startOf(number) {
+    return this.starts[number - 1] ?? this.file.size;
+  }
+
+  gameNamed(name) {
+    return this.games.find((game) => game.name === name) ?? null;
+  }
+
+  async board(number) {
+    const text = await this.file.slice(this.startOf(number), this.startOf(number + 1)).text();
+    return boardInLine(text, number);
+  }
+
+  /** The boards of a round, slice by slice, each slice a list from the turn that follows the last. */
+  async* boardSlices(round) {
+    const first = round.boards[0];
+    const last = round.boards.at(-1);
+    let number = first;
+    let turn = 0;
+    for await (const { lines } of lineSlices(this.file, this.startOf(first), this.startOf(last + 1))) {
+      const boards = [];
+      for (const line of lines) {
+        if (number === round.boards[turn]) {
+          boards.push(boardInLine(lineDecoder.decode(line.bytes), number));
+          turn += 1;
+        }
+        number += 1;
+      }
+      yield boards;
+    }
+  }
+}
+
+/** Takes the lines of a file one after the other, and throws a fault at the first that can't stand in a transcript. */
+class TranscriptBuilder {
+  constructor(file) {
+    this.transcript = new Transcript(file);
+    this.game = null;
+    this.openName = null;
+  }
+
+  fault(why) {
+    return new TranscriptFault(`Line ${this.transcript.starts.length.toLocaleString('en')} ${why}.`);
+  }
+
+  add(line) {
+    this.transcript.starts.push(line.start);
+    const told = formOf(line.bytes);
+    if (!told) {
+      throw this.fault('is no line of a transcript');
+    }
+    if (told.form === 'stray') {
+      this.addStray(told);
+      return;
+    }
+    this.enterSection(told);
+    if (told.form === 'final' || told.form === 'finalWithout') {
+      this.addFinal(told);
+    } else {
+      this.addReply(told);
+    }
+  }
+
+  addStray(told) {
+    if (this.game) {
+      throw this.fault('comes before the final line of a game');
+    }
+    this.transcript.strays.push(told);
+  }
+
+  /** Opens the section of the line's game, where it is not open already. */
+  enterSection(told) {
+    if (this.game) {
+      if (told.game !== this.openName) {
+        throw this.fault('is of another game, and the one before has no final line');
+      }
+      return;
+    }
+    const name = this.nameIn(told.game);
+    if (this.transcript.strays.length > 0 || this.transcript.gameNamed(name)) {
+      throw this.fault('is of a game whose lines have to stand further up');
+    }
+    if (this.transcript.games.length === MOST_GAMES) {
+      throw this.fault(`is of one game more than the ${MOST_GAMES} that a transcript can hold`);
+    }
+    this.game = new Game(name);
+    this.openName = told.game;
+    this.transcript.games.push(this.game);
+  }
+
+  nameIn(text) {
+    try {
+      return JSON.parse(text);
+    } catch {
+      throw this.fault('is no JSON');
+    }
+  }
+
+  addReply(told) {
+    const { game } = this;
+    game.replies += 1;
+    if (told.seq !== game.replies) {
+      throw this.fault(`has the number ${told.seq} where ${game.replies} has to stand`);
+    }
+    if (told.form === 'refused') {
+      game.refusals.push({ ...told, ...this.lastTurn() });
+    } else if (told.form === 'shown') {
+      this.addShown(told);
+    } else {
+      this.addUnshown(told);
+    }
+  }
+
+  /** The round and the turn that the game has come to. */
+  lastTurn() {
+    const { rounds } = this.game;
+    return rounds.length === 0 ? { round: null, turn: null } : { round: rounds.length, turn: rounds.at(-1).boards.length - 1 };
+  }
+
+  addShown(told) {
+    const { game } = this;
+    if ((told.word === 'new') === (game.running !== null)) {
+      throw this.fault(`shows a board after ${told.word}, ${game.running ? 'while a game runs' : 'where no game runs'}`);
+    }
+    if (!FITTING_TURN[told.word](told.turn, game.running?.boards.length ?? 0)) {
+      throw this.fault(`shows turn ${told.turn}, which can't follow the turns before it`);
+    }
+    if (told.word === 'new') {
+      game.running = { boards: [] };
+      game.rounds.push(game.running);
+    }
+    if (told.word === 'new' || told.word === 'move') {
+      game.running.boards.push(this.transcript.starts.length);
+    }
+  }
+
+  addUnshown(told) {
+    if (!this.game.running) {
+      throw this.fault(`answers ${told.word}, where no game runs`);
+    }
+    if (told.word === 'end') {
+      this.game.running = null;
+    }
+  }
+
+  addFinal(told) {
+    const { game } = this;
+    if ((told.form === 'final') !== (game.running !== null)) {
+      throw this.fault(`is a final line ${game.running ? 'without' : 'with'} a board, which can't follow the lines before it`);
+    }
+    if (game.running && !FITTING_TURN.show(told.turn, game.running.boards.length)) {
+      throw this.fault(`shows turn ${told.turn} at last, which is not the turn before it`);
+    }
+    game.finalLine = this.transcript.starts.length;
+    game.charge = told.charge;
+    this.game = null;
+  }
+
+  /** The transcript, once all lines have been taken; bytes that no line feed ends are its fault. */
+  finish(unfinished) {
+    if (unfinished > 0) {
+      this.transcript.starts.push(null);
+      throw this.fault('is cut off: no line feed ends it');
+    }
+    if (this.transcript.starts.length === 0) {
+      throw new TranscriptFault('The file is empty.');
+    }
+    if (this.game) {
+      throw this.fault('is the last, and its game has no final line');
+    }
+    return this.transcript;
+  }
+}
+
+/** The transcript in a file; `onProgress` is told the place that was reached, and `isWanted` asked whether to go on. Null where not. */
+async function findTranscript(file, onProgress, isWanted) {
+  const builder = new TranscriptBuilder(file);
+  let unfinished = 0;
+  for await (const slice of lineSlices(file, 0, file.size)) {
+    if (!isWanted()) {
+      return null;
+    }
+    slice.lines.forEach((line) => builder.add(line));
+    if (slice.unfinished > MOST_LINE_BYTES) {
+      throw new TranscriptFault('The file holds a line that is longer than any line of a transcript.');
+    }
+    unfinished = slice.unfinished;
+    onProgress(slice.reached);
+  }
+  return builder.finish(unfinished);
+}

@@ -1,0 +1,190 @@
+// The page as a whole: opens a transcript that is chosen, dropped or named in the address, and answers keys.
+'use strict';
+
+const FAR_STEP = 10;
+
+const KEYS = {
+  ' ': (viewer) => viewer.panel.togglePlaying(),
+  ArrowLeft: (viewer, isFar) => viewer.panel.step(isFar ? -FAR_STEP : -1),
+  ArrowRight: (viewer, isFar) => viewer.panel.step(isFar ? FAR_STEP : 1),
+  Home: (viewer) => viewer.panel.goToTurn(0),
+  End: (viewer) => viewer.panel.goToTurn(viewer.panel.lastTurn),
+  '-': (viewer) => viewer.panel.player.changeSpeed(-1),
+  '+': (viewer) => viewer.panel.player.changeSpeed(1),
+  p: (viewer) => viewer.chooseGameBeside(-1),
+  n: (viewer) => viewer.chooseGameBeside(1),
+};
+
+function megabytes(bytes) {
+  return `${(bytes / 1e6).toFixed(1)} MB`;
+}
+
+/** The elements of the page by their ids. */
+function elementsOfPage() {
+  return Object.fromEntries([...document.querySelectorAll('[id]')].map((element) => [element.id, element]));
+}
+
+class Viewer {
+  constructor(page) {
+    this.page = page;
+    this.opened = 0;
+    this.transcript = null;
+    this.table = new GamesTable(page.games, (game) => this.chooseGame(game));
+    this.strays = new LongList(page.strays, strayItem);
+    this.panel = new GamePanel(page, (game) => this.table.markChosen(game), (fault) => this.tell(fault));
+    this.setState('empty');
+  }
+
+  setState(state) {
+    document.body.dataset.state = state;
+  }
+
+  /** Says what is wrong. A fault of the program itself is left to the browser's console as well. */
+  tell(fault) {
+    this.page.notice.textContent = fault.message;
+    if (!(fault instanceof TranscriptFault)) {
+      throw fault;
+    }
+  }
+
+  /** Opens what `reading` promises, a file; whatever was open or being opened before is left. */
+  async open(name, reading) {
+    this.opened += 1;
+    const opened = this.opened;
+    const isWanted = () => opened === this.opened;
+    this.leave(name);
+    try {
+      const file = await reading;
+      this.page.progress.max = Math.max(1, file.size);
+      const transcript = await findTranscript(file, (reached) => this.showProgress(reached, file.size), isWanted);
+      const endings = transcript && await endingsOf(transcript);
+      if (isWanted()) {
+        this.show(transcript, endings, file.size);
+      }
+    } catch (fault) {
+      if (isWanted()) {
+        this.setState('fault');
+        this.tell(fault instanceof TranscriptFault ? new TranscriptFault(`${name} can't be shown. ${fault.message}`) : fault);
+      }
+    }
+  }
+
+  leave(name) {
+    this.setState('opening');
+    this.transcript = null;
+    this.panel.close();
+    this.page.notice.textContent = '';
+    this.page.file.textContent = name;
+    this.page.progress.value = 0;
+    this.page.size.textContent = '';
+  }
+
+  showProgress(reached, size) {
+    this.page.progress.value = reached;
+    this.page.size.textContent = `${megabytes(reached)} of ${megabytes(size)}`;
+  }
+
+  show(transcript, endings, size) {
+    this.transcript = transcript;
+    this.page.size.textContent = `${megabytes(size)}, ${transcript.starts.length.toLocaleString('en')} lines`;
+    this.panel.open(transcript);
+    this.table.show(endings);
+    this.strays.show(transcript.strays);
+    this.setState('open');
+    if (!this.goToAddress() && transcript.games.length > 0) {
+      this.showGame(transcript.games[0]);
+    }
+  }
+
+  chooseGame(game) {
+    this.page.notice.textContent = '';
+    this.showGame(game);
+  }
+
+  /** Shows a game from its beginning. */
+  showGame(game) {
+    if (game.rounds.length === 0) {
+      this.panel.showWithoutBoard(game);
+    } else {
+      this.panel.player.pause();
+      this.panel.goTo(game, game.rounds[0], 0);
+    }
+  }
+
+  chooseGameBeside(step) {
+    const game = this.table.gameBeside(step);
+    if (game && game !== this.panel.game) {
+      this.chooseGame(game);
+    }
+  }
+
+  /** Goes to the turn that the address names; says whether it names one that the transcript holds. */
+  goToAddress() {
+    const place = placeInAddress(location.hash);
+    if (!place || !this.transcript) {
+      return false;
+    }
+    const game = this.transcript.gameNamed(place.game);
+    const number = numberInAddress(place.round);
+    const turn = numberInAddress(place.turn);
+    this.page.notice.textContent = '';
+    if (game?.rounds[number - 1]?.boards[turn] === undefined) {
+      this.page.notice.textContent = game
+        ? `The game ${place.game} has no turn ${place.turn} in round ${place.round}.`
+        : `The transcript has no game ${place.game}.`;
+      return false;
+    }
+    this.panel.player.pause();
+    this.panel.goTo(game, game.rounds[number - 1], turn);
+    return true;
+  }
+}
+
+/** Whether a key is meant for the element that has the focus. */
+function isKeyOfElement(event) {
+  const takesKeys = event.target.closest?.('input, select') ?? null;
+  return takesKeys !== null || (event.key === ' ' && event.target.closest?.('button, a, summary') !== null);
+}
+
+function listenToKeys(viewer) {
+  document.addEventListener('keydown', (event) => {
+    const answer = KEYS[event.key];
+    if (!answer || event.ctrlKey || event.altKey || event.metaKey || isKeyOfElement(event) || !viewer.transcript) {
+      return;
+    }
+    event.preventDefault();
+    answer(viewer, event.shiftKey);
+  });
+}
+
+function listenToFiles(viewer, page) {
+  const open = (file) => {
+    if (file) {
+      forgetAddress(viewer.transcript !== null);
+      viewer.open(file.name, Promise.resolve(file));
+    }
+  };
+  page.choose.addEventListener('change', () => {
+    open(page.choose.files[0]);
+    page.choose.value = '';
+  });
+  document.addEventListener('dragover', (event) => event.preventDefault());
+  document.addEventListener('drop', (event) => {
+    event.preventDefault();
+    open(event.dataTransfer.files[0]);
+  });
+}
+
+function beginViewer() {
+  const page = elementsOfPage();
+  const viewer = new Viewer(page);
+  listenToFiles(viewer, page);
+  listenToKeys(viewer);
+  window.addEventListener('hashchange', () => viewer.goToAddress());
+  const name = fileInAddress(location.search);
+  if (name) {
+    viewer.open(name, fetchFile(name));
+  }
+}
+
+beginViewer();
