@@ -13,7 +13,7 @@ SIZE = 85_000_000
 GAMES = 64
 OPEN_SECONDS = 30
 TURN_SECONDS = 2
-MOST_SILENCE = 0.5  # seconds in which the page may not answer at a stretch; the machine may be busy with a gate
+MOST_SILENCE = 2  # seconds in which the page may not answer at a stretch; the machine may be busy with a gate
 LONG = 10_000
 
 HEARTBEAT = """
