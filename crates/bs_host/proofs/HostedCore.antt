@@ -10,7 +10,8 @@ use Rattle.bs_board.specs.declared.plans.plan.Plan.{Plan}
 use Rattle.bs_board.specs.plans.Plan.{GameRow}
 use Rattle.bs_json.specs.declared.line.Stray.{Stray}
 use Rattle.bs_pool.specs.Ledger.{size}
-use Rattle.bs_sched.specs.Core.{CoreView, opened, row_at}
+use Rattle.bs_sched.specs.Core.{CoreView, opened_core}
+use Rattle.bs_sched.specs.Games.{row_at}
 use Rattle.bs_sched.specs.Handed.{IsServed}
 use Rattle.bs_sched.specs.Lane.{Lane}
 use Rattle.bs_sched.specs.Machine.{lane_of}
@@ -48,20 +49,20 @@ pub run_refusal : (found : Option Fault) (error : Run) → IsRefusal found (faul
 run_refusal found run.Memory = tt
 run_refusal found run.Broken = tt
 
-pub is_fresh : (capacity blocks workers : ℕ) (rows : List GameRow) (core : CoreView) → core ≡ opened capacity blocks workers rows
-    → core ≡ opened capacity (size core.storage.pool) core.workers core.rows
+pub is_fresh : (capacity blocks workers : ℕ) (rows : List GameRow) (core : CoreView) → core ≡ opened_core capacity blocks workers rows
+    → core ≡ opened_core capacity (size core.games.storage.pool) core.games.workers core.games.rows
 is_fresh capacity blocks workers rows core is =
-    let many : size core.storage.pool ≡ blocks = ap (λ core. size core.storage.pool) is ∙ length-replicate blocks None in
-    let hands : core.workers ≡ workers = ap (λ core. core.workers) is in
-    let games : core.rows ≡ rows = ap (λ core. core.rows) is in
-    is ∙ ap (λ many. opened capacity many workers rows) (sym many) ∙ ap (λ hands. opened capacity (size core.storage.pool) hands rows) (sym hands)
-    ∙ ap (λ games. opened capacity (size core.storage.pool) core.workers games) (sym games)
+    let many : size core.games.storage.pool ≡ blocks = ap (λ core. size core.games.storage.pool) is ∙ length-replicate blocks None in
+    let hands : core.games.workers ≡ workers = ap (λ core. core.games.workers) is in
+    let games : core.games.rows ≡ rows = ap (λ core. core.games.rows) is in
+    is ∙ ap (λ many. opened_core capacity many workers rows) (sym many) ∙ ap (λ hands. opened_core capacity (size core.games.storage.pool) hands rows) (sym hands)
+    ∙ ap (λ games. opened_core capacity (size core.games.storage.pool) core.games.workers games) (sym games)
 
 -- what is asked of its games is asked of games of the plan
-pub within_core : (capacity blocks workers : ℕ) (rows : List GameRow) (core : CoreView) (asked given : List (ℕ × Command)) → core ≡ opened capacity blocks workers rows
-    → given ≡ asked → AreWithinPlan (length rows) asked → AreWithinPlan (length core.rows) given
+pub within_core : (capacity blocks workers : ℕ) (rows : List GameRow) (core : CoreView) (asked given : List (ℕ × Command)) → core ≡ opened_core capacity blocks workers rows
+    → given ≡ asked → AreWithinPlan (length rows) asked → AreWithinPlan (length core.games.rows) given
 within_core capacity blocks workers rows core asked given is same within =
-    let games : core.rows ≡ rows = ap (λ core. core.rows) is in
+    let games : core.games.rows ≡ rows = ap (λ core. core.games.rows) is in
     rw (games, same) within
 
 -- the commands of a game are those that its lines ask
@@ -72,16 +73,17 @@ commands_of_row row ((number, route.Stray kind) ∷ routes) = commands_of_row ro
 commands_of_row row ((number, route.Nowhere) ∷ routes) = commands_of_row row routes
 
 pub hosts_lines : (capacity blocks workers : ℕ) (rows : List GameRow) (routes : List (ℕ × Route)) (commands : List (ℕ × Command)) (old new : CoreView)
-    → old ≡ opened capacity blocks workers rows → commands ≡ commands_by_row routes → IsRunOf old commands new → HostsLines blocks rows routes new
+    → old ≡ opened_core capacity blocks workers rows → commands ≡ commands_by_row routes → IsRunOf old commands new → HostsLines blocks rows routes new
 hosts_lines capacity blocks workers rows routes commands old new is asked ran =
-    let same : old.rows ≡ rows = ap (λ core. core.rows) is in
+    let same : old.games.rows ≡ rows = ap (λ core. core.games.rows) is in
     record {
       rows = ran.plan ∙ same;
-      pool = ran.blocks ∙ ap (λ core. size core.storage.pool) is ∙ length-replicate blocks None;
+      pool = ran.blocks ∙ ap (λ core. size core.games.storage.pool) is ∙ length-replicate blocks None;
       quiet = ran.quiet;
+      handed = ran.handed ∙ asked;
       served = λ row within.
           let served = rw (same, asked) at ran.served row within in
-          subst (λ given. IsServed (row_at rows row) given (lane_of new.lanes row)) (commands_of_row row routes) served;
+          subst (λ given. IsServed (row_at rows row) given (lane_of new.games.lanes row)) (commands_of_row row routes) served;
     }
 
 lane_lines : (row : GameRow) (commands : List Command) (x : Lane) → IsServed row commands x → lane_lines_of row x ≡ section_of row commands
@@ -102,11 +104,11 @@ sections_served routes first (row ∷ rows) (x ∷ lanes) many each =
     rw (head, tail) (sym (flat_map-cons (λ row. section_of row.1 (commands_to row.0 routes)) (first, row) (enumerate_from (first + 1) rows)))
 
 pub transcript_of_core : (blocks : ℕ) (file : List ℕ) (core : CoreView) (strays : List (ℕ × Stray)) → Hosts blocks file core
-    → length core.lanes ≡ length core.rows → strays ≡ strays_of file → core_text_of core strays ≡ transcript_of file
+    → length core.games.lanes ≡ length core.games.rows → strays ≡ strays_of file → core_text_of core strays ≡ transcript_of file
 unfolding transcript_of
 transcript_of_core blocks file core strays hosts many is =
-    let many_of : length core.lanes ≡ length (rows_of file) = many ∙ ap length hosts.rows in
-    let told = sections_served (routes_of file) 0 (rows_of file) core.lanes many_of
+    let many_of : length core.games.lanes ≡ length (rows_of file) = many ∙ ap length hosts.rows in
+    let told = sections_served (routes_of file) 0 (rows_of file) core.games.lanes many_of
     (λ row within. let at : row ≡ 0 + row = omega arith in
-    subst (λ at. IsServed (row_at (rows_of file) row) (commands_to at (routes_of file)) (lane_of core.lanes row)) at (hosts.served row within)) in
+    subst (λ at. IsServed (row_at (rows_of file) row) (commands_to at (routes_of file)) (lane_of core.games.lanes row)) at (hosts.served row within)) in
     rw (hosts.rows, is) (ap (λ sections. sections ++ stray_lines_of (strays_of file)) told)

@@ -33,4 +33,4 @@ sections_in (row ∷ rows) [] = []
 sections_in (row ∷ rows) (x ∷ lanes) = lane_lines_of row x ++ sections_in rows lanes
 
 abbrev pub core_text_of : CoreView → List (ℕ × Stray) → List ℕ
-core_text_of core strays = sections_in core.rows core.lanes ++ stray_lines_of strays
+core_text_of core strays = sections_in core.games.rows core.games.lanes ++ stray_lines_of strays

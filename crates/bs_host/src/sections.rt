@@ -1,7 +1,7 @@
 //! What a core tells of its games.
 ghost use Rattle.std.specs.Prelude.{◌≡◌, ◌<◌, length, OnOk, IfOk};
 ghost use Rattle.std.specs.List.{flat_map};
-ghost use Rattle.bs_sched.specs.Core.{row_at};
+ghost use Rattle.bs_sched.specs.Games.{row_at};
 ghost use Rattle.bs_sched.specs.Machine.{lane_of};
 ghost use Rattle.bs_transcript.specs.Lines.{section_lines_of};
 ghost use Rattle.bs_host.specs.Transcript.{lane_lines_of, sections_in, core_text_of};
@@ -18,9 +18,9 @@ fn section_of_game<'c>(
     core: &'c Core<BLOCK_BYTES>,
     game: usize,
 ) -> Result<Section<'c>, AllocError>
-    requires { game < length core.now.lanes }
+    requires { game < length core.now.games.lanes }
     ensures { IfOk result
-        (λ section. section_lines_of section ≡ lane_lines_of (row_at core.now.rows game) (lane_of core.now.lanes game)) }
+        (λ section. section_lines_of section ≡ lane_lines_of (row_at core.now.games.rows game) (lane_of core.now.games.lanes game)) }
 {
     Ok(Section {
         name: &core.row(game).game,
@@ -35,8 +35,8 @@ fn sections_of_games<'c>(
     core: &'c Core<BLOCK_BYTES>,
 ) -> Result<Vec<Section<'c>>, AllocError>
     ensures told { IfOk result
-        (λ sections. flat_map section_lines_of sections.items ≡ sections_in core.now.rows core.now.lanes) }
-    ensures lanes { length core.now.lanes ≡ length core.now.rows }
+        (λ sections. flat_map section_lines_of sections.items ≡ sections_in core.now.games.rows core.now.games.lanes) }
+    ensures lanes { length core.now.games.lanes ≡ length core.now.games.rows }
 {
     let mut sections = Vec::with_capacity(alloc, core.rows())?;
     for game in 0..core.rows() {
@@ -52,7 +52,7 @@ pub(crate) fn core_text(
     strays: &Strays,
 ) -> Result<Vec<u8>, AllocError>
     ensures text { IfOk result (λ text. text.items ≡ core_text_of core.now strays.now) }
-    ensures lanes { OnOk result (length core.now.lanes ≡ length core.now.rows) }
+    ensures lanes { OnOk result (length core.now.games.lanes ≡ length core.now.games.rows) }
 {
     let sections = sections_of_games(alloc, core)?;
     text(alloc, sections.as_slice(), strays.as_slice())

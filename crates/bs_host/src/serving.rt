@@ -1,7 +1,7 @@
 //! A command file is served: its plan and its lines are read, a core answers them, and the transcript is written.
 ghost use Rattle.std.specs.Prelude.{◌≡◌, ◌≤◌, None, Ok, length, IfOk, IfErr, OnOk, IfSome, option_copied};
 ghost use Rattle.std.specs.Io.KnownBytes.{Appends};
-ghost use Rattle.bs_sched.specs.Core.{opened};
+ghost use Rattle.bs_sched.specs.Core.{opened_core};
 ghost use Rattle.bs_host.specs.File.{pieces_after};
 ghost use Rattle.bs_host.specs.Hosted.{Hosts, HostsLines};
 ghost use Rattle.bs_host.specs.Routing.{routes_from, strays_in, strays_of};
@@ -38,7 +38,7 @@ fn open_core(
     blocks: usize,
     workers: usize,
 ) -> Result<Core<BLOCK_BYTES>, Fault>
-    ensures core { IfOk result (λ core. core ≡ opened BLOCK_BYTES blocks workers plan.rows) }
+    ensures core { IfOk result (λ core. core ≡ opened_core BLOCK_BYTES blocks workers plan.rows) }
     ensures served { OnOk result (refusal_of_plan blocks (Ok plan) ≡ None) }
     ensures fault { IfErr result (IsRefusal (refusal_of_plan blocks (Ok plan))) }
 {

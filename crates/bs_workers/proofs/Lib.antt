@@ -1,1 +1,1 @@
-pub mod TakenCommands
+pub mod HandedIn

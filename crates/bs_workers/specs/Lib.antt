@@ -1,2 +1,2 @@
-pub mod Answered
+pub mod Given
 pub mod Run

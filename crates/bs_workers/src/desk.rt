@@ -62,10 +62,10 @@ impl<const CAP: usize> Desk<CAP> {
     }
 
     /// A command for the game of that row.
-    pub(crate) fn hand(&mut self, game: usize, command: Command) {
+    pub(crate) fn hand(&mut self, alloc: Global, game: usize, command: Command) {
         if game >= self.core.rows() {
             self.stop(Run::Broken);
-        } else if self.core.hand(game, command).is_err() {
+        } else if self.core.hand(alloc, game, command).is_err() {
             self.stop(Run::Memory);
         } else {
             self.change();

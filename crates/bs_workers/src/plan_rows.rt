@@ -10,7 +10,7 @@ pub(crate) fn copy_rows<const CAP: usize>(
     alloc: Global,
     core: &Core<CAP>,
 ) -> Result<Vec<Row>, AllocError>
-    ensures { IfOk result (λ rows. rows.items ≡ core.now.rows) }
+    ensures { IfOk result (λ rows. rows.items ≡ core.now.games.rows) }
 {
     let count = core.rows();
     let mut rows = Vec::with_capacity(alloc, count)?;
@@ -28,7 +28,7 @@ fn is_same_row(row: &Row, other: &Row) -> bool
 
 /// Whether the core has these rows.
 pub(crate) fn has_rows<const CAP: usize>(core: &Core<CAP>, rows: &[Row]) -> bool
-    ensures { IsTrue result → core.now.rows ≡ rows.now }
+    ensures { IsTrue result → core.now.games.rows ≡ rows.now }
 {
     if core.rows() != rows.len() {
         return false;

@@ -1,7 +1,7 @@
 //! A run: every command is handed in and answered.
 ghost use Rattle.std.specs.Prelude.{◌≡◌, ◌<◌, All, length, IfOk};
 ghost use Rattle.bs_pool.specs.Ledger.{size};
-ghost use Rattle.bs_sched.specs.Core.{opened};
+ghost use Rattle.bs_sched.specs.Core.{opened_core};
 ghost use Rattle.bs_workers.specs.Run.{IsRunOf};
 
 use crate::comparing::is_run_of;
@@ -25,15 +25,15 @@ pub fn run<const CAP: usize, R: Threads + Wait + Sync, G: Gate>(
     workers: usize,
     gate: &G,
 ) -> Result<Core<CAP>, Run>
-    requires rows { All (λ command. command.0 < length core.rows) commands.now }
-    requires fresh { core ≡ opened CAP (size core.storage.pool) core.workers core.rows }
-    requires workers { core.workers ≡ workers }
+    requires rows { All (λ command. command.0 < length core.games.rows) commands.now }
+    requires fresh { core ≡ opened_core CAP (size core.games.storage.pool) core.games.workers core.games.rows }
+    requires workers { core.games.workers ≡ workers }
     ensures { IfOk result (λ done. IsRunOf core.entry commands.now done) }
 {
     let rows = copy_rows(alloc, &core)?;
     let blocks = core.counts().size;
     let core = worked(rt, alloc, core, commands, workers, gate)?;
-    if is_run_of(alloc, &core, rows.as_slice(), blocks, commands)? {
+    if is_run_of(&core, rows.as_slice(), blocks, commands) {
         Ok(core)
     } else {
         Err(Run::Broken)

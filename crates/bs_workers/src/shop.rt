@@ -46,15 +46,21 @@ impl<const CAP: usize> Shop<CAP> {
         self.changed.notify_all();
     }
 
-    fn hand_in<R: Wait>(&self, rt: &R, game: usize, command: Command) -> bool {
+    fn hand_in<R: Wait>(&self, rt: &R, alloc: Global, game: usize, command: Command) -> bool {
         let mut desk = self.desk.lock(rt);
-        desk.hand(game, command);
+        desk.hand(alloc, game, command);
         !desk.is_stopped()
     }
 
     /// Hands in a command, after which there may be one job more. Whether the run goes on.
-    pub(crate) fn hand<R: Wait>(&self, rt: &R, game: usize, command: Command) -> bool {
-        let goes_on = self.hand_in(rt, game, command);
+    pub(crate) fn hand<R: Wait>(
+        &self,
+        rt: &R,
+        alloc: Global,
+        game: usize,
+        command: Command,
+    ) -> bool {
+        let goes_on = self.hand_in(rt, alloc, game, command);
         if goes_on {
             self.changed.notify_one();
         } else {

@@ -1,6 +1,6 @@
 //! Two games of three snakes, played by one worker and by several, and what becomes of them where a gate is shut.
 ghost use Rattle.std.specs.Prelude.{◌≡◌, ◌<◌, ℕ, All, IsTrue, IfOk, length};
-ghost use Rattle.bs_sched.specs.Core.{opened};
+ghost use Rattle.bs_sched.specs.Core.{opened_core};
 
 use crate::{Gate, OpenGate, Run, run};
 use bs_board::limits::MOST_ROWS;

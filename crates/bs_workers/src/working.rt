@@ -70,7 +70,7 @@ fn hand_all<const CAP: usize, R: Wait>(
             shop.stop(rt, Run::Memory);
             break;
         };
-        if !shop.hand(rt, *game, command) {
+        if !shop.hand(rt, alloc, *game, command) {
             break;
         }
     }

@@ -7,4 +7,5 @@ use Rattle.bs_host.proofs.sections.sections_of_games.Given as goal
 -- the sections so far, then those that are left
 abbrev pub invariant-loop-game : goal.invariant-loop-game
 invariant-loop-game l =
-    flat_map section_lines_of l.sections.items ++ sections_in (drop l.game l.core.rows) (drop l.game l.core.lanes) ≡ sections_in l.core.rows l.core.lanes
+    flat_map section_lines_of l.sections.items ++ sections_in (drop l.game l.core.games.rows) (drop l.game l.core.games.lanes)
+    ≡ sections_in l.core.games.rows l.core.games.lanes

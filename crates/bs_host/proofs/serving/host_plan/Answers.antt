@@ -18,7 +18,7 @@ run-requires-after_bounds g c κs bounds =
       omega arith,
       (
         within_core BLOCK_BYTES c.args.blocks c.args.workers rows core c.in_ok-requests.requests.commands c.as_slice-2.result.now is c.as_slice-2.ensures asked,
-        (is_fresh BLOCK_BYTES c.args.blocks c.args.workers rows core is, ap (λ core. core.workers) is),
+        (is_fresh BLOCK_BYTES c.args.blocks c.args.workers rows core is, ap (λ core. core.games.workers) is),
       ),
     )
 

@@ -3,4 +3,4 @@ use Rattle.std.proofs.Common.{◌≡◌, take}
 use Rattle.bs_workers.proofs.plan_rows.copy_rows.Given as goal
 
 abbrev pub invariant-loop-game : goal.invariant-loop-game
-invariant-loop-game g l = l.rows.items ≡ take l.game l.core.rows
+invariant-loop-game g l = l.rows.items ≡ take l.game l.core.games.rows

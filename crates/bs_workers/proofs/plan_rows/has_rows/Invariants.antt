@@ -3,4 +3,4 @@ use Rattle.std.proofs.Common.{◌≡◌, take}
 use Rattle.bs_workers.proofs.plan_rows.has_rows.Given as goal
 
 abbrev pub invariant-loop-game : goal.invariant-loop-game
-invariant-loop-game g l = take l.game l.core.rows ≡ take l.game l.rows
+invariant-loop-game g l = take l.game l.core.games.rows ≡ take l.game l.rows

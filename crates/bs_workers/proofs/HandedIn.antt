@@ -1,0 +1,80 @@
+-- The commands that a journal hands in, looked at one by one, and what a quiet core is that was handed them.
+use Rattle.std.proofs.Common.{◌≡◌, ℕ, ◌+◌, ◌<◌, true, List, [], ◌∷◌, ◌++◌, length, take, get_or, refl, sym, ap, subst, ◌∙◌, inl, inr}
+use Rattle.std.specs.Prelude.{nat_eq, nat_lt}
+use Rattle.std.specs.List.{list_all}
+use Rattle.std.proofs.lemmas.Bool.{cases_Bool, ltb-true, ltb-false}
+use Rattle.std.proofs.lemmas.List.{append_assoc, take_more, get_or_past}
+use Rattle.std.proofs.lemmas.List.Sums.{AllPass-from_list_all}
+use Rattle.bs_board.specs.declared.commands.command.Command.{Command}
+use Rattle.bs_board.specs.plans.Plan.{GameRow}
+use Rattle.bs_sched.specs.declared.event.Event.{Event}
+use Rattle.bs_sched.specs.declared.event.Event.TheVariants as event
+use Rattle.bs_sched.specs.Core.{CoreView}
+use Rattle.bs_sched.specs.Games.{row_at}
+use Rattle.bs_sched.specs.Handed.{IsServed, hands_of}
+use Rattle.bs_sched.specs.Isolation.{KeepsCourse, own_commands}
+use Rattle.bs_sched.specs.Journal.{KeepsApart}
+use Rattle.bs_sched.specs.Lane.{Lane, empty_lane, is_quiet}
+use Rattle.bs_sched.specs.Machine.{lane_of}
+use Rattle.bs_sched.proofs.HandedCommands.{served}
+use Rattle.bs_workers.specs.Given.{IsAsGiven, IsRunFrom}
+use Rattle.bs_workers.specs.Run.{commands_for}
+
+-- one event more
+
+hands_append : (events more : List Event) → hands_of (events ++ more) ≡ hands_of events ++ hands_of more
+hands_append [] more = refl
+hands_append (event.Hand game command ∷ events) more = ap (λ rest. (game, command) ∷ rest) (hands_append events more)
+hands_append (event.Take worker job ∷ events) more = hands_append events more
+hands_append (event.Put worker job ∷ events) more = hands_append events more
+
+pub hands_more : (events : List Event) (i : ℕ) (e : Event) (commands left rest : List (ℕ × Command)) → i < length events → e ≡ get_or events i e
+    → commands ≡ hands_of (take i events) ++ left → left ≡ hands_of (e ∷ []) ++ rest → commands ≡ hands_of (take (i + 1) events) ++ rest
+hands_more events i e commands left rest within is before next =
+    let more : take (i + 1) events ≡ take i events ++ e ∷ []
+    = take_more events i e within ∙ ap (λ (x : Event). take i events ++ x ∷ []) (sym is) in
+    let hands : hands_of (take (i + 1) events) ≡ hands_of (take i events) ++ hands_of (e ∷ [])
+    = ap (λ (all : List Event). hands_of all) more ∙ hands_append (take i events) (e ∷ []) in
+    before ∙ ap (λ all. hands_of (take i events) ++ all) next ∙ sym (append_assoc (hands_of (take i events)) (hands_of (e ∷ [])) rest)
+    ∙ ap (λ all. all ++ rest) (sym hands)
+
+-- a quiet core whose journal hands in the commands has served them
+
+own_hands : (game : ℕ) (events : List Event) → own_commands game events ≡ commands_for game (hands_of events)
+own_hands game [] = refl
+own_hands game (event.Hand row command ∷ events) =
+    elim (cases_Bool (nat_eq row game)) [
+      | inl on ↦ rw on (ap (λ rest. command ∷ rest) (own_hands game events))
+      | inr off ↦ rw off (own_hands game events)
+    ]
+own_hands game (event.Take worker job ∷ events) = own_hands game events
+own_hands game (event.Put worker job ∷ events) = own_hands game events
+
+quiet_at : (lanes : List Lane) (game : ℕ) → list_all is_quiet lanes ≡ true → is_quiet (lane_of lanes game) ≡ true
+quiet_at lanes game quiet =
+    elim (cases_Bool (nat_lt game (length lanes))) [
+      | inl on ↦ AllPass-from_list_all is_quiet lanes quiet game (empty_lane 0) (ltb-true game (length lanes) on)
+      | inr off ↦ ap is_quiet (get_or_past lanes game (empty_lane 0) (ltb-false game (length lanes) off))
+    ]
+
+served_one : (cap : ℕ) (core : CoreView) (game : ℕ) → game < length core.games.rows → KeepsApart cap core → list_all is_quiet core.games.lanes ≡ true
+    → IsServed (row_at core.games.rows game) (commands_for game (hands_of core.journal)) (lane_of core.games.lanes game)
+served_one cap core game within apart quiet =
+    let course = subst (λ (lanes : List Lane). KeepsCourse core.games.rows core.journal game (lane_of lanes game)) apart.lanes (apart.games game within).course in
+    served (lane_of core.games.lanes game) (row_at core.games.rows game) (commands_for game (hands_of core.journal)) course.right
+    (quiet_at core.games.lanes game quiet) course.quota (course.commands ∙ own_hands game core.journal)
+
+pub run_from : (cap : ℕ) (rows : List GameRow) (blocks : ℕ) (commands : List (ℕ × Command)) (new : CoreView) → KeepsApart cap new
+    → IsAsGiven rows blocks new → hands_of new.journal ≡ commands → IsRunFrom rows blocks commands new
+run_from cap rows blocks commands new apart given handed =
+    record {
+      plan = given.plan;
+      as_many = given.as_many;
+      quiet = given.quiet;
+      handed = handed;
+      served =
+          λ game within.
+          let there : game < length new.games.rows = rw given.plan within in
+          let all = served_one cap new game there apart given.quiet in
+          rw (given.plan, handed) at all;
+    }

@@ -1,0 +1,26 @@
+-- What a core has to be for a run to have left it.
+use Rattle.std.specs.Prelude.{◌≡◌, ℕ, ◌<◌, true, List, length}
+use Rattle.std.specs.List.{list_all}
+use Rattle.bs_board.specs.declared.commands.command.Command.{Command}
+use Rattle.bs_board.specs.plans.Plan.{GameRow}
+use Rattle.bs_pool.specs.Ledger.{size}
+use Rattle.bs_sched.specs.Core.{CoreView}
+use Rattle.bs_sched.specs.Games.{row_at}
+use Rattle.bs_sched.specs.Handed.{IsServed, hands_of}
+use Rattle.bs_sched.specs.Lane.{is_quiet}
+use Rattle.bs_sched.specs.Machine.{lane_of}
+use Rattle.bs_workers.specs.Run.{commands_for}
+
+-- the core has that plan and so many blocks, and nothing is left to do
+pub record IsAsGiven (rows : List GameRow) (blocks : ℕ) (new : CoreView) : Type 0 where
+  pub plan : new.games.rows ≡ rows
+  pub as_many : size new.games.storage.pool ≡ blocks
+  pub quiet : list_all is_quiet new.games.lanes ≡ true
+
+-- what a run of the commands leaves of a core of that plan, with so many blocks
+pub record IsRunFrom (rows : List GameRow) (blocks : ℕ) (commands : List (ℕ × Command)) (new : CoreView) : Type 0 where
+  pub plan : new.games.rows ≡ rows
+  pub as_many : size new.games.storage.pool ≡ blocks
+  pub quiet : list_all is_quiet new.games.lanes ≡ true
+  pub handed : hands_of new.journal ≡ commands
+  pub served : (game : ℕ) → game < length rows → IsServed (row_at rows game) (commands_for game commands) (lane_of new.games.lanes game)
