@@ -6,7 +6,7 @@ ghost use Rattle.bs_board.specs.declared.commands.command.Command.TheVariants as
 ghost use Rattle.bs_fiber.specs.Work.{goes, moved_part, parts_of};
 
 use crate::beginning::goes;
-use crate::{Done, Expected, Input, JobKind, JobName, Out, Parts, Ticket, work};
+use crate::{Done, Expected, Input, JobKind, JobName, Out, Parts, SharedCommand, Ticket, work};
 use bs_board::{
     Board, Cells, Command, Direction, Id, Mode, Move, Moves, Point, Reply, Snake, Snakes, Word,
     Words, encode, is_legal,
@@ -98,7 +98,7 @@ fn input(
         kept: 1,
         last: Some(Record::from_vec(encode(alloc, last)?)),
         asked: None,
-        command,
+        command: SharedCommand::new(alloc, command)?,
         parts,
     })
 }
@@ -119,18 +119,41 @@ fn no_parts(alloc: Global) -> Parts
     Parts::from_vec(Vec::new(alloc))
 }
 
+// What a core expects of the first job for that command, on a game whose newest board has that record.
+fn expected<'a>(record: &'a [u8], command: &'a SharedCommand) -> Expected<'a> {
+    Expected {
+        job: job(JobKind::Begin, 0),
+        worker: 1,
+        seq: 2,
+        quota: 4096,
+        charge: 64,
+        kept: 1,
+        last: Some(record),
+        asked: None,
+        command,
+    }
+}
+
+fn shared_move(alloc: Global) -> Result<SharedCommand, AllocError> {
+    SharedCommand::new(alloc, Command::Move(third_goes_down(alloc)?))
+}
+
+// The job that begins the move of the third snake, done.
+fn begun(rt: &impl Abort, alloc: Global, last: &Board) -> Result<Done, Fail> {
+    assert!(rt; is_legal(last));
+    let command = Command::Move(third_goes_down(alloc)?);
+    let begin = job(JobKind::Begin, 0);
+    let input = input(alloc, last, command, begin, no_parts(alloc))?;
+    Ok(work(alloc, Ticket::new(input))?)
+}
+
 #[test]
 fn begin_lets_the_move_go(rt: HostRuntime) -> Result<(), Fail> {
     let alloc = rt.alloc();
-    let last = before(alloc)?;
-    assert!(rt; is_legal(&last));
-    let command = Command::Move(third_goes_down(alloc)?);
-    let begin = job(JobKind::Begin, 0);
-    let input = input(alloc, &last, command, begin, no_parts(alloc))?;
-    let done = work(alloc, Ticket::new(input))?;
+    let done = begun(&rt, alloc, &before(alloc)?)?;
     assert!(rt; matches!(done.out(), Out::Goes));
     let ticket = done.ticket();
-    assert_eq!(rt; ticket.job(), begin);
+    assert_eq!(rt; ticket.job(), job(JobKind::Begin, 0));
     assert_eq!(rt; ticket.worker(), 1);
     assert_eq!(rt; ticket.seq(), 2);
     assert_eq!(rt; ticket.quota(), 4096);
@@ -138,28 +161,27 @@ fn begin_lets_the_move_go(rt: HostRuntime) -> Result<(), Fail> {
     assert_eq!(rt; ticket.kept(), 1);
     assert!(rt; ticket.last().is_some() && ticket.asked().is_none());
     assert!(rt; matches!(ticket.command(), Command::Move(_)));
-    let command = Command::Move(third_goes_down(alloc)?);
+    Ok(())
+}
+
+#[test]
+fn a_ticket_is_of_its_own_command(rt: HostRuntime) -> Result<(), Fail> {
+    let alloc = rt.alloc();
+    let last = before(alloc)?;
+    let done = begun(&rt, alloc, &last)?;
+    assert!(rt; is_legal(&last));
     let record = encode(alloc, &last)?;
-    let mut expected = Expected {
-        job: begin,
-        worker: 1,
-        seq: 2,
-        quota: 4096,
-        charge: 64,
-        kept: 1,
-        last: Some(record.as_slice()),
-        asked: None,
-        command: &command,
-    };
-    assert!(rt; ticket.is_of(&expected));
-    expected.command = &Command::Show;
-    assert!(rt; !ticket.is_of(&expected));
+    let moved = shared_move(alloc)?;
+    let show = SharedCommand::new(alloc, Command::Show)?;
+    assert!(rt; done.ticket().is_of(&expected(record.as_slice(), &moved)));
+    assert!(rt; !done.ticket().is_of(&expected(record.as_slice(), &show)));
     Ok(())
 }
 
 #[test]
 fn an_expected_input_is_copied(rt: HostRuntime) -> Result<(), Fail> {
     let alloc = rt.alloc();
+    let show = SharedCommand::new(alloc, Command::Show)?;
     let expected = Expected {
         job: job(JobKind::Begin, 0),
         worker: 1,
@@ -169,13 +191,14 @@ fn an_expected_input_is_copied(rt: HostRuntime) -> Result<(), Fail> {
         kept: 1,
         last: Some(&[7, 8]),
         asked: Some(&[9]),
-        command: &Command::Show,
+        command: &show,
     };
     let input = expected.to_input(alloc)?;
     assert_eq!(rt; (input.worker, input.seq, input.kept), (1, 2, 1));
     assert!(rt; matches!(&input.last, Some(bytes) if bytes.as_slice() == [7, 8].as_slice()));
     assert!(rt; matches!(&input.asked, Some(bytes) if bytes.as_slice() == [9].as_slice()));
     assert!(rt; input.parts.as_slice().is_empty());
+    assert!(rt; matches!(input.command.get(), Command::Show));
     Ok(())
 }
 
