@@ -35,7 +35,7 @@ fn behind<'c>(commands: &'c [(usize, Command)], event: &Event) -> Option<&'c [(u
     ensures { IfSome result (λ rest. commands.now ≡ hands_of (event.now ∷ []) ++ rest.now) }
 {
     match event {
-        Event::Hand(game, command) => behind_hand(commands, *game, command),
+        Event::Hand(game, command) => behind_hand(commands, *game, command.get()),
         Event::Take(_, _) => Some(commands),
         Event::Put(_, _) => Some(commands),
     }
