@@ -1,12 +1,13 @@
 -- A file cut at its line feeds.
-use Rattle.std.proofs.Common.{◌≡◌, ℕ, zero, suc, ◌+◌, ◌-◌, ◌<◌, ◌≤◌, Bool, false, List, [], ◌∷◌, ◌++◌, Some, None, length, take, drop, get_or, sym, ap, ◌∙◌, arith, All, length-take, take-append-drop, add-one, inl, inr}
+use Rattle.std.proofs.Common.{◌≡◌, ℕ, zero, suc, ◌+◌, ◌-◌, ◌<◌, ◌≤◌, Bool, false, true, refl, List, [], ◌∷◌, ◌++◌, Some, None, length, take, drop, get_or, sym, ap, ◌∙◌, arith, All, length-take, length-drop, take-append-drop, add-one, inl, inr}
 use Rattle.std.proofs.Math.Dec.{eqb, ltb}
 use Rattle.std.proofs.Math.Seq.{drop-cons}
 use Rattle.std.proofs.lemmas.Bool.{cases_Bool, ltb-false, cond-true}
-use Rattle.std.proofs.lemmas.List.{get_or-take, take_rest}
+use Rattle.std.proofs.lemmas.List.{get_or-take, get_or-drop, take_rest}
 use Rattle.std.proofs.lemmas.List.Quantifiers.{position-Some}
-use Rattle.std.proofs.lemmas.List.Splits.{slice_split_none, slice_split_at}
-use Rattle.std.specs.List.{position, position_or_len}
+use Rattle.std.proofs.lemmas.List.Sums.{count_by-le-length}
+use Rattle.std.proofs.lemmas.List.Splits.{slice_split_none, slice_split_at, slice_split-cons_yes, slice_split-cons_no, length-slice_split}
+use Rattle.std.specs.List.{count_by, onto_first, position, position_or_len}
 use Rattle.bs_host.specs.declared.pieces.TheConstants.{LINE_FEED}
 use Rattle.bs_host.specs.File.{pieces_of}
 
@@ -45,6 +46,42 @@ parts_at_feed text at found =
 pub pieces_at_feed : (text : List ℕ) (at : ℕ) → position is_feed text ≡ Some at
     → pieces_of text ≡ take at text ∷ pieces_of (take (length text - (at + 1)) (drop (at + 1) text))
 pieces_at_feed text at found = rw (take_rest text (at + 1)) (parts_at_feed text at found)
+
+onto_first_append : (byte : ℕ) (parts more : List (List ℕ)) → 0 < length parts → onto_first byte (parts ++ more) ≡ onto_first byte parts ++ more
+onto_first_append byte [] more some = absurd (omega arith)
+onto_first_append byte (part ∷ parts) more some = refl
+
+some_pieces : (text : List ℕ) → 0 < length (pieces_of text)
+some_pieces text = omega (arith, length-slice_split is_feed text)
+
+pieces_between : (front : List ℕ) (feed : ℕ) (back : List ℕ) → is_feed feed ≡ true → pieces_of (front ++ feed ∷ back) ≡ pieces_of front ++ pieces_of back
+pieces_between [] feed back hit = slice_split-cons_yes is_feed feed back hit
+pieces_between (byte ∷ front) feed back hit = elim (cases_Bool (is_feed byte)) [
+  | inl hits ↦
+      slice_split-cons_yes is_feed byte (front ++ feed ∷ back) hits ∙ ap (λ parts. [] ∷ parts) (pieces_between front feed back hit)
+      ∙ ap (λ parts. parts ++ pieces_of back) (sym (slice_split-cons_yes is_feed byte front hits))
+  | inr misses ↦
+      slice_split-cons_no is_feed byte (front ++ feed ∷ back) misses ∙ ap (onto_first byte) (pieces_between front feed back hit)
+      ∙ onto_first_append byte (pieces_of front) (pieces_of back) (some_pieces front)
+      ∙ ap (λ parts. parts ++ pieces_of back) (sym (slice_split-cons_no is_feed byte front misses))
+]
+
+-- the bytes of `&text[..at]` and of `&text[at + 1..]`, where the feed at that place is the first from an earlier one on
+pub pieces_around : (text : List ℕ) (place found : ℕ) → place ≤ length text → position is_feed (take (length text - place) (drop place text)) ≡ Some found
+    → pieces_of text ≡ pieces_of (take (place + found) text) ++ pieces_of (take (length text - (place + found + 1)) (drop (place + found + 1) text))
+pieces_around text place found within is =
+    let at = place + found in
+    let (inside, hit, before) = position-Some is_feed (drop place text) found 0 (ap (position is_feed) (sym (take_rest text place)) ∙ is) in
+    let short : at < length text = omega (arith, inside, length-drop place text) in
+    let feed : is_feed (get_or text at 0) ≡ true = ap is_feed (sym (get_or-drop place text found 0)) ∙ hit in
+    let parts : text ≡ take at text ++ get_or text at 0 ∷ drop (suc at) text = sym (ap (λ t. take at text ++ t) (sym (drop-cons text at 0 short)) ∙ take-append-drop at text) in
+    rw (take_rest text (at + 1), add-one) (ap pieces_of parts ∙ pieces_between (take at text) (get_or text at 0) (drop (suc at) text) feed)
+
+pub piece_count : (text : List ℕ) → length (pieces_of text) ≡ count_by is_feed text + 1
+piece_count text = length-slice_split is_feed text
+
+pub few_pieces : (text : List ℕ) → count_by is_feed text + 1 ≤ length text + 1
+few_pieces text = omega (arith, count_by-le-length is_feed text)
 
 pub piece_without_feed : (text : List ℕ) → position is_feed text ≡ None → pieces_of text ≡ text ∷ []
 piece_without_feed text none = slice_split_none is_feed text (fails_everywhere is_feed text none)

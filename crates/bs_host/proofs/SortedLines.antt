@@ -1,5 +1,5 @@
 -- The lines of a file, sorted one after the other.
-use Rattle.std.proofs.Common.{◌≡◌, ℕ, ◌+◌, ◌<◌, ◌≤◌, List, [], ◌∷◌, ◌++◌, Option, Some, None, length, refl, sym, ap, ◌∙◌, arith, append_assoc, append-nil, lit≤}
+use Rattle.std.proofs.Common.{◌≡◌, ℕ, ◌+◌, ◌<◌, List, [], ◌∷◌, ◌++◌, Option, Some, None, length, refl, sym, ap, ◌∙◌, arith, append_assoc, append-nil}
 use Rattle.std.specs.Prelude.{option_map, option_to_list, unwrap_or, IfSome}
 use Rattle.std.specs.Borrow.{Bor}
 use Rattle.std.specs.List.{cons_option}
@@ -8,7 +8,6 @@ use Rattle.bs_board.specs.declared.commands.command.Command.{Command}
 use Rattle.bs_board.specs.plans.Plan.{GameRow}
 use Rattle.bs_json.specs.declared.line.Stray.{Stray}
 use Rattle.bs_json.specs.Line.{line_of}
-use Rattle.bs_host.specs.declared.limits.TheConstants.{MOST_FILE_BYTES}
 use Rattle.bs_host.specs.declared.requests.Requests.{Requests}
 use Rattle.bs_host.specs.declared.routing.Route.{Route}
 use Rattle.bs_host.specs.declared.routing.Route.TheVariants as route
@@ -51,9 +50,9 @@ pub record IsUnderWay (rows : List GameRow) (all : List (ℕ × Route)) (number 
   pub strays : r.strays ++ strays_in (routes_from rows number left) ≡ strays_in all
   pub within : AreWithinPlan (length rows) r.commands
 
-pub begins : (rows : List GameRow) (pieces : List (List ℕ)) (r : Requests) → r.commands ≡ [] → r.strays ≡ []
-    → IsUnderWay rows (routes_from rows 2 pieces) 2 pieces r
-begins rows pieces r commands strays = record {
+pub begins : (rows : List GameRow) (first : ℕ) (pieces : List (List ℕ)) (r : Requests) → r.commands ≡ [] → r.strays ≡ []
+    → IsUnderWay rows (routes_from rows first pieces) first pieces r
+begins rows first pieces r commands strays = record {
   commands = rw commands refl;
   strays = rw strays refl;
   within = rw commands (λ k d within. absurd (omega arith));
@@ -100,10 +99,6 @@ requests_commands r routes is = ap (λ r. r.commands) is
 -- as many bytes as are left, and one for the line feed
 abbrev pub bytes_left : Option (Bor (List ℕ)) → ℕ
 bytes_left rest = unwrap_or (option_map (λ text. length text.now + 1) rest) 0
-
-pub few_at_first : (rest : Option (Bor (List ℕ))) → IfSome rest (λ text. length text.now ≤ MOST_FILE_BYTES) → 2 + bytes_left rest ≤ MOST_FILE_BYTES + 4
-few_at_first None few = lit≤ tt
-few_at_first (Some text) few = omega arith
 
 pub fewer_left : (left more : Option (Bor (List ℕ))) (text : Bor (List ℕ)) → left ≡ Some text → IfSome more (λ rest. length rest.now < length text.now)
     → bytes_left more < bytes_left left

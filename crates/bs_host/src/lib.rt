@@ -14,6 +14,7 @@ mod requests;
 mod routing;
 mod sections;
 mod serving;
+mod sorting;
 #[cfg(test)]
 mod tests;
 

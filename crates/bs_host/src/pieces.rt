@@ -1,5 +1,5 @@
 //! The pieces of a file between its line feeds, cut off one after the other.
-ghost use Rattle.std.specs.Prelude.{◌≡◌, ◌==◌, ◌<◌, ◌∷◌, length, option_copied, IfSome};
+ghost use Rattle.std.specs.Prelude.{◌≡◌, ◌==◌, ◌+◌, ◌<◌, ◌≤◌, ◌^◌, ◌∷◌, ◌++◌, length, option_copied, IfSome, count_by};
 ghost use Rattle.std.specs.List.{position};
 ghost use Rattle.bs_host.specs.File.{pieces_of, pieces_after};
 
@@ -22,4 +22,25 @@ pub(crate) fn cut_piece(text: &[u8]) -> (&[u8], Option<&[u8]>)
         None => (text, None),
         Some(at) => (&text[..at], Some(&text[at + 1..])),
     }
+}
+
+/// What stands before the first line feed from a place on, and what follows it, where there is one.
+#[tactic(auto, using(crate::proofs::CutPieces::pieces_around))]
+pub(crate) fn cut_from(text: &[u8], place: usize) -> Option<(&[u8], &[u8])>
+    requires { place ≤ length text.now }
+    ensures pieces { IfSome result (λ cut. pieces_of text.now ≡ pieces_of cut.0.now ++ pieces_of cut.1.now) }
+    ensures bytes { IfSome result (λ cut. length cut.0.now + 1 + length cut.1.now ≡ length text.now) }
+{
+    let at = place + first_feed(&text[place..])?;
+    Some((&text[..at], &text[at + 1..]))
+}
+
+/// How many pieces a text has.
+#[tactic(auto, using(crate::proofs::CutPieces::piece_count, crate::proofs::CutPieces::few_pieces))]
+pub(crate) fn count_pieces(text: &[u8]) -> u64
+    requires { length text.now < 2 ^ 63 }
+    ensures value { result ≡ length (pieces_of text.now) }
+    ensures few { result ≤ length text.now + 1 }
+{
+    text.iter().filter(|byte| **byte == LINE_FEED).count() as u64 + 1
 }

@@ -1,14 +1,9 @@
 //! What the lines of a file ask for: commands for games of its plan, and lines that belong to no game.
-ghost use Rattle.std.specs.Prelude.{◌≡◌, ◌≤◌, length, IfOk, IfSome, option_copied};
-ghost use Rattle.bs_host.specs.File.{pieces_after};
-ghost use Rattle.bs_host.specs.Requests.{requests_of, AreWithinPlan};
-ghost use Rattle.bs_host.specs.Routing.{routes_from};
+ghost use Rattle.std.specs.Prelude.{◌≡◌};
 
-use crate::limits::MOST_FILE_BYTES;
-use crate::pieces::cut_piece;
-use crate::routing::{Route, route_of};
-use bs_board::{Command, Row};
-use bs_json::{Stray, read_line};
+use crate::routing::Route;
+use bs_board::Command;
+use bs_json::Stray;
 use std::alloc::{AllocError, Global};
 use std::marker::Model;
 
@@ -50,6 +45,13 @@ impl Commands {
         self.commands.push((row, command))?;
         Ok(())
     }
+
+    fn append(&mut self, more: Commands) -> Result<(), AllocError>
+        ensures { OnOk result (self.new ≡ self.old ++ more) }
+    {
+        let Commands { mut commands } = more;
+        self.commands.append(&mut commands)
+    }
 }
 
 /// The lines that belong to no game, with their numbers, in the order of the file.
@@ -90,6 +92,13 @@ impl Strays {
         self.strays.push((number, stray))?;
         Ok(())
     }
+
+    fn append(&mut self, more: Strays) -> Result<(), AllocError>
+        ensures { OnOk result (self.new ≡ self.old ++ more) }
+    {
+        let Strays { mut strays } = more;
+        self.strays.append(&mut strays)
+    }
 }
 
 /// What the lines of a file ask for.
@@ -100,10 +109,10 @@ pub(crate) struct Requests {
 }
 
 impl Requests {
-    ghost use Rattle.std.specs.Prelude.{[], OnOk};
+    ghost use Rattle.std.specs.Prelude.{[], ◌++◌, OnOk};
     ghost use Rattle.bs_host.specs.Requests.{HandsOn};
 
-    fn new(alloc: Global) -> Requests
+    pub(crate) fn new(alloc: Global) -> Requests
         ensures commands { result.commands ≡ [] }
         ensures strays { result.strays ≡ [] }
     {
@@ -115,7 +124,7 @@ impl Requests {
 
     /// Puts what the line of that number asks for where it goes.
     #[tactic(auto, using(crate::proofs::SortedLines::hands_on_command, crate::proofs::SortedLines::hands_on_stray, crate::proofs::SortedLines::hands_on_nothing))]
-    fn hand_on(&mut self, number: u64, route: Route) -> Result<(), AllocError>
+    pub(crate) fn hand_on(&mut self, number: u64, route: Route) -> Result<(), AllocError>
         ensures { OnOk result (HandsOn number route self.old self.new) }
     {
         match route {
@@ -125,28 +134,13 @@ impl Requests {
         }
         Ok(())
     }
-}
-
-/// What the lines ask for that follow the plan in a file, where there are any.
-pub(crate) fn sort_lines(
-    alloc: Global,
-    rows: &[Row],
-    rest: Option<&[u8]>,
-) -> Result<Requests, AllocError>
-    requires short { IfSome rest (λ text. length text.now ≤ MOST_FILE_BYTES) }
-    ensures value { IfOk result
-        (λ r. r ≡ requests_of (routes_from rows.now 2 (pieces_after (option_copied rest.entry)))) }
-    ensures within { IfOk result (λ r. AreWithinPlan (length rows.now) r.commands) }
-{
-    let mut requests = Requests::new(alloc);
-    let mut number = 2;
-    let mut left = rest;
-    'lines: while let Some(text) = left {
-        let (piece, more) = cut_piece(text);
-        let line = read_line(alloc, piece)?;
-        requests.hand_on(number, route_of(rows, line))?;
-        number += 1;
-        left = more;
+    /// What later lines ask for follows.
+    pub(crate) fn append(&mut self, later: Requests) -> Result<(), AllocError>
+        ensures commands { OnOk result (self.new.commands ≡ self.old.commands ++ later.commands) }
+        ensures strays { OnOk result (self.new.strays ≡ self.old.strays ++ later.strays) }
+    {
+        let Requests { commands, strays } = later;
+        self.commands.append(commands)?;
+        self.strays.append(strays)
     }
-    Ok(requests)
 }

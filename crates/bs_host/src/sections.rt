@@ -9,8 +9,9 @@ ghost use Rattle.bs_host.specs.Transcript.{lane_lines_of, sections_in, core_text
 use crate::limits::BLOCK_BYTES;
 use crate::requests::Strays;
 use bs_sched::Core;
-use bs_transcript::{Section, text};
+use bs_transcript::{Parts, Section, text_by};
 use std::alloc::{AllocError, Global};
+use std::thread::Threads;
 
 /// What the game of that row was answered, and how it stands.
 fn section_of_game<'c>(
@@ -45,15 +46,17 @@ fn sections_of_games<'c>(
     Ok(sections)
 }
 
-/// The games' sections in the order of the plan, then the lines that belong to no game.
-pub(crate) fn core_text(
+/// The games' sections in the order of the plan, then the lines that belong to no game, by so many threads at most.
+pub(crate) fn core_text<R: Threads + Sync>(
+    rt: &R,
     alloc: Global,
     core: &Core<BLOCK_BYTES>,
     strays: &Strays,
-) -> Result<Vec<u8>, AllocError>
-    ensures text { IfOk result (λ text. text.items ≡ core_text_of core.now strays.now) }
+    workers: usize,
+) -> Result<Parts, AllocError>
+    ensures text { IfOk result (λ text. text ≡ core_text_of core.now strays.now) }
     ensures lanes { OnOk result (length core.now.games.lanes ≡ length core.now.games.rows) }
 {
     let sections = sections_of_games(alloc, core)?;
-    text(alloc, sections.as_slice(), strays.as_slice())
+    text_by(rt, alloc, sections.as_slice(), strays.as_slice(), workers)
 }

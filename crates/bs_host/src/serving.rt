@@ -11,12 +11,13 @@ ghost use Rattle.bs_host.specs.Transcript.{transcript_of};
 use crate::fault::Fault;
 use crate::limits::{BLOCK_BYTES, MOST_FILE_BYTES};
 use crate::pieces::cut_piece;
-use crate::requests::{Strays, sort_lines};
+use crate::requests::Strays;
 use crate::sections::core_text;
+use crate::sorting::sort_lines;
 use bs_board::Plan;
 use bs_json::read_plan;
 use bs_sched::Core;
-use bs_transcript::write_all_of;
+use bs_transcript::{Parts, write_parts};
 use bs_workers::{Gate, run};
 use std::alloc::Global;
 use std::io::Write;
@@ -64,7 +65,7 @@ fn host_plan<R: Threads + Wait + Sync, G: Gate>(
     ensures served { OnOk result (refusal_of_plan blocks (Ok plan) ≡ None) }
     ensures fault { IfErr result (IsRefusal (refusal_of_plan blocks (Ok plan))) }
 {
-    let requests = sort_lines(alloc, plan.rows.as_slice(), rest)?;
+    let requests = sort_lines(rt, alloc, plan.rows.as_slice(), rest, workers)?;
     let core = open_core(alloc, plan, blocks, workers)?;
     let core = run(rt, alloc, core, requests.commands.as_slice(), workers, gate)?;
     Ok(Hosted {
@@ -105,14 +106,14 @@ fn transcript<R: Threads + Wait + Sync, G: Gate>(
     blocks: usize,
     workers: usize,
     gate: &G,
-) -> Result<(Core<BLOCK_BYTES>, Vec<u8>), Fault>
+) -> Result<(Core<BLOCK_BYTES>, Parts), Fault>
     ensures core { IfOk result (λ told. Hosts blocks input.now told.0) }
-    ensures text { IfOk result (λ told. told.1.items ≡ transcript_of input.now) }
+    ensures text { IfOk result (λ told. told.1 ≡ transcript_of input.now) }
     ensures served { OnOk result (refusal_of blocks input.now ≡ None) }
     ensures fault { IfErr result (IsRefusal (refusal_of blocks input.now)) }
 {
     let hosted = host_file(rt, alloc, input, blocks, workers, gate)?;
-    let text = core_text(alloc, &hosted.core, &hosted.strays)?;
+    let text = core_text(rt, alloc, &hosted.core, &hosted.strays, workers)?;
     Ok((hosted.core, text))
 }
 
@@ -135,6 +136,6 @@ pub fn serve<R: Threads + Wait + Sync, G: Gate, W: Write>(
     ensures left { IfErr result (Leaves W.contents (transcript_of input.now) output.old output.new) }
 {
     let (core, text) = transcript(rt, alloc, input, blocks, workers, gate)?;
-    write_all_of(&text, output)?;
+    write_parts(&text, output)?;
     Ok(core)
 }

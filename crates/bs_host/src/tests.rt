@@ -182,6 +182,53 @@ fn any_workers_write_the_same(rt: HostRuntime) -> Result<(), Fail> {
     Ok(())
 }
 
+// Many lines of three games in turns, with lines between them that belong to no game or say nothing. It ends without a feed.
+fn many_lines(alloc: Global) -> Result<String, AllocError> {
+    let mut file = String::from_str(
+        alloc,
+        "{\"games\":[{\"game\":\"a\",\"quota\":4096},{\"game\":\"b\",\"quota\":64},{\"game\":\"c\",\"quota\":4096}]}",
+    )?;
+    for game in ["a", "b"] {
+        let new = format!(in alloc;
+            "\n{{\"game\":\"{game}\",\"do\":\"new\",\"mode\":\"solo\",\"width\":9,\"height\":9,\"snakes\":[{{\"id\":\"s\",\"x\":1,\"y\":1}}],\"food\":[],\"min_food\":0,\"food_chance\":0}}"
+        )?;
+        file.push_str(&new)?;
+    }
+    for round in 0..12u8 {
+        for game in ["a", "b", "z", "b", "c"] {
+            let line = format!(in alloc;
+                "\n{{\"game\":\"{game}\",\"do\":\"turn\",\"at\":{round}}}"
+            )?;
+            file.push_str(&line)?;
+        }
+        file.push_str("\n{\"game\":\"a\",\"do\":\"move\",\"moves\":{}}\n\n{oops")?;
+    }
+    Ok(file)
+}
+
+// However the lines are shared out for reading, and the text for writing, the same is written as by one worker alone.
+#[test]
+fn any_workers_share_the_work(rt: HostRuntime) -> Result<(), Fail> {
+    let alloc = rt.alloc();
+    let file = many_lines(alloc)?;
+    let (told, alone) = worked(&rt, alloc, file.as_bytes(), 18, 1, &OpenGate)?;
+    assert_eq!(rt; told.as_str(), "served");
+    assert_eq!(rt;
+        alone
+            .as_slice()
+            .iter()
+            .filter(|byte| **byte == b'\n')
+            .count(),
+        2 + 5 * 12 + 2 * 12 + 3
+    );
+    for workers in 2..6 {
+        let (told, written) = worked(&rt, alloc, file.as_bytes(), 18, workers, &OpenGate)?;
+        assert_eq!(rt; told.as_str(), "served", "{workers}");
+        assert_eq!(rt; written.as_slice(), alone.as_slice(), "{workers}");
+    }
+    Ok(())
+}
+
 /// Lets no job pass.
 struct ShutGate;
 

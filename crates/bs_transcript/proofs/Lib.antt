@@ -1,1 +1,4 @@
+mod Cuts
+pub mod PartBytes
+pub mod PartLines
 pub mod WrittenBytes

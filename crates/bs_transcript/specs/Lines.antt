@@ -7,9 +7,13 @@ use Rattle.bs_json.specs.Replies.{reply_line_of, final_line_of, stray_line_of}
 use Rattle.bs_game.specs.Game.{Game, last_board, game_charge}
 use Rattle.bs_transcript.specs.declared.lines.Section.{Section}
 
+-- replies of a game, numbered from there
+abbrev pub reply_lines_from : ℕ → List ℕ → List Reply → List ℕ
+reply_lines_from first name replies = flat_map (λ reply. reply_line_of name reply.0 reply.1) (enumerate_from first replies)
+
 -- a game's replies, numbered from 1
 abbrev pub reply_lines_of : List ℕ → List Reply → List ℕ
-reply_lines_of name replies = flat_map (λ reply. reply_line_of name reply.0 reply.1) (enumerate_from 1 replies)
+reply_lines_of = reply_lines_from 1
 
 -- the line that shows how a game stands in the end
 abbrev pub last_line_of : List ℕ → Game → List ℕ

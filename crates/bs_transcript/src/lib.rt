@@ -3,9 +3,13 @@
 #![tactic(auto)]
 
 mod lines;
+mod parts;
+mod sharing;
 #[cfg(test)]
 mod tests;
 mod writing;
 
 pub use lines::{Section, text};
+pub use parts::{Parts, write_parts};
+pub use sharing::text_by;
 pub use writing::{WriteFault, write_all_of};

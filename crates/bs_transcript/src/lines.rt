@@ -1,6 +1,7 @@
 //! The text of a transcript: a section for each game, then the lines that belong to no game.
-ghost use Rattle.std.specs.Prelude.{◌≡◌, ◌++◌, OnOk, IfOk};
-ghost use Rattle.bs_transcript.specs.Lines.{reply_lines_of, stray_lines_of, section_lines_of, text_of};
+ghost use Rattle.std.specs.Prelude.{◌≡◌, ◌+◌, ◌<◌, ◌^◌, ◌++◌, length, OnOk, IfOk};
+ghost use Rattle.bs_transcript.specs.Lines.{reply_lines_from, stray_lines_of, section_lines_of, text_of};
+ghost use Rattle.bs_json.specs.Replies.{final_line_of};
 
 use bs_board::{Board, Id, Reply};
 use bs_json::{Stray, final_line, reply_line, stray_line};
@@ -16,19 +17,35 @@ pub struct Section<'t> {
     pub charge: u32,
 }
 
-/// The replies, numbered from 1.
-fn push_replies(
+/// Replies of a game one after the other, the first of which has that number.
+pub(crate) fn push_replies(
     alloc: Global,
     name: &Id,
+    first: u64,
     replies: &[Reply],
     text: &mut Vec<u8>,
 ) -> Result<(), AllocError>
-    ensures { OnOk result (text.new.items ≡ text.old.items ++ reply_lines_of name.now replies.now) }
+    requires { first + length replies.now < 2 ^ 64 }
+    ensures { OnOk result (text.new.items ≡ text.old.items ++ reply_lines_from first name.now replies.now) }
 {
     for index in 0..replies.len() {
-        let line = reply_line(alloc, name, index as u64 + 1, &replies[index])?;
+        let line = reply_line(alloc, name, first + index as u64, &replies[index])?;
         text.extend_from_slice(&line)?;
     }
+    Ok(())
+}
+
+/// How a game stands in the end.
+pub(crate) fn push_final(
+    alloc: Global,
+    section: &Section<'_>,
+    text: &mut Vec<u8>,
+) -> Result<(), AllocError>
+    ensures { OnOk result
+        (text.new.items ≡ text.old.items ++ final_line_of section.now.name.now section.now.board section.now.charge) }
+{
+    let line = final_line(alloc, section.name, section.board.as_ref(), section.charge)?;
+    text.extend_from_slice(&line)?;
     Ok(())
 }
 
@@ -36,13 +53,15 @@ fn push_replies(
 fn push_section(alloc: Global, section: &Section<'_>, text: &mut Vec<u8>) -> Result<(), AllocError>
     ensures { OnOk result (text.new.items ≡ text.old.items ++ section_lines_of section.now) }
 {
-    push_replies(alloc, section.name, section.replies, text)?;
-    let line = final_line(alloc, section.name, section.board.as_ref(), section.charge)?;
-    text.extend_from_slice(&line)?;
-    Ok(())
+    push_replies(alloc, section.name, 1, section.replies, text)?;
+    push_final(alloc, section, text)
 }
 
-fn push_strays(alloc: Global, strays: &[(u64, Stray)], text: &mut Vec<u8>) -> Result<(), AllocError>
+pub(crate) fn push_strays(
+    alloc: Global,
+    strays: &[(u64, Stray)],
+    text: &mut Vec<u8>,
+) -> Result<(), AllocError>
     ensures { OnOk result (text.new.items ≡ text.old.items ++ stray_lines_of strays.now) }
 {
     for (number, stray) in strays {

@@ -1,5 +1,5 @@
 //! Transcripts of replies and strays, and writers that fail.
-use crate::{Section, text, write_all_of};
+use crate::{Section, text, text_by, write_all_of, write_parts};
 use bs_board::{Id, Refusal, Reply, Word};
 use bs_json::Stray;
 use std::alloc::{AllocError, Global};
@@ -67,6 +67,36 @@ fn sections_and_strays(rt: HostRuntime) -> Result<(), Fail> {
     let told = text(alloc, sections.as_slice(), &strays)?;
     assert_eq!(rt; told.as_slice(), TEXT.as_bytes());
     assert_eq!(rt; text(alloc, &[], &[])?.len(), 0);
+    Ok(())
+}
+
+// As many workers as there are lines, fewer, and more: the same text, also for a writer that fails among its parts.
+#[test]
+fn any_workers_make_the_same_text(rt: HostRuntime) -> Result<(), Fail> {
+    let alloc = rt.alloc();
+    let games = three_games(alloc)?;
+    let sections = sections_of(alloc, games.as_slice())?;
+    let strays = [(3, Stray::Json), (7, Stray::Long)];
+    for workers in 0..11 {
+        let parts = text_by(&rt, alloc, sections.as_slice(), &strays, workers)?;
+        assert_eq!(rt; parts.len(), TEXT.len(), "{workers}");
+        for room in 0..=TEXT.len() {
+            let mut narrow = Narrow {
+                taken: Vec::new(alloc),
+                room,
+                failure: None,
+            };
+            let fault = write_parts(&parts, &mut narrow).err();
+            let wanted = if room < TEXT.len() { Some(room) } else { None };
+            assert_eq!(rt; fault.map(|fault| fault.written), wanted, "{workers}");
+            assert_eq!(rt;
+                narrow.taken.as_slice(),
+                &TEXT.as_bytes()[..room],
+                "{workers}"
+            );
+        }
+    }
+    assert_eq!(rt; text_by(&rt, alloc, &[], &[], 4)?.len(), 0);
     Ok(())
 }
 

@@ -1,14 +1,14 @@
 use Rattle.std.proofs.Common.{◌∙◌, ap, arith}
 use Rattle.std.specs.Prelude.{option_copied}
-use Rattle.bs_host.specs.File.{pieces_after}
+use Rattle.bs_host.specs.File.{pieces_of, pieces_after}
 use Rattle.bs_host.specs.Routing.{route_of, routes_from}
-use Rattle.bs_host.proofs.SortedLines.{begins, goes_on, ends, few_at_first, fewer_left}
-use Rattle.bs_host.proofs.requests.sort_lines.Goals as goal
+use Rattle.bs_host.proofs.SortedLines.{begins, goes_on, ends, fewer_left}
+use Rattle.bs_host.proofs.sorting.sort_in_turn.Goals as goal
 
 pub lines-init : goal.lines-init
 lines-init c = record {
-  way = begins c.args.rows.now (pieces_after (option_copied c.args.rest)) c.new-requests.result c.new-requests.ensures.commands c.new-requests.ensures.strays;
-  few = few_at_first c.args.rest c.requires.short;
+  way = begins c.args.rows.now c.args.first (pieces_of c.args.text.now) c.new-requests.result c.new-requests.ensures.commands c.new-requests.ensures.strays;
+  few = omega (arith, c.requires.short);
 }
 
 pub lines-preserved : goal.lines-preserved
@@ -16,7 +16,7 @@ lines-preserved c =
     let fewer = fewer_left c.lines.left c.cut_piece.result.1 c.in-Some.text c.in-Some.is c.cut_piece.ensures.shorter in
     let cut = ap (λ o. pieces_after (option_copied o)) c.in-Some.is ∙ c.cut_piece.ensures.pieces in
     record {
-      way = goes_on c.args.rows.now (routes_from c.args.rows.now 2 (pieces_after (option_copied c.args.rest))) c.lines.number (pieces_after (option_copied c.lines.left))
+      way = goes_on c.args.rows.now (routes_from c.args.rows.now c.args.first (pieces_of c.args.text.now)) c.lines.number (pieces_after (option_copied c.lines.left))
           c.cut_piece.result.0.now (pieces_after (option_copied c.cut_piece.result.1)) c.route_of.result c.lines.requests c.hand_on.new.self cut
           (c.route_of.ensures.value ∙ ap (route_of c.args.rows.now) c.in_ok-line.ensures) c.route_of.ensures.within c.in_ok-hand_on.ensures c.lines.invariant.way;
       few = omega (arith, c.lines.invariant.few);
@@ -27,5 +27,5 @@ lines-smaller c = fewer_left c.lines.left c.cut_piece.result.1 c.in-Some.text c.
 
 pub returns-clause-value : goal.returns-clause-value
 returns-clause-value c =
-    ends c.args.rows.now (routes_from c.args.rows.now 2 (pieces_after (option_copied c.args.rest))) c.lines.number (pieces_after (option_copied c.lines.left)) c.lines.requests
+    ends c.args.rows.now (routes_from c.args.rows.now c.args.first (pieces_of c.args.text.now)) c.lines.number (pieces_after (option_copied c.lines.left)) c.lines.requests
     (ap (λ o. pieces_after (option_copied o)) c.in_default.is) c.lines.invariant.way

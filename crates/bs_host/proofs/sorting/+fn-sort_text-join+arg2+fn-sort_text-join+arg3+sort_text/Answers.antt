@@ -1,0 +1,34 @@
+use Rattle.std.proofs.Common.{◌≡◌, ◌+◌, ap, length}
+use Rattle.std.proofs.lemmas.Result.{IfOk-at_ok}
+use Rattle.bs_host.specs.File.{pieces_of}
+use Rattle.bs_host.specs.Requests.{AreWithinPlan, requests_of}
+use Rattle.bs_host.specs.Routing.{routes_from}
+use Rattle.bs_host.proofs.SharedLines.{requests_together, within_together}
+use Rattle.bs_host.proofs.sorting.+fn-sort_text-join+arg2+fn-sort_text-join+arg3+sort_text.Goals as goal
+
+pub returns-clause-value : goal.returns-clause-value
+returns-clause-value g t c =
+    let rows = c.args.rows.now in
+    let second = c.args.first + c.count_pieces.result in
+    let ahead =
+    IfOk-at_ok (λ r. (r ≡ requests_of (routes_from rows c.args.first (pieces_of c.in-Some.front.now))) × AreWithinPlan (length rows) r.commands)
+    c.in_ok-requests.was c.join-requests.ensures.first in
+    let behind =
+    IfOk-at_ok (λ r. (r ≡ requests_of (routes_from rows second (pieces_of c.in-Some.back.now))) × AreWithinPlan (length rows) r.commands)
+    c.in_ok-later.was c.join-requests.ensures.second in
+    requests_together rows c.args.first second (pieces_of c.args.text.now) (pieces_of c.in-Some.front.now) (pieces_of c.in-Some.back.now) c.append.new.self
+    c.in_ok-requests.requests c.in_ok-later.field-0 c.in-Some.ensures.pieces (ap (λ n. c.args.first + n) c.count_pieces.ensures.value) ahead.0 behind.0
+    c.in_ok-append.ensures.commands c.in_ok-append.ensures.strays
+
+pub returns-clause-within : goal.returns-clause-within
+returns-clause-within g t c =
+    let rows = c.args.rows.now in
+    let second = c.args.first + c.count_pieces.result in
+    let ahead =
+    IfOk-at_ok (λ r. (r ≡ requests_of (routes_from rows c.args.first (pieces_of c.in-Some.front.now))) × AreWithinPlan (length rows) r.commands)
+    c.in_ok-requests.was c.join-requests.ensures.first in
+    let behind =
+    IfOk-at_ok (λ r. (r ≡ requests_of (routes_from rows second (pieces_of c.in-Some.back.now))) × AreWithinPlan (length rows) r.commands)
+    c.in_ok-later.was c.join-requests.ensures.second in
+    within_together (length rows) c.in_ok-requests.requests.commands c.in_ok-later.field-0.commands c.append.new.self.commands c.in_ok-append.ensures.commands
+    ahead.1 behind.1
