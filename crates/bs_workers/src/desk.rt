@@ -9,8 +9,8 @@ use std::alloc::{AllocError, Global};
 pub(crate) enum Assignment {
     /// Work this one.
     Job(Ticket),
-    /// None is ready, and one may become so. The number is that of the changes so far.
-    Wait(u64),
+    /// None is ready, and one may become so.
+    Wait,
     /// There will be none.
     End,
 }
@@ -23,8 +23,6 @@ pub(crate) struct Desk<const CAP: usize> {
     closed: bool,
     /// Why the run was broken off.
     fault: Option<Run>,
-    /// How often something changed that a worker may wait for, wrapping.
-    changes: u64,
 }
 
 impl<const CAP: usize> Desk<CAP> {
@@ -34,17 +32,7 @@ impl<const CAP: usize> Desk<CAP> {
             core,
             closed: false,
             fault: None,
-            changes: 0,
         }
-    }
-
-    /// How often something changed.
-    pub(crate) fn changes(&self) -> u64 {
-        self.changes
-    }
-
-    fn change(&mut self) {
-        self.changes = self.changes.wrapping_add(1);
     }
 
     /// Whether the run was broken off.
@@ -58,24 +46,26 @@ impl<const CAP: usize> Desk<CAP> {
             self.fault = Some(fault);
         }
         self.core.fail();
-        self.change();
     }
 
-    /// A command for the game of that row.
-    pub(crate) fn hand(&mut self, alloc: Global, game: usize, command: Command) {
+    fn hand(&mut self, alloc: Global, game: usize, command: Command) {
         if game >= self.core.rows() {
             self.stop(Run::Broken);
         } else if self.core.hand(alloc, game, command).is_err() {
             self.stop(Run::Memory);
-        } else {
-            self.change();
+        }
+    }
+
+    /// Commands, each for the game of its row, in their order.
+    pub(crate) fn hand_all(&mut self, alloc: Global, commands: Vec<(usize, Command)>) {
+        for (game, command) in commands {
+            self.hand(alloc, game, command);
         }
     }
 
     /// All commands are handed in.
     pub(crate) fn close(&mut self) {
         self.closed = true;
-        self.change();
     }
 
     fn take(&mut self, alloc: Global, worker: usize) -> Result<Taken, AllocError> {
@@ -89,12 +79,11 @@ impl<const CAP: usize> Desk<CAP> {
         if self.closed && self.core.is_quiet() {
             Assignment::End
         } else {
-            Assignment::Wait(self.changes)
+            Assignment::Wait
         }
     }
 
-    /// What the worker, which has no job, is to do.
-    pub(crate) fn assign(&mut self, alloc: Global, worker: usize) -> Assignment {
+    fn assign(&mut self, alloc: Global, worker: usize) -> Assignment {
         match self.take(alloc, worker) {
             Ok(Taken::Job(ticket)) => Assignment::Job(ticket),
             Ok(Taken::Nothing) => self.without_job(),
@@ -110,19 +99,30 @@ impl<const CAP: usize> Desk<CAP> {
         }
     }
 
-    /// The worker brings back what it made of its job.
-    pub(crate) fn bring(&mut self, worker: usize, worked: Result<Done, Run>) {
+    fn put(&mut self, worker: usize, done: Done) {
+        if self.core.put(worker, done).is_err() {
+            self.stop(Run::Broken);
+        }
+    }
+
+    fn bring(&mut self, worker: usize, worked: Result<Done, Run>) {
         match worked {
             Ok(done) => self.put(worker, done),
             Err(fault) => self.stop(fault),
         }
     }
 
-    fn put(&mut self, worker: usize, done: Done) {
-        match self.core.put(worker, done) {
-            Ok(()) => self.change(),
-            Err(_) => self.stop(Run::Broken),
+    /// What the worker is to do, once it has brought back what it made of its last job, if it had one.
+    pub(crate) fn exchange(
+        &mut self,
+        alloc: Global,
+        worker: usize,
+        worked: Option<Result<Done, Run>>,
+    ) -> Assignment {
+        if let Some(worked) = worked {
+            self.bring(worker, worked);
         }
+        self.assign(alloc, worker)
     }
 
     /// The number of the caller's own worker.

@@ -2,17 +2,26 @@
 use crate::desk::{Assignment, Desk};
 use crate::fault::Run;
 use bs_board::Command;
-use bs_fiber::Done;
+use bs_fiber::{Done, Out};
 use bs_sched::Core;
 use std::alloc::Global;
-use std::sync::{Condvar, Mutex, Wait};
+use std::sync::{Condvar, Mutex, MutexGuard, Wait};
 
-/// A desk for several threads. The lock is held while one asks, hands in or brings back, and never while a job is
-/// worked.
+/// A desk for several threads. The lock is held while commands are handed in, and once between two jobs of a worker,
+/// while one is brought back and the next is taken; never while a job is worked.
 #[derive(Drop)]
 pub(crate) struct Shop<const CAP: usize> {
     desk: Mutex<Desk<CAP>>,
     changed: Condvar,
+}
+
+/// Whether it makes jobs ready for others than the worker that brings it: the parts of a move.
+fn spreads(worked: &Option<Result<Done, Run>>) -> bool {
+    match worked {
+        Some(Ok(done)) => matches!(done.out(), Out::Goes),
+        Some(Err(_)) => true,
+        None => false,
+    }
 }
 
 impl<const CAP: usize> Shop<CAP> {
@@ -24,48 +33,52 @@ impl<const CAP: usize> Shop<CAP> {
         }
     }
 
-    /// What the worker, which has no job, is to do. One that ends wakes all, since they are to end too.
-    pub(crate) fn assign<R: Wait>(&self, rt: &R, alloc: Global, worker: usize) -> Assignment {
-        let assignment = self.desk.lock(rt).assign(alloc, worker);
-        if matches!(&assignment, Assignment::End) {
+    /// The lock is given up, and those that wait look again where there is something for them.
+    fn leave(&self, desk: MutexGuard<'_, Desk<CAP>>, tells: bool) {
+        drop(desk);
+        if tells {
             self.changed.notify_all();
+        }
+    }
+
+    /// What the worker is to do, once it has brought back what it made of its last job, if it had one. Where nothing is
+    /// ready it waits for a change first, and then is to ask again. What it brings back makes one job ready at most,
+    /// which is its own to take, unless a move goes in parts; one that ends wakes all, since they are to end too.
+    pub(crate) fn exchange<R: Wait>(
+        &self,
+        rt: &R,
+        alloc: Global,
+        worker: usize,
+        worked: Option<Result<Done, Run>>,
+    ) -> Assignment {
+        let tells = spreads(&worked);
+        let mut desk = self.desk.lock(rt);
+        let assignment = desk.exchange(alloc, worker, worked);
+        match &assignment {
+            Assignment::Job(_) => self.leave(desk, tells),
+            Assignment::End => self.leave(desk, true),
+            Assignment::Wait => {
+                let _desk = self.changed.wait(rt, desk);
+            }
         }
         assignment
     }
 
-    /// Waits until something has changed since there were so many changes.
-    pub(crate) fn wait_past<R: Wait>(&self, rt: &R, seen: u64) {
-        let _desk = self
-            .changed
-            .wait_while(rt, self.desk.lock(rt), |desk| desk.changes() == seen);
-    }
-
-    /// The worker brings back what it made of its job. After it there may be several jobs, or an end.
-    pub(crate) fn bring<R: Wait>(&self, rt: &R, worker: usize, worked: Result<Done, Run>) {
-        self.desk.lock(rt).bring(worker, worked);
-        self.changed.notify_all();
-    }
-
-    fn hand_in<R: Wait>(&self, rt: &R, alloc: Global, game: usize, command: Command) -> bool {
+    fn hand_in<R: Wait>(&self, rt: &R, alloc: Global, commands: Vec<(usize, Command)>) -> bool {
         let mut desk = self.desk.lock(rt);
-        desk.hand(alloc, game, command);
+        desk.hand_all(alloc, commands);
         !desk.is_stopped()
     }
 
-    /// Hands in a command, after which there may be one job more. Whether the run goes on.
+    /// Hands in commands, after which there may be jobs more. Whether the run goes on.
     pub(crate) fn hand<R: Wait>(
         &self,
         rt: &R,
         alloc: Global,
-        game: usize,
-        command: Command,
+        commands: Vec<(usize, Command)>,
     ) -> bool {
-        let goes_on = self.hand_in(rt, alloc, game, command);
-        if goes_on {
-            self.changed.notify_one();
-        } else {
-            self.changed.notify_all();
-        }
+        let goes_on = self.hand_in(rt, alloc, commands);
+        self.changed.notify_all();
         goes_on
     }
 

@@ -6,7 +6,7 @@ use crate::shop::Shop;
 use bs_board::Command;
 use bs_fiber::{Done, Ticket, work};
 use bs_sched::Core;
-use std::alloc::Global;
+use std::alloc::{AllocError, Global};
 use std::sync::Wait;
 use std::thread;
 use std::thread::Threads;
@@ -30,12 +30,11 @@ fn serve<const CAP: usize, R: Wait, G: Gate>(
     worker: usize,
     gate: &G,
 ) {
+    let mut worked = None;
     for _ in rt.forever() {
-        match shop.assign(rt, alloc, worker) {
-            Assignment::Job(ticket) => {
-                shop.bring(rt, worker, work_job(alloc, worker, ticket, gate));
-            }
-            Assignment::Wait(seen) => shop.wait_past(rt, seen),
+        match shop.exchange(rt, alloc, worker, worked.take()) {
+            Assignment::Job(ticket) => worked = Some(work_job(alloc, worker, ticket, gate)),
+            Assignment::Wait => {}
             Assignment::End => break,
         }
     }
@@ -49,13 +48,28 @@ fn finish<const CAP: usize, R: Wait, G: Gate>(
     gate: &G,
 ) {
     let worker = desk.own_worker();
+    let mut worked = None;
     for _ in rt.forever() {
-        match desk.assign(alloc, worker) {
-            Assignment::Job(ticket) => desk.bring(worker, work_job(alloc, worker, ticket, gate)),
-            Assignment::Wait(_) => break,
+        match desk.exchange(alloc, worker, worked.take()) {
+            Assignment::Job(ticket) => worked = Some(work_job(alloc, worker, ticket, gate)),
+            Assignment::Wait => break,
             Assignment::End => break,
         }
     }
+}
+
+/// How many commands are handed in at once: the lock is taken once for all of them.
+const COMMANDS_AT_ONCE: usize = 64;
+
+fn copy_commands(
+    alloc: Global,
+    commands: &[(usize, Command)],
+) -> Result<Vec<(usize, Command)>, AllocError> {
+    let mut copies = Vec::with_capacity(alloc, commands.len())?;
+    for (game, command) in commands {
+        copies.push((*game, command.copy(alloc)?))?;
+    }
+    Ok(copies)
 }
 
 /// Hands in all commands in their order, or as many as the run goes on for.
@@ -65,12 +79,12 @@ fn hand_all<const CAP: usize, R: Wait>(
     shop: &Shop<CAP>,
     commands: &[(usize, Command)],
 ) {
-    for (game, command) in commands {
-        let Ok(command) = command.copy(alloc) else {
+    for some in commands.chunks(COMMANDS_AT_ONCE) {
+        let Ok(copies) = copy_commands(alloc, some) else {
             shop.stop(rt, Run::Memory);
             break;
         };
-        if !shop.hand(rt, alloc, *game, command) {
+        if !shop.hand(rt, alloc, copies) {
             break;
         }
     }
