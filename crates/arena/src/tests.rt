@@ -29,78 +29,85 @@ fn ran<H: Files + Threads + Wait + Sync>(
     (status, output, errors)
 }
 
-// Words behind the program's name, the standard input, and the status, output and errors that they give.
+/// Words of a command line, the standard input, and the status, output and errors that they give.
+type Case<'a> = (&'a [&'a str], &'a str, u8, &'a str, &'a str);
+
+const PLANS: [Case<'static>; 6] = [
+    (&["arena"], "", 4, "", "arena: plan P1\n"),
+    (&["arena"], "{\"games\":[]}", 0, "", ""),
+    (
+        &["arena"],
+        "{\"games\":[]}\nx\n",
+        0,
+        "{\"line\":2,\"no\":\"L1\",\"why\":\"json\"}\n",
+        "",
+    ),
+    (&["arena"], "{\"games\":1}", 4, "", "arena: plan P1\n"),
+    (
+        &["arena"],
+        "{\"games\":[{\"game\":\"a\",\"quota\":15}]}",
+        4,
+        "",
+        "arena: plan P2\n",
+    ),
+    (
+        &["arena", "serve", "-", "--blocks", "11"],
+        TWO_GAMES,
+        4,
+        "",
+        "arena: plan P4\n",
+    ),
+];
+
+const RUNS: [Case<'static>; 6] = [
+    (
+        &["arena", "serve", "-", "--blocks", "12"],
+        TWO_GAMES,
+        0,
+        TWO_GAMES_END,
+        "",
+    ),
+    (&["arena", "serve", "-"], TWO_GAMES, 0, TWO_GAMES_END, ""),
+    (
+        &["arena", "serve", "-", "--workers", "1"],
+        TWO_GAMES,
+        0,
+        TWO_GAMES_END,
+        "",
+    ),
+    (
+        &["arena", "serve", "-", "--workers", "4", "--blocks", "12"],
+        TWO_GAMES,
+        0,
+        TWO_GAMES_END,
+        "",
+    ),
+    (
+        &["arena", "serve", "no such file"],
+        "",
+        3,
+        "",
+        "arena: cannot read the file\n",
+    ),
+    (
+        &["arena", "serve", "/"],
+        "",
+        3,
+        "",
+        "arena: cannot read the file\n",
+    ),
+];
+
 #[test]
-fn statuses_and_lines(rt: HostRuntime) -> Result<(), Fail> {
-    let cases: [(&[&str], &str, u8, &str, &str); 12] = [
-        (&["arena"], "", 4, "", "arena: plan P1\n"),
-        (&["arena"], "{\"games\":[]}", 0, "", ""),
-        (
-            &["arena"],
-            "{\"games\":[]}\nx\n",
-            0,
-            "{\"line\":2,\"no\":\"L1\",\"why\":\"json\"}\n",
-            "",
-        ),
-        (&["arena"], "{\"games\":1}", 4, "", "arena: plan P1\n"),
-        (
-            &["arena"],
-            "{\"games\":[{\"game\":\"a\",\"quota\":15}]}",
-            4,
-            "",
-            "arena: plan P2\n",
-        ),
-        (
-            &["arena", "serve", "-", "--blocks", "11"],
-            TWO_GAMES,
-            4,
-            "",
-            "arena: plan P4\n",
-        ),
-        (
-            &["arena", "serve", "-", "--blocks", "12"],
-            TWO_GAMES,
-            0,
-            TWO_GAMES_END,
-            "",
-        ),
-        (&["arena", "serve", "-"], TWO_GAMES, 0, TWO_GAMES_END, ""),
-        (
-            &["arena", "serve", "-", "--workers", "1"],
-            TWO_GAMES,
-            0,
-            TWO_GAMES_END,
-            "",
-        ),
-        (
-            &["arena", "serve", "-", "--workers", "4", "--blocks", "12"],
-            TWO_GAMES,
-            0,
-            TWO_GAMES_END,
-            "",
-        ),
-        (
-            &["arena", "serve", "no such file"],
-            "",
-            3,
-            "",
-            "arena: cannot read the file\n",
-        ),
-        (
-            &["arena", "serve", "/"],
-            "",
-            3,
-            "",
-            "arena: cannot read the file\n",
-        ),
-    ];
-    for (words, file, status, text, line) in cases {
-        let (answer, output, errors) = ran(&rt, rt.alloc(), words, file);
-        assert_eq!(rt; answer, status, "{file}");
-        assert_eq!(rt; output.as_slice(), text.as_bytes(), "{file}");
-        assert_eq!(rt; errors.as_slice(), line.as_bytes(), "{file}");
+fn statuses_and_lines(rt: HostRuntime) {
+    for cases in [PLANS, RUNS] {
+        for (words, file, status, text, line) in cases {
+            let (answer, output, errors) = ran(&rt, rt.alloc(), words, file);
+            assert_eq!(rt; answer, status, "{words:?} {file}");
+            assert_eq!(rt; output.as_slice(), text.as_bytes(), "{words:?} {file}");
+            assert_eq!(rt; errors.as_slice(), line.as_bytes(), "{words:?} {file}");
+        }
     }
-    Ok(())
 }
 
 // A command file of two games, interleaved.
