@@ -2,7 +2,8 @@
 use crate::failure::Failure;
 use crate::program::{arena_run, reported, unread_words};
 use bs_host::Fault;
-use std::alloc::Global;
+use std::alloc::{Allocator, Global};
+use std::fs::{Metadata, OpenOptions};
 use std::io::{self, ErrorKind, Read, Write};
 use std::rt::Files;
 use std::sync::Wait;
@@ -116,8 +117,9 @@ const INTERLEAVED: &str = r#"{"games":[{"game":"a","quota":64},{"game":"b","quot
 {"game":"b","do":"new","mode":"standard","width":7,"height":7,"snakes":[{"id":"s","x":1,"y":1},{"id":"t","x":5,"y":1},{"id":"u","x":3,"y":5}],"food":[{"x":1,"y":2}],"min_food":0,"food_chance":0}
 {"game":"a","do":"move","moves":{}}
 {"game":"b","do":"move","moves":{"u":"down"}}
+{"game":"a","do":"turn","at":2}
 {"game":"a","do":"end"}
-{"game":"b","do":"show"}
+{"game":"b","do":"turn","at":0}
 "#;
 
 // What each game writes alone is its part of what all of them write, with any number of workers.
@@ -273,6 +275,77 @@ fn files_that_are_too_long(rt: HostRuntime) -> Result<(), Fail> {
     assert_eq!(rt; output.len(), 0);
     assert_eq!(rt; errors.as_slice(), b"arena: file too long\n".as_slice());
     Ok(())
+}
+
+/// A system whose memory is used up when a file is to be opened.
+#[derive(Drop)]
+struct Exhausted<'a, R> {
+    rt: &'a R,
+}
+
+impl<'a, R: Threads> Threads for Exhausted<'a, R> {}
+
+impl<'a, R: Wait> Wait for Exhausted<'a, R> {}
+
+fn out_of_memory() -> io::Error {
+    io::Error::from(ErrorKind::OutOfMemory)
+}
+
+impl<'a, R: Files> Files for Exhausted<'a, R> {
+    type File = R::File;
+
+    type Dir = R::Dir;
+
+    fn open_file(&self, _how: &OpenOptions, _path: &str) -> io::Result<R::File> {
+        Err(out_of_memory())
+    }
+
+    fn open_dir(&self, path: &str) -> io::Result<R::Dir> {
+        self.rt.open_dir(path)
+    }
+
+    fn metadata(&self, path: &str) -> io::Result<Metadata> {
+        self.rt.metadata(path)
+    }
+
+    fn symlink_metadata(&self, path: &str) -> io::Result<Metadata> {
+        self.rt.symlink_metadata(path)
+    }
+
+    fn copy(&self, from: &str, to: &str) -> io::Result<u64> {
+        self.rt.copy(from, to)
+    }
+
+    fn rename(&self, from: &str, to: &str) -> io::Result<()> {
+        self.rt.rename(from, to)
+    }
+
+    fn remove_file(&self, path: &str) -> io::Result<()> {
+        self.rt.remove_file(path)
+    }
+
+    fn create_dir(&self, path: &str) -> io::Result<()> {
+        self.rt.create_dir(path)
+    }
+
+    fn remove_dir(&self, path: &str) -> io::Result<()> {
+        self.rt.remove_dir(path)
+    }
+
+    fn remove_dir_all<B: Allocator>(&self, alloc: B, path: &str) -> io::Result<()> {
+        self.rt.remove_dir_all(alloc, path)
+    }
+}
+
+// Want of memory is status 5, and nothing is written.
+#[test]
+fn want_of_memory(rt: HostRuntime) {
+    let system = Exhausted { rt: &rt };
+    let words = ["arena", "serve", "file"];
+    let (answer, output, errors) = ran(&system, rt.alloc(), &words, TWO_GAMES);
+    assert_eq!(rt; answer, 5);
+    assert_eq!(rt; output.len(), 0);
+    assert_eq!(rt; errors.as_slice(), b"arena: out of memory\n".as_slice());
 }
 
 // The place behind the piece, where it stands in the text from there on.
