@@ -1,7 +1,7 @@
 // Counts what a program asks of the C library for memory and for threads, and refuses those requests that it is told to refuse.
-// To be loaded before the C library, with three words in the environment:
+// Before the program ends it waits for threads that are ending. To be loaded before the C library, with three words in the environment:
 //   REFUSING_FIRST, REFUSING_LAST   the requests that are refused, counted from 1; none where the first is 0
-//   REFUSING_REPORT                 a file of 24 bytes, to which the three numbers of `struct report` are written as they change
+//   REFUSING_REPORT                 a file of 24 bytes, which has the three numbers of `struct report` as they change; without it nothing is counted
 // A thread's own requests inside the C library go with the thread: starting it is one request.
 #define _GNU_SOURCE
 #include <dlfcn.h>
@@ -12,6 +12,7 @@
 #include <stdint.h>
 #include <stdlib.h>
 #include <sys/mman.h>
+#include <sys/stat.h>
 #include <sys/syscall.h>
 #include <time.h>
 #include <unistd.h>
@@ -65,9 +66,11 @@ __attribute__((constructor)) static void begin(void) {
 }
 
 // A thread that has done its work may not yet have given back what it was started with when the program ends: it has a second for that.
+// The folder has a link for each thread, and two of its own.
 static void wait_for_threads(void) {
     struct timespec pause = {0, 1000000};
-    for (int waits = 0; report && waits < 1000 && __atomic_load_n(&report->held, __ATOMIC_SEQ_CST) > 0; waits++) nanosleep(&pause, NULL);
+    struct stat threads;
+    for (int waits = 0; waits < 1000 && stat("/proc/self/task", &threads) == 0 && threads.st_nlink > 3; waits++) nanosleep(&pause, NULL);
 }
 
 // By this the program ends, also where its main returns.
