@@ -2,8 +2,8 @@
 from testing.served import ROOT
 
 PAGE = ROOT / "viewer" / "index.html"
-TOURNAMENT = ROOT / "viewer" / "testing" / "data" / "tournament.transcript"
-CASES = [path for folder in ("examples", "crates/arena/data", "viewer/testing/data") for path in sorted((ROOT / folder).glob("*.transcript"))]
+TOURNAMENT = ROOT / "examples" / "six_games.transcript"
+CASES = sorted((ROOT / "examples").glob("*.transcript"))
 
 GAMES = """
 const textOf = (cell) => (cell.querySelector('.chip') ? [...cell.querySelectorAll('.chip')].map((chip) => chip.textContent) : cell.textContent);

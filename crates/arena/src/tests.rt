@@ -2,7 +2,8 @@
 use crate::failure::Failure;
 use crate::program::{arena_run, reported, unread_words};
 use bs_host::Fault;
-use std::alloc::Global;
+use std::alloc::{Allocator, Global};
+use std::fs::{Metadata, OpenOptions};
 use std::io::{self, ErrorKind, Read, Write};
 use std::rt::Files;
 use std::sync::Wait;
@@ -29,78 +30,85 @@ fn ran<H: Files + Threads + Wait + Sync>(
     (status, output, errors)
 }
 
-// Words behind the program's name, the standard input, and the status, output and errors that they give.
+/// Words of a command line, the standard input, and the status, output and errors that they give.
+type Case<'a> = (&'a [&'a str], &'a str, u8, &'a str, &'a str);
+
+const PLANS: [Case<'static>; 6] = [
+    (&["arena"], "", 4, "", "arena: plan P1\n"),
+    (&["arena"], "{\"games\":[]}", 0, "", ""),
+    (
+        &["arena"],
+        "{\"games\":[]}\nx\n",
+        0,
+        "{\"line\":2,\"no\":\"L1\",\"why\":\"json\"}\n",
+        "",
+    ),
+    (&["arena"], "{\"games\":1}", 4, "", "arena: plan P1\n"),
+    (
+        &["arena"],
+        "{\"games\":[{\"game\":\"a\",\"quota\":15}]}",
+        4,
+        "",
+        "arena: plan P2\n",
+    ),
+    (
+        &["arena", "serve", "-", "--blocks", "11"],
+        TWO_GAMES,
+        4,
+        "",
+        "arena: plan P4\n",
+    ),
+];
+
+const RUNS: [Case<'static>; 6] = [
+    (
+        &["arena", "serve", "-", "--blocks", "12"],
+        TWO_GAMES,
+        0,
+        TWO_GAMES_END,
+        "",
+    ),
+    (&["arena", "serve", "-"], TWO_GAMES, 0, TWO_GAMES_END, ""),
+    (
+        &["arena", "serve", "-", "--workers", "1"],
+        TWO_GAMES,
+        0,
+        TWO_GAMES_END,
+        "",
+    ),
+    (
+        &["arena", "serve", "-", "--workers", "4", "--blocks", "12"],
+        TWO_GAMES,
+        0,
+        TWO_GAMES_END,
+        "",
+    ),
+    (
+        &["arena", "serve", "no such file"],
+        "",
+        3,
+        "",
+        "arena: cannot read the file\n",
+    ),
+    (
+        &["arena", "serve", "/"],
+        "",
+        3,
+        "",
+        "arena: cannot read the file\n",
+    ),
+];
+
 #[test]
-fn statuses_and_lines(rt: HostRuntime) -> Result<(), Fail> {
-    let cases: [(&[&str], &str, u8, &str, &str); 12] = [
-        (&["arena"], "", 4, "", "arena: plan P1\n"),
-        (&["arena"], "{\"games\":[]}", 0, "", ""),
-        (
-            &["arena"],
-            "{\"games\":[]}\nx\n",
-            0,
-            "{\"line\":2,\"no\":\"L1\",\"why\":\"json\"}\n",
-            "",
-        ),
-        (&["arena"], "{\"games\":1}", 4, "", "arena: plan P1\n"),
-        (
-            &["arena"],
-            "{\"games\":[{\"game\":\"a\",\"quota\":15}]}",
-            4,
-            "",
-            "arena: plan P2\n",
-        ),
-        (
-            &["arena", "serve", "-", "--blocks", "11"],
-            TWO_GAMES,
-            4,
-            "",
-            "arena: plan P4\n",
-        ),
-        (
-            &["arena", "serve", "-", "--blocks", "12"],
-            TWO_GAMES,
-            0,
-            TWO_GAMES_END,
-            "",
-        ),
-        (&["arena", "serve", "-"], TWO_GAMES, 0, TWO_GAMES_END, ""),
-        (
-            &["arena", "serve", "-", "--workers", "1"],
-            TWO_GAMES,
-            0,
-            TWO_GAMES_END,
-            "",
-        ),
-        (
-            &["arena", "serve", "-", "--workers", "4", "--blocks", "12"],
-            TWO_GAMES,
-            0,
-            TWO_GAMES_END,
-            "",
-        ),
-        (
-            &["arena", "serve", "no such file"],
-            "",
-            3,
-            "",
-            "arena: cannot read the file\n",
-        ),
-        (
-            &["arena", "serve", "/"],
-            "",
-            3,
-            "",
-            "arena: cannot read the file\n",
-        ),
-    ];
-    for (words, file, status, text, line) in cases {
-        let (answer, output, errors) = ran(&rt, rt.alloc(), words, file);
-        assert_eq!(rt; answer, status, "{file}");
-        assert_eq!(rt; output.as_slice(), text.as_bytes(), "{file}");
-        assert_eq!(rt; errors.as_slice(), line.as_bytes(), "{file}");
+fn statuses_and_lines(rt: HostRuntime) {
+    for cases in [PLANS, RUNS] {
+        for (words, file, status, text, line) in cases {
+            let (answer, output, errors) = ran(&rt, rt.alloc(), words, file);
+            assert_eq!(rt; answer, status, "{words:?} {file}");
+            assert_eq!(rt; output.as_slice(), text.as_bytes(), "{words:?} {file}");
+            assert_eq!(rt; errors.as_slice(), line.as_bytes(), "{words:?} {file}");
+        }
     }
-    Ok(())
 }
 
 // A command file of two games, interleaved.
@@ -109,8 +117,9 @@ const INTERLEAVED: &str = r#"{"games":[{"game":"a","quota":64},{"game":"b","quot
 {"game":"b","do":"new","mode":"standard","width":7,"height":7,"snakes":[{"id":"s","x":1,"y":1},{"id":"t","x":5,"y":1},{"id":"u","x":3,"y":5}],"food":[{"x":1,"y":2}],"min_food":0,"food_chance":0}
 {"game":"a","do":"move","moves":{}}
 {"game":"b","do":"move","moves":{"u":"down"}}
+{"game":"a","do":"turn","at":2}
 {"game":"a","do":"end"}
-{"game":"b","do":"show"}
+{"game":"b","do":"turn","at":0}
 "#;
 
 // What each game writes alone is its part of what all of them write, with any number of workers.
@@ -266,6 +275,77 @@ fn files_that_are_too_long(rt: HostRuntime) -> Result<(), Fail> {
     assert_eq!(rt; output.len(), 0);
     assert_eq!(rt; errors.as_slice(), b"arena: file too long\n".as_slice());
     Ok(())
+}
+
+/// A system whose memory is used up when a file is to be opened.
+#[derive(Drop)]
+struct Exhausted<'a, R> {
+    rt: &'a R,
+}
+
+impl<'a, R: Threads> Threads for Exhausted<'a, R> {}
+
+impl<'a, R: Wait> Wait for Exhausted<'a, R> {}
+
+fn out_of_memory() -> io::Error {
+    io::Error::from(ErrorKind::OutOfMemory)
+}
+
+impl<'a, R: Files> Files for Exhausted<'a, R> {
+    type File = R::File;
+
+    type Dir = R::Dir;
+
+    fn open_file(&self, _how: &OpenOptions, _path: &str) -> io::Result<R::File> {
+        Err(out_of_memory())
+    }
+
+    fn open_dir(&self, path: &str) -> io::Result<R::Dir> {
+        self.rt.open_dir(path)
+    }
+
+    fn metadata(&self, path: &str) -> io::Result<Metadata> {
+        self.rt.metadata(path)
+    }
+
+    fn symlink_metadata(&self, path: &str) -> io::Result<Metadata> {
+        self.rt.symlink_metadata(path)
+    }
+
+    fn copy(&self, from: &str, to: &str) -> io::Result<u64> {
+        self.rt.copy(from, to)
+    }
+
+    fn rename(&self, from: &str, to: &str) -> io::Result<()> {
+        self.rt.rename(from, to)
+    }
+
+    fn remove_file(&self, path: &str) -> io::Result<()> {
+        self.rt.remove_file(path)
+    }
+
+    fn create_dir(&self, path: &str) -> io::Result<()> {
+        self.rt.create_dir(path)
+    }
+
+    fn remove_dir(&self, path: &str) -> io::Result<()> {
+        self.rt.remove_dir(path)
+    }
+
+    fn remove_dir_all<B: Allocator>(&self, alloc: B, path: &str) -> io::Result<()> {
+        self.rt.remove_dir_all(alloc, path)
+    }
+}
+
+// Want of memory is status 5, and nothing is written.
+#[test]
+fn want_of_memory(rt: HostRuntime) {
+    let system = Exhausted { rt: &rt };
+    let words = ["arena", "serve", "file"];
+    let (answer, output, errors) = ran(&system, rt.alloc(), &words, TWO_GAMES);
+    assert_eq!(rt; answer, 5);
+    assert_eq!(rt; output.len(), 0);
+    assert_eq!(rt; errors.as_slice(), b"arena: out of memory\n".as_slice());
 }
 
 // The place behind the piece, where it stands in the text from there on.
