@@ -33,7 +33,7 @@ fn ran<H: Files + Threads + Wait + Sync>(
 /// Words of a command line, the standard input, and the status, output and errors that they give.
 type Case<'a> = (&'a [&'a str], &'a str, u8, &'a str, &'a str);
 
-const PLANS: [Case<'static>; 6] = [
+const CASES: [Case<'static>; 12] = [
     (&["arena"], "", 4, "", "arena: plan P1\n"),
     (&["arena"], "{\"games\":[]}", 0, "", ""),
     (
@@ -58,9 +58,6 @@ const PLANS: [Case<'static>; 6] = [
         "",
         "arena: plan P4\n",
     ),
-];
-
-const RUNS: [Case<'static>; 6] = [
     (
         &["arena", "serve", "-", "--blocks", "12"],
         TWO_GAMES,
@@ -101,13 +98,11 @@ const RUNS: [Case<'static>; 6] = [
 
 #[test]
 fn statuses_and_lines(rt: HostRuntime) {
-    for cases in [PLANS, RUNS] {
-        for (words, file, status, text, line) in cases {
-            let (answer, output, errors) = ran(&rt, rt.alloc(), words, file);
-            assert_eq!(rt; answer, status, "{words:?} {file}");
-            assert_eq!(rt; output.as_slice(), text.as_bytes(), "{words:?} {file}");
-            assert_eq!(rt; errors.as_slice(), line.as_bytes(), "{words:?} {file}");
-        }
+    for (words, file, status, text, line) in CASES {
+        let (answer, output, errors) = ran(&rt, rt.alloc(), words, file);
+        assert_eq!(rt; answer, status, "{words:?} {file}");
+        assert_eq!(rt; output.as_slice(), text.as_bytes(), "{words:?} {file}");
+        assert_eq!(rt; errors.as_slice(), line.as_bytes(), "{words:?} {file}");
     }
 }
 
