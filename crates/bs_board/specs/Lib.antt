@@ -1,4 +1,5 @@
 pub mod Distinct
+pub mod Ids
 pub mod Texts
 pub mod boards
 pub mod commands

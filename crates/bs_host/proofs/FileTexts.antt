@@ -11,7 +11,7 @@ use Rattle.bs_host.specs.declared.limits.TheConstants.{MOST_FILE_BYTES}
 use Rattle.bs_host.specs.File.{pieces_of, first_piece, later_pieces, plan_of, rows_in}
 use Rattle.bs_host.specs.Hosted.{Hosts, HostsLines}
 use Rattle.bs_host.specs.Routing.{routes_from, strays_in, strays_of}
-use Rattle.bs_host.specs.Serve.{refusal_of, refusal_of_plan}
+use Rattle.bs_host.specs.Faults.{refusal_of, refusal_of_plan}
 
 pub refusal_of_long : (blocks : ℕ) (file : List ℕ) → MOST_FILE_BYTES < length file → refusal_of blocks file ≡ Some TooLong
 unfolding refusal_of

@@ -31,7 +31,7 @@ use Rattle.bs_host.specs.File.{rows_of}
 use Rattle.bs_host.specs.Hosted.{Hosts, HostsLines}
 use Rattle.bs_host.specs.Requests.{AreWithinPlan, commands_by_row}
 use Rattle.bs_host.specs.Routing.{commands_to, routes_of, strays_of}
-use Rattle.bs_host.specs.Serve.{IsRefusal, fault_of_opening, fault_of_run, refusal_of_plan}
+use Rattle.bs_host.specs.Faults.{IsRefusal, fault_of_opening, fault_of_run, refusal_of_plan}
 use Rattle.bs_host.specs.Transcript.{section_of, transcript_of, sections_in, core_text_of, lane_lines_of}
 use Rattle.bs_transcript.specs.Lines.{stray_lines_of}
 
@@ -45,9 +45,9 @@ opening_refusal blocks plan opening.Short short =
     cond-true _ (Some (OfPlan refusal.Short)) None (lt-ltb blocks (blocks_of_all BLOCK_BYTES plan.rows) (short refl))
 opening_refusal blocks plan opening.Memory short = tt
 
-pub run_refusal : (found : Option Fault) (error : Run) → IsRefusal found (fault_of_run error)
-run_refusal found run.Memory = tt
-run_refusal found run.Broken = tt
+pub run_refusal : (found : Option Fault) (error : Run) → found ≡ None → IsRefusal found (fault_of_run error)
+run_refusal found run.Memory none = tt
+run_refusal found run.Broken none = none
 
 pub is_fresh : (capacity blocks workers : ℕ) (rows : List GameRow) (core : CoreView) → core ≡ opened_core capacity blocks workers rows
     → core ≡ opened_core capacity (size core.games.storage.pool) core.games.workers core.games.rows

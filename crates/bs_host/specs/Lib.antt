@@ -1,7 +1,7 @@
 pub mod Cut
+pub mod Faults
 pub mod File
 pub mod Hosted
 pub mod Requests
 pub mod Routing
-pub mod Serve
 pub mod Transcript

@@ -54,7 +54,7 @@ impl From<AllocError> for Fault {
 }
 
 impl From<PlanFault> for Fault {
-    ghost use Rattle.bs_host.specs.Serve.{fault_of};
+    ghost use Rattle.bs_host.specs.Faults.{fault_of};
 
     ghost from_gives = { λ error fault. fault ≡ fault_of error };
 
@@ -69,7 +69,7 @@ impl From<PlanFault> for Fault {
 }
 
 impl From<Open> for Fault {
-    ghost use Rattle.bs_host.specs.Serve.{fault_of_opening};
+    ghost use Rattle.bs_host.specs.Faults.{fault_of_opening};
 
     ghost from_gives = { λ error fault. fault ≡ fault_of_opening error };
 
@@ -82,7 +82,7 @@ impl From<Open> for Fault {
 }
 
 impl From<Run> for Fault {
-    ghost use Rattle.bs_host.specs.Serve.{fault_of_run};
+    ghost use Rattle.bs_host.specs.Faults.{fault_of_run};
 
     ghost from_gives = { λ error fault. fault ≡ fault_of_run error };
 

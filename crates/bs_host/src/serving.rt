@@ -5,7 +5,7 @@ ghost use Rattle.bs_sched.specs.Core.{opened_core};
 ghost use Rattle.bs_host.specs.File.{pieces_after};
 ghost use Rattle.bs_host.specs.Hosted.{Hosts, HostsLines};
 ghost use Rattle.bs_host.specs.Routing.{routes_from, strays_in, strays_of};
-ghost use Rattle.bs_host.specs.Serve.{refusal_of, refusal_of_plan, IsRefusal, IsFault, Leaves};
+ghost use Rattle.bs_host.specs.Faults.{refusal_of, refusal_of_plan, IsRefusal, IsFault, Leaves};
 ghost use Rattle.bs_host.specs.Transcript.{transcript_of};
 
 use crate::fault::Fault;

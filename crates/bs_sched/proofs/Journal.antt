@@ -9,12 +9,13 @@ use Rattle.bs_board.specs.plans.Plan.{GameRow}
 use Rattle.bs_pool.specs.Ledger.{size}
 use Rattle.bs_sched.specs.declared.cores.Core.TheInside.{Inside}
 use Rattle.bs_sched.specs.declared.event.Event.{Event}
+use Rattle.bs_sched.specs.Busy.{IsBusyTable}
 use Rattle.bs_sched.specs.Core.{CoreView, opened_core, core_after}
 use Rattle.bs_sched.specs.Games.{GamesView, after, opened}
 use Rattle.bs_sched.specs.Isolation.{HandsFit, are_enabled, opened_lanes}
 use Rattle.bs_sched.specs.Journal.{IsItsJournal, IsJournaled, KeepsApart, blocks_of, core_in, jobs_out}
 use Rattle.bs_sched.specs.Lane.{Lane}
-use Rattle.bs_sched.specs.Machine.{is_enabled, step, run_of}
+use Rattle.bs_sched.specs.Machine.{is_enabled, lane_effect, step, run_of}
 use Rattle.bs_sched.specs.Memory.{games_run, games_step}
 use Rattle.bs_sched.specs.SharedMemory.{IsHosted, SharesMemory}
 use Rattle.bs_sched.proofs.Isolation.{isolation_law}
@@ -95,12 +96,14 @@ journal_after cap core e is enabled fits =
 -- how a core that has one event more lies in its fields
 pub journaled_after : (cap : ℕ) {at : ℕ} (c : Inside at) (e : Event) (new : Inside at) → IsJournaled cap c
     → is_enabled c.games.workers c.games.lanes e ≡ true → HandsFit e → new.games ≡ after cap c.games e → new.journal.items ≡ c.journal.items ++ e ∷ []
-    → new.out ≡ jobs_out (after cap c.games e).lanes → vec_len new.journal + new.out ≤ vec_capacity new.journal → IsJournaled cap new
-journaled_after cap c e new sound enabled fits games journal out room =
+    → new.out ≡ jobs_out (after cap c.games e).lanes → vec_len new.journal + new.out ≤ vec_capacity new.journal
+    → IsBusyTable c.games.workers (lane_effect c.games.lanes e) new.busy.items → IsJournaled cap new
+journaled_after cap c e new sound enabled fits games journal out room busy =
     let is : core_in new ≡ core_after cap (core_in c) e
     = ap (λ (g : GamesView). record { games = g; journal = new.journal.items }) games ∙ ap (λ (j : List Event). record { games = after cap c.games e; journal = j }) journal in
     record {
       journal = subst (IsItsJournal cap) (sym is) (journal_after cap (core_in c) e sound.journal enabled fits);
       out = out ∙ ap (λ (g : GamesView). jobs_out g.lanes) (sym games);
       room = room;
+      busy = subst (λ (g : GamesView). IsBusyTable g.workers g.lanes new.busy.items) (sym games) busy;
     }

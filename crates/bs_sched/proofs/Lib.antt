@@ -1,4 +1,5 @@
 pub mod Answered
+pub mod BusyTable
 pub mod ChangedGames
 pub mod EventEffects
 pub mod Fibers

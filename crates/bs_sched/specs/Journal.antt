@@ -6,6 +6,7 @@ use Rattle.bs_sched.specs.declared.stage.Stage.{Stage}
 use Rattle.bs_sched.specs.declared.stage.Stage.TheVariants as stage
 use Rattle.bs_sched.specs.declared.stage.PartState.{PartState}
 use Rattle.bs_sched.specs.declared.stage.PartState.TheVariants as part
+use Rattle.bs_sched.specs.Busy.{IsBusyTable}
 use Rattle.bs_sched.specs.Core.{CoreView}
 use Rattle.bs_sched.specs.Games.{opened}
 use Rattle.bs_sched.specs.Isolation.{HandsFit, IsIsolated, are_enabled, opened_lanes, shared_run}
@@ -61,3 +62,4 @@ pub record IsJournaled (cap : ℕ) {at : ℕ} (c : Inside at) : Type 0 where
   pub journal : IsItsJournal cap (core_in c)
   pub out : c.out ≡ jobs_out c.games.lanes
   pub room : vec_len c.journal + c.out ≤ vec_capacity c.journal
+  pub busy : IsBusyTable c.games.workers c.games.lanes c.busy.items

@@ -1,3 +1,4 @@
+pub mod Busy
 pub mod Games
 pub mod GamesLayout
 pub mod Core

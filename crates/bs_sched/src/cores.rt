@@ -44,6 +44,8 @@ pub struct Core<const CAP: usize> {
     pub(crate) journal: Vec<Event>,
     /// How many jobs are out. The journal has room for the coming back of each.
     pub(crate) out: usize,
+    /// Which workers have a job that begins or joins.
+    pub(crate) busy: Vec<bool>,
 }
 
 impl<const CAP: usize> Model for Core<CAP> {

@@ -335,19 +335,6 @@ impl Fiber {
         self.stage == Stage::Idle && self.begun == self.commands.len()
     }
 
-    /// Whether the worker has the job that begins or joins.
-    pub(crate) fn occupies(&self, worker: usize) -> bool
-        ensures { result ≡ occupies worker self.now }
-    {
-        match self.stage {
-            Stage::Idle => false,
-            Stage::Begin(holder) => holder == worker,
-            Stage::Parts => false,
-            Stage::Join(None) => false,
-            Stage::Join(Some(holder)) => holder == worker,
-        }
-    }
-
     /// Whether the worker has that job.
     pub(crate) fn has_out(&self, worker: usize, kind: JobKind, part: usize) -> bool
         ensures { result ≡ is_out worker self.now kind part }

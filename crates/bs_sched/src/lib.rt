@@ -2,6 +2,7 @@
 //! journal of all that happened to them.
 #![tactic(auto)]
 
+mod busy;
 mod cores;
 #[cfg(test)]
 mod drawn_tests;

@@ -9,6 +9,7 @@ ghost use Rattle.bs_sched.specs.Lane.{empty_lane};
 ghost use Rattle.bs_sched.specs.PlanBlocks.{blocks_of_all};
 ghost use Rattle.bs_sched.specs.declared.opening.Open.TheVariants as cause;
 
+use crate::busy::nobody_busy;
 use crate::cores::{Core, LEAST_CAPACITY};
 use crate::fiber::Fiber;
 use crate::games::Games;
@@ -106,6 +107,7 @@ impl<const CAP: usize> Core<CAP> {
             games: Games::open(alloc, plan, blocks, workers)?,
             journal: Vec::new(alloc),
             out: 0,
+            busy: nobody_busy(alloc, workers)?,
         })
     }
 }

@@ -13,6 +13,7 @@ ghost use Rattle.bs_sched.specs.Putting.{IsOwn};
 ghost use Rattle.bs_sched.specs.Storage.{stored};
 ghost use Rattle.bs_sched.specs.declared.event.Event.TheVariants as event;
 
+use crate::busy::mark;
 use crate::cores::{Core, note};
 use crate::event::Event;
 use crate::game::{answer_game, is_own};
@@ -138,6 +139,7 @@ impl<const CAP: usize> Core<CAP> {
         self.games.settle(done);
         note(&mut self.journal, Event::Put(worker, job));
         self.out -= 1;
+        mark(&mut self.busy, worker, job.kind, false);
     }
 
     /// The worker brings back a job that it took. It asks for no memory. `Stray` gives back what is not the core's, and

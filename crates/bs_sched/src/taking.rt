@@ -7,10 +7,11 @@ ghost use Rattle.bs_sched.specs.Games.{after};
 ghost use Rattle.bs_sched.specs.GamesLayout.{KeepsBoards};
 ghost use Rattle.bs_sched.specs.Inputs.{input_of};
 ghost use Rattle.bs_sched.specs.Lane.{HasNoneReady, is_ready, with_taken};
-ghost use Rattle.bs_sched.specs.Machine.{is_enabled, lane_of};
-ghost use Rattle.bs_sched.specs.Taking.{FindsJob, TakesAs};
+ghost use Rattle.bs_sched.specs.Machine.{is_busy, is_enabled, lane_of};
+ghost use Rattle.bs_sched.specs.Taking.{AreNoneReady, FindsJob, IsReadyJob, TakesAs};
 ghost use Rattle.bs_sched.specs.declared.event.Event.TheVariants as event;
 
+use crate::busy::{is_marked, mark};
 use crate::cores::{Core, note, reserve_events};
 use crate::event::Event;
 use crate::fiber::Fiber;
@@ -53,23 +54,16 @@ fn ready_job(fiber: &Fiber, game: usize) -> Option<JobName>
     }
 }
 
-/// The first job that is ready, each game being looked at once.
-fn find_job(fibers: &[Fiber], worker: usize) -> Found
-    ensures { FindsJob worker fibers.now result }
+/// The first job that is ready.
+fn find_job(fibers: &[Fiber]) -> Option<JobName>
+    ensures { MatchOption result (AreNoneReady fibers.now) (IsReadyJob fibers.now) }
 {
-    let mut found = None;
     for game in 0..fibers.len() {
-        if fibers[game].occupies(worker) {
-            return Found::Busy;
-        }
-        if found.is_none() {
-            found = ready_job(&fibers[game], game);
+        if let Some(job) = ready_job(&fibers[game], game) {
+            return Some(job);
         }
     }
-    match found {
-        None => Found::Nothing,
-        Some(job) => Found::Job(job),
-    }
+    None
 }
 
 /// The next command is begun.
@@ -180,11 +174,11 @@ fn take_ticket<const CAP: usize>(
 }
 
 impl<const CAP: usize> Games<CAP> {
-    /// What stands in the games for the worker.
-    fn find(&self, worker: usize) -> Found
-        ensures { FindsJob worker self.now.lanes result }
+    /// The first job that is ready in any game.
+    fn find(&self) -> Option<JobName>
+        ensures { MatchOption result (AreNoneReady self.now.lanes) (IsReadyJob self.now.lanes) }
     {
-        find_job(&self.fibers, worker)
+        find_job(&self.fibers)
     }
 
     fn take_job(&mut self, alloc: Global, worker: usize, job: JobName) -> Result<Ticket, AllocError>
@@ -205,6 +199,28 @@ impl<const CAP: usize> Games<CAP> {
 }
 
 impl<const CAP: usize> Core<CAP> {
+    /// Whether the worker has a job that begins or joins.
+    fn is_busy(&self, worker: usize) -> bool
+        requires { worker ≤ self.now.games.workers }
+        ensures { result ≡ is_busy worker self.now.games.lanes }
+    {
+        is_marked(self.busy.as_slice(), worker)
+    }
+
+    /// What stands in the games for the worker.
+    fn find(&self, worker: usize) -> Found
+        requires { worker ≤ self.now.games.workers }
+        ensures { FindsJob worker self.now.games.lanes result }
+    {
+        if self.is_busy(worker) {
+            return Found::Busy;
+        }
+        match self.games.find() {
+            None => Found::Nothing,
+            Some(job) => Found::Job(job),
+        }
+    }
+
     /// The worker takes that job. The journal gets room for its coming back too.
     fn take_job(&mut self, alloc: Global, worker: usize, job: JobName) -> Result<Ticket, AllocError>
         requires enabled { is_enabled self.old.games.workers self.old.games.lanes (event.Take worker job) ≡ true }
@@ -216,6 +232,7 @@ impl<const CAP: usize> Core<CAP> {
         let ticket = self.games.take_job(alloc, worker, job)?;
         note(&mut self.journal, Event::Take(worker, job));
         self.out += 1;
+        mark(&mut self.busy, worker, job.kind, true);
         Ok(ticket)
     }
 
@@ -229,7 +246,7 @@ impl<const CAP: usize> Core<CAP> {
         if self.games.has_failed() {
             return Ok(Taken::Failed);
         }
-        match self.games.find(worker) {
+        match self.find(worker) {
             Found::Busy => Ok(Taken::Busy),
             Found::Nothing => Ok(Taken::Nothing),
             Found::Job(job) => Ok(Taken::Job(self.take_job(alloc, worker, job)?)),

@@ -23,7 +23,7 @@ fn work_job<G: Gate>(alloc: Global, worker: usize, ticket: Ticket, gate: &G) -> 
 }
 
 /// A worker among others: it works what is ready and waits for what becomes so, until the end.
-fn serve<const CAP: usize, R: Wait, G: Gate>(
+fn work_until_end<const CAP: usize, R: Wait, G: Gate>(
     rt: &R,
     alloc: Global,
     shop: &Shop<CAP>,
@@ -102,7 +102,7 @@ fn hand_to_threads<const CAP: usize, R: Threads + Wait + Sync, G: Gate>(
 ) {
     thread::scope(thread::scope_env(), rt, |scope| {
         for worker in 0..workers {
-            let _thread = scope.spawn(move || serve(rt, alloc, shop, worker, gate));
+            let _thread = scope.spawn(move || work_until_end(rt, alloc, shop, worker, gate));
         }
         hand_all(rt, alloc, shop, commands);
     });

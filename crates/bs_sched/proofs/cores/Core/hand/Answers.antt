@@ -4,6 +4,7 @@ use Rattle.std.proofs.lemmas.Bool.{lt-ltb}
 use Rattle.bs_sched.specs.declared.event.Event.TheVariants as event
 use Rattle.bs_sched.specs.Core.{CoreView}
 use Rattle.bs_sched.specs.Machine.{is_enabled}
+use Rattle.bs_sched.proofs.BusyTable.{hand_marks_none}
 use Rattle.bs_sched.proofs.JobsOut.{as_many_handed}
 use Rattle.bs_sched.proofs.Journal.{journaled_after}
 use Rattle.bs_sched.proofs.LoneLanes.{both_true}
@@ -22,3 +23,4 @@ invariant_of-self-2 g c =
     let room = c.in_ok-reserve_events.ensures.room in
     journaled_after g.row.CAP inside e _ c.self.invariant enabled c.keeps_limits.ensures (rw c.in_ok-handed.ensures at c.in_ok-hand.ensures.ok) items
     (c.self.invariant.out ∙ sym (as_many_handed inside.games.lanes c.args.game c.args.command within)) (omega (arith, len, capacity, room))
+    (hand_marks_none inside.games.workers inside.games.lanes inside.busy.items c.args.game c.args.command within c.self.invariant.busy)

@@ -4,9 +4,11 @@ use Rattle.std.specs.Prelude.{List}
 use Rattle.std.proofs.lemmas.List.{length-replicate}
 use Rattle.bs_sched.specs.declared.event.Event.{Event}
 use Rattle.bs_sched.specs.Core.{opened_core}
-use Rattle.bs_sched.specs.Games.{GamesView}
+use Rattle.bs_sched.specs.Games.{GamesView, opened}
 use Rattle.bs_sched.specs.Journal.{IsItsJournal, jobs_out}
 use Rattle.bs_sched.specs.SharedMemory.{IsHosted}
+use Rattle.bs_sched.specs.Busy.{IsBusyTable}
+use Rattle.bs_sched.proofs.BusyTable.{none_marked}
 use Rattle.bs_sched.proofs.JobsOut.{none_out}
 use Rattle.bs_sched.proofs.Journal.{opened_journal}
 use Rattle.bs_sched.proofs.cores.Core.open.Goals as goal
@@ -25,4 +27,6 @@ invariant_of-result g c =
       journal = subst (IsItsJournal cap) (sym core) (opened_journal cap c.args.blocks c.args.workers rows hosted (length-replicate c.args.blocks None));
       out = sym (ap (λ (games : GamesView). jobs_out games.lanes) is ∙ none_out rows);
       room = omega (arith, len);
+      busy = subst (λ (games : GamesView). IsBusyTable games.workers games.lanes c.in_ok-nobody_busy.field-0.items) (sym is)
+          (subst (IsBusyTable c.args.workers (opened cap c.args.blocks c.args.workers rows).lanes) (sym c.in_ok-nobody_busy.ensures) (none_marked c.args.workers rows));
     }

@@ -1,9 +1,11 @@
-use Rattle.std.proofs.Common.{◌≡◌, ◌-◌, true, ◌∷◌, ◌++◌, [], refl, sym, ap, subst, ◌∙◌, arith}
+use Rattle.std.proofs.Common.{◌≡◌, ◌-◌, true, false, ◌∷◌, ◌++◌, [], refl, sym, ap, subst, ◌∙◌, arith}
 use Rattle.bs_fiber.specs.declared.input.Input.{Input}
 use Rattle.bs_sched.specs.declared.event.Event.TheVariants as event
 use Rattle.bs_sched.specs.Core.{CoreView}
 use Rattle.bs_sched.specs.Machine.{is_enabled, lane_effect}
 use Rattle.bs_sched.specs.Journal.{jobs_out}
+use Rattle.bs_sched.specs.Busy.{IsBusyTable, marked}
+use Rattle.bs_sched.proofs.BusyTable.{put_marks}
 use Rattle.bs_sched.proofs.JobsOut.{one_less_out}
 use Rattle.bs_sched.proofs.Journal.{journaled_after}
 use Rattle.bs_sched.proofs.cores.Core.settle.Goals as goal
@@ -22,4 +24,7 @@ invariant_of-self g c =
     let len = c.note.ensures.len in
     let capacity = c.note.ensures.capacity in
     let room = c.self.invariant.room in
+    let marks : c.mark.new.busy.items ≡ marked c.args.done.job.kind c.args.worker false inside.busy.items = rw (c.mark.ensures, job) refl in
     journaled_after g.row.CAP inside e _ c.self.invariant enabled tt c.settle.ensures items fewer (omega (arith, counted, less, len, capacity, room))
+    (subst (IsBusyTable inside.games.workers (lane_effect inside.games.lanes e)) (sym marks)
+    (put_marks inside.games.workers inside.games.lanes inside.busy.items c.args.worker c.args.done.job enabled c.self.invariant.busy))

@@ -1,7 +1,9 @@
 use Rattle.std.proofs.Common.{◌≡◌, ◌+◌, true, ◌∷◌, ◌++◌, [], refl, sym, ap, subst, ◌∙◌, arith}
 use Rattle.bs_sched.specs.declared.event.Event.TheVariants as event
 use Rattle.bs_sched.specs.Core.{CoreView}
-use Rattle.bs_sched.specs.Machine.{is_enabled}
+use Rattle.bs_sched.specs.Machine.{is_enabled, lane_effect}
+use Rattle.bs_sched.specs.Busy.{IsBusyTable}
+use Rattle.bs_sched.proofs.BusyTable.{take_marks}
 use Rattle.bs_sched.proofs.JobsOut.{one_more_out}
 use Rattle.bs_sched.proofs.Journal.{journaled_after}
 use Rattle.bs_sched.proofs.cores.Core.take_job.Goals as goal
@@ -19,3 +21,5 @@ invariant_of-self-2 g c =
     let room = c.in_ok-reserve_events.ensures.room in
     journaled_after g.row.CAP inside e _ c.self.invariant enabled tt c.in_ok-ticket.ensures.ok items
     (ap (λ n. n + 1) c.self.invariant.out ∙ sym more) (omega (arith, len, capacity, room))
+    (subst (IsBusyTable inside.games.workers (lane_effect inside.games.lanes e)) (sym c.mark.ensures)
+    (take_marks inside.games.workers inside.games.lanes inside.busy.items c.args.worker c.args.job enabled c.self.invariant.busy))

@@ -37,20 +37,20 @@ refusal_of_plan blocks (Ok plan) = if nat_lt blocks (blocks_of_all BLOCK_BYTES p
 unfoldable pub refusal_of : ℕ → List ℕ → Option Fault
 refusal_of blocks file = if nat_lt MOST_FILE_BYTES (length file) then Some TooLong else refusal_of_plan blocks (plan_of file)
 
--- that reason was found; of want of memory and of a run that was broken off nothing is said
+-- that reason was found; a run is broken off only where nothing was against the file; of want of memory nothing is said
 abbrev pub IsRefusal : Option Fault → Fault → Type 0
 IsRefusal refusal TooLong = refusal ≡ Some TooLong
 IsRefusal refusal (OfPlan reason) = refusal ≡ Some (OfPlan reason)
 IsRefusal refusal Memory = Unit {0}
-IsRefusal refusal Broken = Unit {0}
+IsRefusal refusal Broken = refusal ≡ None
 IsRefusal refusal (Write written) = ⊥
 
--- the writer failed only where nothing was against the file
+-- so did the writer fail only where nothing was against the file
 abbrev pub IsFault : Option Fault → Fault → Type 0
 IsFault refusal TooLong = refusal ≡ Some TooLong
 IsFault refusal (OfPlan reason) = refusal ≡ Some (OfPlan reason)
 IsFault refusal Memory = Unit {0}
-IsFault refusal Broken = Unit {0}
+IsFault refusal Broken = refusal ≡ None
 IsFault refusal (Write written) = refusal ≡ None
 
 -- what the writer then holds: as much of the text as the fault says, fewer bytes than all, or nothing new

@@ -1,0 +1,26 @@
+-- Which workers have a job that begins or joins: a table by their numbers, so that nobody has to look through the lanes.
+use Rattle.std.specs.Prelude.{◌≡◌, ℕ, ◌+◌, ◌≤◌, Bool, false, if◌then◌else◌, List, length, sum_by, slice_index_or, slice_set}
+use Rattle.bs_fiber.specs.declared.job.JobKind.{JobKind}
+use Rattle.bs_fiber.specs.declared.job.JobKind.TheVariants as kind
+use Rattle.bs_sched.specs.Lane.{Lane, occupies}
+
+-- in how many lanes the worker has such a job
+abbrev pub held_by : ℕ → Lane → ℕ
+held_by worker x = if occupies worker x then 1 else 0
+
+abbrev pub lanes_held : ℕ → List Lane → ℕ
+lanes_held worker = sum_by (held_by worker)
+
+abbrev pub one_if : Bool → ℕ
+one_if is = if is then 1 else 0
+
+-- each worker, from 0 to the last, has one at most, and is marked where it has one
+pub record IsBusyTable (workers : ℕ) (lanes : List Lane) (busy : List Bool) : Type 0 where
+  pub many : length busy ≡ workers + 1
+  pub each : (worker : ℕ) → worker ≤ workers → lanes_held worker lanes ≡ one_if (slice_index_or busy worker false)
+
+-- the table after such a job was taken or came back; a part makes nobody busy
+abbrev pub marked : JobKind → ℕ → Bool → List Bool → List Bool
+marked kind.Begin worker is busy = slice_set busy worker is
+marked kind.Part worker is busy = busy
+marked kind.Join worker is busy = slice_set busy worker is
