@@ -1,4 +1,6 @@
 pub mod Ascending
+pub mod CompactLines
+pub mod CutTexts
 pub mod Floats
 pub mod Lines
 pub mod Lists

@@ -4,6 +4,7 @@
 
 mod boards;
 mod commands;
+mod compact;
 mod limits;
 pub mod line;
 mod moves;

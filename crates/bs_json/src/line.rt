@@ -5,6 +5,7 @@ ghost use Rattle.serde_json.specs.View.{view};
 ghost use Rattle.bs_json.specs.Line.{is_space, line_from, line_of};
 
 use crate::commands::command_of;
+use crate::compact::compact_line;
 use crate::limits::MAX_LINE;
 use crate::values::{id_at, parsed};
 use bs_board::{Command, Id};
@@ -60,13 +61,17 @@ fn line_from(alloc: Global, value: &mut Value) -> Result<Line, AllocError>
     }
 }
 
-/// Reads one line, given without its line feed. Whether the plan has the game is for the caller to see.
+/// Reads one line, given without its line feed. Whether the plan has the game is for the caller to see. A line in its compact
+/// form is read without a JSON value; that is all that it is told apart for.
 #[tactic(auto, unfolding(crate::specs::Line::line_of))]
 pub fn read_line(alloc: Global, line: &[u8]) -> Result<Line, AllocError>
     ensures { IfOk result (λ l. l ≡ line_of line.now) }
 {
     if line.len() > MAX_LINE {
         return Ok(Line::Stray(Stray::Long));
+    }
+    if let Some(found) = compact_line(alloc, line)? {
+        return Ok(found);
     }
     if is_blank(line) {
         return Ok(Line::Blank);

@@ -14,7 +14,7 @@ use serde_json::{Map, Value};
 use std::alloc::{AllocError, Global};
 use std::mem;
 
-fn direction_named(word: &str) -> Option<Direction>
+pub(crate) fn direction_named(word: &str) -> Option<Direction>
     ensures { result ≡ direction_named word.now }
 {
     match word {

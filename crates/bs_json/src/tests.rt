@@ -74,6 +74,28 @@ a: turn 0|{"game":"a","do":"turn","at":0}
 a: turn 10000|{"game":"a","do":"turn","at":10000}
 a: bad|{"game":"a","do":"turn","at":10001}
 a: bad|{"game":"a","do":"turn"}
+a: turn 9|{"game":"a","do":"turn","at":9,"more":0}
+a: turn 9|{"game":"a","do":"turn","at": 9}
+a: bad|{"game":"a","do":"turn","at":-1}
+a: bad|{"game":"a","do":"turn","at":4294967296}
+stray Json|{"game":"a","do":"turn","at":}
+stray Json|{"game":"a","do":"turn","at":09}
+stray Json|{"game":"a","do":"turn","at":9}}
+a: move s Left t Up|{"game":"a","do":"move","moves":{"s":"left","t":"up"}}
+a: move s Left t Up|{"game":"a","do":"move","moves":{"t":"up","s":"left"}}
+a: move s Left|{"game":"a","do":"move","moves":{"s":"up","s":"left"}}
+a: move s Left|{"game":"a","do":"move","moves":{"\u0073":"left","t":"Up"}}
+a: move s Left 7 10|{"game":"a","do":"move","moves":{"s":"left"},"words":[7,10]}
+a: move s Left|{"game":"a","do":"move","moves":{"s":"left"},"words":[]}
+a: move s Left 7|{"game":"a","do":"move","moves":{"s":"left"},"words":[7],"more":0}
+stray Json|{"game":"a","do":"move","moves":{"s":"left"},"words":[7,]}
+stray Json|{"game":"a","do":"move","moves":{"s":"left",}}
+stray Json|{"game":"a","do":"move","moves":{,"s":"left"}}
+stray Json|{"game":"a","do":"move","moves":{"s":"left"}
+é: Show|{"game":"é","do":"show"}
+a\: Show|{"game":"a\\","do":"show"}
+a: End|{"game":"a","do":"end"} 
+stray Json|{"game":"a","do":"end"}x
 a: Free|{"game":"a","do":"free"}
 a: End|{"game":"a","do":"end"}
 a: bad|{"game":"a","do":"jump"}

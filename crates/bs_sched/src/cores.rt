@@ -46,6 +46,8 @@ pub struct Core<const CAP: usize> {
     pub(crate) out: usize,
     /// Which workers have a job that begins or joins.
     pub(crate) busy: Vec<bool>,
+    /// Which game each worker was at last.
+    pub(crate) last_games: Vec<usize>,
 }
 
 impl<const CAP: usize> Model for Core<CAP> {

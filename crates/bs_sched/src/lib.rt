@@ -10,6 +10,7 @@ mod event;
 mod fiber;
 mod game;
 mod games;
+mod last_games;
 mod law;
 mod opening;
 mod plan_blocks;

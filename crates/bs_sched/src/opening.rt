@@ -13,6 +13,7 @@ use crate::busy::nobody_busy;
 use crate::cores::{Core, LEAST_CAPACITY};
 use crate::fiber::Fiber;
 use crate::games::Games;
+use crate::last_games::no_game_yet;
 use crate::plan_blocks::{blocks_of_all, open_pool, record_tag};
 use bs_board::limits::MOST_ROWS;
 use bs_board::{Plan, Row};
@@ -108,6 +109,7 @@ impl<const CAP: usize> Core<CAP> {
             journal: Vec::new(alloc),
             out: 0,
             busy: nobody_busy(alloc, workers)?,
+            last_games: no_game_yet(alloc, workers)?,
         })
     }
 }

@@ -1,5 +1,5 @@
 //! Taking jobs: which one a worker gets, and the copy of all that it reads.
-ghost use Rattle.std.specs.Prelude.{◌≡◌, ◌≤◌, ◌<◌, true, length, MatchOption, IfOk, OnOk, OnErr};
+ghost use Rattle.std.specs.Prelude.{◌≡◌, ◌≤◌, ◌<◌, true, length, MatchOption, IfOk, IfSome, OnOk, OnErr};
 ghost use Rattle.bs_heap.specs.Heap.{with_index_room};
 ghost use Rattle.bs_fiber.specs.declared.job.JobKind.TheVariants as kind;
 ghost use Rattle.bs_sched.specs.Core.{core_after};
@@ -16,6 +16,7 @@ use crate::cores::{Core, note, reserve_events};
 use crate::event::Event;
 use crate::fiber::Fiber;
 use crate::games::Games;
+use crate::last_games::{last_game, note_game};
 use crate::records::expected;
 use bs_fiber::{Input, JobKind, JobName, Ticket};
 use bs_heap::TagHeap;
@@ -174,11 +175,26 @@ fn take_ticket<const CAP: usize>(
 }
 
 impl<const CAP: usize> Games<CAP> {
-    /// The first job that is ready in any game.
-    fn find(&self) -> Option<JobName>
+    /// A job that is ready in that game, where there is such a game.
+    #[tactic(auto, using(crate::proofs::FoundJobs::ready_there))]
+    fn find_at(&self, game: usize) -> Option<JobName>
+        ensures { IfSome result (IsReadyJob self.now.lanes) }
+    {
+        if game < self.fibers.len() {
+            ready_job(&self.fibers[game], game)
+        } else {
+            None
+        }
+    }
+
+    /// A job that is ready: in that game, if it has one, or else the first in any game.
+    fn find(&self, first: usize) -> Option<JobName>
         ensures { MatchOption result (AreNoneReady self.now.lanes) (IsReadyJob self.now.lanes) }
     {
-        find_job(&self.fibers)
+        match self.find_at(first) {
+            Some(job) => Some(job),
+            None => find_job(&self.fibers),
+        }
     }
 
     fn take_job(&mut self, alloc: Global, worker: usize, job: JobName) -> Result<Ticket, AllocError>
@@ -207,7 +223,8 @@ impl<const CAP: usize> Core<CAP> {
         is_marked(self.busy.as_slice(), worker)
     }
 
-    /// What stands in the games for the worker.
+    /// What stands in the games for the worker. It stays at the game that it was at last as long as that has a job, since
+    /// what the job reads then lies in its processor's cache.
     fn find(&self, worker: usize) -> Found
         requires { worker ≤ self.now.games.workers }
         ensures { FindsJob worker self.now.games.lanes result }
@@ -215,7 +232,10 @@ impl<const CAP: usize> Core<CAP> {
         if self.is_busy(worker) {
             return Found::Busy;
         }
-        match self.games.find() {
+        match self
+            .games
+            .find(last_game(self.last_games.as_slice(), worker))
+        {
             None => Found::Nothing,
             Some(job) => Found::Job(job),
         }
@@ -233,6 +253,7 @@ impl<const CAP: usize> Core<CAP> {
         note(&mut self.journal, Event::Take(worker, job));
         self.out += 1;
         mark(&mut self.busy, worker, job.kind, true);
+        note_game(&mut self.last_games, worker, job.game);
         Ok(ticket)
     }
 

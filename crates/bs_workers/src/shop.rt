@@ -5,6 +5,7 @@ use bs_board::Command;
 use bs_fiber::{Done, Out};
 use bs_sched::Core;
 use std::alloc::Global;
+use std::hint::spin_loop;
 use std::sync::{Condvar, Mutex, MutexGuard, Wait};
 
 /// A desk for several threads. The lock is held while commands are handed in, and once between two jobs of a worker,
@@ -13,6 +14,19 @@ use std::sync::{Condvar, Mutex, MutexGuard, Wait};
 pub(crate) struct Shop<const CAP: usize> {
     desk: Mutex<Desk<CAP>>,
     changed: Condvar,
+}
+
+/// How often a thread looks whether the desk is free before it sleeps for it.
+const LOOKS: u32 = 20;
+
+/// How many hints that it waits the processor gets between two looks. Together they take some ten microseconds.
+const HINTS: u32 = 16;
+
+/// Lets a moment go by.
+fn pause() {
+    for _ in 0..HINTS {
+        spin_loop();
+    }
 }
 
 /// Whether it makes jobs ready for others than the worker that brings it: the parts of a move.
@@ -31,6 +45,18 @@ impl<const CAP: usize> Shop<CAP> {
             desk: Mutex::new(Desk::new(core)),
             changed: Condvar::new(),
         }
+    }
+
+    /// The desk, once no other thread is at it. A turn at it takes less time than going to sleep and waking up, so the thread
+    /// looks a few times whether the desk is free before it sleeps for it.
+    fn enter<R: Wait>(&self, rt: &R) -> MutexGuard<'_, Desk<CAP>> {
+        for _ in 0..LOOKS {
+            if let Some(desk) = self.desk.try_lock() {
+                return desk;
+            }
+            pause();
+        }
+        self.desk.lock(rt)
     }
 
     /// The lock is given up, and those that wait look again where there is something for them.
@@ -52,7 +78,7 @@ impl<const CAP: usize> Shop<CAP> {
         worked: Option<Result<Done, Run>>,
     ) -> Assignment {
         let tells = spreads(&worked);
-        let mut desk = self.desk.lock(rt);
+        let mut desk = self.enter(rt);
         let assignment = desk.exchange(alloc, worker, worked);
         match &assignment {
             Assignment::Job(_) => self.leave(desk, tells),
@@ -65,7 +91,7 @@ impl<const CAP: usize> Shop<CAP> {
     }
 
     fn hand_in<R: Wait>(&self, rt: &R, alloc: Global, commands: Vec<(usize, Command)>) -> bool {
-        let mut desk = self.desk.lock(rt);
+        let mut desk = self.enter(rt);
         desk.hand_all(alloc, commands);
         !desk.is_stopped()
     }
@@ -84,13 +110,13 @@ impl<const CAP: usize> Shop<CAP> {
 
     /// All commands are handed in.
     pub(crate) fn close<R: Wait>(&self, rt: &R) {
-        self.desk.lock(rt).close();
+        self.enter(rt).close();
         self.changed.notify_all();
     }
 
     /// The run is broken off.
     pub(crate) fn stop<R: Wait>(&self, rt: &R, fault: Run) {
-        self.desk.lock(rt).stop(fault);
+        self.enter(rt).stop(fault);
         self.changed.notify_all();
     }
 

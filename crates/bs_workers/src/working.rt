@@ -59,7 +59,7 @@ fn finish<const CAP: usize, R: Wait, G: Gate>(
 }
 
 /// How many commands are handed in at once: the lock is taken once for all of them.
-const COMMANDS_AT_ONCE: usize = 64;
+const COMMANDS_AT_ONCE: usize = 1_024;
 
 fn copy_commands(
     alloc: Global,

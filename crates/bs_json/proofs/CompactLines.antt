@@ -1,0 +1,360 @@
+-- What a command's compact text says is read back: the line of that text is the command for its game.
+use Rattle.std.proofs.Common.{◌≡◌, ◌≤◌, ◌<◌, ◌^◌, ◌==◌, ℕ, suc, List, [], ◌∷◌, ◌++◌, All, Bool, true, false, not, nat_le, nat_lt, Some, option_and_then, IsUtf8}
+use Rattle.std.proofs.Common.{length, codes, refl, sym, ap, ap₂, ◌∙◌, subst, arith, append_assoc, append-nil, Less, Equal, Greater}
+use Rattle.std.proofs.lemmas.Bool.{le-leb, le-ltb, leb-true}
+use Rattle.std.proofs.lemmas.Cmp.{nat_list_cmp_total}
+use Rattle.std.specs.Cmp.Lexicographic.{slice_cmp}
+use Rattle.std.specs.List.{list_all}
+use Rattle.std.specs.Ordering.{nat_cmp, is_lt, ordering_reverse}
+use Rattle.std.specs.declared.cmp.Ordering.{Ordering}
+use Rattle.json.specs.Json as json
+use Rattle.json.specs.Lex.{tokens}
+use Rattle.json.specs.Print.{escape, escape_byte}
+use Rattle.json.specs.Tree as tree
+use Rattle.json.proofs.Printed.Decimals.{IsNumber-decimal}
+use Rattle.json.proofs.Printed.Strings.{escape_byte_plain}
+use Rattle.json.proofs.Printed.Tokens.{tokens-print}
+use Rattle.json.proofs.Printed.Trees.{ArePrintable-json_tokens, value-json_tokens}
+use Rattle.serde_json.specs.Data.{Data, unsigned, number, string, array, object, Items, no_items, item, Members, no_members, member, put}
+use Rattle.serde_json.specs.Read.{of_json, of_items, of_members, max_depth, read}
+use Rattle.serde_json.specs.Written as written_as
+use Rattle.serde_json.proofs.Numbers.{number_of-decimal}
+use Rattle.serde_json.proofs.Texts.{print-outline}
+use Rattle.bs_board.specs.declared.boards.point.Direction.{Direction}
+use Rattle.bs_board.specs.declared.boards.point.Direction.TheVariants.{Up, Down, Left, Right}
+use Rattle.bs_board.specs.declared.commands.command.Command.{Command}
+use Rattle.bs_board.specs.declared.commands.command.Command.TheVariants as command
+use Rattle.bs_board.specs.declared.limits.TheConstants.{LAST_TURN, MOST_WORDS}
+use Rattle.bs_board.specs.commands.Orders.{Orders, is_ascending, orders_of}
+use Rattle.bs_board.specs.Texts.{is_text_below}
+use Rattle.bs_board.proofs.Chains.{and_both}
+use Rattle.bs_json.specs.declared.limits.TheConstants.{MAX_LINE, MOST_WORD}
+use Rattle.bs_json.specs.declared.line.Line.TheVariants as line
+use Rattle.bs_json.specs.Commands.{command_of}
+use Rattle.bs_json.specs.Compact.{IsCompact, are_plain, compact_text, direction_name, is_plain, moves_text, words_text}
+use Rattle.bs_json.specs.Line.{is_space, line_from, line_of}
+use Rattle.bs_json.specs.Moves.{direction_named, directions_of, orders_from}
+use Rattle.bs_json.specs.Values.{each, value_of, whole_to}
+use Rattle.bs_json.proofs.Texts.{value_of_read}
+
+-- ---- what is printed is read back
+
+-- the JSON that has this compact text
+pub read_printed : (d : Data) → tree.HasNumbers (written_as.outline d) → tree.depth (written_as.outline d) ≤ max_depth
+    → read (written_as.compact_text d) ≡ of_json (written_as.outline d)
+read_printed d numbers shallow =
+    let ts = tree.json_tokens (written_as.outline d) in
+    let same : tokens (written_as.compact_text d) ≡ ts ++ [] =
+    ap tokens (sym (print-outline d)) ∙ tokens-print ts (ArePrintable-json_tokens (written_as.outline d) numbers) ∙ sym (append-nil ts) in
+    ap (λ all. option_and_then of_json (option_and_then (λ p. json.if_last p.0 p.1) (json.value max_depth all))) same
+    ∙ ap (λ found. option_and_then of_json (option_and_then (λ p. json.if_last p.0 p.1) found)) (value-json_tokens (written_as.outline d) max_depth [] shallow)
+
+-- ---- a plain text stands for itself
+
+-- what is marked is no plain byte
+is_other_byte : (byte other : ℕ) → is_plain other ≡ false → is_plain byte ≡ true → byte ≡ other → ⊥
+is_other_byte byte other marked plain same = let kept = subst (λ b. is_plain b ≡ true) same plain in cc
+
+escape_plain_byte : (byte : ℕ) → is_plain byte ≡ true → escape_byte byte ≡ byte ∷ []
+escape_plain_byte byte plain =
+    let outer = and_both _ (not (byte == 92)) plain in
+    let inner = and_both _ (not (byte == 34)) outer.0 in
+    let ends = and_both (nat_le 32 byte) (nat_lt byte 127) inner.0 in
+    escape_byte_plain byte (is_other_byte byte 34 refl plain) (is_other_byte byte 92 refl plain) (leb-true 32 byte ends.0)
+
+escape_plain : (text : List ℕ) → are_plain text ≡ true → escape text ≡ text
+escape_plain [] plain = refl
+escape_plain (byte ∷ text) plain =
+    let parts = and_both (is_plain byte) (are_plain text) plain in
+    ap₂ (λ first rest. first ++ rest) (escape_plain_byte byte parts.0) (escape_plain text parts.1)
+
+-- ---- the members of a move
+
+-- in their order, which `put` keeps where the ids ascend
+abbrev moves_members : List (List ℕ × Direction) → Members
+moves_members [] = no_members
+moves_members (move ∷ moves) = member move.0 (string (direction_name move.1)) (moves_members moves)
+
+escape_direction : (direction : Direction) → escape (direction_name direction) ≡ direction_name direction
+unfolding escape_byte
+escape_direction Up = refl
+escape_direction Down = refl
+escape_direction Left = refl
+escape_direction Right = refl
+
+-- the text of one member before that of the others, in the brackets of either definition
+regroup_move : (comma mark id middle name rest end : List ℕ) → comma ++ (mark ++ ((id ++ mark) ++ (middle ++ ((name ++ mark) ++ (rest ++ end)))))
+    ≡ (comma ++ ((mark ++ (id ++ ((mark ++ middle) ++ (name ++ mark)))) ++ rest)) ++ end
+regroup_move comma mark id middle name rest end = simp append_assoc
+
+-- the text of these members is that of the moves
+moves_are_written : (later : Bool) (moves : List (List ℕ × Direction)) → list_all (λ move. are_plain move.0) moves ≡ true
+    → written_as.members_text later (moves_members moves) ≡ moves_text later moves ++ codes "}"
+moves_are_written later [] plain = refl
+moves_are_written later (move ∷ moves) plain =
+    let parts = and_both (are_plain move.0) (list_all (λ m. are_plain m.0) moves) plain in
+    let id = escape_plain move.0 parts.0 in
+    rw (id, escape_direction move.1, moves_are_written true moves parts.1)
+    (regroup_move (written_as.comma_if later) (codes "\"") move.0 (codes ":\"") (direction_name move.1) (moves_text true moves) (codes "}"))
+
+-- they hold no number and no array or object
+has_numbers : (moves : List (List ℕ × Direction)) → tree.MembersHaveNumbers (written_as.members_outline (moves_members moves))
+has_numbers [] = tt
+has_numbers (move ∷ moves) = (tt, has_numbers moves)
+
+no_depth : (moves : List (List ℕ × Direction)) → tree.members_depth (written_as.members_outline (moves_members moves)) ≡ 0
+no_depth [] = refl
+no_depth (move ∷ moves) = rw (no_depth moves) refl
+
+less_is : (o : Ordering) → is_lt o ≡ true → o ≡ Less
+less_is Less h = refl
+less_is Equal h = let wrong : false ≡ true = h in cc
+less_is Greater h = let wrong : false ≡ true = h in cc
+
+tail_ascends : (first : List ℕ × Direction) (rest : List (List ℕ × Direction)) → is_ascending (first ∷ rest) ≡ true → is_ascending rest ≡ true
+tail_ascends first [] up = refl
+tail_ascends first (second ∷ rest) up = (and_both (is_text_below first.0 second.0) (is_ascending (second ∷ rest)) up).1
+
+-- an id that stands anywhere behind another is above it
+is_above : (first : List ℕ × Direction) (between : List (List ℕ × Direction)) (move : List ℕ × Direction) (rest : List (List ℕ × Direction))
+    → is_ascending (first ∷ (between ++ move ∷ rest)) ≡ true → slice_cmp nat_cmp first.0 move.0 ≡ Less
+is_above first [] move rest up = less_is _ (and_both (is_text_below first.0 move.0) (is_ascending (move ∷ rest)) up).0
+is_above first (second ∷ between) move rest up =
+    let parts = and_both (is_text_below first.0 second.0) (is_ascending (second ∷ (between ++ move ∷ rest))) up in
+    nat_list_cmp_total.trans first.0 second.0 move.0 (less_is _ parts.0) (is_above second between move rest parts.1)
+
+-- so it goes behind them
+goes_last : (found : List (List ℕ × Direction)) (move : List ℕ × Direction) (rest : List (List ℕ × Direction)) → is_ascending (found ++ move ∷ rest) ≡ true
+    → put move.0 (string (direction_name move.1)) (moves_members found) ≡ moves_members (found ++ move ∷ [])
+goes_last [] move rest up = refl
+goes_last (first ∷ found) move rest up =
+    let above = nat_list_cmp_total.antisymm move.0 first.0 ∙ ap ordering_reverse (is_above first found move rest up) in
+    rw (above, goes_last found move rest (tail_ascends first (found ++ move ∷ rest) up)) refl
+
+-- what is put behind the members found so far: all the moves in their order
+members_from : (found moves : List (List ℕ × Direction)) → is_ascending (found ++ moves) ≡ true
+    → of_members (written_as.members_outline (moves_members moves)) (moves_members found) ≡ Some (moves_members (found ++ moves))
+members_from found [] up = rw append-nil refl
+members_from found (move ∷ moves) up =
+    let same = append_assoc found (move ∷ []) moves in
+    ap (of_members (written_as.members_outline (moves_members moves))) (goes_last found move moves up)
+    ∙ members_from (found ++ move ∷ []) moves (ap is_ascending same ∙ up)
+    ∙ ap (λ all. Some (moves_members all)) same
+
+direction_back : (direction : Direction) → direction_named (direction_name direction) ≡ Some direction
+direction_back Up = refl
+direction_back Down = refl
+direction_back Left = refl
+direction_back Right = refl
+
+-- what the reader makes of the members is the moves
+directions_back : (moves : List (List ℕ × Direction)) → directions_of (moves_members moves) ≡ moves
+directions_back [] = refl
+directions_back (move ∷ moves) = rw (direction_back move.1, directions_back moves) refl
+
+-- ---- the data of a line
+
+-- as it is written: the game, the word and the other members
+abbrev line_data : List ℕ → List ℕ → Members → Data
+line_data game word rest = object (member (codes "game") (string game) (member (codes "do") (string word) rest))
+
+-- and its text
+abbrev line_text : List ℕ → List ℕ → Members → List ℕ
+line_text game word rest = codes "{\"game\":\"" ++ (game ++ (codes "\",\"do\":\"" ++ (word ++ (codes "\"" ++ written_as.members_text true rest))))
+
+-- in the brackets of either definition
+regroup_line : (start game mark middle word rest : List ℕ) → start ++ ((game ++ mark) ++ (middle ++ ((word ++ mark) ++ rest)))
+    ≡ start ++ (game ++ ((mark ++ middle) ++ (word ++ (mark ++ rest))))
+regroup_line start game mark middle word rest = simp append_assoc
+
+line_data_text : (game word : List ℕ) (rest : Members) → are_plain game ≡ true → escape word ≡ word
+    → written_as.compact_text (line_data game word rest) ≡ line_text game word rest
+unfolding escape_byte
+line_data_text game word rest plain same =
+    let name = escape_plain game plain in
+    rw (name, same) (regroup_line (codes "{\"game\":\"") game (codes "\"") (codes ",\"do\":\"") word (written_as.members_text true rest))
+
+-- the data that is found in the text of the data sent
+value_reads : (text : List ℕ) (sent found : Data) → text ≡ written_as.compact_text sent → tree.HasNumbers (written_as.outline sent)
+    → tree.depth (written_as.outline sent) ≤ max_depth → of_json (written_as.outline sent) ≡ Some found → IsUtf8 text → value_of text ≡ Some found
+value_reads text sent found is numbers shallow back utf8 = value_of_read text found utf8 (ap read is ∙ read_printed sent numbers shallow ∙ back)
+
+-- a line that begins as an object
+line_of_value : (text rest : List ℕ) (d : Data) → text ≡ 123 ∷ rest → length text ≤ MAX_LINE → value_of text ≡ Some d → line_of text ≡ line_from (Some d)
+unfolding line_of
+line_of_value text rest d begins short value =
+    let no_space : list_all is_space text ≡ false = ap (list_all is_space) begins in
+    rw (le-ltb MAX_LINE (length text) short, no_space, value) refl
+
+-- so a line that is such a text is what its data says
+line_is_from : (text game word : List ℕ) (rest : Members) (found : Data) → text ≡ line_text game word rest → are_plain game ≡ true → escape word ≡ word
+    → tree.MembersHaveNumbers (written_as.members_outline rest) → tree.members_depth (written_as.members_outline rest) ≤ 1
+    → of_json (written_as.outline (line_data game word rest)) ≡ Some found → IsUtf8 text → length text ≤ MAX_LINE → line_of text ≡ line_from (Some found)
+line_is_from text game word rest found is plain same numbers shallow back utf8 short =
+    let sent = is ∙ sym (line_data_text game word rest plain same) in
+    line_of_value text _ found is short (value_reads text (line_data game word rest) found sent (tt, (tt, numbers)) (omega arith) back utf8)
+
+-- ---- the commands of one word
+
+-- what is found: the members in the order of their names
+abbrev word_data : List ℕ → List ℕ → Data
+word_data game word = object (member (codes "do") (string word) (member (codes "game") (string game) no_members))
+
+show_line_is : (text game : List ℕ) (written : Bool) → text ≡ compact_text written game command.Show → are_plain game ≡ true
+    → IsUtf8 text → length text ≤ MAX_LINE → line_of text ≡ line.Command game command.Show
+unfolding command_of escape_byte
+show_line_is text game written is plain utf8 short =
+    line_is_from text game (codes "show") no_members (word_data game (codes "show")) is plain refl tt (omega arith) refl utf8 short
+
+free_line_is : (text game : List ℕ) (written : Bool) → text ≡ compact_text written game command.Free → are_plain game ≡ true
+    → IsUtf8 text → length text ≤ MAX_LINE → line_of text ≡ line.Command game command.Free
+unfolding command_of escape_byte
+free_line_is text game written is plain utf8 short =
+    line_is_from text game (codes "free") no_members (word_data game (codes "free")) is plain refl tt (omega arith) refl utf8 short
+
+end_line_is : (text game : List ℕ) (written : Bool) → text ≡ compact_text written game command.End → are_plain game ≡ true
+    → IsUtf8 text → length text ≤ MAX_LINE → line_of text ≡ line.Command game command.End
+unfolding command_of escape_byte
+end_line_is text game written is plain utf8 short =
+    line_is_from text game (codes "end") no_members (word_data game (codes "end")) is plain refl tt (omega arith) refl utf8 short
+
+-- ---- a question about a turn
+
+abbrev turn_members : ℕ → Members
+turn_members at = member (codes "at") (number (unsigned at)) no_members
+
+abbrev turn_data : List ℕ → ℕ → Data
+turn_data game at =
+    object (member (codes "at") (number (unsigned at)) (member (codes "do") (string (codes "turn")) (member (codes "game") (string game) no_members)))
+
+turn_line_is : (text game : List ℕ) (written : Bool) (at : ℕ) → text ≡ compact_text written game (command.Turn at) → are_plain game ≡ true → at ≤ LAST_TURN
+    → IsUtf8 text → length text ≤ MAX_LINE → line_of text ≡ line.Command game (command.Turn at)
+unfolding command_of escape_byte
+turn_line_is text game written at is plain within utf8 short =
+    let small : at < 2 ^ 64 = omega arith in
+    let back : of_json (written_as.outline (line_data game (codes "turn") (turn_members at))) ≡ Some (turn_data game at) =
+    rw (number_of-decimal at small) refl in
+    let asks : line_from (Some (turn_data game at)) ≡ line.Command game (command.Turn at) = rw (le-leb at LAST_TURN within) refl in
+    line_is_from text game (codes "turn") (turn_members at) (turn_data game at) is plain refl (IsNumber-decimal at small, tt) (omega arith) back utf8 short
+    ∙ asks
+
+-- ---- the words of a move
+
+-- as they are written: an array of numbers
+abbrev words_items : List ℕ → Items
+words_items [] = no_items
+words_items (word ∷ words) = item (number (unsigned word)) (words_items words)
+
+-- what holds of each of them holds of the first and of each of the others
+all_parts : (limit word : ℕ) (words : List ℕ) → All (λ w. w < limit) (word ∷ words) → (word < limit) × All (λ w. w < limit) words
+all_parts limit word words small = (small 0 word (omega arith), λ at none within. small (suc at) none (omega arith))
+
+-- the text of these items is that of the words
+words_are_written : (later : Bool) (words : List ℕ) → written_as.items_text later (words_items words) ≡ words_text later words ++ codes "]"
+words_are_written later [] = refl
+words_are_written later (word ∷ words) = rw (words_are_written true words) (simp append_assoc)
+
+-- they are numbers, and hold no array or object
+have_numbers : (words : List ℕ) → All (λ word. word < 2 ^ 32) words → tree.ItemsHaveNumbers (written_as.items_outline (words_items words))
+have_numbers [] small = tt
+have_numbers (word ∷ words) small =
+    let parts = all_parts (2 ^ 32) word words small in
+    (IsNumber-decimal word (omega arith), have_numbers words parts.1)
+
+no_items_depth : (words : List ℕ) → tree.items_depth (written_as.items_outline (words_items words)) ≡ 0
+no_items_depth [] = refl
+no_items_depth (word ∷ words) = rw (no_items_depth words) refl
+
+-- they are found as they were sent
+items_back : (words : List ℕ) → All (λ word. word < 2 ^ 32) words → of_items (written_as.items_outline (words_items words)) ≡ Some (words_items words)
+items_back [] small = refl
+items_back (word ∷ words) small =
+    let parts = all_parts (2 ^ 32) word words small in
+    rw (number_of-decimal word (omega arith), items_back words parts.1) refl
+
+-- what the reader makes of the items is the words
+words_back : (words : List ℕ) → All (λ word. word < 2 ^ 32) words → each (whole_to MOST_WORD) (words_items words) ≡ Some words
+words_back [] small = refl
+words_back (word ∷ words) small =
+    let parts = all_parts (2 ^ 32) word words small in
+    rw (le-leb word MOST_WORD (omega arith), words_back words parts.1) refl
+
+-- ---- a move
+
+-- `more` are the members behind the moves
+abbrev move_members : List (List ℕ × Direction) → Members → Members
+move_members moves more = member (codes "moves") (object (moves_members moves)) more
+
+abbrev words_members : List ℕ → Members
+words_members words = member (codes "words") (array (words_items words)) no_members
+
+abbrev move_data : List ℕ → List (List ℕ × Direction) → Members → Data
+move_data game moves more = object (member (codes "do") (string (codes "move")) (member (codes "game") (string game) (move_members moves more)))
+
+-- a move whose words are left out, since there are none
+bare_move_line_is : (text game : List ℕ) (orders : Orders) → text ≡ compact_text false game (command.Move orders) → are_plain game ≡ true
+    → IsCompact false (command.Move orders) → IsUtf8 text → length text ≤ MAX_LINE → line_of text ≡ line.Command game (command.Move orders)
+unfolding command_of orders_from escape_byte
+bare_move_line_is text game orders is plain compact utf8 short =
+    let moves = orders.moves in
+    let rest = move_members moves no_members in
+    let all : moves_text false moves ++ codes "}}" ≡ written_as.members_text false (moves_members moves) ++ codes "}" =
+    sym (append_assoc (moves_text false moves) (codes "}") (codes "}")) ∙ ap (λ some. some ++ codes "}") (sym (moves_are_written false moves compact.0)) in
+    let sent : text ≡ line_text game (codes "move") rest =
+    is ∙ ap (λ some. codes "{\"game\":\"" ++ (game ++ (codes "\",\"do\":\"move\",\"moves\":{" ++ some))) all in
+    let back : of_json (written_as.outline (line_data game (codes "move") rest)) ≡ Some (move_data game moves no_members) =
+    rw (members_from [] moves compact.1) refl in
+    let asks : line_from (Some (move_data game moves no_members)) ≡ line.Command game (command.Move orders) =
+    ap₂ (λ found words. line.Command game (command.Move (orders_of found words))) (directions_back moves) (sym compact.3) in
+    let shallow = no_depth moves in
+    line_is_from text game (codes "move") rest (move_data game moves no_members) sent plain refl (has_numbers moves, tt) (omega arith) back utf8 short
+    ∙ asks
+
+-- what is written behind the opening bracket of the moves, in the brackets of either definition
+regroup_words : (moves mark middle words close end : List ℕ) → moves ++ (mark ++ (middle ++ (words ++ (close ++ end))))
+    ≡ (moves ++ mark) ++ (middle ++ ((words ++ close) ++ end))
+regroup_words moves mark middle words close end = simp append_assoc
+
+-- a move whose words are written
+full_move_line_is : (text game : List ℕ) (orders : Orders) → text ≡ compact_text true game (command.Move orders) → are_plain game ≡ true
+    → IsCompact true (command.Move orders) → IsUtf8 text → length text ≤ MAX_LINE → line_of text ≡ line.Command game (command.Move orders)
+unfolding command_of orders_from escape_byte
+full_move_line_is text game orders is plain compact utf8 short =
+    let moves = orders.moves in
+    let words = orders.words in
+    let fit = compact.2 in
+    let more = words_members words in
+    let rest = move_members moves more in
+    let all : moves_text false moves ++ (codes "}" ++ (codes ",\"words\":[" ++ (words_text false words ++ codes "]}")))
+    ≡ written_as.members_text false (moves_members moves) ++ (codes ",\"words\":[" ++ (written_as.items_text false (words_items words) ++ codes "}")) =
+    rw (moves_are_written false moves compact.0, words_are_written false words)
+    (regroup_words (moves_text false moves) (codes "}") (codes ",\"words\":[") (words_text false words) (codes "]") (codes "}")) in
+    let sent : text ≡ line_text game (codes "move") rest =
+    is ∙ ap (λ some. codes "{\"game\":\"" ++ (game ++ (codes "\",\"do\":\"move\",\"moves\":{" ++ some))) all in
+    let back : of_json (written_as.outline (line_data game (codes "move") rest)) ≡ Some (move_data game moves more) =
+    rw (members_from [] moves compact.1, items_back words fit.small) refl in
+    let asks : line_from (Some (move_data game moves more)) ≡ line.Command game (command.Move orders) =
+    rw (words_back words fit.small, le-leb (length words) MOST_WORDS fit.few, directions_back moves) refl in
+    let shallow = no_depth moves in
+    let shallow_words = no_items_depth words in
+    let numbers : tree.MembersHaveNumbers (written_as.members_outline rest) = (has_numbers moves, (have_numbers words fit.small, tt)) in
+    line_is_from text game (codes "move") rest (move_data game moves more) sent plain refl numbers (omega arith) back utf8 short
+    ∙ asks
+
+move_line_is : (text game : List ℕ) (written : Bool) (orders : Orders) → text ≡ compact_text written game (command.Move orders) → are_plain game ≡ true
+    → IsCompact written (command.Move orders) → IsUtf8 text → length text ≤ MAX_LINE → line_of text ≡ line.Command game (command.Move orders)
+move_line_is text game false orders is plain compact utf8 short = bare_move_line_is text game orders is plain compact utf8 short
+move_line_is text game true orders is plain compact utf8 short = full_move_line_is text game orders is plain compact utf8 short
+
+-- ---- every command
+
+-- the compact text of a command for a game is read as that command for that game
+pub line_of_compact : (text game : List ℕ) (written : Bool) (c : Command) → text ≡ compact_text written game c → are_plain game ≡ true
+    → IsCompact written c → IsUtf8 text → length text ≤ MAX_LINE → line_of text ≡ line.Command game c
+line_of_compact text game written (command.New new) is plain compact utf8 short = absurd compact
+line_of_compact text game written (command.Move orders) is plain compact utf8 short = move_line_is text game written orders is plain compact utf8 short
+line_of_compact text game written (command.Turn at) is plain compact utf8 short = turn_line_is text game written at is plain compact utf8 short
+line_of_compact text game written command.Show is plain compact utf8 short = show_line_is text game written is plain utf8 short
+line_of_compact text game written command.Free is plain compact utf8 short = free_line_is text game written is plain utf8 short
+line_of_compact text game written command.End is plain compact utf8 short = end_line_is text game written is plain utf8 short
+line_of_compact text game written command.Bad is plain compact utf8 short = absurd compact

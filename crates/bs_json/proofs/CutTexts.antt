@@ -1,0 +1,116 @@
+-- What is cut off the front of a line.
+use Rattle.std.proofs.Common.{◌≡◌, ℕ, ◌<◌, ◌≤◌, ◌^◌, ◌⊎◌, inl, inr, Bool, true, false, ◌&&◌, cond, List, [], ◌∷◌, ◌++◌, length, take, drop, get_or, codes, decimal, Some, Option, Result, Ok, OkIff, refl, sym, ap, ap₂, subst, ◌∙◌, arith, append_assoc, take-append-drop}
+use Rattle.std.specs.Char.{is_ascii_digit}
+use Rattle.std.specs.List.{list_all}
+use Rattle.std.specs.Str.{all_ascii_digits, bytes_eq}
+use Rattle.std.specs.Str.Parse.{ParsesUnsigned, digits_value}
+use Rattle.std.proofs.lemmas.Fmt.{decimal-digits_value}
+use Rattle.std.proofs.lemmas.List.Folds.{list_all-append}
+use Rattle.std.proofs.lemmas.Slice.Eq.{bytes_eq-Decides}
+use Rattle.std.proofs.lemmas.Str.Parse.{IsNumeralModel, numerals_by_value, tells_all_ascii_digits, parse_digits}
+use Rattle.serde_json.specs.Written.{comma_if}
+use Rattle.bs_board.specs.declared.boards.point.Direction.{Direction}
+use Rattle.bs_board.specs.declared.boards.point.Direction.TheVariants.{Up, Down, Left, Right}
+use Rattle.bs_board.specs.Texts.{is_same_text}
+use Rattle.bs_json.specs.Compact.{are_plain, are_plain_moves, direction_name, move_text, moves_text, words_text}
+use Rattle.bs_json.specs.Moves.{direction_named}
+
+pub behind_prefix : (line text rest : List ℕ) → bytes_eq (take (length text) line) text ≡ true → rest ≡ drop (length text) line → line ≡ text ++ rest
+behind_prefix line text rest same is =
+    sym (take-append-drop (length text) line) ∙ ap₂ ◌++◌ ((bytes_eq-Decides (take (length text) line) text).0 same) (sym is)
+
+-- the choice among names is by a name or by those that follow it
+chosen : (b : Bool) (here there : Direction) (rest : Option Direction) → cond b (Some here) rest ≡ Some there → ((b ≡ true) × (here ≡ there)) ⊎ (rest ≡ Some there)
+chosen true here there rest is = inl (refl, cc)
+chosen false here there rest is = inr is
+
+same_name : (name wanted : List ℕ) → is_same_text name wanted ≡ true → name ≡ wanted
+same_name name wanted = (bytes_eq-Decides name wanted).0
+
+pub named_direction : (name : List ℕ) (d : Direction) → direction_named name ≡ Some d → name ≡ direction_name d
+named_direction name d is = elim (chosen (is_same_text name (codes "up")) Up d _ is) [
+  | inl e ↦ subst (λ x. name ≡ direction_name x) e.1 (same_name name (codes "up") e.0)
+  | inr up ↦ elim (chosen (is_same_text name (codes "down")) Down d _ up) [
+    | inl e ↦ subst (λ x. name ≡ direction_name x) e.1 (same_name name (codes "down") e.0)
+    | inr down ↦ elim (chosen (is_same_text name (codes "left")) Left d _ down) [
+      | inl e ↦ subst (λ x. name ≡ direction_name x) e.1 (same_name name (codes "left") e.0)
+      | inr left ↦ elim (chosen (is_same_text name (codes "right")) Right d _ left) [
+        | inl e ↦ subst (λ x. name ≡ direction_name x) e.1 (same_name name (codes "right") e.0)
+        | inr none ↦ absurd (cc)
+      ]
+    ]
+  ]
+]
+
+-- a move in its parts, as they are cut off one after the other
+pub move_parts : (line first id second name rest : List ℕ) (d : Direction) → line ≡ 34 ∷ first → first ≡ id ++ 34 ∷ second → second ≡ 58 ∷ 34 ∷ (name ++ 34 ∷ rest)
+    → direction_named name ≡ Some d → line ≡ move_text (id, d) ++ rest
+move_parts line first id second name rest d opens closes next named =
+    rw (opens, closes, next, named_direction name d named) (simp append_assoc)
+
+-- whether there are any
+abbrev pub are_some : {A : Type 0} → List A → Bool
+are_some [] = false
+are_some (_ ∷ _) = true
+
+longer : (later : Bool) (first : List ℕ × Direction) (xs ys front back : List ℕ) → xs ++ front ≡ ys ++ back
+    → (comma_if later ++ (move_text first ++ xs)) ++ front ≡ (comma_if later ++ (move_text first ++ ys)) ++ back
+longer later first xs ys front back same =
+    append_assoc (comma_if later) (move_text first ++ xs) front
+    ∙ ap (λ t. comma_if later ++ t) (append_assoc (move_text first) xs front ∙ ap (λ t. move_text first ++ t) same ∙ sym (append_assoc (move_text first) ys back))
+    ∙ sym (append_assoc (comma_if later) (move_text first ++ ys) back)
+
+more_text : (later : Bool) (moves : List (List ℕ × Direction)) (move : List ℕ × Direction) (rest : List ℕ)
+    → moves_text later moves ++ (comma_if (cond later true (are_some moves)) ++ (move_text move ++ rest)) ≡ moves_text later (moves ++ move ∷ []) ++ rest
+more_text true [] move rest = simp append_assoc
+more_text false [] move rest = simp append_assoc
+more_text true (first ∷ moves) move rest = longer true first (moves_text true moves) (moves_text true (moves ++ move ∷ [])) _ rest (more_text true moves move rest)
+more_text false (first ∷ moves) move rest = longer false first (moves_text true moves) (moves_text true (moves ++ move ∷ [])) _ rest (more_text true moves move rest)
+
+-- one move more
+pub one_move_more : (line left rest : List ℕ) (moves : List (List ℕ × Direction)) (move : List ℕ × Direction) → line ≡ moves_text false moves ++ left
+    → left ≡ comma_if (are_some moves) ++ (move_text move ++ rest) → line ≡ moves_text false (moves ++ move ∷ []) ++ rest
+one_move_more line left rest moves move begins next = begins ∙ ap (λ t. moves_text false moves ++ t) next ∙ more_text false moves move rest
+
+longer_words : (later : Bool) (first : ℕ) (xs ys front back : List ℕ) → xs ++ front ≡ ys ++ back
+    → (comma_if later ++ (decimal first ++ xs)) ++ front ≡ (comma_if later ++ (decimal first ++ ys)) ++ back
+longer_words later first xs ys front back same =
+    append_assoc (comma_if later) (decimal first ++ xs) front
+    ∙ ap (λ t. comma_if later ++ t) (append_assoc (decimal first) xs front ∙ ap (λ t. decimal first ++ t) same ∙ sym (append_assoc (decimal first) ys back))
+    ∙ sym (append_assoc (comma_if later) (decimal first ++ ys) back)
+
+more_words : (later : Bool) (words : List ℕ) (word : ℕ) (rest : List ℕ)
+    → words_text later words ++ (comma_if (cond later true (are_some words)) ++ (decimal word ++ rest)) ≡ words_text later (words ++ word ∷ []) ++ rest
+more_words true [] word rest = simp append_assoc
+more_words false [] word rest = simp append_assoc
+more_words true (first ∷ words) word rest =
+    longer_words true first (words_text true words) (words_text true (words ++ word ∷ [])) _ rest (more_words true words word rest)
+more_words false (first ∷ words) word rest =
+    longer_words false first (words_text true words) (words_text true (words ++ word ∷ [])) _ rest (more_words true words word rest)
+
+-- one word more
+pub one_word_more : (line left rest words : List ℕ) (word : ℕ) → line ≡ words_text false words ++ left → left ≡ comma_if (are_some words) ++ (decimal word ++ rest)
+    → line ≡ words_text false (words ++ word ∷ []) ++ rest
+one_word_more line left rest words word begins next = begins ∙ ap (λ t. words_text false words ++ t) next ∙ more_words false words word rest
+
+pub some_with_one : {A : Type 0} (xs : List A) (x : A) → true ≡ are_some (xs ++ x ∷ [])
+some_with_one [] x = refl
+some_with_one (y ∷ xs) x = refl
+
+pub plain_with_one : (moves : List (List ℕ × Direction)) (move : List ℕ × Direction) → are_plain_moves moves ≡ true → are_plain move.0 ≡ true
+    → are_plain_moves (moves ++ move ∷ []) ≡ true
+plain_with_one moves move plain one = list_all-append (λ m. are_plain m.0) moves (move ∷ []) ∙ rw (plain, one) refl
+
+all_digits : (text : List ℕ) → list_all is_ascii_digit text ≡ all_ascii_digits text
+all_digits [] = refl
+all_digits (c ∷ cs) = ap (λ b. is_ascii_digit c && b) (all_digits cs)
+
+pub written_number : {E : Type 0} (text : List ℕ) (n : ℕ) (r : Result ℕ E) → list_all is_ascii_digit text ≡ true → (get_or text 0 0 ≡ 48 → length text ≤ 1) → ParsesUnsigned 32 10 text r
+    → r ≡ Ok n → text ≡ decimal n
+written_number text n r digits front parses is =
+    let own : IsNumeralModel (λ ds. all_ascii_digits ds ≡ true) (digits_value 10) = numerals_by_value _ tells_all_ascii_digits in
+    let all = sym (all_digits text) ∙ digits in
+    let read : ((0 < length text) × (digits_value 10 text < 2 ^ 32)) × (n ≡ digits_value 10 text) = subst (λ o. OkIff o ((0 < length text) × (digits_value 10 text < 2 ^ 32)) (digits_value 10 text)) is (parse_digits own 32 text r parses all) in
+    let some : 0 < length text = read.0.0 in
+    let small : digits_value 10 text < 2 ^ 64 = omega (arith, read.0.1) in
+    sym (decimal-digits_value own text all some (λ zero. let few = front zero in omega arith) small) ∙ ap decimal (sym read.1)

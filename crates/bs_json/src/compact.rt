@@ -1,0 +1,307 @@
+//! Lines in their compact form, as programs write most of them: they are read in one pass, and no JSON value is made.
+ghost use Rattle.std.specs.Prelude.{◌≡◌, ◌≤◌, ◌∷◌, ◌++◌, codes, decimal, length, slice_index, false, true, IsTrue, IfOk, IfSome};
+ghost use Rattle.std.specs.Char.{is_ascii_digit};
+ghost use Rattle.std.specs.List.{list_all};
+ghost use Rattle.serde_json.specs.Written.{comma_if};
+ghost use Rattle.bs_board.specs.commands.Orders.{AreFitWords};
+ghost use Rattle.bs_json.specs.Compact.{is_plain, are_plain, are_plain_moves, move_text, moves_text, words_text, tail_text, order_text, IsCompact, IsCompactMove, MayLeaveOut};
+ghost use Rattle.bs_json.specs.Line.{line_of};
+ghost use Rattle.bs_json.specs.declared.limits.TheConstants.{MAX_LINE};
+
+use crate::line::Line;
+use crate::moves::direction_named;
+use bs_board::commands::orders::is_ascending;
+use bs_board::limits::{LAST_TURN, MOST_WORDS};
+use bs_board::{Command, Direction, Id, Move, Moves, TurnNumber, Words};
+use std::alloc::{AllocError, Global};
+use std::str;
+
+fn is_plain(byte: u8) -> bool
+    ensures { result ≡ is_plain byte }
+{
+    32 <= byte && byte < 127 && byte != b'"' && byte != b'\\'
+}
+
+fn are_plain(text: &[u8]) -> bool
+    ensures { result ≡ are_plain text.now }
+{
+    text.iter().all(|byte| is_plain(*byte))
+}
+
+/// What follows that text, where the line begins with it.
+#[tactic(auto, using(crate::proofs::CutTexts::behind_prefix))]
+fn behind<'l>(line: &'l [u8], text: &[u8]) -> Option<&'l [u8]>
+    ensures { IfSome result (λ rest. line.now ≡ text.now ++ rest.now) }
+{
+    match line.strip_prefix(text) {
+        Some(rest) => Some(rest),
+        None => None,
+    }
+}
+
+/// The plain text up to the next quotation mark, and what follows that.
+fn cut_text<'l>(line: &'l [u8]) -> Option<(&'l str, &'l [u8])>
+    ensures text { IfSome result (λ found. line.now ≡ found.0.now ++ 34 ∷ found.1.now) }
+    ensures plain { IfSome result (λ found. are_plain found.0.now ≡ true) }
+{
+    let end = line.iter().position(|byte| *byte == b'"')?;
+    let (text, rest) = line.split_at(end);
+    let rest = behind(rest, b"\"")?;
+    if !are_plain(text) {
+        return None;
+    }
+    match str::from_utf8(text) {
+        Ok(text) => Some((text, rest)),
+        Err(_) => None,
+    }
+}
+
+/// A snake's id and its direction, and what follows them.
+#[tactic(auto, using(crate::proofs::CutTexts::move_parts))]
+fn cut_move<'l>(line: &'l [u8]) -> Option<(&'l str, Direction, &'l [u8])>
+    ensures text { IfSome result (λ found. line.now ≡ move_text (found.0.now, found.1) ++ found.2.now) }
+    ensures plain { IfSome result (λ found. are_plain found.0.now ≡ true) }
+{
+    let (id, rest) = cut_text(behind(line, b"\"")?)?;
+    let (name, rest) = cut_text(behind(rest, b":\"")?)?;
+    Some((id, direction_named(name)?, rest))
+}
+
+/// The same, behind a comma where another stands before.
+fn cut_next_move<'l>(line: &'l [u8], later: bool) -> Option<(&'l str, Direction, &'l [u8])>
+    ensures text { IfSome result (λ found. line.now ≡ comma_if later ++ (move_text (found.0.now, found.1) ++ found.2.now)) }
+    ensures plain { IfSome result (λ found. are_plain found.0.now ≡ true) }
+{
+    if later {
+        cut_move(behind(line, b",")?)
+    } else {
+        cut_move(line)
+    }
+}
+
+/// All moves up to the bracket behind them, and what follows that.
+#[tactic(auto, using(crate::proofs::CutTexts::one_move_more, crate::proofs::CutTexts::some_with_one, crate::proofs::CutTexts::plain_with_one))]
+fn cut_moves<'l>(
+    alloc: Global,
+    line: &'l [u8],
+) -> Result<Option<(Vec<(Id, Direction)>, &'l [u8])>, AllocError>
+    ensures text { IfOk result
+        (λ cut. IfSome cut (λ found. line.now ≡ moves_text false found.0.items ++ 125 ∷ found.1.now)) }
+    ensures plain { IfOk result (λ cut. IfSome cut (λ found. are_plain_moves found.0.items ≡ true)) }
+{
+    let mut moves = Vec::new(alloc);
+    let mut left = line;
+    let mut later = false;
+    for _turn in 0..line.len() {
+        if let Some(rest) = behind(left, b"}") {
+            return Ok(Some((moves, rest)));
+        }
+        let Some((id, direction, rest)) = cut_next_move(left, later) else {
+            return Ok(None);
+        };
+        moves.push((Id::from_str(alloc, id)?, direction))?;
+        left = rest;
+        later = true;
+    }
+    Ok(None)
+}
+
+fn are_digits(text: &[u8]) -> bool
+    ensures { result ≡ list_all is_ascii_digit text.now }
+{
+    text.iter().all(|byte| byte.is_ascii_digit())
+}
+
+/// Whether these are digits, with no zero in front of others.
+fn are_shortest(digits: &[u8]) -> bool
+    ensures digits { IsTrue result → list_all is_ascii_digit digits.now ≡ true }
+    ensures front { IsTrue result → slice_index digits.now 0 ≡ 48 → length digits.now ≤ 1 }
+{
+    are_digits(digits) && (digits.len() <= 1 || digits[0] != b'0')
+}
+
+/// The number that is written so.
+#[tactic(auto, using(crate::proofs::CutTexts::written_number))]
+fn number_in(digits: &[u8]) -> Option<u32>
+    ensures { IfSome result (λ number. digits.now ≡ decimal number) }
+{
+    if !are_shortest(digits) {
+        return None;
+    }
+    match str::from_utf8(digits).ok()?.parse::<u32>() {
+        Ok(number) => Some(number),
+        Err(_) => None,
+    }
+}
+
+/// The number that the line begins with, and what follows it.
+fn cut_number<'l>(line: &'l [u8]) -> Option<(u32, &'l [u8])>
+    ensures { IfSome result (λ found. line.now ≡ decimal found.0 ++ found.1.now) }
+{
+    let end = line.iter().position(|byte| !byte.is_ascii_digit())?;
+    let (digits, rest) = line.split_at(end);
+    Some((number_in(digits)?, rest))
+}
+
+fn ends_with(line: &[u8], text: &[u8]) -> bool
+    ensures { result ≡ true → line.now ≡ text.now }
+{
+    line == text
+}
+
+/// A word, behind a comma where another stands before, and what follows it.
+fn cut_next_word<'l>(line: &'l [u8], later: bool) -> Option<(u32, &'l [u8])>
+    ensures { IfSome result (λ found. line.now ≡ comma_if later ++ (decimal found.0 ++ found.1.now)) }
+{
+    if later {
+        cut_number(behind(line, b",")?)
+    } else {
+        cut_number(line)
+    }
+}
+
+/// All words up to the bracket behind them, and what follows that.
+fn cut_words<'l>(alloc: Global, line: &'l [u8]) -> Result<Option<(Vec<u32>, &'l [u8])>, AllocError>
+    ensures { IfOk result
+        (λ cut. IfSome cut (λ found. line.now ≡ words_text false found.0.items ++ 93 ∷ found.1.now)) }
+{
+    let mut words = Vec::new(alloc);
+    let mut left = line;
+    let mut later = false;
+    for _turn in 0..line.len() {
+        if let Some(rest) = behind(left, b"]") {
+            return Ok(Some((words, rest)));
+        }
+        let Some((word, rest)) = cut_next_word(left, later) else {
+            return Ok(None);
+        };
+        words.push(word)?;
+        left = rest;
+        later = true;
+    }
+    Ok(None)
+}
+
+/// A `turn`, from its number on.
+fn turn_behind(line: &[u8]) -> Option<TurnNumber>
+    ensures { IfSome result (λ at. line.now ≡ decimal at ++ codes "}") }
+{
+    let (number, rest) = cut_number(line)?;
+    if number > u32::from(LAST_TURN) || !ends_with(rest, b"}") {
+        return None;
+    }
+    TurnNumber::new(number as u16)
+}
+
+/// What follows the moves: the words, and whether they are written.
+fn tail_behind(alloc: Global, line: &[u8]) -> Result<Option<(Words, bool)>, AllocError>
+    ensures text { IfOk result (λ o. IfSome o (λ found. line.now ≡ tail_text found.1 found.0)) }
+    ensures fit { IfOk result (λ o. IfSome o (λ found. AreFitWords found.0 × MayLeaveOut found.1 found.0)) }
+{
+    if ends_with(line, b"}") {
+        return Ok(Some((Words::from_vec(Vec::new(alloc)), false)));
+    }
+    let Some(list) = behind(line, b",\"words\":[") else {
+        return Ok(None);
+    };
+    let Some((words, rest)) = cut_words(alloc, list)? else {
+        return Ok(None);
+    };
+    if !ends_with(rest, b"}") || words.len() > MOST_WORDS {
+        return Ok(None);
+    }
+    let words = Words::from_vec(words);
+    let _small = words.as_slice();
+    Ok(Some((words, true)))
+}
+
+/// A `move`, from its first id on, and whether its words are written.
+fn move_behind(alloc: Global, line: &[u8]) -> Result<Option<(Move, bool)>, AllocError>
+    ensures text { IfOk result
+        (λ o. IfSome o (λ found. line.now ≡ moves_text false found.0.moves ++ (codes "}" ++ tail_text found.1 found.0.words))) }
+    ensures compact { IfOk result (λ o. IfSome o (λ found. IsCompactMove found.1 found.0)) }
+{
+    let Some((moves, rest)) = cut_moves(alloc, line)? else {
+        return Ok(None);
+    };
+    if !is_ascending(moves.as_slice()) {
+        return Ok(None);
+    }
+    let Some((words, written)) = tail_behind(alloc, rest)? else {
+        return Ok(None);
+    };
+    Ok(Some((Move::new(Moves::from_vec(moves), words), written)))
+}
+
+/// A command that has nothing but its name.
+fn name_alone(order: &[u8]) -> Option<Command>
+    ensures text { IfSome result (λ command. order.now ≡ order_text false command) }
+    ensures compact { IfSome result (IsCompact false) }
+{
+    if ends_with(order, b"show\"}") {
+        Some(Command::Show)
+    } else if ends_with(order, b"free\"}") {
+        Some(Command::Free)
+    } else if ends_with(order, b"end\"}") {
+        Some(Command::End)
+    } else {
+        None
+    }
+}
+
+/// A command without words, from its name on.
+fn short_behind(order: &[u8]) -> Option<Command>
+    ensures text { IfSome result (λ command. order.now ≡ order_text false command) }
+    ensures compact { IfSome result (IsCompact false) }
+{
+    match behind(order, b"turn\",\"at\":") {
+        Some(at) => Some(Command::Turn(turn_behind(at)?)),
+        None => name_alone(order),
+    }
+}
+
+/// The command, from its name on, and whether its words are written.
+fn order_behind(alloc: Global, order: &[u8]) -> Result<Option<(Command, bool)>, AllocError>
+    ensures text { IfOk result (λ o. IfSome o (λ found. order.now ≡ order_text found.1 found.0)) }
+    ensures compact { IfOk result (λ o. IfSome o (λ found. IsCompact found.1 found.0)) }
+{
+    if let Some(moves) = behind(order, b"move\",\"moves\":{") {
+        return Ok(match move_behind(alloc, moves)? {
+            Some((orders, written)) => Some((Command::Move(orders), written)),
+            None => None,
+        });
+    }
+    Ok(match short_behind(order) {
+        Some(command) => Some((command, false)),
+        None => None,
+    })
+}
+
+/// The game's name, and what follows up to the command's.
+fn cut_game<'l>(line: &'l [u8]) -> Option<(&'l str, &'l [u8])>
+    ensures text { IfSome result
+        (λ found. line.now ≡ codes "{\"game\":\"" ++ (found.0.now ++ (codes "\",\"do\":\"" ++ found.1.now))) }
+    ensures plain { IfSome result (λ found. are_plain found.0.now ≡ true) }
+{
+    let (game, rest) = cut_text(behind(line, b"{\"game\":\"")?)?;
+    Some((game, behind(rest, b",\"do\":\"")?))
+}
+
+/// What a line in its compact form is, and `None` of any other line.
+#[tactic(auto, using(crate::proofs::CompactLines::line_of_compact))]
+pub(crate) fn compact_line(alloc: Global, line: &[u8]) -> Result<Option<Line>, AllocError>
+    requires { length line.now ≤ MAX_LINE }
+    ensures { IfOk result (λ found. IfSome found (λ l. l ≡ line_of line.now)) }
+{
+    let Some((name, order)) = cut_game(line) else {
+        return Ok(None);
+    };
+    if str::from_utf8(line).is_err() {
+        return Ok(None);
+    }
+    let Some((command, _written)) = order_behind(alloc, order)? else {
+        return Ok(None);
+    };
+    let game = Id::from_str(alloc, name)?;
+    Ok(Some(Line::Command { game, command }))
+}

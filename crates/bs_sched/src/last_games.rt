@@ -1,0 +1,26 @@
+//! Which game each worker was at last: a table by their numbers. Only the order in which games are looked at goes by it.
+use std::alloc::{AllocError, Global};
+
+/// The game that is looked at first by who was at none yet.
+const FIRST_GAME: usize = 0;
+
+/// A table of workers from 0 to the last, none of which was at any game yet.
+pub(crate) fn no_game_yet(alloc: Global, workers: usize) -> Result<Vec<usize>, AllocError> {
+    let many = workers.checked_add(1).ok_or(AllocError)?;
+    Vec::from_elem(alloc, FIRST_GAME, many)
+}
+
+/// The game that the worker was at last.
+pub(crate) fn last_game(games: &[usize], worker: usize) -> usize {
+    match games.get(worker) {
+        Some(game) => *game,
+        None => FIRST_GAME,
+    }
+}
+
+/// The worker is at that game. Nothing is written where it was there before, so that others need not fetch the table anew.
+pub(crate) fn note_game(games: &mut Vec<usize>, worker: usize, game: usize) {
+    if worker < games.len() && games[worker] != game {
+        games[worker] = game;
+    }
+}
