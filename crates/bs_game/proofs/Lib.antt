@@ -2,5 +2,6 @@ pub mod Acceptance
 pub mod AnswerLaw
 pub mod Courses
 pub mod Games
+pub mod Joining
 pub mod KeptTurns
 pub mod Recorded

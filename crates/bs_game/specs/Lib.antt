@@ -1,6 +1,7 @@
 pub mod Alone
 pub mod Answer
 pub mod Game
+pub mod Joining
 pub mod Law
 pub mod Reasons
 pub mod Recorded

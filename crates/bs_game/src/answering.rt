@@ -7,6 +7,8 @@ ghost use Rattle.bs_board.specs.declared.commands.reply.Reply.TheVariants as Rep
 ghost use Rattle.bs_game.specs.declared.reply.Effect.TheVariants as Effect;
 ghost use Rattle.bs_rules.specs.Motion.{moved_board};
 ghost use Rattle.bs_game.specs.Game.{board_charge};
+ghost use Rattle.bs_game.specs.declared.view.View.{View as AnyView};
+ghost use Rattle.bs_game.specs.Joining.{IsMovedFrom};
 ghost use Rattle.bs_game.specs.Law.{IsFitEffect};
 ghost use Rattle.bs_game.specs.Reasons.{first_reason};
 ghost use Rattle.bs_game.specs.View.{
@@ -25,7 +27,8 @@ use bs_modes::start;
 use bs_rules::{finish_turn, turn};
 use std::alloc::{AllocError, Global};
 
-pub(crate) fn refuse(reason: Refusal) -> Answer
+/// The answer to a command that is refused: nothing is done.
+pub fn refuse(reason: Refusal) -> Answer
     ensures { result ≡ answer_with (Reply.Refused reason) }
 {
     Answer {
@@ -52,7 +55,7 @@ fn begin(alloc: Global, view: &View, new: &New) -> Result<Answer, AllocError>
     ensures fits { IfOk result (λ answer. IsFitEffect view.now.quota view.now.charge answer.effect) }
 {
     let board = start(alloc, new)?;
-    record_board(alloc, view, Word::New, board)
+    record_board(alloc, view.quota, view.charge, Word::New, board)
 }
 
 /// One turn of the last board.
@@ -67,7 +70,7 @@ fn advance(alloc: Global, view: &View, orders: &Move) -> Result<Answer, AllocErr
         None => unreachable!(),
         Some(last) => {
             let board = turn(alloc, last, orders)?;
-            record_board(alloc, view, Word::Move, board)
+            record_board(alloc, view.quota, view.charge, Word::Move, board)
         }
     }
 }
@@ -149,6 +152,7 @@ pub fn answer(alloc: Global, view: &View, command: &Command) -> Result<Answer, A
 }
 
 /// The same answer to a move that `check` lets pass, of the last board with all its seats moved already.
+#[tactic(auto, using(crate::proofs::Joining::moved_from))]
 pub fn joined(alloc: Global, view: &View, orders: &Move, moved: Board) -> Result<Answer, AllocError>
     requires view { IsFitView view.now }
     requires passes { first_reason view.now (command.Move orders.now) ≡ None }
@@ -156,6 +160,22 @@ pub fn joined(alloc: Global, view: &View, orders: &Move, moved: Board) -> Result
     ensures value { IfOk result (λ answer. answer ≡ answer_of view.now (command.Move orders.now)) }
     ensures fits { IfOk result (λ answer. IsFitEffect view.now.quota view.now.charge answer.effect) }
 {
+    joined_within(alloc, view.quota, view.charge, orders, moved)
+}
+
+/// What `joined` answers, from no more of the view than is asked of it: the quota, and what the kept records are charged. No
+/// board but the moved one has to be there.
+pub fn joined_within(
+    alloc: Global,
+    quota: u32,
+    charge: u32,
+    orders: &Move,
+    moved: Board,
+) -> Result<Answer, AllocError>
+    requires { (view : AnyView) × IsMovedFrom quota charge orders.now moved view }
+    ensures value { IfOk result (λ answer. (view : AnyView) → IsMovedFrom quota charge orders.now moved view → answer ≡ answer_of view (command.Move orders.now)) }
+    ensures fits { IfOk result (λ answer. IsFitEffect quota charge answer.effect) }
+{
     let board = finish_turn(alloc, moved, orders.words.as_slice())?;
-    record_board(alloc, view, Word::Move, board)
+    record_board(alloc, quota, charge, Word::Move, board)
 }

@@ -1,9 +1,10 @@
 //! Whether a command is refused before there is a new board.
-ghost use Rattle.std.specs.Prelude.{◌≡◌, Some, None, is_none, nat_le, if◌then◌else◌};
+ghost use Rattle.std.specs.Prelude.{◌≡◌, ◌&&◌, true, false, Some, None, is_some, nat_le, if◌then◌else◌};
+ghost use Rattle.bs_game.specs.declared.view.View.{View as AnyView};
 ghost use Rattle.bs_board.specs.declared.commands.reply.Refusal.TheVariants as Refusal;
 ghost use Rattle.bs_board.specs.declared.limits.TheConstants.{LAST_TURN};
 ghost use Rattle.bs_board.specs.boards.Over.{is_over};
-ghost use Rattle.bs_game.specs.Reasons.{first_reason};
+ghost use Rattle.bs_game.specs.Reasons.{first_reason, is_move};
 
 use crate::view::View;
 use bs_board::limits::LAST_TURN;
@@ -22,12 +23,24 @@ fn check_move(last: &Board) -> Option<Refusal>
     }
 }
 
-fn check_turn(asked: &Option<Board>) -> Option<Refusal>
-    ensures { result ≡ (if is_none asked.now then Some Refusal.NoRecord else None) }
+/// The reason against a command that is told by whether a game runs, and whether the turn that the command asks for is kept.
+/// Of a move in a game that runs it tells none: that takes the last board.
+#[tactic(auto, unfolding(crate::specs::Reasons::first_reason))]
+pub fn check_unseen(command: &Command, runs: bool, is_kept: bool) -> Option<Refusal>
+    ensures told { (view : AnyView) → is_some view.last ≡ runs → is_some view.asked ≡ is_kept → (is_move command.now && runs) ≡ false → result ≡ first_reason view command.now }
+    ensures untold { (is_move command.now && runs) ≡ true → result ≡ None }
 {
-    match asked {
-        None => Some(Refusal::NoRecord),
-        Some(_) => None,
+    match (command, runs) {
+        (Command::Bad, _) => Some(Refusal::Unknown),
+        (Command::New(_), false) => None,
+        (Command::New(_), true) => Some(Refusal::Running),
+        (_, false) => Some(Refusal::NoGame),
+        (Command::Turn(_), true) => if is_kept {
+            None
+        } else {
+            Some(Refusal::NoRecord)
+        },
+        (Command::Move(_) | Command::Show | Command::Free | Command::End, true) => None,
     }
 }
 
@@ -38,12 +51,7 @@ pub fn check(view: &View, command: &Command) -> Option<Refusal>
     ensures { result ≡ first_reason view.now command.now }
 {
     match (command, &view.last) {
-        (Command::Bad, _) => Some(Refusal::Unknown),
-        (Command::New(_), None) => None,
-        (Command::New(_), Some(_)) => Some(Refusal::Running),
-        (_, None) => Some(Refusal::NoGame),
         (Command::Move(_), Some(last)) => check_move(last),
-        (Command::Turn(_), Some(_)) => check_turn(&view.asked),
-        (Command::Show | Command::Free | Command::End, Some(_)) => None,
+        _ => check_unseen(command, view.last.is_some(), view.asked.is_some()),
     }
 }

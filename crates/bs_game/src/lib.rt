@@ -11,8 +11,8 @@ mod tests;
 mod turns;
 mod view;
 
-pub use answering::{answer, joined};
-pub use checking::check;
+pub use answering::{answer, joined, joined_within, refuse};
+pub use checking::{check, check_unseen};
 pub use law::{answer_law, course_law};
 pub use reply::{Answer, Effect, Record};
 pub use turns::{place_law, place_of_turn};

@@ -6,11 +6,12 @@ ghost use Rattle.bs_board.specs.records.Record.{record_of};
 ghost use Rattle.bs_game.specs.declared.reply.Effect.TheVariants as Effect;
 ghost use Rattle.bs_game.specs.Game.{board_charge};
 ghost use Rattle.bs_game.specs.Law.{IsFitEffect};
-ghost use Rattle.bs_game.specs.View.{IsFitView, answer_with, effect_of_shown, shown_within_quota};
+ghost use Rattle.bs_board.specs.declared.limits.TheConstants.{MOST_QUOTA};
+ghost use Rattle.bs_game.specs.Joining.{view_within};
+ghost use Rattle.bs_game.specs.View.{answer_with, effect_of_shown, shown_within_quota};
 
 use crate::answering::refuse;
 use crate::reply::{Answer, Effect, Record};
-use crate::view::View;
 use bs_block::round_up;
 use bs_board::{Board, Refusal, Reply, Word, encode, size};
 use std::alloc::{AllocError, Global};
@@ -31,18 +32,20 @@ pub(crate) fn board_charge(board: &Board) -> u32
 /// A new board is kept where the quota has room for its record.
 pub(crate) fn record_board(
     alloc: Global,
-    view: &View,
+    quota: u32,
+    charge: u32,
     word: Word,
     board: Board,
 ) -> Result<Answer, AllocError>
-    requires view { IsFitView view.now }
+    requires within { charge ≤ quota }
+    requires small { quota ≤ MOST_QUOTA }
     requires legal { IsLegal board }
     requires adds { effect_of_shown word board ≡ Effect.Add (record_of board) }
-    ensures value { IfOk result (λ answer. answer ≡ answer_with (shown_within_quota view.now word board)) }
-    ensures fits { IfOk result (λ answer. IsFitEffect view.now.quota view.now.charge answer.effect) }
+    ensures value { IfOk result (λ answer. answer ≡ answer_with (shown_within_quota (view_within quota charge) word board)) }
+    ensures fits { IfOk result (λ answer. IsFitEffect quota charge answer.effect) }
 {
-    let charge = view.charge + board_charge(&board);
-    if charge > view.quota {
+    let charge = charge + board_charge(&board);
+    if charge > quota {
         return Ok(refuse(Refusal::Quota));
     }
     let record = Record::from_vec(encode(alloc, &board)?);

@@ -3,7 +3,10 @@ ghost use Rattle.std.specs.Prelude.{◌≡◌, [], IfOk, All};
 ghost use Rattle.bs_board.specs.commands.Orders.{orders_of};
 ghost use Rattle.bs_rules.specs.Motion.{moved_board, IsMovable};
 
-use crate::{Answer, Effect, Record, View, answer, check, joined, place_of_turn};
+use crate::{
+    Answer, Effect, Record, View, answer, check, check_unseen, joined, joined_within,
+    place_of_turn, refuse,
+};
 use bs_board::{
     Board, Cells, Command, Id, Mode, Move, Moves, New, Point, Refusal, Reply, Snake, Snakes,
     Starts, TurnNumber, Word, Words, is_legal,
@@ -266,7 +269,41 @@ fn joined_turn(rt: HostRuntime) -> Result<(), Fail> {
         asked: None,
     };
     assert!(rt; check(&view, &Command::Move(no_orders(alloc))).is_none());
+    let told = joined_within(alloc, view.quota, view.charge, &orders, moved.copy(alloc)?)?;
+    assert_shown(&rt, &told, Word::Move, 1, 2, 64);
     let told = joined(alloc, &view, &orders, moved)?;
     assert_shown(&rt, &told, Word::Move, 1, 2, 64);
+    Ok(())
+}
+
+// What is told of a command by whether a game runs and whether the turn is kept that it asks for.
+#[test]
+fn refusals_with_no_board_seen(rt: HostRuntime) -> Result<(), Fail> {
+    let alloc = rt.alloc();
+    let turn = TurnNumber::new(9).ok_or("a turn")?;
+    let orders = no_orders(alloc);
+    assert_eq!(rt;
+        check_unseen(&Command::Bad, true, true),
+        Some(Refusal::Unknown)
+    );
+    assert_eq!(rt;
+        check_unseen(&Command::Bad, false, false),
+        Some(Refusal::Unknown)
+    );
+    assert_eq!(rt;
+        check_unseen(&Command::Show, false, false),
+        Some(Refusal::NoGame)
+    );
+    assert_eq!(rt;
+        check_unseen(&Command::Turn(turn), false, false),
+        Some(Refusal::NoGame)
+    );
+    assert_eq!(rt;
+        check_unseen(&Command::Turn(turn), true, false),
+        Some(Refusal::NoRecord)
+    );
+    assert_eq!(rt; check_unseen(&Command::Turn(turn), true, true), None);
+    assert_eq!(rt; check_unseen(&Command::Move(orders), true, false), None);
+    assert_refused(&rt, &refuse(Refusal::NoRecord), Refusal::NoRecord);
     Ok(())
 }
