@@ -1,5 +1,5 @@
 -- What is read of a record that is known to be a legal board's.
-use Rattle.std.proofs.Common.{◌≡◌, ℕ, zero, suc, ◌+◌, ◌-◌, ◌*◌, ◌<◌, ◌≤◌, Bool, true, false, List, [], ◌∷◌, ◌++◌, length, take, drop, min, ltb, Option, Some, None, refl, sym, ap, ◌∙◌, append_assoc, arith, length-append}
+use Rattle.std.proofs.Common.{◌≡◌, ℕ, zero, suc, ◌+◌, ◌-◌, ◌*◌, ◌<◌, ◌≤◌, Bool, true, false, List, [], ◌∷◌, ◌++◌, length, take, drop, min, ltb, Option, Some, None, refl, sym, ap, subst, ◌∙◌, append_assoc, arith, length-append}
 use Rattle.std.specs.List.{flat_map, list_all, AllByRecursion}
 use Rattle.std.specs.Str.{is_utf8}
 use Rattle.std.proofs.lemmas.Bool.{le-ltb}
@@ -23,10 +23,21 @@ use Rattle.bs_board.proofs.records.Repeats.{many_again, some_again}
 use Rattle.bs_board.proofs.records.SnakeRecord.{piece_again, snake_again}
 use Rattle.bs_board.proofs.records.Writable.{legal_is_writable}
 
+pub record_of_legal : (b : Board) (bytes : List ℕ) → IsLegal b → bytes ≡ record_of b → IsLegalRecord bytes
+record_of_legal b bytes legal is = record { board = b; legal = legal; is = is }
+
 -- ---- the board
 
 pub board_is_read : (bytes : List ℕ) (board b : Board) → IsLegal b → bytes ≡ record_of b → read_board is_utf8 bytes ≡ Some board → board ≡ b
 board_is_read bytes board b legal is found = some_is board b (sym found ∙ record_is_read bytes b legal is)
+
+pub board_is_legal : (bytes : List ℕ) (board : Board) → IsLegalRecord bytes → read_board is_utf8 bytes ≡ Some board → IsLegal board
+board_is_legal bytes board kept found =
+    subst IsLegal (sym (board_is_read bytes board kept.board kept.legal kept.is found)) kept.legal
+
+pub board_is_of_record : (bytes : List ℕ) (board : Board) → IsLegalRecord bytes → read_board is_utf8 bytes ≡ Some board → bytes ≡ record_of board
+board_is_of_record bytes board kept found =
+    kept.is ∙ ap record_of (sym (board_is_read bytes board kept.board kept.legal kept.is found))
 
 -- where a value is read, no error says that there is none
 none_lacks : {X : Type 0} (error : Decode) (read : Option X) (x : X) → read ≡ Some x → error ≡ NotARecord → Fails error read → ⊥

@@ -25,10 +25,12 @@ use crate::records::decoding::{
 use std::alloc::{AllocError, Global};
 
 /// The board of the record.
-#[tactic(auto, using(crate::proofs::records::KeptRecord::board_is_read))]
+#[tactic(auto, using(crate::proofs::records::KeptRecord::board_is_read, crate::proofs::records::KeptRecord::board_is_of_record,))]
 pub fn kept_board(alloc: Global, bytes: &[u8]) -> Result<Board, AllocError>
     requires { IsLegalRecord bytes.now }
-    ensures { (b : AnyBoard) → IsLegal b → bytes.now ≡ record_of b → IfOk result (λ board. board ≡ b) }
+    ensures legal { IfOk result IsLegal }
+    ensures record { IfOk result (λ board. bytes.now ≡ record_of board) }
+    ensures only { (b : AnyBoard) → IsLegal b → bytes.now ≡ record_of b → IfOk result (λ board. board ≡ b) }
 {
     match read_board(alloc, bytes) {
         Ok(board) => Ok(board),
