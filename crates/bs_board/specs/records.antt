@@ -1,4 +1,5 @@
 -- The bytes that a board is kept as.
 pub mod Decoder
+pub mod Kept
 pub mod Record
 pub mod Writing

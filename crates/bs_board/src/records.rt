@@ -3,5 +3,6 @@
 pub mod decode_error;
 pub mod decoding;
 pub mod encoding;
+pub mod kept;
 pub mod sizes;
 pub mod turn;

@@ -300,3 +300,112 @@ fn records_with_one_byte_changed(rt: HostRuntime) -> Result<(), Fail> {
     assert!(rt; read > 26, "more than the record itself, {read}");
     Ok(())
 }
+
+fn seat(alloc: Global, id: &str, body: &[(i16, i16)], health: u8) -> Result<Snake, AllocError> {
+    Ok(Snake {
+        id: Id::from_str(alloc, id)?,
+        body: cells(alloc, body)?,
+        health,
+        cause: None,
+        killer: None,
+        out: None,
+    })
+}
+
+// A board of seven by seven with three food and four snakes, the third of them out against the first.
+fn four_snakes(alloc: Global) -> Result<Board, AllocError> {
+    let first = seat(alloc, "a", &[(3, 3), (3, 2), (3, 1), (2, 1), (1, 1)], 97)?;
+    let second = seat(alloc, "second", &[(5, 5), (5, 4), (5, 4)], 100)?;
+    let mut third = seat(
+        alloc,
+        "one-with-a-long-name",
+        &[(3, 2), (4, 2), (5, 2), (6, 2)],
+        88,
+    )?;
+    third.cause = Some(Cause::BodyCollision);
+    third.killer = Some(0);
+    third.out = Some(4);
+    let last = seat(alloc, "zz", &[(0, 6), (0, 5), (0, 4)], 1)?;
+    Ok(Board {
+        mode: Mode::Standard,
+        width: 7,
+        height: 7,
+        turn: 4,
+        min_food: 2,
+        chance: 15,
+        food: cells(alloc, &[(6, 6), (0, 0), (1, 4)])?,
+        snakes: Snakes::from_vec(vec![in alloc; first, second, third, last]?),
+    })
+}
+
+#[test]
+#[tactic(auto, using(crate::proofs::records::Longest::legal_size_fits))]
+fn a_kept_board_is_read(rt: HostRuntime) -> Result<(), Fail> {
+    let alloc = rt.alloc();
+    let board = four_snakes(alloc)?;
+    assert!(rt; is_legal(&board));
+    let record = encode(alloc, &board)?;
+    assert_same_board(
+        &rt,
+        &kept_board(alloc, record.as_slice())?,
+        &four_snakes(alloc)?,
+    );
+    Ok(())
+}
+
+#[test]
+#[tactic(auto, using(crate::proofs::records::Longest::legal_size_fits))]
+fn a_kept_ground_is_read(rt: HostRuntime) -> Result<(), Fail> {
+    let alloc = rt.alloc();
+    let board = four_snakes(alloc)?;
+    assert!(rt; is_legal(&board));
+    let record = encode(alloc, &board)?;
+    let ground = kept_ground(alloc, record.as_slice())?;
+    assert_eq!(rt;
+        (ground.mode, ground.width, ground.height, ground.turn),
+        (Mode::Standard, 7, 7, 4)
+    );
+    assert_eq!(rt; (ground.min_food, ground.chance), (2, 15));
+    let food = cells(alloc, &[(6, 6), (0, 0), (1, 4)])?;
+    assert_eq!(rt; ground.food.as_slice(), food.as_slice());
+    assert_eq!(rt; ground.snakes.len(), 0);
+    Ok(())
+}
+
+// Where each row asks from, for how many, and what it is given: the ids, the numbers of parts, and the columns of the
+// last parts.
+#[test]
+#[tactic(auto, using(crate::proofs::records::Longest::legal_size_fits))]
+fn kept_snakes_are_read(rt: HostRuntime) -> Result<(), Fail> {
+    let alloc = rt.alloc();
+    let board = four_snakes(alloc)?;
+    assert!(rt; is_legal(&board));
+    let record = encode(alloc, &board)?;
+    let asked: [(usize, usize, &[(&str, usize, i16)]); 6] = [
+        (0, 2, &[("a", 5, 1), ("second", 3, 5)]),
+        (1, 2, &[("second", 3, 5), ("one-with-a-long-name", 4, 6)]),
+        (3, 2, &[("zz", 3, 0)]),
+        (4, 2, &[]),
+        (usize::MAX, usize::MAX, &[]),
+        (2, 0, &[]),
+    ];
+    for (from, count, given) in asked {
+        let snakes = kept_snakes(alloc, record.as_slice(), from, count)?;
+        let snakes = snakes.as_slice();
+        assert_eq!(rt; snakes.len(), given.len(), "{count} from {from}");
+        for (snake, (id, parts, column)) in snakes.iter().zip(given) {
+            assert_eq!(rt; snake.id.as_str(), *id);
+            let body = snake.body.as_slice();
+            assert_eq!(rt; body.len(), *parts);
+            assert_eq!(rt; body.last().map(|part| part.x), Some(*column));
+        }
+    }
+    let third = kept_snakes(alloc, record.as_slice(), 2, 1)?;
+    let third = third.as_slice().first().ok_or("the third")?;
+    assert_eq!(rt;
+        (third.health, third.cause),
+        (88, Some(Cause::BodyCollision))
+    );
+    assert_eq!(rt; (third.killer, third.out), (Some(0), Some(4)));
+    Ok(())
+}

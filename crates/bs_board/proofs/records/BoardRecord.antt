@@ -75,7 +75,7 @@ head_of_board b = record {
   food = length b.food;
 }
 
-head_again : (b : Board) (rest : List ℕ) → read_head (head_bytes b ++ rest) ≡ Some (head_of_board b, rest)
+pub head_again : (b : Board) (rest : List ℕ) → read_head (head_bytes b ++ rest) ≡ Some (head_of_board b, rest)
 unfolding read_head
 head_again b rest = rw (mode_again b.mode, number_again b.turn, number_again (length b.food)) refl
 
@@ -106,7 +106,7 @@ read_whole bytes h after_head food after_food snakes rest p q r food_count snake
     rw (food_count, snake_count) ended
 
 -- each snake is writable, and its id a text
-both_by_recursion : (is_text : List ℕ → Bool) (snakes : List Snake) → AllByRecursion IsWritable snakes → list_all (λ s. is_text s.id) snakes ≡ true
+pub both_by_recursion : (is_text : List ℕ → Bool) (snakes : List Snake) → AllByRecursion IsWritable snakes → list_all (λ s. is_text s.id) snakes ≡ true
     → AllByRecursion (λ s. IsWritable s × (is_text s.id ≡ true)) snakes
 both_by_recursion is_text [] fits texts = tt
 both_by_recursion is_text (s ∷ snakes) fits texts =
@@ -157,7 +157,7 @@ all_texts (s ∷ snakes) each =
     let first : is_utf8 s.id ≡ true = each zero s (omega arith) in
     rw first (all_texts snakes (λ seat d within. each (suc seat) d (omega arith)))
 
-legal_texts : (b : Board) → IsLegal b → list_all (λ s. is_utf8 s.id) b.snakes ≡ true
+pub legal_texts : (b : Board) → IsLegal b → list_all (λ s. is_utf8 s.id) b.snakes ≡ true
 legal_texts b legal =
     all_texts b.snakes (λ seat d within. (and_both _ _ (and_both _ _ (legal.snakes seat d within).id).0).0)
 

@@ -1,7 +1,8 @@
 -- Reading values one after the other, as a loop does.
-use Rattle.std.proofs.Common.{◌≡◌, ℕ, zero, suc, ◌-◌, ◌+◌, ◌≤◌, ◌<◌, Bool, true, length, List, [], ◌∷◌, ◌++◌, Option, Some, None, refl, sym, ap, ◌∙◌, append_assoc, arith}
+use Rattle.std.proofs.Common.{◌≡◌, ℕ, zero, suc, ◌-◌, ◌+◌, ◌≤◌, ◌<◌, Bool, true, length, List, [], ◌∷◌, ◌++◌, take, drop, min, Option, Some, None, refl, sym, ap, ◌∙◌, append_assoc, arith}
 use Rattle.std.specs.List.{flat_map, list_all, AllByRecursion}
 use Rattle.std.proofs.lemmas.List.{append-nil}
+use Rattle.std.proofs.Math.Nat.{zero-min, min-zero}
 use Rattle.bs_board.specs.declared.records.decode_error.Decode.{Decode}
 use Rattle.bs_board.specs.declared.records.decode_error.Decode.TheVariants.{NotARecord, Memory}
 use Rattle.bs_board.specs.records.Decoder.{◌>>=◌, Fails, read_many}
@@ -68,3 +69,15 @@ unfolding read_many
 many_again one text P law [] rest fits = refl
 many_again one text P law (x ∷ xs) rest fits =
     rw (append_assoc (text x) (flat_map text xs) rest, law x (flat_map text xs ++ rest) fits.0, many_again one text P law xs rest fits.1) refl
+
+-- of values that are written, as many are read as are asked for and there are
+pub some_again : {X : Type 0} (one : List ℕ → Option (X × List ℕ)) (text : X → List ℕ) (P : X → Type 0)
+    → ((x : X) (rest : List ℕ) → P x → one (text x ++ rest) ≡ Some (x, rest))
+    → (count : ℕ) (xs : List X) → AllByRecursion P xs
+    → read_many one (min count (length xs)) (flat_map text xs) ≡ Some (take count xs, flat_map text (drop count xs))
+unfolding read_many
+some_again one text P law zero xs fits = rw (zero-min (length xs)) refl
+some_again one text P law (suc count) [] fits = rw (min-zero (suc count)) refl
+some_again one text P law (suc count) (x ∷ xs) fits =
+    let more : min (suc count) (suc (length xs)) ≡ suc (min count (length xs)) = omega arith in
+    rw (more, law x (flat_map text xs) fits.0, some_again one text P law count xs fits.1) refl

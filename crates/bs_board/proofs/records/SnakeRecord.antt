@@ -34,7 +34,7 @@ piece_takes (len ∷ after) piece rest fits e =
     } in
     subst (λ (r : List ℕ × List ℕ). Takes (len ∷ after) (length r.0 ∷ r.0) r.1) g.1 here
 
-piece_again : (piece rest : List ℕ) → read_piece ((length piece ∷ piece) ++ rest) ≡ Some (piece, rest)
+pub piece_again : (piece rest : List ℕ) → read_piece ((length piece ∷ piece) ++ rest) ≡ Some (piece, rest)
 unfolding read_piece
 piece_again piece rest =
     let long : ltb (length (piece ++ rest)) (length piece) ≡ false = le-ltb _ _ (omega (arith, length-append piece rest)) in

@@ -59,15 +59,15 @@ fn if_legal(board: Board) -> Result<Board, Decode>
 
 /// What stands before the cells of the food.
 #[derive(Drop)]
-struct Head {
-    mode: Mode,
-    width: u8,
-    height: u8,
-    turn: u16,
-    min_food: u8,
-    chance: u8,
-    snakes: u8,
-    food: u16,
+pub(crate) struct Head {
+    pub(crate) mode: Mode,
+    pub(crate) width: u8,
+    pub(crate) height: u8,
+    pub(crate) turn: u16,
+    pub(crate) min_food: u8,
+    pub(crate) chance: u8,
+    pub(crate) snakes: u8,
+    pub(crate) food: u16,
 }
 
 /// What stands between the id and the parts of a snake.
@@ -118,7 +118,7 @@ fn out_from_number(number: u16) -> Option<u16>
 }
 
 /// The higher byte first.
-fn from_two_bytes(high: u8, low: u8) -> u16
+pub(crate) fn from_two_bytes(high: u8, low: u8) -> u16
     ensures { result ≡ from_two_bytes high low }
 {
     u16::from_be_bytes([high, low])
@@ -169,7 +169,12 @@ fn read_state(bytes: &[u8]) -> Result<(State, &[u8]), Decode>
 }
 
 /// So many cells, whose numbers were raised by so much.
-fn read_cells(alloc: Global, count: u16, raised: u8, bytes: &[u8]) -> Result<(Cells, &[u8]), Decode>
+pub(crate) fn read_cells(
+    alloc: Global,
+    count: u16,
+    raised: u8,
+    bytes: &[u8],
+) -> Result<(Cells, &[u8]), Decode>
     ensures { Gives (λ x. (x.0, x.1.now)) result (read_many (read_cell raised) count bytes.now) }
 {
     let mut cells = Cells::new(alloc);
@@ -184,7 +189,7 @@ fn read_cells(alloc: Global, count: u16, raised: u8, bytes: &[u8]) -> Result<(Ce
 
 /// A length, and so many bytes.
 #[tactic(auto, unfolding(crate::specs::records::Decoder::read_piece))]
-fn read_piece(bytes: &[u8]) -> Result<(&[u8], &[u8]), Decode>
+pub(crate) fn read_piece(bytes: &[u8]) -> Result<(&[u8], &[u8]), Decode>
     ensures { Gives (λ x. (x.0.now, x.1.now)) result (read_piece bytes.now) }
 {
     match bytes {
@@ -235,7 +240,11 @@ fn read_snake(alloc: Global, bytes: &[u8]) -> Result<(Snake, &[u8]), Decode>
     Ok((snake, rest))
 }
 
-fn read_snakes(alloc: Global, count: u8, bytes: &[u8]) -> Result<(Snakes, &[u8]), Decode>
+pub(crate) fn read_snakes(
+    alloc: Global,
+    count: usize,
+    bytes: &[u8],
+) -> Result<(Snakes, &[u8]), Decode>
     ensures { Gives (λ x. (x.0, x.1.now)) result (read_many (read_snake is_utf8) count bytes.now) }
 {
     let mut snakes = Vec::new(alloc);
@@ -249,7 +258,7 @@ fn read_snakes(alloc: Global, count: u8, bytes: &[u8]) -> Result<(Snakes, &[u8])
 }
 
 #[tactic(auto, unfolding(crate::specs::records::Decoder::read_head))]
-fn read_head(bytes: &[u8]) -> Result<(Head, &[u8]), Decode>
+pub(crate) fn read_head(bytes: &[u8]) -> Result<(Head, &[u8]), Decode>
     ensures { Gives (λ x. (x.0, x.1.now)) result (read_head bytes.now) }
 {
     match bytes {
@@ -285,12 +294,12 @@ fn read_head(bytes: &[u8]) -> Result<(Head, &[u8]), Decode>
 
 /// A board, legal or not, from all of the bytes.
 #[tactic(auto, unfolding(crate::specs::records::Decoder::read_board))]
-fn read_board(alloc: Global, bytes: &[u8]) -> Result<Board, Decode>
+pub(crate) fn read_board(alloc: Global, bytes: &[u8]) -> Result<Board, Decode>
     ensures { Gives (λ b. b) result (read_board is_utf8 bytes.now) }
 {
     let (head, rest) = read_head(bytes)?;
     let (food, rest) = read_cells(alloc, head.food, 0, rest)?;
-    let (snakes, rest) = read_snakes(alloc, head.snakes, rest)?;
+    let (snakes, rest) = read_snakes(alloc, usize::from(head.snakes), rest)?;
     if !rest.is_empty() {
         return Err(Decode::NotARecord);
     }

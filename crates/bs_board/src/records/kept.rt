@@ -1,0 +1,147 @@
+//! Reading a record that is known to be a legal board's: nothing is judged again, and no more is read than is asked for.
+
+ghost use Rattle.std.specs.Prelude.{◌≡◌, [], take, drop, IfOk};
+ghost use Rattle.std.specs.Str.{is_utf8};
+ghost use Rattle.bs_board.specs.declared.boards.board.Board.{Board as AnyBoard};
+ghost use Rattle.bs_board.specs.boards.Legal.{IsLegal};
+ghost use Rattle.bs_board.specs.records.Decoder.{
+  Gives,
+  read_ground,
+  skip_cells,
+  skip_state,
+  skip_snake,
+  skip_snakes,
+  read_seats,
+};
+ghost use Rattle.bs_board.specs.records.Kept.{IsLegalRecord};
+ghost use Rattle.bs_board.specs.records.Record.{record_of};
+
+use crate::boards::board::Board;
+use crate::boards::snakes::Snakes;
+use crate::records::decode_error::Decode;
+use crate::records::decoding::{
+    from_two_bytes, read_board, read_cells, read_head, read_piece, read_snakes,
+};
+use std::alloc::{AllocError, Global};
+
+/// The board of the record.
+#[tactic(auto, using(crate::proofs::records::KeptRecord::board_is_read, crate::proofs::records::KeptRecord::board_is_of_record,))]
+pub fn kept_board(alloc: Global, bytes: &[u8]) -> Result<Board, AllocError>
+    requires { IsLegalRecord bytes.now }
+    ensures legal { IfOk result IsLegal }
+    ensures record { IfOk result (λ board. bytes.now ≡ record_of board) }
+    ensures only { (b : AnyBoard) → IsLegal b → bytes.now ≡ record_of b → IfOk result (λ board. board ≡ b) }
+{
+    match read_board(alloc, bytes) {
+        Ok(board) => Ok(board),
+        Err(Decode::Memory) => Err(AllocError),
+        Err(Decode::NotARecord) => unreachable!(),
+    }
+}
+
+/// The board of the record with nobody on it: all that it says but for its snakes.
+#[tactic(auto, using(crate::proofs::records::KeptRecord::ground_is_read))]
+pub fn kept_ground(alloc: Global, bytes: &[u8]) -> Result<Board, AllocError>
+    requires { IsLegalRecord bytes.now }
+    ensures { (b : AnyBoard) → IsLegal b → bytes.now ≡ record_of b → IfOk result (λ ground. ground ≡ record b { snakes = [] }) }
+{
+    match read_ground(alloc, bytes) {
+        Ok(ground) => Ok(ground),
+        Err(Decode::Memory) => Err(AllocError),
+        Err(Decode::NotARecord) => unreachable!(),
+    }
+}
+
+/// Its snakes at `count` seats from that one on; fewer where the board has no more. The others are skipped by their
+/// lengths.
+#[tactic(auto, using(crate::proofs::records::KeptRecord::seats_are_read))]
+pub fn kept_snakes(
+    alloc: Global,
+    bytes: &[u8],
+    from: usize,
+    count: usize,
+) -> Result<Snakes, AllocError>
+    requires { IsLegalRecord bytes.now }
+    ensures { (b : AnyBoard) → IsLegal b → bytes.now ≡ record_of b → IfOk result (λ snakes. snakes ≡ take count (drop from b.snakes)) }
+{
+    match read_seats(alloc, bytes, from, count) {
+        Ok(snakes) => Ok(snakes),
+        Err(Decode::Memory) => Err(AllocError),
+        Err(Decode::NotARecord) => unreachable!(),
+    }
+}
+
+#[tactic(auto, unfolding(crate::specs::records::Decoder::read_ground))]
+fn read_ground(alloc: Global, bytes: &[u8]) -> Result<Board, Decode>
+    ensures { Gives (λ ground. ground) result (read_ground bytes.now) }
+{
+    let (head, rest) = read_head(bytes)?;
+    let (food, _) = read_cells(alloc, head.food, 0, rest)?;
+    Ok(Board {
+        mode: head.mode,
+        width: head.width,
+        height: head.height,
+        turn: head.turn,
+        min_food: head.min_food,
+        chance: head.chance,
+        food,
+        snakes: Snakes::from_vec(Vec::new(alloc)),
+    })
+}
+
+/// What follows so many cells, of two bytes each.
+#[tactic(auto, unfolding(crate::specs::records::Decoder::skip_cells))]
+fn skip_cells(count: u16, bytes: &[u8]) -> Result<&[u8], Decode>
+    ensures { Gives (λ rest. rest.now) result (skip_cells count bytes.now) }
+{
+    let len = 2 * usize::from(count);
+    if bytes.len() < len {
+        return Err(Decode::NotARecord);
+    }
+    Ok(&bytes[len..])
+}
+
+/// The number of a snake's parts, which is the last of what stands between its id and them.
+#[tactic(auto, unfolding(crate::specs::records::Decoder::skip_state))]
+fn skip_state(bytes: &[u8]) -> Result<(u16, &[u8]), Decode>
+    ensures { Gives (λ x. (x.0, x.1.now)) result (skip_state bytes.now) }
+{
+    match bytes {
+        [_, _, _, _, _, parts_high, parts_low, rest @ ..] => {
+            Ok((from_two_bytes(*parts_high, *parts_low), rest))
+        }
+        _ => Err(Decode::NotARecord),
+    }
+}
+
+#[tactic(auto, unfolding(crate::specs::records::Decoder::skip_snake))]
+fn skip_snake(bytes: &[u8]) -> Result<&[u8], Decode>
+    ensures { Gives (λ rest. rest.now) result (skip_snake bytes.now) }
+{
+    let (_, rest) = read_piece(bytes)?;
+    let (parts, rest) = skip_state(rest)?;
+    skip_cells(parts, rest)
+}
+
+fn skip_snakes(count: usize, bytes: &[u8]) -> Result<&[u8], Decode>
+    ensures { Gives (λ rest. rest.now) result (skip_snakes count bytes.now) }
+{
+    let mut rest = bytes;
+    for _ in 0..count {
+        rest = skip_snake(rest)?;
+    }
+    Ok(rest)
+}
+
+#[tactic(auto, unfolding(crate::specs::records::Decoder::read_seats))]
+fn read_seats(alloc: Global, bytes: &[u8], from: usize, count: usize) -> Result<Snakes, Decode>
+    ensures { Gives (λ snakes. snakes) result (read_seats is_utf8 from count bytes.now) }
+{
+    let (head, rest) = read_head(bytes)?;
+    let rest = skip_cells(head.food, rest)?;
+    let seats = usize::from(head.snakes);
+    let skipped = from.min(seats);
+    let rest = skip_snakes(skipped, rest)?;
+    let (snakes, _) = read_snakes(alloc, count.min(seats - skipped), rest)?;
+    Ok(snakes)
+}
