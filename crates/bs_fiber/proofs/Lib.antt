@@ -1,3 +1,6 @@
 pub mod Gathered
+pub mod Joined
+pub mod Seats
 pub mod Seen
 pub mod ThreeSeats
+pub mod Unseen

@@ -5,6 +5,7 @@ use Rattle.bs_board.specs.declared.boards.board.Board.{Board}
 use Rattle.bs_board.specs.declared.commands.command.Command.{Command}
 use Rattle.bs_board.specs.declared.boards.snake.Snake.{Snake}
 use Rattle.bs_board.specs.boards.Legal.{IsLegal}
+use Rattle.bs_board.specs.records.Kept.{IsLegalRecord}
 use Rattle.bs_board.proofs.records.BoardRecord.{record_is_of_one_board}
 use Rattle.bs_game.specs.declared.view.View.{View}
 use Rattle.bs_game.specs.View.{IsFitView}
@@ -14,9 +15,9 @@ use Rattle.bs_fiber.specs.declared.job.JobKind.{JobKind}
 use Rattle.bs_fiber.specs.declared.job.JobKind.TheVariants.{Begin, Part, Join}
 use Rattle.bs_fiber.specs.declared.out.Out.{Out}
 use Rattle.bs_fiber.specs.Expected.{IsOf}
-use Rattle.bs_fiber.specs.Fit.{IsLegalRecord, IsFitGame, IsFitInput, IsFitJob, AreMovedParts}
+use Rattle.bs_fiber.specs.Fit.{IsFitGame, IsFitInput, IsFitJob, AreMovedParts}
 use Rattle.bs_fiber.specs.Seeing.{IsBoardOf, IsSeen}
-use Rattle.bs_fiber.specs.Work.{out_seen, moved_part, IsWorked}
+use Rattle.bs_fiber.specs.Work.{begun, moved_part}
 
 -- bytes are the record of one board at most
 pub same_board : (bytes : Option (List ℕ)) (a b : Option Board) → IsBoardOf bytes a → IsBoardOf bytes b → a ≡ b
@@ -65,12 +66,6 @@ seen_is_fit input view fit seen =
 
 pub fit_job : (input : Input) (view : View) → IsFitInput input → IsSeen view input → IsFitJob input.job.kind input view
 fit_job input view fit seen = fit.job view seen
-
--- what the job comes to from the view that was seen, it comes to from all
-pub worked_once : (input : Input) (view : View) (out : Out) → IsSeen view input → out ≡ out_seen input.job.kind input.job.part view input.command
-    → IsWorked input out
-worked_once input view out seen is other too =
-    is ∙ ap (λ (v : View). out_seen input.job.kind input.job.part v input.command) (seen_once input view other seen too)
 
 -- the parts are determined by the rest
 
@@ -134,3 +129,8 @@ both_expected one two expected fit_one fit_two is_one is_two =
 pub fit_for_one_view : (input : Input) (view : View) → IsFitGame input → IsSeen view input → IsFitJob input.job.kind input view → IsFitInput input
 fit_for_one_view input view game seen job =
     record { game = game; job = λ other too. rw (seen_once input other view too seen) job }
+
+-- what a command comes to in the view that was seen, it comes to in all
+pub begun_once : (input : Input) (view : View) (out : Out) → IsSeen view input → out ≡ begun view input.command
+    → (other : View) → IsSeen other input → out ≡ begun other input.command
+begun_once input view out seen is other too = is ∙ ap (λ (v : View). begun v input.command) (seen_once input view other seen too)

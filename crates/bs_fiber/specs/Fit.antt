@@ -1,23 +1,16 @@
 -- When an input is such as a game hands out.
 use Rattle.std.specs.Prelude.{◌≡◌, ℕ, ◌<◌, ◌≤◌, true, List, [], length, Option, Some, None, slice_get, IfSome}
-use Rattle.bs_board.specs.declared.boards.board.Board.{Board}
 use Rattle.bs_board.specs.declared.commands.command.Command.{Command}
 use Rattle.bs_board.specs.declared.commands.command.Command.TheVariants as command
 use Rattle.bs_board.specs.declared.boards.snake.Snake.{Snake}
 use Rattle.bs_board.specs.declared.limits.TheConstants.{MOST_QUOTA}
-use Rattle.bs_board.specs.boards.Legal.{IsLegal}
-use Rattle.bs_board.specs.records.Record.{record_of}
+use Rattle.bs_board.specs.records.Kept.{IsLegalRecord}
 use Rattle.bs_game.specs.declared.view.View.{View}
 use Rattle.bs_fiber.specs.declared.input.Input.{Input}
 use Rattle.bs_fiber.specs.declared.job.JobKind.{JobKind}
 use Rattle.bs_fiber.specs.declared.job.JobKind.TheVariants.{Begin, Part, Join}
 use Rattle.bs_fiber.specs.Seeing.{IsSeen}
 use Rattle.bs_fiber.specs.Work.{goes, parts_of, snakes_in, moved_part}
-
-pub record IsLegalRecord (bytes : List ℕ) : Type 0 where
-  pub board : Board
-  pub legal : IsLegal board
-  pub is : bytes ≡ record_of board
 
 -- a record is asked for by `turn` alone
 abbrev pub IsAskedBy : Command → Option (List ℕ) → Type 0

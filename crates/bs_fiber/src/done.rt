@@ -1,8 +1,7 @@
 //! Jobs that are done.
 ghost use Rattle.std.specs.Prelude.{◌≡◌, IfOk};
-ghost use Rattle.bs_fiber.specs.Fit.{IsFitJob};
-ghost use Rattle.bs_fiber.specs.Work.{out_seen, IsWorked};
-ghost use Rattle.bs_game.specs.View.{IsFitView};
+ghost use Rattle.bs_fiber.specs.Fit.{IsFitInput};
+ghost use Rattle.bs_fiber.specs.Work.{IsWorked};
 
 use crate::beginning::begin;
 use crate::input::Input;
@@ -12,8 +11,6 @@ use crate::moving::move_part;
 use crate::out::Out;
 use crate::stopped::Stopped;
 use crate::ticket::Ticket;
-use crate::viewing::view_seen;
-use bs_game::View;
 use std::alloc::{AllocError, Global};
 use std::marker::Model;
 
@@ -61,31 +58,22 @@ impl Done {
     }
 }
 
-fn out_seen(alloc: Global, view: &View, input: &Input) -> Result<Out, AllocError>
-    requires view { IsFitView view.now }
-    requires job { IsFitJob input.now.job.kind input.now view.now }
-    ensures { IfOk result (λ out. out ≡ out_seen input.now.job.kind input.now.job.part view.now input.now.command) }
+#[tactic(auto, using(crate::proofs::Joined::join_is_of_a_move, crate::proofs::Joined::join_has_a_board))]
+fn out_of(alloc: Global, input: &Input) -> Result<Out, AllocError>
+    requires { IsFitInput input.now }
+    ensures { IfOk result (λ out. IsWorked input.now out) }
 {
     match input.job.kind {
-        JobKind::Begin => begin(alloc, view, input.command.get()),
-        JobKind::Part => {
-            let moved = move_part(alloc, view, input.command.get(), input.job.part)?;
-            Ok(Out::Moved(moved))
-        }
-        JobKind::Join => {
-            let answer = join(alloc, view, input.command.get(), &input.parts)?;
-            Ok(Out::Joined(answer))
-        }
+        JobKind::Begin => begin(alloc, input),
+        JobKind::Part => Ok(Out::Moved(move_part(alloc, input)?)),
+        JobKind::Join => Ok(Out::Joined(join(alloc, input)?)),
     }
 }
 
 /// Does the job. The ticket is lost where memory runs out.
-#[tactic(auto, using(crate::proofs::Seen::fit_job, crate::proofs::Seen::worked_once))]
 pub fn work(alloc: Global, ticket: Ticket) -> Result<Done, Stopped>
     ensures { IfOk result (λ done. done ≡ ticket) }
 {
-    let input = ticket.input();
-    let view = view_seen(alloc, input)?;
-    let out = out_seen(alloc, &view, input)?;
+    let out = out_of(alloc, ticket.input())?;
     Ok(Done { ticket, out })
 }

@@ -1,21 +1,32 @@
 //! The jobs that move the snakes, two seats each.
-ghost use Rattle.std.specs.Prelude.{◌≡◌, IfOk, All};
-ghost use Rattle.bs_game.specs.View.{IsFitView};
+ghost use Rattle.std.specs.Prelude.{◌≡◌, Option, IfOk, IfSome, All};
+ghost use Rattle.bs_board.specs.declared.boards.board.Board.{Board as AnyBoard};
+ghost use Rattle.bs_board.specs.records.Kept.{IsLegalRecord};
+ghost use Rattle.bs_game.specs.declared.view.View.{View as AnyView};
 ghost use Rattle.bs_rules.specs.Motion.{IsMovable};
+ghost use Rattle.bs_fiber.specs.Fit.{IsFitGame};
+ghost use Rattle.bs_fiber.specs.Seeing.{IsBoardOf, IsSeen};
 ghost use Rattle.bs_fiber.specs.Work.{moves_in, snakes_in, seats_of, moved_part};
 
-use bs_board::{Command, Direction, Id, Snake, Snakes};
-use bs_game::View;
+use crate::input::Input;
+use bs_board::{Command, Direction, Id, Snakes, kept_snakes};
+use bs_game::Record;
 use bs_rules::move_snakes;
 use std::alloc::{AllocError, Global};
 
-/// The seats of a part, none where there is no such part.
-fn seats_of(part: usize, snakes: &[Snake]) -> &[Snake]
-    ensures { result.now ≡ seats_of part snakes.now }
+/// How many seats a part has; the last one may have fewer.
+const SEATS: usize = 2;
+
+/// The seats of a part of the newest board, none where there is no such part. The other seats are not read.
+fn seats_of(alloc: Global, last: &Option<Record>, part: usize) -> Result<Snakes, AllocError>
+    requires { IfSome last.now IsLegalRecord }
+    ensures value { IfOk result (λ seats. (board : Option AnyBoard) → IsBoardOf last.now board → seats ≡ seats_of part (snakes_in board)) }
+    ensures movable { IfOk result (λ seats. All IsMovable seats) }
 {
-    let from = part.saturating_mul(2).min(snakes.len());
-    let to = (from + 2).min(snakes.len());
-    &snakes[from..to]
+    match last {
+        None => Ok(Snakes::from_vec(Vec::new(alloc))),
+        Some(record) => kept_snakes(alloc, record.as_slice(), part.saturating_mul(SEATS), SEATS),
+    }
 }
 
 fn moves_in(command: &Command) -> &[(Id, Direction)]
@@ -27,26 +38,11 @@ fn moves_in(command: &Command) -> &[(Id, Direction)]
     }
 }
 
-fn snakes_in(view: &View) -> &[Snake]
-    requires { IsFitView view.now }
-    ensures value { result.now ≡ snakes_in view.now.last }
-    ensures movable { All IsMovable result.now }
-{
-    match &view.last {
-        Some(last) => last.snakes.as_slice(),
-        None => &[],
-    }
-}
-
 /// The snakes of a part after the move, those that are out as they are.
-pub(crate) fn move_part(
-    alloc: Global,
-    view: &View,
-    command: &Command,
-    part: usize,
-) -> Result<Snakes, AllocError>
-    requires { IsFitView view.now }
-    ensures { IfOk result (λ moved. moved ≡ moved_part part view.now command.now) }
+pub(crate) fn move_part(alloc: Global, input: &Input) -> Result<Snakes, AllocError>
+    requires { IsFitGame input.now }
+    ensures { IfOk result (λ moved. (view : AnyView) → IsSeen view input.now → moved ≡ moved_part input.now.job.part view input.now.command) }
 {
-    move_snakes(alloc, seats_of(part, snakes_in(view)), moves_in(command))
+    let seats = seats_of(alloc, &input.last, input.job.part)?;
+    move_snakes(alloc, seats.as_slice(), moves_in(input.command.get()))
 }

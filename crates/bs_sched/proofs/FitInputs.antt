@@ -17,7 +17,8 @@ use Rattle.bs_fiber.specs.declared.input.Input.{Input}
 use Rattle.bs_fiber.specs.declared.job.JobName.{JobName}
 use Rattle.bs_fiber.specs.declared.job.JobKind.{JobKind}
 use Rattle.bs_fiber.specs.declared.job.JobKind.TheVariants as kind
-use Rattle.bs_fiber.specs.Fit.{IsAskedBy, IsFitGame, IsFitInput, IsFitJob, IsLegalRecord}
+use Rattle.bs_fiber.specs.Fit.{IsAskedBy, IsFitGame, IsFitInput, IsFitJob}
+use Rattle.bs_board.specs.records.Kept.{IsLegalRecord}
 use Rattle.bs_fiber.specs.Seeing.{IsBoardOf, IsSeen}
 use Rattle.bs_fiber.proofs.Seen.{seen_once}
 use Rattle.bs_sched.specs.Courses.{IsRight}

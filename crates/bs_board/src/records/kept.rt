@@ -43,7 +43,7 @@ pub fn kept_board(alloc: Global, bytes: &[u8]) -> Result<Board, AllocError>
 #[tactic(auto, using(crate::proofs::records::KeptRecord::ground_is_read))]
 pub fn kept_ground(alloc: Global, bytes: &[u8]) -> Result<Board, AllocError>
     requires { IsLegalRecord bytes.now }
-    ensures { (b : AnyBoard) → IsLegal b → bytes.now ≡ record_of b → IfOk result (λ ground. ground ≡ record b { snakes = [] }) }
+    ensures { (b : AnyBoard) → IsLegal b → bytes.now ≡ record_of b → IfOk result (λ board. board ≡ record b { snakes = [] }) }
 {
     match read_ground(alloc, bytes) {
         Ok(ground) => Ok(ground),
@@ -73,7 +73,7 @@ pub fn kept_snakes(
 
 #[tactic(auto, unfolding(crate::specs::records::Decoder::read_ground))]
 fn read_ground(alloc: Global, bytes: &[u8]) -> Result<Board, Decode>
-    ensures { Gives (λ ground. ground) result (read_ground bytes.now) }
+    ensures { Gives (λ board. board) result (read_ground bytes.now) }
 {
     let (head, rest) = read_head(bytes)?;
     let (food, _) = read_cells(alloc, head.food, 0, rest)?;
