@@ -1,5 +1,6 @@
 -- What is read of a record that is known to be a legal board's.
-use Rattle.std.proofs.Common.{◌≡◌, ℕ, zero, suc, ◌+◌, ◌-◌, ◌*◌, ◌<◌, ◌≤◌, Bool, true, false, List, [], ◌∷◌, ◌++◌, length, take, drop, min, ltb, Option, Some, None, refl, sym, ap, subst, ◌∙◌, append_assoc, arith, length-append}
+use Rattle.std.proofs.Common.{◌≡◌, ℕ, zero, suc, ◌+◌, ◌-◌, ◌*◌, ◌<◌, ◌≤◌, Bool, true, false, List, [], ◌∷◌, ◌++◌, length, take, drop, min, ltb, Option, Some, None, Result, Ok, Err, refl, sym, ap, subst, ◌∙◌, append_assoc, arith, length-append}
+use Rattle.std.specs.Prelude.{IfOk, IfErr}
 use Rattle.std.specs.List.{flat_map, list_all, AllByRecursion}
 use Rattle.std.specs.Str.{is_utf8}
 use Rattle.std.proofs.lemmas.Bool.{le-ltb}
@@ -12,7 +13,7 @@ use Rattle.bs_board.specs.declared.boards.snake.Snake.{Snake}
 use Rattle.bs_board.specs.declared.records.decode_error.Decode.{Decode}
 use Rattle.bs_board.specs.declared.records.decode_error.Decode.TheVariants.{NotARecord, Memory}
 use Rattle.bs_board.specs.boards.Legal.{IsLegal}
-use Rattle.bs_board.specs.records.Decoder.{Fails, read_cell, read_many, read_piece, read_snake, read_head, read_board, read_ground, skip_cells, skip_state, skip_snake, skip_snakes, read_seats}
+use Rattle.bs_board.specs.records.Decoder.{Fails, Gives, read_cell, read_many, read_piece, read_snake, read_head, read_board, read_ground, skip_cells, skip_state, skip_snake, skip_snakes, read_seats}
 use Rattle.bs_board.specs.records.Kept.{IsLegalRecord}
 use Rattle.bs_board.specs.records.Record.{cell_bytes, state_bytes, snake_record, head_bytes, record_of}
 use Rattle.bs_board.specs.records.Writing.{IsByteCell, IsWritable, IsWritableBoard}
@@ -23,29 +24,44 @@ use Rattle.bs_board.proofs.records.Repeats.{many_again, some_again}
 use Rattle.bs_board.proofs.records.SnakeRecord.{piece_again, snake_again}
 use Rattle.bs_board.proofs.records.Writable.{legal_is_writable}
 
-pub record_of_legal : (b : Board) (bytes : List ℕ) → IsLegal b → bytes ≡ record_of b → IsLegalRecord bytes
-record_of_legal b bytes legal is = record { board = b; legal = legal; is = is }
+-- where a value stands, only memory can be wanting
+fails_for_memory : {X : Type 0} (read : Result X Decode) (stands : Option X) (x : X) → stands ≡ Some x → Gives (λ x. x) read stands → IfErr read (λ error. error ≡ Memory)
+fails_for_memory (Ok y) stands x is given = tt
+fails_for_memory (Err NotARecord) stands x is given = absurd cc
+fails_for_memory (Err Memory) stands x is given = refl
+
+-- and what is found is that value
+finds_value : {X E : Type 0} (read : Result X Decode) (result : Result X E) (stands : Option X) (x : X) → stands ≡ Some x → Gives (λ x. x) read stands
+    → IfOk result (λ y. read ≡ Ok y) → IfOk result (λ y. y ≡ x)
+finds_value read (Err error) stands x is given found = tt
+finds_value (Ok z) (Ok y) stands x is given found = cc
+finds_value (Err error) (Ok y) stands x is given found = absurd cc
 
 -- ---- the board
 
-pub board_is_read : (bytes : List ℕ) (board b : Board) → IsLegal b → bytes ≡ record_of b → read_board is_utf8 bytes ≡ Some board → board ≡ b
-board_is_read bytes board b legal is found = some_is board b (sym found ∙ record_is_read bytes b legal is)
+pub board_fails_for_memory : (bytes : List ℕ) (read : Result Board Decode) → IsLegalRecord bytes → Gives (λ board. board) read (read_board is_utf8 bytes)
+    → IfErr read (λ error. error ≡ Memory)
+board_fails_for_memory bytes read kept =
+    fails_for_memory read (read_board is_utf8 bytes) kept.board (record_is_read bytes kept.board kept.legal kept.is)
 
-pub board_is_legal : (bytes : List ℕ) (board : Board) → IsLegalRecord bytes → read_board is_utf8 bytes ≡ Some board → IsLegal board
-board_is_legal bytes board kept found =
-    subst IsLegal (sym (board_is_read bytes board kept.board kept.legal kept.is found)) kept.legal
+pub board_is_found : {E : Type 0} (bytes : List ℕ) (b : Board) (read : Result Board Decode) (result : Result Board E) → IsLegal b → bytes ≡ record_of b
+    → Gives (λ board. board) read (read_board is_utf8 bytes) → IfOk result (λ board. read ≡ Ok board) → IfOk result (λ board. board ≡ b)
+board_is_found bytes b read result legal is = finds_value read result (read_board is_utf8 bytes) b (record_is_read bytes b legal is)
 
-pub board_is_of_record : (bytes : List ℕ) (board : Board) → IsLegalRecord bytes → read_board is_utf8 bytes ≡ Some board → bytes ≡ record_of board
-board_is_of_record bytes board kept found =
-    kept.is ∙ ap record_of (sym (board_is_read bytes board kept.board kept.legal kept.is found))
+-- what holds of the one value that can be found
+held : {X E : Type 0} (Q : X → Type 0) (result : Result X E) (x : X) → Q x → IfOk result (λ y. y ≡ x) → IfOk result Q
+held Q (Ok y) x here same = subst Q (sym same) here
+held Q (Err error) x here same = tt
 
--- where a value is read, no error says that there is none
-none_lacks : {X : Type 0} (error : Decode) (read : Option X) (x : X) → read ≡ Some x → error ≡ NotARecord → Fails error read → ⊥
-none_lacks NotARecord read x found is none = absurd cc
-none_lacks Memory read x found is none = absurd cc
+pub board_is_legal : {E : Type 0} (bytes : List ℕ) (read : Result Board Decode) (result : Result Board E) → IsLegalRecord bytes
+    → Gives (λ board. board) read (read_board is_utf8 bytes) → IfOk result (λ board. read ≡ Ok board) → IfOk result IsLegal
+board_is_legal bytes read result kept given found =
+    held IsLegal result kept.board kept.legal (board_is_found bytes kept.board read result kept.legal kept.is given found)
 
-pub board_is_there : (error : Decode) (bytes : List ℕ) → IsLegalRecord bytes → error ≡ NotARecord → Fails error (read_board is_utf8 bytes) → ⊥
-board_is_there error bytes kept = none_lacks error (read_board is_utf8 bytes) kept.board (record_is_read bytes kept.board kept.legal kept.is)
+pub board_is_of_record : {E : Type 0} (bytes : List ℕ) (read : Result Board Decode) (result : Result Board E) → IsLegalRecord bytes
+    → Gives (λ board. board) read (read_board is_utf8 bytes) → IfOk result (λ board. read ≡ Ok board) → IfOk result (λ board. bytes ≡ record_of board)
+board_is_of_record bytes read result kept given found =
+    held (λ board. bytes ≡ record_of board) result kept.board kept.is (board_is_found bytes kept.board read result kept.legal kept.is given found)
 
 -- ---- the board with nobody on it
 
@@ -60,14 +76,17 @@ ground_again b fits =
     (recursion_from_All (IsByteCell 0) b.food fits.cells) in
     ap read_ground (regrouped b) ∙ rw (head_again b (flat_map (cell_bytes 0) b.food ++ flat_map snake_record b.snakes), food) refl
 
-ground_found : (bytes : List ℕ) (b : Board) → IsLegal b → bytes ≡ record_of b → read_ground bytes ≡ Some (record b { snakes = [] })
-ground_found bytes b legal is = ap read_ground is ∙ ground_again b (legal_is_writable b legal)
+ground_stands : (bytes : List ℕ) (b : Board) → IsLegal b → bytes ≡ record_of b → read_ground bytes ≡ Some (record b { snakes = [] })
+ground_stands bytes b legal is = ap read_ground is ∙ ground_again b (legal_is_writable b legal)
 
-pub ground_is_read : (bytes : List ℕ) (ground b : Board) → IsLegal b → bytes ≡ record_of b → read_ground bytes ≡ Some ground → ground ≡ record b { snakes = [] }
-ground_is_read bytes ground b legal is found = some_is ground (record b { snakes = [] }) (sym found ∙ ground_found bytes b legal is)
+pub ground_fails_for_memory : (bytes : List ℕ) (read : Result Board Decode) → IsLegalRecord bytes → Gives (λ board. board) read (read_ground bytes)
+    → IfErr read (λ error. error ≡ Memory)
+ground_fails_for_memory bytes read kept =
+    fails_for_memory read (read_ground bytes) (record kept.board { snakes = [] }) (ground_stands bytes kept.board kept.legal kept.is)
 
-pub ground_is_there : (error : Decode) (bytes : List ℕ) → IsLegalRecord bytes → error ≡ NotARecord → Fails error (read_ground bytes) → ⊥
-ground_is_there error bytes kept = none_lacks error (read_ground bytes) (record kept.board { snakes = [] }) (ground_found bytes kept.board kept.legal kept.is)
+pub ground_is_found : {E : Type 0} (bytes : List ℕ) (b : Board) (read : Result Board Decode) (result : Result Board E) → IsLegal b → bytes ≡ record_of b
+    → Gives (λ board. board) read (read_ground bytes) → IfOk result (λ board. read ≡ Ok board) → IfOk result (λ board. board ≡ record b { snakes = [] })
+ground_is_found bytes b read result legal is = finds_value read result (read_ground bytes) (record b { snakes = [] }) (ground_stands bytes b legal is)
 
 -- ---- some of the snakes
 
@@ -142,15 +161,17 @@ seats_again b from count fits texts =
       some_again (read_snake is_utf8) snake_record P (snake_again is_utf8) count left left_fits,
     ) refl
 
-seats_found : (bytes : List ℕ) (b : Board) (from count : ℕ) → IsLegal b → bytes ≡ record_of b
+seats_stand : (bytes : List ℕ) (b : Board) (from count : ℕ) → IsLegal b → bytes ≡ record_of b
     → read_seats is_utf8 from count bytes ≡ Some (take count (drop from b.snakes))
-seats_found bytes b from count legal is = ap (read_seats is_utf8 from count) is ∙ seats_again b from count (legal_is_writable b legal) (legal_texts b legal)
+seats_stand bytes b from count legal is = ap (read_seats is_utf8 from count) is ∙ seats_again b from count (legal_is_writable b legal) (legal_texts b legal)
 
-pub seats_are_read : (bytes : List ℕ) (snakes : List Snake) (b : Board) (from count : ℕ) → IsLegal b → bytes ≡ record_of b
-    → read_seats is_utf8 from count bytes ≡ Some snakes → snakes ≡ take count (drop from b.snakes)
-seats_are_read bytes snakes b from count legal is found = some_is snakes (take count (drop from b.snakes)) (sym found ∙ seats_found bytes b from count legal is)
+pub seats_fail_for_memory : (bytes : List ℕ) (from count : ℕ) (read : Result (List Snake) Decode) → IsLegalRecord bytes
+    → Gives (λ snakes. snakes) read (read_seats is_utf8 from count bytes) → IfErr read (λ error. error ≡ Memory)
+seats_fail_for_memory bytes from count read kept =
+    fails_for_memory read (read_seats is_utf8 from count bytes) (take count (drop from kept.board.snakes)) (seats_stand bytes kept.board from count kept.legal kept.is)
 
-pub seats_are_there : (error : Decode) (bytes : List ℕ) (from count : ℕ) → IsLegalRecord bytes → error ≡ NotARecord
-    → Fails error (read_seats is_utf8 from count bytes) → ⊥
-seats_are_there error bytes from count kept =
-    none_lacks error (read_seats is_utf8 from count bytes) (take count (drop from kept.board.snakes)) (seats_found bytes kept.board from count kept.legal kept.is)
+pub seats_are_found : {E : Type 0} (bytes : List ℕ) (from count : ℕ) (b : Board) (read : Result (List Snake) Decode) (result : Result (List Snake) E) → IsLegal b
+    → bytes ≡ record_of b → Gives (λ snakes. snakes) read (read_seats is_utf8 from count bytes) → IfOk result (λ snakes. read ≡ Ok snakes)
+    → IfOk result (λ snakes. snakes ≡ take count (drop from b.snakes))
+seats_are_found bytes from count b read result legal is =
+    finds_value read result (read_seats is_utf8 from count bytes) (take count (drop from b.snakes)) (seats_stand bytes b from count legal is)

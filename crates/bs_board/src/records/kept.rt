@@ -1,8 +1,9 @@
 //! Reading a record that is known to be a legal board's: nothing is judged again, and no more is read than is asked for.
 
-ghost use Rattle.std.specs.Prelude.{◌≡◌, [], take, drop, IfOk};
+ghost use Rattle.std.specs.Prelude.{◌≡◌, [], take, drop, Ok, IfOk, IfErr};
 ghost use Rattle.std.specs.Str.{is_utf8};
 ghost use Rattle.bs_board.specs.declared.boards.board.Board.{Board as AnyBoard};
+ghost use Rattle.bs_board.specs.declared.records.decode_error.Decode.TheVariants.{Memory};
 ghost use Rattle.bs_board.specs.boards.Legal.{IsLegal};
 ghost use Rattle.bs_board.specs.records.Decoder.{
   Gives,
@@ -25,36 +26,28 @@ use crate::records::decoding::{
 use std::alloc::{AllocError, Global};
 
 /// The board of the record.
-#[tactic(auto, using(crate::proofs::records::KeptRecord::board_is_read, crate::proofs::records::KeptRecord::board_is_of_record,))]
+#[tactic(auto, using(crate::proofs::records::KeptRecord::board_fails_for_memory))]
 pub fn kept_board(alloc: Global, bytes: &[u8]) -> Result<Board, AllocError>
     requires { IsLegalRecord bytes.now }
     ensures legal { IfOk result IsLegal }
     ensures record { IfOk result (λ board. bytes.now ≡ record_of board) }
     ensures only { (b : AnyBoard) → IsLegal b → bytes.now ≡ record_of b → IfOk result (λ board. board ≡ b) }
 {
-    match read_board(alloc, bytes) {
-        Ok(board) => Ok(board),
-        Err(Decode::Memory) => Err(AllocError),
-        Err(Decode::NotARecord) => unreachable!(),
-    }
+    found(read_board(alloc, bytes))
 }
 
 /// The board of the record with nobody on it: all that it says but for its snakes.
-#[tactic(auto, using(crate::proofs::records::KeptRecord::ground_is_read))]
+#[tactic(auto, using(crate::proofs::records::KeptRecord::ground_fails_for_memory))]
 pub fn kept_ground(alloc: Global, bytes: &[u8]) -> Result<Board, AllocError>
     requires { IsLegalRecord bytes.now }
     ensures { (b : AnyBoard) → IsLegal b → bytes.now ≡ record_of b → IfOk result (λ board. board ≡ record b { snakes = [] }) }
 {
-    match read_ground(alloc, bytes) {
-        Ok(ground) => Ok(ground),
-        Err(Decode::Memory) => Err(AllocError),
-        Err(Decode::NotARecord) => unreachable!(),
-    }
+    found(read_ground(alloc, bytes))
 }
 
 /// Its snakes at `count` seats from that one on; fewer where the board has no more. The others are skipped by their
 /// lengths.
-#[tactic(auto, using(crate::proofs::records::KeptRecord::seats_are_read))]
+#[tactic(auto, using(crate::proofs::records::KeptRecord::seats_fail_for_memory))]
 pub fn kept_snakes(
     alloc: Global,
     bytes: &[u8],
@@ -64,8 +57,16 @@ pub fn kept_snakes(
     requires { IsLegalRecord bytes.now }
     ensures { (b : AnyBoard) → IsLegal b → bytes.now ≡ record_of b → IfOk result (λ snakes. snakes ≡ take count (drop from b.snakes)) }
 {
-    match read_seats(alloc, bytes, from, count) {
-        Ok(snakes) => Ok(snakes),
+    found(read_seats(alloc, bytes, from, count))
+}
+
+/// What was read where it is known to stand: the allocator alone can have failed.
+fn found<T>(read: Result<T, Decode>) -> Result<T, AllocError>
+    requires { IfErr read (λ error. error ≡ Memory) }
+    ensures { IfOk result (λ x. read ≡ Ok x) }
+{
+    match read {
+        Ok(x) => Ok(x),
         Err(Decode::Memory) => Err(AllocError),
         Err(Decode::NotARecord) => unreachable!(),
     }

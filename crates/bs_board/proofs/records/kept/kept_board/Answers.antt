@@ -1,8 +1,11 @@
-use Rattle.bs_board.proofs.records.KeptRecord.{board_is_there, board_is_legal}
+use Rattle.bs_board.proofs.records.KeptRecord.{board_is_found, board_is_legal, board_is_of_record}
 use Rattle.bs_board.proofs.records.kept.kept_board.Goals as goal
 
-pub unreachable-requires : goal.unreachable-requires
-unreachable-requires c = board_is_there c.in-Err-NotARecord.field-0 c.args.bytes.now c.requires c.in-Err-NotARecord.field-0-is c.in-Err-NotARecord.ensures
+pub returns-clause-legal : goal.returns-clause-legal
+returns-clause-legal c = board_is_legal c.args.bytes.now c.read_board.result c.found.result c.requires c.read_board.ensures c.found.ensures
 
-pub returns-in-Ok-clause-legal : goal.returns-in-Ok-clause-legal
-returns-in-Ok-clause-legal c = board_is_legal c.args.bytes.now c.in-Ok.board c.requires c.in-Ok.ensures
+pub returns-clause-record : goal.returns-clause-record
+returns-clause-record c = board_is_of_record c.args.bytes.now c.read_board.result c.found.result c.requires c.read_board.ensures c.found.ensures
+
+pub returns-clause-only : goal.returns-clause-only
+returns-clause-only c b legal is = board_is_found c.args.bytes.now b c.read_board.result c.found.result legal is c.read_board.ensures c.found.ensures

@@ -1,5 +1,5 @@
-use Rattle.bs_board.proofs.records.KeptRecord.{ground_is_there}
+use Rattle.bs_board.proofs.records.KeptRecord.{ground_is_found}
 use Rattle.bs_board.proofs.records.kept.kept_ground.Goals as goal
 
-pub unreachable-requires : goal.unreachable-requires
-unreachable-requires c = ground_is_there c.in-Err-NotARecord.field-0 c.args.bytes.now c.requires c.in-Err-NotARecord.field-0-is c.in-Err-NotARecord.ensures
+pub returns : goal.returns
+returns c b legal is = ground_is_found c.args.bytes.now b c.read_ground.result c.found.result legal is c.read_ground.ensures c.found.ensures

@@ -1,5 +1,5 @@
-use Rattle.bs_board.proofs.records.KeptRecord.{seats_are_there}
+use Rattle.bs_board.proofs.records.KeptRecord.{seats_are_found}
 use Rattle.bs_board.proofs.records.kept.kept_snakes.Goals as goal
 
-pub unreachable-requires : goal.unreachable-requires
-unreachable-requires c = seats_are_there c.in-Err-NotARecord.field-0 c.args.bytes.now c.args.from c.args.count c.requires c.in-Err-NotARecord.field-0-is c.in-Err-NotARecord.ensures
+pub returns : goal.returns
+returns c b legal is = seats_are_found c.args.bytes.now c.args.from c.args.count b c.read_seats.result c.found.result legal is c.read_seats.ensures c.found.ensures
