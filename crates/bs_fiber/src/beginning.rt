@@ -44,7 +44,11 @@ pub(crate) fn begin(alloc: Global, input: &Input) -> Result<Out, AllocError>
     requires { IsFitGame input.now }
     ensures { IfOk result (λ out. (view : AnyView) → IsSeen view input.now → out ≡ begun view input.now.command) }
 {
-    match check_unseen(input.command.get(), input.last.is_some(), input.asked.is_some()) {
+    match check_unseen(
+        input.command.get(),
+        input.last.is_some(),
+        input.asked.is_some(),
+    ) {
         Some(reason) => Ok(Out::Answered(refuse(reason))),
         None => begin_seen(alloc, input),
     }

@@ -39,7 +39,12 @@ fn moved_board(alloc: Global, last: &Record, parts: &[Snakes]) -> Result<Board, 
     Ok(board)
 }
 
-fn join_move(alloc: Global, input: &Input, orders: &Move, last: &Record) -> Result<Answer, AllocError>
+fn join_move(
+    alloc: Global,
+    input: &Input,
+    orders: &Move,
+    last: &Record,
+) -> Result<Answer, AllocError>
     requires fit { IsFitInput input.now }
     requires kind { input.now.job.kind ≡ kind.Join }
     requires command { input.now.command ≡ command.Move orders.now }

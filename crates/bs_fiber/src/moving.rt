@@ -25,7 +25,10 @@ fn seats_of(alloc: Global, last: &Option<Record>, part: usize) -> Result<Snakes,
 {
     match last {
         None => Ok(Snakes::from_vec(Vec::new(alloc))),
-        Some(record) => kept_snakes(alloc, record.as_slice(), part.saturating_mul(SEATS), SEATS),
+        Some(record) => {
+            let from = part.saturating_mul(SEATS);
+            kept_snakes(alloc, record.as_slice(), from, SEATS)
+        }
     }
 }
 

@@ -1,5 +1,5 @@
 -- Where the turn and the number of seats stand in a record.
-use Rattle.std.proofs.Common.{◌≡◌, ℕ, ◌+◌, ◌*◌, ◌/◌, ◌%◌, ◌<◌, ◌≤◌, List, ◌∷◌, ◌++◌, length, refl, ap, ◌∙◌, arith, length-append}
+use Rattle.std.proofs.Common.{◌≡◌, ℕ, ◌+◌, ◌*◌, ◌≤◌, List, ◌++◌, length, refl, arith, length-append}
 use Rattle.std.specs.Prelude.{slice_index, flat_map}
 use Rattle.std.proofs.Math.Nat.{div-add-mod}
 use Rattle.bs_board.specs.declared.boards.board.Board.{Board}

@@ -1,4 +1,4 @@
-use Rattle.std.proofs.Common.{◌≡◌, ap, ◌∙◌}
+use Rattle.std.proofs.Common.{ap, ◌∙◌}
 use Rattle.bs_fiber.specs.declared.out.Out.TheVariants.{Answered}
 use Rattle.bs_fiber.proofs.Unseen.{refused_unseen}
 use Rattle.bs_fiber.proofs.beginning.begin.Goals as goal

@@ -1,4 +1,4 @@
-use Rattle.std.proofs.Common.{◌≡◌, List, ap, sym, ◌∙◌}
+use Rattle.std.proofs.Common.{List, ap, sym, ◌∙◌}
 use Rattle.std.specs.Prelude.{flat_map}
 use Rattle.std.proofs.lemmas.Result.{IfOk-weaker}
 use Rattle.bs_board.specs.declared.boards.snake.Snake.{Snake}
@@ -16,9 +16,9 @@ pub returns : goal.returns
 returns c =
     IfOk-weaker c.joined_within.result _ _
     (λ answer given view seen.
-        given view
-        (moved_from_seen c.args.input.now c.args.orders.now c.args.last.now c.requires.fit c.requires.kind c.requires.command c.requires.last c.in_ok-moved.moved
-        (λ b legal is. c.in_ok-moved.ensures b legal is ∙ ap (λ (parts : List (List Snake)). record b { snakes = flat_map (λ part. part) parts }) c.as_slice.ensures)
-        view seen)
-        ∙ ap (answer_of view) (sym c.requires.command))
+    given view
+    (moved_from_seen c.args.input.now c.args.orders.now c.args.last.now c.requires.fit c.requires.kind c.requires.command c.requires.last c.in_ok-moved.moved
+    (λ b legal is. c.in_ok-moved.ensures b legal is ∙ ap (λ (parts : List (List Snake)). record b { snakes = flat_map (λ part. part) parts }) c.as_slice.ensures)
+    view seen)
+    ∙ ap (answer_of view) (sym c.requires.command))
     c.joined_within.ensures.value
