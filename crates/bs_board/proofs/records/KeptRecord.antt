@@ -1,5 +1,5 @@
 -- What is read of a record that is known to be a legal board's.
-use Rattle.std.proofs.Common.{◌≡◌, ℕ, zero, suc, ◌+◌, ◌-◌, ◌*◌, ◌<◌, ◌≤◌, Bool, true, false, List, [], ◌∷◌, ◌++◌, length, take, drop, min, ltb, Option, Some, None, Result, Ok, Err, refl, sym, ap, subst, ◌∙◌, append_assoc, arith, length-append}
+use Rattle.std.proofs.Common.{◌≡◌, ℕ, zero, suc, ◌+◌, ◌-◌, ◌*◌, ◌<◌, ◌≤◌, true, false, List, [], ◌∷◌, ◌++◌, length, take, drop, min, ltb, Option, Some, None, Result, Ok, Err, refl, sym, ap, subst, ◌∙◌, append_assoc, arith, length-append}
 use Rattle.std.specs.Prelude.{IfOk, IfErr}
 use Rattle.std.specs.List.{flat_map, list_all, AllByRecursion}
 use Rattle.std.specs.Str.{is_utf8}
@@ -13,12 +13,12 @@ use Rattle.bs_board.specs.declared.boards.snake.Snake.{Snake}
 use Rattle.bs_board.specs.declared.records.decode_error.Decode.{Decode}
 use Rattle.bs_board.specs.declared.records.decode_error.Decode.TheVariants.{NotARecord, Memory}
 use Rattle.bs_board.specs.boards.Legal.{IsLegal}
-use Rattle.bs_board.specs.records.Decoder.{Fails, Gives, read_cell, read_many, read_piece, read_snake, read_head, read_board, read_ground, skip_cells, skip_state, skip_snake, skip_snakes, read_seats}
+use Rattle.bs_board.specs.records.Decoder.{Fails, Gives, read_cell, read_snake, read_board, read_ground, skip_cells, skip_state, skip_snake, skip_snakes, read_seats}
 use Rattle.bs_board.specs.records.Kept.{IsLegalRecord}
 use Rattle.bs_board.specs.records.Record.{cell_bytes, state_bytes, snake_record, head_bytes, record_of}
 use Rattle.bs_board.specs.records.Writing.{IsByteCell, IsWritable, IsWritableBoard}
 use Rattle.bs_board.proofs.records.BoardRecord.{head_again, legal_texts, both_by_recursion, record_is_read}
-use Rattle.bs_board.proofs.records.Fields.{some_is, number_again, cell_again}
+use Rattle.bs_board.proofs.records.Fields.{number_again, cell_again}
 use Rattle.bs_board.proofs.records.Lengths.{length_of_pairs}
 use Rattle.bs_board.proofs.records.Repeats.{many_again, some_again}
 use Rattle.bs_board.proofs.records.SnakeRecord.{piece_again, snake_again}
