@@ -45,8 +45,8 @@ pub fn kept_ground(alloc: Global, bytes: &[u8]) -> Result<Board, AllocError>
     found(read_ground(alloc, bytes))
 }
 
-/// Its snakes at `count` seats from that one on; fewer where the board has no more. The others are skipped by their
-/// lengths.
+/// The snakes of the record at `count` seats, from the seat `from` on; fewer where the board has no more. The others are
+/// skipped by their lengths.
 #[tactic(auto, using(crate::proofs::records::KeptRecord::seats_fail_for_memory))]
 pub fn kept_snakes(
     alloc: Global,
