@@ -1,22 +1,20 @@
 -- The move that a Join answers.
-use Rattle.std.proofs.Common.{◌≡◌, ℕ, true, List, [], Option, Some, None, refl, sym, ap, ◌∙◌}
-use Rattle.std.specs.Prelude.{flat_map, is_none, is_some, option_map}
+use Rattle.std.proofs.Common.{◌≡◌, ℕ, true, List, Option, Some, None, refl, sym, ap, ◌∙◌}
+use Rattle.std.specs.Prelude.{flat_map, is_none, is_some}
 use Rattle.std.proofs.lemmas.Bool.{and_parts}
 use Rattle.bs_board.specs.declared.boards.board.Board.{Board}
 use Rattle.bs_board.specs.declared.commands.command.Command.{Command}
 use Rattle.bs_board.specs.declared.commands.command.Command.TheVariants as command
-use Rattle.bs_board.specs.declared.boards.snake.Snake.{Snake}
 use Rattle.bs_board.specs.boards.Legal.{IsLegal}
 use Rattle.bs_board.specs.commands.Orders.{Orders}
 use Rattle.bs_board.specs.records.Record.{record_of}
-use Rattle.bs_rules.specs.Motion.{moved_board}
 use Rattle.bs_game.specs.declared.view.View.{View}
 use Rattle.bs_game.specs.Joining.{IsMovedFrom}
 use Rattle.bs_game.specs.Reasons.{first_reason, is_move}
 use Rattle.bs_game.proofs.Acceptance.{no_game_no_move}
 use Rattle.bs_fiber.specs.declared.input.Input.{Input}
 use Rattle.bs_fiber.specs.declared.job.JobKind.TheVariants.{Join}
-use Rattle.bs_fiber.specs.Fit.{IsFitInput, IsFitJoin, AreMovedParts}
+use Rattle.bs_fiber.specs.Fit.{IsFitInput, IsFitJoin}
 use Rattle.bs_fiber.specs.Seeing.{IsBoardOf, IsSeen}
 use Rattle.bs_fiber.specs.Work.{goes}
 use Rattle.bs_fiber.proofs.Gathered.{joined_board, nothing_speaks}

@@ -1,12 +1,9 @@
 -- The seats that a part moves.
-use Rattle.std.proofs.Common.{◌≡◌, ℕ, ◌+◌, ◌*◌, ◌≤◌, List, [], length, take, drop, All, Option, Some, None, refl, sym, ap, ◌∙◌, inl, inr, arith}
-use Rattle.std.proofs.lemmas.List.{drop_all}
+use Rattle.std.proofs.Common.{◌≡◌, ℕ, List, take, drop, All}
 use Rattle.std.proofs.lemmas.List.Elements.{All-take, All-drop}
 use Rattle.bs_board.specs.declared.boards.board.Board.{Board}
 use Rattle.bs_board.specs.declared.boards.snake.Snake.{Snake}
 use Rattle.bs_board.specs.boards.Legal.{IsLegal}
-use Rattle.bs_board.specs.records.Kept.{IsLegalRecord}
-use Rattle.bs_board.specs.records.Record.{record_of}
 use Rattle.bs_rules.specs.Motion.{IsMovable}
 use Rattle.bs_rules.proofs.Movable.{legal_is_movable}
 

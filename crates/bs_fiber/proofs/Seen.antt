@@ -17,7 +17,7 @@ use Rattle.bs_fiber.specs.declared.out.Out.{Out}
 use Rattle.bs_fiber.specs.Expected.{IsOf}
 use Rattle.bs_fiber.specs.Fit.{IsFitGame, IsFitInput, IsFitJob, AreMovedParts}
 use Rattle.bs_fiber.specs.Seeing.{IsBoardOf, IsSeen}
-use Rattle.bs_fiber.specs.Work.{begun, moved_part}
+use Rattle.bs_fiber.specs.Work.{begun}
 
 -- bytes are the record of one board at most
 pub same_board : (bytes : Option (List ℕ)) (a b : Option Board) → IsBoardOf bytes a → IsBoardOf bytes b → a ≡ b

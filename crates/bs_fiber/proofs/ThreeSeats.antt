@@ -1,7 +1,6 @@
 -- The jobs of three snakes' move, as the tests make them.
 use Rattle.std.proofs.Common.{◌≡◌, ℕ, ◌<◌, zero, suc, true, List, [], ◌∷◌, length, Some, None, slice_get, refl, ap, arith}
 use Rattle.bs_board.specs.declared.boards.board.Board.{Board}
-use Rattle.bs_board.specs.declared.commands.command.Command.{Command}
 use Rattle.bs_board.specs.declared.commands.command.Command.TheVariants as command
 use Rattle.bs_board.specs.declared.boards.snake.Snake.{Snake}
 use Rattle.bs_board.specs.boards.Legal.{IsLegal}
@@ -9,7 +8,7 @@ use Rattle.bs_board.specs.commands.Orders.{Orders}
 use Rattle.bs_board.specs.records.Record.{record_of}
 use Rattle.bs_game.specs.declared.view.View.{View}
 use Rattle.bs_fiber.specs.declared.input.Input.{Input}
-use Rattle.bs_fiber.specs.declared.job.JobKind.TheVariants.{Begin, Part, Join}
+use Rattle.bs_fiber.specs.declared.job.JobKind.TheVariants.{Part, Join}
 use Rattle.bs_fiber.specs.declared.job.JobName.{JobName}
 use Rattle.bs_fiber.specs.declared.out.Out.TheVariants.{Moved}
 use Rattle.bs_fiber.specs.Fit.{AreMovedParts, IsFitGame, IsFitInput}

@@ -11,10 +11,9 @@ use Rattle.bs_game.specs.Reasons.{first_reason, is_move}
 use Rattle.bs_game.specs.View.{answer_of, answer_with}
 use Rattle.bs_game.proofs.Acceptance.{early_reason}
 use Rattle.bs_fiber.specs.declared.input.Input.{Input}
-use Rattle.bs_fiber.specs.declared.out.Out.{Out}
 use Rattle.bs_fiber.specs.declared.out.Out.TheVariants.{Goes, Answered}
 use Rattle.bs_fiber.specs.Seeing.{IsBoardOf, IsSeen}
-use Rattle.bs_fiber.specs.Work.{begun, goes}
+use Rattle.bs_fiber.specs.Work.{begun}
 
 -- a board is seen exactly where there is a record
 seen_where_kept : (bytes : Option (List ℕ)) (board : Option Board) → IsBoardOf bytes board → is_some board ≡ is_some bytes

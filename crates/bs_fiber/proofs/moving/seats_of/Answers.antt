@@ -1,4 +1,4 @@
-use Rattle.std.proofs.Common.{◌≡◌, ◌∙◌}
+use Rattle.std.proofs.Common.{◌∙◌}
 use Rattle.std.proofs.lemmas.Result.{IfOk-weaker}
 use Rattle.bs_fiber.proofs.Seats.{some_movable}
 use Rattle.bs_fiber.proofs.moving.seats_of.Goals as goal
