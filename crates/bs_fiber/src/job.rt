@@ -15,8 +15,8 @@ pub enum JobKind {
 pub struct JobName {
     /// What it does.
     pub kind: JobKind,
-    /// The game's row in the plan, from 0.
-    pub game: usize,
+    /// The game's row in the plan, from 0. It has 32 bits, as a part's number, since each job is kept in a core's journal twice.
+    pub game: u32,
     /// Part `p` moves the seats `2p` and `2p + 1`. 0 in a job that is no part.
-    pub part: usize,
+    pub part: u32,
 }

@@ -46,6 +46,6 @@ pub(crate) fn move_part(alloc: Global, input: &Input) -> Result<Snakes, AllocErr
     requires { IsFitGame input.now }
     ensures { IfOk result (λ moved. (view : AnyView) → IsSeen view input.now → moved ≡ moved_part input.now.job.part view input.now.command) }
 {
-    let seats = seats_of(alloc, &input.last, input.job.part)?;
+    let seats = seats_of(alloc, &input.last, input.job.part as usize)?;
     move_snakes(alloc, seats.as_slice(), moves_in(input.command.get()))
 }

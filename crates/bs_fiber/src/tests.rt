@@ -103,7 +103,7 @@ fn input(
     })
 }
 
-fn job(kind: JobKind, part: usize) -> JobName
+fn job(kind: JobKind, part: u32) -> JobName
     ensures { result ≡ record { kind = kind; game = 1; part = part } }
 {
     JobName {

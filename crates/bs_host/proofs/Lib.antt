@@ -6,5 +6,6 @@ pub mod CutPlan
 pub mod CutRows
 pub mod FileTexts
 pub mod HostedCore
+pub mod RowNames
 pub mod SharedLines
 pub mod SortedLines

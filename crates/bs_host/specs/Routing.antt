@@ -1,9 +1,9 @@
 -- Where each line of a command file goes: to a game of the plan, to the strays, or nowhere.
-use Rattle.std.specs.Prelude.{ℕ, ◌<◌, List, Option, Some, None, map, nat_eq, option_map, if◌then◌else◌}
+use Rattle.std.specs.Prelude.{◌≡◌, ℕ, ◌<◌, true, List, [], length, Option, Some, None, map, nat_eq, option_map, slice_index_or, if◌then◌else◌}
 use Rattle.std.specs.List.{enumerate_from, filter_map, position}
 use Rattle.bs_board.specs.declared.commands.command.Command.{Command}
 use Rattle.bs_board.specs.declared.commands.command.Command.TheVariants as command
-use Rattle.bs_board.specs.plans.Plan.{GameRow}
+use Rattle.bs_board.specs.plans.Plan.{GameRow, row_of}
 use Rattle.bs_board.specs.Texts.{is_same_text}
 use Rattle.bs_json.specs.declared.line.Line.{Line}
 use Rattle.bs_json.specs.declared.line.Line.TheVariants as line
@@ -17,6 +17,11 @@ use Rattle.bs_host.specs.File.{pieces_of, later_pieces, rows_of}
 -- the row of the game of that name, if the plan has one
 abbrev pub row_named : List GameRow → List ℕ → Option ℕ
 row_named rows game = position (λ row. is_same_text game row.game) rows
+
+-- the game of that row has that name
+pub record HasName (rows : List GameRow) (row : ℕ) (game : List ℕ) : Type 0 where
+  pub within : row < length rows
+  pub same : is_same_text game (slice_index_or rows row (row_of [] 0)).game ≡ true
 
 -- a line that names no game of the plan is a stray
 abbrev pub route_to : Option ℕ → Command → Route

@@ -1,5 +1,5 @@
 //! One game's own lines as a command file, and the law that in it the game is answered as it is among the others.
-ghost use Rattle.std.specs.Prelude.{◌≡◌, ◌<◌, ◌∷◌, ◌++◌, None, Some, length, is_some, IfOk, IfErr, IfSome, OnOk, option_copied, option_map};
+ghost use Rattle.std.specs.Prelude.{◌≡◌, ◌<◌, ◌∷◌, ◌++◌, None, Some, length, is_some, IfOk, IfErr, OnOk, option_copied, option_map};
 ghost use Rattle.serde_json.specs.View.{view};
 ghost use Rattle.bs_host.specs.declared.pieces.TheConstants.{LINE_FEED};
 ghost use Rattle.bs_host.specs.Cut.{lone_plan_data, lone_plan_of, is_own_line, own_lines_in, game_at, behind_feeds, cut_of, cut_refusal_of, IsCutRefusal, SectionLaw};
@@ -9,8 +9,8 @@ ghost use Rattle.bs_host.specs.Routing.{command_to, row_named};
 use crate::cut_fault::Cut;
 use crate::limits::MOST_FILE_BYTES;
 use crate::pieces::cut_piece;
-use crate::routing::{Route, route_of};
-use bs_board::{Id, Row};
+use crate::routing::{FIRST_ROW, Route, route_of, row_named};
+use bs_board::{Id, Row, Rows};
 use bs_json::{read_line, read_plan};
 use serde_json::{Value, json};
 use std::alloc::{AllocError, Global};
@@ -40,10 +40,10 @@ fn goes_to(row: usize, route: &Route) -> bool
     }
 }
 
-fn is_own_line(alloc: Global, rows: &[Row], row: usize, line: &[u8]) -> Result<bool, AllocError>
+fn is_own_line(alloc: Global, rows: &Rows, row: usize, line: &[u8]) -> Result<bool, AllocError>
     ensures { IfOk result (λ own. own ≡ is_own_line rows.now row line.now) }
 {
-    let route = route_of(rows, read_line(alloc, line)?);
+    let route = route_of(rows, row, read_line(alloc, line)?);
     Ok(goes_to(row, &route))
 }
 
@@ -58,7 +58,7 @@ fn push_line(line: &[u8], text: &mut Vec<u8>) -> Result<(), AllocError>
 /// Each line of the game of that row goes behind a line feed.
 fn push_own_lines(
     alloc: Global,
-    rows: &[Row],
+    rows: &Rows,
     row: usize,
     rest: Option<&[u8]>,
     text: &mut Vec<u8>,
@@ -79,7 +79,7 @@ fn push_own_lines(
 
 fn cut_to(
     alloc: Global,
-    rows: &[Row],
+    rows: &Rows,
     row: usize,
     rest: Option<&[u8]>,
 ) -> Result<Vec<u8>, AllocError>
@@ -87,16 +87,9 @@ fn cut_to(
     ensures { IfOk result (λ text. text.items
         ≡ lone_plan_of (game_at rows.now row) ++ behind_feeds (own_lines_in rows.now row (pieces_after (option_copied rest.entry)))) }
 {
-    let mut text = lone_plan_text(alloc, &rows[row])?;
+    let mut text = lone_plan_text(alloc, &rows.as_slice()[row])?;
     push_own_lines(alloc, rows, row, rest, &mut text)?;
     Ok(text)
-}
-
-fn row_named(rows: &[Row], game: &Id) -> Option<usize>
-    ensures value { result ≡ row_named rows.now game.now }
-    ensures within { IfSome result (λ row. row < length rows.now) }
-{
-    rows.iter().position(|row| game.is_same(&row.game))
 }
 
 /// The file of the game of that name alone: the plan with its row alone, and then its lines as they stand, with a line
@@ -114,8 +107,8 @@ pub fn cut(alloc: Global, input: &[u8], game: &str) -> Result<Vec<u8>, Cut>
     let (first, rest) = cut_piece(input);
     let plan = read_plan(alloc, first)?;
     let name = Id::from_str(alloc, game)?;
-    match row_named(plan.rows.as_slice(), &name) {
-        Some(row) => Ok(cut_to(alloc, plan.rows.as_slice(), row, rest)?),
+    match row_named(&plan.rows, FIRST_ROW, &name) {
+        Some(row) => Ok(cut_to(alloc, &plan.rows, row, rest)?),
         None => Err(Cut::NoSuchGame),
     }
 }

@@ -3,6 +3,7 @@ ghost use Rattle.std.specs.Prelude.{◌≡◌};
 
 use crate::routing::Route;
 use bs_board::Command;
+use bs_fiber::SharedCommand;
 use bs_json::Stray;
 use std::alloc::{AllocError, Global};
 use std::marker::Model;
@@ -10,7 +11,7 @@ use std::marker::Model;
 /// What games of a plan are asked, each command with the row of its game, in the order of the file.
 #[derive(Debug, Drop)]
 pub(crate) struct Commands {
-    commands: Vec<(usize, Command)>,
+    commands: Vec<(usize, SharedCommand)>,
 }
 
 impl Model for Commands {
@@ -22,8 +23,21 @@ impl Model for Commands {
     ghost view = { λ c. c.commands.items };
 }
 
+/// Whether it brings no setup and no moves, and so is often asked again.
+fn is_bare(command: &Command) -> bool {
+    match command {
+        Command::New(_) => false,
+        Command::Move(_) => false,
+        Command::Show => true,
+        Command::Turn(_) => true,
+        Command::Free => true,
+        Command::End => true,
+        Command::Bad => true,
+    }
+}
+
 impl Commands {
-    ghost use Rattle.std.specs.Prelude.{[], ◌∷◌, ◌++◌, OnOk};
+    ghost use Rattle.std.specs.Prelude.{[], ◌∷◌, ◌++◌, IfOk, OnOk};
 
     fn new(alloc: Global) -> Commands
         ensures { result ≡ [] }
@@ -33,16 +47,29 @@ impl Commands {
         }
     }
 
-    pub(crate) fn as_slice(&self) -> &[(usize, Command)]
+    pub(crate) fn as_slice(&self) -> &[(usize, SharedCommand)]
         ensures { result.now ≡ self.now }
     {
         self.commands.as_slice()
     }
 
-    fn add(&mut self, row: usize, command: Command) -> Result<(), AllocError>
+    /// The command to be held by others too: in the memory of the one before, where that asks just the same and brings
+    /// nothing with it.
+    fn to_shared(&self, alloc: Global, command: Command) -> Result<SharedCommand, AllocError>
+        ensures { IfOk result (λ shared. shared ≡ command) }
+    {
+        match self.commands.last() {
+            Some((_, before)) if is_bare(&command) && before.get().is_same(&command) =>
+                before.share(),
+            _ => SharedCommand::new(alloc, command),
+        }
+    }
+
+    fn add(&mut self, alloc: Global, row: usize, command: Command) -> Result<(), AllocError>
         ensures { OnOk result (self.new ≡ self.old ++ (row, command) ∷ []) }
     {
-        self.commands.push((row, command))?;
+        let shared = self.to_shared(alloc, command)?;
+        self.commands.push((row, shared))?;
         Ok(())
     }
 
@@ -124,11 +151,16 @@ impl Requests {
 
     /// Puts what the line of that number asks for where it goes.
     #[tactic(auto, using(crate::proofs::SortedLines::hands_on_command, crate::proofs::SortedLines::hands_on_stray, crate::proofs::SortedLines::hands_on_nothing))]
-    pub(crate) fn hand_on(&mut self, number: u64, route: Route) -> Result<(), AllocError>
+    pub(crate) fn hand_on(
+        &mut self,
+        alloc: Global,
+        number: u64,
+        route: Route,
+    ) -> Result<(), AllocError>
         ensures { OnOk result (HandsOn number route self.old self.new) }
     {
         match route {
-            Route::Game(row, command) => self.commands.add(row, command)?,
+            Route::Game(row, command) => self.commands.add(alloc, row, command)?,
             Route::Stray(kind) => self.strays.add(number, kind)?,
             Route::Nowhere => {}
         }

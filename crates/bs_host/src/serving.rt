@@ -65,7 +65,7 @@ fn host_plan<R: Threads + Wait + Sync, G: Gate>(
     ensures served { OnOk result (refusal_of_plan blocks (Ok plan) ≡ None) }
     ensures fault { IfErr result (IsRefusal (refusal_of_plan blocks (Ok plan))) }
 {
-    let requests = sort_lines(rt, alloc, plan.rows.as_slice(), rest, workers)?;
+    let requests = sort_lines(rt, alloc, &plan.rows, rest, workers)?;
     let core = open_core(alloc, plan, blocks, workers)?;
     let core = run(rt, alloc, core, requests.commands.as_slice(), workers, gate)?;
     Ok(Hosted {

@@ -8,30 +8,28 @@ ghost use Rattle.bs_host.specs.Routing.{routes_from};
 use crate::limits::MOST_FILE_BYTES;
 use crate::pieces::{count_pieces, cut_from, cut_piece};
 use crate::requests::Requests;
-use crate::routing::route_of;
-use bs_board::Row;
+use crate::routing::{FIRST_ROW, next_guess, route_of};
+use bs_board::Rows;
 use bs_json::read_line;
 use std::alloc::{AllocError, Global};
 use std::thread::{Threads, join};
 
 /// What the lines of a text ask for, of which the first has that number.
-fn sort_in_turn(
-    alloc: Global,
-    rows: &[Row],
-    first: u64,
-    text: &[u8],
-) -> Result<Requests, AllocError>
+fn sort_in_turn(alloc: Global, rows: &Rows, first: u64, text: &[u8]) -> Result<Requests, AllocError>
     requires short { first + length text.now < 2 ^ 63 }
     ensures value { IfOk result (λ r. r ≡ requests_of (routes_from rows.now first (pieces_of text.now))) }
     ensures within { IfOk result (λ r. AreWithinPlan (length rows.now) r.commands) }
 {
     let mut requests = Requests::new(alloc);
     let mut number = first;
+    let mut guess = FIRST_ROW;
     let mut left = Some(text);
     'lines: while let Some(text) = left {
         let (piece, more) = cut_piece(text);
         let line = read_line(alloc, piece)?;
-        requests.hand_on(number, route_of(rows, line))?;
+        let route = route_of(rows, guess, line);
+        guess = next_guess(&route, guess);
+        requests.hand_on(alloc, number, route)?;
         number += 1;
         left = more;
     }
@@ -50,7 +48,7 @@ fn share(bytes: usize, workers: usize, some: usize) -> usize
 fn sort_text<R: Threads + Sync>(
     rt: &R,
     alloc: Global,
-    rows: &[Row],
+    rows: &Rows,
     first: u64,
     text: &[u8],
     workers: usize,
@@ -91,7 +89,7 @@ fn sort_text<R: Threads + Sync>(
 pub(crate) fn sort_lines<R: Threads + Sync>(
     rt: &R,
     alloc: Global,
-    rows: &[Row],
+    rows: &Rows,
     rest: Option<&[u8]>,
     workers: usize,
 ) -> Result<Requests, AllocError>

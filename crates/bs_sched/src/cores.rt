@@ -94,9 +94,18 @@ impl<const CAP: usize> Core<CAP> {
         ensures ok { OnOk result (self.new ≡ core_after CAP self.old (event.Hand game command)) }
         ensures err { OnErr result (self.new ≡ self.old) }
     {
-        keeps_limits(&command);
-        let handed = SharedCommand::new(alloc, command)?;
-        let noted = handed.share()?;
+        self.hand_shared(game, &SharedCommand::new(alloc, command)?)
+    }
+
+    /// The same of a command that others hold too. It is not copied: the core and its journal become holders more.
+    pub fn hand_shared(&mut self, game: usize, command: &SharedCommand) -> Result<(), AllocError>
+        requires { game < length self.old.games.lanes }
+        ensures ok { OnOk result (self.new ≡ core_after CAP self.old (event.Hand game command.now)) }
+        ensures err { OnErr result (self.new ≡ self.old) }
+    {
+        keeps_limits(command.get());
+        let handed = command.share()?;
+        let noted = command.share()?;
         reserve_events(&mut self.journal, self.out, 1)?;
         self.games.hand(game, handed)?;
         note(&mut self.journal, Event::Hand(game, noted));

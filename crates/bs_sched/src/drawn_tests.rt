@@ -121,13 +121,13 @@ fn take_next(rt: &impl Abort, alloc: Global, hosts: &mut Hosts, worker: usize) -
         return Ok(());
     };
     let job = shared.ticket().job();
-    let core = hosts.lone.get_mut(job.game).ok_or("a game")?;
+    let core = hosts.lone.get_mut(job.game as usize).ok_or("a game")?;
     let lone = take(rt, alloc, core, worker)?.ok_or("no such job alone")?;
     assert_eq!(rt; lone.ticket().job().kind, job.kind);
     assert_eq!(rt; lone.ticket().job().part, job.part);
     hosts.out.push(Out {
         worker,
-        game: job.game,
+        game: job.game as usize,
         shared,
         lone,
     })?;

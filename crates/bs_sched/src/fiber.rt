@@ -119,14 +119,15 @@ fn is_ready_slot(slot: &Slot) -> bool
 }
 
 /// The first part that nobody has taken.
-fn first_ready(slots: &[Slot]) -> Option<usize>
+fn first_ready(slots: &[Slot]) -> Option<u32>
+    requires { length slots.now ≤ 4 }
     ensures { MatchOption result
         ((p : ℕ) → is_part_ready (slice_index_or (map state_of slots.now) p state.Done) ≡ false)
         (λ p. is_part_ready (slice_index_or (map state_of slots.now) p state.Done) ≡ true) }
 {
     for part in 0..slots.len() {
         if is_ready_slot(&slots[part]) {
-            return Some(part);
+            return Some(part as u32);
         }
     }
     None
@@ -336,18 +337,18 @@ impl Fiber {
     }
 
     /// Whether the worker has that job.
-    pub(crate) fn has_out(&self, worker: usize, kind: JobKind, part: usize) -> bool
+    pub(crate) fn has_out(&self, worker: usize, kind: JobKind, part: u32) -> bool
         ensures { result ≡ is_out worker self.now kind part }
     {
         match (kind, self.stage) {
             (JobKind::Begin, Stage::Begin(holder)) => part == 0 && holder == worker,
-            (JobKind::Part, Stage::Parts) => has_part(&self.slots, worker, part),
+            (JobKind::Part, Stage::Parts) => has_part(&self.slots, worker, part as usize),
             (JobKind::Join, Stage::Join(Some(holder))) => part == 0 && holder == worker,
             _ => false,
         }
     }
 
-    fn ready_part(&self) -> Option<(JobKind, usize)>
+    fn ready_part(&self) -> Option<(JobKind, u32)>
         requires { is_in_parts self.now.stage ≡ true }
         ensures { MatchOption result (HasNoneReady self.now) (λ job. is_ready self.now job.0 job.1 ≡ true) }
     {
@@ -358,7 +359,7 @@ impl Fiber {
     }
 
     /// A job that is there to be taken, the parts from the first on.
-    pub(crate) fn ready(&self) -> Option<(JobKind, usize)>
+    pub(crate) fn ready(&self) -> Option<(JobKind, u32)>
         ensures { MatchOption result (HasNoneReady self.now) (λ job. is_ready self.now job.0 job.1 ≡ true) }
     {
         match self.stage {

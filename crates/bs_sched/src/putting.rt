@@ -92,11 +92,12 @@ impl<const CAP: usize> Games<CAP> {
         requires worked { out ≡ out_seen job.kind job.part (lane_view (lane_of self.old.lanes job.game)) (lane_command (lane_of self.old.lanes job.game)) }
         ensures { self.new ≡ brought CAP self.old job }
     {
+        let game = job.game as usize;
         match out {
-            Out::Goes => self.fork(job.game, self.parts(job.game)),
-            Out::Answered(answer) => self.answer(job.game, answer),
-            Out::Moved(moved) => self.put_part(job.game, job.part, moved),
-            Out::Joined(answer) => self.answer(job.game, answer),
+            Out::Goes => self.fork(game, self.parts(game)),
+            Out::Answered(answer) => self.answer(game, answer),
+            Out::Moved(moved) => self.put_part(game, job.part as usize, moved),
+            Out::Joined(answer) => self.answer(game, answer),
         }
     }
 
@@ -113,7 +114,7 @@ impl<const CAP: usize> Games<CAP> {
         ensures { IsTrue result ↔ IsOwn self.now worker done.now }
     {
         let ticket = done.ticket();
-        let game = ticket.job().game;
+        let game = ticket.job().game as usize;
         game < self.fibers.len() && is_own(&self.fibers[game], &self.heaps[game], worker, ticket)
     }
 
@@ -123,7 +124,7 @@ impl<const CAP: usize> Games<CAP> {
         ensures { self.new ≡ brought CAP self.old done.job }
     {
         let job = done.ticket().job();
-        self.keeps(job.game);
+        self.keeps(job.game as usize);
         let (_ticket, out) = done.into_parts();
         self.bring(job, out);
     }

@@ -18,6 +18,7 @@ use crate::fiber::Fiber;
 use crate::games::Games;
 use crate::last_games::{last_game, note_game};
 use crate::records::expected;
+use bs_board::limits::MOST_ROWS;
 use bs_fiber::{Input, JobKind, JobName, Ticket};
 use bs_heap::TagHeap;
 use std::alloc::{AllocError, Global};
@@ -45,18 +46,24 @@ pub(crate) enum Found {
 
 /// A job of that game that is ready.
 fn ready_job(fiber: &Fiber, game: usize) -> Option<JobName>
+    requires { game < MOST_ROWS }
     ensures { MatchOption result
         (HasNoneReady fiber.now)
         (λ job. (job.game ≡ game) × (is_ready fiber.now job.kind job.part ≡ true)) }
 {
     match fiber.ready() {
         None => None,
-        Some((kind, part)) => Some(JobName { kind, game, part }),
+        Some((kind, part)) => Some(JobName {
+            kind,
+            game: game as u32,
+            part,
+        }),
     }
 }
 
 /// The first job that is ready.
 fn find_job(fibers: &[Fiber]) -> Option<JobName>
+    requires { length fibers.now ≤ MOST_ROWS }
     ensures { MatchOption result (AreNoneReady fibers.now) (IsReadyJob fibers.now) }
 {
     for game in 0..fibers.len() {
@@ -105,7 +112,7 @@ fn part_input<const CAP: usize>(
 {
     let seq = fiber.seq();
     let input = expected(fiber, heap, fiber.command(), seq, worker, job).to_input(alloc)?;
-    fiber.take_part(worker, job.part);
+    fiber.take_part(worker, job.part as usize);
     Ok(input)
 }
 
@@ -206,8 +213,8 @@ impl<const CAP: usize> Games<CAP> {
     {
         take_ticket(
             alloc,
-            &mut self.fibers[job.game],
-            &mut self.heaps[job.game],
+            &mut self.fibers[job.game as usize],
+            &mut self.heaps[job.game as usize],
             worker,
             job,
         )
@@ -253,7 +260,7 @@ impl<const CAP: usize> Core<CAP> {
         note(&mut self.journal, Event::Take(worker, job));
         self.out += 1;
         mark(&mut self.busy, worker, job.kind, true);
-        note_game(&mut self.last_games, worker, job.game);
+        note_game(&mut self.last_games, worker, job.game as usize);
         Ok(ticket)
     }
 

@@ -6,7 +6,7 @@ use bs_board::{
     Cells, Command, Direction, Id, Mode, Move, Moves, New, Plan, Point, Refusal, Reply, Row, Rows,
     Starts, TurnNumber, Word, Words,
 };
-use bs_fiber::{Done, JobKind, work};
+use bs_fiber::{Done, JobKind, SharedCommand, work};
 use std::alloc::{AllocError, Global};
 use std::process::Abort;
 use std::sync::Wait;
@@ -123,7 +123,7 @@ fn play<R: Abort + Wait>(
     Ok(())
 }
 
-fn assert_job(rt: &impl Abort, done: &Done, kind: JobKind, part: usize) {
+fn assert_job(rt: &impl Abort, done: &Done, kind: JobKind, part: u32) {
     let job = done.ticket().job();
     assert_eq!(rt; job.kind, kind);
     assert_eq!(rt; job.game, 0);
@@ -311,6 +311,24 @@ fn quota_of_two_records(rt: HostRuntime) -> Result<(), Fail> {
     assert_refused(&rt, &replies[5], Refusal::NoRecord);
     assert_shown(&rt, &replies[6], Word::Turn, 1, 64);
     assert!(rt; core.count(0) == 2);
+    Ok(())
+}
+
+// A command that two cores hold is answered in each of them.
+#[test]
+fn two_cores_hold_one_command(rt: HostRuntime) -> Result<(), Fail> {
+    let alloc = rt.alloc();
+    let shared = SharedCommand::new(alloc, new_solo(alloc, 3)?)?;
+    for name in ["a", "b"] {
+        let mut core = core_of(&rt, alloc, name, 4096)?;
+        assert!(rt; core.rows() == 1);
+        core.hand_shared(0, &shared)?;
+        play(&rt, alloc, &mut core, 0)?;
+        assert!(rt; core.rows() == 1);
+        let replies = core.replies(0);
+        assert!(rt; replies.len() == 1);
+        assert_shown(&rt, &replies[0], Word::New, 0, 32);
+    }
     Ok(())
 }
 

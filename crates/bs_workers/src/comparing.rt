@@ -5,21 +5,22 @@ ghost use Rattle.bs_workers.specs.Given.{IsAsGiven, IsRunFrom};
 
 use crate::plan_rows::has_rows;
 use bs_board::{Command, Row};
+use bs_fiber::SharedCommand;
 use bs_sched::{Core, Event};
 
 /// Whether what is to be handed in next is that command, for the game of that row.
-fn is_next(next: &(usize, Command), game: usize, command: &Command) -> bool
+fn is_next(next: &(usize, SharedCommand), game: usize, command: &Command) -> bool
     ensures { IsTrue result → next.now ≡ (game, command.now) }
 {
-    next.0 == game && next.1.is_same(command)
+    next.0 == game && next.1.get().is_same(command)
 }
 
 /// The commands behind the first, where the first is that one, for the game of that row.
 fn behind_hand<'c>(
-    commands: &'c [(usize, Command)],
+    commands: &'c [(usize, SharedCommand)],
     game: usize,
     command: &Command,
-) -> Option<&'c [(usize, Command)]>
+) -> Option<&'c [(usize, SharedCommand)]>
     ensures { IfSome result (λ rest. commands.now ≡ (game, command.now) ∷ rest.now) }
 {
     let (next, rest) = commands.split_first()?;
@@ -31,7 +32,10 @@ fn behind_hand<'c>(
 }
 
 /// The commands that are left after the event: one that hands in a command has to hand in the first.
-fn behind<'c>(commands: &'c [(usize, Command)], event: &Event) -> Option<&'c [(usize, Command)]>
+fn behind<'c>(
+    commands: &'c [(usize, SharedCommand)],
+    event: &Event,
+) -> Option<&'c [(usize, SharedCommand)]>
     ensures { IfSome result (λ rest. commands.now ≡ hands_of (event.now ∷ []) ++ rest.now) }
 {
     match event {
@@ -42,7 +46,7 @@ fn behind<'c>(commands: &'c [(usize, Command)], event: &Event) -> Option<&'c [(u
 }
 
 /// Whether these events hand in just these commands, in their order.
-fn are_handed(events: &[Event], commands: &[(usize, Command)]) -> bool
+fn are_handed(events: &[Event], commands: &[(usize, SharedCommand)]) -> bool
     ensures { IsTrue result → hands_of events.now ≡ commands.now }
 {
     let mut left = commands;
@@ -69,7 +73,7 @@ pub(crate) fn is_run_of<const CAP: usize>(
     core: &Core<CAP>,
     rows: &[Row],
     blocks: usize,
-    commands: &[(usize, Command)],
+    commands: &[(usize, SharedCommand)],
 ) -> bool
     ensures { IsTrue result → IsRunFrom rows.now blocks commands.now core.now }
 {

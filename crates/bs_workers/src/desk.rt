@@ -1,7 +1,6 @@
 //! The desk: a core, with what those that work at it have to know of one another.
 use crate::fault::Run;
-use bs_board::Command;
-use bs_fiber::{Done, Ticket};
+use bs_fiber::{Done, SharedCommand, Ticket};
 use bs_sched::{Core, Taken};
 use std::alloc::{AllocError, Global};
 
@@ -48,18 +47,18 @@ impl<const CAP: usize> Desk<CAP> {
         self.core.fail();
     }
 
-    fn hand(&mut self, alloc: Global, game: usize, command: Command) {
+    fn hand(&mut self, game: usize, command: &SharedCommand) {
         if game >= self.core.rows() {
             self.stop(Run::Broken);
-        } else if self.core.hand(alloc, game, command).is_err() {
+        } else if self.core.hand_shared(game, command).is_err() {
             self.stop(Run::Memory);
         }
     }
 
     /// Commands, each for the game of its row, in their order.
-    pub(crate) fn hand_all(&mut self, alloc: Global, commands: Vec<(usize, Command)>) {
+    pub(crate) fn hand_all(&mut self, commands: &[(usize, SharedCommand)]) {
         for (game, command) in commands {
-            self.hand(alloc, game, command);
+            self.hand(*game, command);
         }
     }
 

@@ -9,7 +9,7 @@ use crate::fault::Run;
 use crate::gate::Gate;
 use crate::plan_rows::copy_rows;
 use crate::working::worked;
-use bs_board::Command;
+use bs_fiber::SharedCommand;
 use bs_sched::Core;
 use std::alloc::Global;
 use std::sync::Wait;
@@ -21,7 +21,7 @@ pub fn run<const CAP: usize, R: Threads + Wait + Sync, G: Gate>(
     rt: &R,
     alloc: Global,
     core: Core<CAP>,
-    commands: &[(usize, Command)],
+    commands: &[(usize, SharedCommand)],
     workers: usize,
     gate: &G,
 ) -> Result<Core<CAP>, Run>

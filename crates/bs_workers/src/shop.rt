@@ -1,8 +1,7 @@
 //! The shop: a desk behind a lock, at which threads work and wait.
 use crate::desk::{Assignment, Desk};
 use crate::fault::Run;
-use bs_board::Command;
-use bs_fiber::{Done, Out};
+use bs_fiber::{Done, Out, SharedCommand};
 use bs_sched::Core;
 use std::alloc::Global;
 use std::hint::spin_loop;
@@ -90,20 +89,15 @@ impl<const CAP: usize> Shop<CAP> {
         assignment
     }
 
-    fn hand_in<R: Wait>(&self, rt: &R, alloc: Global, commands: Vec<(usize, Command)>) -> bool {
+    fn hand_in<R: Wait>(&self, rt: &R, commands: &[(usize, SharedCommand)]) -> bool {
         let mut desk = self.enter(rt);
-        desk.hand_all(alloc, commands);
+        desk.hand_all(commands);
         !desk.is_stopped()
     }
 
     /// Hands in commands, after which there may be jobs more. Whether the run goes on.
-    pub(crate) fn hand<R: Wait>(
-        &self,
-        rt: &R,
-        alloc: Global,
-        commands: Vec<(usize, Command)>,
-    ) -> bool {
-        let goes_on = self.hand_in(rt, alloc, commands);
+    pub(crate) fn hand<R: Wait>(&self, rt: &R, commands: &[(usize, SharedCommand)]) -> bool {
+        let goes_on = self.hand_in(rt, commands);
         self.changed.notify_all();
         goes_on
     }

@@ -9,7 +9,7 @@ use bs_board::{
     Cells, Command, Direction, Id, Mode, Move, Moves, New, Plan, Point, Row, Rows, Starts,
     TurnNumber, Words,
 };
-use bs_fiber::{JobKind, JobName};
+use bs_fiber::{JobKind, JobName, SharedCommand};
 use bs_sched::Core;
 use std::alloc::{AllocError, Global};
 use std::process::Abort;
@@ -89,11 +89,20 @@ fn third_goes(alloc: Global, direction: Direction) -> Result<Command, AllocError
     )))
 }
 
+fn push(
+    alloc: Global,
+    commands: &mut Vec<(usize, SharedCommand)>,
+    game: usize,
+    command: Command,
+) -> Result<(), AllocError> {
+    commands.push((game, SharedCommand::new(alloc, command)?))
+}
+
 /// The commands of both games in turn.
-fn commands(alloc: Global) -> Result<Vec<(usize, Command)>, Fail> {
+fn commands(alloc: Global) -> Result<Vec<(usize, SharedCommand)>, Fail> {
     let mut commands = Vec::new(alloc);
     for game in 0..2usize {
-        commands.push((game, three_snakes(alloc)?))?;
+        push(alloc, &mut commands, game, three_snakes(alloc)?)?;
     }
     for (game, direction) in [
         (0usize, Direction::Down),
@@ -103,18 +112,18 @@ fn commands(alloc: Global) -> Result<Vec<(usize, Command)>, Fail> {
         (1, Direction::Right),
         (0, Direction::Up),
     ] {
-        commands.push((game, third_goes(alloc, direction)?))?;
-        commands.push((1 - game, Command::Show))?;
+        push(alloc, &mut commands, game, third_goes(alloc, direction)?)?;
+        push(alloc, &mut commands, 1 - game, Command::Show)?;
     }
     let turn = TurnNumber::new(1).ok_or("a turn")?;
-    commands.push((0, Command::Turn(turn)))?;
-    commands.push((1, Command::End))?;
-    commands.push((1, Command::Show))?;
-    commands.push((0, Command::Bad))?;
+    push(alloc, &mut commands, 0, Command::Turn(turn))?;
+    push(alloc, &mut commands, 1, Command::End)?;
+    push(alloc, &mut commands, 1, Command::Show)?;
+    push(alloc, &mut commands, 0, Command::Bad)?;
     Ok(commands)
 }
 
-fn are_within(commands: &[(usize, Command)], count: usize) -> bool
+fn are_within(commands: &[(usize, SharedCommand)], count: usize) -> bool
     ensures { IsTrue result → All (λ command. command.0 < count) commands.now }
 {
     commands.iter().all(|command| command.0 < count)
@@ -124,7 +133,7 @@ fn are_within(commands: &[(usize, Command)], count: usize) -> bool
 fn played<R: Threads + Wait + Abort + Sync, G: Gate>(
     rt: &R,
     alloc: Global,
-    commands: &[(usize, Command)],
+    commands: &[(usize, SharedCommand)],
     workers: usize,
     gate: &G,
 ) -> Result<Result<Core<524_288>, Run>, Fail> {
@@ -179,8 +188,8 @@ fn a_shut_gate_breaks_the_run(rt: HostRuntime) -> Result<(), Fail> {
 fn two_workers_are_at_one_move(rt: HostRuntime) -> Result<(), Fail> {
     let alloc = rt.alloc();
     let mut commands = Vec::new(alloc);
-    commands.push((0usize, three_snakes(alloc)?))?;
-    commands.push((0usize, third_goes(alloc, Direction::Down)?))?;
+    push(alloc, &mut commands, 0, three_snakes(alloc)?)?;
+    push(alloc, &mut commands, 0, third_goes(alloc, Direction::Down)?)?;
     let gate = Meeting {
         first: AtomicBool::new(false),
         second: AtomicBool::new(false),

@@ -3,10 +3,9 @@ use crate::desk::{Assignment, Desk};
 use crate::fault::Run;
 use crate::gate::Gate;
 use crate::shop::Shop;
-use bs_board::Command;
-use bs_fiber::{Done, Ticket, work};
+use bs_fiber::{Done, SharedCommand, Ticket, work};
 use bs_sched::Core;
-use std::alloc::{AllocError, Global};
+use std::alloc::Global;
 use std::sync::Wait;
 use std::thread;
 use std::thread::Threads;
@@ -61,30 +60,14 @@ fn finish<const CAP: usize, R: Wait, G: Gate>(
 /// How many commands are handed in at once: the lock is taken once for all of them.
 const COMMANDS_AT_ONCE: usize = 1_024;
 
-fn copy_commands(
-    alloc: Global,
-    commands: &[(usize, Command)],
-) -> Result<Vec<(usize, Command)>, AllocError> {
-    let mut copies = Vec::with_capacity(alloc, commands.len())?;
-    for (game, command) in commands {
-        copies.push((*game, command.copy(alloc)?))?;
-    }
-    Ok(copies)
-}
-
 /// Hands in all commands in their order, or as many as the run goes on for.
 fn hand_all<const CAP: usize, R: Wait>(
     rt: &R,
-    alloc: Global,
     shop: &Shop<CAP>,
-    commands: &[(usize, Command)],
+    commands: &[(usize, SharedCommand)],
 ) {
     for some in commands.chunks(COMMANDS_AT_ONCE) {
-        let Ok(copies) = copy_commands(alloc, some) else {
-            shop.stop(rt, Run::Memory);
-            break;
-        };
-        if !shop.hand(rt, alloc, copies) {
+        if !shop.hand(rt, some) {
             break;
         }
     }
@@ -96,7 +79,7 @@ fn hand_to_threads<const CAP: usize, R: Threads + Wait + Sync, G: Gate>(
     rt: &R,
     alloc: Global,
     shop: &Shop<CAP>,
-    commands: &[(usize, Command)],
+    commands: &[(usize, SharedCommand)],
     workers: usize,
     gate: &G,
 ) {
@@ -104,7 +87,7 @@ fn hand_to_threads<const CAP: usize, R: Threads + Wait + Sync, G: Gate>(
         for worker in 0..workers {
             let _thread = scope.spawn(move || work_until_end(rt, alloc, shop, worker, gate));
         }
-        hand_all(rt, alloc, shop, commands);
+        hand_all(rt, shop, commands);
     });
 }
 
@@ -113,7 +96,7 @@ pub(crate) fn worked<const CAP: usize, R: Threads + Wait + Sync, G: Gate>(
     rt: &R,
     alloc: Global,
     core: Core<CAP>,
-    commands: &[(usize, Command)],
+    commands: &[(usize, SharedCommand)],
     workers: usize,
     gate: &G,
 ) -> Result<Core<CAP>, Run> {
@@ -121,7 +104,7 @@ pub(crate) fn worked<const CAP: usize, R: Threads + Wait + Sync, G: Gate>(
     if workers > 1 {
         hand_to_threads(rt, alloc, &shop, commands, workers, gate);
     } else {
-        hand_all(rt, alloc, &shop, commands);
+        hand_all(rt, &shop, commands);
     }
     let mut desk = shop.into_desk();
     finish(rt, alloc, &mut desk, gate);

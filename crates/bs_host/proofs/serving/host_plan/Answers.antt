@@ -13,11 +13,10 @@ run-requires-after_bounds g c κs bounds =
     let core = c.in_ok-core.core in
     let is = c.in_ok-core.ensures.core in
     let rows = c.args.plan.rows in
-    let within = c.in_ok-requests.ensures.within in
-    let asked : AreWithinPlan (length rows) c.in_ok-requests.requests.commands = rw c.as_slice.ensures.value at within in (
+    let asked : AreWithinPlan (length rows) c.in_ok-requests.requests.commands = c.in_ok-requests.ensures.within in (
       omega arith,
       (
-        within_core BLOCK_BYTES c.args.blocks c.args.workers rows core c.in_ok-requests.requests.commands c.as_slice-2.result.now is c.as_slice-2.ensures asked,
+        within_core BLOCK_BYTES c.args.blocks c.args.workers rows core c.in_ok-requests.requests.commands c.as_slice.result.now is c.as_slice.ensures asked,
         (is_fresh BLOCK_BYTES c.args.blocks c.args.workers rows core is, ap (λ core. core.games.workers) is),
       ),
     )
@@ -26,8 +25,6 @@ pub returns-clause-core : goal.returns-clause-core
 returns-clause-core g c =
     let rows = c.args.plan.rows in
     let routes = routes_from rows 2 (pieces_after (option_copied c.args.rest)) in
-    let all = c.as_slice.result.now in
-    let told = requests_commands c.in_ok-requests.requests (routes_from all 2 (pieces_after (option_copied c.args.rest))) c.in_ok-requests.ensures.value in
-    let asked : c.in_ok-requests.requests.commands ≡ commands_by_row routes = rw c.as_slice.ensures.value at told in
-    hosts_lines BLOCK_BYTES c.args.blocks c.args.workers rows routes c.as_slice-2.result.now c.in_ok-core.core c.in_ok-core-2.core c.in_ok-core.ensures.core
-    (c.as_slice-2.ensures ∙ asked) c.in_ok-core-2.ensures
+    let asked : c.in_ok-requests.requests.commands ≡ commands_by_row routes = requests_commands c.in_ok-requests.requests routes c.in_ok-requests.ensures.value in
+    hosts_lines BLOCK_BYTES c.args.blocks c.args.workers rows routes c.as_slice.result.now c.in_ok-core.core c.in_ok-core-2.core c.in_ok-core.ensures.core
+    (c.as_slice.ensures ∙ asked) c.in_ok-core-2.ensures

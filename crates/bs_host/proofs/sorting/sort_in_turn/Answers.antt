@@ -17,8 +17,8 @@ lines-preserved c =
     let cut = ap (λ o. pieces_after (option_copied o)) c.in-Some.is ∙ c.cut_piece.ensures.pieces in
     record {
       way = goes_on c.args.rows.now (routes_from c.args.rows.now c.args.first (pieces_of c.args.text.now)) c.lines.number (pieces_after (option_copied c.lines.left))
-          c.cut_piece.result.0.now (pieces_after (option_copied c.cut_piece.result.1)) c.route_of.result c.lines.requests c.hand_on.new.self cut
-          (c.route_of.ensures.value ∙ ap (route_of c.args.rows.now) c.in_ok-line.ensures) c.route_of.ensures.within c.in_ok-hand_on.ensures c.lines.invariant.way;
+          c.cut_piece.result.0.now (pieces_after (option_copied c.cut_piece.result.1)) c.route_of-route.result c.lines.requests c.hand_on.new.self cut
+          (c.route_of-route.ensures.value ∙ ap (route_of c.args.rows.now) c.in_ok-line.ensures) c.route_of-route.ensures.within c.in_ok-hand_on.ensures c.lines.invariant.way;
       few = omega (arith, c.lines.invariant.few);
     }
 

@@ -1,0 +1,39 @@
+-- The row of a name in a plan that has no name twice.
+use Rattle.std.proofs.Common.{◌≡◌, ℕ, ◌+◌, ◌<◌, suc, zero, true, false, not, Bool, List, [], ◌∷◌, Some, length, get_or, refl, sym, ap, subst, ◌∙◌, inl, inr, arith}
+use Rattle.std.specs.List.{list_any, position, position_or_len}
+use Rattle.std.proofs.lemmas.Bool.{cases_Bool, not-true, lt-ltb}
+use Rattle.std.proofs.lemmas.List.Folds.{list_any_at}
+use Rattle.std.proofs.lemmas.Slice.Eq.{bytes_eq-Decides}
+use Rattle.bs_board.specs.Distinct.{are_distinct}
+use Rattle.bs_board.specs.plans.Plan.{GameRow, IsFitPlan, row_of}
+use Rattle.bs_board.specs.Texts.{is_same_text}
+use Rattle.bs_board.proofs.Chains.{and_both}
+use Rattle.bs_host.specs.Routing.{HasName, row_named}
+
+-- Among elements that differ from one another, what passes a test that no two of them pass is the first that passes.
+only_first : {X : Type 0} (same : X → X → Bool) (p : X → Bool) → ((x y : X) → p x ≡ true → p y ≡ true → same x y ≡ true)
+    → (xs : List X) (i : ℕ) (d : X) → are_distinct same xs ≡ true → i < length xs → p (get_or xs i d) ≡ true → position_or_len p xs ≡ i
+only_first same p alike [] i d distinct within hit = absurd (omega arith)
+only_first same p alike (x ∷ xs) zero d distinct within hit = rw hit refl
+only_first same p alike (x ∷ xs) (suc i) d distinct within hit =
+    let apart : (not (list_any (same x) xs) ≡ true) × (are_distinct same xs ≡ true) = and_both _ _ distinct in
+    elim (cases_Bool (p x)) [
+      | inl on ↦
+          let twice : list_any (same x) xs ≡ true = list_any_at (same x) xs i d (omega (arith, within)) (alike x (get_or xs i d) on hit) in
+          let wrong : false ≡ true = rw twice at apart.0 in
+          absurd cc
+      | inr off ↦
+          let behind : position_or_len p xs ≡ i = only_first same p alike xs i d apart.1 (omega (arith, within)) hit in
+          rw off (omega (arith, behind))
+    ]
+
+same_names : (name : List ℕ) (r s : GameRow) → is_same_text name r.game ≡ true → is_same_text name s.game ≡ true → is_same_text r.game s.game ≡ true
+same_names name r s one two =
+    let first : name ≡ r.game = (bytes_eq-Decides name r.game).0 one in
+    rw first at two
+
+pub only_row_named : (rows : List GameRow) (row : ℕ) (name : List ℕ) → IsFitPlan rows → HasName rows row name → row_named rows name ≡ Some row
+only_row_named rows row name fit has =
+    let at = only_first (λ r s. is_same_text r.game s.game) (λ r. is_same_text name r.game) (same_names name) rows row (row_of [] 0) fit.distinct has.within has.same in
+    let inside = lt-ltb row (length rows) has.within in
+    rw (at, inside) refl
