@@ -6,6 +6,7 @@ pub mod Lengths
 pub mod Parts
 pub mod Repeats
 pub mod Longest
+pub mod OverBytes
 pub mod SnakeRecord
 pub mod Writable
 pub mod TurnBytes

@@ -4,5 +4,6 @@ pub mod decode_error;
 pub mod decoding;
 pub mod encoding;
 pub mod kept;
+pub mod over;
 pub mod sizes;
 pub mod turn;

@@ -399,3 +399,24 @@ fn kept_snakes_are_read(rt: HostRuntime) -> Result<(), Fail> {
     }
     Ok(())
 }
+
+#[tactic(auto, using(crate::proofs::records::Longest::legal_size_fits))]
+fn is_over_by_its_record(rt: &impl Abort, alloc: Global, board: &Board) -> Result<bool, Fail> {
+    assert!(rt; is_legal(board));
+    let record = encode(alloc, board)?;
+    Ok(over_of_record(record.as_slice()))
+}
+
+// Three of four snakes live; the snake alone is out in turn 2.
+#[test]
+fn games_are_over_by_their_records(rt: HostRuntime) -> Result<(), Fail> {
+    let alloc = rt.alloc();
+    assert!(rt; !is_over_by_its_record(&rt, alloc, &four_snakes(alloc)?)?);
+    for (turn, is_over) in [(0, false), (1, false), (2, true)] {
+        assert_eq!(rt;
+            is_over_by_its_record(&rt, alloc, &solo(alloc, turn)?)?,
+            is_over
+        );
+    }
+    Ok(())
+}

@@ -24,7 +24,7 @@ fit_join : (input : Input) (view : View) → IsFitInput input → input.job.kind
 fit_join input view fit kind seen = rw kind at (fit_job input view fit seen)
 
 -- the board that is seen of a record
-seen_board : (bytes : List ℕ) (board : Option Board) → IsBoardOf (Some bytes) board → (b : Board) × (board ≡ Some b) × IsLegal b × (bytes ≡ record_of b)
+pub seen_board : (bytes : List ℕ) (board : Option Board) → IsBoardOf (Some bytes) board → (b : Board) × (board ≡ Some b) × IsLegal b × (bytes ≡ record_of b)
 seen_board bytes None is = absurd is
 seen_board bytes (Some board) is = (board, refl, is.0, is.1)
 

@@ -3,12 +3,14 @@ use Rattle.std.specs.Prelude.{◌≡◌, ℕ, ◌+◌, ◌*◌, ◌/◌, Bool, �
 use Rattle.bs_board.specs.declared.boards.board.Board.{Board}
 use Rattle.bs_board.specs.declared.commands.command.Command.{Command}
 use Rattle.bs_board.specs.declared.commands.command.Command.TheVariants as command
+use Rattle.bs_board.specs.declared.commands.reply.Refusal.{Refusal}
+use Rattle.bs_board.specs.declared.commands.reply.Reply.TheVariants.{Refused}
 use Rattle.bs_board.specs.declared.boards.point.Direction.{Direction}
 use Rattle.bs_board.specs.declared.boards.snake.Snake.{Snake}
 use Rattle.bs_rules.specs.Motion.{moved, given_to}
 use Rattle.bs_game.specs.declared.view.View.{View}
 use Rattle.bs_game.specs.Reasons.{is_move, first_reason}
-use Rattle.bs_game.specs.View.{answer_of}
+use Rattle.bs_game.specs.View.{answer_of, answer_with}
 use Rattle.bs_fiber.specs.declared.input.Input.{Input}
 use Rattle.bs_fiber.specs.declared.job.JobKind.{JobKind}
 use Rattle.bs_fiber.specs.declared.job.JobKind.TheVariants.{Begin, Part, Join}
@@ -22,6 +24,11 @@ goes view command = is_move command && is_none (first_reason view command)
 
 abbrev pub begun : View → Command → Out
 begun view command = if goes view command then Goes else Answered (answer_of view command)
+
+-- the same of a move, by the reason that speaks against it
+abbrev pub move_begun : Option Refusal → Out
+move_begun None = Goes
+move_begun (Some reason) = Answered (answer_with (Refused reason))
 
 -- two seats a part; where the number of seats is odd the last part has one
 abbrev pub parts_of : ℕ → ℕ

@@ -3,20 +3,20 @@ ghost use Rattle.std.specs.Prelude.{◌≡◌, ◌&&◌, true, false, Some, None
 ghost use Rattle.bs_game.specs.declared.view.View.{View as AnyView};
 ghost use Rattle.bs_board.specs.declared.commands.reply.Refusal.TheVariants as Refusal;
 ghost use Rattle.bs_board.specs.declared.limits.TheConstants.{LAST_TURN};
-ghost use Rattle.bs_board.specs.boards.Over.{is_over};
 ghost use Rattle.bs_game.specs.Reasons.{first_reason, is_move};
 
 use crate::view::View;
 use bs_board::limits::LAST_TURN;
-use bs_board::{Board, Command, Refusal};
+use bs_board::{Command, Refusal};
 use bs_modes::over;
 
-fn check_move(last: &Board) -> Option<Refusal>
-    ensures { result ≡ (if is_over last.now then Some Refusal.Over else (if nat_le LAST_TURN last.now.turn then Some Refusal.Limit else None)) }
+/// The reason against a move in a game that runs, by whether that is over and the number of its newest turn.
+pub fn check_move(is_over: bool, turn: u16) -> Option<Refusal>
+    ensures { result ≡ (if is_over then Some Refusal.Over else (if nat_le LAST_TURN turn then Some Refusal.Limit else None)) }
 {
-    if over(last) {
+    if is_over {
         Some(Refusal::Over)
-    } else if last.turn >= LAST_TURN {
+    } else if turn >= LAST_TURN {
         Some(Refusal::Limit)
     } else {
         None
@@ -51,7 +51,7 @@ pub fn check(view: &View, command: &Command) -> Option<Refusal>
     ensures { result ≡ first_reason view.now command.now }
 {
     match (command, &view.last) {
-        (Command::Move(_), Some(last)) => check_move(last),
+        (Command::Move(_), Some(last)) => check_move(over(last), last.turn),
         _ => check_unseen(command, view.last.is_some(), view.asked.is_some()),
     }
 }

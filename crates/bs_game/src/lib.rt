@@ -12,7 +12,7 @@ mod turns;
 mod view;
 
 pub use answering::{answer, joined, joined_within, refuse};
-pub use checking::{check, check_unseen};
+pub use checking::{check, check_move, check_unseen};
 pub use law::{answer_law, course_law};
 pub use reply::{Answer, Effect, Record};
 pub use turns::{place_law, place_of_turn};

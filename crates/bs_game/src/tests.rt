@@ -4,7 +4,7 @@ ghost use Rattle.bs_board.specs.commands.Orders.{orders_of};
 ghost use Rattle.bs_rules.specs.Motion.{moved_board, IsMovable};
 
 use crate::{
-    Answer, Effect, Record, View, answer, check, check_unseen, joined, joined_within,
+    Answer, Effect, Record, View, answer, check, check_move, check_unseen, joined, joined_within,
     place_of_turn, refuse,
 };
 use bs_board::{
@@ -305,5 +305,8 @@ fn refusals_with_no_board_seen(rt: HostRuntime) -> Result<(), Fail> {
     assert_eq!(rt; check_unseen(&Command::Turn(turn), true, true), None);
     assert_eq!(rt; check_unseen(&Command::Move(orders), true, false), None);
     assert_refused(&rt, &refuse(Refusal::NoRecord), Refusal::NoRecord);
+    assert_eq!(rt; check_move(true, 10_000), Some(Refusal::Over));
+    assert_eq!(rt; check_move(false, 10_000), Some(Refusal::Limit));
+    assert_eq!(rt; check_move(false, 9_999), None);
     Ok(())
 }

@@ -1,13 +1,14 @@
 -- A file cut at its line feeds.
-use Rattle.std.proofs.Common.{◌≡◌, ℕ, zero, suc, ◌+◌, ◌-◌, ◌<◌, ◌≤◌, Bool, false, true, refl, List, [], ◌∷◌, ◌++◌, Some, None, length, take, drop, get_or, sym, ap, ◌∙◌, arith, All, length-take, length-drop, take-append-drop, add-one, inl, inr}
+use Rattle.std.proofs.Common.{◌≡◌, Option, ℕ, zero, suc, ◌+◌, ◌-◌, ◌<◌, ◌≤◌, Bool, false, true, refl, List, [], ◌∷◌, ◌++◌, Some, None, length, take, drop, get_or, sym, ap, ◌∙◌, arith, All, length-take, length-drop, take-append-drop, add-one, inl, inr}
 use Rattle.std.proofs.Math.Dec.{eqb, ltb}
 use Rattle.std.proofs.Math.Seq.{drop-cons}
-use Rattle.std.proofs.lemmas.Bool.{cases_Bool, ltb-false, cond-true}
+use Rattle.std.proofs.lemmas.Bool.{cases_Bool, ltb-false, lt-ltb, le-ltb, cond-true}
 use Rattle.std.proofs.lemmas.List.{get_or-take, get_or-drop, take_rest}
 use Rattle.std.proofs.lemmas.List.Quantifiers.{position-Some}
-use Rattle.std.proofs.lemmas.List.Sums.{count_by-le-length}
+use Rattle.std.proofs.lemmas.List.Sums.{count_by-le-length, position_or_len_is}
 use Rattle.std.proofs.lemmas.List.Splits.{slice_split_none, slice_split_at, slice_split-cons_yes, slice_split-cons_no, length-slice_split}
 use Rattle.std.specs.List.{count_by, onto_first, position, position_or_len}
+use Rattle.memchr.specs.Find.{IsFirstByte, Passes, is_byte}
 use Rattle.bs_host.specs.declared.pieces.TheConstants.{LINE_FEED}
 use Rattle.bs_host.specs.File.{pieces_of}
 
@@ -32,6 +33,25 @@ module _ {X : Type 0} (p : X → Bool) where
 
 abbrev is_feed : ℕ → Bool
 is_feed byte = eqb byte LINE_FEED
+
+-- the first of all bytes that is that one, if there is one, is where a search for it stops
+
+is_not : (b : Bool) → (b ≡ true → ⊥) → b ≡ false
+is_not true never = absurd (never refl)
+is_not false never = refl
+
+place_of_first : (byte : ℕ) (text : List ℕ) (at : ℕ) → at ≤ length text → ((k : ℕ) → k < at → Passes (is_byte byte) text k → ⊥)
+    → (at < length text → Passes (is_byte byte) text at) → position_or_len (is_byte byte) text ≡ at
+place_of_first byte text at within before there =
+    position_or_len_is (is_byte byte) text at 0 within (λ k below. is_not (is_byte byte (get_or text k 0)) (before k below)) there
+
+pub first_byte_is_position : (byte : ℕ) (text : List ℕ) (found : Option ℕ) → IsFirstByte (is_byte byte) text found → found ≡ position (is_byte byte) text
+first_byte_is_position byte text None nowhere =
+    let all = place_of_first byte text (length text) (omega arith) (λ k below. nowhere k (omega arith) below) (λ past. absurd (omega arith)) in
+    rw (all, le-ltb (length text) (length text) (omega arith)) refl
+first_byte_is_position byte text (Some at) found =
+    let first = place_of_first byte text at (omega (arith, found.0.high)) (λ k below. found.0.before k (omega arith) below) (λ within. found.1) in
+    rw (first, lt-ltb at (length text) found.0.high) refl
 
 parts_at_feed : (text : List ℕ) (at : ℕ) → position is_feed text ≡ Some at → pieces_of text ≡ take at text ∷ pieces_of (drop (at + 1) text)
 parts_at_feed text at found =

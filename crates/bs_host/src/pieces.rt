@@ -3,13 +3,16 @@ ghost use Rattle.std.specs.Prelude.{◌≡◌, ◌==◌, ◌+◌, ◌<◌, ◌�
 ghost use Rattle.std.specs.List.{position};
 ghost use Rattle.bs_host.specs.File.{pieces_of, pieces_after};
 
+use memchr::memchr;
+
 /// The byte between two lines.
 const LINE_FEED: u8 = b'\n';
 
+#[tactic(auto, using(crate::proofs::CutPieces::first_byte_is_position))]
 fn first_feed(text: &[u8]) -> Option<usize>
     ensures { result ≡ position (λ byte. byte == LINE_FEED) text.now }
 {
-    text.iter().position(|byte| *byte == LINE_FEED)
+    memchr(LINE_FEED, text)
 }
 
 /// The piece before the first line feed, and what follows that, where there is one.
