@@ -404,6 +404,7 @@ fn kept_snakes_are_read(rt: HostRuntime) -> Result<(), Fail> {
 fn is_over_by_its_record(rt: &impl Abort, alloc: Global, board: &Board) -> Result<bool, Fail> {
     assert!(rt; is_legal(board));
     let record = encode(alloc, board)?;
+    assert!(rt; record.len() >= 9);
     Ok(over_of_record(record.as_slice()))
 }
 

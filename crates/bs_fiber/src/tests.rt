@@ -243,7 +243,7 @@ fn assert_goes(rt: &impl Abort, view: &View, command: &Command)
     assert!(rt; goes(view, command));
 }
 
-fn assert_part(rt: &impl Abort, last: &Board, part: usize)
+fn assert_part(rt: &impl Abort, last: &Board, part: u32)
     ensures { part < parts_of (length last.now.snakes) }
 {
     assert!(rt; last.snakes.len() == 3 && part < 2);
@@ -256,7 +256,7 @@ fn part_moved(
     view: &View,
     last: &Board,
     orders: &Move,
-    part: usize,
+    part: u32,
 ) -> Result<Snakes, Fail>
     requires legal { IsLegal last.now }
     requires view { view.now ≡ record { quota = 4096; charge = 64; kept = 1; last = Some last.now; asked = None } }

@@ -95,7 +95,8 @@ fn push(
     game: usize,
     command: Command,
 ) -> Result<(), AllocError> {
-    commands.push((game, SharedCommand::new(alloc, command)?))
+    commands.push((game, SharedCommand::new(alloc, command)?))?;
+    Ok(())
 }
 
 /// The commands of both games in turn.
