@@ -4,6 +4,7 @@ pub mod decode_error;
 pub mod decoding;
 pub mod encoding;
 pub mod kept;
+pub mod kept_board;
 pub mod over;
 pub mod sizes;
 pub mod turn;

@@ -146,10 +146,12 @@ fn copies_are_as_their_sources(rt: HostRuntime) -> Result<(), Fail> {
     let alloc = rt.alloc();
     let board = solo(alloc, 2)?;
     assert_same_board(&rt, &board.copy(alloc)?, &board);
-    match Reply::Shown(Word::Show, solo(alloc, 1)?, 64).copy(alloc)? {
+    let solo = solo(alloc, 1)?;
+    assert!(rt; is_legal(&solo));
+    match Reply::Shown(Word::Show, KeptBoard::of(alloc, &solo)?, 64).copy(alloc)? {
         Reply::Shown(word, shown, charge) => {
             assert_eq!(rt; (word, charge), (Word::Show, 64));
-            assert_same_board(&rt, &shown, &solo(alloc, 1)?);
+            assert_same_board(&rt, &shown.board(alloc)?, &solo);
         }
         _ => assert!(rt; false, "another reply"),
     }
@@ -349,11 +351,9 @@ fn a_kept_board_is_read(rt: HostRuntime) -> Result<(), Fail> {
     let board = four_snakes(alloc)?;
     assert!(rt; is_legal(&board));
     let record = encode(alloc, &board)?;
-    assert_same_board(
-        &rt,
-        &kept_board(alloc, record.as_slice())?,
-        &four_snakes(alloc)?,
-    );
+    assert_same_board(&rt, &kept_board(alloc, record.as_slice())?, &board);
+    let kept = KeptBoard::of_record(alloc, record.as_slice())?;
+    assert_same_board(&rt, &kept.board(alloc)?, &board);
     Ok(())
 }
 

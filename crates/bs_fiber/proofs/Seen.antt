@@ -62,7 +62,12 @@ seen_is_fit input view fit seen =
     let charge = seen.charge in
     let within = fit.within in
     let small = fit.small in
-    record { legal = legal_board input.last view.last seen.last; within = omega arith; small = omega arith }
+    record {
+      legal = legal_board input.last view.last seen.last;
+      asked = legal_board input.asked view.asked seen.asked;
+      within = omega arith;
+      small = omega arith;
+    }
 
 pub fit_job : (input : Input) (view : View) → IsFitInput input → IsSeen view input → IsFitJob input.job.kind input view
 fit_job input view fit seen = fit.job view seen

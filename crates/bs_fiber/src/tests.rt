@@ -219,8 +219,9 @@ fn begin_answers_show(rt: HostRuntime) -> Result<(), Fail> {
     else {
         return Err(Fail::from("not shown"));
     };
-    assert_eq!(rt; shown.turn, 0);
-    assert_eq!(rt; shown.snakes.len(), 3);
+    let board = shown.board(alloc)?;
+    assert_eq!(rt; board.turn, 0);
+    assert_eq!(rt; board.snakes.len(), 3);
     Ok(())
 }
 
@@ -323,7 +324,7 @@ fn assert_joined(rt: &impl Abort, alloc: Global, out: &Out) -> Result<(), Fail> 
     else {
         return Err(Fail::from("not joined"));
     };
-    assert_eq!(rt; shown.turn, 1);
+    assert_eq!(rt; shown.board(alloc)?.turn, 1);
     assert_eq!(rt; record.as_slice(), encode(alloc, &next)?.as_slice());
     Ok(())
 }

@@ -1,8 +1,10 @@
 -- An answer from the view of a game is the answer to the game.
 use Rattle.std.proofs.Common.{◌≡◌, ℕ, ◌+◌, ◌≤◌, true, false, [], ◌∷◌, ◌++◌, Option, Some, None, map, refl, sym, ap, inl, inr, arith, length}
-use Rattle.std.specs.Prelude.{nat_le, nat_lt, is_some, IfSome, IfOk, Result, Ok, Err}
+use Rattle.std.specs.Prelude.{nat_eq, nat_le, nat_lt, is_some, IfSome, IfOk, Result, Ok, Err}
+use Rattle.std.specs.List.{AllByRecursion}
 use Rattle.std.proofs.lemmas.Bool.{cases_Bool, ltb-false, leb-false}
 use Rattle.std.proofs.lemmas.List.{map-append}
+use Rattle.std.proofs.lemmas.List.Elements.{recursion_from_All}
 use Rattle.bs_board.specs.declared.boards.board.Board.{Board}
 use Rattle.bs_board.specs.declared.commands.command.Command.{Command}
 use Rattle.bs_board.specs.declared.commands.command.Command.TheVariants as command
@@ -187,10 +189,34 @@ legal_if_some : (game : Game) (last : Option Board) → IsGame game → last ≡
 legal_if_some game None right is = tt
 legal_if_some game (Some last) right is = legal_last game last right is
 
+-- each board of a game is legal, and so is the one that is asked for
+legal_if_found : (at : ℕ) (game : Game) → AllByRecursion IsLegal game → IfSome (board_of_turn at game) IsLegal
+unfolding board_of_turn
+legal_if_found at [] legal = tt
+legal_if_found at (board ∷ game) legal =
+    elim (cases_Bool (nat_eq board.turn at)) [
+      | inl here ↦ rw here legal.0
+      | inr other ↦ rw other (legal_if_found at game legal.1)
+    ]
+
+legal_if_asked : (game : Game) (command : Command) → IsGame game → IfSome (asked_board command game) IsLegal
+legal_if_asked game (command.New setup) right = tt
+legal_if_asked game (command.Move orders) right = tt
+legal_if_asked game command.Show right = tt
+legal_if_asked game (command.Turn at) right = legal_if_found at game (recursion_from_All IsLegal game right.legal)
+legal_if_asked game command.Free right = tt
+legal_if_asked game command.End right = tt
+legal_if_asked game command.Bad right = tt
+
 pub view_of_game_is_fit : (quota : ℕ) (game : Game) (command : Command) → IsGame game → game_charge game ≤ quota → quota ≤ MOST_QUOTA
     → IsFitView (view_of_game quota game command)
 view_of_game_is_fit quota game command right within small =
-    record { legal = legal_if_some game (last_board game) right refl; within = within; small = small }
+    record {
+      legal = legal_if_some game (last_board game) right refl;
+      asked = legal_if_asked game command right;
+      within = within;
+      small = small;
+    }
 
 -- an answer from the view of a game, where there was memory for one
 pub answered_as_the_game : {E : Type 0} (game : Game) (view : View) (most : ℕ) (command : Command) (result : Result Answer E) → IsGame game

@@ -82,5 +82,6 @@ shown_within_quota view word board =
 -- of a game that is within its quota; no quota is above 16,777,216
 pub record IsFitView (view : View) : Type 0 where
   pub legal : IfSome view.last IsLegal
+  pub asked : IfSome view.asked IsLegal
   pub within : view.charge ≤ view.quota
   pub small : view.quota ≤ MOST_QUOTA

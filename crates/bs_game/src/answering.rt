@@ -5,6 +5,7 @@ ghost use Rattle.bs_board.specs.declared.commands.command.Word.TheVariants as Wo
 ghost use Rattle.bs_board.specs.declared.commands.reply.Refusal.TheVariants as Refusal;
 ghost use Rattle.bs_board.specs.declared.commands.reply.Reply.TheVariants as Reply;
 ghost use Rattle.bs_game.specs.declared.reply.Effect.TheVariants as Effect;
+ghost use Rattle.bs_board.specs.boards.Legal.{IsLegal};
 ghost use Rattle.bs_rules.specs.Motion.{moved_board};
 ghost use Rattle.bs_game.specs.Game.{board_charge};
 ghost use Rattle.bs_game.specs.declared.view.View.{View as AnyView};
@@ -22,7 +23,7 @@ use crate::checking::check;
 use crate::quota::{board_charge, record_board};
 use crate::reply::{Answer, Effect};
 use crate::view::View;
-use bs_board::{Board, Command, Move, New, Refusal, Reply, TurnNumber, Word};
+use bs_board::{Board, Command, KeptBoard, Move, New, Refusal, Reply, TurnNumber, Word};
 use bs_modes::start;
 use bs_rules::{finish_turn, turn};
 use std::alloc::{AllocError, Global};
@@ -38,10 +39,11 @@ pub fn refuse(reason: Refusal) -> Answer
 }
 
 fn show(alloc: Global, word: Word, charge: u32, board: &Board) -> Result<Answer, AllocError>
+    requires { IsLegal board.now }
     ensures { IfOk result (λ answer. answer ≡ record { reply = Reply.Shown word board.now charge; effect = Effect.Keep }) }
 {
     Ok(Answer {
-        reply: Reply::Shown(word, board.copy(alloc)?, charge),
+        reply: Reply::Shown(word, KeptBoard::of(alloc, board)?, charge),
         effect: Effect::Keep,
     })
 }
@@ -76,6 +78,7 @@ fn advance(alloc: Global, view: &View, orders: &Move) -> Result<Answer, AllocErr
 }
 
 fn show_last(alloc: Global, view: &View) -> Result<Answer, AllocError>
+    requires { IsFitView view.now }
     ensures value { IfOk result (λ answer. answer ≡ answer_with (accepted_reply view.now command.Show)) }
     ensures fits { IfOk result (λ answer. IsFitEffect view.now.quota view.now.charge answer.effect) }
 {
@@ -86,6 +89,7 @@ fn show_last(alloc: Global, view: &View) -> Result<Answer, AllocError>
 }
 
 fn show_asked(alloc: Global, view: &View, at: TurnNumber) -> Result<Answer, AllocError>
+    requires { IsFitView view.now }
     ensures value { IfOk result (λ answer. answer ≡ answer_with (accepted_reply view.now (command.Turn at))) }
     ensures fits { IfOk result (λ answer. IsFitEffect view.now.quota view.now.charge answer.effect) }
 {

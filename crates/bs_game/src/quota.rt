@@ -13,7 +13,7 @@ ghost use Rattle.bs_game.specs.View.{answer_with, effect_of_shown, shown_within_
 use crate::answering::refuse;
 use crate::reply::{Answer, Effect, Record};
 use bs_block::round_up;
-use bs_board::{Board, Refusal, Reply, Word, encode, size};
+use bs_board::{Board, KeptBoard, Refusal, Reply, Word, encode, size};
 use std::alloc::{AllocError, Global};
 
 /// The most that the record of one board is charged, in bytes: 161,885 rounded up.
@@ -48,9 +48,9 @@ pub(crate) fn record_board(
     if charge > quota {
         return Ok(refuse(Refusal::Quota));
     }
-    let record = Record::from_vec(encode(alloc, &board)?);
+    let bytes = encode(alloc, &board)?;
     Ok(Answer {
-        reply: Reply::Shown(word, board, charge),
-        effect: Effect::Add(record),
+        reply: Reply::Shown(word, KeptBoard::of_record(alloc, bytes.as_slice())?, charge),
+        effect: Effect::Add(Record::from_vec(bytes)),
     })
 }

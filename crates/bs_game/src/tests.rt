@@ -95,17 +95,23 @@ fn assert_head(rt: &impl Abort, board: &Board, x: i16, y: i16) {
 }
 
 // A reply that shows a board of that turn, and its head in the second column.
-fn assert_shown(rt: &impl Abort, answer: &Answer, word: Word, turn: u16, y: i16, charge: u32) {
-    match &answer.reply {
-        Reply::Shown(told, board, number) => {
-            assert_eq!(rt; *told, word);
-            assert_eq!(rt; board.turn, turn);
-            assert_eq!(rt; *number, charge);
-            assert_head(rt, board, 1, y);
-        }
-        Reply::Plain(_, _) => assert!(rt; false, "plain"),
-        Reply::Refused(_) => assert!(rt; false, "refused"),
-    }
+fn assert_shown(
+    rt: &impl Abort,
+    alloc: Global,
+    answer: &Answer,
+    word: Word,
+    turn: u16,
+    y: i16,
+    charge: u32,
+) -> Result<(), Fail> {
+    let Reply::Shown(told, kept, number) = &answer.reply else {
+        return Err(Fail::from("not shown"));
+    };
+    assert_eq!(rt; (*told, *number), (word, charge));
+    let board = kept.board(alloc)?;
+    assert_eq!(rt; board.turn, turn);
+    assert_head(rt, &board, 1, y);
+    Ok(())
 }
 
 fn assert_plain(rt: &impl Abort, answer: &Answer, word: Word, charge: u32) {
@@ -152,10 +158,10 @@ fn quota_of_two_records(rt: HostRuntime) -> Result<(), Fail> {
     let new = new_solo(alloc, 5)?.ok_or("fits")?;
     let step = Command::Move(no_orders(alloc));
     let told = answered(&rt, alloc, &view(64, 0, 0, None), &new)?;
-    assert_shown(&rt, &told, Word::New, 0, 1, 32);
+    assert_shown(&rt, alloc, &told, Word::New, 0, 1, 32)?;
     let one = view(64, 32, 1, Some(after(alloc, 0)?));
     let told = answered(&rt, alloc, &one, &step)?;
-    assert_shown(&rt, &told, Word::Move, 1, 2, 64);
+    assert_shown(&rt, alloc, &told, Word::Move, 1, 2, 64)?;
     assert_eq!(rt; name(&told.effect), "add");
     let two = view(64, 64, 2, Some(after(alloc, 1)?));
     assert_refused(&rt, &answered(&rt, alloc, &two, &step)?, Refusal::Quota);
@@ -164,7 +170,7 @@ fn quota_of_two_records(rt: HostRuntime) -> Result<(), Fail> {
     assert_eq!(rt; name(&told.effect), "trim");
     let trimmed = view(64, 32, 1, Some(after(alloc, 1)?));
     let told = answered(&rt, alloc, &trimmed, &step)?;
-    assert_shown(&rt, &told, Word::Move, 2, 3, 64);
+    assert_shown(&rt, alloc, &told, Word::Move, 2, 3, 64)?;
     let told = answered(&rt, alloc, &two, &Command::End)?;
     assert_plain(&rt, &told, Word::End, 0);
     assert_eq!(rt; name(&told.effect), "drop");
@@ -177,7 +183,7 @@ fn kept_turns_are_shown(rt: HostRuntime) -> Result<(), Fail> {
     let alloc = rt.alloc();
     let mut kept = view(64, 64, 2, Some(after(alloc, 2)?));
     let told = answered(&rt, alloc, &kept, &Command::Show)?;
-    assert_shown(&rt, &told, Word::Show, 2, 3, 64);
+    assert_shown(&rt, alloc, &told, Word::Show, 2, 3, 64)?;
     for (number, place) in [(0, None), (1, Some(0)), (2, Some(1)), (3, None)] {
         let at = TurnNumber::new(number).ok_or("fits")?;
         assert_eq!(rt; place_of_turn(2, 2, at), place, "turn {number}");
@@ -191,7 +197,7 @@ fn kept_turns_are_shown(rt: HostRuntime) -> Result<(), Fail> {
     kept.asked = Some(after(alloc, 1)?);
     let second = Command::Turn(TurnNumber::new(1).ok_or("fits")?);
     let told = answered(&rt, alloc, &kept, &second)?;
-    assert_shown(&rt, &told, Word::Turn, 1, 2, 64);
+    assert_shown(&rt, alloc, &told, Word::Turn, 1, 2, 64)?;
     assert_eq!(rt; name(&told.effect), "keep");
     Ok(())
 }
@@ -270,9 +276,9 @@ fn joined_turn(rt: HostRuntime) -> Result<(), Fail> {
     };
     assert!(rt; check(&view, &Command::Move(no_orders(alloc))).is_none());
     let told = joined_within(alloc, view.quota, view.charge, &orders, moved.copy(alloc)?)?;
-    assert_shown(&rt, &told, Word::Move, 1, 2, 64);
+    assert_shown(&rt, alloc, &told, Word::Move, 1, 2, 64)?;
     let told = joined(alloc, &view, &orders, moved)?;
-    assert_shown(&rt, &told, Word::Move, 1, 2, 64);
+    assert_shown(&rt, alloc, &told, Word::Move, 1, 2, 64)?;
     Ok(())
 }
 

@@ -20,10 +20,10 @@ pub struct View {
     pub asked: Option<Board>,
 }
 
-fn is_legal_last(last: &Option<Board>) -> bool
-    ensures { IsTrue result ↔ IfSome last.now IsLegal }
+fn is_legal_if_some(board: &Option<Board>) -> bool
+    ensures { IsTrue result ↔ IfSome board.now IsLegal }
 {
-    match last {
+    match board {
         None => true,
         Some(board) => is_legal(board),
     }
@@ -32,10 +32,13 @@ fn is_legal_last(last: &Option<Board>) -> bool
 impl View {
     ghost use Rattle.bs_game.specs.View.{IsFitView};
 
-    /// Whether the last board is legal, and the charge within a quota of at most 16,777,216 bytes.
+    /// Whether its boards are legal, and the charge is within a quota of at most 16,777,216 bytes.
     pub fn is_fit(&self) -> bool
         ensures { IsTrue result ↔ IsFitView self.now }
     {
-        is_legal_last(&self.last) && self.charge <= self.quota && self.quota <= MOST_QUOTA
+        is_legal_if_some(&self.last)
+            && is_legal_if_some(&self.asked)
+            && self.charge <= self.quota
+            && self.quota <= MOST_QUOTA
     }
 }

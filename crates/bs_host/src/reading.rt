@@ -7,7 +7,7 @@ use std::alloc::{AllocError, Global};
 use std::io::Read;
 use thiserror::Error;
 
-const BLOCK: usize = 8_192;
+const BLOCK: usize = 65_536;
 
 /// Why a command file was not read.
 #[derive(Debug, Drop, Error)]

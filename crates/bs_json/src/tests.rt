@@ -3,10 +3,11 @@ use crate::{
     Line, PlanFault, Stray, board_value, final_line, read_line, read_plan, reply_line, stray_line,
 };
 use bs_board::{
-    Board, Cause, Cells, Command, Id, Mode, Move, New, Plan, Point, Refusal, Reply, Snake, Snakes,
-    Word,
+    Board, Cause, Cells, Command, Id, KeptBoard, Mode, Move, New, Plan, Point, Refusal, Reply,
+    Snake, Snakes, Word, is_legal,
 };
 use std::alloc::{AllocError, Global};
+use std::process::Abort;
 use std::test::Fail;
 
 fn told_new(alloc: Global, new: &New) -> Result<String, AllocError> {
@@ -296,22 +297,35 @@ fn last_solo(alloc: Global) -> Result<Board, AllocError> {
     solo(alloc, 2, snake)
 }
 
+fn shown(
+    rt: &impl Abort,
+    alloc: Global,
+    word: Word,
+    board: &Board,
+    charge: u32,
+) -> Result<Reply, AllocError> {
+    assert!(rt; is_legal(board));
+    Ok(Reply::Shown(word, KeptBoard::of(alloc, board)?, charge))
+}
+
 #[test]
 fn a_solo_game_is_written(rt: HostRuntime) -> Result<(), Fail> {
     let alloc = rt.alloc();
     let game = Id::from_str(alloc, "a")?;
-    let first = living(alloc, "s", 100, &[(1, 1), (1, 1), (1, 1)])?;
-    let second = living(alloc, "s", 99, &[(1, 2), (1, 1), (1, 1)])?;
+    let snake = living(alloc, "s", 100, &[(1, 1), (1, 1), (1, 1)])?;
+    let first = solo(alloc, 0, snake)?;
+    let snake = living(alloc, "s", 99, &[(1, 2), (1, 1), (1, 1)])?;
+    let second = solo(alloc, 1, snake)?;
+    let last = last_solo(alloc)?;
     let mut written = Vec::new(alloc);
     for (seq, reply) in [
-        (1, Reply::Shown(Word::New, solo(alloc, 0, first)?, 32)),
-        (2, Reply::Shown(Word::Move, solo(alloc, 1, second)?, 64)),
-        (3, Reply::Shown(Word::Move, last_solo(alloc)?, 96)),
+        (1, shown(&rt, alloc, Word::New, &first, 32)?),
+        (2, shown(&rt, alloc, Word::Move, &second, 64)?),
+        (3, shown(&rt, alloc, Word::Move, &last, 96)?),
         (4, Reply::Refused(Refusal::Over)),
     ] {
         written.extend_from_slice(&reply_line(alloc, &game, seq, &reply)?)?;
     }
-    let last = last_solo(alloc)?;
     written.extend_from_slice(&final_line(alloc, &game, Some(&last), 96)?)?;
     assert_eq!(rt; written.as_slice(), SOLO_GAME.as_bytes());
     Ok(())

@@ -260,15 +260,20 @@ fn a_move_goes_in_parts(rt: HostRuntime) -> Result<(), Fail> {
     Ok(())
 }
 
-fn assert_shown(rt: &impl Abort, reply: &Reply, word: Word, turn: u16, charge: u32) {
-    let is_so = match reply {
-        Reply::Shown(said, board, charged) => {
-            *said == word && board.turn == turn && *charged == charge
-        }
-        Reply::Plain(_, _) => false,
-        Reply::Refused(_) => false,
+fn assert_shown(
+    rt: &impl Abort,
+    alloc: Global,
+    reply: &Reply,
+    word: Word,
+    turn: u16,
+    charge: u32,
+) -> Result<(), Fail> {
+    let Reply::Shown(said, kept, charged) = reply else {
+        return Err(Fail::from("not shown"));
     };
-    assert!(rt; is_so);
+    assert_eq!(rt; (*said, *charged), (word, charge));
+    assert_eq!(rt; kept.board(alloc)?.turn, turn);
+    Ok(())
 }
 
 fn assert_refused(rt: &impl Abort, reply: &Reply, reason: Refusal) {
@@ -303,13 +308,13 @@ fn quota_of_two_records(rt: HostRuntime) -> Result<(), Fail> {
     assert!(rt; core.rows() == 1);
     let replies = core.replies(0);
     assert!(rt; replies.len() == 7);
-    assert_shown(&rt, &replies[0], Word::New, 0, 32);
-    assert_shown(&rt, &replies[1], Word::Move, 1, 64);
+    assert_shown(&rt, alloc, &replies[0], Word::New, 0, 32)?;
+    assert_shown(&rt, alloc, &replies[1], Word::Move, 1, 64)?;
     assert_refused(&rt, &replies[2], Refusal::Quota);
     assert!(rt; matches!(&replies[3], Reply::Plain(Word::Free, 32)));
-    assert_shown(&rt, &replies[4], Word::Move, 2, 64);
+    assert_shown(&rt, alloc, &replies[4], Word::Move, 2, 64)?;
     assert_refused(&rt, &replies[5], Refusal::NoRecord);
-    assert_shown(&rt, &replies[6], Word::Turn, 1, 64);
+    assert_shown(&rt, alloc, &replies[6], Word::Turn, 1, 64)?;
     assert!(rt; core.count(0) == 2);
     Ok(())
 }
@@ -327,7 +332,7 @@ fn two_cores_hold_one_command(rt: HostRuntime) -> Result<(), Fail> {
         assert!(rt; core.rows() == 1);
         let replies = core.replies(0);
         assert!(rt; replies.len() == 1);
-        assert_shown(&rt, &replies[0], Word::New, 0, 32);
+        assert_shown(&rt, alloc, &replies[0], Word::New, 0, 32)?;
     }
     Ok(())
 }

@@ -14,7 +14,7 @@ use Rattle.bs_board.specs.declared.records.decode_error.Decode.{Decode}
 use Rattle.bs_board.specs.declared.records.decode_error.Decode.TheVariants.{NotARecord, Memory}
 use Rattle.bs_board.specs.boards.Legal.{IsLegal}
 use Rattle.bs_board.specs.records.Decoder.{Fails, Gives, read_cell, read_snake, read_board, read_ground, skip_cells, skip_state, skip_snake, skip_snakes, read_seats}
-use Rattle.bs_board.specs.records.Kept.{IsLegalRecord}
+use Rattle.bs_board.specs.records.Kept.{IsLegalRecord, board_in}
 use Rattle.bs_board.specs.records.Record.{cell_bytes, state_bytes, snake_record, head_bytes, record_of}
 use Rattle.bs_board.specs.records.Writing.{IsByteCell, IsWritable, IsWritableBoard}
 use Rattle.bs_board.proofs.records.BoardRecord.{head_again, legal_texts, both_by_recursion, record_is_read}
@@ -62,6 +62,17 @@ pub board_is_of_record : {E : Type 0} (bytes : List ℕ) (read : Result Board De
     → Gives (λ board. board) read (read_board is_utf8 bytes) → IfOk result (λ board. read ≡ Ok board) → IfOk result (λ board. bytes ≡ record_of board)
 board_is_of_record bytes read result kept given found =
     held (λ board. bytes ≡ record_of board) result kept.board kept.is (board_is_found bytes kept.board read result kept.legal kept.is given found)
+
+-- it is the board that clauses see of the bytes
+pub only_board_in : (bytes : List ℕ) (b : Board) → IsLegal b → bytes ≡ record_of b → board_in bytes ≡ b
+unfolding board_in
+only_board_in bytes b legal is = rw (record_is_read bytes b legal is) refl
+
+pub legal_board_in : (bytes : List ℕ) → IsLegalRecord bytes → IsLegal (board_in bytes)
+legal_board_in bytes kept = rw (only_board_in bytes kept.board kept.legal kept.is) kept.legal
+
+pub record_of_board_in : (bytes : List ℕ) → IsLegalRecord bytes → bytes ≡ record_of (board_in bytes)
+record_of_board_in bytes kept = kept.is ∙ ap record_of (sym (only_board_in bytes kept.board kept.legal kept.is))
 
 -- ---- the board with nobody on it
 

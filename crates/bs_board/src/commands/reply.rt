@@ -2,8 +2,8 @@
 
 ghost use Rattle.std.specs.Prelude.{◌≡◌, IfOk};
 
-use crate::boards::board::Board;
 use crate::commands::command::Word;
+use crate::records::kept_board::KeptBoard;
 use std::alloc::{AllocError, Global};
 
 /// Why a command was refused, in the order in which the reasons are judged.
@@ -25,10 +25,11 @@ pub enum Refusal {
     Quota,
 }
 
-/// What a command is answered. The number is the charge of the game after the command, in bytes.
+/// What a command is answered. The number is the charge of the game after the command, in bytes. A board is kept as its
+/// record: a transcript holds as many as there are moves.
 #[derive(Debug, Drop)]
 pub enum Reply {
-    Shown(Word, Board, u32),
+    Shown(Word, KeptBoard, u32),
     Plain(Word, u32),
     Refused(Refusal),
 }
