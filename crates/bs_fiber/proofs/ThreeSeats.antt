@@ -47,11 +47,11 @@ module _ (board : Board) (orders : Orders) (legal : IsLegal board) where
   seen_on job parts = record { quota = refl; charge = refl; kept = refl; last = (legal, refl); asked = tt }
 
   pub part_fits : (part : ℕ) → goes (view_on board) (command.Move orders) ≡ true → part < parts_of (length board.snakes)
-      → IsFitInput (input_on board orders (record { kind = Part; game = 1; part = part }) [])
+      → IsFitInput (input_on board orders (record { game = 1; kind = Part; part = part }) [])
   part_fits part go there =
       fit_for_one_view _ (view_on board) (game_on _ []) (seen_on _ []) (refl, record { goes = go; there = there })
 
-  pub part_is : (part : ℕ) (moved : List Snake) → IsWorked (input_on board orders (record { kind = Part; game = 1; part = part }) []) (Moved moved)
+  pub part_is : (part : ℕ) (moved : List Snake) → IsWorked (input_on board orders (record { game = 1; kind = Part; part = part }) []) (Moved moved)
       → moved ≡ moved_part part (view_on board) (command.Move orders)
   part_is part moved worked =
       let same : Moved moved ≡ Moved (moved_part part (view_on board) (command.Move orders)) = worked (view_on board) (seen_on _ []) in
@@ -68,6 +68,6 @@ module _ (board : Board) (orders : Orders) (legal : IsLegal board) where
 
   pub join_fits : (first second : List Snake) → goes (view_on board) (command.Move orders) ≡ true → length board.snakes ≡ 3
       → first ≡ moved_part 0 (view_on board) (command.Move orders) → second ≡ moved_part 1 (view_on board) (command.Move orders)
-      → IsFitInput (input_on board orders (record { kind = Join; game = 1; part = 0 }) (first ∷ second ∷ []))
+      → IsFitInput (input_on board orders (record { game = 1; kind = Join; part = 0 }) (first ∷ second ∷ []))
   join_fits first second go three one two =
       fit_for_one_view _ (view_on board) (game_on _ _) (seen_on _ _) (record { goes = go; moved = two_moved first second three one two })

@@ -13,8 +13,8 @@ use std::alloc::{AllocError, Global};
 pub struct Expected<'a> {
     /// The job.
     pub job: JobName,
-    /// The worker that took it.
-    pub worker: usize,
+    /// The worker that took it, as a core's journal names it.
+    pub worker: u32,
     /// The number of the command in its game, from 1.
     pub seq: u64,
     /// What the game's records may be charged at most, in bytes.
@@ -45,11 +45,11 @@ impl Expected<'_> {
     ghost use Rattle.bs_fiber.specs.Expected.{IsOf};
 
     /// All of it, the records copied and the command shared: an input that has no parts yet.
-    pub fn to_input(&self, alloc: Global) -> Result<Input, AllocError>
-        ensures expected { IfOk result (λ input. IsOf input self.now) }
-        ensures parts { IfOk result (λ input. input.parts ≡ []) }
+    pub fn to_input(&self, alloc: Global) -> Result<Box<Input>, AllocError>
+        ensures expected { IfOk result (λ input. IsOf input.value self.now) }
+        ensures parts { IfOk result (λ input. input.value.parts ≡ []) }
     {
-        Ok(Input {
+        let input = Input {
             job: self.job,
             worker: self.worker,
             seq: self.seq,
@@ -60,6 +60,7 @@ impl Expected<'_> {
             asked: copy_record(alloc, self.asked)?,
             command: self.command.share()?,
             parts: Parts::from_vec(Vec::new(alloc)),
-        })
+        };
+        Ok(Box::new(alloc, input)?)
     }
 }

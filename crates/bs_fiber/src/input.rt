@@ -9,8 +9,8 @@ use bs_game::Record;
 pub struct Input {
     /// The job.
     pub job: JobName,
-    /// The worker that took the job.
-    pub worker: usize,
+    /// The worker that took the job, as a core's journal names it.
+    pub worker: u32,
     /// The number of the command in its game, from 1.
     pub seq: u64,
     /// What the game's records may be charged at most, in bytes.

@@ -10,13 +10,13 @@ pub enum JobKind {
     Join,
 }
 
-/// A job of one game.
+/// A job of one game. Its numbers are short since a core's journal keeps each job's name twice: it has 8 bytes.
 #[derive(Clone, Copy, Debug, PartialEq, Eq)]
 pub struct JobName {
+    /// The game's row in the plan, from 0.
+    pub game: u32,
     /// What it does.
     pub kind: JobKind,
-    /// The game's row in the plan, from 0. It has 32 bits, as a part's number, since each job is kept in a core's journal twice.
-    pub game: u32,
     /// Part `p` moves the seats `2p` and `2p + 1`. 0 in a job that is no part.
-    pub part: u32,
+    pub part: u8,
 }

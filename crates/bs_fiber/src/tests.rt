@@ -85,11 +85,11 @@ fn input(
     command: Command,
     job: JobName,
     parts: Parts,
-) -> Result<Input, AllocError>
+) -> Result<Box<Input>, AllocError>
     requires { IsLegal last.now }
-    ensures { IfOk result (λ input. input ≡ record { job = job; worker = 1; seq = 2; quota = 4096; charge = 64; kept = 1; last = Some (record_of last.now); asked = None; command = command; parts = parts }) }
+    ensures { IfOk result (λ input. input.value ≡ record { job = job; worker = 1; seq = 2; quota = 4096; charge = 64; kept = 1; last = Some (record_of last.now); asked = None; command = command; parts = parts }) }
 {
-    Ok(Input {
+    let input = Input {
         job,
         worker: 1,
         seq: 2,
@@ -100,15 +100,16 @@ fn input(
         asked: None,
         command: SharedCommand::new(alloc, command)?,
         parts,
-    })
+    };
+    Ok(Box::new(alloc, input)?)
 }
 
-fn job(kind: JobKind, part: u32) -> JobName
-    ensures { result ≡ record { kind = kind; game = 1; part = part } }
+fn job(kind: JobKind, part: u8) -> JobName
+    ensures { result ≡ record { game = 1; kind = kind; part = part } }
 {
     JobName {
-        kind,
         game: 1,
+        kind,
         part,
     }
 }
@@ -244,7 +245,7 @@ fn assert_goes(rt: &impl Abort, view: &View, command: &Command)
     assert!(rt; goes(view, command));
 }
 
-fn assert_part(rt: &impl Abort, last: &Board, part: u32)
+fn assert_part(rt: &impl Abort, last: &Board, part: u8)
     ensures { part < parts_of (length last.now.snakes) }
 {
     assert!(rt; last.snakes.len() == 3 && part < 2);
@@ -257,7 +258,7 @@ fn part_moved(
     view: &View,
     last: &Board,
     orders: &Move,
-    part: u32,
+    part: u8,
 ) -> Result<Snakes, Fail>
     requires legal { IsLegal last.now }
     requires view { view.now ≡ record { quota = 4096; charge = 64; kept = 1; last = Some last.now; asked = None } }

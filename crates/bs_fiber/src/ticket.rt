@@ -39,10 +39,11 @@ fn has_contents_of(input: &Input, expected: &Expected) -> bool
         && input.command.get().is_same(expected.command.get())
 }
 
-/// A job to be worked, with a copy of all that it reads. Clauses see its input.
+/// A job to be worked, with a copy of all that it reads. That lies behind a pointer, since a ticket is moved from hand to
+/// hand and an input has more than a hundred bytes. Clauses see its input.
 #[derive(Debug, Drop)]
 pub struct Ticket {
-    input: Input,
+    input: Box<Input>,
 }
 
 impl Model for Ticket {
@@ -51,9 +52,9 @@ impl Model for Ticket {
 
     ghost Value = { Input };
 
-    ghost view = { λ t. t.input };
+    ghost view = { λ t. t.input.value };
 
-    ghost invariant = { λ t. IsFitInput t.input };
+    ghost invariant = { λ t. IsFitInput t.input.value };
 }
 
 impl Ticket {
@@ -61,9 +62,9 @@ impl Ticket {
 
     /// The records are those of legal boards, one that is asked for comes with a `turn` alone, and the charge is within
     /// the quota. A Part or a Join is of a move that goes, and a Join alone has parts: what each of them moved.
-    pub fn new(input: Input) -> Ticket
-        requires { IsFitInput input }
-        ensures { result ≡ input }
+    pub fn new(input: Box<Input>) -> Ticket
+        requires { IsFitInput input.value }
+        ensures { result ≡ input.value }
     {
         Ticket { input }
     }
@@ -84,7 +85,7 @@ impl Ticket {
     }
 
     /// The worker that took it.
-    pub fn worker(&self) -> usize
+    pub fn worker(&self) -> u32
         ensures { result ≡ self.now.worker }
     {
         self.input.worker
