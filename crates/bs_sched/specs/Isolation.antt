@@ -124,7 +124,7 @@ IsolationLaw =
 -- Jobs can be taken: whoever of the workers asks, a command that was handed to a new game is begun and answered.
 
 abbrev pub begin_of_only : JobName
-begin_of_only = record { kind = kind.Begin; game = 0; part = 0 }
+begin_of_only = record { game = 0; kind = kind.Begin; part = 0 }
 
 abbrev pub showing : ℕ → List Event
 showing worker = event.Hand 0 command.Show ∷ event.Take worker begin_of_only ∷ event.Put worker begin_of_only ∷ []

@@ -106,9 +106,10 @@ impl<const CAP: usize> Core<CAP> {
         keeps_limits(command.get());
         let handed = command.share()?;
         let noted = command.share()?;
+        let row = self.games.row_number(game);
         reserve_events(&mut self.journal, self.out, 1)?;
         self.games.hand(game, handed)?;
-        note(&mut self.journal, Event::Hand(game, noted));
+        note(&mut self.journal, Event::Hand(row, noted));
         Ok(())
     }
 

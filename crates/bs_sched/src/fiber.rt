@@ -119,7 +119,7 @@ fn is_ready_slot(slot: &Slot) -> bool
 }
 
 /// The first part that nobody has taken.
-fn first_ready(slots: &[Slot]) -> Option<u32>
+fn first_ready(slots: &[Slot]) -> Option<u8>
     requires { length slots.now ≤ 4 }
     ensures { MatchOption result
         ((p : ℕ) → is_part_ready (slice_index_or (map state_of slots.now) p state.Done) ≡ false)
@@ -127,7 +127,7 @@ fn first_ready(slots: &[Slot]) -> Option<u32>
 {
     for part in 0..slots.len() {
         if is_ready_slot(&slots[part]) {
-            return Some(part as u32);
+            return Some(part as u8);
         }
     }
     None
@@ -337,7 +337,7 @@ impl Fiber {
     }
 
     /// Whether the worker has that job.
-    pub(crate) fn has_out(&self, worker: usize, kind: JobKind, part: u32) -> bool
+    pub(crate) fn has_out(&self, worker: usize, kind: JobKind, part: u8) -> bool
         ensures { result ≡ is_out worker self.now kind part }
     {
         match (kind, self.stage) {
@@ -348,7 +348,7 @@ impl Fiber {
         }
     }
 
-    fn ready_part(&self) -> Option<(JobKind, u32)>
+    fn ready_part(&self) -> Option<(JobKind, u8)>
         requires { is_in_parts self.now.stage ≡ true }
         ensures { MatchOption result (HasNoneReady self.now) (λ job. is_ready self.now job.0 job.1 ≡ true) }
     {
@@ -359,7 +359,7 @@ impl Fiber {
     }
 
     /// A job that is there to be taken, the parts from the first on.
-    pub(crate) fn ready(&self) -> Option<(JobKind, u32)>
+    pub(crate) fn ready(&self) -> Option<(JobKind, u8)>
         ensures { MatchOption result (HasNoneReady self.now) (λ job. is_ready self.now job.0 job.1 ≡ true) }
     {
         match self.stage {

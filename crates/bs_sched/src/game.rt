@@ -24,6 +24,7 @@ pub(crate) fn are_quiet(fibers: &[Fiber]) -> bool
 }
 
 /// Whether the worker has the ticket's job, and the ticket holds what the game has for it.
+#[tactic(auto, using(crate::proofs::OwnJobs::own_hands))]
 pub(crate) fn is_own<const CAP: usize>(
     fiber: &Fiber,
     heap: &TagHeap<CAP>,
@@ -34,11 +35,15 @@ pub(crate) fn is_own<const CAP: usize>(
     ensures { IsTrue result ↔ IsOwnOf fiber.now worker ticket.now }
 {
     let job = ticket.job();
+    let number = ticket.worker();
+    if number as usize != worker {
+        return false;
+    }
     if !fiber.has_out(worker, job.kind, job.part) {
         return false;
     }
     fiber.keeps();
-    ticket.is_of(&expected(fiber, heap, fiber.command(), fiber.seq(), worker, job))
+    ticket.is_of(&expected(fiber, heap, fiber.command(), fiber.seq(), number, job))
 }
 
 /// The command of the game has its answer.

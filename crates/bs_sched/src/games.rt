@@ -1,6 +1,6 @@
 //! All games of a plan: what their records lie in, and what is read of them. Clauses see them as lanes, and where their
 //! records lie.
-ghost use Rattle.std.specs.Prelude.{◌≡◌, ◌+◌, ◌<◌, [], true, length, slice_index_or, map, IfOk, OnOk, OnErr};
+ghost use Rattle.std.specs.Prelude.{◌≡◌, ◌+◌, ◌≤◌, ◌<◌, [], true, length, slice_index_or, map, IfOk, OnOk, OnErr};
 ghost use Rattle.std.specs.List.{list_all};
 ghost use Rattle.bs_board.specs.plans.Plan.{IsFitPlan};
 ghost use Rattle.bs_board.specs.records.Record.{record_of};
@@ -29,7 +29,8 @@ use std::marker::Model;
 #[derive(Drop)]
 pub(crate) struct Games<const CAP: usize> {
     pub(crate) rows: Rows,
-    pub(crate) workers: usize,
+    /// The last worker's number, with as many bits as an event has for it.
+    pub(crate) workers: u32,
     pub(crate) failed: bool,
     pub(crate) fibers: Vec<Fiber>,
     pub(crate) heaps: Vec<TagHeap<CAP>>,
@@ -92,7 +93,25 @@ impl<const CAP: usize> Games<CAP> {
     pub(crate) fn workers(&self) -> usize
         ensures { result ≡ self.now.workers }
     {
-        self.workers
+        self.workers as usize
+    }
+
+    /// The worker's number as an event has it.
+    pub(crate) fn worker_number(&self, worker: usize) -> u32
+        requires { worker ≤ self.now.workers }
+        ensures { result ≡ worker }
+    {
+        let _last = self.workers;
+        worker as u32
+    }
+
+    /// The game's row as an event has it.
+    pub(crate) fn row_number(&self, game: usize) -> u32
+        requires { game < length self.now.lanes }
+        ensures { result ≡ game }
+    {
+        let _games = self.count_rows();
+        game as u32
     }
 
     pub(crate) fn row(&self, game: usize) -> &Row

@@ -39,6 +39,14 @@ impl From<AllocError> for Open {
     }
 }
 
+/// The last worker's number as the core keeps it. One of more than 32 bits is answered as want of memory is: the tables by
+/// worker would take gigabytes.
+fn last_worker(workers: usize) -> Result<u32, AllocError>
+    ensures { IfOk result (λ last. last ≡ workers) }
+{
+    u32::try_from(workers).map_err(|_| AllocError)
+}
+
 fn open_fibers(alloc: Global, rows: &[Row]) -> Result<Vec<Fiber>, AllocError>
     ensures { IfOk result (λ fibers. fibers.items ≡ map (λ row. empty_lane row.quota) rows.now) }
 {
@@ -80,6 +88,7 @@ impl<const CAP: usize> Games<CAP> {
         if blocks_of_all(CAP, rows) > blocks {
             return Err(Open::Short);
         }
+        let workers = last_worker(workers)?;
         let pool = open_pool(alloc, rows, blocks)?;
         let fibers = open_fibers(alloc, rows)?;
         let heaps = open_heaps(alloc, rows)?;
@@ -96,7 +105,8 @@ impl<const CAP: usize> Games<CAP> {
 
 impl<const CAP: usize> Core<CAP> {
     /// A core over so many blocks, in which each game's own are set aside. Workers are numbered from 0 to `workers`,
-    /// the caller's own being the last. `Short` where the plan needs more blocks.
+    /// the caller's own being the last. `Short` where the plan needs more blocks; `Memory` also where a worker's number
+    /// would have more than 32 bits.
     pub fn open(alloc: Global, plan: Plan, blocks: usize, workers: usize) -> Result<Self, Open>
         requires capacity { IsCapacity CAP }
         requires wide { LEAST_CAPACITY ≤ CAP }

@@ -132,13 +132,15 @@ impl<const CAP: usize> Games<CAP> {
 
 impl<const CAP: usize> Core<CAP> {
     /// The worker's own job is done. The journal has room for its coming back.
+    #[tactic(auto, using(crate::proofs::OwnJobs::own_worker))]
     fn settle(&mut self, worker: usize, done: Done)
         requires { IsOwn self.old.games worker done }
         ensures { self.new ≡ core_after CAP self.old (event.Put worker done.job) }
     {
         let job = done.ticket().job();
+        let number = done.ticket().worker();
         self.games.settle(done);
-        note(&mut self.journal, Event::Put(worker, job));
+        note(&mut self.journal, Event::Put(number, job));
         self.out -= 1;
         mark(&mut self.busy, worker, job.kind, false);
     }

@@ -79,7 +79,7 @@ pub(crate) fn expected<'a, const CAP: usize>(
     heap: &'a TagHeap<CAP>,
     command: &'a SharedCommand,
     seq: u64,
-    worker: usize,
+    worker: u32,
     job: JobName,
 ) -> Expected<'a>
     requires { KeepsBoards fiber.now heap.now }

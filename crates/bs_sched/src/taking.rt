@@ -79,19 +79,19 @@ fn begin_input<const CAP: usize>(
     alloc: Global,
     fiber: &mut Fiber,
     heap: &TagHeap<CAP>,
-    worker: usize,
+    worker: u32,
     job: JobName,
-) -> Result<Input, AllocError>
+) -> Result<Box<Input>, AllocError>
     requires kind { job.kind ≡ kind.Begin }
     requires ready { is_ready fiber.old kind.Begin job.part ≡ true }
     requires heap { KeepsBoards fiber.old heap.now }
-    ensures input { IfOk result (λ input. input ≡ input_of fiber.new worker job) }
+    ensures input { IfOk result (λ input. input.value ≡ input_of fiber.new worker job) }
     ensures ok { OnOk result (fiber.new ≡ with_taken worker kind.Begin job.part fiber.old) }
     ensures err { OnErr result (fiber.new ≡ fiber.old) }
 {
     let seq = fiber.next_seq();
     let input = expected(fiber, heap, fiber.next(), seq, worker, job).to_input(alloc)?;
-    fiber.begin(worker)?;
+    fiber.begin(worker as usize)?;
     Ok(input)
 }
 
@@ -100,19 +100,19 @@ fn part_input<const CAP: usize>(
     alloc: Global,
     fiber: &mut Fiber,
     heap: &TagHeap<CAP>,
-    worker: usize,
+    worker: u32,
     job: JobName,
-) -> Result<Input, AllocError>
+) -> Result<Box<Input>, AllocError>
     requires kind { job.kind ≡ kind.Part }
     requires ready { is_ready fiber.old kind.Part job.part ≡ true }
     requires heap { KeepsBoards fiber.old heap.now }
-    ensures input { IfOk result (λ input. input ≡ input_of fiber.new worker job) }
+    ensures input { IfOk result (λ input. input.value ≡ input_of fiber.new worker job) }
     ensures ok { OnOk result (fiber.new ≡ with_taken worker kind.Part job.part fiber.old) }
     ensures err { OnErr result (fiber.new ≡ fiber.old) }
 {
     let seq = fiber.seq();
     let input = expected(fiber, heap, fiber.command(), seq, worker, job).to_input(alloc)?;
-    fiber.take_part(worker, job.part as usize);
+    fiber.take_part(worker as usize, job.part as usize);
     Ok(input)
 }
 
@@ -121,19 +121,19 @@ fn join_input<const CAP: usize>(
     alloc: Global,
     fiber: &mut Fiber,
     heap: &TagHeap<CAP>,
-    worker: usize,
+    worker: u32,
     job: JobName,
-) -> Result<Input, AllocError>
+) -> Result<Box<Input>, AllocError>
     requires kind { job.kind ≡ kind.Join }
     requires ready { is_ready fiber.old kind.Join job.part ≡ true }
     requires heap { KeepsBoards fiber.old heap.now }
-    ensures input { IfOk result (λ input. input ≡ input_of fiber.new worker job) }
+    ensures input { IfOk result (λ input. input.value ≡ input_of fiber.new worker job) }
     ensures ok { OnOk result (fiber.new ≡ with_taken worker kind.Join job.part fiber.old) }
     ensures err { OnErr result (fiber.new ≡ fiber.old) }
 {
     let seq = fiber.seq();
     let mut input = expected(fiber, heap, fiber.command(), seq, worker, job).to_input(alloc)?;
-    input.parts = fiber.join(alloc, worker)?;
+    input.parts = fiber.join(alloc, worker as usize)?;
     Ok(input)
 }
 
@@ -141,12 +141,12 @@ fn take_input<const CAP: usize>(
     alloc: Global,
     fiber: &mut Fiber,
     heap: &TagHeap<CAP>,
-    worker: usize,
+    worker: u32,
     job: JobName,
-) -> Result<Input, AllocError>
+) -> Result<Box<Input>, AllocError>
     requires ready { is_ready fiber.old job.kind job.part ≡ true }
     requires heap { KeepsBoards fiber.old heap.now }
-    ensures input { IfOk result (λ input. input ≡ input_of fiber.new worker job) }
+    ensures input { IfOk result (λ input. input.value ≡ input_of fiber.new worker job) }
     ensures ok { OnOk result (fiber.new ≡ with_taken worker job.kind job.part fiber.old) }
     ensures err { OnErr result (fiber.new ≡ fiber.old) }
 {
@@ -163,7 +163,7 @@ fn take_ticket<const CAP: usize>(
     alloc: Global,
     fiber: &mut Fiber,
     heap: &mut TagHeap<CAP>,
-    worker: usize,
+    worker: u32,
     job: JobName,
 ) -> Result<Ticket, AllocError>
     requires ready { is_ready fiber.old job.kind job.part ≡ true }
@@ -204,7 +204,7 @@ impl<const CAP: usize> Games<CAP> {
         }
     }
 
-    fn take_job(&mut self, alloc: Global, worker: usize, job: JobName) -> Result<Ticket, AllocError>
+    fn take_job(&mut self, alloc: Global, worker: u32, job: JobName) -> Result<Ticket, AllocError>
         requires game { job.game < length self.old.lanes }
         requires ready { is_ready (lane_of self.old.lanes job.game) job.kind job.part ≡ true }
         ensures ticket { IfOk result (λ ticket. ticket ≡ input_of (lane_of self.new.lanes job.game) worker job) }
@@ -249,15 +249,17 @@ impl<const CAP: usize> Core<CAP> {
     }
 
     /// The worker takes that job. The journal gets room for its coming back too.
+    #[tactic(auto, using(crate::proofs::TakenJobs::taker_is_worker))]
     fn take_job(&mut self, alloc: Global, worker: usize, job: JobName) -> Result<Ticket, AllocError>
         requires enabled { is_enabled self.old.games.workers self.old.games.lanes (event.Take worker job) ≡ true }
         ensures ticket { IfOk result (λ ticket. ticket ≡ input_of (lane_of self.new.games.lanes job.game) worker job) }
         ensures ok { OnOk result (self.new ≡ core_after CAP self.old (event.Take worker job)) }
         ensures err { OnErr result (self.new ≡ self.old) }
     {
+        let number = self.games.worker_number(worker);
         reserve_events(&mut self.journal, self.out, 2)?;
-        let ticket = self.games.take_job(alloc, worker, job)?;
-        note(&mut self.journal, Event::Take(worker, job));
+        let ticket = self.games.take_job(alloc, number, job)?;
+        note(&mut self.journal, Event::Take(number, job));
         self.out += 1;
         mark(&mut self.busy, worker, job.kind, true);
         note_game(&mut self.last_games, worker, job.game as usize);

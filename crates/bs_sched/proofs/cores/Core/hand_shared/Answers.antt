@@ -18,7 +18,7 @@ invariant_of-self-2 g c =
     let within : c.args.game < length inside.games.lanes = subst (λ (v : CoreView). c.args.game < length v.games.lanes) (sym c.self.view_is) c.requires in
     let enabled : is_enabled inside.games.workers inside.games.lanes e ≡ true = both_true (nat_lt c.args.game (length inside.games.lanes)) true (lt-ltb _ _ within) refl in
     let items : c.note.new.journal.items ≡ inside.journal.items ++ e ∷ []
-    = rw (c.note.ensures.items, c.in_ok-noted.ensures, c.reserve_events.ensures.items) refl in
+    = rw (c.note.ensures.items, c.in_ok-noted.ensures, c.row_number-row.ensures, c.reserve_events.ensures.items) refl in
     let len = c.note.ensures.len in
     let capacity = c.note.ensures.capacity in
     let room = c.in_ok-reserve_events.ensures.room in

@@ -17,7 +17,8 @@ invariant_of-self g c =
     let job = c.job-job.ensures ∙ ap (λ (i : Input). i.job) c.ticket.ensures in
     let enabled : is_enabled inside.games.workers inside.games.lanes e ≡ true
     = subst (λ (v : CoreView). is_enabled v.games.workers v.games.lanes e ≡ true) (sym c.self.view_is) c.requires.out in
-    let items : c.note.new.journal.items ≡ inside.journal.items ++ e ∷ [] = rw (c.note.ensures.items, job) refl in
+    let worker = c.worker-number.ensures ∙ ap (λ (i : Input). i.worker) (c.ticket-2.ensures ∙ c.requires.input) in
+    let items : c.note.new.journal.items ≡ inside.journal.items ++ e ∷ [] = rw (c.note.ensures.items, job, worker) refl in
     let less = one_less_out inside.games.workers inside.games.lanes c.args.worker c.args.done.job enabled in
     let counted = c.self.invariant.out in
     let fewer : inside.out - 1 ≡ jobs_out (lane_effect inside.games.lanes e) = omega (arith, counted, less) in

@@ -14,12 +14,12 @@ invariant_of-self-2 g c =
     let e = event.Take c.args.worker c.args.job in
     let enabled : is_enabled inside.games.workers inside.games.lanes e ≡ true
     = subst (λ (v : CoreView). is_enabled v.games.workers v.games.lanes e ≡ true) (sym c.self.view_is) c.requires.enabled in
-    let items : c.note.new.journal.items ≡ inside.journal.items ++ e ∷ [] = rw (c.note.ensures.items, c.reserve_events.ensures.items) refl in
+    let items : c.note.new.journal.items ≡ inside.journal.items ++ e ∷ [] = rw (c.note.ensures.items, c.worker_number-number.ensures, c.reserve_events.ensures.items) refl in
     let more = one_more_out inside.games.workers inside.games.lanes c.args.worker c.args.job enabled in
     let len = c.note.ensures.len in
     let capacity = c.note.ensures.capacity in
     let room = c.in_ok-reserve_events.ensures.room in
-    journaled_after g.row.CAP inside e _ c.self.invariant enabled tt c.in_ok-ticket.ensures.ok items
+    journaled_after g.row.CAP inside e _ c.self.invariant enabled tt (rw c.worker_number-number.ensures at c.in_ok-ticket.ensures.ok) items
     (ap (λ n. n + 1) c.self.invariant.out ∙ sym more) (omega (arith, len, capacity, room))
     (subst (IsBusyTable inside.games.workers (lane_effect inside.games.lanes e)) (sym c.mark.ensures)
     (take_marks inside.games.workers inside.games.lanes inside.busy.items c.args.worker c.args.job enabled c.self.invariant.busy))
