@@ -1,5 +1,5 @@
 //! A board as replies show it, sent to a `Serializer` member by member. The types here only borrow what they show.
-ghost use Rattle.std.specs.Prelude.{OnOk};
+ghost use Rattle.std.specs.Prelude.{OnOk, pos, ◌≤ℤ◌};
 ghost use Rattle.serde_json.specs.Data.{number};
 ghost use Rattle.serde_json.specs.Events.{SendsValue};
 ghost use Rattle.serde_json.specs.Find.{of_integer};
@@ -25,22 +25,43 @@ pub fn send_member<T: Serialize, S: Serializer>(
 }
 
 /// A column or a row, which is below 0 beyond an edge.
-#[derive(Clone, Copy)]
-struct Coordinate(i16);
-
-impl Described for Coordinate {
-    ghost writes = { λ c. SendsValue (number (of_integer c.0)) };
+fn send_coordinate<S: Serializer>(coordinate: i16, out: &mut S) -> Result<(), S::Error>
+    ensures { OnOk result
+        (SendsValue (number (of_integer coordinate)) (S.written out.old) (S.written out.new)) }
+{
+    if coordinate >= 0 {
+        out.u64(coordinate as u64)
+    } else {
+        out.i64(i64::from(coordinate))
+    }
 }
 
-impl Serialize for Coordinate {
-    #[inline(always)]
-    fn serialize<S: Serializer>(&self, out: &mut S) -> Result<(), S::Error> {
-        if self.0 >= 0 {
-            out.u64(self.0 as u64)
-        } else {
-            out.i64(i64::from(self.0))
-        }
-    }
+/// A cell that is neither left of the board nor below it, as nearly all are.
+fn send_inner<S: Serializer>(cell: Point, out: &mut S) -> Result<(), S::Error>
+    requires column { pos 0 ≤ℤ cell.x }
+    requires row { pos 0 ≤ℤ cell.y }
+    ensures { OnOk result
+        (SendsValue (cell_data cell) (S.written out.old) (S.written out.new)) }
+{
+    out.begin_map(Some(2))?;
+    out.key("x")?;
+    out.u64(cell.x as u64)?;
+    out.key("y")?;
+    out.u64(cell.y as u64)?;
+    out.end_map()
+}
+
+/// Any other cell.
+fn send_beyond<S: Serializer>(cell: Point, out: &mut S) -> Result<(), S::Error>
+    ensures { OnOk result
+        (SendsValue (cell_data cell) (S.written out.old) (S.written out.new)) }
+{
+    out.begin_map(Some(2))?;
+    out.key("x")?;
+    send_coordinate(cell.x, out)?;
+    out.key("y")?;
+    send_coordinate(cell.y, out)?;
+    out.end_map()
 }
 
 #[derive(Clone, Copy)]
@@ -53,10 +74,12 @@ impl Described for ShownCell {
 impl Serialize for ShownCell {
     #[inline(always)]
     fn serialize<S: Serializer>(&self, out: &mut S) -> Result<(), S::Error> {
-        out.begin_map(Some(2))?;
-        send_member("x", &Coordinate(self.0.x), out)?;
-        send_member("y", &Coordinate(self.0.y), out)?;
-        out.end_map()
+        let cell = self.0;
+        if cell.x >= 0 && cell.y >= 0 {
+            send_inner(cell, out)
+        } else {
+            send_beyond(cell, out)
+        }
     }
 }
 
