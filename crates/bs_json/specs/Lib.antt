@@ -2,7 +2,6 @@ pub mod Boards
 pub mod Commands
 pub mod Compact
 pub mod Line
-pub mod Members
 pub mod Moves
 pub mod PlanLine
 pub mod Replies

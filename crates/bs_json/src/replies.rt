@@ -1,11 +1,12 @@
 //! The lines of a transcript. A line's type borrows what the line tells, and is sent straight into the line's text.
-ghost use Rattle.std.specs.Prelude.{◌≡◌, IfOk, OnOk};
+ghost use Rattle.std.specs.Prelude.{◌≡◌, IfOk};
 ghost use Rattle.std.specs.Option.{option_copied};
 ghost use Rattle.serde_json.specs.Events.{SendsValue};
+ghost use Rattle.bs_board.specs.declared.commands.reply.Reply.TheVariants.{Shown, Plain, Refused};
 ghost use Rattle.bs_json.specs.Replies.{word_text, refusal_code, refusal_text, stray_code, stray_text, reply_data, last_data, final_data, stray_data, IsLineOf, reply_line_of, final_line_of, stray_line_of};
 
 use crate::line::Stray;
-use crate::shown::{ShownBoard, send_member};
+use crate::shown::ShownBoard;
 use bs_board::{Board, Id, Refusal, Reply, Word};
 use serde::{Described, Serialize, Serializer};
 use std::alloc::{AllocError, Global};
@@ -85,89 +86,93 @@ fn sent_line<T: Serialize>(alloc: Global, value: &T) -> Result<Vec<u8>, AllocErr
     }
 }
 
-/// The line of one answered command.
+/// The line of an answer with a board.
 #[derive(Clone, Copy)]
-struct ReplyLine<'r> {
+struct ShownLine<'r> {
     game: &'r Id,
     seq: u64,
-    reply: &'r Reply,
+    word: Word,
+    board: &'r Board,
+    charge: u32,
 }
 
-impl Described for ReplyLine<'_> {
-    ghost writes = { λ line. SendsValue (reply_data line.game.now line.seq line.reply.now) };
+impl Described for ShownLine<'_> {
+    ghost writes = { λ line. SendsValue (reply_data line.game.now line.seq (Shown line.word line.board.now line.charge)) };
 }
 
-impl Serialize for ReplyLine<'_> {
+impl Serialize for ShownLine<'_> {
+    #[tactic(auto, unfolding(crate::specs::Replies::reply_data))]
     fn serialize<S: Serializer>(&self, out: &mut S) -> Result<(), S::Error> {
-        match self.reply {
-            Reply::Shown(word, board, charge) => {
-                send_shown(self.game, self.seq, *word, board, *charge, out)
-            }
-            Reply::Plain(word, charge) => send_plain(self.game, self.seq, *word, *charge, out),
-            Reply::Refused(refusal) => send_refused(self.game, self.seq, *refusal, out),
-        }
+        out.begin_map(Some(5))?;
+        out.key("board")?;
+        ShownBoard(self.board).serialize(out)?;
+        out.key("charge")?;
+        out.u64(u64::from(self.charge))?;
+        out.key("do")?;
+        out.str(word_text(self.word))?;
+        out.key("game")?;
+        out.str(self.game.as_str())?;
+        out.key("seq")?;
+        out.u64(self.seq)?;
+        out.end_map()
     }
 }
 
-#[tactic(auto, unfolding(crate::specs::Replies::reply_data))]
-fn send_shown<S: Serializer>(
-    game: &Id,
-    seq: u64,
-    word: Word,
-    board: &Board,
-    charge: u32,
-    out: &mut S,
-) -> Result<(), S::Error>
-    ensures { OnOk result
-        (SendsValue (reply_data game.now seq (Reply.Shown word board.now charge))
-        (S.written out.old) (S.written out.new)) }
-{
-    out.begin_map(Some(5))?;
-    send_member("board", &ShownBoard(board), out)?;
-    send_member("charge", &charge, out)?;
-    send_member("do", &word_text(word), out)?;
-    send_member("game", &game.as_str(), out)?;
-    send_member("seq", &seq, out)?;
-    out.end_map()
-}
-
-#[tactic(auto, unfolding(crate::specs::Replies::reply_data))]
-fn send_plain<S: Serializer>(
-    game: &Id,
+/// The line of an answer without a board.
+#[derive(Clone, Copy)]
+struct PlainLine<'r> {
+    game: &'r Id,
     seq: u64,
     word: Word,
     charge: u32,
-    out: &mut S,
-) -> Result<(), S::Error>
-    ensures { OnOk result
-        (SendsValue (reply_data game.now seq (Reply.Plain word charge))
-        (S.written out.old) (S.written out.new)) }
-{
-    out.begin_map(Some(4))?;
-    send_member("charge", &charge, out)?;
-    send_member("do", &word_text(word), out)?;
-    send_member("game", &game.as_str(), out)?;
-    send_member("seq", &seq, out)?;
-    out.end_map()
 }
 
-#[tactic(auto, unfolding(crate::specs::Replies::reply_data))]
-fn send_refused<S: Serializer>(
-    game: &Id,
+impl Described for PlainLine<'_> {
+    ghost writes = { λ line. SendsValue (reply_data line.game.now line.seq (Plain line.word line.charge)) };
+}
+
+impl Serialize for PlainLine<'_> {
+    #[tactic(auto, unfolding(crate::specs::Replies::reply_data))]
+    fn serialize<S: Serializer>(&self, out: &mut S) -> Result<(), S::Error> {
+        out.begin_map(Some(4))?;
+        out.key("charge")?;
+        out.u64(u64::from(self.charge))?;
+        out.key("do")?;
+        out.str(word_text(self.word))?;
+        out.key("game")?;
+        out.str(self.game.as_str())?;
+        out.key("seq")?;
+        out.u64(self.seq)?;
+        out.end_map()
+    }
+}
+
+/// The line of a refusal.
+#[derive(Clone, Copy)]
+struct RefusedLine<'r> {
+    game: &'r Id,
     seq: u64,
     refusal: Refusal,
-    out: &mut S,
-) -> Result<(), S::Error>
-    ensures { OnOk result
-        (SendsValue (reply_data game.now seq (Reply.Refused refusal))
-        (S.written out.old) (S.written out.new)) }
-{
-    out.begin_map(Some(4))?;
-    send_member("game", &game.as_str(), out)?;
-    send_member("no", &refusal_code(refusal), out)?;
-    send_member("seq", &seq, out)?;
-    send_member("why", &refusal_text(refusal), out)?;
-    out.end_map()
+}
+
+impl Described for RefusedLine<'_> {
+    ghost writes = { λ line. SendsValue (reply_data line.game.now line.seq (Refused line.refusal)) };
+}
+
+impl Serialize for RefusedLine<'_> {
+    #[tactic(auto, unfolding(crate::specs::Replies::reply_data))]
+    fn serialize<S: Serializer>(&self, out: &mut S) -> Result<(), S::Error> {
+        out.begin_map(Some(4))?;
+        out.key("game")?;
+        out.str(self.game.as_str())?;
+        out.key("no")?;
+        out.str(refusal_code(self.refusal))?;
+        out.key("seq")?;
+        out.u64(self.seq)?;
+        out.key("why")?;
+        out.str(refusal_text(self.refusal))?;
+        out.end_map()
+    }
 }
 
 /// The line of one answered command. `seq` is its number within the game, from 1.
@@ -175,7 +180,35 @@ fn send_refused<S: Serializer>(
 pub fn reply_line(alloc: Global, game: &Id, seq: u64, reply: &Reply) -> Result<Vec<u8>, AllocError>
     ensures { IfOk result (λ line. line.items ≡ reply_line_of game.now seq reply.now) }
 {
-    sent_line(alloc, &ReplyLine { game, seq, reply })
+    match reply {
+        Reply::Shown(word, board, charge) => {
+            let shown = ShownLine {
+                game,
+                seq,
+                word: *word,
+                board,
+                charge: *charge,
+            };
+            sent_line(alloc, &shown)
+        }
+        Reply::Plain(word, charge) => {
+            let plain = PlainLine {
+                game,
+                seq,
+                word: *word,
+                charge: *charge,
+            };
+            sent_line(alloc, &plain)
+        }
+        Reply::Refused(refusal) => {
+            let refused = RefusedLine {
+                game,
+                seq,
+                refusal: *refusal,
+            };
+            sent_line(alloc, &refused)
+        }
+    }
 }
 
 /// The line behind a game's replies.
@@ -211,10 +244,14 @@ impl Serialize for FinalLine<'_> {
     #[tactic(auto, unfolding(crate::specs::Replies::final_data))]
     fn serialize<S: Serializer>(&self, out: &mut S) -> Result<(), S::Error> {
         out.begin_map(Some(4))?;
-        send_member("board", &LastBoard(self.board), out)?;
-        send_member("charge", &self.charge, out)?;
-        send_member("final", &true, out)?;
-        send_member("game", &self.game.as_str(), out)?;
+        out.key("board")?;
+        LastBoard(self.board).serialize(out)?;
+        out.key("charge")?;
+        out.u64(u64::from(self.charge))?;
+        out.key("final")?;
+        out.bool(true)?;
+        out.key("game")?;
+        out.str(self.game.as_str())?;
         out.end_map()
     }
 }
@@ -230,14 +267,12 @@ pub fn final_line(
     ensures { IfOk result
         (λ line. line.items ≡ final_line_of game.now (option_copied board.entry) charge) }
 {
-    sent_line(
-        alloc,
-        &FinalLine {
-            game,
-            board,
-            charge,
-        },
-    )
+    let last = FinalLine {
+        game,
+        board,
+        charge,
+    };
+    sent_line(alloc, &last)
 }
 
 /// The line of a stray.
@@ -255,9 +290,12 @@ impl Serialize for StrayLine {
     #[tactic(auto, unfolding(crate::specs::Replies::stray_data))]
     fn serialize<S: Serializer>(&self, out: &mut S) -> Result<(), S::Error> {
         out.begin_map(Some(3))?;
-        send_member("line", &self.line, out)?;
-        send_member("no", &stray_code(self.stray), out)?;
-        send_member("why", &stray_text(self.stray), out)?;
+        out.key("line")?;
+        out.u64(self.line)?;
+        out.key("no")?;
+        out.str(stray_code(self.stray))?;
+        out.key("why")?;
+        out.str(stray_text(self.stray))?;
         out.end_map()
     }
 }
