@@ -181,12 +181,13 @@ pub fn reply_line(alloc: Global, game: &Id, seq: u64, reply: &Reply) -> Result<V
     ensures { IfOk result (λ line. line.items ≡ reply_line_of game.now seq reply.now) }
 {
     match reply {
-        Reply::Shown(word, board, charge) => {
+        Reply::Shown(word, kept, charge) => {
+            let board = kept.board(alloc)?;
             let shown = ShownLine {
                 game,
                 seq,
                 word: *word,
-                board,
+                board: &board,
                 charge: *charge,
             };
             sent_line(alloc, &shown)
