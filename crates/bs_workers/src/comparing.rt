@@ -39,7 +39,7 @@ fn behind<'c>(
     ensures { IfSome result (λ rest. commands.now ≡ hands_of (event.now ∷ []) ++ rest.now) }
 {
     match event {
-        Event::Hand(game, command) => behind_hand(commands, *game, command.get()),
+        Event::Hand(game, command) => behind_hand(commands, *game as usize, command.get()),
         Event::Take(_, _) => Some(commands),
         Event::Put(_, _) => Some(commands),
     }
