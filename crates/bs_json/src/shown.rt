@@ -52,25 +52,6 @@ fn send_beyond<S: Serializer>(cell: Point, out: &mut S) -> Result<(), S::Error>
 }
 
 #[derive(Clone, Copy)]
-struct ShownCell(Point);
-
-impl Described for ShownCell {
-    ghost writes = { λ cell. SendsValue (cell_data cell.0) };
-}
-
-impl Serialize for ShownCell {
-    #[inline(always)]
-    fn serialize<S: Serializer>(&self, out: &mut S) -> Result<(), S::Error> {
-        let cell = self.0;
-        if cell.x >= 0 && cell.y >= 0 {
-            send_inner(cell, out)
-        } else {
-            send_beyond(cell, out)
-        }
-    }
-}
-
-#[derive(Clone, Copy)]
 struct ShownCells<'b>(&'b [Point]);
 
 impl Described for ShownCells<'_> {
@@ -82,7 +63,11 @@ impl Serialize for ShownCells<'_> {
     fn serialize<S: Serializer>(&self, out: &mut S) -> Result<(), S::Error> {
         out.begin_seq(Some(self.0.len()))?;
         for cell in self.0 {
-            ShownCell(*cell).serialize(out)?;
+            if cell.x >= 0 && cell.y >= 0 {
+                send_inner(*cell, out)?;
+            } else {
+                send_beyond(*cell, out)?;
+            }
         }
         out.end_seq()
     }
