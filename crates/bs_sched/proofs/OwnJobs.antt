@@ -52,14 +52,6 @@ own_of_expected x worker ticket command seq e answer right out is_command is_seq
       (λ own. both.1 (subst (λ (i : Input). IsOf i e) (sym own.input) mine)),
     )
 
--- what is own is brought by the worker that its ticket names
-
-pub own_hands : (x : Lane) (worker : ℕ) (brought : Input) → IsOwnOf x worker brought → brought.worker ≡ worker
-own_hands x worker brought own = ap (λ (i : Input). i.worker) own.input
-
-pub own_worker : (core : GamesView) (worker : ℕ) (brought : Input) → IsOwn core worker brought → brought.worker ≡ worker
-own_worker core worker brought own = ap (λ (i : Input). i.worker) own.input
-
 -- what is brought back of an own job that is out
 
 pub own_there : (core : GamesView) (worker : ℕ) (brought : Input) → IsOwn core worker brought → brought.job.game < length core.lanes

@@ -1,23 +1,10 @@
 -- A lane of which a job was taken, or was not for want of memory.
-use Rattle.std.proofs.Common.{◌≡◌, ℕ, ◌<◌, ◌≤◌, true, List, length, Result, Ok, Err, refl, ap, ◌∙◌, arith}
-use Rattle.std.specs.Prelude.{OnOk, OnErr, ◌&&◌, nat_le, nat_lt, not}
-use Rattle.std.proofs.lemmas.Bool.{leb-true}
-use Rattle.bs_board.proofs.Chains.{and_both}
+use Rattle.std.proofs.Common.{◌≡◌, ℕ, ◌<◌, ◌≤◌, true, Result, Ok, Err, refl, ap, ◌∙◌, arith}
+use Rattle.std.specs.Prelude.{OnOk, OnErr}
 use Rattle.bs_fiber.specs.declared.job.JobKind.{JobKind}
 use Rattle.bs_fiber.specs.declared.job.JobKind.TheVariants as kind
-use Rattle.bs_fiber.specs.declared.job.JobName.{JobName}
-use Rattle.bs_sched.specs.declared.event.Event.TheVariants as event
 use Rattle.bs_sched.specs.Insides.{may_answer}
-use Rattle.bs_sched.specs.Lane.{Lane, is_ready, with_taken}
-use Rattle.bs_sched.specs.Machine.{is_busy, is_enabled, lane_of}
-
--- only a worker of the core may take a job
-pub taker_is_worker : (workers : ℕ) (lanes : List Lane) (worker : ℕ) (job : JobName) → is_enabled workers lanes (event.Take worker job) ≡ true → worker ≤ workers
-taker_is_worker workers lanes worker job enabled =
-    let ready = is_ready (lane_of lanes job.game) job.kind job.part in
-    let hands = nat_le worker workers && not (is_busy worker lanes) in
-    let allowed : (ready && hands) ≡ true = (and_both (nat_lt job.game (length lanes)) (ready && hands) enabled).1 in
-    leb-true worker workers (and_both (nat_le worker workers) (not (is_busy worker lanes)) (and_both ready hands allowed).1).0
+use Rattle.bs_sched.specs.Lane.{Lane, with_taken}
 
 pub on_ok : {A B : Type 0} {P Q : Type 0} (result : Result A B) → (P → Q) → OnOk result P → OnOk result Q
 on_ok (Ok value) next is = next is

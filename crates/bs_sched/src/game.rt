@@ -24,7 +24,6 @@ pub(crate) fn are_quiet(fibers: &[Fiber]) -> bool
 }
 
 /// Whether the worker has the ticket's job, and the ticket holds what the game has for it.
-#[tactic(auto, using(crate::proofs::OwnJobs::own_hands))]
 pub(crate) fn is_own<const CAP: usize>(
     fiber: &Fiber,
     heap: &TagHeap<CAP>,

@@ -132,7 +132,6 @@ impl<const CAP: usize> Games<CAP> {
 
 impl<const CAP: usize> Core<CAP> {
     /// The worker's own job is done. The journal has room for its coming back.
-    #[tactic(auto, using(crate::proofs::OwnJobs::own_worker))]
     fn settle(&mut self, worker: usize, done: Done)
         requires { IsOwn self.old.games worker done }
         ensures { self.new ≡ core_after CAP self.old (event.Put worker done.job) }

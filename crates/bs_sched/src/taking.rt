@@ -249,7 +249,6 @@ impl<const CAP: usize> Core<CAP> {
     }
 
     /// The worker takes that job. The journal gets room for its coming back too.
-    #[tactic(auto, using(crate::proofs::TakenJobs::taker_is_worker))]
     fn take_job(&mut self, alloc: Global, worker: usize, job: JobName) -> Result<Ticket, AllocError>
         requires enabled { is_enabled self.old.games.workers self.old.games.lanes (event.Take worker job) ≡ true }
         ensures ticket { IfOk result (λ ticket. ticket ≡ input_of (lane_of self.new.games.lanes job.game) worker job) }
