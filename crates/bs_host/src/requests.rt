@@ -55,6 +55,7 @@ impl Commands {
 
     /// The command to be held by others too: in the memory of the one before, where that asks just the same and brings
     /// nothing with it.
+    #[inline(always)]
     fn to_shared(&self, alloc: Global, command: Command) -> Result<SharedCommand, AllocError>
         ensures { IfOk result (λ shared. shared ≡ command) }
     {
@@ -65,6 +66,7 @@ impl Commands {
         }
     }
 
+    #[inline(always)]
     fn add(&mut self, alloc: Global, row: usize, command: Command) -> Result<(), AllocError>
         ensures { OnOk result (self.new ≡ self.old ++ (row, command) ∷ []) }
     {
@@ -151,6 +153,7 @@ impl Requests {
 
     /// Puts what the line of that number asks for where it goes.
     #[tactic(auto, using(crate::proofs::SortedLines::hands_on_command, crate::proofs::SortedLines::hands_on_stray, crate::proofs::SortedLines::hands_on_nothing))]
+    #[inline(always)]
     pub(crate) fn hand_on(
         &mut self,
         alloc: Global,

@@ -48,6 +48,7 @@ pub(crate) fn row_named(rows: &Rows, guess: usize, game: &Id) -> Option<usize>
     }
 }
 
+#[inline(always)]
 fn route_to(rows: &Rows, guess: usize, game: &Id, command: Command) -> Route
     ensures value { result ≡ route_to (row_named rows.now game.now) command }
     ensures within { IsWithinPlan (length rows.now) result }
@@ -59,6 +60,7 @@ fn route_to(rows: &Rows, guess: usize, game: &Id, command: Command) -> Route
 }
 
 /// Where a line goes that follows the plan. It is looked for first in the row that is guessed.
+#[inline(always)]
 pub(crate) fn route_of(rows: &Rows, guess: usize, line: Line) -> Route
     ensures value { result ≡ route_of rows.now line }
     ensures within { IsWithinPlan (length rows.now) result }

@@ -289,6 +289,7 @@ fn cut_game<'l>(line: &'l [u8]) -> Option<(&'l str, &'l [u8])>
 
 /// What a line in its compact form is, and `None` of any other line.
 #[tactic(auto, using(crate::proofs::CompactLines::line_of_compact))]
+#[inline(always)]
 pub(crate) fn compact_line(alloc: Global, line: &[u8]) -> Result<Option<Line>, AllocError>
     requires { length line.now ≤ MAX_LINE }
     ensures { IfOk result (λ found. IfSome found (λ l. l ≡ line_of line.now)) }

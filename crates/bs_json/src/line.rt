@@ -64,6 +64,7 @@ fn line_from(alloc: Global, value: &mut Value) -> Result<Line, AllocError>
 /// Reads one line, given without its line feed. Whether the plan has the game is for the caller to see. A line in its compact
 /// form is read without a JSON value; that is all that it is told apart for.
 #[tactic(auto, unfolding(crate::specs::Line::line_of))]
+#[inline(always)]
 pub fn read_line(alloc: Global, line: &[u8]) -> Result<Line, AllocError>
     ensures { IfOk result (λ l. l ≡ line_of line.now) }
 {

@@ -11,6 +11,7 @@ use std::thread;
 use std::thread::Threads;
 
 /// The job is worked, once the gate lets it pass.
+#[inline(always)]
 fn work_job<G: Gate>(alloc: Global, worker: usize, ticket: Ticket, gate: &G) -> Result<Done, Run> {
     if !gate.at(worker, ticket.job()) {
         return Err(Run::Broken);
