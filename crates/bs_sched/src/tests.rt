@@ -163,6 +163,26 @@ fn opens_within_its_blocks(rt: HostRuntime) -> Result<(), Fail> {
     Ok(())
 }
 
+// While a second command is worked, what is brought back of another core is a stray, and so is the job from a worker that
+// has not taken it.
+fn assert_two_strays(
+    rt: &impl Abort,
+    alloc: Global,
+    core: &mut Core<CAP>,
+    foreign: Done,
+) -> Result<(), Fail> {
+    hand(rt, alloc, core, Command::Show)?;
+    let done = take_done(rt, alloc, core, 0)?;
+    assert!(rt; core.put(0, foreign).is_err());
+    assert_eq!(rt; core.counts(), counts_of(5));
+    assert!(rt; core.put(1, done).is_err());
+    assert!(rt; core.rows() == 1);
+    assert_eq!(rt; core.taken(0).len(), 2);
+    let board = core.board(alloc, 0)?.ok_or("a board")?;
+    assert_eq!(rt; board.turn, 0);
+    Ok(())
+}
+
 #[test]
 fn results_of_another_core_are_strays(rt: HostRuntime) -> Result<(), Fail> {
     let alloc = rt.alloc();
@@ -184,16 +204,7 @@ fn results_of_another_core_are_strays(rt: HostRuntime) -> Result<(), Fail> {
     assert!(rt; core.rows() == 1);
     assert_eq!(rt; core.replies(0).len(), 1);
 
-    hand(&rt, alloc, &mut core, Command::Show)?;
-    let done = take_done(&rt, alloc, &mut core, 0)?;
-    assert!(rt; core.put(0, stray.done).is_err());
-    assert_eq!(rt; core.counts(), counts_of(5));
-    assert!(rt; core.put(1, done).is_err());
-    assert!(rt; core.rows() == 1);
-    assert_eq!(rt; core.taken(0).len(), 2);
-    let board = core.board(alloc, 0)?.ok_or("a board")?;
-    assert_eq!(rt; board.turn, 0);
-    Ok(())
+    assert_two_strays(&rt, alloc, &mut core, stray.done)
 }
 
 fn assert_nothing(
