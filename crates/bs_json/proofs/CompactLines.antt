@@ -35,6 +35,7 @@ use Rattle.bs_json.specs.Compact.{IsCompact, are_plain, compact_text, direction_
 use Rattle.bs_json.specs.Line.{is_space, line_from, line_of}
 use Rattle.bs_json.specs.Moves.{direction_named, directions_of, orders_from}
 use Rattle.bs_json.specs.Values.{each, value_of, whole_to}
+use Rattle.bs_json.proofs.CompactBytes.{all_parts, compact_is_utf8}
 use Rattle.bs_json.proofs.Texts.{value_of_read}
 
 -- ---- what is printed is read back
@@ -245,10 +246,6 @@ abbrev words_items : List ℕ → Items
 words_items [] = no_items
 words_items (word ∷ words) = item (number (unsigned word)) (words_items words)
 
--- what holds of each of them holds of the first and of each of the others
-all_parts : (limit word : ℕ) (words : List ℕ) → All (λ w. w < limit) (word ∷ words) → (word < limit) × All (λ w. w < limit) words
-all_parts limit word words small = (small 0 word (omega arith), λ at none within. small (suc at) none (omega arith))
-
 -- the text of these items is that of the words
 words_are_written : (later : Bool) (words : List ℕ) → written_as.items_text later (words_items words) ≡ words_text later words ++ codes "]"
 words_are_written later [] = refl
@@ -348,13 +345,18 @@ move_line_is text game true orders is plain compact utf8 short = full_move_line_
 
 -- ---- every command
 
+line_of_text : (text game : List ℕ) (written : Bool) (c : Command) → text ≡ compact_text written game c → are_plain game ≡ true
+    → IsCompact written c → IsUtf8 text → length text ≤ MAX_LINE → line_of text ≡ line.Command game c
+line_of_text text game written (command.New new) is plain compact utf8 short = absurd compact
+line_of_text text game written (command.Move orders) is plain compact utf8 short = move_line_is text game written orders is plain compact utf8 short
+line_of_text text game written (command.Turn at) is plain compact utf8 short = turn_line_is text game written at is plain compact utf8 short
+line_of_text text game written command.Show is plain compact utf8 short = show_line_is text game written is plain utf8 short
+line_of_text text game written command.Free is plain compact utf8 short = free_line_is text game written is plain utf8 short
+line_of_text text game written command.End is plain compact utf8 short = end_line_is text game written is plain utf8 short
+line_of_text text game written command.Bad is plain compact utf8 short = absurd compact
+
 -- the compact text of a command for a game is read as that command for that game
 pub line_of_compact : (text game : List ℕ) (written : Bool) (c : Command) → text ≡ compact_text written game c → are_plain game ≡ true
-    → IsCompact written c → IsUtf8 text → length text ≤ MAX_LINE → line_of text ≡ line.Command game c
-line_of_compact text game written (command.New new) is plain compact utf8 short = absurd compact
-line_of_compact text game written (command.Move orders) is plain compact utf8 short = move_line_is text game written orders is plain compact utf8 short
-line_of_compact text game written (command.Turn at) is plain compact utf8 short = turn_line_is text game written at is plain compact utf8 short
-line_of_compact text game written command.Show is plain compact utf8 short = show_line_is text game written is plain utf8 short
-line_of_compact text game written command.Free is plain compact utf8 short = free_line_is text game written is plain utf8 short
-line_of_compact text game written command.End is plain compact utf8 short = end_line_is text game written is plain utf8 short
-line_of_compact text game written command.Bad is plain compact utf8 short = absurd compact
+    → IsCompact written c → length text ≤ MAX_LINE → line_of text ≡ line.Command game c
+line_of_compact text game written c is plain compact short =
+    line_of_text text game written c is plain compact (subst IsUtf8 (sym is) (compact_is_utf8 game written c plain compact)) short

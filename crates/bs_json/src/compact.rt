@@ -297,9 +297,6 @@ pub(crate) fn compact_line(alloc: Global, line: &[u8]) -> Result<Option<Line>, A
     let Some((name, order)) = cut_game(line) else {
         return Ok(None);
     };
-    if str::from_utf8(line).is_err() {
-        return Ok(None);
-    }
     let Some((command, _written)) = order_behind(alloc, order)? else {
         return Ok(None);
     };
