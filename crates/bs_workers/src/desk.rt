@@ -5,6 +5,7 @@ use bs_sched::{Core, Taken};
 use std::alloc::{AllocError, Global};
 
 /// What a worker is told that asks for a job.
+#[derive(Drop)]
 pub(crate) enum Assignment {
     /// Work this one.
     Job(Ticket),
@@ -82,7 +83,8 @@ impl<const CAP: usize> Desk<CAP> {
         }
     }
 
-    fn assign(&mut self, alloc: Global, worker: usize) -> Assignment {
+    /// What the worker is to do next.
+    pub(crate) fn assign(&mut self, alloc: Global, worker: usize) -> Assignment {
         match self.take(alloc, worker) {
             Ok(Taken::Job(ticket)) => Assignment::Job(ticket),
             Ok(Taken::Nothing) => self.without_job(),
@@ -104,7 +106,8 @@ impl<const CAP: usize> Desk<CAP> {
         }
     }
 
-    fn bring(&mut self, worker: usize, worked: Result<Done, Run>) {
+    /// The worker brings back what it made of its job.
+    pub(crate) fn bring(&mut self, worker: usize, worked: Result<Done, Run>) {
         match worked {
             Ok(done) => self.put(worker, done),
             Err(fault) => self.stop(fault),

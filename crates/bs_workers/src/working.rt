@@ -30,11 +30,14 @@ fn work_until_end<const CAP: usize, R: Wait, G: Gate>(
     worker: usize,
     gate: &G,
 ) {
-    let mut worked = None;
+    let mut assignment = shop.exchange(rt, alloc, worker, None);
     for _ in rt.forever() {
-        match shop.exchange(rt, alloc, worker, worked.take()) {
-            Assignment::Job(ticket) => worked = Some(work_job(alloc, worker, ticket, gate)),
-            Assignment::Wait => {}
+        match assignment {
+            Assignment::Job(ticket) => {
+                let worked = work_job(alloc, worker, ticket, gate);
+                assignment = shop.exchange(rt, alloc, worker, Some(worked));
+            }
+            Assignment::Wait => assignment = shop.exchange(rt, alloc, worker, None),
             Assignment::End => break,
         }
     }
@@ -48,13 +51,13 @@ fn finish<const CAP: usize, R: Wait, G: Gate>(
     gate: &G,
 ) {
     let worker = desk.own_worker();
-    let mut worked = None;
+    let mut assignment = desk.assign(alloc, worker);
     for _ in rt.forever() {
-        match desk.exchange(alloc, worker, worked.take()) {
-            Assignment::Job(ticket) => worked = Some(work_job(alloc, worker, ticket, gate)),
-            Assignment::Wait => break,
-            Assignment::End => break,
-        }
+        let Assignment::Job(ticket) = assignment else {
+            break;
+        };
+        desk.bring(worker, work_job(alloc, worker, ticket, gate));
+        assignment = desk.assign(alloc, worker);
     }
 }
 
