@@ -1,9 +1,10 @@
 -- What is cut off the front of a line.
-use Rattle.std.proofs.Common.{◌≡◌, ℕ, ◌<◌, ◌≤◌, ◌^◌, ◌⊎◌, inl, inr, Bool, true, false, ◌&&◌, cond, List, [], ◌∷◌, ◌++◌, length, take, drop, get_or, codes, decimal, Some, Option, Result, Ok, OkIff, refl, sym, ap, ap₂, subst, ◌∙◌, arith, append_assoc, take-append-drop}
+use Rattle.std.proofs.Common.{◌≡◌, ℕ, suc, ◌+◌, ◌<◌, ◌≤◌, ◌^◌, ◌⊎◌, inl, inr, Bool, true, false, not, ◌&&◌, cond, List, [], ◌∷◌, ◌++◌, length, take, drop, get_or, codes, decimal, Some, None, Option, Result, Ok, OkIff, refl, sym, ap, ap₂, subst, ◌∙◌, arith, append_assoc, take-append-drop}
 use Rattle.std.specs.Char.{is_ascii_digit}
-use Rattle.std.specs.List.{list_all}
+use Rattle.std.specs.List.{list_all, position, position_or_len}
 use Rattle.std.specs.Str.{all_ascii_digits, bytes_eq}
 use Rattle.std.specs.Str.Parse.{ParsesUnsigned, digits_value}
+use Rattle.std.proofs.lemmas.Bool.{and_from, cases_Bool}
 use Rattle.std.proofs.lemmas.Fmt.{decimal-digits_value}
 use Rattle.std.proofs.lemmas.List.Folds.{list_all-append}
 use Rattle.std.proofs.lemmas.Slice.Eq.{bytes_eq-Decides}
@@ -12,12 +13,32 @@ use Rattle.serde_json.specs.Written.{comma_if}
 use Rattle.bs_board.specs.declared.boards.point.Direction.{Direction}
 use Rattle.bs_board.specs.declared.boards.point.Direction.TheVariants.{Up, Down, Left, Right}
 use Rattle.bs_board.specs.Texts.{is_same_text}
-use Rattle.bs_json.specs.Compact.{are_plain, are_plain_moves, direction_name, move_text, moves_text, words_text}
+use Rattle.bs_json.specs.Compact.{is_plain, are_plain, are_plain_moves, direction_name, move_text, moves_text, words_text}
 use Rattle.bs_json.specs.Moves.{direction_named}
 
 pub behind_prefix : (line text rest : List ℕ) → bytes_eq (take (length text) line) text ≡ true → rest ≡ drop (length text) line → line ≡ text ++ rest
 behind_prefix line text rest same is =
     sym (take-append-drop (length text) line) ∙ ap₂ ◌++◌ ((bytes_eq-Decides (take (length text) line) text).0 same) (sym is)
+
+plain_step : (byte count : ℕ) (line : List ℕ) → is_plain byte ≡ true → are_plain (take count line) ≡ true → are_plain (take (1 + count) (byte ∷ line)) ≡ true
+plain_step byte count line first rest =
+    let next : suc count ≡ 1 + count = omega arith in
+    subst (λ n. are_plain (take n (byte ∷ line)) ≡ true) next (and_from (is_plain byte) (are_plain (take count line)) first rest)
+
+-- the bytes up to the first that is not plain
+plain_prefix : (line : List ℕ) → are_plain (take (position_or_len (λ byte. not (is_plain byte)) line) line) ≡ true
+plain_prefix [] = refl
+plain_prefix (byte ∷ line) = elim (cases_Bool (is_plain byte)) [
+  | inl plain ↦ rw plain (plain_step byte _ line plain (plain_prefix line))
+  | inr other ↦ rw other refl
+]
+
+place_found : (b : Bool) (place end : ℕ) → cond b (Some place) None ≡ Some end → place ≡ end
+place_found true place end is = cc
+place_found false place end is = absurd (cc)
+
+pub plain_front : (line : List ℕ) (end : ℕ) → position (λ byte. not (is_plain byte)) line ≡ Some end → are_plain (take end line) ≡ true
+plain_front line end is = subst (λ n. are_plain (take n line) ≡ true) (place_found _ _ end is) (plain_prefix line)
 
 -- the choice among names is by a name or by those that follow it
 chosen : (b : Bool) (here there : Direction) (rest : Option Direction) → cond b (Some here) rest ≡ Some there → ((b ≡ true) × (here ≡ there)) ⊎ (rest ≡ Some there)

@@ -1,7 +1,7 @@
 //! Lines in their compact form, as programs write most of them: they are read in one pass, and no JSON value is made.
-ghost use Rattle.std.specs.Prelude.{◌≡◌, ◌≤◌, ◌∷◌, ◌++◌, codes, decimal, length, slice_index, false, true, IsTrue, IfOk, IfSome};
+ghost use Rattle.std.specs.Prelude.{◌≡◌, ◌≤◌, ◌∷◌, ◌++◌, codes, decimal, length, slice_index, false, true, not, IsTrue, IfOk, IfSome};
 ghost use Rattle.std.specs.Char.{is_ascii_digit};
-ghost use Rattle.std.specs.List.{list_all};
+ghost use Rattle.std.specs.List.{list_all, position};
 ghost use Rattle.serde_json.specs.Written.{comma_if};
 ghost use Rattle.bs_board.specs.commands.Orders.{AreFitWords};
 ghost use Rattle.bs_json.specs.Compact.{is_plain, are_plain, are_plain_moves, move_text, moves_text, words_text, tail_text, order_text, IsCompact, IsCompactMove, MayLeaveOut};
@@ -22,12 +22,6 @@ fn is_plain(byte: u8) -> bool
     32 <= byte && byte < 127 && byte != b'"' && byte != b'\\'
 }
 
-fn are_plain(text: &[u8]) -> bool
-    ensures { result ≡ are_plain text.now }
-{
-    text.iter().all(|byte| is_plain(*byte))
-}
-
 /// What follows that text, where the line begins with it.
 #[tactic(auto, using(crate::proofs::CutTexts::behind_prefix))]
 fn behind<'l>(line: &'l [u8], text: &[u8]) -> Option<&'l [u8]>
@@ -39,17 +33,21 @@ fn behind<'l>(line: &'l [u8], text: &[u8]) -> Option<&'l [u8]>
     }
 }
 
+/// The place of the first byte that is not plain.
+fn plain_end(line: &[u8]) -> Option<usize>
+    ensures { result ≡ position (λ byte. not (is_plain byte)) line.now }
+{
+    line.iter().position(|byte| !is_plain(*byte))
+}
+
 /// The plain text up to the next quotation mark, and what follows that.
+#[tactic(auto, using(crate::proofs::CutTexts::plain_front))]
 fn cut_text<'l>(line: &'l [u8]) -> Option<(&'l str, &'l [u8])>
     ensures text { IfSome result (λ found. line.now ≡ found.0.now ++ 34 ∷ found.1.now) }
     ensures plain { IfSome result (λ found. are_plain found.0.now ≡ true) }
 {
-    let end = line.iter().position(|byte| *byte == b'"')?;
-    let (text, rest) = line.split_at(end);
+    let (text, rest) = line.split_at(plain_end(line)?);
     let rest = behind(rest, b"\"")?;
-    if !are_plain(text) {
-        return None;
-    }
     match str::from_utf8(text) {
         Ok(text) => Some((text, rest)),
         Err(_) => None,
@@ -143,7 +141,7 @@ fn cut_number<'l>(line: &'l [u8]) -> Option<(u32, &'l [u8])>
     Some((number_in(digits)?, rest))
 }
 
-fn ends_with(line: &[u8], text: &[u8]) -> bool
+fn is_just(line: &[u8], text: &[u8]) -> bool
     ensures { result ≡ true → line.now ≡ text.now }
 {
     line == text
@@ -187,7 +185,7 @@ fn turn_behind(line: &[u8]) -> Option<TurnNumber>
     ensures { IfSome result (λ at. line.now ≡ decimal at ++ codes "}") }
 {
     let (number, rest) = cut_number(line)?;
-    if number > u32::from(LAST_TURN) || !ends_with(rest, b"}") {
+    if number > u32::from(LAST_TURN) || !is_just(rest, b"}") {
         return None;
     }
     TurnNumber::new(number as u16)
@@ -198,7 +196,7 @@ fn tail_behind(alloc: Global, line: &[u8]) -> Result<Option<(Words, bool)>, Allo
     ensures text { IfOk result (λ o. IfSome o (λ found. line.now ≡ tail_text found.1 found.0)) }
     ensures fit { IfOk result (λ o. IfSome o (λ found. AreFitWords found.0 × MayLeaveOut found.1 found.0)) }
 {
-    if ends_with(line, b"}") {
+    if is_just(line, b"}") {
         return Ok(Some((Words::from_vec(Vec::new(alloc)), false)));
     }
     let Some(list) = behind(line, b",\"words\":[") else {
@@ -207,7 +205,7 @@ fn tail_behind(alloc: Global, line: &[u8]) -> Result<Option<(Words, bool)>, Allo
     let Some((words, rest)) = cut_words(alloc, list)? else {
         return Ok(None);
     };
-    if !ends_with(rest, b"}") || words.len() > MOST_WORDS {
+    if !is_just(rest, b"}") || words.len() > MOST_WORDS {
         return Ok(None);
     }
     let words = Words::from_vec(words);
@@ -238,11 +236,11 @@ fn name_alone(order: &[u8]) -> Option<Command>
     ensures text { IfSome result (λ command. order.now ≡ order_text false command) }
     ensures compact { IfSome result (IsCompact false) }
 {
-    if ends_with(order, b"show\"}") {
+    if is_just(order, b"show\"}") {
         Some(Command::Show)
-    } else if ends_with(order, b"free\"}") {
+    } else if is_just(order, b"free\"}") {
         Some(Command::Free)
-    } else if ends_with(order, b"end\"}") {
+    } else if is_just(order, b"end\"}") {
         Some(Command::End)
     } else {
         None
