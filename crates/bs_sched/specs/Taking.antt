@@ -1,5 +1,5 @@
 -- What a worker gets that asks for a job.
-use Rattle.std.specs.Prelude.{◌≡◌, ℕ, ◌<◌, true, false, List, length}
+use Rattle.std.specs.Prelude.{◌≡◌, ℕ, ◌≤◌, ◌<◌, true, false, List, length}
 use Rattle.bs_fiber.specs.declared.input.Input.{Input}
 use Rattle.bs_fiber.specs.declared.job.JobName.{JobName}
 use Rattle.bs_sched.specs.declared.event.Event.TheVariants as event
@@ -20,6 +20,10 @@ pub record IsReadyJob (lanes : List Lane) (job : JobName) : Type 0 where
 -- nobody can take anything
 abbrev pub AreNoneReady : List Lane → Type 0
 AreNoneReady lanes = (game : ℕ) → game < length lanes → HasNoneReady (lane_of lanes game)
+
+-- nobody can take anything in the games from that row on and before that one
+abbrev pub AreNoneReadyBetween : ℕ → ℕ → List Lane → Type 0
+AreNoneReadyBetween from to lanes = (game : ℕ) → from ≤ game → game < to → HasNoneReady (lane_of lanes game)
 
 abbrev pub FindsJob : ℕ → List Lane → Found → Type 0
 FindsJob worker lanes found.Busy = is_busy worker lanes ≡ true

@@ -13,7 +13,7 @@ use crate::busy::nobody_busy;
 use crate::cores::{Core, LEAST_CAPACITY};
 use crate::fiber::Fiber;
 use crate::games::Games;
-use crate::last_games::no_game_yet;
+use crate::last_games::spread_games;
 use crate::plan_blocks::{blocks_of_all, open_pool, record_tag};
 use bs_board::limits::MOST_ROWS;
 use bs_board::{Plan, Row};
@@ -114,12 +114,13 @@ impl<const CAP: usize> Core<CAP> {
         ensures room { OnOk result (blocks_of_all CAP plan.rows ≤ blocks) }
         ensures short { IfErr result (λ fault. fault ≡ cause.Short → blocks < blocks_of_all CAP plan.rows) }
     {
+        let last_games = spread_games(alloc, workers, plan.rows.as_slice().len())?;
         Ok(Core {
             games: Games::open(alloc, plan, blocks, workers)?,
             journal: Vec::new(alloc),
             out: 0,
             busy: nobody_busy(alloc, workers)?,
-            last_games: no_game_yet(alloc, workers)?,
+            last_games,
         })
     }
 }

@@ -1,5 +1,5 @@
 //! Taking jobs: which one a worker gets, and the copy of all that it reads.
-ghost use Rattle.std.specs.Prelude.{◌≡◌, ◌≤◌, ◌<◌, true, length, MatchOption, IfOk, IfSome, OnOk, OnErr};
+ghost use Rattle.std.specs.Prelude.{◌≡◌, ◌≤◌, ◌<◌, true, length, MatchOption, IfOk, OnOk, OnErr};
 ghost use Rattle.bs_heap.specs.Heap.{with_index_room};
 ghost use Rattle.bs_fiber.specs.declared.job.JobKind.TheVariants as kind;
 ghost use Rattle.bs_sched.specs.Core.{core_after};
@@ -8,7 +8,7 @@ ghost use Rattle.bs_sched.specs.GamesLayout.{KeepsBoards};
 ghost use Rattle.bs_sched.specs.Inputs.{input_of};
 ghost use Rattle.bs_sched.specs.Lane.{HasNoneReady, is_ready, with_taken};
 ghost use Rattle.bs_sched.specs.Machine.{is_busy, is_enabled, lane_of};
-ghost use Rattle.bs_sched.specs.Taking.{AreNoneReady, FindsJob, IsReadyJob, TakesAs};
+ghost use Rattle.bs_sched.specs.Taking.{AreNoneReady, AreNoneReadyBetween, FindsJob, IsReadyJob, TakesAs};
 ghost use Rattle.bs_sched.specs.declared.event.Event.TheVariants as event;
 
 use crate::busy::{is_marked, mark};
@@ -61,12 +61,13 @@ fn ready_job(fiber: &Fiber, game: usize) -> Option<JobName>
     }
 }
 
-/// The first job that is ready.
-fn find_job(fibers: &[Fiber]) -> Option<JobName>
-    requires { length fibers.now ≤ MOST_ROWS }
-    ensures { MatchOption result (AreNoneReady fibers.now) (IsReadyJob fibers.now) }
+/// The first job that is ready in a game from that row on and before that one.
+fn find_job(fibers: &[Fiber], from: usize, to: usize) -> Option<JobName>
+    requires few { length fibers.now ≤ MOST_ROWS }
+    requires within { to ≤ length fibers.now }
+    ensures { MatchOption result (AreNoneReadyBetween from to fibers.now) (IsReadyJob fibers.now) }
 {
-    for game in 0..fibers.len() {
+    for game in from..to {
         if let Some(job) = ready_job(&fibers[game], game) {
             return Some(job);
         }
@@ -182,25 +183,16 @@ fn take_ticket<const CAP: usize>(
 }
 
 impl<const CAP: usize> Games<CAP> {
-    /// A job that is ready in that game, where there is such a game.
-    #[tactic(auto, using(crate::proofs::FoundJobs::ready_there))]
-    fn find_at(&self, game: usize) -> Option<JobName>
-        ensures { IfSome result (IsReadyJob self.now.lanes) }
-    {
-        if game < self.fibers.len() {
-            ready_job(&self.fibers[game], game)
-        } else {
-            None
-        }
-    }
-
-    /// A job that is ready: in that game, if it has one, or else the first in any game.
+    /// The first job that is ready in that game or one behind it, or else in one before it.
+    #[tactic(auto, using(crate::proofs::FoundJobs::none_anywhere))]
     fn find(&self, first: usize) -> Option<JobName>
         ensures { MatchOption result (AreNoneReady self.now.lanes) (IsReadyJob self.now.lanes) }
     {
-        match self.find_at(first) {
+        let games = self.count_rows();
+        let first = first.min(games);
+        match find_job(&self.fibers, first, games) {
             Some(job) => Some(job),
-            None => find_job(&self.fibers),
+            None => find_job(&self.fibers, 0, first),
         }
     }
 
@@ -231,7 +223,7 @@ impl<const CAP: usize> Core<CAP> {
     }
 
     /// What stands in the games for the worker. It stays at the game that it was at last as long as that has a job, since
-    /// what the job reads then lies in its processor's cache.
+    /// what the job reads then lies in its processor's cache, and goes on to those behind it.
     fn find(&self, worker: usize) -> Found
         requires { worker ≤ self.now.games.workers }
         ensures { FindsJob worker self.now.games.lanes result }
