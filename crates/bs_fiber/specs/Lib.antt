@@ -1,3 +1,4 @@
+pub mod Bare
 pub mod Expected
 pub mod Fit
 pub mod Seeing

@@ -71,6 +71,7 @@ fn out_of(alloc: Global, input: &Input) -> Result<Out, AllocError>
 }
 
 /// Does the job. The ticket is lost where memory runs out.
+#[inline(always)]
 pub fn work(alloc: Global, ticket: Ticket) -> Result<Done, Stopped>
     ensures { IfOk result (λ done. done ≡ ticket) }
 {

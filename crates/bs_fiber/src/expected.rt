@@ -1,5 +1,5 @@
 //! The input that a core expects of a job.
-ghost use Rattle.std.specs.Prelude.{◌≡◌, option_map, IfOk};
+ghost use Rattle.std.specs.Prelude.{◌≡◌, option_map, IfOk, OnOk};
 
 use crate::input::Input;
 use crate::job::JobName;
@@ -40,12 +40,27 @@ fn copy_record(alloc: Global, bytes: Option<&[u8]>) -> Result<Option<Record>, Al
     }
 }
 
+/// The same, over a record that is not needed any more, if there is one.
+fn copy_record_over(
+    alloc: Global,
+    bytes: &Option<&[u8]>,
+    kept: &mut Option<Record>,
+) -> Result<(), AllocError>
+    ensures { OnOk result (kept.new ≡ option_map (λ bytes. bytes.now) bytes.now) }
+{
+    if let (Some(bytes), Some(record)) = (bytes, kept.as_mut()) {
+        return record.refill(bytes);
+    }
+    *kept = copy_record(alloc, *bytes)?;
+    Ok(())
+}
+
 impl Expected<'_> {
     ghost use Rattle.std.specs.Prelude.{[]};
     ghost use Rattle.bs_fiber.specs.Expected.{IsOf};
 
     /// All of it, the records copied and the command shared: an input that has no parts yet.
-    pub fn to_input(&self, alloc: Global) -> Result<Box<Input>, AllocError>
+    fn new_input(&self, alloc: Global) -> Result<Box<Input>, AllocError>
         ensures expected { IfOk result (λ input. IsOf input.value self.now) }
         ensures parts { IfOk result (λ input. input.value.parts ≡ []) }
     {
@@ -62,5 +77,40 @@ impl Expected<'_> {
             parts: Parts::from_vec(Vec::new(alloc)),
         };
         Ok(Box::new(alloc, input)?)
+    }
+
+    /// The same in the place of a spent one. Each field is written where it lies, since an input has more than a hundred
+    /// bytes.
+    fn input_over(&self, alloc: Global, mut input: Box<Input>) -> Result<Box<Input>, AllocError>
+        ensures expected { IfOk result (λ input. IsOf input.value self.now) }
+        ensures parts { IfOk result (λ input. input.value.parts ≡ []) }
+    {
+        input.job = self.job;
+        input.worker = self.worker;
+        input.seq = self.seq;
+        input.quota = self.quota;
+        input.charge = self.charge;
+        input.kept = self.kept;
+        copy_record_over(alloc, &self.last, &mut input.last)?;
+        copy_record_over(alloc, &self.asked, &mut input.asked)?;
+        input.command.hold(self.command)?;
+        input.parts = Parts::from_vec(Vec::new(alloc));
+        Ok(input)
+    }
+
+    /// All of it, the records copied and the command shared: an input that has no parts yet. It takes the place of a spent
+    /// one, if there is one; then it asks for memory only where a record is longer than that one's.
+    pub fn to_input(
+        &self,
+        alloc: Global,
+        spent: Option<Box<Input>>,
+    ) -> Result<Box<Input>, AllocError>
+        ensures expected { IfOk result (λ input. IsOf input.value self.now) }
+        ensures parts { IfOk result (λ input. input.value.parts ≡ []) }
+    {
+        match spent {
+            None => self.new_input(alloc),
+            Some(input) => self.input_over(alloc, input),
+        }
     }
 }

@@ -1,5 +1,6 @@
 //! A command with several holders.
-ghost use Rattle.std.specs.Prelude.{◌≡◌, IfOk};
+ghost use Rattle.std.specs.Prelude.{◌≡◌, IfOk, OnOk};
+ghost use Rattle.bs_fiber.specs.Bare.{is_bare};
 
 use bs_board::Command;
 use std::alloc::{AllocError, Global};
@@ -40,6 +41,33 @@ impl SharedCommand {
         Ok(SharedCommand {
             command: Arc::try_clone(&self.command)?,
         })
+    }
+
+    /// Whether the command brings no setup and no moves, and so is often asked again.
+    pub fn is_bare(&self) -> bool
+        ensures { result ≡ is_bare self.now }
+    {
+        match self.get() {
+            Command::New(_) => false,
+            Command::Move(_) => false,
+            Command::Show => true,
+            Command::Turn(_) => true,
+            Command::Free => true,
+            Command::End => true,
+            Command::Bad => true,
+        }
+    }
+
+    /// It becomes a holder of that command. It stays what it is where it holds just such a bare one already: each holder more
+    /// and each less is an atomic step, which takes longer than to compare two of them.
+    pub(crate) fn hold(&mut self, command: &SharedCommand) -> Result<(), AllocError>
+        ensures { OnOk result (self.new ≡ command.now) }
+    {
+        if self.is_bare() && self.get().is_same(command.get()) {
+            return Ok(());
+        }
+        *self = command.share()?;
+        Ok(())
     }
 
     /// The command.

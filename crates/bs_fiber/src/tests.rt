@@ -183,6 +183,7 @@ fn a_ticket_is_of_its_own_command(rt: HostRuntime) -> Result<(), Fail> {
 fn an_expected_input_is_copied(rt: HostRuntime) -> Result<(), Fail> {
     let alloc = rt.alloc();
     let show = SharedCommand::new(alloc, Command::Show)?;
+    assert!(rt; show.is_bare());
     let expected = Expected {
         job: job(JobKind::Begin, 0),
         worker: 1,
@@ -194,12 +195,26 @@ fn an_expected_input_is_copied(rt: HostRuntime) -> Result<(), Fail> {
         asked: Some(&[9]),
         command: &show,
     };
-    let input = expected.to_input(alloc)?;
+    let input = expected.to_input(alloc, None)?;
     assert_eq!(rt; (input.worker, input.seq, input.kept), (1, 2, 1));
     assert!(rt; matches!(&input.last, Some(bytes) if bytes.as_slice() == [7, 8].as_slice()));
     assert!(rt; matches!(&input.asked, Some(bytes) if bytes.as_slice() == [9].as_slice()));
     assert!(rt; input.parts.as_slice().is_empty());
     assert!(rt; matches!(input.command.get(), Command::Show));
+
+    let end = SharedCommand::new(alloc, Command::End)?;
+    let later = Expected {
+        seq: 3,
+        last: Some(&[4, 5, 6]),
+        asked: None,
+        command: &end,
+        ..expected
+    };
+    let input = later.to_input(alloc, Some(input))?;
+    assert_eq!(rt; (input.worker, input.seq, input.kept), (1, 3, 1));
+    assert!(rt; matches!(&input.last, Some(bytes) if bytes.as_slice() == [4, 5, 6].as_slice()));
+    assert!(rt; input.asked.is_none());
+    assert!(rt; matches!(input.command.get(), Command::End));
     Ok(())
 }
 

@@ -69,6 +69,14 @@ impl Ticket {
         Ticket { input }
     }
 
+    /// The input, with the memory that holds it.
+    pub fn into_input(self) -> Box<Input>
+        ensures { result.value ≡ self }
+    {
+        let Ticket { input } = self;
+        input
+    }
+
     /// All of its parts at once.
     pub(crate) fn input(&self) -> &Input
         ensures value { result.now ≡ self.now }

@@ -1,5 +1,6 @@
 //! What an answer holds.
 use bs_board::Reply;
+use std::alloc::AllocError;
 use std::marker::Model;
 
 /// The bytes that a board is kept as.
@@ -17,7 +18,7 @@ impl Model for Record {
 }
 
 impl Record {
-    ghost use Rattle.std.specs.Prelude.{◌≡◌};
+    ghost use Rattle.std.specs.Prelude.{◌≡◌, OnOk};
 
     /// The record with those bytes.
     pub fn from_vec(bytes: Vec<u8>) -> Record
@@ -30,7 +31,16 @@ impl Record {
     pub fn into_vec(self) -> Vec<u8>
         ensures { result.items ≡ self }
     {
-        self.bytes
+        let Record { bytes } = self;
+        bytes
+    }
+
+    /// It becomes the record with those bytes, in the same memory where that suffices.
+    pub fn refill(&mut self, bytes: &[u8]) -> Result<(), AllocError>
+        ensures { OnOk result (self.new ≡ bytes.now) }
+    {
+        self.bytes.clear();
+        self.bytes.extend_from_slice(bytes)
     }
 
     /// Its bytes.

@@ -218,7 +218,8 @@ fn first_record(rt: HostRuntime) -> Result<(), Fail> {
         Effect::Trim => assert!(rt; false, "trim"),
         Effect::Drop => assert!(rt; false, "drop"),
     }
-    let record = Record::from_vec(Vec::from_slice(alloc, &RECORD)?);
+    let mut record = Record::from_vec(Vec::from_slice(alloc, &[1, 2, 3])?);
+    record.refill(&RECORD)?;
     assert_eq!(rt; record.into_vec().as_slice(), &RECORD[..]);
     Ok(())
 }

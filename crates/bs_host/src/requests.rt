@@ -23,19 +23,6 @@ impl Model for Commands {
     ghost view = { λ c. c.commands.items };
 }
 
-/// Whether it brings no setup and no moves, and so is often asked again.
-fn is_bare(command: &Command) -> bool {
-    match command {
-        Command::New(_) => false,
-        Command::Move(_) => false,
-        Command::Show => true,
-        Command::Turn(_) => true,
-        Command::Free => true,
-        Command::End => true,
-        Command::Bad => true,
-    }
-}
-
 impl Commands {
     ghost use Rattle.std.specs.Prelude.{[], ◌∷◌, ◌++◌, IfOk, OnOk};
 
@@ -60,7 +47,7 @@ impl Commands {
         ensures { IfOk result (λ shared. shared ≡ command) }
     {
         match self.commands.last() {
-            Some((_, before)) if is_bare(&command) && before.get().is_same(&command) =>
+            Some((_, before)) if before.is_bare() && before.get().is_same(&command) =>
                 before.share(),
             _ => SharedCommand::new(alloc, command),
         }

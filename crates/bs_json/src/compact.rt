@@ -42,31 +42,36 @@ fn plain_end(line: &[u8]) -> Option<usize>
 
 /// The plain text up to the next quotation mark, and what follows that.
 #[tactic(auto, using(crate::proofs::CutTexts::plain_front))]
-fn cut_text<'l>(line: &'l [u8]) -> Option<(&'l str, &'l [u8])>
+fn cut_text<'l>(line: &'l [u8]) -> Option<(&'l [u8], &'l [u8])>
     ensures text { IfSome result (λ found. line.now ≡ found.0.now ++ 34 ∷ found.1.now) }
     ensures plain { IfSome result (λ found. are_plain found.0.now ≡ true) }
 {
     let (text, rest) = line.split_at(plain_end(line)?);
-    let rest = behind(rest, b"\"")?;
-    match str::from_utf8(text) {
-        Ok(text) => Some((text, rest)),
+    Some((text, behind(rest, b"\"")?))
+}
+
+fn as_text(bytes: &[u8]) -> Option<&str>
+    ensures { IfSome result (λ text. text.now ≡ bytes.now) }
+{
+    match str::from_utf8(bytes) {
+        Ok(text) => Some(text),
         Err(_) => None,
     }
 }
 
 /// A snake's id and its direction, and what follows them.
 #[tactic(auto, using(crate::proofs::CutTexts::move_parts))]
-fn cut_move<'l>(line: &'l [u8]) -> Option<(&'l str, Direction, &'l [u8])>
+fn cut_move<'l>(line: &'l [u8]) -> Option<(&'l [u8], Direction, &'l [u8])>
     ensures text { IfSome result (λ found. line.now ≡ move_text (found.0.now, found.1) ++ found.2.now) }
     ensures plain { IfSome result (λ found. are_plain found.0.now ≡ true) }
 {
     let (id, rest) = cut_text(behind(line, b"\"")?)?;
     let (name, rest) = cut_text(behind(rest, b":\"")?)?;
-    Some((id, direction_named(name)?, rest))
+    Some((id, direction_named(as_text(name)?)?, rest))
 }
 
 /// The same, behind a comma where another stands before.
-fn cut_next_move<'l>(line: &'l [u8], later: bool) -> Option<(&'l str, Direction, &'l [u8])>
+fn cut_next_move<'l>(line: &'l [u8], later: bool) -> Option<(&'l [u8], Direction, &'l [u8])>
     ensures text { IfSome result (λ found. line.now ≡ comma_if later ++ (move_text (found.0.now, found.1) ++ found.2.now)) }
     ensures plain { IfSome result (λ found. are_plain found.0.now ≡ true) }
 {
@@ -95,6 +100,9 @@ fn cut_moves<'l>(
             return Ok(Some((moves, rest)));
         }
         let Some((id, direction, rest)) = cut_next_move(left, later) else {
+            return Ok(None);
+        };
+        let Some(id) = as_text(id) else {
             return Ok(None);
         };
         moves.push((Id::from_str(alloc, id)?, direction))?;
@@ -276,7 +284,7 @@ fn order_behind(alloc: Global, order: &[u8]) -> Result<Option<(Command, bool)>, 
 }
 
 /// The game's name, and what follows up to the command's.
-fn cut_game<'l>(line: &'l [u8]) -> Option<(&'l str, &'l [u8])>
+fn cut_game<'l>(line: &'l [u8]) -> Option<(&'l [u8], &'l [u8])>
     ensures text { IfSome result
         (λ found. line.now ≡ codes "{\"game\":\"" ++ (found.0.now ++ (codes "\",\"do\":\"" ++ found.1.now))) }
     ensures plain { IfSome result (λ found. are_plain found.0.now ≡ true) }
@@ -296,6 +304,9 @@ pub(crate) fn compact_line(alloc: Global, line: &[u8]) -> Result<Option<Line>, A
         return Ok(None);
     };
     let Some((command, _written)) = order_behind(alloc, order)? else {
+        return Ok(None);
+    };
+    let Some(name) = as_text(name) else {
         return Ok(None);
     };
     let game = Id::from_str(alloc, name)?;

@@ -9,6 +9,6 @@ use Rattle.bs_sched.specs.Taking.{AreNoneReady, AreNoneReadyBetween}
 pub none_anywhere : (first : ℕ) (lanes : List Lane) → AreNoneReadyBetween first (length lanes) lanes → AreNoneReadyBetween 0 first lanes → AreNoneReady lanes
 none_anywhere first lanes behind before game within =
     elim (cases_lt game first) [
-      inl ahead ↦ before game (omega (arith)) ahead
-    | inr from ↦ behind game from within
+      | inl ahead ↦ before game (omega (arith)) ahead
+      | inr from ↦ behind game from within
     ]

@@ -1,5 +1,5 @@
 //! Bringing jobs back: whether one is the core's own, and what it makes of its game.
-ghost use Rattle.std.specs.Prelude.{◌≡◌, ◌≤◌, ◌<◌, ◌↔◌, IsTrue, true, ℕ, length, slice_set, OnOk, IfErr};
+ghost use Rattle.std.specs.Prelude.{◌≡◌, ◌≤◌, ◌<◌, ◌↔◌, IsTrue, true, ℕ, length, slice_set, IfOk, OnOk, IfErr};
 ghost use Rattle.bs_fiber.specs.declared.job.JobKind.TheVariants as kind;
 ghost use Rattle.bs_fiber.specs.Work.{moved_part, out_seen, parts_of, snakes_in};
 ghost use Rattle.bs_game.specs.Game.{last_board};
@@ -20,7 +20,7 @@ use crate::game::{answer_game, is_own};
 use crate::games::Games;
 use crate::records::parts_of_last;
 use bs_board::Snakes;
-use bs_fiber::{Done, JobName, Out};
+use bs_fiber::{Done, JobName, Out, Ticket};
 use bs_game::Answer;
 use thiserror::Error;
 
@@ -35,6 +35,7 @@ pub struct Stray {
 
 impl<const CAP: usize> Games<CAP> {
     /// The command of that game has its answer.
+    #[inline(always)]
     fn answer(&mut self, game: usize, answer: Answer)
         requires game { game < length self.old.lanes }
         requires out { (worker : ℕ) × (occupies worker (lane_of self.old.lanes game) ≡ true) }
@@ -118,30 +119,34 @@ impl<const CAP: usize> Games<CAP> {
         game < self.fibers.len() && is_own(&self.fibers[game], &self.heaps[game], worker, ticket)
     }
 
-    /// An own job is done.
-    fn settle(&mut self, done: Done)
+    /// An own job is done. Its ticket is spent.
+    fn settle(&mut self, done: Done) -> Ticket
         requires { (worker : ℕ) × IsOwn self.old worker done }
-        ensures { self.new ≡ brought CAP self.old done.job }
+        ensures games { self.new ≡ brought CAP self.old done.job }
+        ensures spent { result ≡ done }
     {
         let job = done.ticket().job();
         self.keeps(job.game as usize);
-        let (_ticket, out) = done.into_parts();
+        let (ticket, out) = done.into_parts();
         self.bring(job, out);
+        ticket
     }
 }
 
 impl<const CAP: usize> Core<CAP> {
     /// The worker's own job is done. The journal has room for its coming back.
-    fn settle(&mut self, worker: usize, done: Done)
+    fn settle(&mut self, worker: usize, done: Done) -> Ticket
         requires { IsOwn self.old.games worker done }
-        ensures { self.new ≡ core_after CAP self.old (event.Put worker done.job) }
+        ensures core { self.new ≡ core_after CAP self.old (event.Put worker done.job) }
+        ensures spent { result ≡ done }
     {
         let job = done.ticket().job();
         let number = done.ticket().worker();
-        self.games.settle(done);
+        let ticket = self.games.settle(done);
         note(&mut self.journal, Event::Put(number, job));
         self.out -= 1;
         mark(&mut self.busy, worker, job.kind, false);
+        ticket
     }
 
     /// The worker brings back a job that it took. It asks for no memory. `Stray` gives back what is not the core's, and
@@ -151,10 +156,20 @@ impl<const CAP: usize> Core<CAP> {
         ensures ok { OnOk result (self.new ≡ core_after CAP self.old (event.Put worker done.job)) }
         ensures stray { IfErr result (λ stray. (stray.done ≡ done) × (self.new ≡ self.old) × (IsOwn self.old.games worker done → ⊥)) }
     {
+        let _spent = self.put_back(worker, done)?;
+        Ok(())
+    }
+
+    /// The same, and the job's ticket comes back, which is spent: `take_over` can make a new one of it.
+    pub fn put_back(&mut self, worker: usize, done: Done) -> Result<Ticket, Stray>
+        ensures own { OnOk result (IsOwn self.old.games worker done) }
+        ensures ok { OnOk result (self.new ≡ core_after CAP self.old (event.Put worker done.job)) }
+        ensures spent { IfOk result (λ ticket. ticket ≡ done) }
+        ensures stray { IfErr result (λ stray. (stray.done ≡ done) × (self.new ≡ self.old) × (IsOwn self.old.games worker done → ⊥)) }
+    {
         if !self.games.is_own(worker, &done) {
             return Err(Stray { done });
         }
-        self.settle(worker, done);
-        Ok(())
+        Ok(self.settle(worker, done))
     }
 }

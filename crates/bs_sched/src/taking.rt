@@ -82,6 +82,7 @@ fn begin_input<const CAP: usize>(
     heap: &TagHeap<CAP>,
     worker: u32,
     job: JobName,
+    spent: Option<Box<Input>>,
 ) -> Result<Box<Input>, AllocError>
     requires kind { job.kind ≡ kind.Begin }
     requires ready { is_ready fiber.old kind.Begin job.part ≡ true }
@@ -91,7 +92,7 @@ fn begin_input<const CAP: usize>(
     ensures err { OnErr result (fiber.new ≡ fiber.old) }
 {
     let seq = fiber.next_seq();
-    let input = expected(fiber, heap, fiber.next(), seq, worker, job).to_input(alloc)?;
+    let input = expected(fiber, heap, fiber.next(), seq, worker, job).to_input(alloc, spent)?;
     fiber.begin(worker as usize)?;
     Ok(input)
 }
@@ -103,6 +104,7 @@ fn part_input<const CAP: usize>(
     heap: &TagHeap<CAP>,
     worker: u32,
     job: JobName,
+    spent: Option<Box<Input>>,
 ) -> Result<Box<Input>, AllocError>
     requires kind { job.kind ≡ kind.Part }
     requires ready { is_ready fiber.old kind.Part job.part ≡ true }
@@ -112,7 +114,7 @@ fn part_input<const CAP: usize>(
     ensures err { OnErr result (fiber.new ≡ fiber.old) }
 {
     let seq = fiber.seq();
-    let input = expected(fiber, heap, fiber.command(), seq, worker, job).to_input(alloc)?;
+    let input = expected(fiber, heap, fiber.command(), seq, worker, job).to_input(alloc, spent)?;
     fiber.take_part(worker as usize, job.part as usize);
     Ok(input)
 }
@@ -124,6 +126,7 @@ fn join_input<const CAP: usize>(
     heap: &TagHeap<CAP>,
     worker: u32,
     job: JobName,
+    spent: Option<Box<Input>>,
 ) -> Result<Box<Input>, AllocError>
     requires kind { job.kind ≡ kind.Join }
     requires ready { is_ready fiber.old kind.Join job.part ≡ true }
@@ -133,7 +136,9 @@ fn join_input<const CAP: usize>(
     ensures err { OnErr result (fiber.new ≡ fiber.old) }
 {
     let seq = fiber.seq();
-    let mut input = expected(fiber, heap, fiber.command(), seq, worker, job).to_input(alloc)?;
+    let mut input = expected(fiber, heap, fiber.command(), seq, worker, job).to_input(
+        alloc, spent,
+    )?;
     input.parts = fiber.join(alloc, worker as usize)?;
     Ok(input)
 }
@@ -144,6 +149,7 @@ fn take_input<const CAP: usize>(
     heap: &TagHeap<CAP>,
     worker: u32,
     job: JobName,
+    spent: Option<Box<Input>>,
 ) -> Result<Box<Input>, AllocError>
     requires ready { is_ready fiber.old job.kind job.part ≡ true }
     requires heap { KeepsBoards fiber.old heap.now }
@@ -152,13 +158,14 @@ fn take_input<const CAP: usize>(
     ensures err { OnErr result (fiber.new ≡ fiber.old) }
 {
     match job.kind {
-        JobKind::Begin => begin_input(alloc, fiber, heap, worker, job),
-        JobKind::Part => part_input(alloc, fiber, heap, worker, job),
-        JobKind::Join => join_input(alloc, fiber, heap, worker, job),
+        JobKind::Begin => begin_input(alloc, fiber, heap, worker, job, spent),
+        JobKind::Part => part_input(alloc, fiber, heap, worker, job, spent),
+        JobKind::Join => join_input(alloc, fiber, heap, worker, job, spent),
     }
 }
 
-/// The worker takes that job of a game. All memory that its answer will need is asked for here.
+/// The worker takes that job of a game. All memory that its answer will need is asked for here. The new ticket takes the
+/// place of a spent one, if there is one.
 #[tactic(auto, using(crate::proofs::FitInputs::taken_input))]
 fn take_ticket<const CAP: usize>(
     alloc: Global,
@@ -166,6 +173,7 @@ fn take_ticket<const CAP: usize>(
     heap: &mut TagHeap<CAP>,
     worker: u32,
     job: JobName,
+    spent: Option<Ticket>,
 ) -> Result<Ticket, AllocError>
     requires ready { is_ready fiber.old job.kind job.part ≡ true }
     requires heap { KeepsBoards fiber.old heap.old }
@@ -177,7 +185,8 @@ fn take_ticket<const CAP: usize>(
     ensures more { heap.old.index_room ≤ heap.new.index_room }
 {
     heap.grow_index()?;
-    let input = take_input(alloc, fiber, heap, worker, job)?;
+    let spent = spent.map(Ticket::into_input);
+    let input = take_input(alloc, fiber, heap, worker, job, spent)?;
     fiber.keeps();
     Ok(Ticket::new(input))
 }
@@ -196,7 +205,13 @@ impl<const CAP: usize> Games<CAP> {
         }
     }
 
-    fn take_job(&mut self, alloc: Global, worker: u32, job: JobName) -> Result<Ticket, AllocError>
+    fn take_job(
+        &mut self,
+        alloc: Global,
+        worker: u32,
+        job: JobName,
+        spent: Option<Ticket>,
+    ) -> Result<Ticket, AllocError>
         requires game { job.game < length self.old.lanes }
         requires ready { is_ready (lane_of self.old.lanes job.game) job.kind job.part ≡ true }
         ensures ticket { IfOk result (λ ticket. ticket ≡ input_of (lane_of self.new.lanes job.game) worker job) }
@@ -209,6 +224,7 @@ impl<const CAP: usize> Games<CAP> {
             &mut self.heaps[job.game as usize],
             worker,
             job,
+            spent,
         )
     }
 }
@@ -241,7 +257,13 @@ impl<const CAP: usize> Core<CAP> {
     }
 
     /// The worker takes that job. The journal gets room for its coming back too.
-    fn take_job(&mut self, alloc: Global, worker: usize, job: JobName) -> Result<Ticket, AllocError>
+    fn take_job(
+        &mut self,
+        alloc: Global,
+        worker: usize,
+        job: JobName,
+        spent: Option<Ticket>,
+    ) -> Result<Ticket, AllocError>
         requires enabled { is_enabled self.old.games.workers self.old.games.lanes (event.Take worker job) ≡ true }
         ensures ticket { IfOk result (λ ticket. ticket ≡ input_of (lane_of self.new.games.lanes job.game) worker job) }
         ensures ok { OnOk result (self.new ≡ core_after CAP self.old (event.Take worker job)) }
@@ -249,7 +271,7 @@ impl<const CAP: usize> Core<CAP> {
     {
         let number = self.games.worker_number(worker);
         reserve_events(&mut self.journal, self.out, 2)?;
-        let ticket = self.games.take_job(alloc, number, job)?;
+        let ticket = self.games.take_job(alloc, number, job, spent)?;
         note(&mut self.journal, Event::Take(number, job));
         self.out += 1;
         mark(&mut self.busy, worker, job.kind, true);
@@ -264,13 +286,28 @@ impl<const CAP: usize> Core<CAP> {
         ensures ok { IfOk result (λ taken. TakesAs CAP self.old worker taken self.new) }
         ensures err { OnErr result (self.new ≡ self.old) }
     {
+        self.take_over(alloc, worker, None)
+    }
+
+    /// The same, but that the new ticket takes the place in memory of a spent one, if there is one: whichever that is, it is
+    /// given up.
+    pub fn take_over(
+        &mut self,
+        alloc: Global,
+        worker: usize,
+        spent: Option<Ticket>,
+    ) -> Result<Taken, AllocError>
+        requires { worker ≤ self.old.games.workers }
+        ensures ok { IfOk result (λ taken. TakesAs CAP self.old worker taken self.new) }
+        ensures err { OnErr result (self.new ≡ self.old) }
+    {
         if self.games.has_failed() {
             return Ok(Taken::Failed);
         }
         match self.find(worker) {
             Found::Busy => Ok(Taken::Busy),
             Found::Nothing => Ok(Taken::Nothing),
-            Found::Job(job) => Ok(Taken::Job(self.take_job(alloc, worker, job)?)),
+            Found::Job(job) => Ok(Taken::Job(self.take_job(alloc, worker, job, spent)?)),
         }
     }
 }

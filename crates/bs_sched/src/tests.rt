@@ -123,6 +123,31 @@ fn play<R: Abort + Wait>(
     Ok(())
 }
 
+// A ticket that was spent on `new` becomes that of `show`: all of it is the second command's.
+#[test]
+fn a_ticket_takes_the_place_of_a_spent_one(rt: HostRuntime) -> Result<(), Fail> {
+    let alloc = rt.alloc();
+    let mut core = core_of(&rt, alloc, "a", 4096)?;
+    hand(&rt, alloc, &mut core, new_of_three(alloc)?)?;
+    hand(&rt, alloc, &mut core, Command::Show)?;
+    let done = take_done(&rt, alloc, &mut core, 0)?;
+    let spent = core.put_back(0, done).map_err(|_| Fail::from("a stray"))?;
+    assert_eq!(rt; (spent.seq(), spent.kept()), (1, 0));
+    assert!(rt; spent.last().is_none());
+    assert!(rt; core.workers() == 2);
+    let Taken::Job(ticket) = core.take_over(alloc, 0, Some(spent))? else {
+        return Err(Fail::from("no job"));
+    };
+    assert_eq!(rt; (ticket.seq(), ticket.kept(), ticket.worker()), (2, 1, 0));
+    assert!(rt; matches!(ticket.command(), Command::Show));
+    assert!(rt; core.count(0) == 1);
+    assert!(rt; matches!(ticket.last(), Some(last) if last.as_slice() == core.records(0, 0)));
+    assert!(rt; ticket.parts().is_empty());
+    put(&mut core, 0, work(alloc, ticket)?)?;
+    assert!(rt; core.is_quiet());
+    Ok(())
+}
+
 fn assert_job(rt: &impl Abort, done: &Done, kind: JobKind, part: u8) {
     let job = done.ticket().job();
     assert_eq!(rt; job.kind, kind);

@@ -68,11 +68,16 @@ impl<const CAP: usize> Desk<CAP> {
         self.closed = true;
     }
 
-    fn take(&mut self, alloc: Global, worker: usize) -> Result<Taken, AllocError> {
+    fn take(
+        &mut self,
+        alloc: Global,
+        worker: usize,
+        spent: Option<Ticket>,
+    ) -> Result<Taken, AllocError> {
         if worker > self.core.workers() {
             return Ok(Taken::Busy);
         }
-        self.core.take(alloc, worker)
+        self.core.take_over(alloc, worker, spent)
     }
 
     fn without_job(&self) -> Assignment {
@@ -83,9 +88,14 @@ impl<const CAP: usize> Desk<CAP> {
         }
     }
 
-    /// What the worker is to do next.
-    pub(crate) fn assign(&mut self, alloc: Global, worker: usize) -> Assignment {
-        match self.take(alloc, worker) {
+    /// What the worker is to do next. A new ticket takes the place of the one that it spent, if it spent one.
+    pub(crate) fn assign(
+        &mut self,
+        alloc: Global,
+        worker: usize,
+        spent: Option<Ticket>,
+    ) -> Assignment {
+        match self.take(alloc, worker, spent) {
             Ok(Taken::Job(ticket)) => Assignment::Job(ticket),
             Ok(Taken::Nothing) => self.without_job(),
             Ok(Taken::Failed) => Assignment::End,
@@ -100,17 +110,26 @@ impl<const CAP: usize> Desk<CAP> {
         }
     }
 
-    fn put(&mut self, worker: usize, done: Done) {
-        if self.core.put(worker, done).is_err() {
-            self.stop(Run::Broken);
+    /// The worker brings back a job that is done, and keeps the ticket that it spent.
+    #[inline(always)]
+    pub(crate) fn put(&mut self, worker: usize, done: Done) -> Option<Ticket> {
+        match self.core.put_back(worker, done) {
+            Ok(ticket) => Some(ticket),
+            Err(_) => {
+                self.stop(Run::Broken);
+                None
+            }
         }
     }
 
-    /// The worker brings back what it made of its job.
-    pub(crate) fn bring(&mut self, worker: usize, worked: Result<Done, Run>) {
+    /// The same of what it made of its job.
+    fn bring(&mut self, worker: usize, worked: Result<Done, Run>) -> Option<Ticket> {
         match worked {
             Ok(done) => self.put(worker, done),
-            Err(fault) => self.stop(fault),
+            Err(fault) => {
+                self.stop(fault);
+                None
+            }
         }
     }
 
@@ -121,10 +140,11 @@ impl<const CAP: usize> Desk<CAP> {
         worker: usize,
         worked: Option<Result<Done, Run>>,
     ) -> Assignment {
-        if let Some(worked) = worked {
-            self.bring(worker, worked);
-        }
-        self.assign(alloc, worker)
+        let spent = match worked {
+            None => None,
+            Some(worked) => self.bring(worker, worked),
+        };
+        self.assign(alloc, worker, spent)
     }
 
     /// The number of the caller's own worker.

@@ -51,13 +51,21 @@ fn finish<const CAP: usize, R: Wait, G: Gate>(
     gate: &G,
 ) {
     let worker = desk.own_worker();
-    let mut assignment = desk.assign(alloc, worker);
+    let mut assignment = desk.assign(alloc, worker, None);
     for _ in rt.forever() {
         let Assignment::Job(ticket) = assignment else {
             break;
         };
-        desk.bring(worker, work_job(alloc, worker, ticket, gate));
-        assignment = desk.assign(alloc, worker);
+        if !gate.at(worker, ticket.job()) {
+            desk.stop(Run::Broken);
+            break;
+        }
+        let Ok(done) = work(alloc, ticket) else {
+            desk.stop(Run::Memory);
+            break;
+        };
+        let spent = desk.put(worker, done);
+        assignment = desk.assign(alloc, worker, spent);
     }
 }
 

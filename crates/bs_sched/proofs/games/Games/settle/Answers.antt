@@ -18,7 +18,7 @@ bring-requires g c =
     c.into_parts-ticket.ensures.out in
     (omega arith, (back.there, (back.out, back.worked)))
 
-pub returns : goal.returns
-returns g c =
+pub returns-clause-games : goal.returns-clause-games
+returns-clause-games g c =
     let job = c.job-job.ensures ∙ ap (λ (i : Input). i.job) c.ticket.ensures in
     c.bring.ensures ∙ ap (λ (j : JobName). brought g.row.CAP c.args.self.now j) job
