@@ -63,7 +63,7 @@ escape_plain_byte byte plain =
     let ends = and_both (nat_le 32 byte) (nat_lt byte 127) inner.0 in
     escape_byte_plain byte (is_other_byte byte 34 refl plain) (is_other_byte byte 92 refl plain) (leb-true 32 byte ends.0)
 
-escape_plain : (text : List ℕ) → are_plain text ≡ true → escape text ≡ text
+pub escape_plain : (text : List ℕ) → are_plain text ≡ true → escape text ≡ text
 escape_plain [] plain = refl
 escape_plain (byte ∷ text) plain =
     let parts = and_both (is_plain byte) (are_plain text) plain in

@@ -5,4 +5,5 @@ pub mod CutTexts
 pub mod Floats
 pub mod Lines
 pub mod Lists
+pub mod ShortLines
 pub mod Texts

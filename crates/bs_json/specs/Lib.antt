@@ -6,4 +6,5 @@ pub mod Moves
 pub mod PlanLine
 pub mod Replies
 pub mod Setups
+pub mod ShortLines
 pub mod Values

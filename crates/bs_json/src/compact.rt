@@ -16,7 +16,8 @@ use bs_board::{Command, Direction, Id, Move, Moves, TurnNumber, Words};
 use std::alloc::{AllocError, Global};
 use std::str;
 
-fn is_plain(byte: u8) -> bool
+/// Whether it stands for itself between quotation marks, and is printable ASCII.
+pub(crate) fn is_plain(byte: u8) -> bool
     ensures { result ≡ is_plain byte }
 {
     32 <= byte && byte < 127 && byte != b'"' && byte != b'\\'

@@ -11,6 +11,7 @@ mod moves;
 pub mod plan;
 mod replies;
 mod setups;
+mod short_lines;
 mod shown;
 #[cfg(test)]
 mod tests;
@@ -21,3 +22,4 @@ pub use limits::MAX_LINE;
 pub use line::{Line, Stray, read_line};
 pub use plan::{PlanFault, read_plan};
 pub use replies::{final_line, reply_line, stray_line};
+pub use short_lines::push_reply_line;

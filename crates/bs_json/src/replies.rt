@@ -11,7 +11,7 @@ use bs_board::{Board, Id, Refusal, Reply, Word};
 use serde::{Described, Serialize, Serializer};
 use std::alloc::{AllocError, Global};
 
-fn word_text(word: Word) -> &'static str
+pub(crate) fn word_text(word: Word) -> &'static str
     ensures { result.now ≡ word_text word }
 {
     match word {
@@ -24,7 +24,7 @@ fn word_text(word: Word) -> &'static str
     }
 }
 
-fn refusal_code(refusal: Refusal) -> &'static str
+pub(crate) fn refusal_code(refusal: Refusal) -> &'static str
     ensures { result.now ≡ refusal_code refusal }
 {
     match refusal {
@@ -38,7 +38,7 @@ fn refusal_code(refusal: Refusal) -> &'static str
     }
 }
 
-fn refusal_text(refusal: Refusal) -> &'static str
+pub(crate) fn refusal_text(refusal: Refusal) -> &'static str
     ensures { result.now ≡ refusal_text refusal }
 {
     match refusal {

@@ -1,6 +1,7 @@
 //! Lines of worked games, with the ends of each range, and what is written for them.
 use crate::{
-    Line, PlanFault, Stray, board_value, final_line, read_line, read_plan, reply_line, stray_line,
+    Line, PlanFault, Stray, board_value, final_line, push_reply_line, read_line, read_plan,
+    reply_line, stray_line,
 };
 use bs_board::{
     Board, Cause, Cells, Command, Id, KeptBoard, Mode, Move, New, Plan, Point, Refusal, Reply,
@@ -317,6 +318,7 @@ fn a_solo_game_is_written(rt: HostRuntime) -> Result<(), Fail> {
     let snake = living(alloc, "s", 99, &[(1, 2), (1, 1), (1, 1)])?;
     let second = solo(alloc, 1, snake)?;
     let last = last_solo(alloc)?;
+    let mut pushed = Vec::new(alloc);
     let mut written = Vec::new(alloc);
     for (seq, reply) in [
         (1, shown(&rt, alloc, Word::New, &first, 32)?),
@@ -325,9 +327,13 @@ fn a_solo_game_is_written(rt: HostRuntime) -> Result<(), Fail> {
         (4, Reply::Refused(Refusal::Over)),
     ] {
         written.extend_from_slice(&reply_line(alloc, &game, seq, &reply)?)?;
+        push_reply_line(alloc, &game, seq, &reply, &mut pushed)?;
     }
-    written.extend_from_slice(&final_line(alloc, &game, Some(&last), 96)?)?;
+    let end = final_line(alloc, &game, Some(&last), 96)?;
+    written.extend_from_slice(&end)?;
+    pushed.extend_from_slice(&end)?;
     assert_eq!(rt; written.as_slice(), SOLO_GAME.as_bytes());
+    assert_eq!(rt; pushed.as_slice(), SOLO_GAME.as_bytes());
     Ok(())
 }
 
@@ -368,6 +374,47 @@ fn lines_without_a_board_are_written(rt: HostRuntime) -> Result<(), Fail> {
         written.extend_from_slice(&stray_line(alloc, line, stray)?)?;
     }
     assert_eq!(rt; written.as_slice(), WITHOUT_A_BOARD.as_bytes());
+    Ok(())
+}
+
+// The same replies, of a game whose name is plain and of one whose name is not.
+const PUSHED: &str = r#"{"charge":0,"do":"end","game":"a","seq":3}
+{"charge":32,"do":"free","game":"a","seq":3}
+{"game":"a","no":"G1","seq":3,"why":"command"}
+{"game":"a","no":"G2","seq":3,"why":"none"}
+{"game":"a","no":"G3","seq":3,"why":"running"}
+{"game":"a","no":"G5","seq":3,"why":"limit"}
+{"game":"a","no":"G6","seq":3,"why":"record"}
+{"game":"a","no":"G7","seq":3,"why":"quota"}
+{"charge":4294967295,"do":"end","game":"a\"","seq":18446744073709551615}
+{"game":"a\"","no":"G4","seq":18446744073709551615,"why":"over"}
+"#;
+
+#[test]
+fn replies_are_pushed_behind_each_other(rt: HostRuntime) -> Result<(), Fail> {
+    let alloc = rt.alloc();
+    let plain = Id::from_str(alloc, "a")?;
+    let marked = Id::from_str(alloc, "a\"")?;
+    let mut text = Vec::new(alloc);
+    for reply in [
+        Reply::Plain(Word::End, 0),
+        Reply::Plain(Word::Free, 32),
+        Reply::Refused(Refusal::Unknown),
+        Reply::Refused(Refusal::NoGame),
+        Reply::Refused(Refusal::Running),
+        Reply::Refused(Refusal::Limit),
+        Reply::Refused(Refusal::NoRecord),
+        Reply::Refused(Refusal::Quota),
+    ] {
+        push_reply_line(alloc, &plain, 3, &reply, &mut text)?;
+    }
+    for reply in [
+        Reply::Plain(Word::End, u32::MAX),
+        Reply::Refused(Refusal::Over),
+    ] {
+        push_reply_line(alloc, &marked, u64::MAX, &reply, &mut text)?;
+    }
+    assert_eq!(rt; text.as_slice(), PUSHED.as_bytes());
     Ok(())
 }
 

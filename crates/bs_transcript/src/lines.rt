@@ -4,7 +4,7 @@ ghost use Rattle.bs_transcript.specs.Lines.{reply_lines_from, stray_lines_of, se
 ghost use Rattle.bs_json.specs.Replies.{final_line_of};
 
 use bs_board::{Board, Id, Reply};
-use bs_json::{Stray, final_line, reply_line, stray_line};
+use bs_json::{Stray, final_line, push_reply_line, stray_line};
 use std::alloc::{AllocError, Global};
 
 /// What is told of one game.
@@ -29,8 +29,7 @@ pub(crate) fn push_replies(
     ensures { OnOk result (text.new.items ≡ text.old.items ++ reply_lines_from first name.now replies.now) }
 {
     for index in 0..replies.len() {
-        let line = reply_line(alloc, name, first + index as u64, &replies[index])?;
-        text.extend_from_slice(&line)?;
+        push_reply_line(alloc, name, first + index as u64, &replies[index], text)?;
     }
     Ok(())
 }
