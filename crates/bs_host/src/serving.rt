@@ -1,5 +1,5 @@
 //! A command file is served: its plan and its lines are read, a core answers them, and the transcript is written.
-ghost use Rattle.std.specs.Prelude.{◌≡◌, ◌≤◌, None, Ok, length, IfOk, IfErr, OnOk, IfSome, option_copied};
+ghost use Rattle.std.specs.Prelude.{◌≡◌, ◌*◌, ◌≤◌, None, Ok, length, IfOk, IfErr, OnOk, IfSome, option_copied};
 ghost use Rattle.std.specs.Io.KnownBytes.{Appends};
 ghost use Rattle.bs_sched.specs.Core.{opened_core};
 ghost use Rattle.bs_host.specs.File.{pieces_after};
@@ -18,8 +18,8 @@ use bs_board::Plan;
 use bs_json::read_plan;
 use bs_sched::Core;
 use bs_transcript::{Parts, write_parts};
-use bs_workers::{Gate, run};
-use std::alloc::Global;
+use bs_workers::{Gate, run_in_crews};
+use std::alloc::{AllocError, Global};
 use std::io::Write;
 use std::sync::Wait;
 use std::thread::Threads;
@@ -46,6 +46,23 @@ fn open_core(
     Ok(Core::open(alloc, plan, blocks, workers)?)
 }
 
+/// The largest crew of a thread: so many jobs take so long that the turn at the lock between two of them counts for little.
+const LARGEST_CREW: usize = 8;
+
+/// How many workers each of so many threads stands for: one, unless there are so many games that all crews together have jobs
+/// of half of them at most.
+fn crew_size(games: usize, threads: usize) -> usize {
+    (games / threads.saturating_mul(2).max(1)).clamp(1, LARGEST_CREW)
+}
+
+/// How many workers so many crews of that size have. As many as can't be counted are answered as want of memory is: tables by
+/// worker would take more than there is.
+fn count_workers(crews: usize, size: usize) -> Result<usize, AllocError>
+    ensures { IfOk result (λ workers. workers ≡ crews * size) }
+{
+    crews.checked_mul(size).ok_or(AllocError)
+}
+
 /// Answers the lines that follow the plan in a file, where there are any.
 #[tactic(auto, using(crate::proofs::HostedCore::run_refusal))]
 fn host_plan<R: Threads + Wait + Sync, G: Gate>(
@@ -66,8 +83,10 @@ fn host_plan<R: Threads + Wait + Sync, G: Gate>(
     ensures fault { IfErr result (IsRefusal (refusal_of_plan blocks (Ok plan))) }
 {
     let requests = sort_lines(rt, alloc, &plan.rows, rest, workers)?;
-    let core = open_core(alloc, plan, blocks, workers)?;
-    let core = run(rt, alloc, core, requests.commands.as_slice(), workers, gate)?;
+    let crew = crew_size(plan.rows.as_slice().len(), workers);
+    let members = count_workers(workers, crew)?;
+    let core = open_core(alloc, plan, blocks, members)?;
+    let core = run_in_crews(rt, alloc, core, requests.commands.as_slice(), workers, crew, gate)?;
     Ok(Hosted {
         core,
         strays: requests.strays,

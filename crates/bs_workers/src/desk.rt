@@ -1,6 +1,7 @@
 //! The desk: a core, with what those that work at it have to know of one another.
+use crate::crew::Crew;
 use crate::fault::Run;
-use bs_fiber::{Done, SharedCommand, Ticket};
+use bs_fiber::{Done, Out, SharedCommand, Ticket};
 use bs_sched::{Core, Taken};
 use std::alloc::{AllocError, Global};
 
@@ -15,10 +16,23 @@ pub(crate) enum Assignment {
     End,
 }
 
+/// What a thread is told that asks for jobs.
+#[derive(Clone, Copy, PartialEq, Eq)]
+pub(crate) enum Next {
+    /// It has some to work. Before that it calls those that wait, if there may be some for them too.
+    Work { calls: bool },
+    /// None is ready, and one may become so.
+    Wait,
+    /// There will be none.
+    End,
+}
+
 /// A core that commands are handed to and jobs are taken from.
 #[derive(Drop)]
 pub(crate) struct Desk<const CAP: usize> {
     core: Core<CAP>,
+    /// How many threads have no job.
+    idle: usize,
     /// Whether the last command is handed in.
     closed: bool,
     /// Why the run was broken off.
@@ -26,10 +40,11 @@ pub(crate) struct Desk<const CAP: usize> {
 }
 
 impl<const CAP: usize> Desk<CAP> {
-    /// Nothing was done yet with that core.
-    pub(crate) fn new(core: Core<CAP>) -> Self {
+    /// Nothing was done yet with that core, at which so many threads are to work.
+    pub(crate) fn new(core: Core<CAP>, threads: usize) -> Self {
         Desk {
             core,
+            idle: threads,
             closed: false,
             fault: None,
         }
@@ -122,29 +137,62 @@ impl<const CAP: usize> Desk<CAP> {
         }
     }
 
-    /// The same of what it made of its job.
-    fn bring(&mut self, worker: usize, worked: Result<Done, Run>) -> Option<Ticket> {
-        match worked {
-            Ok(done) => self.put(worker, done),
-            Err(fault) => {
-                self.stop(fault);
-                None
+    /// The thread brings back all that it worked. Whether that may have made more jobs ready than one: a move that goes makes
+    /// all its parts ready, any other job one at most.
+    fn bring_all(&mut self, crew: &mut Crew) -> bool {
+        let brought = crew.count_done();
+        if brought > 0 {
+            self.idle = self.idle.saturating_add(1);
+        }
+        let mut spreads = brought > 1;
+        for _ in 0..brought {
+            if let Some(done) = crew.take_done() {
+                spreads |= matches!(done.out(), Out::Goes);
+                let worker = done.ticket().worker() as usize;
+                if let Some(spent) = self.put(worker, done) {
+                    crew.keep_spent(spent);
+                }
             }
         }
+        spreads
     }
 
-    /// What the worker is to do, once it has brought back what it made of its last job, if it had one.
-    pub(crate) fn exchange(
-        &mut self,
-        alloc: Global,
-        worker: usize,
-        worked: Option<Result<Done, Run>>,
-    ) -> Assignment {
-        let spent = match worked {
-            None => None,
-            Some(worked) => self.bring(worker, worked),
-        };
-        self.assign(alloc, worker, spent)
+    /// The thread takes so many jobs at most, one for each of its workers. Where there were fewer, what one is told that asks
+    /// for a job more.
+    fn assign_all(&mut self, alloc: Global, crew: &mut Crew, most: usize) -> Option<Next> {
+        for place in 0..most {
+            let spent = crew.take_spent();
+            match self.assign(alloc, crew.worker(place), spent) {
+                Assignment::Job(ticket) => crew.add(ticket),
+                Assignment::Wait => return Some(Next::Wait),
+                Assignment::End => return Some(Next::End),
+            }
+        }
+        None
+    }
+
+    /// The thread brings back what it worked, and takes jobs for its workers: one job where another thread has none, or
+    /// else one for each. It calls the others where it may have left some that they could take.
+    pub(crate) fn exchange(&mut self, alloc: Global, crew: &mut Crew) -> Next {
+        if let Some(fault) = crew.fault() {
+            self.stop(fault);
+        }
+        let spreads = self.bring_all(crew);
+        if self.is_stopped() {
+            return Next::End;
+        }
+        let shares = self.idle > 1;
+        let most = if shares { 1 } else { crew.size() };
+        let fewer = self.assign_all(alloc, crew, most);
+        match fewer {
+            Some(next) if !crew.has_jobs() => next,
+            _ => {
+                self.idle = self.idle.saturating_sub(1);
+                Next::Work {
+                    calls: shares && spreads && fewer.is_none(),
+                }
+            }
+        }
     }
 
     /// The number of the caller's own worker.

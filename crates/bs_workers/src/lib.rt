@@ -2,6 +2,7 @@
 #![tactic(auto)]
 
 mod comparing;
+mod crew;
 mod desk;
 mod fault;
 mod gate;
@@ -14,4 +15,4 @@ mod working;
 
 pub use fault::Run;
 pub use gate::{Gate, OpenGate};
-pub use running::run;
+pub use running::{run, run_in_crews};

@@ -1,5 +1,5 @@
 //! A run: every command is handed in and answered.
-ghost use Rattle.std.specs.Prelude.{◌≡◌, ◌<◌, All, length, IfOk};
+ghost use Rattle.std.specs.Prelude.{◌≡◌, ◌*◌, ◌<◌, All, length, IfOk};
 ghost use Rattle.bs_pool.specs.Ledger.{size};
 ghost use Rattle.bs_sched.specs.Core.{opened_core};
 ghost use Rattle.bs_workers.specs.Run.{IsRunOf};
@@ -15,8 +15,34 @@ use std::alloc::Global;
 use std::sync::Wait;
 use std::thread::Threads;
 
-/// Hands the commands, each with the row of its game, to a core that was just opened, in their order, and has its
-/// workers answer all of them.
+/// Hands the commands, each with the row of its game, to a core that was just opened, in their order, and has so many
+/// threads answer all of them, each of which stands for a crew of so many workers. In one turn at the lock a thread takes a
+/// job for each worker of its crew, but one job where another thread has none. A gate is told the thread's number.
+pub fn run_in_crews<const CAP: usize, R: Threads + Wait + Sync, G: Gate>(
+    rt: &R,
+    alloc: Global,
+    core: Core<CAP>,
+    commands: &[(usize, SharedCommand)],
+    threads: usize,
+    crew: usize,
+    gate: &G,
+) -> Result<Core<CAP>, Run>
+    requires rows { All (λ command. command.0 < length core.games.rows) commands.now }
+    requires fresh { core ≡ opened_core CAP (size core.games.storage.pool) core.games.workers core.games.rows }
+    requires workers { core.games.workers ≡ threads * crew }
+    ensures { IfOk result (λ done. IsRunOf core.entry commands.now done) }
+{
+    let rows = copy_rows(alloc, &core)?;
+    let blocks = core.counts().size;
+    let core = worked(rt, alloc, core, commands, threads, crew, gate)?;
+    if is_run_of(&core, rows.as_slice(), blocks, commands) {
+        Ok(core)
+    } else {
+        Err(Run::Broken)
+    }
+}
+
+/// The same, where each worker is a thread of its own.
 pub fn run<const CAP: usize, R: Threads + Wait + Sync, G: Gate>(
     rt: &R,
     alloc: Global,
@@ -30,12 +56,5 @@ pub fn run<const CAP: usize, R: Threads + Wait + Sync, G: Gate>(
     requires workers { core.games.workers ≡ workers }
     ensures { IfOk result (λ done. IsRunOf core.entry commands.now done) }
 {
-    let rows = copy_rows(alloc, &core)?;
-    let blocks = core.counts().size;
-    let core = worked(rt, alloc, core, commands, workers, gate)?;
-    if is_run_of(&core, rows.as_slice(), blocks, commands) {
-        Ok(core)
-    } else {
-        Err(Run::Broken)
-    }
+    run_in_crews(rt, alloc, core, commands, workers, 1, gate)
 }

@@ -1,14 +1,15 @@
 //! The shop: a desk behind a lock, at which threads work and wait.
-use crate::desk::{Assignment, Desk};
+use crate::crew::Crew;
+use crate::desk::{Desk, Next};
 use crate::fault::Run;
-use bs_fiber::{Done, Out, SharedCommand};
+use bs_fiber::SharedCommand;
 use bs_sched::Core;
 use std::alloc::Global;
 use std::hint::spin_loop;
 use std::sync::{Condvar, Mutex, MutexGuard, Wait};
 
-/// A desk for several threads. The lock is held while commands are handed in, and once between two jobs of a worker,
-/// while one is brought back and the next is taken; never while a job is worked.
+/// A desk for several threads. The lock is held while commands are handed in, and once between two turns of a thread at
+/// its jobs, while those are brought back and the next are taken; never while a job is worked.
 #[derive(Drop)]
 pub(crate) struct Shop<const CAP: usize> {
     desk: Mutex<Desk<CAP>>,
@@ -16,10 +17,11 @@ pub(crate) struct Shop<const CAP: usize> {
 }
 
 /// How often a thread looks whether the desk is free before it sleeps for it.
-const LOOKS: u32 = 20;
+const LOOKS: u32 = 400;
 
-/// How many hints that it waits the processor gets between two looks. Together they take some ten microseconds.
-const HINTS: u32 = 16;
+/// How many hints that it waits the processor gets between two looks. Together they take some 50 microseconds, as much as
+/// going to sleep and being woken.
+const HINTS: u32 = 4;
 
 /// Lets a moment go by.
 fn pause() {
@@ -28,20 +30,11 @@ fn pause() {
     }
 }
 
-/// Whether it makes jobs ready for others than the worker that brings it: the parts of a move.
-fn spreads(worked: &Option<Result<Done, Run>>) -> bool {
-    match worked {
-        Some(Ok(done)) => matches!(done.out(), Out::Goes),
-        Some(Err(_)) => true,
-        None => false,
-    }
-}
-
 impl<const CAP: usize> Shop<CAP> {
-    /// Nothing was done yet with that core.
-    pub(crate) fn new(core: Core<CAP>) -> Self {
+    /// Nothing was done yet with that core, at which so many threads are to work.
+    pub(crate) fn new(core: Core<CAP>, threads: usize) -> Self {
         Shop {
-            desk: Mutex::new(Desk::new(core)),
+            desk: Mutex::new(Desk::new(core, threads)),
             changed: Condvar::new(),
         }
     }
@@ -66,27 +59,19 @@ impl<const CAP: usize> Shop<CAP> {
         }
     }
 
-    /// What the worker is to do, once it has brought back what it made of its last job, if it had one. Where nothing is
-    /// ready it waits for a change first, and then is to ask again. What it brings back makes one job ready at most,
-    /// which is its own to take, unless a move goes in parts; one that ends wakes all, since they are to end too.
-    pub(crate) fn exchange<R: Wait>(
-        &self,
-        rt: &R,
-        alloc: Global,
-        worker: usize,
-        worked: Option<Result<Done, Run>>,
-    ) -> Assignment {
-        let tells = spreads(&worked);
+    /// What the thread is to do, once it has brought back what it worked. Where nothing is ready it waits for a change first,
+    /// and then is to ask again. One that ends wakes all, since they are to end too.
+    pub(crate) fn exchange<R: Wait>(&self, rt: &R, alloc: Global, crew: &mut Crew) -> Next {
         let mut desk = self.enter(rt);
-        let assignment = desk.exchange(alloc, worker, worked);
-        match &assignment {
-            Assignment::Job(_) => self.leave(desk, tells),
-            Assignment::End => self.leave(desk, true),
-            Assignment::Wait => {
+        let next = desk.exchange(alloc, crew);
+        match next {
+            Next::Work { calls } => self.leave(desk, calls),
+            Next::End => self.leave(desk, true),
+            Next::Wait => {
                 let _desk = self.changed.wait(rt, desk);
             }
         }
-        assignment
+        next
     }
 
     fn hand_in<R: Wait>(&self, rt: &R, commands: &[(usize, SharedCommand)]) -> bool {

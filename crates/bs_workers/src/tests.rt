@@ -1,8 +1,9 @@
-//! Two games of three snakes, played by one worker and by several, and what becomes of them where a gate is shut.
+//! Games of three snakes, played by one worker and by several, by threads with crews, and what becomes of them where a gate
+//! is shut.
 ghost use Rattle.std.specs.Prelude.{◌≡◌, ◌<◌, ℕ, All, IsTrue, IfOk, length};
 ghost use Rattle.bs_sched.specs.Core.{opened_core};
 
-use crate::{Gate, OpenGate, Run, run};
+use crate::{Gate, OpenGate, Run, run, run_in_crews};
 use bs_board::limits::MOST_ROWS;
 use bs_board::plans::plan::have_distinct_names;
 use bs_board::{
@@ -57,15 +58,16 @@ impl Gate for Meeting {
     }
 }
 
-fn two_games(rt: &impl Abort, alloc: Global) -> Result<Plan, Fail>
-    ensures { IfOk result (λ plan. length plan.rows ≡ 2) }
+fn games(rt: &impl Abort, alloc: Global, names: &[&str]) -> Result<Plan, Fail>
+    ensures { IfOk result (λ plan. length plan.rows ≡ length names.now) }
 {
-    let first = Row::new(Id::from_str(alloc, "a")?, 4096).ok_or("a quota")?;
-    let second = Row::new(Id::from_str(alloc, "b")?, 4096).ok_or("a quota")?;
-    let rows = vec![in alloc; first, second]?;
+    let mut rows = Vec::new(alloc);
+    for name in names {
+        rows.push(Row::new(Id::from_str(alloc, name)?, 4096).ok_or("a quota")?)?;
+    }
     assert!(rt; have_distinct_names(&rows));
     assert!(rt; rows.len() <= MOST_ROWS);
-    assert!(rt; rows.len() == 2);
+    assert!(rt; rows.len() == names.len());
     Ok(Plan {
         rows: Rows::from_vec(rows),
     })
@@ -139,15 +141,16 @@ fn played<R: Threads + Wait + Abort + Sync, G: Gate>(
     gate: &G,
 ) -> Result<Result<Core<524_288>, Run>, Fail> {
     assert!(rt; are_within(commands, 2));
-    let core = Core::<524_288>::open(alloc, two_games(rt, alloc)?, 12, workers)?;
+    let core = Core::<524_288>::open(alloc, games(rt, alloc, &["a", "b"])?, 12, workers)?;
     Ok(run(rt, alloc, core, commands, workers, gate))
 }
 
-/// The replies of both games, as text.
-fn told(rt: &impl Abort, alloc: Global, core: &Core<524_288>) -> Result<String, Fail> {
+/// The replies of that game and of the one behind it, as text.
+fn told(rt: &impl Abort, alloc: Global, core: &Core<524_288>, game: usize) -> Result<String, Fail> {
     assert!(rt; core.is_quiet());
-    assert!(rt; core.rows() == 2);
-    let (first, second) = (core.replies(0), core.replies(1));
+    assert!(rt; core.rows() > 1);
+    assert!(rt; game < core.rows() - 1);
+    let (first, second) = (core.replies(game), core.replies(game + 1));
     assert_eq!(rt; first.len(), 9);
     assert_eq!(rt; second.len(), 9);
     Ok(format!(in alloc; "{first:?} {second:?}")?)
@@ -160,7 +163,36 @@ fn told_by<R: Threads + Wait + Abort + Sync>(
 ) -> Result<String, Fail> {
     let commands = commands(alloc)?;
     let core = played(rt, alloc, commands.as_slice(), workers, &OpenGate)??;
-    told(rt, alloc, &core)
+    told(rt, alloc, &core, 0)
+}
+
+const NAMES: [&str; 16] = [
+    "a", "b", "c", "d", "e", "f", "g", "h", "i", "j", "k", "l", "m", "n", "o", "p",
+];
+
+/// The commands of both games, for each pair of sixteen games in turn.
+fn commands_of_pairs(alloc: Global) -> Result<Vec<(usize, SharedCommand)>, Fail> {
+    let mut all = Vec::new(alloc);
+    for (game, command) in commands(alloc)?.as_slice() {
+        for pair in 0..8usize {
+            all.push((2 * pair + (*game).min(1), command.share()?))?;
+        }
+    }
+    Ok(all)
+}
+
+/// A run of these commands over sixteen games, by so many threads with crews of that size.
+fn played_in_crews<R: Threads + Wait + Abort + Sync>(
+    rt: &R,
+    alloc: Global,
+    commands: &[(usize, SharedCommand)],
+    threads: usize,
+    crew: usize,
+) -> Result<Core<524_288>, Fail> {
+    let workers = threads.checked_mul(crew).ok_or("a number of workers")?;
+    assert!(rt; are_within(commands, 16));
+    let core = Core::<524_288>::open(alloc, games(rt, alloc, &NAMES)?, 96, workers)?;
+    Ok(run_in_crews(rt, alloc, core, commands, threads, crew, &OpenGate)?)
 }
 
 #[test]
@@ -170,6 +202,22 @@ fn any_number_of_workers_gives_the_same_replies(rt: HostRuntime) -> Result<(), F
     for workers in [0usize, 2, 4] {
         let others = told_by(&rt, alloc, workers)?;
         assert!(rt; alone.as_str() == others.as_str());
+    }
+    Ok(())
+}
+
+/// Each pair of sixteen games is as it is alone.
+#[test]
+fn threads_with_crews_give_the_same_replies(rt: HostRuntime) -> Result<(), Fail> {
+    let alloc = rt.alloc();
+    let alone = told_by(&rt, alloc, 1)?;
+    let commands = commands_of_pairs(alloc)?;
+    for (threads, crew) in [(0usize, 3usize), (1, 8), (2, 4), (2, 8), (3, 1), (4, 2)] {
+        let core = played_in_crews(&rt, alloc, commands.as_slice(), threads, crew)?;
+        for pair in 0..8usize {
+            let others = told(&rt, alloc, &core, 2 * pair)?;
+            assert!(rt; alone.as_str() == others.as_str());
+        }
     }
     Ok(())
 }

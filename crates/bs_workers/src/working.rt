@@ -1,44 +1,34 @@
 //! Working: what a worker makes of its jobs, in a thread of its own or alone with the desk.
-use crate::desk::{Assignment, Desk};
+use crate::crew::Crew;
+use crate::desk::{Assignment, Desk, Next};
 use crate::fault::Run;
 use crate::gate::Gate;
 use crate::shop::Shop;
-use bs_fiber::{Done, SharedCommand, Ticket, work};
+use bs_fiber::{SharedCommand, work};
 use bs_sched::Core;
 use std::alloc::Global;
 use std::sync::Wait;
 use std::thread;
 use std::thread::Threads;
 
-/// The job is worked, once the gate lets it pass.
-#[inline(always)]
-fn work_job<G: Gate>(alloc: Global, worker: usize, ticket: Ticket, gate: &G) -> Result<Done, Run> {
-    if !gate.at(worker, ticket.job()) {
-        return Err(Run::Broken);
-    }
-    match work(alloc, ticket) {
-        Ok(done) => Ok(done),
-        Err(_) => Err(Run::Memory),
-    }
-}
-
-/// A worker among others: it works what is ready and waits for what becomes so, until the end.
+/// A thread among others: it works what is ready and waits for what becomes so, until the end.
 fn work_until_end<const CAP: usize, R: Wait, G: Gate>(
     rt: &R,
     alloc: Global,
     shop: &Shop<CAP>,
-    worker: usize,
+    thread: usize,
+    size: usize,
     gate: &G,
 ) {
-    let mut assignment = shop.exchange(rt, alloc, worker, None);
+    let Ok(mut crew) = Crew::new(alloc, thread, size) else {
+        shop.stop(rt, Run::Memory);
+        return;
+    };
     for _ in rt.forever() {
-        match assignment {
-            Assignment::Job(ticket) => {
-                let worked = work_job(alloc, worker, ticket, gate);
-                assignment = shop.exchange(rt, alloc, worker, Some(worked));
-            }
-            Assignment::Wait => assignment = shop.exchange(rt, alloc, worker, None),
-            Assignment::End => break,
+        match shop.exchange(rt, alloc, &mut crew) {
+            Next::Work { calls: _ } => crew.work_all(alloc, gate),
+            Next::Wait => {}
+            Next::End => break,
         }
     }
 }
@@ -48,6 +38,7 @@ fn finish<const CAP: usize, R: Wait, G: Gate>(
     rt: &R,
     alloc: Global,
     desk: &mut Desk<CAP>,
+    thread: usize,
     gate: &G,
 ) {
     let worker = desk.own_worker();
@@ -56,7 +47,7 @@ fn finish<const CAP: usize, R: Wait, G: Gate>(
         let Assignment::Job(ticket) = assignment else {
             break;
         };
-        if !gate.at(worker, ticket.job()) {
+        if !gate.at(thread, ticket.job()) {
             desk.stop(Run::Broken);
             break;
         }
@@ -69,8 +60,8 @@ fn finish<const CAP: usize, R: Wait, G: Gate>(
     }
 }
 
-/// How many commands are handed in at once: the lock is taken once for all of them.
-const COMMANDS_AT_ONCE: usize = 1_024;
+/// How many commands are handed in at once: the lock is taken once for all of them, and others come to it in between.
+const COMMANDS_AT_ONCE: usize = 128;
 
 /// Hands in all commands in their order, or as many as the run goes on for.
 fn hand_all<const CAP: usize, R: Wait>(
@@ -92,33 +83,35 @@ fn hand_to_threads<const CAP: usize, R: Threads + Wait + Sync, G: Gate>(
     alloc: Global,
     shop: &Shop<CAP>,
     commands: &[(usize, SharedCommand)],
-    workers: usize,
+    threads: usize,
+    size: usize,
     gate: &G,
 ) {
     thread::scope(thread::scope_env(), rt, |scope| {
-        for worker in 0..workers {
-            let _thread = scope.spawn(move || work_until_end(rt, alloc, shop, worker, gate));
+        for thread in 0..threads {
+            let _thread = scope.spawn(move || work_until_end(rt, alloc, shop, thread, size, gate));
         }
         hand_all(rt, shop, commands);
     });
 }
 
-/// The core once all commands are worked. A single worker is the caller's own.
+/// The core once all commands are worked, by so many threads with crews of that size. A single thread is the caller's own.
 pub(crate) fn worked<const CAP: usize, R: Threads + Wait + Sync, G: Gate>(
     rt: &R,
     alloc: Global,
     core: Core<CAP>,
     commands: &[(usize, SharedCommand)],
-    workers: usize,
+    threads: usize,
+    size: usize,
     gate: &G,
 ) -> Result<Core<CAP>, Run> {
-    let shop = Shop::new(core);
-    if workers > 1 {
-        hand_to_threads(rt, alloc, &shop, commands, workers, gate);
+    let shop = Shop::new(core, threads);
+    if threads > 1 {
+        hand_to_threads(rt, alloc, &shop, commands, threads, size, gate);
     } else {
         hand_all(rt, &shop, commands);
     }
     let mut desk = shop.into_desk();
-    finish(rt, alloc, &mut desk, gate);
+    finish(rt, alloc, &mut desk, threads, gate);
     desk.into_core()
 }

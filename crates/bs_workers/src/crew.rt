@@ -1,0 +1,125 @@
+//! A crew: the workers that one thread stands for, with the jobs that it has for them.
+use crate::fault::Run;
+use crate::gate::Gate;
+use bs_fiber::{Done, Ticket, work};
+use std::alloc::{AllocError, Global};
+
+/// A thread's workers, and where their jobs are. A worker may have one job out that begins or joins, so a thread that takes
+/// several jobs in one turn at the desk takes them for several workers.
+#[derive(Drop)]
+pub(crate) struct Crew {
+    /// The number of the thread, which a gate is told.
+    thread: usize,
+    /// The number of its first worker; the others come behind it.
+    first: usize,
+    /// How many workers it has.
+    size: usize,
+    /// Jobs to be worked.
+    tickets: Vec<Ticket>,
+    /// Jobs to be brought back.
+    done: Vec<Done>,
+    /// Tickets of jobs that were brought back: new ones may take their places.
+    spent: Vec<Ticket>,
+    /// Why one of its jobs came to nothing.
+    fault: Option<Run>,
+}
+
+/// The job is worked, once the gate lets it pass.
+#[inline(always)]
+fn work_job<G: Gate>(alloc: Global, thread: usize, ticket: Ticket, gate: &G) -> Result<Done, Run> {
+    if !gate.at(thread, ticket.job()) {
+        return Err(Run::Broken);
+    }
+    match work(alloc, ticket) {
+        Ok(done) => Ok(done),
+        Err(_) => Err(Run::Memory),
+    }
+}
+
+impl Crew {
+    /// So many workers for that thread, one at least. The threads before it have as many each. All memory that it needs is
+    /// asked for here.
+    pub(crate) fn new(alloc: Global, thread: usize, size: usize) -> Result<Self, AllocError> {
+        let size = size.max(1);
+        Ok(Crew {
+            thread,
+            first: thread.saturating_mul(size),
+            size,
+            tickets: Vec::with_capacity(alloc, size)?,
+            done: Vec::with_capacity(alloc, size)?,
+            spent: Vec::with_capacity(alloc, size)?,
+            fault: None,
+        })
+    }
+
+    /// How many workers it has.
+    pub(crate) fn size(&self) -> usize {
+        self.size
+    }
+
+    /// The number of the worker at that place.
+    pub(crate) fn worker(&self, place: usize) -> usize {
+        self.first.saturating_add(place)
+    }
+
+    /// How many jobs it has to bring back.
+    pub(crate) fn count_done(&self) -> usize {
+        self.done.len()
+    }
+
+    /// Whether it has a job to be worked.
+    pub(crate) fn has_jobs(&self) -> bool {
+        !self.tickets.is_empty()
+    }
+
+    /// Why one of its jobs came to nothing.
+    pub(crate) fn fault(&self) -> Option<Run> {
+        self.fault
+    }
+
+    fn note_fault<T: Drop>(&mut self, outcome: Result<(), T>) {
+        if outcome.is_err() {
+            self.fault = Some(Run::Memory);
+        }
+    }
+
+    /// A job more.
+    pub(crate) fn add(&mut self, ticket: Ticket) {
+        let added = self.tickets.push(ticket);
+        self.note_fault(added);
+    }
+
+    /// A job to be brought back.
+    pub(crate) fn take_done(&mut self) -> Option<Done> {
+        self.done.pop()
+    }
+
+    /// A ticket that a new one may take the place of.
+    pub(crate) fn take_spent(&mut self) -> Option<Ticket> {
+        self.spent.pop()
+    }
+
+    /// That ticket's job was brought back.
+    pub(crate) fn keep_spent(&mut self, ticket: Ticket) {
+        let _kept = self.spent.push(ticket);
+    }
+
+    /// All its jobs are worked, or those before one that comes to nothing.
+    pub(crate) fn work_all<G: Gate>(&mut self, alloc: Global, gate: &G) {
+        for _ in 0..self.tickets.len() {
+            let Some(ticket) = self.tickets.pop() else {
+                break;
+            };
+            match work_job(alloc, self.thread, ticket, gate) {
+                Ok(done) => {
+                    let kept = self.done.push(done);
+                    self.note_fault(kept);
+                }
+                Err(fault) => {
+                    self.fault = Some(fault);
+                    break;
+                }
+            }
+        }
+    }
+}
