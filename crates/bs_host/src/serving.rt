@@ -86,7 +86,8 @@ fn host_plan<R: Threads + Wait + Sync, G: Gate>(
     let crew = crew_size(plan.rows.as_slice().len(), workers);
     let members = count_workers(workers, crew)?;
     let core = open_core(alloc, plan, blocks, members)?;
-    let core = run_in_crews(rt, alloc, core, requests.commands.as_slice(), workers, crew, gate)?;
+    let commands = requests.commands.as_slice();
+    let core = run_in_crews(rt, alloc, core, commands, workers, crew, gate)?;
     Ok(Hosted {
         core,
         strays: requests.strays,

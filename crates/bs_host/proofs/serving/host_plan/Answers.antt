@@ -16,7 +16,7 @@ run_in_crews-requires-after_bounds g c κs bounds =
     let asked : AreWithinPlan (length rows) c.in_ok-requests.requests.commands = c.in_ok-requests.ensures.within in (
       omega arith,
       (
-        within_core BLOCK_BYTES c.args.blocks c.in_ok-members.members rows core c.in_ok-requests.requests.commands c.as_slice-2.result.now is c.as_slice-2.ensures asked,
+        within_core BLOCK_BYTES c.args.blocks c.in_ok-members.members rows core c.in_ok-requests.requests.commands c.as_slice-commands.result.now is c.as_slice-commands.ensures asked,
         (is_fresh BLOCK_BYTES c.args.blocks c.in_ok-members.members rows core is, ap (λ core. core.games.workers) is ∙ c.in_ok-members.ensures),
       ),
     )
@@ -26,5 +26,5 @@ returns-clause-core g c =
     let rows = c.args.plan.rows in
     let routes = routes_from rows 2 (pieces_after (option_copied c.args.rest)) in
     let asked : c.in_ok-requests.requests.commands ≡ commands_by_row routes = requests_commands c.in_ok-requests.requests routes c.in_ok-requests.ensures.value in
-    hosts_lines BLOCK_BYTES c.args.blocks c.in_ok-members.members rows routes c.as_slice-2.result.now c.in_ok-core.core c.in_ok-core-2.core c.in_ok-core.ensures.core
-    (c.as_slice-2.ensures ∙ asked) c.in_ok-core-2.ensures
+    hosts_lines BLOCK_BYTES c.args.blocks c.in_ok-members.members rows routes c.as_slice-commands.result.now c.in_ok-core.core c.in_ok-core-2.core c.in_ok-core.ensures.core
+    (c.as_slice-commands.ensures ∙ asked) c.in_ok-core-2.ensures
