@@ -137,7 +137,7 @@ fn transcript<R: Threads + Wait + Sync, G: Gate>(
     Ok((hosted.core, text))
 }
 
-/// Serves a command file from that many blocks, with so many workers, each a thread (one is the caller's own thread): has a
+/// Serves a command file from that many blocks, with so many workers, each a thread (a single one is the caller's): has a
 /// core answer each game's commands in the order of their lines, and then writes the transcript at once. Before each job the
 /// gate is asked, with the thread's number, from 0 on; the caller's own comes last. Where there are four games a thread or
 /// more, a thread takes jobs for several workers of the core. A fault other than a writer's is found before anything is
