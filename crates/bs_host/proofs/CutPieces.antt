@@ -5,10 +5,11 @@ use Rattle.std.proofs.Math.Seq.{drop-cons}
 use Rattle.std.proofs.lemmas.Bool.{cases_Bool, ltb-false, lt-ltb, le-ltb, cond-true}
 use Rattle.std.proofs.lemmas.List.{get_or-take, get_or-drop, take_rest}
 use Rattle.std.proofs.lemmas.List.Quantifiers.{position-Some}
-use Rattle.std.proofs.lemmas.List.Sums.{count_by-le-length, position_or_len_is}
+use Rattle.std.proofs.lemmas.List.Sums.{position_or_len_is}
 use Rattle.std.proofs.lemmas.List.Splits.{slice_split_none, slice_split_at, slice_split-cons_yes, slice_split-cons_no, length-slice_split}
-use Rattle.std.specs.List.{count_by, onto_first, position, position_or_len}
-use Rattle.memchr.specs.Find.{IsFirstByte, Passes, is_byte}
+use Rattle.std.specs.List.{onto_first, position, position_or_len}
+use Rattle.memchr.proofs.lemmas.CallerLemmas.{length-places}
+use Rattle.memchr.specs.Find.{IsFirstByte, Passes, is_byte, places}
 use Rattle.bs_host.specs.declared.pieces.TheConstants.{LINE_FEED}
 use Rattle.bs_host.specs.File.{pieces_of}
 
@@ -97,11 +98,8 @@ pieces_around text place found within is =
     let parts : text ≡ take at text ++ get_or text at 0 ∷ drop (suc at) text = sym (ap (λ t. take at text ++ t) (sym (drop-cons text at 0 short)) ∙ take-append-drop at text) in
     rw (take_rest text (at + 1), add-one) (ap pieces_of parts ∙ pieces_between (take at text) (get_or text at 0) (drop (suc at) text) feed)
 
-pub piece_count : (text : List ℕ) → length (pieces_of text) ≡ count_by is_feed text + 1
-piece_count text = length-slice_split is_feed text
-
-pub few_pieces : (text : List ℕ) → count_by is_feed text + 1 ≤ length text + 1
-few_pieces text = omega (arith, count_by-le-length is_feed text)
+pub piece_count : (text : List ℕ) → length (pieces_of text) ≡ length (places (is_byte LINE_FEED) text) + 1
+piece_count text = length-slice_split is_feed text ∙ ap (λ feeds. feeds + 1) (sym (length-places (is_byte LINE_FEED) text))
 
 pub piece_without_feed : (text : List ℕ) → position is_feed text ≡ None → pieces_of text ≡ text ∷ []
 piece_without_feed text none = slice_split_none is_feed text (fails_everywhere is_feed text none)

@@ -1,9 +1,9 @@
 //! The pieces of a file between its line feeds, cut off one after the other.
-ghost use Rattle.std.specs.Prelude.{◌≡◌, ◌==◌, ◌+◌, ◌<◌, ◌≤◌, ◌^◌, ◌∷◌, ◌++◌, length, option_copied, IfSome, count_by};
+ghost use Rattle.std.specs.Prelude.{◌≡◌, ◌==◌, ◌+◌, ◌<◌, ◌≤◌, ◌^◌, ◌∷◌, ◌++◌, length, option_copied, IfSome};
 ghost use Rattle.std.specs.List.{position};
 ghost use Rattle.bs_host.specs.File.{pieces_of, pieces_after};
 
-use memchr::memchr;
+use memchr::{memchr, memchr_iter};
 
 /// The byte between two lines.
 const LINE_FEED: u8 = b'\n';
@@ -39,11 +39,11 @@ pub(crate) fn cut_from(text: &[u8], place: usize) -> Option<(&[u8], &[u8])>
 }
 
 /// How many pieces a text has.
-#[tactic(auto, using(crate::proofs::CutPieces::piece_count, crate::proofs::CutPieces::few_pieces))]
+#[tactic(auto, using(crate::proofs::CutPieces::piece_count))]
 pub(crate) fn count_pieces(text: &[u8]) -> u64
     requires { length text.now < 2 ^ 63 }
     ensures value { result ≡ length (pieces_of text.now) }
     ensures few { result ≤ length text.now + 1 }
 {
-    text.iter().filter(|byte| **byte == LINE_FEED).count() as u64 + 1
+    memchr_iter(LINE_FEED, text).count() as u64 + 1
 }

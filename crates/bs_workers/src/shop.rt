@@ -4,7 +4,7 @@ use crate::desk::{Desk, Next};
 use crate::fault::Run;
 use bs_fiber::SharedCommand;
 use bs_sched::Core;
-use std::alloc::Global;
+use std::alloc::{AllocError, Global};
 use std::hint::spin_loop;
 use std::sync::{Condvar, Mutex, MutexGuard, Wait};
 
@@ -12,7 +12,9 @@ use std::sync::{Condvar, Mutex, MutexGuard, Wait};
 /// its jobs, while those are brought back and the next are taken; never while a job is worked.
 #[derive(Drop)]
 pub(crate) struct Shop<const CAP: usize> {
-    desk: Mutex<Desk<CAP>>,
+    /// The desk lies in memory of its own: each look at the lock takes the lock's line of the cache from the thread that is at
+    /// the desk, and what that works with would lie in the same line.
+    desk: Mutex<Box<Desk<CAP>>>,
     changed: Condvar,
 }
 
@@ -32,16 +34,16 @@ fn pause() {
 
 impl<const CAP: usize> Shop<CAP> {
     /// Nothing was done yet with that core, at which so many threads are to work.
-    pub(crate) fn new(core: Core<CAP>, threads: usize) -> Self {
-        Shop {
-            desk: Mutex::new(Desk::new(core, threads)),
+    pub(crate) fn new(alloc: Global, core: Core<CAP>, threads: usize) -> Result<Self, AllocError> {
+        Ok(Shop {
+            desk: Mutex::new(Box::new(alloc, Desk::new(core, threads))?),
             changed: Condvar::new(),
-        }
+        })
     }
 
     /// The desk, once no other thread is at it. A turn at it takes less time than going to sleep and waking up, so the thread
     /// looks a few times whether the desk is free before it sleeps for it.
-    fn enter<R: Wait>(&self, rt: &R) -> MutexGuard<'_, Desk<CAP>> {
+    fn enter<R: Wait>(&self, rt: &R) -> MutexGuard<'_, Box<Desk<CAP>>> {
         for _ in 0..LOOKS {
             if let Some(desk) = self.desk.try_lock() {
                 return desk;
@@ -52,7 +54,7 @@ impl<const CAP: usize> Shop<CAP> {
     }
 
     /// The lock is given up, and those that wait look again where there is something for them.
-    fn leave(&self, desk: MutexGuard<'_, Desk<CAP>>, tells: bool) {
+    fn leave(&self, desk: MutexGuard<'_, Box<Desk<CAP>>>, tells: bool) {
         drop(desk);
         if tells {
             self.changed.notify_all();
@@ -101,6 +103,6 @@ impl<const CAP: usize> Shop<CAP> {
 
     /// The desk, once no other thread is there.
     pub(crate) fn into_desk(self) -> Desk<CAP> {
-        self.desk.into_inner()
+        Box::into_inner(self.desk.into_inner())
     }
 }

@@ -105,7 +105,7 @@ pub(crate) fn worked<const CAP: usize, R: Threads + Wait + Sync, G: Gate>(
     size: usize,
     gate: &G,
 ) -> Result<Core<CAP>, Run> {
-    let shop = Shop::new(core, threads);
+    let shop = Shop::new(alloc, core, threads)?;
     if threads > 1 {
         hand_to_threads(rt, alloc, &shop, commands, threads, size, gate);
     } else {
