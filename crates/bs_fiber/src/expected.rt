@@ -1,5 +1,5 @@
 //! The input that a core expects of a job.
-ghost use Rattle.std.specs.Prelude.{◌≡◌, option_map, IfOk, OnOk};
+ghost use Rattle.std.specs.Prelude.{◌≡◌, option_map, IfOk, IfSome, OnOk};
 
 use crate::input::Input;
 use crate::job::JobName;
@@ -59,8 +59,24 @@ impl Expected<'_> {
     ghost use Rattle.std.specs.Prelude.{[]};
     ghost use Rattle.bs_fiber.specs.Expected.{IsOf};
 
-    /// All of it, the records copied and the command shared: an input that has no parts yet.
-    fn new_input(&self, alloc: Global) -> Result<Box<Input>, AllocError>
+    /// A holder of the command: the one that is there already, or else one more.
+    fn held(&self, holder: Option<SharedCommand>) -> Result<SharedCommand, AllocError>
+        requires { IfSome holder (λ holder. holder ≡ self.now.command.now) }
+        ensures { IfOk result (λ shared. shared ≡ self.now.command.now) }
+    {
+        match holder {
+            Some(holder) => Ok(holder),
+            None => self.command.share(),
+        }
+    }
+
+    /// All of it, the records copied and the command held: an input that has no parts yet.
+    fn new_input(
+        &self,
+        alloc: Global,
+        holder: Option<SharedCommand>,
+    ) -> Result<Box<Input>, AllocError>
+        requires { IfSome holder (λ holder. holder ≡ self.now.command.now) }
         ensures expected { IfOk result (λ input. IsOf input.value self.now) }
         ensures parts { IfOk result (λ input. input.value.parts ≡ []) }
     {
@@ -73,7 +89,7 @@ impl Expected<'_> {
             kept: self.kept,
             last: copy_record(alloc, self.last)?,
             asked: copy_record(alloc, self.asked)?,
-            command: self.command.share()?,
+            command: self.held(holder)?,
             parts: Parts::from_vec(Vec::new(alloc)),
         };
         Ok(Box::new(alloc, input)?)
@@ -81,7 +97,13 @@ impl Expected<'_> {
 
     /// The same in the place of a spent one. Each field is written where it lies, since an input has more than a hundred
     /// bytes.
-    fn input_over(&self, alloc: Global, mut input: Box<Input>) -> Result<Box<Input>, AllocError>
+    fn input_over(
+        &self,
+        alloc: Global,
+        holder: Option<SharedCommand>,
+        mut input: Box<Input>,
+    ) -> Result<Box<Input>, AllocError>
+        requires { IfSome holder (λ holder. holder ≡ self.now.command.now) }
         ensures expected { IfOk result (λ input. IsOf input.value self.now) }
         ensures parts { IfOk result (λ input. input.value.parts ≡ []) }
     {
@@ -93,24 +115,27 @@ impl Expected<'_> {
         input.kept = self.kept;
         copy_record_over(alloc, &self.last, &mut input.last)?;
         copy_record_over(alloc, &self.asked, &mut input.asked)?;
-        input.command.hold(self.command)?;
+        input.command.hold_by(holder, self.command)?;
         input.parts = Parts::from_vec(Vec::new(alloc));
         Ok(input)
     }
 
-    /// All of it, the records copied and the command shared: an input that has no parts yet. It takes the place of a spent
-    /// one, if there is one; then it asks for memory only where a record is longer than that one's.
+    /// All of it, the records copied and the command held: an input that has no parts yet. The command's holder may be there
+    /// already. The input takes the place of a spent one, if there is one; then it asks for memory only where a record is longer than
+    /// that one's.
     pub fn to_input(
         &self,
         alloc: Global,
+        holder: Option<SharedCommand>,
         spent: Option<Box<Input>>,
     ) -> Result<Box<Input>, AllocError>
+        requires { IfSome holder (λ holder. holder ≡ self.now.command.now) }
         ensures expected { IfOk result (λ input. IsOf input.value self.now) }
         ensures parts { IfOk result (λ input. input.value.parts ≡ []) }
     {
         match spent {
-            None => self.new_input(alloc),
-            Some(input) => self.input_over(alloc, input),
+            None => self.new_input(alloc, holder),
+            Some(input) => self.input_over(alloc, holder, input),
         }
     }
 }

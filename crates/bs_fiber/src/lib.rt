@@ -5,6 +5,7 @@
 mod beginning;
 mod done;
 mod expected;
+mod handed;
 mod input;
 mod job;
 mod joining;
@@ -20,6 +21,7 @@ mod viewing;
 
 pub use done::{Done, work};
 pub use expected::Expected;
+pub use handed::{Handed, Holders};
 pub use input::Input;
 pub use job::{JobKind, JobName};
 pub use out::Out;

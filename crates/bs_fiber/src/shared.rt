@@ -1,5 +1,5 @@
 //! A command with several holders.
-ghost use Rattle.std.specs.Prelude.{◌≡◌, IfOk, OnOk};
+ghost use Rattle.std.specs.Prelude.{◌≡◌, IfOk, IfSome, OnOk};
 ghost use Rattle.bs_fiber.specs.Bare.{is_bare};
 
 use bs_board::Command;
@@ -68,6 +68,24 @@ impl SharedCommand {
         }
         *self = command.share()?;
         Ok(())
+    }
+
+    /// It becomes a holder of that command: the one that is there already, or else one more.
+    pub(crate) fn hold_by(
+        &mut self,
+        holder: Option<SharedCommand>,
+        command: &SharedCommand,
+    ) -> Result<(), AllocError>
+        requires { IfSome holder (λ holder. holder ≡ command.now) }
+        ensures { OnOk result (self.new ≡ command.now) }
+    {
+        match holder {
+            Some(holder) => {
+                *self = holder;
+                Ok(())
+            }
+            None => self.hold(command),
+        }
     }
 
     /// The command.

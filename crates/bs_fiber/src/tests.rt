@@ -6,10 +6,13 @@ ghost use Rattle.bs_board.specs.declared.commands.command.Command.TheVariants as
 ghost use Rattle.bs_fiber.specs.Work.{goes, moved_part, parts_of};
 
 use crate::beginning::goes;
-use crate::{Done, Expected, Input, JobKind, JobName, Out, Parts, SharedCommand, Ticket, work};
+use crate::{
+    Done, Expected, Handed, Holders, Input, JobKind, JobName, Out, Parts, SharedCommand, Ticket,
+    work,
+};
 use bs_board::{
-    Board, Cells, Command, Direction, Id, Mode, Move, Moves, Point, Reply, Snake, Snakes, Word,
-    Words, encode, is_legal,
+    Board, Cells, Command, Direction, Id, Mode, Move, Moves, Point, Reply, Snake, Snakes,
+    TurnNumber, Word, Words, encode, is_legal,
 };
 use bs_game::{Answer, Effect, Record, View};
 use std::alloc::{AllocError, Global};
@@ -195,7 +198,7 @@ fn an_expected_input_is_copied(rt: HostRuntime) -> Result<(), Fail> {
         asked: Some(&[9]),
         command: &show,
     };
-    let input = expected.to_input(alloc, None)?;
+    let input = expected.to_input(alloc, None, None)?;
     assert_eq!(rt; (input.worker, input.seq, input.kept), (1, 2, 1));
     assert!(rt; matches!(&input.last, Some(bytes) if bytes.as_slice() == [7, 8].as_slice()));
     assert!(rt; matches!(&input.asked, Some(bytes) if bytes.as_slice() == [9].as_slice()));
@@ -210,11 +213,31 @@ fn an_expected_input_is_copied(rt: HostRuntime) -> Result<(), Fail> {
         command: &end,
         ..expected
     };
-    let input = later.to_input(alloc, Some(input))?;
+    let input = later.to_input(alloc, Some(end.share()?), Some(input))?;
     assert_eq!(rt; (input.worker, input.seq, input.kept), (1, 3, 1));
     assert!(rt; matches!(&input.last, Some(bytes) if bytes.as_slice() == [4, 5, 6].as_slice()));
     assert!(rt; input.asked.is_none());
     assert!(rt; matches!(input.command.get(), Command::End));
+    Ok(())
+}
+
+// Beside a command that was handed in lies a holder for the job that begins it, once, or the turn that it asks for.
+#[test]
+fn a_handed_command_has_what_its_begin_wants(rt: HostRuntime) -> Result<(), Fail> {
+    let alloc = rt.alloc();
+    let moved = shared_move(alloc)?;
+    let mut handed = Handed::new(&moved)?;
+    assert!(rt; handed.asks().is_none());
+    assert!(rt; handed.shared().get().is_same(moved.get()));
+    assert!(rt; matches!(handed.take_holder(), Some(holder) if holder.get().is_same(moved.get())));
+    assert!(rt; handed.take_holder().is_none());
+
+    let at = TurnNumber::new(7).ok_or("a turn")?;
+    let turn = SharedCommand::new(alloc, Command::Turn(at))?;
+    let (mut handed, noted) = Holders::new(&turn)?.into_parts();
+    assert_eq!(rt; handed.asks(), Some(at));
+    assert!(rt; handed.take_holder().is_none());
+    assert!(rt; handed.shared().get().is_same(turn.get()) && noted.get().is_same(turn.get()));
     Ok(())
 }
 

@@ -6,6 +6,11 @@ use Rattle.bs_board.specs.records.Record.{record_of}
 use Rattle.bs_board.specs.declared.boards.board.Board.{Board}
 use Rattle.bs_game.specs.Turns.{place_of_turn}
 use Rattle.bs_game.proofs.Recorded.{board_at_place, nothing_of_turn, turn_is_gone, turn_is_there, turn_is_within}
+use Rattle.bs_board.specs.declared.commands.command.Command.{Command}
+use Rattle.bs_board.specs.declared.commands.command.Command.TheVariants as command
+use Rattle.bs_fiber.specs.Asking.{asked_turn}
+use Rattle.bs_game.specs.Answer.{asked_board}
+use Rattle.bs_sched.specs.Inputs.{board_asked}
 use Rattle.bs_sched.specs.Turns.{FindsTurn}
 use Rattle.bs_game.specs.Game.{Game, last_board, board_of_turn}
 use Rattle.bs_game.specs.Recorded.{IsRecorded}
@@ -43,6 +48,16 @@ last_recorded game records kept =
     let many = as_many game records kept in
     ap (λ all. slice_get all (length records - 1)) kept.is ∙ slice_get-map record_of game (length records - 1)
     ∙ ap (λ n. option_map record_of (slice_get game (n - 1))) many
+
+-- the board of the turn that a command asks for is the one that it asks for
+pub asked_of : (command : Command) (game : Game) → option_map record_of (board_asked (asked_turn command) game) ≡ option_map record_of (asked_board command game)
+asked_of (command.New setup) game = refl
+asked_of (command.Move orders) game = refl
+asked_of command.Show game = refl
+asked_of (command.Turn at) game = refl
+asked_of command.Free game = refl
+asked_of command.End game = refl
+asked_of command.Bad game = refl
 
 -- a record that is added is small enough for a heap
 pub record_is_small : (most charge : ℕ) (bytes : List ℕ) → IsFitRecord most charge bytes → rounded (length bytes) ≤ MOST_RECORD_BYTES

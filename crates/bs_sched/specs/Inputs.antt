@@ -1,10 +1,11 @@
 -- What a job reads: the input that its lane has for it.
-use Rattle.std.specs.Prelude.{ℕ, List, [], length, map, option_map}
+use Rattle.std.specs.Prelude.{ℕ, List, [], length, map, option_map, Option, Some, None}
 use Rattle.std.specs.List.{range_with_len}
 use Rattle.bs_board.specs.declared.boards.snake.Snake.{Snake}
 use Rattle.bs_board.specs.declared.commands.command.Command.{Command}
 use Rattle.bs_board.specs.records.Record.{record_of}
-use Rattle.bs_game.specs.Game.{game_charge, last_board}
+use Rattle.bs_board.specs.declared.boards.board.Board.{Board}
+use Rattle.bs_game.specs.Game.{Game, board_of_turn, game_charge, last_board}
 use Rattle.bs_game.specs.Answer.{asked_board}
 use Rattle.bs_fiber.specs.declared.input.Input.{Input}
 use Rattle.bs_fiber.specs.declared.job.JobKind.{JobKind}
@@ -18,6 +19,11 @@ abbrev pub moved_parts_for : JobKind → Lane → List (List Snake)
 moved_parts_for kind.Begin x = []
 moved_parts_for kind.Part x = []
 moved_parts_for kind.Join x = map (λ p. moved_part p (lane_view x) (lane_command x)) (range_with_len 0 (length x.parts))
+
+-- the board of the turn that is asked for, if one is
+abbrev pub board_asked : Option ℕ → Game → Option Board
+board_asked None game = None
+board_asked (Some at) game = board_of_turn at game
 
 -- of a job of the lane for that command, before it has parts
 abbrev pub input_for : Lane → Command → ℕ → ℕ → JobName → Input

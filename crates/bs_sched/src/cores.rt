@@ -18,7 +18,7 @@ use crate::event::Event;
 use crate::fiber::keeps_limits;
 use crate::games::Games;
 use bs_board::{Board, Command, Reply, Row};
-use bs_fiber::SharedCommand;
+use bs_fiber::{Handed, Holders, SharedCommand};
 use std::alloc::{AllocError, Global};
 use std::marker::Model;
 
@@ -103,9 +103,17 @@ impl<const CAP: usize> Core<CAP> {
         ensures ok { OnOk result (self.new ≡ core_after CAP self.old (event.Hand game command.now)) }
         ensures err { OnErr result (self.new ≡ self.old) }
     {
-        keeps_limits(command.get());
-        let handed = command.share()?;
-        let noted = command.share()?;
+        self.hand_held(game, Holders::new(command)?)
+    }
+
+    /// The same of holders that were made before, so that the command itself is not read here.
+    pub fn hand_held(&mut self, game: usize, holders: Holders) -> Result<(), AllocError>
+        requires { game < length self.old.games.lanes }
+        ensures ok { OnOk result (self.new ≡ core_after CAP self.old (event.Hand game holders)) }
+        ensures err { OnErr result (self.new ≡ self.old) }
+    {
+        keeps_limits(holders.get());
+        let (handed, noted) = holders.into_parts();
         let row = self.games.row_number(game);
         reserve_events(&mut self.journal, self.out, 1)?;
         self.games.hand(game, handed)?;
@@ -157,7 +165,7 @@ impl<const CAP: usize> Core<CAP> {
     }
 
     /// The commands that were taken, in their order.
-    pub fn taken(&self, game: usize) -> &[SharedCommand]
+    pub fn taken(&self, game: usize) -> &[Handed]
         requires { game < length self.now.games.lanes }
         ensures { result.now ≡ (lane_of self.now.games.lanes game).taken }
     {

@@ -1,5 +1,5 @@
 //! The fiber of one game: its commands, its replies, and where it is in the command that it is at. Clauses see its lane.
-ghost use Rattle.std.specs.Prelude.{◌≡◌, ◌+◌, ◌≤◌, ◌<◌, ℕ, true, false, [], length, replicate, map, vec_len, vec_capacity, option_to_list, slice_index_or, MatchOption, ◌++◌, IfOk, OnOk, OnErr};
+ghost use Rattle.std.specs.Prelude.{◌≡◌, ◌+◌, ◌≤◌, ◌<◌, ℕ, true, false, [], length, replicate, map, vec_len, vec_capacity, option_to_list, slice_index_or, MatchOption, ◌++◌, IfOk, IfSome, OnOk, OnErr};
 ghost use Rattle.std.specs.List.{list_all, filter_map, position};
 ghost use Rattle.bs_game.specs.Answer.{Fits};
 ghost use Rattle.bs_sched.specs.declared.fiber.Slot.TheVariants as slot;
@@ -10,7 +10,7 @@ ghost use Rattle.bs_sched.specs.Slots.{state_of, emptied, moved_in};
 use crate::stage::Stage;
 use bs_board::limits::MOST_QUOTA;
 use bs_board::{Command, Reply, Snakes};
-use bs_fiber::{JobKind, Parts, SharedCommand};
+use bs_fiber::{Handed, JobKind, Parts, SharedCommand};
 use std::alloc::{AllocError, Global};
 use std::marker::Model;
 
@@ -30,7 +30,7 @@ const MOST_PARTS: usize = 4;
 pub(crate) struct Fiber {
     quota: u32,
     /// All that were handed in. The first `begun` of them were taken.
-    commands: Vec<SharedCommand>,
+    commands: Vec<Handed>,
     begun: usize,
     replies: Vec<Reply>,
     stage: Stage,
@@ -194,11 +194,11 @@ impl Fiber {
     }
 
     /// One more command waits.
-    pub(crate) fn hand(&mut self, command: SharedCommand) -> Result<(), AllocError>
+    pub(crate) fn hand(&mut self, command: Handed) -> Result<(), AllocError>
         ensures ok { OnOk result (self.new ≡ with_waiting command self.old) }
         ensures err { OnErr result (self.new ≡ self.old) }
     {
-        keeps_limits(command.get());
+        keeps_limits(command.shared().get());
         self.commands.push(command)?;
         Ok(())
     }
@@ -280,22 +280,31 @@ impl Fiber {
     }
 
     /// The commands that were taken.
-    pub(crate) fn taken(&self) -> &[SharedCommand]
+    pub(crate) fn taken(&self) -> &[Handed]
         ensures { result.now ≡ self.now.taken }
     {
         &self.commands.as_slice()[..self.begun]
     }
 
     /// The command that is taken next.
-    pub(crate) fn next(&self) -> &SharedCommand
+    pub(crate) fn next(&self) -> &Handed
         requires { 0 < length self.now.waiting }
         ensures { result.now ≡ lane_command (with_taken 0 kind.Begin 0 self.now) }
     {
         &self.commands[self.begun]
     }
 
+    /// A holder of that command, if one was made for the job that begins it.
+    pub(crate) fn take_holder(&mut self) -> Option<SharedCommand>
+        requires { 0 < length self.old.waiting }
+        ensures same { self.new ≡ self.old }
+        ensures holder { IfSome result (λ holder. holder ≡ lane_command (with_taken 0 kind.Begin 0 self.old)) }
+    {
+        self.commands[self.begun].take_holder()
+    }
+
     /// The command that the game is at.
-    pub(crate) fn command(&self) -> &SharedCommand
+    pub(crate) fn command(&self) -> &Handed
         requires { is_idle self.now.stage ≡ false }
         ensures { result.now ≡ lane_command self.now }
     {

@@ -19,7 +19,7 @@ use crate::fiber::Fiber;
 use crate::game::are_quiet;
 use crate::records::decode_last;
 use bs_board::{Board, Reply, Row, Rows};
-use bs_fiber::SharedCommand;
+use bs_fiber::Handed;
 use bs_heap::TagHeap;
 use bs_pool::Pool;
 use std::alloc::{AllocError, Global};
@@ -60,7 +60,7 @@ fn kept_charge<const CAP: usize>(fiber: &Fiber, heap: &TagHeap<CAP>) -> u32
 
 impl<const CAP: usize> Games<CAP> {
     /// A command goes to the end of those that wait in that game.
-    pub(crate) fn hand(&mut self, game: usize, command: SharedCommand) -> Result<(), AllocError>
+    pub(crate) fn hand(&mut self, game: usize, command: Handed) -> Result<(), AllocError>
         requires { game < length self.old.lanes }
         ensures ok { OnOk result (self.new ≡ after CAP self.old (event.Hand game command)) }
         ensures err { OnErr result (self.new ≡ self.old) }
@@ -121,7 +121,7 @@ impl<const CAP: usize> Games<CAP> {
         &self.rows.as_slice()[game]
     }
 
-    pub(crate) fn taken(&self, game: usize) -> &[SharedCommand]
+    pub(crate) fn taken(&self, game: usize) -> &[Handed]
         requires { game < length self.now.lanes }
         ensures { result.now ≡ (lane_of self.now.lanes game).taken }
     {

@@ -3,7 +3,6 @@ ghost use Rattle.std.specs.Prelude.{◌≡◌, ◌<◌, ◌≤◌, ◌-◌, [], 
 ghost use Rattle.bs_board.specs.records.Record.{record_of};
 ghost use Rattle.bs_fiber.specs.Expected.{IsOf};
 ghost use Rattle.bs_fiber.specs.Work.{parts_of, snakes_in};
-ghost use Rattle.bs_game.specs.Answer.{asked_board};
 ghost use Rattle.bs_game.specs.Game.{Game, board_of_turn, last_board};
 ghost use Rattle.bs_game.specs.Law.{IsFitEffect, effected};
 ghost use Rattle.bs_game.specs.Recorded.{IsRecorded};
@@ -11,13 +10,13 @@ ghost use Rattle.bs_heap.specs.Charge.{charge_of, blocks_for};
 ghost use Rattle.bs_heap.specs.HeldBlocks.{IsKeptIn, LeavesOthers, next_number};
 ghost use Rattle.bs_pool.specs.Ledger.{reserved};
 ghost use Rattle.bs_sched.specs.GamesLayout.{KeepsBoards};
-ghost use Rattle.bs_sched.specs.Inputs.{input_for};
+ghost use Rattle.bs_sched.specs.Inputs.{board_asked, input_for};
 ghost use Rattle.bs_sched.specs.Storage.{packing_after, pool_after};
 ghost use Rattle.bs_sched.specs.Turns.{FindsTurn};
 
 use crate::fiber::Fiber;
-use bs_board::{Board, Command, Decode, TurnNumber, decode, seats_of_record, turn_of_record};
-use bs_fiber::{Expected, JobName, SharedCommand};
+use bs_board::{Board, Decode, TurnNumber, decode, seats_of_record, turn_of_record};
+use bs_fiber::{Expected, Handed, JobName};
 use bs_game::{Effect, place_of_turn};
 use bs_heap::TagHeap;
 use bs_pool::Pool;
@@ -57,19 +56,14 @@ fn turn_record<const CAP: usize>(heap: &TagHeap<CAP>, at: TurnNumber) -> Option<
     }
 }
 
-/// The record that the command asks for by its turn, if it is kept.
-fn asked_record<'a, const CAP: usize>(heap: &'a TagHeap<CAP>, command: &Command) -> Option<&'a [u8]>
+/// The record of the turn that is asked for, if one is and it is kept.
+fn asked_record<const CAP: usize>(heap: &TagHeap<CAP>, asks: Option<TurnNumber>) -> Option<&[u8]>
     requires { (game : Game) × IsRecorded game heap.now.records }
-    ensures { (game : Game) → IsRecorded game heap.now.records → option_map (λ bytes. bytes.now) result ≡ option_map record_of (asked_board command.now game) }
+    ensures { (game : Game) → IsRecorded game heap.now.records → option_map (λ bytes. bytes.now) result ≡ option_map record_of (board_asked asks game) }
 {
-    match command {
-        Command::Turn(at) => turn_record(heap, *at),
-        Command::New(_) => None,
-        Command::Move(_) => None,
-        Command::Show => None,
-        Command::Free => None,
-        Command::End => None,
-        Command::Bad => None,
+    match asks {
+        None => None,
+        Some(at) => turn_record(heap, at),
     }
 }
 
@@ -77,7 +71,7 @@ fn asked_record<'a, const CAP: usize>(heap: &'a TagHeap<CAP>, command: &Command)
 pub(crate) fn expected<'a, const CAP: usize>(
     fiber: &Fiber,
     heap: &'a TagHeap<CAP>,
-    command: &'a SharedCommand,
+    command: &'a Handed,
     seq: u64,
     worker: u32,
     job: JobName,
@@ -94,8 +88,8 @@ pub(crate) fn expected<'a, const CAP: usize>(
         charge: heap.charge(),
         kept: heap.count(),
         last: last_record(heap),
-        asked: asked_record(heap, command.get()),
-        command,
+        asked: asked_record(heap, command.asks()),
+        command: command.shared(),
     }
 }
 

@@ -92,7 +92,10 @@ fn begin_input<const CAP: usize>(
     ensures err { OnErr result (fiber.new ≡ fiber.old) }
 {
     let seq = fiber.next_seq();
-    let input = expected(fiber, heap, fiber.next(), seq, worker, job).to_input(alloc, spent)?;
+    let holder = fiber.take_holder();
+    let input = expected(fiber, heap, fiber.next(), seq, worker, job).to_input(
+        alloc, holder, spent,
+    )?;
     fiber.begin(worker as usize)?;
     Ok(input)
 }
@@ -114,7 +117,9 @@ fn part_input<const CAP: usize>(
     ensures err { OnErr result (fiber.new ≡ fiber.old) }
 {
     let seq = fiber.seq();
-    let input = expected(fiber, heap, fiber.command(), seq, worker, job).to_input(alloc, spent)?;
+    let input = expected(fiber, heap, fiber.command(), seq, worker, job).to_input(
+        alloc, None, spent,
+    )?;
     fiber.take_part(worker as usize, job.part as usize);
     Ok(input)
 }
@@ -137,7 +142,7 @@ fn join_input<const CAP: usize>(
 {
     let seq = fiber.seq();
     let mut input = expected(fiber, heap, fiber.command(), seq, worker, job).to_input(
-        alloc, spent,
+        alloc, None, spent,
     )?;
     input.parts = fiber.join(alloc, worker as usize)?;
     Ok(input)
@@ -173,7 +178,7 @@ fn take_ticket<const CAP: usize>(
     heap: &mut TagHeap<CAP>,
     worker: u32,
     job: JobName,
-    spent: Option<Ticket>,
+    spent: Option<Box<Input>>,
 ) -> Result<Ticket, AllocError>
     requires ready { is_ready fiber.old job.kind job.part ≡ true }
     requires heap { KeepsBoards fiber.old heap.old }
@@ -185,7 +190,6 @@ fn take_ticket<const CAP: usize>(
     ensures more { heap.old.index_room ≤ heap.new.index_room }
 {
     heap.grow_index()?;
-    let spent = spent.map(Ticket::into_input);
     let input = take_input(alloc, fiber, heap, worker, job, spent)?;
     fiber.keeps();
     Ok(Ticket::new(input))
@@ -210,7 +214,7 @@ impl<const CAP: usize> Games<CAP> {
         alloc: Global,
         worker: u32,
         job: JobName,
-        spent: Option<Ticket>,
+        spent: Option<Box<Input>>,
     ) -> Result<Ticket, AllocError>
         requires game { job.game < length self.old.lanes }
         requires ready { is_ready (lane_of self.old.lanes job.game) job.kind job.part ≡ true }
@@ -262,7 +266,7 @@ impl<const CAP: usize> Core<CAP> {
         alloc: Global,
         worker: usize,
         job: JobName,
-        spent: Option<Ticket>,
+        spent: Option<Box<Input>>,
     ) -> Result<Ticket, AllocError>
         requires enabled { is_enabled self.old.games.workers self.old.games.lanes (event.Take worker job) ≡ true }
         ensures ticket { IfOk result (λ ticket. ticket ≡ input_of (lane_of self.new.games.lanes job.game) worker job) }
@@ -289,13 +293,13 @@ impl<const CAP: usize> Core<CAP> {
         self.take_over(alloc, worker, None)
     }
 
-    /// The same, but that the new ticket takes the place in memory of a spent one, if there is one: whichever that is, it is
+    /// The same, but that the new ticket takes the place in memory of a spent one's input, if there is one: whichever that is, it is
     /// given up.
     pub fn take_over(
         &mut self,
         alloc: Global,
         worker: usize,
-        spent: Option<Ticket>,
+        spent: Option<Box<Input>>,
     ) -> Result<Taken, AllocError>
         requires { worker ≤ self.old.games.workers }
         ensures ok { IfOk result (λ taken. TakesAs CAP self.old worker taken self.new) }

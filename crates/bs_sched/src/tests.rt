@@ -6,7 +6,7 @@ use bs_board::{
     Cells, Command, Direction, Id, Mode, Move, Moves, New, Plan, Point, Refusal, Reply, Row, Rows,
     Starts, TurnNumber, Word, Words,
 };
-use bs_fiber::{Done, JobKind, SharedCommand, work};
+use bs_fiber::{Done, Holders, JobKind, SharedCommand, work};
 use std::alloc::{AllocError, Global};
 use std::process::Abort;
 use std::sync::Wait;
@@ -135,7 +135,7 @@ fn a_ticket_takes_the_place_of_a_spent_one(rt: HostRuntime) -> Result<(), Fail> 
     assert_eq!(rt; (spent.seq(), spent.kept()), (1, 0));
     assert!(rt; spent.last().is_none());
     assert!(rt; core.workers() == 2);
-    let Taken::Job(ticket) = core.take_over(alloc, 0, Some(spent))? else {
+    let Taken::Job(ticket) = core.take_over(alloc, 0, Some(spent.into_input()))? else {
         return Err(Fail::from("no job"));
     };
     assert_eq!(rt; (ticket.seq(), ticket.kept(), ticket.worker()), (2, 1, 0));
@@ -366,11 +366,14 @@ fn two_cores_hold_one_command(rt: HostRuntime) -> Result<(), Fail> {
         let mut core = core_of(&rt, alloc, name, 4096)?;
         assert!(rt; core.rows() == 1);
         core.hand_shared(0, &shared)?;
+        assert!(rt; core.rows() == 1);
+        core.hand_held(0, Holders::new(&shared)?)?;
         play(&rt, alloc, &mut core, 0)?;
         assert!(rt; core.rows() == 1);
         let replies = core.replies(0);
-        assert!(rt; replies.len() == 1);
+        assert!(rt; replies.len() == 2);
         assert_shown(&rt, alloc, &replies[0], Word::New, 0, 32)?;
+        assert_refused(&rt, &replies[1], Refusal::Running);
     }
     Ok(())
 }

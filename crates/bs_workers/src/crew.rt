@@ -1,8 +1,11 @@
 //! A crew: the workers that one thread stands for, with the jobs that it has for them.
 use crate::fault::Run;
 use crate::gate::Gate;
-use bs_fiber::{Done, Ticket, work};
+use bs_board::Command;
+use bs_fiber::{Done, Input, JobKind, Parts, Ticket, work};
 use std::alloc::{AllocError, Global};
+use std::sync::atomic::AtomicU64;
+use std::sync::atomic::Ordering::SeqCst;
 
 /// A thread's workers, and where their jobs are. A worker may have one job out that begins or joins, so a thread that takes
 /// several jobs in one turn at the desk takes them for several workers.
@@ -18,8 +21,12 @@ pub(crate) struct Crew {
     tickets: Vec<Ticket>,
     /// Jobs to be brought back.
     done: Vec<Done>,
-    /// Tickets of jobs that were brought back: new ones may take their places.
+    /// Tickets of jobs that were brought back.
     spent: Vec<Ticket>,
+    /// Inputs of such tickets, with nothing left in them that would have to be given back at the desk: new ones may take their places.
+    cleared: Vec<Box<Input>>,
+    /// Counts what was read ahead. Nobody asks for it: that it is counted keeps the compiler from leaving the reading out.
+    read: AtomicU64,
     /// Why one of its jobs came to nothing.
     fault: Option<Run>,
 }
@@ -48,6 +55,8 @@ impl Crew {
             tickets: Vec::with_capacity(alloc, size)?,
             done: Vec::with_capacity(alloc, size)?,
             spent: Vec::with_capacity(alloc, size)?,
+            cleared: Vec::with_capacity(alloc, size)?,
+            read: AtomicU64::new(0),
             fault: None,
         })
     }
@@ -94,9 +103,9 @@ impl Crew {
         self.done.pop()
     }
 
-    /// A ticket that a new one may take the place of.
-    pub(crate) fn take_spent(&mut self) -> Option<Ticket> {
-        self.spent.pop()
+    /// An input that a new one may take the place of.
+    pub(crate) fn take_cleared(&mut self) -> Option<Box<Input>> {
+        self.cleared.pop()
     }
 
     /// That ticket's job was brought back.
@@ -104,14 +113,39 @@ impl Crew {
         let _kept = self.spent.push(ticket);
     }
 
+    /// What the parts of moves brought is given back, while nobody waits for it.
+    fn clear_spent(&mut self, alloc: Global) {
+        for _ in 0..self.spent.len() {
+            if let Some(ticket) = self.spent.pop() {
+                let mut input = ticket.into_input();
+                input.parts = Parts::from_vec(Vec::new(alloc));
+                let _kept = self.cleared.push(input);
+            }
+        }
+    }
+
+    /// The directions of a move that was begun are read, as the desk will, which compares them: so they come into the cache of this
+    /// processor before the lock is taken, and nobody waits for that.
+    fn read_ahead(&self, ticket: &Ticket) {
+        if let (JobKind::Begin, Command::Move(orders)) = (ticket.job().kind, ticket.command()) {
+            let mut bytes = 0u64;
+            for (id, _) in orders.moves.as_slice() {
+                bytes = bytes.wrapping_add(id.len() as u64);
+            }
+            self.read.fetch_add(bytes, SeqCst);
+        }
+    }
+
     /// All its jobs are worked, or those before one that comes to nothing.
     pub(crate) fn work_all<G: Gate>(&mut self, alloc: Global, gate: &G) {
+        self.clear_spent(alloc);
         for _ in 0..self.tickets.len() {
             let Some(ticket) = self.tickets.pop() else {
                 break;
             };
             match work_job(alloc, self.thread, ticket, gate) {
                 Ok(done) => {
+                    self.read_ahead(done.ticket());
                     let kept = self.done.push(done);
                     self.note_fault(kept);
                 }

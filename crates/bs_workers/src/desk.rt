@@ -1,7 +1,7 @@
 //! The desk: a core, with what those that work at it have to know of one another.
 use crate::crew::Crew;
 use crate::fault::Run;
-use bs_fiber::{Done, Out, SharedCommand, Ticket};
+use bs_fiber::{Done, Holders, Input, Out, Ticket};
 use bs_sched::{Core, Taken};
 use std::alloc::{AllocError, Global};
 
@@ -63,18 +63,18 @@ impl<const CAP: usize> Desk<CAP> {
         self.core.fail();
     }
 
-    fn hand(&mut self, game: usize, command: &SharedCommand) {
+    fn hand(&mut self, game: usize, command: Holders) {
         if game >= self.core.rows() {
             self.stop(Run::Broken);
-        } else if self.core.hand_shared(game, command).is_err() {
+        } else if self.core.hand_held(game, command).is_err() {
             self.stop(Run::Memory);
         }
     }
 
     /// Commands, each for the game of its row, in their order.
-    pub(crate) fn hand_all(&mut self, commands: &[(usize, SharedCommand)]) {
-        for (game, command) in commands {
-            self.hand(*game, command);
+    pub(crate) fn hand_all(&mut self, commands: &mut Vec<(usize, Holders)>) {
+        for (game, command) in commands.drain(..) {
+            self.hand(game, command);
         }
     }
 
@@ -87,7 +87,7 @@ impl<const CAP: usize> Desk<CAP> {
         &mut self,
         alloc: Global,
         worker: usize,
-        spent: Option<Ticket>,
+        spent: Option<Box<Input>>,
     ) -> Result<Taken, AllocError> {
         if worker > self.core.workers() {
             return Ok(Taken::Busy);
@@ -103,12 +103,12 @@ impl<const CAP: usize> Desk<CAP> {
         }
     }
 
-    /// What the worker is to do next. A new ticket takes the place of the one that it spent, if it spent one.
+    /// What the worker is to do next. A new ticket's input takes the place of a spent one, if there is one.
     pub(crate) fn assign(
         &mut self,
         alloc: Global,
         worker: usize,
-        spent: Option<Ticket>,
+        spent: Option<Box<Input>>,
     ) -> Assignment {
         match self.take(alloc, worker, spent) {
             Ok(Taken::Job(ticket)) => Assignment::Job(ticket),
@@ -161,7 +161,7 @@ impl<const CAP: usize> Desk<CAP> {
     /// for a job more.
     fn assign_all(&mut self, alloc: Global, crew: &mut Crew, most: usize) -> Option<Next> {
         for place in 0..most {
-            let spent = crew.take_spent();
+            let spent = crew.take_cleared();
             match self.assign(alloc, crew.worker(place), spent) {
                 Assignment::Job(ticket) => crew.add(ticket),
                 Assignment::Wait => return Some(Next::Wait),

@@ -2,7 +2,7 @@
 use crate::crew::Crew;
 use crate::desk::{Desk, Next};
 use crate::fault::Run;
-use bs_fiber::SharedCommand;
+use bs_fiber::Holders;
 use bs_sched::Core;
 use std::alloc::{AllocError, Global};
 use std::hint::spin_loop;
@@ -76,14 +76,14 @@ impl<const CAP: usize> Shop<CAP> {
         next
     }
 
-    fn hand_in<R: Wait>(&self, rt: &R, commands: &[(usize, SharedCommand)]) -> bool {
+    fn hand_in<R: Wait>(&self, rt: &R, commands: &mut Vec<(usize, Holders)>) -> bool {
         let mut desk = self.enter(rt);
         desk.hand_all(commands);
         !desk.is_stopped()
     }
 
     /// Hands in commands, after which there may be jobs more. Whether the run goes on.
-    pub(crate) fn hand<R: Wait>(&self, rt: &R, commands: &[(usize, SharedCommand)]) -> bool {
+    pub(crate) fn hand<R: Wait>(&self, rt: &R, commands: &mut Vec<(usize, Holders)>) -> bool {
         let goes_on = self.hand_in(rt, commands);
         self.changed.notify_all();
         goes_on

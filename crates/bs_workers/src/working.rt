@@ -4,9 +4,9 @@ use crate::desk::{Assignment, Desk, Next};
 use crate::fault::Run;
 use crate::gate::Gate;
 use crate::shop::Shop;
-use bs_fiber::{SharedCommand, work};
+use bs_fiber::{Holders, SharedCommand, Ticket, work};
 use bs_sched::Core;
-use std::alloc::Global;
+use std::alloc::{AllocError, Global};
 use std::sync::Wait;
 use std::thread;
 use std::thread::Threads;
@@ -56,21 +56,39 @@ fn finish<const CAP: usize, R: Wait, G: Gate>(
             break;
         };
         let spent = desk.put(worker, done);
-        assignment = desk.assign(alloc, worker, spent);
+        assignment = desk.assign(alloc, worker, spent.map(Ticket::into_input));
     }
 }
 
-/// How many commands are handed in at once: the lock is taken once for all of them, and others come to it in between.
-const COMMANDS_AT_ONCE: usize = 128;
+/// How many commands are handed in at once: the lock is taken once for all of them. Each time the lines of all games go to the caller's
+/// processor and back, so they are many; threads come to the lock in between.
+const COMMANDS_AT_ONCE: usize = 1024;
 
-/// Hands in all commands in their order, or as many as the run goes on for.
+/// Makes holders of these commands for a core, each with its game's row.
+fn hold_all(
+    commands: &[(usize, SharedCommand)],
+    held: &mut Vec<(usize, Holders)>,
+) -> Result<(), AllocError> {
+    for (game, command) in commands {
+        held.push((*game, Holders::new(command)?))?;
+    }
+    Ok(())
+}
+
+/// Hands in all commands in their order, or as many as the run goes on for. Their holders are made before the lock is taken.
 fn hand_all<const CAP: usize, R: Wait>(
     rt: &R,
+    alloc: Global,
     shop: &Shop<CAP>,
     commands: &[(usize, SharedCommand)],
 ) {
+    let mut held = Vec::new(alloc);
     for some in commands.chunks(COMMANDS_AT_ONCE) {
-        if !shop.hand(rt, some) {
+        if hold_all(some, &mut held).is_err() {
+            shop.stop(rt, Run::Memory);
+            break;
+        }
+        if !shop.hand(rt, &mut held) {
             break;
         }
     }
@@ -91,7 +109,7 @@ fn hand_to_threads<const CAP: usize, R: Threads + Wait + Sync, G: Gate>(
         for thread in 0..threads {
             let _thread = scope.spawn(move || work_until_end(rt, alloc, shop, thread, size, gate));
         }
-        hand_all(rt, shop, commands);
+        hand_all(rt, alloc, shop, commands);
     });
 }
 
@@ -109,7 +127,7 @@ pub(crate) fn worked<const CAP: usize, R: Threads + Wait + Sync, G: Gate>(
     if threads > 1 {
         hand_to_threads(rt, alloc, &shop, commands, threads, size, gate);
     } else {
-        hand_all(rt, &shop, commands);
+        hand_all(rt, alloc, &shop, commands);
     }
     let mut desk = shop.into_desk();
     finish(rt, alloc, &mut desk, threads, gate);

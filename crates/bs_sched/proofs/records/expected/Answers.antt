@@ -1,7 +1,7 @@
 use Rattle.std.proofs.Common.{refl, sym, ◌∙◌}
 use Rattle.bs_game.specs.Recorded.{IsRecorded}
 use Rattle.bs_game.proofs.Recorded.{as_many, same_charge}
-use Rattle.bs_sched.proofs.KeptRecords.{last_recorded}
+use Rattle.bs_sched.proofs.KeptRecords.{asked_of, last_recorded}
 use Rattle.bs_sched.proofs.records.expected.Goals as goal
 
 pub returns : goal.returns
@@ -20,7 +20,7 @@ returns g c =
       };
       contents = record {
         last = sym (c.last_record.ensures ∙ last_recorded game records kept);
-        asked = sym (rw c.get.ensures at c.asked_record.ensures game kept);
-        command = refl;
+        asked = sym (rw c.asks.ensures at c.asked_record.ensures game kept ∙ asked_of c.args.command.now game);
+        command = sym c.shared.ensures;
       };
     }

@@ -8,20 +8,20 @@ use Rattle.bs_sched.proofs.BusyTable.{hand_marks_none}
 use Rattle.bs_sched.proofs.JobsOut.{as_many_handed}
 use Rattle.bs_sched.proofs.Journal.{journaled_after}
 use Rattle.bs_sched.proofs.LoneLanes.{both_true}
-use Rattle.bs_sched.proofs.cores.Core.hand_shared.Goals as goal
+use Rattle.bs_sched.proofs.cores.Core.hand_held.Goals as goal
 
 pub invariant_of-self-2 : goal.invariant_of-self-2
 invariant_of-self-2 g c =
     let inside = c.self.inside in
-    let command = c.args.command.now in
+    let command = c.args.holders in
     let e = event.Hand c.args.game command in
     let within : c.args.game < length inside.games.lanes = subst (λ (v : CoreView). c.args.game < length v.games.lanes) (sym c.self.view_is) c.requires in
     let enabled : is_enabled inside.games.workers inside.games.lanes e ≡ true = both_true (nat_lt c.args.game (length inside.games.lanes)) true (lt-ltb _ _ within) refl in
     let items : c.note.new.journal.items ≡ inside.journal.items ++ e ∷ []
-    = rw (c.note.ensures.items, c.in_ok-noted.ensures, c.row_number-row.ensures, c.reserve_events.ensures.items) refl in
+    = rw (c.note.ensures.items, c.into_parts-handed.ensures.noted, c.row_number-row.ensures, c.reserve_events.ensures.items) refl in
     let len = c.note.ensures.len in
     let capacity = c.note.ensures.capacity in
     let room = c.in_ok-reserve_events.ensures.room in
-    journaled_after g.row.CAP inside e _ c.self.invariant enabled (rw c.get.ensures at c.keeps_limits.ensures) (rw c.in_ok-handed.ensures at c.in_ok-hand.ensures.ok) items
+    journaled_after g.row.CAP inside e _ c.self.invariant enabled (rw c.get.ensures at c.keeps_limits.ensures) (rw c.into_parts-handed.ensures.handed at c.in_ok-hand.ensures.ok) items
     (c.self.invariant.out ∙ sym (as_many_handed inside.games.lanes c.args.game command within)) (omega (arith, len, capacity, room))
     (hand_marks_none inside.games.workers inside.games.lanes inside.busy.items c.args.game command within c.self.invariant.busy)
