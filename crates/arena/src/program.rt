@@ -1,7 +1,7 @@
 //! A run of the program, over any reader and writers.
 use crate::command_line::{Request, STANDARD_INPUT, is_memory, read_words};
 use crate::failure::Failure;
-use bs_host::{ReadFault, cut, read_input, serve};
+use bs_host::{ReadFault, cut, read_input, serve_and_close};
 use bs_workers::OpenGate;
 use std::alloc::Global;
 use std::fs;
@@ -50,7 +50,7 @@ fn run<H: Files + Threads + Wait + Sync, R: Read, W: Write>(
 ) -> Result<(), Failure> {
     let bytes = input_of(rt, alloc, request.file, input).map_err(Failure::Read)?;
     let bytes = asked_of(alloc, bytes, request.game)?;
-    serve(
+    serve_and_close(
         rt,
         alloc,
         &bytes,

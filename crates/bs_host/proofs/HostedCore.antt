@@ -18,6 +18,7 @@ use Rattle.bs_sched.specs.Machine.{lane_of}
 use Rattle.bs_sched.specs.PlanBlocks.{blocks_of_all}
 use Rattle.bs_sched.specs.declared.opening.Open.{Open}
 use Rattle.bs_sched.specs.declared.opening.Open.TheVariants as opening
+use Rattle.bs_workers.specs.Given.{IsRunFrom}
 use Rattle.bs_workers.specs.Run.{IsRunOf, commands_for}
 use Rattle.bs_workers.specs.declared.fault.Run.{Run}
 use Rattle.bs_workers.specs.declared.fault.Run.TheVariants as run
@@ -71,6 +72,19 @@ commands_of_row row [] = refl
 commands_of_row row ((number, route.Game to command) ∷ routes) = rw (commands_of_row row routes) refl
 commands_of_row row ((number, route.Stray kind) ∷ routes) = commands_of_row row routes
 commands_of_row row ((number, route.Nowhere) ∷ routes) = commands_of_row row routes
+
+-- what a core was before its run is what was given
+pub run_of_given : (rows : List GameRow) (blocks : ℕ) (commands : List (ℕ × Command)) (old new : CoreView) → rows ≡ old.games.rows
+    → blocks ≡ size old.games.storage.pool → IsRunFrom rows blocks commands new → IsRunOf old commands new
+run_of_given rows blocks commands old new plan many ran =
+    let from : IsRunFrom old.games.rows (size old.games.storage.pool) commands new = rw (plan, many) at ran in
+    record {
+      plan = from.plan;
+      blocks = from.as_many;
+      quiet = from.quiet;
+      handed = from.handed;
+      served = from.served;
+    }
 
 pub hosts_lines : (capacity blocks workers : ℕ) (rows : List GameRow) (routes : List (ℕ × Route)) (commands : List (ℕ × Command)) (old new : CoreView)
     → old ≡ opened_core capacity blocks workers rows → commands ≡ commands_by_row routes → IsRunOf old commands new → HostsLines blocks rows routes new

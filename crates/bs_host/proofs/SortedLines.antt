@@ -13,6 +13,7 @@ use Rattle.bs_host.specs.declared.routing.Route.{Route}
 use Rattle.bs_host.specs.declared.routing.Route.TheVariants as route
 use Rattle.bs_host.specs.Requests.{AreWithinPlan, HandsOn, command_by_row, commands_by_row, requests_of}
 use Rattle.bs_host.specs.Routing.{IsWithinPlan, numbered_stray, route_of, routes_from, strays_in}
+use Rattle.bs_host.specs.UnderWay.{IsUnderWay}
 
 -- one line is handed on
 
@@ -43,12 +44,6 @@ stays_within many number (route.Game row command) old new inside handed within =
     rw handed.commands (All-push (λ command. command.0 < many) old.commands (row, command) within inside)
 stays_within many number (route.Stray kind) old new inside handed within = rw (handed.commands, append-nil old.commands) within
 stays_within many number route.Nowhere old new inside handed within = rw (handed.commands, append-nil old.commands) within
-
--- Lines of a file, of which those from that number on are left: with what they will bring, the requests are what all of them bring.
-pub record IsUnderWay (rows : List GameRow) (all : List (ℕ × Route)) (number : ℕ) (left : List (List ℕ)) (r : Requests) : Type 0 where
-  pub commands : r.commands ++ commands_by_row (routes_from rows number left) ≡ commands_by_row all
-  pub strays : r.strays ++ strays_in (routes_from rows number left) ≡ strays_in all
-  pub within : AreWithinPlan (length rows) r.commands
 
 pub begins : (rows : List GameRow) (first : ℕ) (pieces : List (List ℕ)) (r : Requests) → r.commands ≡ [] → r.strays ≡ []
     → IsUnderWay rows (routes_from rows first pieces) first pieces r
@@ -91,6 +86,19 @@ ends rows all number left r none way =
     let strays : r.strays ++ [] ≡ strays_in all = rw none at way.strays in
     let one : r.commands ≡ commands_by_row all = sym (append-nil r.commands) ∙ commands in
     let two : r.strays ≡ strays_in all = sym (append-nil r.strays) ∙ strays in
+    rw (← one, ← two) refl
+
+pub within_way : (rows : List GameRow) (all : List (ℕ × Route)) (number : ℕ) (left : List (List ℕ)) (r : Requests) → IsUnderWay rows all number left r
+    → AreWithinPlan (length rows) r.commands
+within_way rows all number left r way = way.within
+
+-- those that were left bring the rest
+pub ends_with : (rows : List GameRow) (all : List (ℕ × Route)) (number : ℕ) (left : List (List ℕ)) (old rest new : Requests)
+    → IsUnderWay rows all number left old → rest ≡ requests_of (routes_from rows number left) → new.commands ≡ old.commands ++ rest.commands
+    → new.strays ≡ old.strays ++ rest.strays → new ≡ requests_of all
+ends_with rows all number left old rest new way is commands strays =
+    let one : new.commands ≡ commands_by_row all = commands ∙ ap (λ (q : Requests). old.commands ++ q.commands) is ∙ way.commands in
+    let two : new.strays ≡ strays_in all = strays ∙ ap (λ (q : Requests). old.strays ++ q.strays) is ∙ way.strays in
     rw (← one, ← two) refl
 
 pub requests_commands : (r : Requests) (routes : List (ℕ × Route)) → r ≡ requests_of routes → r.commands ≡ commands_by_row routes

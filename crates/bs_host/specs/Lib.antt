@@ -5,3 +5,4 @@ pub mod Hosted
 pub mod Requests
 pub mod Routing
 pub mod Transcript
+pub mod UnderWay

@@ -23,4 +23,4 @@ pub use cutting::{cut, section_law};
 pub use fault::{Fault, PlanRefusal};
 pub use limits::{BLOCK_BYTES, MOST_FILE_BYTES};
 pub use reading::{ReadFault, read_input};
-pub use serving::serve;
+pub use serving::{serve, serve_and_close};

@@ -1,17 +1,20 @@
-//! What a core tells of its games.
-ghost use Rattle.std.specs.Prelude.{◌≡◌, ◌<◌, length, OnOk, IfOk};
+//! What a core tells of its games, and whether it is the core that it has to be.
+ghost use Rattle.std.specs.Prelude.{◌≡◌, ◌<◌, IsTrue, length, OnOk, IfOk};
+ghost use Rattle.std.specs.Thread.{IsSync};
 ghost use Rattle.std.specs.List.{flat_map};
 ghost use Rattle.bs_sched.specs.Games.{row_at};
 ghost use Rattle.bs_sched.specs.Machine.{lane_of};
 ghost use Rattle.bs_transcript.specs.Lines.{section_lines_of};
+ghost use Rattle.bs_workers.specs.Given.{IsRunFrom};
 ghost use Rattle.bs_host.specs.Transcript.{lane_lines_of, sections_in, core_text_of};
 
 use crate::limits::BLOCK_BYTES;
-use crate::requests::Strays;
+use crate::requests::{Commands, Requests, Strays};
 use bs_sched::Core;
 use bs_transcript::{Parts, Section, text_by};
+use bs_workers::Given;
 use std::alloc::{AllocError, Global};
-use std::thread::Threads;
+use std::thread::{Threads, join};
 
 /// What the game of that row was answered, and how it stands.
 fn section_of_game<'c>(
@@ -59,4 +62,43 @@ pub(crate) fn core_text<R: Threads + Sync>(
 {
     let sections = sections_of_games(alloc, core)?;
     text_by(rt, alloc, sections.as_slice(), strays.as_slice(), workers)
+}
+
+/// Whether the core is what these commands had to leave of it, of which the list is given back then.
+fn is_left(given: Given, core: &Core<BLOCK_BYTES>, commands: Commands) -> bool
+    ensures { IsTrue result → IsRunFrom given.0 given.1 commands core.now }
+{
+    given.is_left(core, commands.as_slice())
+}
+
+/// Whether the core is what the requests had to leave of one that had this, and the text of what it tells. Neither needs the
+/// other, so where there are several workers a thread more looks at the one while they make the other.
+pub(crate) fn compare_and_tell<R: Threads + Sync>(
+    rt: &R,
+    alloc: Global,
+    given: Given,
+    core: &Core<BLOCK_BYTES>,
+    requests: Requests,
+    workers: usize,
+) -> (bool, Result<Parts, AllocError>)
+    ensures run { IsTrue result.0 → IsRunFrom given.0 given.1 requests.commands core.now }
+    ensures text { IfOk result.1 (λ text. text ≡ core_text_of core.now requests.strays) }
+    ensures lanes { OnOk result.1 (length core.now.games.lanes ≡ length core.now.games.rows) }
+{
+    let Requests { commands, strays } = requests;
+    if workers <= 1 {
+        let is_run = is_left(given, core, commands);
+        return (is_run, core_text(rt, alloc, core, &strays, workers));
+    }
+    join(
+        rt,
+        move || -> bool
+            ensures { IsTrue result → IsRunFrom given.0 given.1 commands core.entry.now }
+        { is_left(given, core, commands) },
+        || -> Result<Parts, AllocError>
+            requires { IsSync R.row }
+            ensures text { IfOk result (λ text. text ≡ core_text_of core.entry.now strays) }
+            ensures lanes { OnOk result (length core.entry.now.games.lanes ≡ length core.entry.now.games.rows) }
+        { core_text(rt, alloc, core, &strays, workers) },
+    )
 }

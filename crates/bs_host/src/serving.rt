@@ -6,29 +6,28 @@ ghost use Rattle.bs_host.specs.File.{pieces_after};
 ghost use Rattle.bs_host.specs.Hosted.{Hosts, HostsLines};
 ghost use Rattle.bs_host.specs.Routing.{routes_from, strays_in, strays_of};
 ghost use Rattle.bs_host.specs.Faults.{refusal_of, refusal_of_plan, IsRefusal, IsFault, Leaves};
-ghost use Rattle.bs_host.specs.Transcript.{transcript_of};
+ghost use Rattle.bs_host.specs.Transcript.{core_text_of, transcript_of};
 
 use crate::fault::Fault;
 use crate::limits::{BLOCK_BYTES, MOST_FILE_BYTES};
 use crate::pieces::cut_piece;
-use crate::requests::Strays;
-use crate::sections::core_text;
+use crate::sections::compare_and_tell;
 use crate::sorting::sort_lines;
 use bs_board::Plan;
 use bs_json::read_plan;
 use bs_sched::Core;
 use bs_transcript::{Parts, write_parts};
-use bs_workers::{Gate, run_in_crews};
+use bs_workers::{Gate, Given, work_in_crews};
 use std::alloc::{AllocError, Global};
 use std::io::Write;
 use std::sync::Wait;
-use std::thread::Threads;
+use std::thread::{JoinHandle, Threads, spawn};
 
-/// A core that has answered the lines of a file, and the lines that belong to no game.
+/// A core that has answered the lines of a file, and the text of all that is told of them.
 #[derive(Drop)]
 struct Hosted {
     core: Core<BLOCK_BYTES>,
-    strays: Strays,
+    text: Parts,
 }
 
 /// A core for the plan, where the blocks suffice for it.
@@ -63,7 +62,7 @@ fn count_workers(crews: usize, size: usize) -> Result<usize, AllocError>
     crews.checked_mul(size).ok_or(AllocError)
 }
 
-/// Answers the lines that follow the plan in a file, where there are any.
+/// Answers the lines that follow the plan in a file, where there are any, and tells of them.
 #[tactic(auto, using(crate::proofs::HostedCore::run_refusal))]
 fn host_plan<R: Threads + Wait + Sync, G: Gate>(
     rt: &R,
@@ -77,8 +76,9 @@ fn host_plan<R: Threads + Wait + Sync, G: Gate>(
     requires short { IfSome rest (λ text. length text.now ≤ MOST_FILE_BYTES) }
     ensures core { IfOk result
         (λ hosted. HostsLines blocks plan.rows (routes_from plan.rows 2 (pieces_after (option_copied rest.entry))) hosted.core) }
-    ensures strays { IfOk result
-        (λ hosted. hosted.strays ≡ strays_in (routes_from plan.rows 2 (pieces_after (option_copied rest.entry)))) }
+    ensures text { IfOk result
+        (λ hosted. hosted.text ≡ core_text_of hosted.core (strays_in (routes_from plan.rows 2 (pieces_after (option_copied rest.entry))))) }
+    ensures lanes { IfOk result (λ hosted. length hosted.core.games.lanes ≡ length hosted.core.games.rows) }
     ensures served { OnOk result (refusal_of_plan blocks (Ok plan) ≡ None) }
     ensures fault { IfErr result (IsRefusal (refusal_of_plan blocks (Ok plan))) }
 {
@@ -86,17 +86,20 @@ fn host_plan<R: Threads + Wait + Sync, G: Gate>(
     let crew = crew_size(plan.rows.as_slice().len(), workers);
     let members = count_workers(workers, crew)?;
     let core = open_core(alloc, plan, blocks, members)?;
+    let given = Given::of(alloc, &core)?;
     let commands = requests.commands.as_slice();
-    let core = run_in_crews(rt, alloc, core, commands, workers, crew, gate)?;
-    Ok(Hosted {
-        core,
-        strays: requests.strays,
-    })
+    let core = work_in_crews(rt, alloc, core, commands, workers, crew, gate)?;
+    let (is_run, text) = compare_and_tell(rt, alloc, given, &core, requests, workers);
+    if is_run {
+        Ok(Hosted { core, text: text? })
+    } else {
+        Err(Fault::Broken)
+    }
 }
 
-/// Answers all lines of a file, where nothing is against it.
-#[tactic(auto, using(crate::proofs::FileTexts::refusal_of_long, crate::proofs::FileTexts::refusal_of_first, crate::proofs::FileTexts::hosts_first, crate::proofs::FileTexts::strays_of_first))]
-fn host_file<R: Threads + Wait + Sync, G: Gate>(
+/// The core that has answered the file, and the whole text, where nothing is against the file.
+#[tactic(auto, using(crate::proofs::FileTexts::refusal_of_long, crate::proofs::FileTexts::refusal_of_first, crate::proofs::FileTexts::hosts_first))]
+fn transcript<R: Threads + Wait + Sync, G: Gate>(
     rt: &R,
     alloc: Global,
     input: &[u8],
@@ -105,7 +108,7 @@ fn host_file<R: Threads + Wait + Sync, G: Gate>(
     gate: &G,
 ) -> Result<Hosted, Fault>
     ensures core { IfOk result (λ hosted. Hosts blocks input.now hosted.core) }
-    ensures strays { IfOk result (λ hosted. hosted.strays ≡ strays_of input.now) }
+    ensures text { IfOk result (λ hosted. hosted.text ≡ transcript_of input.now) }
     ensures served { OnOk result (refusal_of blocks input.now ≡ None) }
     ensures fault { IfErr result (IsRefusal (refusal_of blocks input.now)) }
 {
@@ -115,26 +118,6 @@ fn host_file<R: Threads + Wait + Sync, G: Gate>(
     let (first, rest) = cut_piece(input);
     let plan = read_plan(alloc, first)?;
     host_plan(rt, alloc, plan, rest, blocks, workers, gate)
-}
-
-/// The core that has answered the file, and the whole text, where nothing is against the file.
-#[tactic(auto, using(crate::proofs::HostedCore::transcript_of_core))]
-fn transcript<R: Threads + Wait + Sync, G: Gate>(
-    rt: &R,
-    alloc: Global,
-    input: &[u8],
-    blocks: usize,
-    workers: usize,
-    gate: &G,
-) -> Result<(Core<BLOCK_BYTES>, Parts), Fault>
-    ensures core { IfOk result (λ told. Hosts blocks input.now told.0) }
-    ensures text { IfOk result (λ told. told.1 ≡ transcript_of input.now) }
-    ensures served { OnOk result (refusal_of blocks input.now ≡ None) }
-    ensures fault { IfErr result (IsRefusal (refusal_of blocks input.now)) }
-{
-    let hosted = host_file(rt, alloc, input, blocks, workers, gate)?;
-    let text = core_text(rt, alloc, &hosted.core, &hosted.strays, workers)?;
-    Ok((hosted.core, text))
 }
 
 /// Serves a command file from that many blocks, with so many workers, each a thread (a single one is the caller's): has a
@@ -157,7 +140,41 @@ pub fn serve<R: Threads + Wait + Sync, G: Gate, W: Write>(
     ensures fault { IfErr result (IsFault (refusal_of blocks input.now)) }
     ensures left { IfErr result (Leaves W.contents (transcript_of input.now) output.old output.new) }
 {
-    let (core, text) = transcript(rt, alloc, input, blocks, workers, gate)?;
-    write_parts(&text, output)?;
-    Ok(core)
+    let hosted = transcript(rt, alloc, input, blocks, workers, gate)?;
+    write_parts(&hosted.text, output)?;
+    Ok(hosted.core)
+}
+
+/// Gives up a core: where there are several workers in a thread of its own, if one can be started, which is told then and may
+/// go on meanwhile.
+fn close<R: Threads>(rt: &R, core: Core<BLOCK_BYTES>, workers: usize) -> Option<JoinHandle<()>> {
+    if workers <= 1 {
+        return None;
+    }
+    spawn(rt, move || drop(core)).ok()
+}
+
+/// The same, but that the core is given up: where there are several workers by a thread of its own, while the transcript is
+/// written, which takes about as long.
+pub fn serve_and_close<R: Threads + Wait + Sync, G: Gate, W: Write>(
+    rt: &R,
+    alloc: Global,
+    input: &[u8],
+    blocks: usize,
+    workers: usize,
+    gate: &G,
+    output: &mut W,
+) -> Result<(), Fault>
+    ensures served { OnOk result (refusal_of blocks input.now ≡ None) }
+    ensures written { OnOk result (Appends (W.contents output.old) (W.contents output.new) (transcript_of input.now)) }
+    ensures fault { IfErr result (IsFault (refusal_of blocks input.now)) }
+    ensures left { IfErr result (Leaves W.contents (transcript_of input.now) output.old output.new) }
+{
+    let Hosted { core, text } = transcript(rt, alloc, input, blocks, workers, gate)?;
+    let closing = close(rt, core, workers);
+    let written = write_parts(&text, output);
+    if let Some(thread) = closing {
+        thread.join(rt);
+    }
+    Ok(written?)
 }

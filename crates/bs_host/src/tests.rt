@@ -1,5 +1,5 @@
 //! Whole files and what is written for them, and readers, writers and runs that fail.
-use crate::{read_input, serve};
+use crate::{read_input, serve, serve_and_close};
 use bs_fiber::JobName;
 use bs_workers::{Gate, OpenGate};
 use std::alloc::{AllocError, Global};
@@ -168,6 +168,10 @@ fn any_workers_write_the_same(rt: HostRuntime) -> Result<(), Fail> {
         }
         let mut written = Vec::new(alloc);
         let file = TWO_GAMES.as_bytes();
+        let closed = serve_and_close(&rt, alloc, file, 12, workers, &OpenGate, &mut written);
+        assert!(rt; closed.is_ok());
+        assert_eq!(rt; written.as_slice(), TWO_GAMES_TEXT.as_bytes(), "{workers}");
+        let mut written = Vec::new(alloc);
         let served = serve(&rt, alloc, file, 12, workers, &OpenGate, &mut written);
         let core = served.ok().ok_or("served")?;
         assert!(rt; core.is_quiet());
@@ -182,6 +186,9 @@ fn any_workers_write_the_same(rt: HostRuntime) -> Result<(), Fail> {
     Ok(())
 }
 
+/// So many that the file has some 90,000 bytes: it is read by several threads where there are several workers.
+const ROUNDS: u16 = 400;
+
 // Many lines of three games in turns, with lines between them that belong to no game or say nothing. It ends without a feed.
 fn many_lines(alloc: Global) -> Result<String, AllocError> {
     let mut file = String::from_str(
@@ -194,7 +201,7 @@ fn many_lines(alloc: Global) -> Result<String, AllocError> {
         )?;
         file.push_str(&new)?;
     }
-    for round in 0..12u8 {
+    for round in 0..ROUNDS {
         for game in ["a", "b", "z", "b", "c"] {
             let line = format!(in alloc;
                 "\n{{\"game\":\"{game}\",\"do\":\"turn\",\"at\":{round}}}"
@@ -219,7 +226,7 @@ fn any_workers_share_the_work(rt: HostRuntime) -> Result<(), Fail> {
             .iter()
             .filter(|byte| **byte == b'\n')
             .count(),
-        2 + 5 * 12 + 2 * 12 + 3
+        2 + 7 * ROUNDS as usize + 3
     );
     for workers in 2..6 {
         let (told, written) = worked(&rt, alloc, file.as_bytes(), 18, workers, &OpenGate)?;

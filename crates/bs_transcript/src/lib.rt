@@ -5,6 +5,7 @@
 mod lines;
 mod parts;
 mod sharing;
+mod spare;
 #[cfg(test)]
 mod tests;
 mod writing;
@@ -12,4 +13,5 @@ mod writing;
 pub use lines::{Section, text};
 pub use parts::{Parts, write_parts};
 pub use sharing::text_by;
+pub use spare::SpareThreads;
 pub use writing::{WriteFault, write_all_of};

@@ -1,4 +1,4 @@
-//! The text of a transcript made by several threads, each of which makes a part of about as many lines.
+//! The text of a transcript made by several threads: whoever has lines left to make gives half of them to a thread that is spare.
 ghost use Rattle.std.specs.Prelude.{◌≡◌, ◌++◌, ◌+◌, ◌<◌, ◌≤◌, length, OnOk, IfOk, IfSome};
 ghost use Rattle.std.specs.Thread.{IsSync};
 ghost use Rattle.bs_transcript.specs.Lines.{text_of};
@@ -6,6 +6,7 @@ ghost use Rattle.bs_transcript.specs.Parts.{lines_of_section, lines_of_strays, a
 
 use crate::lines::{Section, push_final, push_replies, push_strays, text};
 use crate::parts::Parts;
+use crate::spare::SpareThreads;
 use bs_json::Stray;
 use std::alloc::{AllocError, Global};
 use std::thread::{Threads, join};
@@ -71,47 +72,44 @@ fn push_some_strays(
 }
 
 /// The lines from a place on and before another, over all lines.
-fn part(
+fn push_part(
     alloc: Global,
     sections: &[Section<'_>],
     strays: &[(u64, Stray)],
     from: usize,
     until: usize,
-) -> Result<Vec<u8>, AllocError>
+    text: &mut Vec<u8>,
+) -> Result<(), AllocError>
     requires { from ≤ until }
-    ensures { IfOk result (λ text. text.items ≡ part_of from until (all_lines_of sections.now strays.now)) }
+    ensures { OnOk result (text.new.items ≡ text.old.items ++ part_of from until (all_lines_of sections.now strays.now)) }
 {
-    let mut text = Vec::new(alloc);
     let (mut first, mut last) = (from, until);
     for section in sections {
-        push_lines(alloc, section, first, last, &mut text)?;
+        push_lines(alloc, section, first, last, text)?;
         let lines = section.replies.len() + 1;
         first = first.saturating_sub(lines);
         last = last.saturating_sub(lines);
     }
-    push_some_strays(alloc, strays, first, last, &mut text)?;
-    Ok(text)
-}
-
-/// What so many of the workers have of so many lines.
-fn share(lines: usize, workers: usize, some: usize) -> usize
-    requires { 0 < workers }
-    ensures { result ≤ lines }
-{
-    (lines / workers).saturating_mul(some).min(lines)
+    push_some_strays(alloc, strays, first, last, text)
 }
 
 /// Lines in their order, of some of which a text can be made.
 trait Sheet {
-    ghost use Rattle.std.specs.Prelude.{◌≡◌, ◌≤◌, ℕ, List, IfOk};
+    ghost use Rattle.std.specs.Prelude.{◌≡◌, ◌≤◌, ◌++◌, ℕ, List, OnOk};
     ghost use Rattle.bs_transcript.specs.Parts.{part_of};
 
     ghost lines: { Self → List (List ℕ) };
 
-    /// The text of the lines from a place on and before another.
-    fn part(&self, alloc: Global, from: usize, until: usize) -> Result<Vec<u8>, AllocError>
+    /// The lines from a place on and before another go to the end of a text.
+    fn push_part(
+        &self,
+        alloc: Global,
+        from: usize,
+        until: usize,
+        text: &mut Vec<u8>,
+    ) -> Result<(), AllocError>
         requires { from ≤ until }
-        ensures { IfOk result (λ text. text.items ≡ part_of from until (lines self.now)) };
+        ensures { OnOk result (text.new.items ≡ text.old.items ++ part_of from until (lines self.now)) };
 }
 
 /// The lines of a transcript.
@@ -126,43 +124,84 @@ impl<'t> Sheet for Transcript<'t> {
 
     ghost lines = { λ told. all_lines_of told.sections.now told.strays.now };
 
-    fn part(&self, alloc: Global, from: usize, until: usize) -> Result<Vec<u8>, AllocError> {
-        part(alloc, self.sections, self.strays, from, until)
+    fn push_part(
+        &self,
+        alloc: Global,
+        from: usize,
+        until: usize,
+        text: &mut Vec<u8>,
+    ) -> Result<(), AllocError> {
+        push_part(alloc, self.sections, self.strays, from, until, text)
     }
 }
 
-/// The text of lines in parts, by so many threads at most, of which the caller's is one.
+/// How many lines a thread makes before it looks again whether another is spare.
+const LINES_AT_ONCE: usize = 32;
+
+/// The fewest lines of which half are given away: they take some times as long as to start a thread.
+const FEWEST_TO_SHARE: usize = 512;
+
+/// The text of the first lines from a place on and before another, and the place of the first that is not made: there is one
+/// where a spare thread was taken for half of the others.
+fn part_alone<T: Sheet>(
+    alloc: Global,
+    sheet: &T,
+    from: usize,
+    until: usize,
+    spare: &SpareThreads,
+) -> Result<(Vec<u8>, usize), AllocError>
+    requires { from ≤ until }
+    ensures text { IfOk result (λ made. made.0.items ≡ part_of from made.1 (T.lines sheet.now)) }
+    ensures begun { IfOk result (λ made. from ≤ made.1) }
+    ensures end { IfOk result (λ made. made.1 ≤ until) }
+    ensures some { IfOk result (λ made. made.1 < until → made.1 + 2 ≤ until) }
+{
+    let mut text = Vec::new(alloc);
+    let mut at = from;
+    'lines: while at < until {
+        if until - at >= FEWEST_TO_SHARE && spare.take_one() {
+            return Ok((text, at));
+        }
+        let next = at + LINES_AT_ONCE.min(until - at);
+        sheet.push_part(alloc, at, next, &mut text)?;
+        at = next;
+    }
+    Ok((text, until))
+}
+
+/// The text of lines in parts, by the caller's thread and those that are spare, before or while it is made.
 fn parts_by<R: Threads + Sync, T: Sheet + Sync>(
     rt: &R,
     alloc: Global,
     sheet: &T,
     from: usize,
     until: usize,
-    workers: usize,
+    spare: &SpareThreads,
 ) -> Result<Parts, AllocError>
     requires { from ≤ until }
     ensures { IfOk result (λ text. text ≡ part_of from until (T.lines sheet.now)) }
 {
-    if workers <= 1 {
-        return Parts::of(alloc, sheet.part(alloc, from, until)?);
+    let (text, at) = part_alone(alloc, sheet, from, until, spare)?;
+    let mut made = Parts::of(alloc, text)?;
+    if at >= until {
+        spare.give_back();
+        return Ok(made);
     }
-    let some = workers / 2;
-    let others = workers - some;
-    let middle = from + share(until - from, workers, some);
+    let middle = at + (until - at) / 2;
     let (front, back) = join(
         rt,
         || -> Result<Parts, AllocError>
-            requires { IsSync R.row × IsSync T.row × (from ≤ middle) }
-            ensures { IfOk result (λ text. text ≡ part_of from middle (T.lines sheet.entry.now)) }
-        { parts_by(rt, alloc, sheet, from, middle, some) },
+            requires { IsSync R.row × IsSync T.row × (at ≤ middle) }
+            ensures { IfOk result (λ text. text ≡ part_of at middle (T.lines sheet.entry.now)) }
+        { parts_by(rt, alloc, sheet, at, middle, spare) },
         || -> Result<Parts, AllocError>
             requires { IsSync R.row × IsSync T.row × (middle ≤ until) }
             ensures { IfOk result (λ text. text ≡ part_of middle until (T.lines sheet.entry.now)) }
-        { parts_by(rt, alloc, sheet, middle, until, others) },
+        { parts_by(rt, alloc, sheet, middle, until, spare) },
     );
-    let mut text = front?;
-    text.append(back?)?;
-    Ok(text)
+    made.append(front?)?;
+    made.append(back?)?;
+    Ok(made)
 }
 
 /// The text of so many first lines, in parts.
@@ -175,11 +214,11 @@ fn parts_of<R: Threads + Sync, T: Sheet + Sync>(
 ) -> Result<Parts, AllocError>
     ensures { IfOk result (λ text. text ≡ part_of 0 lines (T.lines sheet.now)) }
 {
-    parts_by(rt, alloc, sheet, 0, lines, workers)
+    parts_by(rt, alloc, sheet, 0, lines, &SpareThreads::beside(workers))
 }
 
 /// The text that `text` makes, in parts that at most so many threads make side by side. With one worker, or none, no thread
-/// is started.
+/// is started, nor for few lines.
 #[tactic(auto, using(crate::proofs::PartLines::part_of_all))]
 pub fn text_by<R: Threads + Sync>(
     rt: &R,

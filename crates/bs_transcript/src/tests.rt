@@ -1,5 +1,5 @@
 //! Transcripts of replies and strays, and writers that fail.
-use crate::{Section, text, text_by, write_all_of, write_parts};
+use crate::{Section, SpareThreads, text, text_by, write_all_of, write_parts};
 use bs_board::{Id, Refusal, Reply, Word};
 use bs_json::Stray;
 use std::alloc::{AllocError, Global};
@@ -97,6 +97,48 @@ fn any_workers_make_the_same_text(rt: HostRuntime) -> Result<(), Fail> {
         }
     }
     assert_eq!(rt; text_by(&rt, alloc, &[], &[], 4)?.len(), 0);
+    Ok(())
+}
+
+// So many lines that each worker makes some of them: the same text as in one piece.
+#[test]
+fn any_workers_share_many_lines(rt: HostRuntime) -> Result<(), Fail> {
+    let alloc = rt.alloc();
+    let mut replies = Vec::new(alloc);
+    for seq in 0..3000u32 {
+        replies.push(if seq % 3 == 0 {
+            Reply::Plain(Word::Free, seq)
+        } else {
+            Reply::Refused(Refusal::NoGame)
+        })?;
+    }
+    let name = Id::from_str(alloc, "a")?;
+    let sections = [Section {
+        name: &name,
+        replies: replies.as_slice(),
+        board: None,
+        charge: 0,
+    }];
+    let whole = text(alloc, &sections, &[])?;
+    for workers in 1..5 {
+        let parts = text_by(&rt, alloc, &sections, &[], workers)?;
+        let mut written = Vec::new(alloc);
+        assert!(rt; write_parts(&parts, &mut written).is_ok());
+        assert_eq!(rt; written.as_slice(), whole.as_slice(), "{workers}");
+    }
+    Ok(())
+}
+
+// Of three threads two are spare beside the caller's, and one more once one has ended.
+#[test]
+fn spare_threads_are_counted(rt: HostRuntime) -> Result<(), Fail> {
+    let spare = SpareThreads::beside(3);
+    assert!(rt; spare.take_one());
+    assert!(rt; spare.take_one());
+    assert!(rt; !spare.take_one());
+    spare.give_back();
+    assert!(rt; spare.take_one());
+    assert!(rt; !SpareThreads::beside(0).take_one());
     Ok(())
 }
 

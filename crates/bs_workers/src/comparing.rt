@@ -3,10 +3,12 @@ ghost use Rattle.std.specs.Prelude.{◌≡◌, [], ◌∷◌, ◌++◌, IsTrue, 
 ghost use Rattle.bs_sched.specs.Handed.{hands_of};
 ghost use Rattle.bs_workers.specs.Given.{IsAsGiven, IsRunFrom};
 
-use crate::plan_rows::has_rows;
+use crate::plan_rows::{copy_rows, has_rows};
 use bs_board::{Command, Row};
 use bs_fiber::SharedCommand;
 use bs_sched::{Core, Event};
+use std::alloc::{AllocError, Global};
+use std::marker::Model;
 
 /// Whether what is to be handed in next is that command, for the game of that row.
 fn is_next(next: &(usize, SharedCommand), game: usize, command: &Command) -> bool
@@ -66,16 +68,46 @@ fn is_as_given<const CAP: usize>(core: &Core<CAP>, rows: &[Row], blocks: usize) 
     has_rows(core, rows) && core.counts().size == blocks && core.is_quiet()
 }
 
-/// Whether the core is what a run of these commands leaves of a core of that plan, with so many blocks: nothing is left
-/// to do, and its journal hands in just these commands, in their order.
-#[tactic(auto, using(crate::proofs::HandedIn::run_from))]
-pub(crate) fn is_run_of<const CAP: usize>(
-    core: &Core<CAP>,
-    rows: &[Row],
+/// What the core of a run had before it: its plan, and how many blocks. Clauses see both.
+#[derive(Debug, Drop)]
+pub struct Given {
+    rows: Vec<Row>,
     blocks: usize,
-    commands: &[(usize, SharedCommand)],
-) -> bool
-    ensures { IsTrue result → IsRunFrom rows.now blocks commands.now core.now }
-{
-    is_as_given(core, rows, blocks) && are_handed(core.journal(), commands)
+}
+
+impl Model for Given {
+    ghost use Rattle.std.specs.Prelude.{ℕ, List};
+    ghost use Rattle.bs_board.specs.plans.Plan.{GameRow};
+
+    ghost Value = { List GameRow × ℕ };
+
+    ghost view = { λ g. (g.rows.items, g.blocks) };
+}
+
+impl Given {
+    ghost use Rattle.std.specs.Prelude.{IfOk};
+    ghost use Rattle.bs_pool.specs.Ledger.{size};
+
+    /// What this core has.
+    pub fn of<const CAP: usize>(alloc: Global, core: &Core<CAP>) -> Result<Given, AllocError>
+        ensures { IfOk result (λ given. given ≡ (core.now.games.rows, size core.now.games.storage.pool)) }
+    {
+        Ok(Given {
+            rows: copy_rows(alloc, core)?,
+            blocks: core.counts().size,
+        })
+    }
+
+    /// Whether the core is what a run of these commands leaves of one that had this: nothing is left to do, and its journal
+    /// hands in just these commands, in their order.
+    #[tactic(auto, using(crate::proofs::HandedIn::run_from))]
+    pub fn is_left<const CAP: usize>(
+        &self,
+        core: &Core<CAP>,
+        commands: &[(usize, SharedCommand)],
+    ) -> bool
+        ensures { IsTrue result → IsRunFrom self.now.0 self.now.1 commands.now core.now }
+    {
+        is_as_given(core, self.rows.as_slice(), self.blocks) && are_handed(core.journal(), commands)
+    }
 }

@@ -13,6 +13,8 @@ mod shop;
 mod tests;
 mod working;
 
+pub use comparing::Given;
 pub use fault::Run;
 pub use gate::{Gate, OpenGate};
 pub use running::{run, run_in_crews};
+pub use working::work_in_crews;

@@ -4,11 +4,10 @@ ghost use Rattle.bs_pool.specs.Ledger.{size};
 ghost use Rattle.bs_sched.specs.Core.{opened_core};
 ghost use Rattle.bs_workers.specs.Run.{IsRunOf};
 
-use crate::comparing::is_run_of;
+use crate::comparing::Given;
 use crate::fault::Run;
 use crate::gate::Gate;
-use crate::plan_rows::copy_rows;
-use crate::working::worked;
+use crate::working::work_in_crews;
 use bs_fiber::SharedCommand;
 use bs_sched::Core;
 use std::alloc::Global;
@@ -32,10 +31,9 @@ pub fn run_in_crews<const CAP: usize, R: Threads + Wait + Sync, G: Gate>(
     requires workers { core.games.workers ≡ threads * crew }
     ensures { IfOk result (λ done. IsRunOf core.entry commands.now done) }
 {
-    let rows = copy_rows(alloc, &core)?;
-    let blocks = core.counts().size;
-    let core = worked(rt, alloc, core, commands, threads, crew, gate)?;
-    if is_run_of(&core, rows.as_slice(), blocks, commands) {
+    let given = Given::of(alloc, &core)?;
+    let core = work_in_crews(rt, alloc, core, commands, threads, crew, gate)?;
+    if given.is_left(&core, commands) {
         Ok(core)
     } else {
         Err(Run::Broken)

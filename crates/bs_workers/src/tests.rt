@@ -3,7 +3,7 @@
 ghost use Rattle.std.specs.Prelude.{◌≡◌, ◌<◌, ℕ, All, IsTrue, IfOk, length};
 ghost use Rattle.bs_sched.specs.Core.{opened_core};
 
-use crate::{Gate, OpenGate, Run, run, run_in_crews};
+use crate::{Gate, Given, OpenGate, Run, run, run_in_crews, work_in_crews};
 use bs_board::limits::MOST_ROWS;
 use bs_board::plans::plan::have_distinct_names;
 use bs_board::{
@@ -219,6 +219,24 @@ fn threads_with_crews_give_the_same_replies(rt: HostRuntime) -> Result<(), Fail>
             assert!(rt; alone.as_str() == others.as_str());
         }
     }
+    Ok(())
+}
+
+/// What threads make of the commands is told from what they would make of fewer, or over more blocks.
+#[test]
+fn a_run_is_told_from_another(rt: HostRuntime) -> Result<(), Fail> {
+    let alloc = rt.alloc();
+    let commands = commands(alloc)?;
+    let commands = commands.as_slice();
+    let core = Core::<524_288>::open(alloc, games(&rt, alloc, &["a", "b"])?, 12, 4)?;
+    let given = Given::of(alloc, &core)?;
+    let larger = Core::<524_288>::open(alloc, games(&rt, alloc, &["a", "b"])?, 13, 4)?;
+    assert!(rt; !given.is_left(&core, commands));
+    assert!(rt; given.is_left(&core, &commands[..0]));
+    let core = work_in_crews(&rt, alloc, core, commands, 2, 2, &OpenGate)?;
+    assert!(rt; given.is_left(&core, commands));
+    assert!(rt; !given.is_left(&core, &commands[..0]));
+    assert!(rt; !Given::of(alloc, &larger)?.is_left(&core, commands));
     Ok(())
 }
 

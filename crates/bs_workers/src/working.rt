@@ -113,8 +113,9 @@ fn hand_to_threads<const CAP: usize, R: Threads + Wait + Sync, G: Gate>(
     });
 }
 
-/// The core once all commands are worked, by so many threads with crews of that size. A single thread is the caller's own.
-pub(crate) fn worked<const CAP: usize, R: Threads + Wait + Sync, G: Gate>(
+/// The core once all commands are handed in and worked, by so many threads, each of which stands for a crew of so many workers.
+/// A single thread is the caller's own. Whether the core is what it has to be is still to be asked: `Given::is_left` tells.
+pub fn work_in_crews<const CAP: usize, R: Threads + Wait + Sync, G: Gate>(
     rt: &R,
     alloc: Global,
     core: Core<CAP>,

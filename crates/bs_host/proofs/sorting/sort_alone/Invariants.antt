@@ -1,14 +1,16 @@
-use Rattle.std.proofs.Common.{◌+◌, ◌^◌, ◌≤◌}
+use Rattle.std.proofs.Common.{◌+◌, ◌^◌, ◌≤◌, length}
 use Rattle.std.specs.Prelude.{option_copied}
 use Rattle.bs_host.specs.File.{pieces_of, pieces_after}
 use Rattle.bs_host.specs.Routing.{routes_from}
-use Rattle.bs_host.proofs.SortedLines.{IsUnderWay, bytes_left}
-use Rattle.bs_host.proofs.sorting.sort_in_turn.Given as goal
+use Rattle.bs_host.specs.UnderWay.{IsUnderWay}
+use Rattle.bs_host.proofs.SortedLines.{bytes_left}
+use Rattle.bs_host.proofs.sorting.sort_alone.Given as goal
 
 abbrev pub invariant-lines : goal.invariant-lines
 invariant-lines l = record {
   way : IsUnderWay l.rows (routes_from l.rows l.first (pieces_of l.fn.text)) l.number (pieces_after (option_copied l.left)) l.requests;
   few : l.number + bytes_left l.left ≤ 2 ^ 63;
+  fewer : bytes_left l.left ≤ length l.fn.text + 1;
 }
 
 abbrev pub decreases-lines : goal.decreases-lines

@@ -4,10 +4,10 @@ use Rattle.bs_host.specs.File.{pieces_of}
 use Rattle.bs_host.specs.Requests.{AreWithinPlan, requests_of}
 use Rattle.bs_host.specs.Routing.{routes_from}
 use Rattle.bs_host.proofs.SharedLines.{requests_together, within_together}
-use Rattle.bs_host.proofs.sorting.+fn-sort_text-join+arg2+fn-sort_text-join+arg3+sort_text.Goals as goal
+use Rattle.bs_host.proofs.sorting.+sorting.Goals as goal
 
-pub returns-clause-value : goal.returns-clause-value
-returns-clause-value g t c =
+pub sort_halves-returns-clause-value : goal.sort_halves-returns-clause-value
+sort_halves-returns-clause-value g t c =
     let rows = c.args.rows.now in
     let second = c.args.first + c.count_pieces.result in
     let ahead =
@@ -20,8 +20,8 @@ returns-clause-value g t c =
     c.in_ok-requests.requests c.in_ok-later.field-0 c.in-Some.ensures.pieces (ap (λ n. c.args.first + n) c.count_pieces.ensures.value) ahead.0 behind.0
     c.in_ok-append.ensures.commands c.in_ok-append.ensures.strays
 
-pub returns-clause-within : goal.returns-clause-within
-returns-clause-within g t c =
+pub sort_halves-returns-clause-within : goal.sort_halves-returns-clause-within
+sort_halves-returns-clause-within g t c =
     let rows = c.args.rows.now in
     let second = c.args.first + c.count_pieces.result in
     let ahead =
@@ -32,3 +32,8 @@ returns-clause-within g t c =
     c.in_ok-later.was c.join-requests.ensures.second in
     within_together (length rows) c.in_ok-requests.requests.commands c.in_ok-later.field-0.commands c.append.new.self.commands c.in_ok-append.ensures.commands
     ahead.1 behind.1
+
+pub sort_text-returns-clause-within : goal.sort_text-returns-clause-within
+sort_text-returns-clause-within g t c =
+    within_together (length c.args.rows.now) c.in_ok-requests.requests.commands c.in_ok-sort_halves.field-0.commands c.append.new.self.commands
+    c.in_ok-append.ensures.commands c.in_ok-requests.ensures.way.within c.in_ok-sort_halves.ensures.within

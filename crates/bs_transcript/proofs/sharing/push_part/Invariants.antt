@@ -1,10 +1,10 @@
 use Rattle.std.proofs.Common.{◌≡◌, ◌≤◌, ◌++◌, drop}
 use Rattle.bs_transcript.specs.Parts.{all_lines_of, part_of}
-use Rattle.bs_transcript.proofs.sharing.part.Given as goal
+use Rattle.bs_transcript.proofs.sharing.push_part.Given as goal
 
 -- the lines so far, then those that are left
 abbrev pub invariant-loop-section : goal.invariant-loop-section
 invariant-loop-section l = record {
-  told : l.text.items ++ part_of l.first l.last (all_lines_of (drop l.section-index l.sections) l.strays) ≡ part_of l.from l.until (all_lines_of l.sections l.strays);
+  told : l.text.items ++ part_of l.first l.last (all_lines_of (drop l.section-index l.sections) l.strays) ≡ l.fn.text.items ++ part_of l.from l.until (all_lines_of l.sections l.strays);
   order : l.first ≤ l.last;
 }

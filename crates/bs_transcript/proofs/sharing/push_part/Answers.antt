@@ -1,7 +1,7 @@
 use Rattle.std.proofs.Common.{◌+◌, ◌-◌, ◌≡◌, ◌++◌, ◌∙◌, length, drop, ap, arith, rules}
 use Rattle.bs_transcript.specs.Parts.{all_lines_of, part_of}
 use Rattle.bs_transcript.proofs.PartLines.{one_more_made}
-use Rattle.bs_transcript.proofs.sharing.part.Goals as goal
+use Rattle.bs_transcript.proofs.sharing.push_part.Goals as goal
 
 pub loop-section-preserved : goal.loop-section-preserved
 loop-section-preserved c =
