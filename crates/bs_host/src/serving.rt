@@ -173,6 +173,8 @@ pub fn serve_and_close<R: Threads + Wait + Sync, G: Gate, W: Write>(
     let Hosted { core, text } = transcript(rt, alloc, input, blocks, workers, gate)?;
     let closing = close(rt, core, workers);
     let written = write_parts(&text, output);
+    // Giving up the core takes longer than writing, so the text goes meanwhile.
+    drop(text);
     if let Some(thread) = closing {
         thread.join(rt);
     }
