@@ -9,6 +9,10 @@ use thiserror::Error;
 
 const BLOCK: usize = 65_536;
 
+/// As many bytes as are read of the longest file, or of a longer one. Memory that nothing is written to costs nothing, and bytes that
+/// have room from the beginning are never moved.
+const ROOM: usize = MOST_FILE_BYTES + BLOCK;
+
 /// Why a command file was not read.
 #[derive(Debug, Drop, Error)]
 pub enum ReadFault {
@@ -28,7 +32,9 @@ pub fn read_input<R: Read>(alloc: Global, input: &mut R) -> Result<Vec<u8>, Read
     ensures short { IfOk result (λ bytes. length bytes.items ≤ MOST_FILE_BYTES) }
     ensures long { IsErrOf result ReadFault.TooLong → IfSome (R.remaining input.old) (λ left. MOST_FILE_BYTES < length left) }
 {
-    let mut bytes = Vec::new(alloc);
+    let Ok(mut bytes) = Vec::with_capacity(alloc, ROOM) else {
+        return Err(ReadFault::Memory);
+    };
     let mut block = [0u8; BLOCK];
     'reads: while bytes.len() <= MOST_FILE_BYTES {
         let Ok(count) = input.read(&mut block) else {

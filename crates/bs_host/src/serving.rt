@@ -1,8 +1,10 @@
 //! A command file is served: its plan and its lines are read, a core answers them, and the transcript is written.
 ghost use Rattle.std.specs.Prelude.{◌≡◌, ◌*◌, ◌≤◌, None, Ok, length, IfOk, IfErr, OnOk, IfSome, option_copied};
 ghost use Rattle.std.specs.Io.KnownBytes.{Appends};
+ghost use Rattle.std.specs.Thread.{IsSync};
 ghost use Rattle.bs_sched.specs.Core.{opened_core};
-ghost use Rattle.bs_host.specs.File.{pieces_after};
+ghost use Rattle.bs_host.specs.File.{pieces_of, pieces_after};
+ghost use Rattle.bs_host.specs.Requests.{requests_of};
 ghost use Rattle.bs_host.specs.Hosted.{Hosts, HostsLines};
 ghost use Rattle.bs_host.specs.Routing.{routes_from, strays_in, strays_of};
 ghost use Rattle.bs_host.specs.Faults.{refusal_of, refusal_of_plan, IsRefusal, IsFault, Leaves};
@@ -11,17 +13,18 @@ ghost use Rattle.bs_host.specs.Transcript.{core_text_of, transcript_of};
 use crate::fault::Fault;
 use crate::limits::{BLOCK_BYTES, MOST_FILE_BYTES};
 use crate::pieces::cut_piece;
+use crate::requests::Requests;
 use crate::sections::compare_and_tell;
-use crate::sorting::sort_lines;
-use bs_board::Plan;
+use crate::sorting::{Readers, sort_lines};
+use bs_board::{Plan, Rows};
 use bs_json::read_plan;
 use bs_sched::Core;
 use bs_transcript::{Parts, write_parts};
-use bs_workers::{Gate, Given, work_in_crews};
+use bs_workers::{Gate, Given, Run, Shop};
 use std::alloc::{AllocError, Global};
 use std::io::Write;
 use std::sync::Wait;
-use std::thread::{JoinHandle, Threads, spawn};
+use std::thread::{JoinHandle, Threads, join, spawn};
 
 /// A core that has answered the lines of a file, and the text of all that is told of them.
 #[derive(Drop)]
@@ -62,6 +65,89 @@ fn count_workers(crews: usize, size: usize) -> Result<usize, AllocError>
     crews.checked_mul(size).ok_or(AllocError)
 }
 
+/// How many of so many threads read lines at first. The others work meanwhile, and so do these once all lines are read.
+fn count_readers(threads: usize) -> usize {
+    (threads / 2).max(1)
+}
+
+/// What the lines of a text ask for that follow the plan in a file. It is handed in while the others are read, and once all are
+/// read, those that read them work until the end, if there are others at it.
+fn read_and_work<R: Threads + Wait + Sync, G: Gate>(
+    rt: &R,
+    alloc: Global,
+    rows: &Rows,
+    text: &[u8],
+    threads: usize,
+    readers: &Readers,
+    gate: &G,
+) -> Result<Requests, AllocError>
+    requires short { length text.now ≤ MOST_FILE_BYTES }
+    ensures { IfOk result (λ r. r ≡ requests_of (routes_from rows.now 2 (pieces_of text.now))) }
+{
+    let requests = sort_lines(rt, alloc, rows, text, readers);
+    let shop = readers.shop();
+    if requests.is_err() {
+        shop.stop(rt, Run::Memory);
+    }
+    shop.close(rt);
+    if threads > 1 {
+        shop.work_in_threads(rt, alloc, 0..count_readers(threads), gate);
+    }
+    requests
+}
+
+/// The same, by so many threads: some read, and the others work from the beginning.
+fn read_beside_others<R: Threads + Wait + Sync, G: Gate>(
+    rt: &R,
+    alloc: Global,
+    rows: &Rows,
+    text: &[u8],
+    threads: usize,
+    readers: &Readers,
+    gate: &G,
+) -> Result<Requests, AllocError>
+    requires short { length text.now ≤ MOST_FILE_BYTES }
+    ensures { IfOk result (λ r. r ≡ requests_of (routes_from rows.now 2 (pieces_of text.now))) }
+{
+    if threads <= 1 {
+        return read_and_work(rt, alloc, rows, text, threads, readers, gate);
+    }
+    let (_, requests) = join(
+        rt,
+        || {
+            let others = count_readers(threads)..threads;
+            readers.shop().work_in_threads(rt, alloc, others, gate)
+        },
+        || -> Result<Requests, AllocError>
+            requires { IsSync R.row × (length text.now ≤ MOST_FILE_BYTES) }
+            ensures { IfOk result (λ r. r ≡ requests_of (routes_from rows.entry.now 2 (pieces_of text.entry.now))) }
+        { read_and_work(rt, alloc, rows, text, threads, readers, gate) },
+    );
+    requests
+}
+
+/// What the lines ask for that follow the plan in a file, where there are any: handed in and worked.
+fn read_all<R: Threads + Wait + Sync, G: Gate>(
+    rt: &R,
+    alloc: Global,
+    rows: &Rows,
+    rest: Option<&[u8]>,
+    threads: usize,
+    readers: &Readers,
+    gate: &G,
+) -> Result<Requests, AllocError>
+    requires short { IfSome rest (λ text. length text.now ≤ MOST_FILE_BYTES) }
+    ensures { IfOk result (λ r. r ≡ requests_of (routes_from rows.now 2 (pieces_after (option_copied rest.entry)))) }
+{
+    match rest {
+        None => {
+            readers.shop().close(rt);
+            Ok(Requests::new(alloc))
+        }
+        Some(text) => read_beside_others(rt, alloc, rows, text, threads, readers, gate),
+    }
+}
+
 /// Answers the lines that follow the plan in a file, where there are any, and tells of them.
 #[tactic(auto, using(crate::proofs::HostedCore::run_refusal))]
 fn host_plan<R: Threads + Wait + Sync, G: Gate>(
@@ -82,13 +168,15 @@ fn host_plan<R: Threads + Wait + Sync, G: Gate>(
     ensures served { OnOk result (refusal_of_plan blocks (Ok plan) ≡ None) }
     ensures fault { IfErr result (IsRefusal (refusal_of_plan blocks (Ok plan))) }
 {
-    let requests = sort_lines(rt, alloc, &plan.rows, rest, workers)?;
-    let crew = crew_size(plan.rows.as_slice().len(), workers);
+    let rows = plan.rows.copy(alloc)?;
+    let crew = crew_size(rows.as_slice().len(), workers);
     let members = count_workers(workers, crew)?;
     let core = open_core(alloc, plan, blocks, members)?;
     let given = Given::of(alloc, &core)?;
-    let commands = requests.commands.as_slice();
-    let core = work_in_crews(rt, alloc, core, commands, workers, crew, gate)?;
+    let shop = Shop::new(alloc, core, workers, crew)?;
+    let readers = Readers::new(count_readers(workers), shop);
+    let requests = read_all(rt, alloc, &rows, rest, workers, &readers, gate)?;
+    let core = readers.into_shop().finish(rt, alloc, gate)?;
     let (is_run, text) = compare_and_tell(rt, alloc, given, &core, requests, workers);
     if is_run {
         Ok(Hosted { core, text: text? })

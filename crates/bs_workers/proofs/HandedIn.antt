@@ -1,9 +1,9 @@
 -- The commands that a journal hands in, looked at one by one, and what a quiet core is that was handed them.
-use Rattle.std.proofs.Common.{◌≡◌, ℕ, ◌+◌, ◌<◌, true, List, [], ◌∷◌, ◌++◌, length, take, get_or, refl, sym, ap, subst, ◌∙◌, inl, inr}
+use Rattle.std.proofs.Common.{◌≡◌, ℕ, ◌+◌, ◌<◌, true, List, [], ◌∷◌, ◌++◌, length, take, drop, get_or, refl, sym, ap, subst, ◌∙◌, inl, inr}
 use Rattle.std.specs.Prelude.{nat_eq, nat_lt}
 use Rattle.std.specs.List.{list_all}
 use Rattle.std.proofs.lemmas.Bool.{cases_Bool, ltb-true, ltb-false}
-use Rattle.std.proofs.lemmas.List.{append_assoc, take_more, get_or_past}
+use Rattle.std.proofs.lemmas.List.{append-nil, append_assoc, append_cancel_left, take-append-drop, take_more, drop_more, get_or_past}
 use Rattle.std.proofs.lemmas.List.Sums.{AllPass-from_list_all}
 use Rattle.bs_board.specs.declared.commands.command.Command.{Command}
 use Rattle.bs_board.specs.plans.Plan.{GameRow}
@@ -17,7 +17,7 @@ use Rattle.bs_sched.specs.Journal.{KeepsApart}
 use Rattle.bs_sched.specs.Lane.{Lane, empty_lane, is_quiet}
 use Rattle.bs_sched.specs.Machine.{lane_of}
 use Rattle.bs_sched.proofs.HandedCommands.{served}
-use Rattle.bs_workers.specs.Given.{IsAsGiven, IsRunFrom}
+use Rattle.bs_workers.specs.Given.{CannotHandIn, IsAsGiven, IsRunFrom}
 use Rattle.bs_workers.specs.Run.{commands_for}
 
 -- one event more
@@ -37,6 +37,28 @@ hands_more events i e commands left rest within is before next =
     = ap (λ (all : List Event). hands_of all) more ∙ hands_append (take i events) (e ∷ []) in
     before ∙ ap (λ all. hands_of (take i events) ++ all) next ∙ sym (append_assoc (hands_of (take i events)) (hands_of (e ∷ [])) rest)
     ∙ ap (λ all. all ++ rest) (sym hands)
+
+-- an event that hands in another command than the first that is left
+
+hands_around : (events : List Event) (i : ℕ) (e : Event) → i < length events → e ≡ get_or events i e
+    → hands_of events ≡ hands_of (take i events) ++ (hands_of (e ∷ []) ++ hands_of (drop (i + 1) events))
+hands_around events i e within is =
+    let behind : drop i events ≡ e ∷ drop (i + 1) events
+    = drop_more events i e within ∙ ap (λ (x : Event). x ∷ drop (i + 1) events) (sym is) in
+    let parts : events ≡ take i events ++ e ∷ drop (i + 1) events
+    = sym (take-append-drop i events) ∙ ap (λ (rest : List Event). take i events ++ rest) behind in
+    ap (λ (all : List Event). hands_of all) parts ∙ hands_append (take i events) (e ∷ drop (i + 1) events)
+    ∙ ap (λ rest. hands_of (take i events) ++ rest) (hands_append (e ∷ []) (drop (i + 1) events))
+
+pub not_handed : (events : List Event) (i : ℕ) (e : Event) (commands left : List (ℕ × Command)) → i < length events → e ≡ get_or events i e
+    → commands ≡ hands_of (take i events) ++ left → CannotHandIn (e ∷ []) left → hands_of events ≡ commands → ⊥
+not_handed events i e commands left within is before cannot all =
+    cannot (hands_of (drop (i + 1) events))
+    (append_cancel_left (hands_of (take i events)) left (hands_of (e ∷ []) ++ hands_of (drop (i + 1) events))
+    (sym before ∙ sym all ∙ hands_around events i e within is))
+
+pub none_left : (commands left : List (ℕ × Command)) → commands ≡ commands ++ left → left ≡ []
+none_left commands left all = append_cancel_left commands left [] (sym all ∙ sym (append-nil commands))
 
 -- a quiet core whose journal hands in the commands has served them
 
@@ -78,3 +100,9 @@ run_from cap rows blocks commands new apart given handed =
           let all = served_one cap new game there apart given.quiet in
           rw (given.plan, handed) at all;
     }
+
+-- what a run left is as it was given
+
+pub as_given : (rows : List GameRow) (blocks : ℕ) (commands : List (ℕ × Command)) (new : CoreView) → IsRunFrom rows blocks commands new
+    → IsAsGiven rows blocks new
+as_given rows blocks commands new run = record { plan = run.plan; as_many = run.as_many; quiet = run.quiet }

@@ -7,8 +7,11 @@ use std::alloc::{AllocError, Global};
 use std::sync::atomic::AtomicU64;
 use std::sync::atomic::Ordering::SeqCst;
 
-/// A thread's workers, and where their jobs are. A worker may have one job out that begins or joins, so a thread that takes
-/// several jobs in one turn at the desk takes them for several workers.
+/// The most parts that a move has, and so the most jobs that a worker takes in one turn at the desk.
+pub(crate) const MOST_PARTS: usize = 4;
+
+/// A thread's workers, and where their jobs are. A worker may have one job out that begins or joins, or all parts of a move, so
+/// a thread that takes several jobs in one turn at the desk takes them for several workers.
 #[derive(Drop)]
 pub(crate) struct Crew {
     /// The number of the thread, which a gate is told.
@@ -27,6 +30,8 @@ pub(crate) struct Crew {
     cleared: Vec<Box<Input>>,
     /// Counts what was read ahead. Nobody asks for it: that it is counted keeps the compiler from leaving the reading out.
     read: AtomicU64,
+    /// Whether it came for jobs and has none yet.
+    waits: bool,
     /// Why one of its jobs came to nothing.
     fault: Option<Run>,
 }
@@ -48,15 +53,17 @@ impl Crew {
     /// asked for here.
     pub(crate) fn new(alloc: Global, thread: usize, size: usize) -> Result<Self, AllocError> {
         let size = size.max(1);
+        let room = size.saturating_mul(MOST_PARTS);
         Ok(Crew {
             thread,
             first: thread.saturating_mul(size),
             size,
-            tickets: Vec::with_capacity(alloc, size)?,
-            done: Vec::with_capacity(alloc, size)?,
-            spent: Vec::with_capacity(alloc, size)?,
-            cleared: Vec::with_capacity(alloc, size)?,
+            tickets: Vec::with_capacity(alloc, room)?,
+            done: Vec::with_capacity(alloc, room)?,
+            spent: Vec::with_capacity(alloc, room)?,
+            cleared: Vec::with_capacity(alloc, room)?,
             read: AtomicU64::new(0),
+            waits: false,
             fault: None,
         })
     }
@@ -79,6 +86,18 @@ impl Crew {
     /// Whether it has a job to be worked.
     pub(crate) fn has_jobs(&self) -> bool {
         !self.tickets.is_empty()
+    }
+
+    /// It comes to the desk for jobs. Whether it came from work, and had not come for them before.
+    pub(crate) fn comes_for_jobs(&mut self) -> bool {
+        let comes = !self.waits;
+        self.waits = true;
+        comes
+    }
+
+    /// It has jobs, and goes to work them.
+    pub(crate) fn goes_to_work(&mut self) {
+        self.waits = false;
     }
 
     /// Why one of its jobs came to nothing.

@@ -1,7 +1,8 @@
 //! The desk: a core, with what those that work at it have to know of one another.
-use crate::crew::Crew;
+use crate::crew::{Crew, MOST_PARTS};
 use crate::fault::Run;
-use bs_fiber::{Done, Holders, Input, Out, Ticket};
+use bs_board::seats_of_record;
+use bs_fiber::{Done, Holders, Input, JobKind, Out, Ticket};
 use bs_sched::{Core, Taken};
 use std::alloc::{AllocError, Global};
 
@@ -27,11 +28,26 @@ pub(crate) enum Next {
     End,
 }
 
+/// A record has this many bytes at least.
+const LEAST_RECORD: usize = 9;
+
+/// Whether the job is a part of a move that has parts behind it: each moves two seats of the board.
+fn has_parts_behind(ticket: &Ticket) -> bool {
+    let job = ticket.job();
+    let Some(record) = ticket.last() else {
+        return false;
+    };
+    let bytes = record.as_slice();
+    job.kind == JobKind::Part
+        && bytes.len() >= LEAST_RECORD
+        && 2 * (usize::from(job.part) + 1) < seats_of_record(bytes)
+}
+
 /// A core that commands are handed to and jobs are taken from.
 #[derive(Drop)]
-pub(crate) struct Desk<const CAP: usize> {
+pub struct Desk<const CAP: usize> {
     core: Core<CAP>,
-    /// How many threads have no job.
+    /// How many threads came for jobs and have none.
     idle: usize,
     /// Whether the last command is handed in.
     closed: bool,
@@ -40,11 +56,11 @@ pub(crate) struct Desk<const CAP: usize> {
 }
 
 impl<const CAP: usize> Desk<CAP> {
-    /// Nothing was done yet with that core, at which so many threads are to work.
-    pub(crate) fn new(core: Core<CAP>, threads: usize) -> Self {
+    /// Nothing was done yet with that core.
+    pub(crate) fn new(core: Core<CAP>) -> Self {
         Desk {
             core,
-            idle: threads,
+            idle: 0,
             closed: false,
             fault: None,
         }
@@ -141,9 +157,6 @@ impl<const CAP: usize> Desk<CAP> {
     /// all its parts ready, any other job one at most.
     fn bring_all(&mut self, crew: &mut Crew) -> bool {
         let brought = crew.count_done();
-        if brought > 0 {
-            self.idle = self.idle.saturating_add(1);
-        }
         let mut spreads = brought > 1;
         for _ in 0..brought {
             if let Some(done) = crew.take_done() {
@@ -157,18 +170,48 @@ impl<const CAP: usize> Desk<CAP> {
         spreads
     }
 
-    /// The thread takes so many jobs at most, one for each of its workers. Where there were fewer, what one is told that asks
-    /// for a job more.
-    fn assign_all(&mut self, alloc: Global, crew: &mut Crew, most: usize) -> Option<Next> {
-        for place in 0..most {
+    /// The worker takes a job, and where that is a part of a move the parts behind it too. Where there was none, what one is told
+    /// that asks for a job more.
+    fn assign_parts(&mut self, alloc: Global, crew: &mut Crew, worker: usize) -> Option<Next> {
+        for _ in 0..MOST_PARTS {
             let spent = crew.take_cleared();
-            match self.assign(alloc, crew.worker(place), spent) {
-                Assignment::Job(ticket) => crew.add(ticket),
+            match self.assign(alloc, worker, spent) {
+                Assignment::Job(ticket) => {
+                    let ends = !has_parts_behind(&ticket);
+                    crew.add(ticket);
+                    if ends {
+                        return None;
+                    }
+                }
                 Assignment::Wait => return Some(Next::Wait),
                 Assignment::End => return Some(Next::End),
             }
         }
         None
+    }
+
+    /// The thread takes jobs for each of its workers. Where there were fewer, what one is told that asks for a job more.
+    fn assign_all(&mut self, alloc: Global, crew: &mut Crew) -> Option<Next> {
+        for place in 0..crew.size() {
+            let fewer = self.assign_parts(alloc, crew, crew.worker(place));
+            if fewer.is_some() {
+                return fewer;
+            }
+        }
+        None
+    }
+
+    /// The thread takes one job.
+    fn assign_one(&mut self, alloc: Global, crew: &mut Crew) -> Option<Next> {
+        let spent = crew.take_cleared();
+        match self.assign(alloc, crew.worker(0), spent) {
+            Assignment::Job(ticket) => {
+                crew.add(ticket);
+                None
+            }
+            Assignment::Wait => Some(Next::Wait),
+            Assignment::End => Some(Next::End),
+        }
     }
 
     /// The thread brings back what it worked, and takes jobs for its workers: one job where another thread has none, or
@@ -177,17 +220,24 @@ impl<const CAP: usize> Desk<CAP> {
         if let Some(fault) = crew.fault() {
             self.stop(fault);
         }
+        if crew.comes_for_jobs() {
+            self.idle = self.idle.saturating_add(1);
+        }
         let spreads = self.bring_all(crew);
         if self.is_stopped() {
             return Next::End;
         }
         let shares = self.idle > 1;
-        let most = if shares { 1 } else { crew.size() };
-        let fewer = self.assign_all(alloc, crew, most);
+        let fewer = if shares || crew.size() == 1 {
+            self.assign_one(alloc, crew)
+        } else {
+            self.assign_all(alloc, crew)
+        };
         match fewer {
             Some(next) if !crew.has_jobs() => next,
             _ => {
                 self.idle = self.idle.saturating_sub(1);
+                crew.goes_to_work();
                 Next::Work {
                     calls: shares && spreads && fewer.is_none(),
                 }

@@ -14,7 +14,10 @@ mod tests;
 mod working;
 
 pub use comparing::Given;
+// A crate can name a shop in a contract only if the types of its fields are exported.
+#[doc(hidden)]
+pub use desk::Desk;
 pub use fault::Run;
 pub use gate::{Gate, OpenGate};
 pub use running::{run, run_in_crews};
-pub use working::work_in_crews;
+pub use shop::Shop;

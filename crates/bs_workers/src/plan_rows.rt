@@ -1,5 +1,5 @@
 //! The plan of a core: a copy of it, and whether a core has it still.
-ghost use Rattle.std.specs.Prelude.{◌≡◌, length, IsTrue, IfOk};
+ghost use Rattle.std.specs.Prelude.{◌≡◌, ◌↔◌, length, IsTrue, IfOk};
 
 use bs_board::Row;
 use bs_sched::Core;
@@ -21,14 +21,14 @@ pub(crate) fn copy_rows<const CAP: usize>(
 }
 
 fn is_same_row(row: &Row, other: &Row) -> bool
-    ensures { IsTrue result → row.now ≡ other.now }
+    ensures { IsTrue result ↔ row.now ≡ other.now }
 {
     row.game == other.game && row.quota == other.quota
 }
 
 /// Whether the core has these rows.
 pub(crate) fn has_rows<const CAP: usize>(core: &Core<CAP>, rows: &[Row]) -> bool
-    ensures { IsTrue result → core.now.games.rows ≡ rows.now }
+    ensures { IsTrue result ↔ core.now.games.rows ≡ rows.now }
 {
     if core.rows() != rows.len() {
         return false;

@@ -7,7 +7,8 @@ ghost use Rattle.bs_workers.specs.Run.{IsRunOf};
 use crate::comparing::Given;
 use crate::fault::Run;
 use crate::gate::Gate;
-use crate::working::work_in_crews;
+use crate::shop::Shop;
+use crate::working::hand_to_threads;
 use bs_fiber::SharedCommand;
 use bs_sched::Core;
 use std::alloc::Global;
@@ -32,7 +33,9 @@ pub fn run_in_crews<const CAP: usize, R: Threads + Wait + Sync, G: Gate>(
     ensures { IfOk result (λ done. IsRunOf core.entry commands.now done) }
 {
     let given = Given::of(alloc, &core)?;
-    let core = work_in_crews(rt, alloc, core, commands, threads, crew, gate)?;
+    let shop = Shop::new(alloc, core, threads, crew)?;
+    hand_to_threads(rt, alloc, &shop, commands, threads, gate);
+    let core = shop.finish(rt, alloc, gate)?;
     if given.is_left(&core, commands) {
         Ok(core)
     } else {

@@ -3,7 +3,7 @@
 ghost use Rattle.std.specs.Prelude.{◌≡◌, ◌<◌, ℕ, All, IsTrue, IfOk, length};
 ghost use Rattle.bs_sched.specs.Core.{opened_core};
 
-use crate::{Gate, Given, OpenGate, Run, run, run_in_crews, work_in_crews};
+use crate::{Gate, Given, OpenGate, Run, Shop, run, run_in_crews};
 use bs_board::limits::MOST_ROWS;
 use bs_board::plans::plan::have_distinct_names;
 use bs_board::{
@@ -233,10 +233,31 @@ fn a_run_is_told_from_another(rt: HostRuntime) -> Result<(), Fail> {
     let larger = Core::<524_288>::open(alloc, games(&rt, alloc, &["a", "b"])?, 13, 4)?;
     assert!(rt; !given.is_left(&core, commands));
     assert!(rt; given.is_left(&core, &commands[..0]));
-    let core = work_in_crews(&rt, alloc, core, commands, 2, 2, &OpenGate)?;
+    let shop = Shop::new(alloc, core, 2, 2)?;
+    for some in commands.chunks(5) {
+        assert!(rt; shop.hand(&rt, alloc, some));
+    }
+    shop.close(&rt);
+    shop.work_in_threads(&rt, alloc, 0..2, &OpenGate);
+    let core = shop.finish(&rt, alloc, &OpenGate)?;
     assert!(rt; given.is_left(&core, commands));
     assert!(rt; !given.is_left(&core, &commands[..0]));
     assert!(rt; !Given::of(alloc, &larger)?.is_left(&core, commands));
+    Ok(())
+}
+
+#[test]
+fn a_stopped_shop_has_no_core(rt: HostRuntime) -> Result<(), Fail> {
+    let alloc = rt.alloc();
+    let commands = commands(alloc)?;
+    for fault in [Run::Broken, Run::Memory] {
+        let core = Core::<524_288>::open(alloc, games(&rt, alloc, &["a", "b"])?, 12, 2)?;
+        let shop = Shop::new(alloc, core, 2, 1)?;
+        shop.stop(&rt, fault);
+        assert!(rt; !shop.hand(&rt, alloc, commands.as_slice()));
+        shop.work_in_threads(&rt, alloc, 0..2, &OpenGate);
+        assert_eq!(rt; shop.finish(&rt, alloc, &OpenGate).err(), Some(fault));
+    }
     Ok(())
 }
 

@@ -17,7 +17,7 @@ sort_halves-returns-clause-value g t c =
     IfOk-at_ok (λ r. (r ≡ requests_of (routes_from rows second (pieces_of c.in-Some.back.now))) × AreWithinPlan (length rows) r.commands)
     c.in_ok-later.was c.join-requests.ensures.second in
     requests_together rows c.args.first second (pieces_of c.args.text.now) (pieces_of c.in-Some.front.now) (pieces_of c.in-Some.back.now) c.append.new.self
-    c.in_ok-requests.requests c.in_ok-later.field-0 c.in-Some.ensures.pieces (ap (λ n. c.args.first + n) c.count_pieces.ensures.value) ahead.0 behind.0
+    c.in_ok-requests.requests c.in_ok-later.later c.in-Some.ensures.pieces (ap (λ n. c.args.first + n) c.count_pieces.ensures.value) ahead.0 behind.0
     c.in_ok-append.ensures.commands c.in_ok-append.ensures.strays
 
 pub sort_halves-returns-clause-within : goal.sort_halves-returns-clause-within
@@ -30,7 +30,7 @@ sort_halves-returns-clause-within g t c =
     let behind =
     IfOk-at_ok (λ r. (r ≡ requests_of (routes_from rows second (pieces_of c.in-Some.back.now))) × AreWithinPlan (length rows) r.commands)
     c.in_ok-later.was c.join-requests.ensures.second in
-    within_together (length rows) c.in_ok-requests.requests.commands c.in_ok-later.field-0.commands c.append.new.self.commands c.in_ok-append.ensures.commands
+    within_together (length rows) c.in_ok-requests.requests.commands c.in_ok-later.later.commands c.append.new.self.commands c.in_ok-append.ensures.commands
     ahead.1 behind.1
 
 pub sort_text-returns-clause-within : goal.sort_text-returns-clause-within

@@ -6,14 +6,14 @@ use Rattle.bs_host.proofs.SortedLines.{begins, goes_on, fewer_left}
 use Rattle.bs_host.proofs.sorting.sort_alone.Goals as goal
 
 pub lines-init : goal.lines-init
-lines-init c = record {
+lines-init g c = record {
   way = begins c.args.rows.now c.args.first (pieces_of c.args.text.now) c.new-requests.result c.new-requests.ensures.commands c.new-requests.ensures.strays;
   few = omega (arith, c.requires.short);
   fewer = omega arith;
 }
 
 pub lines-preserved : goal.lines-preserved
-lines-preserved c =
+lines-preserved g c =
     let fewer = fewer_left c.lines.left c.cut_piece.result.1 c.in-Some.text c.in-Some.is c.cut_piece.ensures.shorter in
     let cut = ap (λ o. pieces_after (option_copied o)) c.in-Some.is ∙ c.cut_piece.ensures.pieces in
     record {
@@ -25,4 +25,4 @@ lines-preserved c =
     }
 
 pub lines-smaller : goal.lines-smaller
-lines-smaller c = fewer_left c.lines.left c.cut_piece.result.1 c.in-Some.text c.in-Some.is c.cut_piece.ensures.shorter
+lines-smaller g c = fewer_left c.lines.left c.cut_piece.result.1 c.in-Some.text c.in-Some.is c.cut_piece.ensures.shorter

@@ -7,11 +7,11 @@ use Rattle.bs_host.proofs.SortedLines.{bytes_left}
 use Rattle.bs_host.proofs.sorting.sort_alone.Given as goal
 
 abbrev pub invariant-lines : goal.invariant-lines
-invariant-lines l = record {
+invariant-lines g l = record {
   way : IsUnderWay l.rows (routes_from l.rows l.first (pieces_of l.fn.text)) l.number (pieces_after (option_copied l.left)) l.requests;
   few : l.number + bytes_left l.left ≤ 2 ^ 63;
   fewer : bytes_left l.left ≤ length l.fn.text + 1;
 }
 
 abbrev pub decreases-lines : goal.decreases-lines
-decreases-lines l = bytes_left l.left
+decreases-lines g l = bytes_left l.left
