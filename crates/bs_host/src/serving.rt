@@ -208,11 +208,11 @@ fn transcript<R: Threads + Wait + Sync, G: Gate>(
     host_plan(rt, alloc, plan, rest, blocks, workers, gate)
 }
 
-/// Serves a command file from that many blocks, with so many workers, each a thread (a single one is the caller's): has a
-/// core answer each game's commands in the order of their lines, and then writes the transcript at once. Before each job the
-/// gate is asked, with the thread's number, from 0 on; the caller's own comes last. Where there are four games a thread or
-/// more, a thread takes jobs for several workers of the core. A fault other than a writer's is found before anything is
-/// written. The core is given back.
+/// Serves a command file from that many blocks, with so many workers, each a thread, of which one is the caller's: has a core
+/// answer each game's commands in the order of their lines, and then writes the transcript at once. Before each job the gate is
+/// asked, with the thread's number: the caller's own is 0 where there are several, and comes behind all others with what is left
+/// at the end, or alone. Where there are four games a thread or more, a thread takes jobs for several workers of the core. A fault
+/// other than a writer's is found before anything is written. The core is given back.
 pub fn serve<R: Threads + Wait + Sync, G: Gate, W: Write>(
     rt: &R,
     alloc: Global,
