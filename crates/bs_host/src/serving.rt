@@ -49,12 +49,12 @@ fn open_core(
 }
 
 /// The largest crew of a thread: so many jobs take so long that the turn at the lock between two of them counts for little.
-const LARGEST_CREW: usize = 8;
+const LARGEST_CREW: usize = 16;
 
-/// How many workers each of so many threads stands for: one, unless there are so many games that all crews together have jobs
-/// of half of them at most.
+/// How many workers each of so many threads stands for: as many as there are games for each thread, one at least. So all games go on
+/// at once, and come to their ends together.
 fn crew_size(games: usize, threads: usize) -> usize {
-    (games / threads.saturating_mul(2).max(1)).clamp(1, LARGEST_CREW)
+    (games / threads.max(1)).clamp(1, LARGEST_CREW)
 }
 
 /// How many workers so many crews of that size have. As many as can't be counted are answered as want of memory is: tables by
@@ -211,7 +211,7 @@ fn transcript<R: Threads + Wait + Sync, G: Gate>(
 /// Serves a command file from that many blocks, with so many workers, each a thread, of which one is the caller's: has a core
 /// answer each game's commands in the order of their lines, and then writes the transcript at once. Before each job the gate is
 /// asked, with the thread's number: the caller's own is 0 where there are several, and comes behind all others with what is left
-/// at the end, or alone. Where there are four games a thread or more, a thread takes jobs for several workers of the core. A fault
+/// at the end, or alone. Where there are two games a thread or more, a thread takes jobs for several workers of the core. A fault
 /// other than a writer's is found before anything is written. The core is given back.
 pub fn serve<R: Threads + Wait + Sync, G: Gate, W: Write>(
     rt: &R,

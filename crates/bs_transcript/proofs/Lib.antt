@@ -1,4 +1,5 @@
 mod Cuts
 pub mod PartBytes
 pub mod PartLines
+pub mod PiecesTogether
 pub mod WrittenBytes

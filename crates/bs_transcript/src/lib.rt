@@ -4,7 +4,9 @@
 
 mod lines;
 mod parts;
+mod pieces;
 mod sharing;
+mod sheet;
 mod spare;
 #[cfg(test)]
 mod tests;

@@ -1,14 +1,18 @@
-//! The text of a transcript made by several threads: whoever has lines left to make gives half of them to a thread that is spare.
-ghost use Rattle.std.specs.Prelude.{◌≡◌, ◌++◌, ◌+◌, ◌<◌, ◌≤◌, length, OnOk, IfOk, IfSome};
+//! The text of a transcript made by several threads, each of which takes some lines, makes them and then looks which are left.
+ghost use Rattle.std.specs.Prelude.{◌≡◌, ◌++◌, ◌+◌, ◌<◌, ◌≤◌, length, All, OnOk, IfOk, IfSome};
 ghost use Rattle.std.specs.Thread.{IsSync};
 ghost use Rattle.bs_transcript.specs.Lines.{text_of};
+ghost use Rattle.bs_transcript.specs.Pieces.{IsPieceOf};
 ghost use Rattle.bs_transcript.specs.Parts.{lines_of_section, lines_of_strays, all_lines_of, part_of};
 
 use crate::lines::{Section, push_final, push_replies, push_strays, text};
 use crate::parts::Parts;
-use crate::spare::SpareThreads;
+use crate::pieces::{Piece, both, put_together};
+use crate::sheet::Sheet;
 use bs_json::Stray;
 use std::alloc::{AllocError, Global};
+use std::sync::atomic::AtomicUsize;
+use std::sync::atomic::Ordering::SeqCst;
 use std::thread::{Threads, join};
 
 /// How many lines there are, if a number has room for it.
@@ -93,25 +97,6 @@ fn push_part(
     push_some_strays(alloc, strays, first, last, text)
 }
 
-/// Lines in their order, of some of which a text can be made.
-trait Sheet {
-    ghost use Rattle.std.specs.Prelude.{◌≡◌, ◌≤◌, ◌++◌, ℕ, List, OnOk};
-    ghost use Rattle.bs_transcript.specs.Parts.{part_of};
-
-    ghost lines: { Self → List (List ℕ) };
-
-    /// The lines from a place on and before another go to the end of a text.
-    fn push_part(
-        &self,
-        alloc: Global,
-        from: usize,
-        until: usize,
-        text: &mut Vec<u8>,
-    ) -> Result<(), AllocError>
-        requires { from ≤ until }
-        ensures { OnOk result (text.new.items ≡ text.old.items ++ part_of from until (lines self.now)) };
-}
-
 /// The lines of a transcript.
 #[derive(Clone, Copy)]
 struct Transcript<'t> {
@@ -135,77 +120,76 @@ impl<'t> Sheet for Transcript<'t> {
     }
 }
 
-/// How many lines a thread makes before it looks again whether another is spare.
-const LINES_AT_ONCE: usize = 32;
+/// How many lines a thread makes before it looks which are to be made next: they take some times as long as to start a thread, so
+/// none is started for fewer.
+const LINES_AT_ONCE: usize = 512;
 
-/// The fewest lines of which half are given away: they take some times as long as to start a thread.
-const FEWEST_TO_SHARE: usize = 512;
-
-/// The text of the first lines from a place on and before another, and the place of the first that is not made: there is one
-/// where a spare thread was taken for half of the others.
-fn part_alone<T: Sheet>(
-    alloc: Global,
-    sheet: &T,
-    from: usize,
-    until: usize,
-    spare: &SpareThreads,
-) -> Result<(Vec<u8>, usize), AllocError>
-    requires { from ≤ until }
-    ensures text { IfOk result (λ made. made.0.items ≡ part_of from made.1 (T.lines sheet.now)) }
-    ensures begun { IfOk result (λ made. from ≤ made.1) }
-    ensures end { IfOk result (λ made. made.1 ≤ until) }
-    ensures some { IfOk result (λ made. made.1 < until → made.1 + 2 ≤ until) }
-{
-    let mut text = Vec::new(alloc);
-    let mut at = from;
-    'lines: while at < until {
-        if until - at >= FEWEST_TO_SHARE && spare.take_one() {
-            return Ok((text, at));
-        }
-        let next = at + LINES_AT_ONCE.min(until - at);
-        sheet.push_part(alloc, at, next, &mut text)?;
-        at = next;
-    }
-    Ok((text, until))
+/// Lines that several threads make, each some at a time: how often some were taken. Only who makes which goes by it, and no result.
+#[derive(Drop)]
+struct Queue {
+    taken: AtomicUsize,
 }
 
-/// The text of lines in parts, by the caller's thread and those that are spare, before or while it is made.
-fn parts_by<R: Threads + Sync, T: Sheet + Sync>(
+impl Queue {
+    /// The place of the next lines that nobody has taken yet. They are taken with it.
+    fn take_some(&self) -> usize {
+        self.taken
+            .fetch_add(1, SeqCst)
+            .saturating_mul(LINES_AT_ONCE)
+    }
+}
+
+/// Pieces of the first lines of a sheet: those that nobody else takes meanwhile, one after the other.
+fn make_pieces<T: Sheet>(
+    alloc: Global,
+    sheet: &T,
+    lines: usize,
+    queue: &Queue,
+) -> Result<Vec<Piece>, AllocError>
+    ensures { IfOk result (λ pieces. All (IsPieceOf (T.lines sheet.now)) pieces.items) }
+{
+    let mut pieces = Vec::new(alloc);
+    for _turn in 0..lines {
+        let from = queue.take_some();
+        if from >= lines {
+            return Ok(pieces);
+        }
+        let until = from + LINES_AT_ONCE.min(lines - from);
+        pieces.push(Piece::of(alloc, sheet, from, until)?)?;
+    }
+    Ok(pieces)
+}
+
+/// The same by so many threads, of which one is the caller's.
+fn pieces_by<R: Threads + Sync, T: Sheet + Sync>(
     rt: &R,
     alloc: Global,
     sheet: &T,
-    from: usize,
-    until: usize,
-    spare: &SpareThreads,
-) -> Result<Parts, AllocError>
-    requires { from ≤ until }
-    ensures { IfOk result (λ text. text ≡ part_of from until (T.lines sheet.now)) }
+    lines: usize,
+    threads: usize,
+    queue: &Queue,
+) -> Result<Vec<Piece>, AllocError>
+    ensures { IfOk result (λ pieces. All (IsPieceOf (T.lines sheet.now)) pieces.items) }
 {
-    let (text, at) = part_alone(alloc, sheet, from, until, spare)?;
-    let mut made = Parts::of(alloc, text)?;
-    if at >= until {
-        spare.give_back();
-        return Ok(made);
+    if threads <= 1 {
+        return make_pieces(alloc, sheet, lines, queue);
     }
-    let middle = at + (until - at) / 2;
-    let (front, back) = join(
+    let (some, others) = join(
         rt,
-        || -> Result<Parts, AllocError>
-            requires { IsSync R.row × IsSync T.row × (at ≤ middle) }
-            ensures { IfOk result (λ text. text ≡ part_of at middle (T.lines sheet.entry.now)) }
-        { parts_by(rt, alloc, sheet, at, middle, spare) },
-        || -> Result<Parts, AllocError>
-            requires { IsSync R.row × IsSync T.row × (middle ≤ until) }
-            ensures { IfOk result (λ text. text ≡ part_of middle until (T.lines sheet.entry.now)) }
-        { parts_by(rt, alloc, sheet, middle, until, spare) },
+        || -> Result<Vec<Piece>, AllocError>
+            requires { IsSync T.row }
+            ensures { IfOk result (λ pieces. All (IsPieceOf (T.lines sheet.entry.now)) pieces.items) }
+        { make_pieces(alloc, sheet, lines, queue) },
+        || -> Result<Vec<Piece>, AllocError>
+            requires { IsSync R.row × IsSync T.row × (1 < threads) }
+            ensures { IfOk result (λ pieces. All (IsPieceOf (T.lines sheet.entry.now)) pieces.items) }
+        { pieces_by(rt, alloc, sheet, lines, threads - 1, queue) },
     );
-    made.append(front?)?;
-    made.append(back?)?;
-    Ok(made)
+    both(some?, others?)
 }
 
-/// The text of so many first lines, in parts.
-fn parts_of<R: Threads + Sync, T: Sheet + Sync>(
+/// The text of so many first lines, in parts that at most so many threads make.
+fn parts_by<R: Threads + Sync, T: Sheet + Sync>(
     rt: &R,
     alloc: Global,
     sheet: &T,
@@ -214,7 +198,12 @@ fn parts_of<R: Threads + Sync, T: Sheet + Sync>(
 ) -> Result<Parts, AllocError>
     ensures { IfOk result (λ text. text ≡ part_of 0 lines (T.lines sheet.now)) }
 {
-    parts_by(rt, alloc, sheet, 0, lines, &SpareThreads::beside(workers))
+    let queue = Queue {
+        taken: AtomicUsize::new(0),
+    };
+    let threads = workers.min(lines / LINES_AT_ONCE + 1);
+    let pieces = pieces_by(rt, alloc, sheet, lines, threads, &queue)?;
+    put_together(alloc, sheet, lines, pieces)
 }
 
 /// The text that `text` makes, in parts that at most so many threads make side by side. With one worker, or none, no thread
@@ -231,7 +220,7 @@ pub fn text_by<R: Threads + Sync>(
 {
     let told = Transcript { sections, strays };
     match count_lines(sections, strays) {
-        Some(lines) => parts_of(rt, alloc, &told, lines, workers),
+        Some(lines) => parts_by(rt, alloc, &told, lines, workers),
         None => Parts::of(alloc, text(alloc, sections, strays)?),
     }
 }

@@ -43,12 +43,23 @@ fn has_parts_behind(ticket: &Ticket) -> bool {
         && 2 * (usize::from(job.part) + 1) < seats_of_record(bytes)
 }
 
+/// What a thread brought back.
+#[derive(Clone, Copy)]
+struct Brought {
+    /// Of how many games there may be a job ready now that was not before.
+    games: usize,
+    /// Whether that may be more jobs than one: a move that goes makes all its parts ready, any other job one at most.
+    spreads: bool,
+}
+
 /// A core that commands are handed to and jobs are taken from.
 #[derive(Drop)]
 pub struct Desk<const CAP: usize> {
     core: Core<CAP>,
     /// How many threads came for jobs and have none.
     idle: usize,
+    /// Whether who looked last found no job more, and since then none was left by who could have taken it.
+    drained: bool,
     /// Whether the last command is handed in.
     closed: bool,
     /// Why the run was broken off.
@@ -61,6 +72,7 @@ impl<const CAP: usize> Desk<CAP> {
         Desk {
             core,
             idle: 0,
+            drained: false,
             closed: false,
             fault: None,
         }
@@ -92,6 +104,7 @@ impl<const CAP: usize> Desk<CAP> {
         for (game, command) in commands.drain(..) {
             self.hand(game, command);
         }
+        self.drained = false;
     }
 
     /// All commands are handed in.
@@ -153,21 +166,25 @@ impl<const CAP: usize> Desk<CAP> {
         }
     }
 
-    /// The thread brings back all that it worked. Whether that may have made more jobs ready than one: a move that goes makes
-    /// all its parts ready, any other job one at most.
-    fn bring_all(&mut self, crew: &mut Crew) -> bool {
-        let brought = crew.count_done();
-        let mut spreads = brought > 1;
-        for _ in 0..brought {
+    /// The thread brings back all that it worked.
+    fn bring_all(&mut self, crew: &mut Crew) -> Brought {
+        let mut brought = Brought {
+            games: 0,
+            spreads: crew.count_done() > 1,
+        };
+        for _ in 0..crew.count_done() {
             if let Some(done) = crew.take_done() {
-                spreads |= matches!(done.out(), Out::Goes);
+                brought.spreads |= matches!(done.out(), Out::Goes);
+                if done.ticket().job().part == 0 {
+                    brought.games = brought.games.saturating_add(1);
+                }
                 let worker = done.ticket().worker() as usize;
                 if let Some(spent) = self.put(worker, done) {
                     crew.keep_spent(spent);
                 }
             }
         }
-        spreads
+        brought
     }
 
     /// The worker takes a job, and where that is a part of a move the parts behind it too. Where there was none, what one is told
@@ -190,15 +207,28 @@ impl<const CAP: usize> Desk<CAP> {
         None
     }
 
-    /// The thread takes jobs for each of its workers. Where there were fewer, what one is told that asks for a job more.
-    fn assign_all(&mut self, alloc: Global, crew: &mut Crew) -> Option<Next> {
-        for place in 0..crew.size() {
+    /// The thread takes jobs for so many of its workers. Where there were fewer, what one is told that asks for a job more.
+    fn assign_some(&mut self, alloc: Global, crew: &mut Crew, workers: usize) -> Option<Next> {
+        for place in 0..workers {
             let fewer = self.assign_parts(alloc, crew, crew.worker(place));
             if fewer.is_some() {
                 return fewer;
             }
         }
         None
+    }
+
+    /// For how many of its workers a thread takes jobs that brought back those of so many games. Where others have none it leaves
+    /// them their share. Where nothing was left when somebody looked last, there is no more than its own games have next: to look
+    /// through all games for more would take long, and each of them would go from its thread's cache to this one's.
+    fn count_asking(&self, size: usize, games: usize) -> usize {
+        if self.idle > 1 {
+            (games / self.idle.max(1)).clamp(1, size.max(1))
+        } else if self.drained && games > 0 {
+            games.min(size)
+        } else {
+            size
+        }
     }
 
     /// The thread takes one job.
@@ -214,8 +244,8 @@ impl<const CAP: usize> Desk<CAP> {
         }
     }
 
-    /// The thread brings back what it worked, and takes jobs for its workers: one job where another thread has none, or
-    /// else one for each. It calls the others where it may have left some that they could take.
+    /// The thread brings back what it worked, and takes jobs for its workers: for fewer of them where other threads have none, which
+    /// it then calls where it may have left some that they could take.
     pub(crate) fn exchange(&mut self, alloc: Global, crew: &mut Crew) -> Next {
         if let Some(fault) = crew.fault() {
             self.stop(fault);
@@ -223,23 +253,25 @@ impl<const CAP: usize> Desk<CAP> {
         if crew.comes_for_jobs() {
             self.idle = self.idle.saturating_add(1);
         }
-        let spreads = self.bring_all(crew);
+        let brought = self.bring_all(crew);
         if self.is_stopped() {
             return Next::End;
         }
         let shares = self.idle > 1;
-        let fewer = if shares || crew.size() == 1 {
+        let workers = self.count_asking(crew.size(), brought.games);
+        let fewer = if workers == 1 && (shares || crew.size() == 1) {
             self.assign_one(alloc, crew)
         } else {
-            self.assign_all(alloc, crew)
+            self.assign_some(alloc, crew, workers)
         };
+        self.drained = fewer.is_some() || (self.drained && !shares);
         match fewer {
             Some(next) if !crew.has_jobs() => next,
             _ => {
                 self.idle = self.idle.saturating_sub(1);
                 crew.goes_to_work();
                 Next::Work {
-                    calls: shares && spreads && fewer.is_none(),
+                    calls: shares && brought.spreads && fewer.is_none(),
                 }
             }
         }
