@@ -1,5 +1,5 @@
 mod Cuts
 pub mod PartBytes
 pub mod PartLines
-pub mod PiecesTogether
+pub mod Together
 pub mod WrittenBytes

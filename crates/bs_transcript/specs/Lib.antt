@@ -1,4 +1,4 @@
 pub mod Bytes
 pub mod Lines
 pub mod Parts
-pub mod Pieces
+pub mod Fragments

@@ -2,9 +2,9 @@
 //! writer.
 #![tactic(auto)]
 
+mod fragments;
 mod lines;
 mod parts;
-mod pieces;
 mod sharing;
 mod sheet;
 mod spare;

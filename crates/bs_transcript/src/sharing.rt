@@ -2,12 +2,12 @@
 ghost use Rattle.std.specs.Prelude.{◌≡◌, ◌++◌, ◌+◌, ◌<◌, ◌≤◌, length, All, OnOk, IfOk, IfSome};
 ghost use Rattle.std.specs.Thread.{IsSync};
 ghost use Rattle.bs_transcript.specs.Lines.{text_of};
-ghost use Rattle.bs_transcript.specs.Pieces.{IsPieceOf};
+ghost use Rattle.bs_transcript.specs.Fragments.{IsFragmentOf};
 ghost use Rattle.bs_transcript.specs.Parts.{lines_of_section, lines_of_strays, all_lines_of, part_of};
 
+use crate::fragments::{Fragment, both, put_together};
 use crate::lines::{Section, push_final, push_replies, push_strays, text};
 use crate::parts::Parts;
-use crate::pieces::{Piece, both, put_together};
 use crate::sheet::Sheet;
 use bs_json::Stray;
 use std::alloc::{AllocError, Global};
@@ -139,51 +139,51 @@ impl Queue {
     }
 }
 
-/// Pieces of the first lines of a sheet: those that nobody else takes meanwhile, one after the other.
-fn make_pieces<T: Sheet>(
+/// Fragments of the first lines of a sheet: those that nobody else takes meanwhile, one after the other.
+fn make_fragments<T: Sheet>(
     alloc: Global,
     sheet: &T,
     lines: usize,
     queue: &Queue,
-) -> Result<Vec<Piece>, AllocError>
-    ensures { IfOk result (λ pieces. All (IsPieceOf (T.lines sheet.now)) pieces.items) }
+) -> Result<Vec<Fragment>, AllocError>
+    ensures { IfOk result (λ fragments. All (IsFragmentOf (T.lines sheet.now)) fragments.items) }
 {
-    let mut pieces = Vec::new(alloc);
+    let mut fragments = Vec::new(alloc);
     for _turn in 0..lines {
         let from = queue.take_some();
         if from >= lines {
-            return Ok(pieces);
+            return Ok(fragments);
         }
         let until = from + LINES_AT_ONCE.min(lines - from);
-        pieces.push(Piece::of(alloc, sheet, from, until)?)?;
+        fragments.push(Fragment::of(alloc, sheet, from, until)?)?;
     }
-    Ok(pieces)
+    Ok(fragments)
 }
 
 /// The same by so many threads, of which one is the caller's.
-fn pieces_by<R: Threads + Sync, T: Sheet + Sync>(
+fn fragments_by<R: Threads + Sync, T: Sheet + Sync>(
     rt: &R,
     alloc: Global,
     sheet: &T,
     lines: usize,
     threads: usize,
     queue: &Queue,
-) -> Result<Vec<Piece>, AllocError>
-    ensures { IfOk result (λ pieces. All (IsPieceOf (T.lines sheet.now)) pieces.items) }
+) -> Result<Vec<Fragment>, AllocError>
+    ensures { IfOk result (λ fragments. All (IsFragmentOf (T.lines sheet.now)) fragments.items) }
 {
     if threads <= 1 {
-        return make_pieces(alloc, sheet, lines, queue);
+        return make_fragments(alloc, sheet, lines, queue);
     }
     let (some, others) = join(
         rt,
-        || -> Result<Vec<Piece>, AllocError>
+        || -> Result<Vec<Fragment>, AllocError>
             requires { IsSync T.row }
-            ensures { IfOk result (λ pieces. All (IsPieceOf (T.lines sheet.entry.now)) pieces.items) }
-        { make_pieces(alloc, sheet, lines, queue) },
-        || -> Result<Vec<Piece>, AllocError>
+            ensures { IfOk result (λ fragments. All (IsFragmentOf (T.lines sheet.entry.now)) fragments.items) }
+        { make_fragments(alloc, sheet, lines, queue) },
+        || -> Result<Vec<Fragment>, AllocError>
             requires { IsSync R.row × IsSync T.row × (1 < threads) }
-            ensures { IfOk result (λ pieces. All (IsPieceOf (T.lines sheet.entry.now)) pieces.items) }
-        { pieces_by(rt, alloc, sheet, lines, threads - 1, queue) },
+            ensures { IfOk result (λ fragments. All (IsFragmentOf (T.lines sheet.entry.now)) fragments.items) }
+        { fragments_by(rt, alloc, sheet, lines, threads - 1, queue) },
     );
     both(some?, others?)
 }
@@ -202,8 +202,8 @@ fn parts_by<R: Threads + Sync, T: Sheet + Sync>(
         taken: AtomicUsize::new(0),
     };
     let threads = workers.min(lines / LINES_AT_ONCE + 1);
-    let pieces = pieces_by(rt, alloc, sheet, lines, threads, &queue)?;
-    put_together(alloc, sheet, lines, pieces)
+    let fragments = fragments_by(rt, alloc, sheet, lines, threads, &queue)?;
+    put_together(alloc, sheet, lines, fragments)
 }
 
 /// The text that `text` makes, in parts that at most so many threads make side by side. With one worker, or none, no thread
