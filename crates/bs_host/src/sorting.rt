@@ -59,6 +59,10 @@ impl Readers {
     }
 }
 
+/// How many commands are handed in at once: to make holders of them, and to hand them in, takes so long that others should have
+/// something to work meanwhile.
+const COMMANDS_AT_ONCE: usize = 1024;
+
 /// The commands from that place on are handed in, if they are to be. How many were by then.
 fn hand_in<R: Wait>(
     rt: &R,
@@ -69,7 +73,11 @@ fn hand_in<R: Wait>(
 ) -> usize {
     let commands = commands.as_slice();
     if let (Some(shop), Some(more)) = (shop, commands.get(from..)) {
-        let _goes_on = shop.hand(rt, alloc, more);
+        for some in more.chunks(COMMANDS_AT_ONCE) {
+            if !shop.hand(rt, alloc, some) {
+                break;
+            }
+        }
     }
     commands.len()
 }
