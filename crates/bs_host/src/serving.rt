@@ -52,9 +52,12 @@ fn open_core(
 const LARGEST_CREW: usize = 16;
 
 /// How many workers each of so many threads stands for: as many as there are games for each thread, one at least. So all games go on
-/// at once, and come to their ends together.
+/// at once, and come to their ends together. The caller's thread alone needs no crew.
 fn crew_size(games: usize, threads: usize) -> usize {
-    (games / threads.max(1)).clamp(1, LARGEST_CREW)
+    if threads <= 1 {
+        return 1;
+    }
+    (games / threads).clamp(1, LARGEST_CREW)
 }
 
 /// How many workers so many crews of that size have. As many as can't be counted are answered as want of memory is: tables by
