@@ -52,7 +52,9 @@ impl Fragment {
         until: usize,
     ) -> Result<Fragment, AllocError>
         requires { from ≤ until }
-        ensures { IfOk result (IsFragmentOf (T.lines sheet.now)) }
+        ensures from { IfOk result (λ fragment. fragment.from ≡ from) }
+        ensures until { IfOk result (λ fragment. fragment.until ≡ until) }
+        ensures text { IfOk result (IsFragmentOf (T.lines sheet.now)) }
     {
         Ok(Fragment {
             from,
