@@ -10,7 +10,7 @@ use std::alloc::{AllocError, Global};
 use std::hint::spin_loop;
 use std::ops::Range;
 use std::sync::{Condvar, Mutex, MutexGuard, Wait};
-use std::thread::{self, Threads, yield_now};
+use std::thread::{self, Threads};
 
 /// A core at which several threads work, while commands are handed in. Its lock is held while commands are handed in, and once
 /// between two turns of a thread at its jobs, while those are brought back and the next are taken; never while a job is worked.
@@ -29,21 +29,14 @@ pub struct Shop<const CAP: usize> {
 
 /// How often a thread looks whether the desk is free before it sleeps for it. A lock that somebody slept for is left to those that
 /// sleep, and is idle until one of them is awake: where others come to it every few microseconds, they then go to sleep in turn. So a
-/// thread sleeps only where all looks were in vain, which takes some milliseconds: whoever is at the desk has no processor then.
+/// thread sleeps only where all looks were in vain, which takes about a millisecond: some hundred turns at the desk.
 const LOOKS: u32 = 4_000;
-
-/// From this look on a thread lets others have its processor between two looks, if there are others that want it.
-const PATIENT_LOOKS: u32 = 400;
 
 /// How many hints that it waits the processor gets between two looks.
 const HINTS: u32 = 4;
 
-/// Lets a moment go by after that look.
-fn pause(look: u32) {
-    if look >= PATIENT_LOOKS {
-        yield_now();
-        return;
-    }
+/// Lets a moment go by.
+fn pause() {
     for _ in 0..HINTS {
         spin_loop();
     }
@@ -69,11 +62,11 @@ impl<const CAP: usize> Shop<CAP> {
     /// The desk, once no other thread is at it. A turn at it takes less time than going to sleep and waking up, so the thread
     /// looks many times whether the desk is free before it sleeps for it.
     fn enter<R: Wait>(&self, rt: &R) -> MutexGuard<'_, Box<Desk<CAP>>> {
-        for look in 0..LOOKS {
+        for _ in 0..LOOKS {
             if let Some(desk) = self.desk.try_lock() {
                 return desk;
             }
-            pause(look);
+            pause();
         }
         self.desk.lock(rt)
     }
