@@ -29,7 +29,8 @@ pub struct Shop<const CAP: usize> {
 
 /// How often a thread looks whether the desk is free before it sleeps for it. A lock that somebody slept for is left to those that
 /// sleep, and is idle until one of them is awake: where others come to it every few microseconds, they then go to sleep in turn. So a
-/// thread sleeps only where all looks were in vain, which takes about a millisecond: some hundred turns at the desk.
+/// thread sleeps only where all looks were in vain. They take a tenth of a millisecond to one, by what a hint is to the processor: more
+/// than ten turns at the desk.
 const LOOKS: u32 = 4_000;
 
 /// How many hints that it waits the processor gets between two looks.
