@@ -2,10 +2,12 @@
 use Rattle.std.specs.Prelude.{◌≡◌, ℕ, ◌<◌, List, ◌++◌, All, Option, Some, None, option_to_list}
 use Rattle.std.specs.List.{filter_map}
 use Rattle.bs_board.specs.declared.commands.command.Command.{Command}
+use Rattle.bs_board.specs.plans.Plan.{GameRow}
+use Rattle.bs_host.specs.File.{pieces_of}
 use Rattle.bs_host.specs.declared.requests.Requests.{Requests}
 use Rattle.bs_host.specs.declared.routing.Route.{Route}
 use Rattle.bs_host.specs.declared.routing.Route.TheVariants as route
-use Rattle.bs_host.specs.Routing.{numbered_stray, strays_in}
+use Rattle.bs_host.specs.Routing.{numbered_stray, routes_from, strays_in}
 
 -- what a line asks of a game, with the row of that game
 abbrev pub command_by_row : Route → Option (ℕ × Command)
@@ -19,6 +21,10 @@ commands_by_row = filter_map (λ line. command_by_row line.1)
 
 abbrev pub requests_of : List (ℕ × Route) → Requests
 requests_of routes = record { commands = commands_by_row routes; strays = strays_in routes }
+
+-- what the lines of a text ask for, of which the first has that number
+abbrev pub requests_in : List GameRow → ℕ → List ℕ → Requests
+requests_in rows first text = requests_of (routes_from rows first (pieces_of text))
 
 -- each command is for a game of a plan of so many rows
 abbrev pub AreWithinPlan : ℕ → List (ℕ × Command) → Type 0

@@ -3,8 +3,8 @@ ghost use Rattle.std.specs.Prelude.{◌≡◌, ◌*◌, ◌≤◌, None, Ok, len
 ghost use Rattle.std.specs.Io.KnownBytes.{Appends};
 ghost use Rattle.std.specs.Thread.{IsSync};
 ghost use Rattle.bs_sched.specs.Core.{opened_core};
-ghost use Rattle.bs_host.specs.File.{pieces_of, pieces_after};
-ghost use Rattle.bs_host.specs.Requests.{requests_of};
+ghost use Rattle.bs_host.specs.File.{pieces_after};
+ghost use Rattle.bs_host.specs.Requests.{requests_in, requests_of};
 ghost use Rattle.bs_host.specs.Hosted.{Hosts, HostsLines};
 ghost use Rattle.bs_host.specs.Routing.{routes_from, strays_in, strays_of};
 ghost use Rattle.bs_host.specs.Faults.{refusal_of, refusal_of_plan, IsRefusal, IsFault, Leaves};
@@ -85,7 +85,7 @@ fn read_and_work<R: Threads + Wait + Sync, G: Gate>(
     gate: &G,
 ) -> Result<Requests, AllocError>
     requires short { length text.now ≤ MOST_FILE_BYTES }
-    ensures { IfOk result (λ r. r ≡ requests_of (routes_from rows.now 2 (pieces_of text.now))) }
+    ensures { IfOk result (λ r. r ≡ requests_in rows.now 2 text.now) }
 {
     let requests = sort_lines(rt, alloc, rows, text, readers);
     let shop = readers.shop();
@@ -110,7 +110,7 @@ fn read_beside_others<R: Threads + Wait + Sync, G: Gate>(
     gate: &G,
 ) -> Result<Requests, AllocError>
     requires short { length text.now ≤ MOST_FILE_BYTES }
-    ensures { IfOk result (λ r. r ≡ requests_of (routes_from rows.now 2 (pieces_of text.now))) }
+    ensures { IfOk result (λ r. r ≡ requests_in rows.now 2 text.now) }
 {
     if threads <= 1 {
         return read_and_work(rt, alloc, rows, text, threads, readers, gate);
@@ -123,7 +123,7 @@ fn read_beside_others<R: Threads + Wait + Sync, G: Gate>(
         },
         || -> Result<Requests, AllocError>
             requires { IsSync R.row × (length text.now ≤ MOST_FILE_BYTES) }
-            ensures { IfOk result (λ r. r ≡ requests_of (routes_from rows.entry.now 2 (pieces_of text.entry.now))) }
+            ensures { IfOk result (λ r. r ≡ requests_in rows.entry.now 2 text.entry.now) }
         { read_and_work(rt, alloc, rows, text, threads, readers, gate) },
     );
     requests

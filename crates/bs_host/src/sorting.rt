@@ -3,7 +3,7 @@
 ghost use Rattle.std.specs.Prelude.{◌≡◌, ◌+◌, ◌<◌, ◌≤◌, ◌^◌, ℕ, None, length, IfOk, IfSome, option_copied};
 ghost use Rattle.std.specs.Thread.{IsSync};
 ghost use Rattle.bs_host.specs.File.{pieces_of, pieces_after};
-ghost use Rattle.bs_host.specs.Requests.{requests_of, AreWithinPlan};
+ghost use Rattle.bs_host.specs.Requests.{requests_in, AreWithinPlan};
 ghost use Rattle.bs_host.specs.Routing.{routes_from};
 ghost use Rattle.bs_host.specs.UnderWay.{IsUnderWay};
 
@@ -138,7 +138,7 @@ fn sort_in_turn<R: Wait>(
     shop: Option<&Shop<BLOCK_BYTES>>,
 ) -> Result<Requests, AllocError>
     requires short { first + length text.now < 2 ^ 63 }
-    ensures value { IfOk result (λ r. r ≡ requests_of (routes_from rows.now first (pieces_of text.now))) }
+    ensures value { IfOk result (λ r. r ≡ requests_in rows.now first text.now) }
     ensures within { IfOk result (λ r. AreWithinPlan (length rows.now) r.commands) }
 {
     let (requests, _, _) = sort_alone(rt, alloc, rows, first, text, None, shop)?;
@@ -158,7 +158,7 @@ fn sort_halves<R: Threads + Wait + Sync>(
     hands_in: bool,
 ) -> Result<Requests, AllocError>
     requires short { first + length text.now < 2 ^ 63 }
-    ensures value { IfOk result (λ r. r ≡ requests_of (routes_from rows.now first (pieces_of text.now))) }
+    ensures value { IfOk result (λ r. r ≡ requests_in rows.now first text.now) }
     ensures within { IfOk result (λ r. AreWithinPlan (length rows.now) r.commands) }
 {
     let Some((front, back)) = cut_from(text, text.len() / 2) else {
@@ -172,12 +172,12 @@ fn sort_halves<R: Threads + Wait + Sync>(
         || -> Result<Requests, AllocError>
             requires { IsSync R.row × (first + length front.now < 2 ^ 63) }
             ensures { IfOk result
-                (λ r. (r ≡ requests_of (routes_from rows.entry.now first (pieces_of front.entry.now))) × AreWithinPlan (length rows.entry.now) r.commands) }
+                (λ r. (r ≡ requests_in rows.entry.now first front.entry.now) × AreWithinPlan (length rows.entry.now) r.commands) }
         { sort_text(rt, alloc, rows, first, front, readers, hands_in) },
         || -> Result<Requests, AllocError>
             requires { IsSync R.row × (second + length back.now < 2 ^ 63) }
             ensures { IfOk result
-                (λ r. (r ≡ requests_of (routes_from rows.entry.now second (pieces_of back.entry.now))) × AreWithinPlan (length rows.entry.now) r.commands) }
+                (λ r. (r ≡ requests_in rows.entry.now second back.entry.now) × AreWithinPlan (length rows.entry.now) r.commands) }
         { sort_text(rt, alloc, rows, second, back, readers, false) },
     );
     let mut requests = requests?;
@@ -199,7 +199,7 @@ fn sort_text<R: Threads + Wait + Sync>(
     hands_in: bool,
 ) -> Result<Requests, AllocError>
     requires short { first + length text.now < 2 ^ 63 }
-    ensures value { IfOk result (λ r. r ≡ requests_of (routes_from rows.now first (pieces_of text.now))) }
+    ensures value { IfOk result (λ r. r ≡ requests_in rows.now first text.now) }
     ensures within { IfOk result (λ r. AreWithinPlan (length rows.now) r.commands) }
 {
     let counter = readers.counter(hands_in);
@@ -229,7 +229,7 @@ pub(crate) fn sort_lines<R: Threads + Wait + Sync>(
     readers: &Readers,
 ) -> Result<Requests, AllocError>
     requires short { length text.now ≤ MOST_FILE_BYTES }
-    ensures value { IfOk result (λ r. r ≡ requests_of (routes_from rows.now 2 (pieces_of text.now))) }
+    ensures value { IfOk result (λ r. r ≡ requests_in rows.now 2 text.now) }
     ensures within { IfOk result (λ r. AreWithinPlan (length rows.now) r.commands) }
 {
     sort_text(rt, alloc, rows, 2, text, readers, true)
