@@ -3,3 +3,4 @@ pub mod Cell
 pub mod Legal
 pub mod Lending
 pub mod Over
+pub mod Wrap

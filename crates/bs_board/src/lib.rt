@@ -36,4 +36,4 @@ pub use records::kept::{kept_board, kept_ground, kept_snakes};
 pub use records::kept_board::KeptBoard;
 pub use records::over::over_of_record;
 pub use records::sizes::size;
-pub use records::turn::{seats_of_record, turn_of_record};
+pub use records::turn::{seats_of_record, turn_of_record, wrap_of_record};

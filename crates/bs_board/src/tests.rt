@@ -268,7 +268,7 @@ fn bytes_that_are_no_record(rt: HostRuntime) -> Result<(), Fail> {
     longer.push(0)?;
     assert_eq!(rt; decode(alloc, &longer).err(), Some(Decode::NotARecord));
     assert_eq!(rt; decode(alloc, &FIRST[..25]).err(), Some(Decode::NotARecord));
-    // an unknown mode, and a health of 101
+    // a mode of another version, and a health of 101
     for (place, byte) in [(1, 3), (13, 101)] {
         let mut wrong = FIRST;
         wrong[place] = byte;
@@ -277,6 +277,84 @@ fn bytes_that_are_no_record(rt: HostRuntime) -> Result<(), Fail> {
             Some(Decode::NotARecord),
             "byte {place}"
         );
+    }
+    Ok(())
+}
+
+// Two snakes that have just started on a wrapped board of five by five.
+fn wrapped(alloc: Global) -> Result<Board, AllocError> {
+    let first = seat(alloc, "s", &[(3, 1), (3, 1), (3, 1)], 100)?;
+    let second = seat(alloc, "t", &[(3, 3), (3, 3), (3, 3)], 100)?;
+    Ok(Board {
+        mode: Mode::Wrapped,
+        width: 5,
+        height: 5,
+        turn: 0,
+        min_food: 0,
+        chance: 0,
+        food: Cells::new(alloc),
+        snakes: Snakes::from_vec(vec![in alloc; first, second]?),
+    })
+}
+
+#[test]
+fn record_of_a_wrapped_board(rt: HostRuntime) -> Result<(), Fail> {
+    let alloc = rt.alloc();
+    let board = wrapped(alloc)?;
+    assert!(rt; is_legal(&board));
+    let record = encode(alloc, &board)?;
+    assert!(rt;
+        record
+            .as_slice()
+            .starts_with(&[2, 3, 5, 5, 0, 0, 0, 0, 2, 0, 0])
+    );
+    assert_eq!(rt; board.wrap(), Some((5, 5)));
+    assert_eq!(rt; wrap_of_record(record.as_slice()), Some((5, 5)));
+    assert_eq!(rt; wrap_of_record(&FIRST), None);
+    let again = decode(alloc, record.as_slice())?;
+    assert_eq!(rt; encode(alloc, &again)?.as_slice(), record.as_slice());
+    Ok(())
+}
+
+// Of all pairs of a version and a mode, those that are read of a board that is legal in each mode.
+#[test]
+fn versions_and_modes(rt: HostRuntime) -> Result<(), Fail> {
+    let alloc = rt.alloc();
+    let mut read = 0u32;
+    for version in 0..=255u8 {
+        for mode in 0..=255u8 {
+            let mut bytes = FIRST;
+            (bytes[0], bytes[1]) = (version, mode);
+            if decode(alloc, &bytes).is_ok() {
+                assert!(rt; matches!((version, mode), (1, 0) | (1, 1) | (1, 2) | (2, 3)));
+                read = read.wrapping_add(1);
+            }
+        }
+    }
+    assert_eq!(rt; read, 4);
+    Ok(())
+}
+
+// On a wrapped board no head is off the board, whether it has starved or not, and nobody is out by the wall.
+#[test]
+fn heads_of_a_wrapped_board(rt: HostRuntime) -> Result<(), Fail> {
+    let alloc = rt.alloc();
+    for (x, cause, health, legal) in [
+        (3, Cause::WallCollision, 90, false),
+        (5, Cause::WallCollision, 90, false),
+        (3, Cause::OutOfHealth, 0, true),
+        (5, Cause::OutOfHealth, 0, false),
+    ] {
+        let mut board = wrapped(alloc)?;
+        board.turn = 1;
+        if board.snakes.len() == 2 {
+            let snake = board.snakes.seat_mut(0);
+            snake.body = cells(alloc, &[(x, 1), (3, 1), (3, 1)])?;
+            snake.health = health;
+            snake.cause = Some(cause);
+            snake.out = Some(1);
+        }
+        assert_eq!(rt; is_legal(&board), legal, "{cause:?} at {x}");
     }
     Ok(())
 }

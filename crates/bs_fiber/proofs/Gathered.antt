@@ -4,6 +4,7 @@ use Rattle.std.specs.Prelude.{flat_map, is_none, option_map}
 use Rattle.bs_board.specs.declared.boards.board.Board.{Board}
 use Rattle.bs_board.specs.declared.commands.command.Command.TheVariants as command
 use Rattle.bs_board.specs.declared.boards.snake.Snake.{Snake}
+use Rattle.bs_board.specs.boards.Wrap.{wrap_of}
 use Rattle.bs_board.specs.commands.Orders.{Orders}
 use Rattle.bs_rules.specs.Motion.{moved, given_to, moved_board}
 use Rattle.bs_game.specs.declared.view.View.{View}
@@ -31,7 +32,7 @@ gathered f (s ∷ t ∷ snakes) (p ∷ ps) all each =
     rw (here, rest) refl
 
 some_gathered : (last : Option Board) (board : Board) (orders : Orders) (seats : List Snake) → last ≡ Some board
-    → seats ≡ map (λ s. moved (given_to orders.moves s.id) s) board.snakes
+    → seats ≡ map (λ s. moved (wrap_of board) (given_to orders.moves s.id) s) board.snakes
     → option_map (moved_board orders.moves) last ≡ Some (record board { snakes = seats })
 some_gathered last board orders seats is e = rw (is, e) refl
 
@@ -41,7 +42,7 @@ pub joined_board : (view : View) (orders : Orders) (board : Board) (parts : List
 joined_board view orders board parts seats is all_moved e =
     let all = rw is at all_moved.all in
     let each = rw is at all_moved.each in
-    let whole = gathered (λ s. moved (given_to orders.moves s.id) s) board.snakes parts all each in
+    let whole = gathered (λ s. moved (wrap_of board) (given_to orders.moves s.id) s) board.snakes parts all each in
     some_gathered view.last board orders seats is (e ∙ whole)
 
 -- nothing speaks against a move that goes

@@ -1,6 +1,7 @@
 -- What each job comes to.
 use Rattle.std.specs.Prelude.{◌≡◌, ℕ, ◌+◌, ◌*◌, ◌/◌, Bool, ◌&&◌, List, [], take, drop, map, Option, Some, None, is_none, if◌then◌else◌}
 use Rattle.bs_board.specs.declared.boards.board.Board.{Board}
+use Rattle.bs_board.specs.boards.Wrap.{wrap_of}
 use Rattle.bs_board.specs.declared.commands.command.Command.{Command}
 use Rattle.bs_board.specs.declared.commands.command.Command.TheVariants as command
 use Rattle.bs_board.specs.declared.commands.reply.Refusal.{Refusal}
@@ -41,6 +42,11 @@ abbrev pub snakes_in : Option Board → List Snake
 snakes_in None = []
 snakes_in (Some board) = board.snakes
 
+-- the sides that a step is taken modulo
+abbrev pub wrap_in : Option Board → Option (ℕ × ℕ)
+wrap_in None = None
+wrap_in (Some board) = wrap_of board
+
 -- the directions that a move gives by ids
 abbrev pub moves_in : Command → List (List ℕ × Direction)
 moves_in (command.Move orders) = orders.moves
@@ -48,7 +54,7 @@ moves_in _ = []
 
 -- the snakes of the part one step on
 abbrev pub moved_part : ℕ → View → Command → List Snake
-moved_part part view command = map (λ s. moved (given_to (moves_in command) s.id) s) (seats_of part (snakes_in view.last))
+moved_part part view command = map (λ s. moved (wrap_in view.last) (given_to (moves_in command) s.id) s) (seats_of part (snakes_in view.last))
 
 abbrev pub out_seen : JobKind → ℕ → View → Command → Out
 out_seen Begin part view command = begun view command

@@ -1,15 +1,16 @@
 //! The jobs that move the snakes, two seats each.
 ghost use Rattle.std.specs.Prelude.{◌≡◌, Option, IfOk, IfSome, All};
 ghost use Rattle.bs_board.specs.declared.boards.board.Board.{Board as AnyBoard};
+ghost use Rattle.bs_board.specs.boards.Wrap.{AreSides};
 ghost use Rattle.bs_board.specs.records.Kept.{IsLegalRecord};
 ghost use Rattle.bs_game.specs.declared.view.View.{View as AnyView};
 ghost use Rattle.bs_rules.specs.Motion.{IsMovable};
 ghost use Rattle.bs_fiber.specs.Fit.{IsFitGame};
 ghost use Rattle.bs_fiber.specs.Seeing.{IsBoardOf, IsSeen};
-ghost use Rattle.bs_fiber.specs.Work.{moves_in, snakes_in, seats_of, moved_part};
+ghost use Rattle.bs_fiber.specs.Work.{moves_in, snakes_in, seats_of, wrap_in, moved_part};
 
 use crate::input::Input;
-use bs_board::{Command, Direction, Id, Snakes, kept_snakes};
+use bs_board::{Command, Direction, Id, Snakes, kept_snakes, wrap_of_record};
 use bs_game::Record;
 use bs_rules::move_snakes;
 use std::alloc::{AllocError, Global};
@@ -32,6 +33,19 @@ fn seats_of(alloc: Global, last: &Option<Record>, part: usize) -> Result<Snakes,
     }
 }
 
+/// The sides that the steps of the newest board are taken modulo.
+#[tactic(auto, using(crate::proofs::Seats::reaches_sides, crate::proofs::Seats::kept_sides))]
+fn wrap_in(last: &Option<Record>) -> Option<(u8, u8)>
+    requires { IfSome last.now IsLegalRecord }
+    ensures value { (board : Option AnyBoard) → IsBoardOf last.now board → result ≡ wrap_in board }
+    ensures sides { AreSides result }
+{
+    match last {
+        None => None,
+        Some(record) => wrap_of_record(record.as_slice()),
+    }
+}
+
 fn moves_in(command: &Command) -> &[(Id, Direction)]
     ensures { result.now ≡ moves_in command.now }
 {
@@ -47,5 +61,6 @@ pub(crate) fn move_part(alloc: Global, input: &Input) -> Result<Snakes, AllocErr
     ensures { IfOk result (λ moved. (view : AnyView) → IsSeen view input.now → moved ≡ moved_part input.now.job.part view input.now.command) }
 {
     let seats = seats_of(alloc, &input.last, input.job.part as usize)?;
-    move_snakes(alloc, seats.as_slice(), moves_in(input.command.get()))
+    let moves = moves_in(input.command.get());
+    move_snakes(alloc, seats.as_slice(), moves, wrap_in(&input.last))
 }

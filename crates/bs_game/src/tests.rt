@@ -1,5 +1,6 @@
 //! Commands of small games, with the answers that the rules give.
 ghost use Rattle.std.specs.Prelude.{◌≡◌, [], IfOk, All};
+ghost use Rattle.bs_board.specs.boards.Wrap.{AreSides, wrap_of};
 ghost use Rattle.bs_board.specs.commands.Orders.{orders_of};
 ghost use Rattle.bs_rules.specs.Motion.{moved_board, IsMovable};
 
@@ -246,12 +247,14 @@ fn reasons_in_their_order(rt: HostRuntime) -> Result<(), Fail> {
 
 // The board with its only snake gone straight on.
 fn gone_on(alloc: Global, board: Board) -> Result<Board, AllocError>
-    requires { All IsMovable board.snakes }
+    requires bodies { All IsMovable board.snakes }
+    requires sides { AreSides (wrap_of board) }
     ensures { IfOk result (λ moved. moved ≡ moved_board [] board) }
 {
+    let wrap = board.wrap();
     let mut moved = board;
     let snake = match moved.snakes.as_slice() {
-        [snake] => move_snake(alloc, snake, None)?,
+        [snake] => move_snake(alloc, snake, None, wrap)?,
         _ => return Err(AllocError),
     };
     moved.snakes = Snakes::from_vec(vec![in alloc; snake]?);
@@ -260,7 +263,7 @@ fn gone_on(alloc: Global, board: Board) -> Result<Board, AllocError>
 
 // A move whose seats have moved already is answered as the whole move is.
 #[test]
-#[tactic(auto, using(bs_rules::proofs::Movable::legal_is_movable))]
+#[tactic(auto, using(bs_rules::proofs::Movable::legal_is_movable, bs_rules::proofs::Movable::legal_has_sides))]
 fn joined_turn(rt: HostRuntime) -> Result<(), Fail> {
     let alloc = rt.alloc();
     let orders = no_orders(alloc);

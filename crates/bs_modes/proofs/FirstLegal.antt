@@ -8,7 +8,7 @@ use Rattle.std.specs.List.{list_all}
 use Rattle.bs_board.specs.declared.boards.point.Point.{Point}
 use Rattle.bs_board.specs.declared.boards.board.Board.{Board}
 use Rattle.bs_board.specs.declared.boards.board.Mode.{Mode}
-use Rattle.bs_board.specs.declared.boards.board.Mode.TheVariants.{Standard, Solo, Constrictor}
+use Rattle.bs_board.specs.declared.boards.board.Mode.TheVariants.{Standard, Solo, Constrictor, Wrapped}
 use Rattle.bs_board.specs.boards.Legal.{IsLegal, IsLegalSnake, IsFreeOfFood, EachSeat}
 use Rattle.bs_board.specs.commands.Setup.{Setup, is_fit_setup, is_fit_start, is_fit_food}
 use Rattle.bs_modes.specs.FirstBoard.{first_board, first_food, first_snake}
@@ -19,11 +19,13 @@ first_food_fits : (mode : Mode) (w h : ℕ) (food : List Point) → is_fit_food 
 first_food_fits Standard w h food fits = fits
 first_food_fits Solo w h food fits = fits
 first_food_fits Constrictor w h food fits = refl
+first_food_fits Wrapped w h food fits = fits
 
 first_food_free : (mode : Mode) (food : List Point) → IsFreeOfFood mode (first_food mode food)
 first_food_free Standard food = tt
 first_food_free Solo food = tt
 first_food_free Constrictor food = refl
+first_food_free Wrapped food = tt
 
 -- the two parts behind the head
 parts_inside : (b : Board) (cell : Point) → is_on_board b.width b.height cell ≡ true

@@ -3,7 +3,7 @@ use Rattle.std.specs.Prelude.{ℕ, List, [], ◌∷◌, None, map}
 use Rattle.bs_board.specs.declared.boards.point.Point.{Point}
 use Rattle.bs_board.specs.declared.boards.board.Board.{Board}
 use Rattle.bs_board.specs.declared.boards.board.Mode.{Mode}
-use Rattle.bs_board.specs.declared.boards.board.Mode.TheVariants.{Standard, Solo, Constrictor}
+use Rattle.bs_board.specs.declared.boards.board.Mode.TheVariants.{Standard, Solo, Constrictor, Wrapped}
 use Rattle.bs_board.specs.declared.boards.snake.Snake.{Snake}
 use Rattle.bs_board.specs.declared.limits.TheConstants.{FULL_HEALTH}
 use Rattle.bs_board.specs.commands.Setup.{Setup}
@@ -24,6 +24,7 @@ abbrev pub first_food : Mode → List Point → List Point
 first_food Standard food = food
 first_food Solo food = food
 first_food Constrictor food = []
+first_food Wrapped food = food
 
 unfoldable pub first_board : Setup → Board
 first_board s = record {

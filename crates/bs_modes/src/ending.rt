@@ -18,10 +18,11 @@ fn last_living(mode: Mode) -> usize
         Mode::Standard => 1,
         Mode::Solo => 0,
         Mode::Constrictor => 1,
+        Mode::Wrapped => 1,
     }
 }
 
-/// Standard and constrictor are over when at most one snake lives, solo when none does.
+/// Standard, constrictor and wrapped are over when at most one snake lives, solo when none does.
 pub fn over(board: &Board) -> bool
     ensures { result ≡ is_over board.now }
 {

@@ -42,6 +42,7 @@ fn first_food(alloc: Global, mode: Mode, food: &Cells) -> Result<Cells, AllocErr
         Mode::Standard => food.copy(alloc),
         Mode::Solo => food.copy(alloc),
         Mode::Constrictor => Ok(Cells::new(alloc)),
+        Mode::Wrapped => food.copy(alloc),
     }
 }
 

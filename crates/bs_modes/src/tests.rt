@@ -70,14 +70,15 @@ fn constrictor_starts_without_food_and_grows(rt: HostRuntime) -> Result<(), Fail
     Ok(())
 }
 
-// One snake alone: standard is over at once, solo goes on.
+// One snake alone: solo goes on, in each other mode it is over at once.
 #[test]
-fn one_snake_ends_standard_and_not_solo(rt: HostRuntime) -> Result<(), Fail> {
+fn one_snake_ends_all_but_solo(rt: HostRuntime) -> Result<(), Fail> {
     let alloc = rt.alloc();
     for (mode, ends) in [
         (Mode::Standard, true),
         (Mode::Solo, false),
         (Mode::Constrictor, true),
+        (Mode::Wrapped, true),
     ] {
         let new = setup(alloc, mode, 3, &[("s", 1, 1)], Cells::new(alloc))?.ok_or("fits")?;
         let board = start(alloc, &new)?;

@@ -4,7 +4,7 @@ use Rattle.std.specs.List.{list_all, filter}
 use Rattle.std.proofs.lemmas.Bool.{and_parts, and_from}
 use Rattle.bs_board.specs.declared.boards.point.Point.{Point}
 use Rattle.bs_board.specs.declared.boards.board.Mode.{Mode}
-use Rattle.bs_board.specs.declared.boards.board.Mode.TheVariants.{Standard, Solo, Constrictor}
+use Rattle.bs_board.specs.declared.boards.board.Mode.TheVariants.{Standard, Solo, Constrictor, Wrapped}
 use Rattle.bs_board.specs.boards.Cell.{is_same_cell, is_on_board, are_distinct_cells}
 use Rattle.bs_board.specs.boards.Legal.{IsFreeOfFood}
 use Rattle.bs_board.specs.commands.Setup.{is_fit_food}
@@ -24,3 +24,4 @@ pub free_of_food_left : (p : Point â†’ Bool) (mode : Mode) (food : List Point) â
 free_of_food_left p Standard food h = tt
 free_of_food_left p Solo food h = tt
 free_of_food_left p Constrictor food h = none_left p food h
+free_of_food_left p Wrapped food h = tt

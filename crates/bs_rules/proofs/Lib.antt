@@ -1,3 +1,4 @@
+pub mod Apart
 pub mod CollisionLaw
 pub mod CollisionMeaning
 pub mod CollisionTest

@@ -1,5 +1,5 @@
 -- The snakes of a legal board can move.
-use Rattle.std.proofs.Common.{◌≡◌, ℕ, ◌≤◌, Bool, true, ◌&&◌, not, List, [], ◌∷◌, length, All, MatchOption, Option, Some, None, arith, pos, negsuc, ℤ, drop, refl, leb, get_or}
+use Rattle.std.proofs.Common.{◌≡◌, ℕ, ◌≤◌, Bool, true, false, cond, ◌&&◌, not, List, [], ◌∷◌, length, All, MatchOption, Option, Some, None, arith, pos, negsuc, ℤ, drop, refl, leb, get_or}
 use Rattle.std.specs.Prelude.{int_le, int_lt}
 use Rattle.std.proofs.lemmas.Int.{ints}
 use Rattle.std.proofs.lemmas.Bool.{and_parts, leb-true}
@@ -12,6 +12,7 @@ use Rattle.bs_board.specs.declared.boards.snake.Cause.{Cause}
 use Rattle.bs_board.specs.declared.boards.snake.Cause.TheVariants.{OutOfHealth, WallCollision, SelfCollision, BodyCollision, HeadCollision}
 use Rattle.bs_board.specs.boards.Cell.{head_of, is_on_board}
 use Rattle.bs_board.specs.commands.Setup.{is_side}
+use Rattle.bs_board.specs.boards.Wrap.{is_wrapped, wrap_of, AreSides}
 use Rattle.bs_board.specs.boards.Legal.{IsLegal, IsLegalSnake, IsLegalLiving, IsLegalOut, is_near, is_head_of}
 use Rattle.bs_rules.specs.Motion.{IsMovable}
 
@@ -49,17 +50,19 @@ near_largest w h p wide high near =
 side_at_most : (n : ℕ) → is_side n ≡ true → n ≤ 25
 side_at_most n h = leb-true n 25 (and_parts (leb 3 n) (leb n 25) h).1
 
-head_of_out : (cause : Cause) (w h : ℕ) (p : Point) → is_head_of cause w h p ≡ true → is_near w h p ≡ true
-head_of_out OutOfHealth w h p head = head
-head_of_out WallCollision w h p head = (and_parts (is_near w h p) (not (is_on_board w h p)) head).0
-head_of_out SelfCollision w h p head = near_from_on_board w h p head
-head_of_out BodyCollision w h p head = near_from_on_board w h p head
-head_of_out HeadCollision w h p head = near_from_on_board w h p head
+head_of_out : (cause : Cause) (wraps : Bool) (w h : ℕ) (p : Point) → is_head_of wraps cause w h p ≡ true → is_near w h p ≡ true
+head_of_out OutOfHealth true w h p head = near_from_on_board w h p head
+head_of_out OutOfHealth false w h p head = head
+head_of_out WallCollision true w h p head = absurd cc
+head_of_out WallCollision false w h p head = (and_parts (is_near w h p) (not (is_on_board w h p)) head).0
+head_of_out SelfCollision wraps w h p head = near_from_on_board w h p head
+head_of_out BodyCollision wraps w h p head = near_from_on_board w h p head
+head_of_out HeadCollision wraps w h p head = near_from_on_board w h p head
 
 head_is_near : (b : Board) (seat : ℕ) (s : Snake) (cause : Option Cause) → MatchOption cause (IsLegalLiving b s) (IsLegalOut b seat s)
     → is_near b.width b.height (head_of s.body) ≡ true
 head_is_near b seat s None state = near_from_on_board b.width b.height (head_of s.body) state.head
-head_is_near b seat s (Some cause) state = head_of_out cause b.width b.height (head_of s.body) state.head
+head_is_near b seat s (Some cause) state = head_of_out cause (is_wrapped b.mode) b.width b.height (head_of s.body) state.head
 
 -- the head and the parts behind it
 all_near : (body : List Point) → 3 ≤ length body → is_near LONGEST_SIDE LONGEST_SIDE (head_of body) ≡ true → All (λ p. is_near LONGEST_SIDE LONGEST_SIDE p ≡ true) (drop 1 body)
@@ -77,3 +80,11 @@ snake_is_movable b seat s wide high l =
 pub legal_is_movable : (b : Board) → IsLegal b → All IsMovable b.snakes
 legal_is_movable b l seat d within =
     snake_is_movable b seat (get_or b.snakes seat d) (side_at_most b.width l.limits.width) (side_at_most b.height l.limits.height) (l.snakes seat d within)
+
+-- where the sides of a legal board meet, they are a board's
+sides_if : (wraps : Bool) (w h : ℕ) → is_side w ≡ true → is_side h ≡ true → AreSides (cond wraps (Some (w, h)) None)
+sides_if true w h wide high = (wide, high)
+sides_if false w h wide high = tt
+
+pub legal_has_sides : (b : Board) → IsLegal b → AreSides (wrap_of b)
+legal_has_sides b l = sides_if (is_wrapped b.mode) b.width b.height l.limits.width l.limits.height

@@ -1,5 +1,5 @@
 -- Feeding, growth and the first eliminations leave each snake sound.
-use Rattle.std.proofs.Common.{◌≡◌, ℕ, suc, ◌+◌, ◌-◌, ◌<◌, ◌≤◌, Bool, true, false, not, cond, List, [], ◌∷◌, ◌++◌, length, drop, All, Option, Some, None, refl, sym, arith, get_or, length-append, eqb}
+use Rattle.std.proofs.Common.{◌≡◌, ℕ, suc, ◌+◌, ◌-◌, ◌<◌, ◌≤◌, Bool, true, false, not, ◌||◌, cond, List, [], ◌∷◌, ◌++◌, length, drop, All, Option, Some, None, refl, sym, arith, get_or, length-append, eqb}
 use Rattle.std.specs.List.{list_any}
 use Rattle.std.proofs.lemmas.Bool.{cond_both, eqb-true, eqb-false, and_from}
 use Rattle.std.proofs.lemmas.List.Elements.{All-push}
@@ -10,6 +10,7 @@ use Rattle.bs_board.specs.declared.boards.snake.Cause.{Cause}
 use Rattle.bs_board.specs.declared.boards.snake.Cause.TheVariants.{OutOfHealth, WallCollision}
 use Rattle.bs_board.specs.boards.Cell.{origin, head_of, is_same_cell, is_on_board}
 use Rattle.bs_board.specs.boards.Legal.{IsLegalLiving, is_near}
+use Rattle.bs_board.specs.boards.Wrap.{is_wrapped}
 use Rattle.bs_modes.specs.Growth.{grown_body, grown_snake}
 use Rattle.bs_modes.proofs.GrownBodies.{grown_at_most_one, grown_keeps_length, grown_keeps_head, grown_stays_inside}
 use Rattle.bs_rules.specs.Feeding.{fed_snake, last_of}
@@ -107,10 +108,10 @@ pub grows : (b : Board) (parts seat : ℕ) (s : Snake) → IsSound b parts seat 
 grows b parts seat s m = grows_at b parts seat s s.cause m
 
 -- out by starving, out by the wall, or alive
-first_by : (b : Board) (parts seat : ℕ) (s : Snake) (starved inside : Bool) → s.cause ≡ None → starved ≡ eqb s.health 0 → inside ≡ is_on_board b.width b.height (head_of s.body)
+first_by : (b : Board) (parts seat : ℕ) (s : Snake) (starved wraps inside : Bool) → s.cause ≡ None → starved ≡ eqb s.health 0 → wraps ≡ is_wrapped b.mode → inside ≡ is_on_board b.width b.height (head_of s.body)
     → 1 ≤ b.turn → IsSoundBody b parts s → IsMovedLiving b s
-    → IsSound b parts seat (judged b.turn (cond starved (Some (record { cause = OutOfHealth; killer = None })) (cond inside None (Some (record { cause = WallCollision; killer = None })))) s)
-first_by b parts seat s true inside c e f played body living = record {
+    → IsSound b parts seat (judged b.turn (cond starved (Some (record { cause = OutOfHealth; killer = None })) (cond (wraps || inside) None (Some (record { cause = WallCollision; killer = None })))) s)
+first_by b parts seat s true wraps inside c e w f played body living = record {
   body = record { id = body.id; long = body.long; short = body.short; inside = body.inside };
   state = record {
     out = (played, omega arith);
@@ -119,7 +120,19 @@ first_by b parts seat s true inside c e f played body living = record {
     killer = refl;
   };
 }
-first_by b parts seat s false true c e f played body living =
+first_by b parts seat s false true inside c e w f played body living =
+    let some = eqb-false s.health 0 (sym e) in
+    record {
+      body = body;
+      state = rw c (record {
+        fed = omega arith;
+        full = living.full;
+        head = rw (← w) at living.near;
+        killer = living.killer;
+        out = living.out;
+      });
+    }
+first_by b parts seat s false false true c e w f played body living =
     let some = eqb-false s.health 0 (sym e) in
     record {
       body = body;
@@ -131,7 +144,7 @@ first_by b parts seat s false true c e f played body living =
         out = living.out;
       });
     }
-first_by b parts seat s false false c e f played body living =
+first_by b parts seat s false false false c e w f played body living =
     let some = eqb-false s.health 0 (sym e) in
     let off : not (is_on_board b.width b.height (head_of s.body)) ≡ true = rw (← f) refl in
     record {
@@ -139,16 +152,16 @@ first_by b parts seat s false false c e f played body living =
       state = record {
         out = (played, omega arith);
         health = (omega arith, living.full);
-        head = and_from (is_near b.width b.height (head_of s.body)) (not (is_on_board b.width b.height (head_of s.body))) living.near off;
+        head = let near = rw (← w) at living.near in rw (← w) (and_from (is_near b.width b.height (head_of s.body)) (not (is_on_board b.width b.height (head_of s.body))) near off);
         killer = refl;
       };
     }
 
 first_at : (b : Board) (parts seat : ℕ) (s : Snake) (cause : Option Cause) → 1 ≤ b.turn → IsMoved b parts seat (record s { cause = cause })
-    → IsSound b parts seat (first_judged b.width b.height b.turn (record s { cause = cause }))
+    → IsSound b parts seat (first_judged (is_wrapped b.mode) b.width b.height b.turn (record s { cause = cause }))
 first_at b parts seat s None played m =
-    first_by b parts seat (record s { cause = None }) (eqb s.health 0) (is_on_board b.width b.height (head_of s.body)) refl refl refl played m.body m.state
+    first_by b parts seat (record s { cause = None }) (eqb s.health 0) (is_wrapped b.mode) (is_on_board b.width b.height (head_of s.body)) refl refl refl refl played m.body m.state
 first_at b parts seat s (Some cause) played m = record { body = m.body; state = m.state }
 
-pub first_judges : (b : Board) (parts seat : ℕ) (s : Snake) → 1 ≤ b.turn → IsMoved b parts seat s → IsSound b parts seat (first_judged b.width b.height b.turn s)
+pub first_judges : (b : Board) (parts seat : ℕ) (s : Snake) → 1 ≤ b.turn → IsMoved b parts seat s → IsSound b parts seat (first_judged (is_wrapped b.mode) b.width b.height b.turn s)
 first_judges b parts seat s played m = first_at b parts seat s s.cause played m

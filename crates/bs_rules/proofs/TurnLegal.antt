@@ -1,17 +1,19 @@
 -- A turn of a legal board is legal.
-use Rattle.std.proofs.Common.{◌≡◌, ℕ, ◌+◌, ◌≤◌, ◌<◌, Bool, true, List, [], ◌∷◌, length, map, MatchOption, Option, Some, None, not, refl, sym, ◌∙◌, subst, arith, get_or}
+use Rattle.std.proofs.Common.{◌≡◌, ℕ, ◌+◌, ◌≤◌, ◌<◌, Bool, true, List, [], ◌∷◌, length, map, MatchOption, Option, Some, None, not, refl, sym, ◌∙◌, subst, arith, get_or, leb}
 use Rattle.std.specs.List.{list_any}
 use Rattle.std.proofs.lemmas.List.{length-map, get_or-map}
+use Rattle.std.proofs.lemmas.Bool.{and_parts, leb-true}
 use Rattle.bs_board.specs.declared.boards.point.Point.{Point}
 use Rattle.bs_board.specs.declared.boards.point.Direction.{Direction}
 use Rattle.bs_board.specs.declared.boards.board.Board.{Board}
 use Rattle.bs_board.specs.declared.boards.board.Mode.{Mode}
-use Rattle.bs_board.specs.declared.boards.board.Mode.TheVariants.{Standard, Solo, Constrictor}
+use Rattle.bs_board.specs.declared.boards.board.Mode.TheVariants.{Standard, Solo, Constrictor, Wrapped}
 use Rattle.bs_board.specs.declared.boards.snake.Snake.{Snake}
 use Rattle.bs_board.specs.declared.boards.snake.Cause.{Cause}
 use Rattle.bs_board.specs.boards.Legal.{IsLegal, IsLegalSnake, IsLegalLiving, IsLegalOut, IsWithinLimits, IsFreeOfFood, EachSeat}
 use Rattle.bs_board.specs.commands.Orders.{Orders}
-use Rattle.bs_board.specs.commands.Setup.{is_fit_food}
+use Rattle.bs_board.specs.boards.Wrap.{is_wrapped, wrap_of}
+use Rattle.bs_board.specs.commands.Setup.{is_fit_food, is_side}
 use Rattle.bs_food.specs.Spawning.{spawned}
 use Rattle.bs_food.proofs.NewFood.{spawned_refed}
 use Rattle.bs_modes.specs.Growth.{grown, grown_snake}
@@ -39,16 +41,20 @@ each_map P Q f xs step all seat d within =
 abbrev survivors : List (List ℕ × Direction) → Board → Board
 survivors orders b = collided (starved_or_outside (fed (moved_board orders b)))
 
+-- a side has cells
+some_side : (n : ℕ) → is_side n ≡ true → 1 ≤ n
+some_side n h = let least = leb-true 3 n (and_parts (leb 3 n) (leb n 25) h).0 in omega arith
+
 sound_moved : (b : Board) (orders : List (List ℕ × Direction)) → IsLegal b → EachSeat (IsMoved (later b) (b.turn + 3)) (moved_board orders b).snakes
 sound_moved b orders l =
-    each_map (IsLegalSnake b) (IsMoved (later b) (b.turn + 3)) (λ s. moved (given_to orders s.id) s) b.snakes
-    (λ seat s. moves b seat s (given_to orders s.id)) l.snakes
+    each_map (IsLegalSnake b) (IsMoved (later b) (b.turn + 3)) (λ s. moved (wrap_of b) (given_to orders s.id) s) b.snakes
+    (λ seat s. moves b seat s (given_to orders s.id) (some_side b.width l.limits.width) (some_side b.height l.limits.height)) l.snakes
 
 sound_judged : (b : Board) (orders : List (List ℕ × Direction)) (parts : ℕ) → EachSeat (IsMoved (later b) parts) (fed (moved_board orders b)).snakes
     → EachSeat (IsSound (later b) parts) (survivors orders b).snakes
 sound_judged b orders parts fed_ones =
     let judged = starved_or_outside (fed (moved_board orders b)) in
-    let first = each_map (IsMoved (later b) parts) (IsSound (later b) parts) (first_judged b.width b.height (b.turn + 1)) (fed (moved_board orders b)).snakes
+    let first = each_map (IsMoved (later b) parts) (IsSound (later b) parts) (first_judged (is_wrapped b.mode) b.width b.height (b.turn + 1)) (fed (moved_board orders b)).snakes
     (λ seat s. first_judges (later b) parts seat s (omega arith)) fed_ones in
     collides_sound judged (later b) parts refl (sym (seats_stay b orders)) first
 
@@ -68,32 +74,32 @@ sound_without_food b orders none l =
     sound_judged b orders (b.turn + 3) feed
 
 -- what is sound for one board is legal on another of the same size
-reframe_state : (f c : Board) (seat : ℕ) (s : Snake) (cause : Option Cause) → c.turn ≡ f.turn → c.width ≡ f.width → c.height ≡ f.height
+reframe_state : (f c : Board) (seat : ℕ) (s : Snake) (cause : Option Cause) → c.mode ≡ f.mode → c.turn ≡ f.turn → c.width ≡ f.width → c.height ≡ f.height
     → length c.snakes ≡ length f.snakes → MatchOption cause (IsLegalLiving f s) (IsLegalOut f seat s) → MatchOption cause (IsLegalLiving c s) (IsLegalOut c seat s)
-reframe_state f c seat s None turn width height seats state = record {
+reframe_state f c seat s None mode turn width height seats state = record {
   fed = state.fed;
   full = state.full;
   head = rw (width, height) state.head;
   killer = state.killer;
   out = state.out;
 }
-reframe_state f c seat s (Some cause) turn width height seats state = record {
+reframe_state f c seat s (Some cause) mode turn width height seats state = record {
   out = rw turn state.out;
   health = state.health;
-  head = rw (width, height) state.head;
+  head = rw (mode, width, height) state.head;
   killer = rw seats state.killer;
 }
 
-legal_snake : (f c : Board) (parts seat : ℕ) (s : Snake) → c.turn ≡ f.turn → c.width ≡ f.width → c.height ≡ f.height → length c.snakes ≡ length f.snakes
+legal_snake : (f c : Board) (parts seat : ℕ) (s : Snake) → c.mode ≡ f.mode → c.turn ≡ f.turn → c.width ≡ f.width → c.height ≡ f.height → length c.snakes ≡ length f.snakes
     → parts ≤ f.turn + 3 → IsSound f parts seat s → IsLegalSnake c seat s
-legal_snake f c parts seat s turn width height seats few sound = record {
+legal_snake f c parts seat s mode turn width height seats few sound = record {
   id = sound.body.id;
   body = record {
     long = sound.body.long;
     short = let short = sound.body.short in omega arith;
     inside = rw (width, height) sound.body.inside;
   };
-  state = reframe_state f c seat s s.cause turn width height seats sound.state;
+  state = reframe_state f c seat s s.cause mode turn width height seats sound.state;
 }
 
 legal_limits : (b c : Board) → c.width ≡ b.width → c.height ≡ b.height → c.chance ≡ b.chance → c.turn ≤ 10000 → length c.snakes ≡ length b.snakes
@@ -117,7 +123,7 @@ next_board_is_legal b food snakes fits free same ids sound l early =
       limits = legal_limits b next refl refl refl (omega arith) same l.limits;
       food = record { fits = fits; mode = free; minimum = l.food.minimum };
       ids = distinct_by_ids b.snakes snakes ids l.ids;
-      snakes = λ seat d within. legal_snake (later b) next (b.turn + 3 + 1) seat (get_or snakes seat d) refl refl refl same (omega arith) (sound seat d within);
+      snakes = λ seat d within. legal_snake (later b) next (b.turn + 3 + 1) seat (get_or snakes seat d) refl refl refl refl same (omega arith) (sound seat d within);
     }
 
 seats_survive : (b : Board) (orders : List (List ℕ × Direction)) → length (survivors orders b).snakes ≡ length b.snakes
@@ -160,6 +166,7 @@ replenished_is_legal : (b : Board) (orders : List (List ℕ × Direction)) (word
 replenished_is_legal b orders words Standard e l early = spawned_is_legal b orders words (λ food. rw e tt) l early
 replenished_is_legal b orders words Solo e l early = spawned_is_legal b orders words (λ food. rw e tt) l early
 replenished_is_legal b orders words Constrictor e l early = grown_is_legal b orders e l early
+replenished_is_legal b orders words Wrapped e l early = spawned_is_legal b orders words (λ food. rw e tt) l early
 
 -- all seats moved, then the rest of the turn
 pub finished_is_legal : (b : Board) (orders : List (List ℕ × Direction)) (words : List ℕ) → IsLegal b → b.turn < 10000
@@ -174,3 +181,9 @@ turn_is_legal b orders l early = finished_is_legal b orders.moves orders.words l
 pub next_is_legal : (b moved next : Board) (orders : List (List ℕ × Direction)) (words : List ℕ) → moved ≡ moved_board orders b → next ≡ finished words moved
     → IsLegal b → b.turn < 10000 → IsLegal next
 next_is_legal b moved next orders words e f l early = rw (f, e) (finished_is_legal b orders words l early)
+
+-- the same for the value, where the orders are told by their parts
+pub next_is_turn : (b moved next : Board) (orders : Orders) (moves : List (List ℕ × Direction)) (words : List ℕ) → moves ≡ orders.moves → words ≡ orders.words
+    → moved ≡ moved_board moves b → next ≡ finished words moved → next ≡ turn_of b orders
+unfolding turn_of
+next_is_turn b moved next orders moves words m w e f = rw (f, e, m, w) refl

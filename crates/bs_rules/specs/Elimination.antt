@@ -1,10 +1,11 @@
 -- Snakes that go out, and the first of them in a turn: the starved and those that left the board.
-use Rattle.std.specs.Prelude.{ℕ, ◌+◌, if◌then◌else◌, map, nat_eq, Option, Some, None}
+use Rattle.std.specs.Prelude.{ℕ, ◌+◌, Bool, ◌||◌, if◌then◌else◌, map, nat_eq, Option, Some, None}
 use Rattle.bs_board.specs.declared.boards.board.Board.{Board}
 use Rattle.bs_board.specs.declared.boards.snake.Snake.{Snake}
 use Rattle.bs_board.specs.declared.boards.snake.Cause.TheVariants.{OutOfHealth, WallCollision}
 use Rattle.bs_board.specs.boards.Cell.{head_of, is_on_board}
 use Rattle.bs_board.specs.boards.Over.{is_living}
+use Rattle.bs_board.specs.boards.Wrap.{is_wrapped}
 use Rattle.bs_rules.specs.declared.verdict.Verdict.{Verdict}
 
 -- out in that turn by that verdict, if there is one; its body and health it keeps
@@ -12,16 +13,16 @@ abbrev pub judged : ℕ → Option Verdict → Snake → Snake
 judged turn None s = s
 judged turn (Some v) s = record s { cause = Some v.cause; killer = v.killer; out = Some turn }
 
--- starved, else off the board; nobody's doing
-abbrev pub first_verdict : ℕ → ℕ → Snake → Option Verdict
-first_verdict width height s =
+-- starved, else off the board, where its sides do not meet; nobody's doing
+abbrev pub first_verdict : Bool → ℕ → ℕ → Snake → Option Verdict
+first_verdict wraps width height s =
     if nat_eq s.health 0 then Some (record { cause = OutOfHealth; killer = None })
-    else if is_on_board width height (head_of s.body) then None
+    else if wraps || is_on_board width height (head_of s.body) then None
     else Some (record { cause = WallCollision; killer = None })
 
-abbrev pub first_judged : ℕ → ℕ → ℕ → Snake → Snake
-first_judged width height turn s = if is_living s then judged turn (first_verdict width height s) s else s
+abbrev pub first_judged : Bool → ℕ → ℕ → ℕ → Snake → Snake
+first_judged wraps width height turn s = if is_living s then judged turn (first_verdict wraps width height s) s else s
 
 -- the board's number of turns still is the one before this turn
 abbrev pub starved_or_outside : Board → Board
-starved_or_outside b = record b { snakes = map (first_judged b.width b.height (b.turn + 1)) b.snakes }
+starved_or_outside b = record b { snakes = map (first_judged (is_wrapped b.mode) b.width b.height (b.turn + 1)) b.snakes }

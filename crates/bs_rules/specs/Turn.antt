@@ -2,7 +2,7 @@
 use Rattle.std.specs.Prelude.{ℕ, ◌+◌, List}
 use Rattle.bs_board.specs.declared.boards.board.Board.{Board}
 use Rattle.bs_board.specs.declared.boards.board.Mode.{Mode}
-use Rattle.bs_board.specs.declared.boards.board.Mode.TheVariants.{Standard, Solo, Constrictor}
+use Rattle.bs_board.specs.declared.boards.board.Mode.TheVariants.{Standard, Solo, Constrictor, Wrapped}
 use Rattle.bs_board.specs.commands.Orders.{Orders}
 use Rattle.bs_modes.specs.Growth.{grown}
 use Rattle.bs_food.specs.Spawning.{spawned}
@@ -16,6 +16,7 @@ abbrev pub replenished : Mode → List ℕ → Board → Board
 replenished Standard words b = spawned words b
 replenished Solo words b = spawned words b
 replenished Constrictor words b = grown b
+replenished Wrapped words b = spawned words b
 
 -- what follows the moves of all seats; the turn number rises last
 abbrev pub finished : List ℕ → Board → Board

@@ -7,15 +7,15 @@ use crate::verdict::{Verdict, put_out};
 use bs_board::limits::LAST_TURN;
 use bs_board::{Board, Cause, Snake, Snakes, head_of};
 
-fn first_verdict(width: u8, height: u8, snake: &Snake) -> Option<Verdict>
-    ensures { result ≡ first_verdict width height snake.now }
+fn first_verdict(wraps: bool, width: u8, height: u8, snake: &Snake) -> Option<Verdict>
+    ensures { result ≡ first_verdict wraps width height snake.now }
 {
     if snake.health == 0 {
         Some(Verdict {
             cause: Cause::OutOfHealth,
             killer: None,
         })
-    } else if head_of(snake.body.as_slice()).is_on_board(width, height) {
+    } else if wraps || head_of(snake.body.as_slice()).is_on_board(width, height) {
         None
     } else {
         Some(Verdict {
@@ -25,30 +25,31 @@ fn first_verdict(width: u8, height: u8, snake: &Snake) -> Option<Verdict>
     }
 }
 
-fn judge_first(width: u8, height: u8, turn: u16, snake: &mut Snake)
-    ensures { snake.new ≡ first_judged width height turn snake.old }
+fn judge_first(wraps: bool, width: u8, height: u8, turn: u16, snake: &mut Snake)
+    ensures { snake.new ≡ first_judged wraps width height turn snake.old }
 {
     if snake.is_living() {
-        let verdict = first_verdict(width, height, snake);
+        let verdict = first_verdict(wraps, width, height, snake);
         put_out(verdict, turn, snake);
     }
 }
 
 #[tactic(auto, using(bs_modes::proofs::InPlace::set_next))]
-fn judge_all_first(width: u8, height: u8, turn: u16, snakes: &mut Snakes)
-    ensures { snakes.new ≡ map (first_judged width height turn) snakes.old }
+fn judge_all_first(wraps: bool, width: u8, height: u8, turn: u16, snakes: &mut Snakes)
+    ensures { snakes.new ≡ map (first_judged wraps width height turn) snakes.old }
 {
     for seat in 0..snakes.len() {
-        judge_first(width, height, turn, snakes.seat_mut(seat));
+        judge_first(wraps, width, height, turn, snakes.seat_mut(seat));
     }
 }
 
 /// The first eliminations of the turn that is being played: each living snake that has starved is out, and each
-/// other one whose head has left the board.
+/// other one whose head has left the board. Where the sides of the board meet, nobody is out by the wall.
 pub fn first_out(board: &mut Board)
     requires { board.old.turn < LAST_TURN }
     ensures { board.new ≡ starved_or_outside board.old }
 {
+    let wraps = board.mode.is_wrapped();
     let (width, height, turn) = (board.width, board.height, board.turn + 1);
-    judge_all_first(width, height, turn, &mut board.snakes);
+    judge_all_first(wraps, width, height, turn, &mut board.snakes);
 }

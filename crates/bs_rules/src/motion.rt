@@ -2,8 +2,11 @@
 
 ghost use Rattle.std.specs.Prelude.{◌≡◌, ◌≤◌, true, IfOk, All, map, length};
 ghost use Rattle.bs_board.specs.boards.Legal.{is_near};
+ghost use Rattle.bs_board.specs.boards.Wrap.{AreSides};
 ghost use Rattle.bs_rules.specs.Motion.{
   second_of,
+  one_step,
+  on_torus,
   neighbor,
   onward,
   direction_taken,
@@ -19,9 +22,9 @@ use bs_board::limits::LONGEST_SIDE;
 use bs_board::{Cells, Direction, Id, Point, Snake, Snakes, head_of};
 use std::alloc::{AllocError, Global};
 
-fn neighbor(cell: Point, direction: Direction) -> Point
+fn one_step(cell: Point, direction: Direction) -> Point
     requires { is_near LONGEST_SIDE LONGEST_SIDE cell ≡ true }
-    ensures { result ≡ neighbor cell direction }
+    ensures { result ≡ one_step cell direction }
 {
     match direction {
         Direction::Up => Point {
@@ -43,39 +46,69 @@ fn neighbor(cell: Point, direction: Direction) -> Point
     }
 }
 
-fn onward(body: &[Point]) -> Direction
-    requires { is_near LONGEST_SIDE LONGEST_SIDE (second_of body.now) ≡ true }
-    ensures { result ≡ onward body.now }
+/// The column modulo the width and the row modulo the height, where the sides of the board meet.
+fn on_torus(wrap: Option<(u8, u8)>, cell: Point) -> Point
+    requires { AreSides wrap }
+    ensures { result ≡ on_torus wrap cell }
+{
+    match wrap {
+        None => cell,
+        Some((width, height)) => Point {
+            x: cell.x.rem_euclid(i16::from(width)),
+            y: cell.y.rem_euclid(i16::from(height)),
+        },
+    }
+}
+
+fn neighbor(wrap: Option<(u8, u8)>, cell: Point, direction: Direction) -> Point
+    requires sides { AreSides wrap }
+    requires near { is_near LONGEST_SIDE LONGEST_SIDE cell ≡ true }
+    ensures { result ≡ neighbor wrap cell direction }
+{
+    on_torus(wrap, one_step(cell, direction))
+}
+
+fn onward(wrap: Option<(u8, u8)>, body: &[Point]) -> Direction
+    requires sides { AreSides wrap }
+    requires near { is_near LONGEST_SIDE LONGEST_SIDE (second_of body.now) ≡ true }
+    ensures { result ≡ onward wrap body.now }
 {
     let head = head_of(body);
     let second = second_of(body);
-    if neighbor(second, Direction::Down).is_same_cell(head) {
+    if neighbor(wrap, second, Direction::Down).is_same_cell(head) {
         Direction::Down
-    } else if neighbor(second, Direction::Left).is_same_cell(head) {
+    } else if neighbor(wrap, second, Direction::Left).is_same_cell(head) {
         Direction::Left
-    } else if neighbor(second, Direction::Right).is_same_cell(head) {
+    } else if neighbor(wrap, second, Direction::Right).is_same_cell(head) {
         Direction::Right
     } else {
         Direction::Up
     }
 }
 
-fn direction_taken(given: Option<Direction>, body: &[Point]) -> Direction
-    requires { is_near LONGEST_SIDE LONGEST_SIDE (second_of body.now) ≡ true }
-    ensures { result ≡ direction_taken given body.now }
+fn direction_taken(wrap: Option<(u8, u8)>, given: Option<Direction>, body: &[Point]) -> Direction
+    requires sides { AreSides wrap }
+    requires near { is_near LONGEST_SIDE LONGEST_SIDE (second_of body.now) ≡ true }
+    ensures { result ≡ direction_taken wrap given body.now }
 {
     match given {
         Some(direction) => direction,
-        None => onward(body),
+        None => onward(wrap, body),
     }
 }
 
-fn move_body(alloc: Global, body: &[Point], given: Option<Direction>) -> Result<Cells, AllocError>
+fn move_body(
+    alloc: Global,
+    body: &[Point],
+    given: Option<Direction>,
+    wrap: Option<(u8, u8)>,
+) -> Result<Cells, AllocError>
+    requires sides { AreSides wrap }
     requires some { 1 ≤ length body.now }
     requires near { All (λ p. is_near LONGEST_SIDE LONGEST_SIDE p ≡ true) body.now }
-    ensures { IfOk result (λ cells. cells ≡ moved_body given body.now) }
+    ensures { IfOk result (λ cells. cells ≡ moved_body wrap given body.now) }
 {
-    let head = neighbor(head_of(body), direction_taken(given, body));
+    let head = neighbor(wrap, head_of(body), direction_taken(wrap, given, body));
     let mut parts = Vec::with_capacity(alloc, body.len())?;
     parts.push(head)?;
     parts.extend_from_slice(&body[..body.len() - 1])?;
@@ -83,21 +116,24 @@ fn move_body(alloc: Global, body: &[Point], given: Option<Direction>) -> Result<
 }
 
 /// A living snake one step on, in the given direction or else straight on: a new head in front, the last part taken
-/// away, a turn hungrier. One that is out stays as it is.
+/// away, a turn hungrier. One that is out stays as it is. `wrap` has the sides of a board where they meet, and a step is
+/// taken modulo them.
 pub fn move_snake(
     alloc: Global,
     snake: &Snake,
     given: Option<Direction>,
+    wrap: Option<(u8, u8)>,
 ) -> Result<Snake, AllocError>
-    requires { IsMovable snake.now }
-    ensures { IfOk result (λ next. next ≡ moved given snake.now) }
+    requires body { IsMovable snake.now }
+    requires sides { AreSides wrap }
+    ensures { IfOk result (λ next. next ≡ moved wrap given snake.now) }
 {
     if !snake.is_living() {
         return snake.copy(alloc);
     }
     Ok(Snake {
         id: snake.id.copy(alloc)?,
-        body: move_body(alloc, snake.body.as_slice(), given)?,
+        body: move_body(alloc, snake.body.as_slice(), given, wrap)?,
         health: snake.health.saturating_sub(1),
         cause: snake.cause,
         killer: snake.killer,
@@ -120,13 +156,16 @@ pub fn move_snakes(
     alloc: Global,
     snakes: &[Snake],
     moves: &[(Id, Direction)],
+    wrap: Option<(u8, u8)>,
 ) -> Result<Snakes, AllocError>
-    requires { All IsMovable snakes.now }
-    ensures { IfOk result (λ next. next ≡ moved_seats moves.now snakes.now) }
+    requires bodies { All IsMovable snakes.now }
+    requires sides { AreSides wrap }
+    ensures { IfOk result (λ next. next ≡ moved_seats wrap moves.now snakes.now) }
 {
     let mut seats = Vec::with_capacity(alloc, snakes.len())?;
     for snake in snakes {
-        seats.push(move_snake(alloc, snake, given_to(moves, &snake.id))?)?;
+        let given = given_to(moves, &snake.id);
+        seats.push(move_snake(alloc, snake, given, wrap)?)?;
     }
     Ok(Snakes::from_vec(seats))
 }

@@ -49,6 +49,7 @@ fn mode(text: &str) -> Mode {
     match text {
         "standard" => Mode::Standard,
         "solo" => Mode::Solo,
+        "wrapped" => Mode::Wrapped,
         _ => Mode::Constrictor,
     }
 }
@@ -138,7 +139,8 @@ fn told(alloc: Global, board: &Board) -> Result<String, AllocError> {
 // board is in nobody's way; two that run into each other's bodies are both out; into its own body; food that nobody
 // reaches stays. Then, with nothing ordered: a snake that has just started goes up, and then straight on, into the wall;
 // the word chooses the last but one of seven free cells; straight on to each side; in constrictor bodies grow as soon as
-// they are stretched.
+// they are stretched. Last, on boards whose sides meet: two snakes leave at the right and come back at the left, first as
+// they are told and then straight on; two heads meet on a cell beyond an edge.
 const TURNS: &str = r"solo 5 10 0|2,3|s 1 2,2 2,1 2,0>1>s=up>11||s 100 2,3 2,2 2,1 2,1
 solo 5 10 0||s 1 2,2 2,1 2,0>1>s=up>11||s 0 2,3 2,2 2,1 OutOfHealth in 11
 standard 5 10 0|2,2|A 90 1,2 0,2 0,1|B 90 3,2 4,2 4,1>1>A=right B=left>11||A 100 2,2 1,2 0,2 0,2 HeadCollision by 1 in 11|B 100 2,2 3,2 4,2 4,2 HeadCollision by 0 in 11
@@ -155,7 +157,13 @@ solo 3 0 0||s 100 1,1 1,1 1,1>2>>2||s 98 1,3 1,2 1,1 WallCollision in 2
 solo 3 0 1||s 100 1,1 1,1 1,1>1>5>1| 0,2|s 99 1,2 1,1 1,1
 standard 7 9 0||A 90 2,2 3,2 4,2|B 90 4,4 3,4 2,4|C 90 5,3 5,4 5,5>1>>10||A 89 1,2 2,2 3,2|B 89 5,4 4,4 3,4 BodyCollision by 2 in 10|C 89 5,2 5,3 5,4
 constrictor 7 0 0||s 100 1,1 1,1 1,1|t 100 5,1 5,1 5,1>1>>1||s 100 1,2 1,1 1,1|t 100 5,2 5,1 5,1
-constrictor 7 0 0||s 100 1,1 1,1 1,1|t 100 5,1 5,1 5,1>3>>3||s 100 1,4 1,3 1,2 1,1 1,1|t 100 5,4 5,3 5,2 5,1 5,1";
+constrictor 7 0 0||s 100 1,1 1,1 1,1|t 100 5,1 5,1 5,1>3>>3||s 100 1,4 1,3 1,2 1,1 1,1|t 100 5,4 5,3 5,2 5,1 5,1
+wrapped 5 0 0||s 100 3,1 3,1 3,1|t 100 3,3 3,3 3,3>1>s=right t=right>1||s 99 4,1 3,1 3,1|t 99 4,3 3,3 3,3
+wrapped 5 1 0||s 99 4,1 3,1 3,1|t 99 4,3 3,3 3,3>1>>2||s 98 0,1 4,1 3,1|t 98 0,3 4,3 3,3
+wrapped 5 2 0||s 98 0,1 4,1 3,1|t 98 0,3 4,3 3,3>1>>3||s 97 1,1 0,1 4,1|t 97 1,3 0,3 4,3
+wrapped 5 10 0||A 90 0,2 1,2 2,2|B 90 4,1 4,0 3,0>1>A=left B=up>11||A 89 4,2 0,2 1,2 HeadCollision by 1 in 11|B 89 4,2 4,1 4,0 HeadCollision by 0 in 11
+wrapped 3 10 0||s 1 1,0 1,1 1,2>1>>11||s 0 1,2 1,0 1,1 OutOfHealth in 11
+wrapped 7 10 0||A 90 0,0 0,1 0,2|B 90 6,3 5,3 4,3|C 90 3,6 3,5 3,4>2>>12||A 88 0,5 0,6 0,0|B 88 1,3 0,3 6,3|C 88 3,1 3,0 3,6";
 
 fn played(
     rt: &impl Abort,
@@ -199,8 +207,8 @@ fn two_heads_meet_at_food(rt: HostRuntime) -> Result<(), Fail> {
     assert!(rt; is_legal(&next));
     let before = next.snakes.as_slice();
     assert_eq!(rt; before.len(), 2);
-    let alone = move_snake(alloc, &before[0], None)?;
-    next.snakes = move_snakes(alloc, before, &[])?;
+    let alone = move_snake(alloc, &before[0], None, None)?;
+    next.snakes = move_snakes(alloc, before, &[], None)?;
     assert_eq!(rt; alone.body.as_slice().first(), Some(&Point { x: 2, y: 2 }));
     let moved = next.copy(alloc)?;
     assert_eq!(rt;

@@ -2,6 +2,7 @@
 
 ghost use Rattle.std.specs.Prelude.{◌≡◌, ◌<◌, ◌≤◌, IfOk, OnOk, All, length};
 ghost use Rattle.bs_board.specs.boards.Legal.{IsLegal};
+ghost use Rattle.bs_board.specs.boards.Wrap.{AreSides, wrap_of};
 ghost use Rattle.bs_rules.specs.Motion.{moved_board, IsMovable};
 ghost use Rattle.bs_rules.specs.Turn.{replenished, finished, turn_of};
 
@@ -16,7 +17,8 @@ use bs_modes::grow;
 use std::alloc::{AllocError, Global};
 
 fn move_board(alloc: Global, board: &Board, moves: &[(Id, Direction)]) -> Result<Board, AllocError>
-    requires { All IsMovable board.now.snakes }
+    requires bodies { All IsMovable board.now.snakes }
+    requires sides { AreSides (wrap_of board.now) }
     ensures { IfOk result (λ next. next ≡ moved_board moves.now board.now) }
 {
     Ok(Board {
@@ -27,7 +29,7 @@ fn move_board(alloc: Global, board: &Board, moves: &[(Id, Direction)]) -> Result
         min_food: board.min_food,
         chance: board.chance,
         food: board.food.copy(alloc)?,
-        snakes: move_snakes(alloc, board.snakes.as_slice(), moves)?,
+        snakes: move_snakes(alloc, board.snakes.as_slice(), moves, board.wrap())?,
     })
 }
 
@@ -39,6 +41,7 @@ fn replenish(alloc: Global, board: &mut Board, words: &[u32]) -> Result<(), Allo
         Mode::Standard => spawn(alloc, board, words),
         Mode::Solo => spawn(alloc, board, words),
         Mode::Constrictor => grow(alloc, board),
+        Mode::Wrapped => spawn(alloc, board, words),
     }
 }
 
@@ -61,7 +64,7 @@ pub fn finish_turn(alloc: Global, board: Board, words: &[u32]) -> Result<Board, 
 
 /// The board after one turn. A snake that no direction is given to goes straight on; directions for ids of no living
 /// snake are ignored, and so are words left over.
-#[tactic(auto, using(crate::proofs::Movable::legal_is_movable), unfolding(crate::specs::Turn::turn_of))]
+#[tactic(auto, using(crate::proofs::Movable::legal_is_movable))]
 pub fn turn(alloc: Global, board: &Board, order: &Move) -> Result<Board, AllocError>
     requires legal { IsLegal board.now }
     requires turn { board.now.turn < LAST_TURN }

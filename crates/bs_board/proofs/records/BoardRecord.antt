@@ -15,8 +15,8 @@ use Rattle.bs_board.specs.declared.records.decoding.Head.{Head}
 use Rattle.bs_board.specs.declared.boards.point.Point.{Point}
 use Rattle.bs_board.specs.declared.boards.snake.Snake.{Snake}
 use Rattle.bs_board.specs.boards.Legal.{IsLegal, EachSeat}
-use Rattle.bs_board.specs.records.Decoder.{◌>>=◌, Fails, mode_from_byte, from_two_bytes, read_cell, read_many, read_snake, read_head, read_board}
-use Rattle.bs_board.specs.records.Record.{two_bytes, mode_byte, cell_bytes, snake_record, head_bytes, record_of}
+use Rattle.bs_board.specs.records.Decoder.{◌>>=◌, Fails, mode_from_bytes, from_two_bytes, read_cell, read_many, read_snake, read_head, read_board}
+use Rattle.bs_board.specs.records.Record.{two_bytes, mode_byte, version_byte, cell_bytes, snake_record, head_bytes, record_of}
 use Rattle.bs_board.specs.records.Writing.{IsByteCell, IsWritable, IsWritableBoard}
 use Rattle.bs_board.proofs.Chains.{and_both}
 use Rattle.bs_board.proofs.records.Fields.{AreBytes, bind_some, some_is, along, carried, Takes, takes_both, high_back, low_back, number_again, mode_back, mode_again, cell_takes, cell_again}
@@ -27,24 +27,22 @@ use Rattle.bs_board.proofs.records.Writable.{legal_is_writable}
 -- ---- what stands before the cells of the food
 
 abbrev head_text : Head → List ℕ
-head_text h = (1 ∷ mode_byte h.mode ∷ h.width ∷ h.height ∷ two_bytes h.turn) ++ (h.min_food ∷ h.chance ∷ h.snakes ∷ two_bytes h.food)
+head_text h = (version_byte h.mode ∷ mode_byte h.mode ∷ h.width ∷ h.height ∷ two_bytes h.turn) ++ (h.min_food ∷ h.chance ∷ h.snakes ∷ two_bytes h.food)
 
 head_takes : (bytes : List ℕ) (head : Head) (rest : List ℕ) → AreBytes bytes → read_head bytes ≡ Some (head, rest) → Takes bytes (head_text head) rest
 unfolding read_head
 head_takes [] head rest fits e = absurd cc
-head_takes (zero ∷ bytes) head rest fits e = absurd cc
-head_takes (suc (suc v) ∷ bytes) head rest fits e = absurd cc
-head_takes (suc zero ∷ []) head rest fits e = absurd cc
-head_takes (suc zero ∷ a ∷ []) head rest fits e = absurd cc
-head_takes (suc zero ∷ a ∷ b ∷ []) head rest fits e = absurd cc
-head_takes (suc zero ∷ a ∷ b ∷ c ∷ []) head rest fits e = absurd cc
-head_takes (suc zero ∷ a ∷ b ∷ c ∷ d ∷ []) head rest fits e = absurd cc
-head_takes (suc zero ∷ a ∷ b ∷ c ∷ d ∷ f ∷ []) head rest fits e = absurd cc
-head_takes (suc zero ∷ a ∷ b ∷ c ∷ d ∷ f ∷ g ∷ []) head rest fits e = absurd cc
-head_takes (suc zero ∷ a ∷ b ∷ c ∷ d ∷ f ∷ g ∷ h ∷ []) head rest fits e = absurd cc
-head_takes (suc zero ∷ a ∷ b ∷ c ∷ d ∷ f ∷ g ∷ h ∷ i ∷ []) head rest fits e = absurd cc
-head_takes (suc zero ∷ a ∷ b ∷ c ∷ d ∷ f ∷ g ∷ h ∷ i ∷ j ∷ []) head rest fits e = absurd cc
-head_takes (suc zero ∷ mode ∷ width ∷ height ∷ th ∷ tl ∷ min_food ∷ chance ∷ snakes ∷ fh ∷ fl ∷ after) head rest fits e =
+head_takes (v ∷ []) head rest fits e = absurd cc
+head_takes (v ∷ a ∷ []) head rest fits e = absurd cc
+head_takes (v ∷ a ∷ b ∷ []) head rest fits e = absurd cc
+head_takes (v ∷ a ∷ b ∷ c ∷ []) head rest fits e = absurd cc
+head_takes (v ∷ a ∷ b ∷ c ∷ d ∷ []) head rest fits e = absurd cc
+head_takes (v ∷ a ∷ b ∷ c ∷ d ∷ f ∷ []) head rest fits e = absurd cc
+head_takes (v ∷ a ∷ b ∷ c ∷ d ∷ f ∷ g ∷ []) head rest fits e = absurd cc
+head_takes (v ∷ a ∷ b ∷ c ∷ d ∷ f ∷ g ∷ h ∷ []) head rest fits e = absurd cc
+head_takes (v ∷ a ∷ b ∷ c ∷ d ∷ f ∷ g ∷ h ∷ i ∷ []) head rest fits e = absurd cc
+head_takes (v ∷ a ∷ b ∷ c ∷ d ∷ f ∷ g ∷ h ∷ i ∷ j ∷ []) head rest fits e = absurd cc
+head_takes (v ∷ mode ∷ width ∷ height ∷ th ∷ tl ∷ min_food ∷ chance ∷ snakes ∷ fh ∷ fl ∷ after) head rest fits e =
     let made : Mode → Head = λ m. record {
       mode = m;
       width = width;
@@ -55,10 +53,10 @@ head_takes (suc zero ∷ mode ∷ width ∷ height ∷ th ∷ tl ∷ min_food �
       snakes = snakes;
       food = from_two_bytes fh fl;
     } in
-    let b = bind_some (mode_from_byte mode) (λ m. Some (made m, after)) (head, rest) e in
-    let bytes : List ℕ = 1 ∷ mode ∷ width ∷ height ∷ th ∷ tl ∷ min_food ∷ chance ∷ snakes ∷ fh ∷ fl ∷ after in
+    let b = bind_some (mode_from_bytes v mode) (λ m. Some (made m, after)) (head, rest) e in
+    let bytes : List ℕ = v ∷ mode ∷ width ∷ height ∷ th ∷ tl ∷ min_food ∷ chance ∷ snakes ∷ fh ∷ fl ∷ after in
     let here : Takes bytes (head_text (made b.0)) after = record {
-      parts = rw (mode_back mode b.0 b.1, high_back th tl (fits 5), low_back th tl (fits 5), high_back fh fl (fits 10), low_back fh fl (fits 10)) refl;
+      parts = let pair = mode_back v mode b.0 b.1 in rw (pair.0, pair.1, high_back th tl (fits 5), low_back th tl (fits 5), high_back fh fl (fits 10), low_back fh fl (fits 10)) refl;
       rest_fits = λ i. fits (suc (suc (suc (suc (suc (suc (suc (suc (suc (suc (suc i)))))))))));
     } in
     carried (λ (r : Head × List ℕ). Takes bytes (head_text r.0) r.1) (made b.0, after) (head, rest) b.2 here

@@ -1,18 +1,19 @@
 -- Numbers and cells: what is read is what is written so, and what is written is read again.
-use Rattle.std.proofs.Common.{◌≡◌, ℕ, suc, ◌+◌, ◌-◌, ◌/◌, ◌%◌, ◌<◌, ◌≤◌, Bool, true, false, cond, List, [], ◌∷◌, ◌++◌, get_or, drop, Option, Some, None, ℤ, pos, negsuc, nat_abs, ◌+ℤ◌, ◌-ℤ◌, ◌≤ℤ◌, refl, sym, ap, subst, ◌∙◌, append_assoc, arith, inl, inr}
+use Rattle.std.proofs.Common.{◌≡◌, ℕ, suc, ◌+◌, ◌-◌, ◌/◌, ◌%◌, ◌<◌, ◌≤◌, Bool, true, false, ◌&&◌, cond, List, [], ◌∷◌, ◌++◌, get_or, drop, Option, Some, None, ℤ, pos, negsuc, nat_abs, ◌+ℤ◌, ◌-ℤ◌, ◌≤ℤ◌, refl, sym, ap, subst, ◌∙◌, append_assoc, arith, inl, inr}
 use Rattle.std.specs.Prelude.{nat_eq, unwrap_or, MatchOption}
 use Rattle.std.specs.List.{find}
 use Rattle.std.proofs.lemmas.Bool.{cases_Bool, eqb-true, eqb-false}
 use Rattle.std.proofs.lemmas.Int.{ints}
 use Rattle.std.proofs.lemmas.List.{get_or-drop}
 use Rattle.bs_board.specs.declared.boards.board.Mode.{Mode}
-use Rattle.bs_board.specs.declared.boards.board.Mode.TheVariants.{Standard, Solo, Constrictor}
+use Rattle.bs_board.specs.declared.boards.board.Mode.TheVariants.{Standard, Solo, Constrictor, Wrapped}
 use Rattle.bs_board.specs.declared.boards.point.Point.{Point}
 use Rattle.bs_board.specs.declared.boards.snake.Cause.{Cause}
 use Rattle.bs_board.specs.declared.boards.snake.Cause.TheVariants.{OutOfHealth, WallCollision, SelfCollision, BodyCollision, HeadCollision}
-use Rattle.bs_board.specs.records.Decoder.{◌>>=◌, mode_from_byte, cause_from_byte, killer_from_byte, out_from_number, from_two_bytes, read_cell}
-use Rattle.bs_board.specs.records.Record.{mode_byte, cause_byte, killer_byte, cell_bytes}
+use Rattle.bs_board.specs.records.Decoder.{◌>>=◌, mode_from_bytes, cause_from_byte, killer_from_byte, out_from_number, from_two_bytes, read_cell}
+use Rattle.bs_board.specs.records.Record.{mode_byte, version_byte, cause_byte, killer_byte, cell_bytes}
 use Rattle.bs_board.specs.records.Writing.{IsByteCell}
+use Rattle.bs_board.proofs.Chains.{and_both}
 
 abbrev pub AreBytes : List ℕ → Type 0
 AreBytes bytes = (i : ℕ) → get_or bytes i 0 < 256
@@ -70,13 +71,18 @@ find_passes {X = X} test (y ∷ xs) x found =
           find_passes test xs x (sym here ∙ found)
     ]
 
-pub mode_back : (byte : ℕ) (mode : Mode) → mode_from_byte byte ≡ Some mode → mode_byte mode ≡ byte
-mode_back byte mode found = eqb-true (mode_byte mode) byte (find_passes (λ m. nat_eq (mode_byte m) byte) (Standard ∷ Solo ∷ Constrictor ∷ []) mode found)
+pub mode_back : (version byte : ℕ) (mode : Mode) → mode_from_bytes version byte ≡ Some mode → (version_byte mode ≡ version) × (mode_byte mode ≡ byte)
+mode_back version byte mode found =
+    let both =
+    and_both (nat_eq (version_byte mode) version) (nat_eq (mode_byte mode) byte)
+    (find_passes (λ m. nat_eq (version_byte m) version && nat_eq (mode_byte m) byte) (Standard ∷ Solo ∷ Constrictor ∷ Wrapped ∷ []) mode found) in
+    (eqb-true (version_byte mode) version both.0, eqb-true (mode_byte mode) byte both.1)
 
-pub mode_again : (mode : Mode) → mode_from_byte (mode_byte mode) ≡ Some mode
+pub mode_again : (mode : Mode) → mode_from_bytes (version_byte mode) (mode_byte mode) ≡ Some mode
 mode_again Standard = refl
 mode_again Solo = refl
 mode_again Constrictor = refl
+mode_again Wrapped = refl
 
 pub cause_back : (byte : ℕ) (cause : Option Cause) → cause_from_byte byte ≡ Some cause → cause_byte cause ≡ byte
 cause_back byte cause found =

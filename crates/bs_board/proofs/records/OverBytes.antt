@@ -5,7 +5,7 @@ use Rattle.std.proofs.lemmas.List.{drop_at, drop_more, length-drop, take_all}
 use Rattle.std.proofs.lemmas.List.Sums.{count_by_more_no, count_by_more_yes}
 use Rattle.bs_board.specs.declared.boards.board.Board.{Board}
 use Rattle.bs_board.specs.declared.boards.board.Mode.{Mode}
-use Rattle.bs_board.specs.declared.boards.board.Mode.TheVariants.{Standard, Solo, Constrictor}
+use Rattle.bs_board.specs.declared.boards.board.Mode.TheVariants.{Standard, Solo, Constrictor, Wrapped}
 use Rattle.bs_board.specs.declared.boards.point.Point.{Point}
 use Rattle.bs_board.specs.declared.boards.snake.Snake.{Snake}
 use Rattle.bs_board.specs.declared.boards.snake.Cause.{Cause}
@@ -98,6 +98,7 @@ last_by_mode : (mode : Mode) → (if nat_eq (mode_byte mode) 1 then 0 else 1) �
 last_by_mode Standard = refl
 last_by_mode Solo = refl
 last_by_mode Constrictor = refl
+last_by_mode Wrapped = refl
 
 mode_in_record : (b : Board) → slice_index_or (record_of b) 1 0 ≡ mode_byte b.mode
 unfolding record_of

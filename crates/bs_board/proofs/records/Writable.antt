@@ -1,5 +1,5 @@
 -- The numbers of a legal board have the room that its record gives them.
-use Rattle.std.proofs.Common.{◌≡◌, ℕ, ◌+◌, ◌*◌, ◌<◌, ◌≤◌, true, not, List, [], ◌∷◌, length, drop, get_or, All, MatchOption, Option, Some, None, ℤ, pos, negsuc, ◌+ℤ◌, arith}
+use Rattle.std.proofs.Common.{◌≡◌, ℕ, ◌+◌, ◌*◌, ◌<◌, ◌≤◌, Bool, true, false, not, List, [], ◌∷◌, length, drop, get_or, All, MatchOption, Option, Some, None, ℤ, pos, negsuc, ◌+ℤ◌, arith}
 use Rattle.std.specs.Prelude.{int_le, int_lt}
 use Rattle.std.proofs.lemmas.Int.{ints}
 use Rattle.std.proofs.lemmas.List.Elements.{All-cons, All-weaker}
@@ -12,6 +12,7 @@ use Rattle.bs_board.specs.declared.boards.snake.Cause.{Cause}
 use Rattle.bs_board.specs.declared.boards.snake.Cause.TheVariants.{OutOfHealth, WallCollision, SelfCollision, BodyCollision, HeadCollision}
 use Rattle.bs_board.specs.boards.Cell.{head_of, is_on_board}
 use Rattle.bs_board.specs.boards.Legal.{IsLegal, IsLegalSnake, IsLegalLiving, IsLegalOut, IsKillerOf, IsTurnBy, is_near, is_head_of}
+use Rattle.bs_board.specs.boards.Wrap.{is_wrapped}
 use Rattle.bs_board.specs.records.Writing.{IsByte, IsByteCell, IsWritable, IsWritableBoard}
 use Rattle.bs_board.proofs.Utf8.{short_text}
 use Rattle.bs_board.proofs.Chains.{and_both}
@@ -41,17 +42,19 @@ near_is_byte width height p wide high near =
     record { x = near_side_is_byte p.x width wide first.0 first.1; y = near_side_is_byte p.y height high low.1 last.1 }
 
 -- where the head of a snake that is out may stand
-out_is_byte : (cause : Cause) (width height : ℕ) (p : Point) → width ≤ 25 → height ≤ 25 → is_head_of cause width height p ≡ true → IsByteCell 1 p
-out_is_byte OutOfHealth width height p wide high head = near_is_byte width height p wide high head
-out_is_byte WallCollision width height p wide high head = near_is_byte width height p wide high (and_both (is_near width height p) (not (is_on_board width height p)) head).0
-out_is_byte SelfCollision width height p wide high head = (on_board_is_byte width height p wide high head).1
-out_is_byte BodyCollision width height p wide high head = (on_board_is_byte width height p wide high head).1
-out_is_byte HeadCollision width height p wide high head = (on_board_is_byte width height p wide high head).1
+out_is_byte : (cause : Cause) (wraps : Bool) (width height : ℕ) (p : Point) → width ≤ 25 → height ≤ 25 → is_head_of wraps cause width height p ≡ true → IsByteCell 1 p
+out_is_byte OutOfHealth true width height p wide high head = (on_board_is_byte width height p wide high head).1
+out_is_byte OutOfHealth false width height p wide high head = near_is_byte width height p wide high head
+out_is_byte WallCollision true width height p wide high head = absurd cc
+out_is_byte WallCollision false width height p wide high head = near_is_byte width height p wide high (and_both (is_near width height p) (not (is_on_board width height p)) head).0
+out_is_byte SelfCollision wraps width height p wide high head = (on_board_is_byte width height p wide high head).1
+out_is_byte BodyCollision wraps width height p wide high head = (on_board_is_byte width height p wide high head).1
+out_is_byte HeadCollision wraps width height p wide high head = (on_board_is_byte width height p wide high head).1
 
 head_is_byte : (b : Board) (seat : ℕ) (s : Snake) (cause : Option Cause) → b.width ≤ 25 → b.height ≤ 25 → MatchOption cause (IsLegalLiving b s) (IsLegalOut b seat s)
     → IsByteCell 1 (head_of s.body)
 head_is_byte b seat s None wide high state = (on_board_is_byte b.width b.height (head_of s.body) wide high state.head).1
-head_is_byte b seat s (Some cause) wide high state = out_is_byte cause b.width b.height (head_of s.body) wide high state.head
+head_is_byte b seat s (Some cause) wide high state = out_is_byte cause (is_wrapped b.mode) b.width b.height (head_of s.body) wide high state.head
 
 abbrev FitsKiller : Option ℕ → Type 0
 FitsKiller killer = MatchOption killer (Unit {0}) (λ k. k + 1 < 256)

@@ -1,14 +1,15 @@
 -- When a board is one that a game can reach.
-use Rattle.std.specs.Prelude.{◌≡◌, ◌≢◌, ℕ, ◌+◌, ◌<◌, ◌≤◌, Bool, true, not, ◌&&◌, List, length, slice_index_or, drop, All, MatchOption, Some, None, Option, pos, negsuc, int_le}
+use Rattle.std.specs.Prelude.{◌≡◌, ◌≢◌, ℕ, ◌+◌, ◌<◌, ◌≤◌, Bool, true, not, ◌&&◌, if◌then◌else◌, List, length, slice_index_or, drop, All, MatchOption, Some, None, Option, pos, negsuc, int_le}
 use Rattle.bs_board.specs.declared.boards.point.Point.{Point}
 use Rattle.bs_board.specs.declared.boards.board.Board.{Board}
 use Rattle.bs_board.specs.declared.boards.board.Mode.{Mode}
-use Rattle.bs_board.specs.declared.boards.board.Mode.TheVariants.{Standard, Solo, Constrictor}
+use Rattle.bs_board.specs.declared.boards.board.Mode.TheVariants.{Standard, Solo, Constrictor, Wrapped}
 use Rattle.bs_board.specs.declared.boards.snake.Snake.{Snake}
 use Rattle.bs_board.specs.declared.boards.snake.Cause.{Cause}
 use Rattle.bs_board.specs.declared.boards.snake.Cause.TheVariants.{OutOfHealth, WallCollision, SelfCollision, BodyCollision, HeadCollision}
 use Rattle.bs_board.specs.declared.limits.TheConstants.{FIRST_PARTS, FULL_HEALTH, LAST_TURN, MOST_CHANCE, MOST_MIN_FOOD, MOST_SNAKES}
 use Rattle.bs_board.specs.boards.Cell.{head_of, is_on_board}
+use Rattle.bs_board.specs.boards.Wrap.{is_wrapped}
 use Rattle.bs_board.specs.Distinct.{are_distinct}
 use Rattle.bs_board.specs.commands.Setup.{is_side, is_fit_food}
 use Rattle.bs_board.specs.Texts.{is_same_text, is_short_text}
@@ -38,6 +39,7 @@ abbrev pub IsFreeOfFood : Mode → List Point → Type 0
 IsFreeOfFood Standard food = Unit {0}
 IsFreeOfFood Solo food = Unit {0}
 IsFreeOfFood Constrictor food = length food ≡ 0
+IsFreeOfFood Wrapped food = Unit {0}
 
 -- cells of the board, none twice, and a minimum that a byte holds
 pub record IsLegalFood (b : Board) : Type 0 where
@@ -65,13 +67,14 @@ IsHealthOf SelfCollision health = (1 ≤ health) × (health ≤ FULL_HEALTH)
 IsHealthOf BodyCollision health = (1 ≤ health) × (health ≤ FULL_HEALTH)
 IsHealthOf HeadCollision health = (1 ≤ health) × (health ≤ FULL_HEALTH)
 
--- a starved snake's head may stand anywhere near, one that hit the wall is off the board, the others are on it
-abbrev pub is_head_of : Cause → ℕ → ℕ → Point → Bool
-is_head_of OutOfHealth width height p = is_near width height p
-is_head_of WallCollision width height p = is_near width height p && not (is_on_board width height p)
-is_head_of SelfCollision width height p = is_on_board width height p
-is_head_of BodyCollision width height p = is_on_board width height p
-is_head_of HeadCollision width height p = is_on_board width height p
+-- a starved snake's head may stand anywhere near, one that hit the wall is off the board, the others are on it; where
+-- the sides of the board meet, each head is on it and nobody is out by the wall
+abbrev pub is_head_of : Bool → Cause → ℕ → ℕ → Point → Bool
+is_head_of wraps OutOfHealth width height p = if wraps then is_on_board width height p else is_near width height p
+is_head_of wraps WallCollision width height p = not wraps && is_near width height p && not (is_on_board width height p)
+is_head_of wraps SelfCollision width height p = is_on_board width height p
+is_head_of wraps BodyCollision width height p = is_on_board width height p
+is_head_of wraps HeadCollision width height p = is_on_board width height p
 
 -- none, the snake itself, or another seat
 abbrev pub IsOtherSeat : ℕ → ℕ → Option ℕ → Type 0
@@ -91,7 +94,7 @@ IsTurnBy turn out = MatchOption out ⊥ (λ t. (1 ≤ t) × (t ≤ turn))
 pub record IsLegalOut (b : Board) (seat : ℕ) (s : Snake) (cause : Cause) : Type 0 where
   pub out : IsTurnBy b.turn s.out
   pub health : IsHealthOf cause s.health
-  pub head : is_head_of cause b.width b.height (head_of s.body) ≡ true
+  pub head : is_head_of (is_wrapped b.mode) cause b.width b.height (head_of s.body) ≡ true
   pub killer : IsKillerOf cause (length b.snakes) seat s.killer
 
 pub record IsLegalSnake (b : Board) (seat : ℕ) (s : Snake) : Type 0 where

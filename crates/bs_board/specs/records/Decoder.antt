@@ -1,10 +1,10 @@
 -- The steps of the decoder, which only the contracts of its private functions cite. What bytes mean to a caller is said by
 -- `decode`: they are the record of a legal board, or of none. A reader gives a value and the bytes behind it, or nothing
 -- where no value stands.
-use Rattle.std.specs.Prelude.{◌≡◌, ◌==◌, ℕ, zero, suc, ◌+◌, ◌*◌, ◌-◌, Bool, if◌then◌else◌, List, [], ◌∷◌, length, take, drop, min, find, Option, Some, None, Result, Ok, Err, nat_lt, pos, ◌-ℤ◌}
+use Rattle.std.specs.Prelude.{◌≡◌, ◌==◌, ℕ, zero, suc, ◌+◌, ◌*◌, ◌-◌, Bool, ◌&&◌, if◌then◌else◌, List, [], ◌∷◌, length, take, drop, min, find, Option, Some, None, Result, Ok, Err, nat_lt, pos, ◌-ℤ◌}
 use Rattle.bs_board.specs.declared.boards.board.Board.{Board}
 use Rattle.bs_board.specs.declared.boards.board.Mode.{Mode}
-use Rattle.bs_board.specs.declared.boards.board.Mode.TheVariants.{Standard, Solo, Constrictor}
+use Rattle.bs_board.specs.declared.boards.board.Mode.TheVariants.{Standard, Solo, Constrictor, Wrapped}
 use Rattle.bs_board.specs.declared.records.decode_error.Decode.{Decode}
 use Rattle.bs_board.specs.declared.records.decode_error.Decode.TheVariants.{NotARecord, Memory}
 use Rattle.bs_board.specs.declared.records.decoding.Head.{Head}
@@ -13,7 +13,7 @@ use Rattle.bs_board.specs.declared.boards.point.Point.{Point}
 use Rattle.bs_board.specs.declared.boards.snake.Snake.{Snake}
 use Rattle.bs_board.specs.declared.boards.snake.Cause.{Cause}
 use Rattle.bs_board.specs.declared.boards.snake.Cause.TheVariants.{OutOfHealth, WallCollision, SelfCollision, BodyCollision, HeadCollision}
-use Rattle.bs_board.specs.records.Record.{mode_byte, cause_byte}
+use Rattle.bs_board.specs.records.Record.{mode_byte, version_byte, cause_byte}
 
 infixl 10 ◌>>=◌
 abbrev pub ◌>>=◌ : {A B : Type 0} → Option A → (A → Option B) → Option B
@@ -29,9 +29,10 @@ abbrev pub Gives : {X Y : Type 0} → (X → Y) → Result X Decode → Option Y
 Gives view (Ok x) read = read ≡ Some (view x)
 Gives view (Err error) read = Fails error read
 
--- the mode and the cause that have this byte
-abbrev pub mode_from_byte : ℕ → Option Mode
-mode_from_byte byte = find (λ mode. mode_byte mode == byte) (Standard ∷ Solo ∷ Constrictor ∷ [])
+-- the mode that has these bytes, and the cause that has this byte
+abbrev pub mode_from_bytes : ℕ → ℕ → Option Mode
+mode_from_bytes version byte =
+    find (λ mode. version_byte mode == version && mode_byte mode == byte) (Standard ∷ Solo ∷ Constrictor ∷ Wrapped ∷ [])
 
 abbrev pub cause_from_byte : ℕ → Option (Option Cause)
 cause_from_byte byte =
@@ -103,8 +104,8 @@ read_snake is_text bytes = do
   )
 
 unfoldable pub read_head : List ℕ → Option (Head × List ℕ)
-read_head (suc zero ∷ mode_is ∷ width ∷ height ∷ turn_high ∷ turn_low ∷ min_food ∷ chance ∷ snakes ∷ food_high ∷ food_low ∷ rest) = do
-  mode ← mode_from_byte mode_is
+read_head (version ∷ mode_is ∷ width ∷ height ∷ turn_high ∷ turn_low ∷ min_food ∷ chance ∷ snakes ∷ food_high ∷ food_low ∷ rest) = do
+  mode ← mode_from_bytes version mode_is
   Some (
     record {
       mode = mode;

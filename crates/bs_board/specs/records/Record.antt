@@ -3,7 +3,7 @@ use Rattle.std.specs.Prelude.{ℕ, ◌+◌, ◌/◌, ◌%◌, List, [], ◌∷�
 use Rattle.bs_board.specs.declared.boards.point.Point.{Point}
 use Rattle.bs_board.specs.declared.boards.board.Board.{Board}
 use Rattle.bs_board.specs.declared.boards.board.Mode.{Mode}
-use Rattle.bs_board.specs.declared.boards.board.Mode.TheVariants.{Standard, Solo, Constrictor}
+use Rattle.bs_board.specs.declared.boards.board.Mode.TheVariants.{Standard, Solo, Constrictor, Wrapped}
 use Rattle.bs_board.specs.declared.boards.snake.Snake.{Snake}
 use Rattle.bs_board.specs.declared.boards.snake.Cause.{Cause}
 use Rattle.bs_board.specs.declared.boards.snake.Cause.TheVariants.{OutOfHealth, WallCollision, SelfCollision, BodyCollision, HeadCollision}
@@ -16,6 +16,14 @@ abbrev pub mode_byte : Mode → ℕ
 mode_byte Standard = 0
 mode_byte Solo = 1
 mode_byte Constrictor = 2
+mode_byte Wrapped = 3
+
+-- the version in which the mode came
+abbrev pub version_byte : Mode → ℕ
+version_byte Standard = 1
+version_byte Solo = 1
+version_byte Constrictor = 1
+version_byte Wrapped = 2
 
 abbrev pub cause_byte : Option Cause → ℕ
 cause_byte None = 0
@@ -45,7 +53,7 @@ snake_record s = (length s.id ∷ s.id) ++ state_bytes s ++ flat_map (cell_bytes
 -- what stands before the cells of the food
 abbrev pub head_bytes : Board → List ℕ
 head_bytes b =
-    (1 ∷ mode_byte b.mode ∷ b.width ∷ b.height ∷ two_bytes b.turn)
+    (version_byte b.mode ∷ mode_byte b.mode ∷ b.width ∷ b.height ∷ two_bytes b.turn)
     ++ (b.min_food ∷ b.chance ∷ length b.snakes ∷ two_bytes (length b.food))
 
 unfoldable pub record_of : Board → List ℕ

@@ -1,6 +1,7 @@
 //! A board and the modes of a game.
 
 ghost use Rattle.std.specs.Prelude.{◌≡◌, IfOk};
+ghost use Rattle.bs_board.specs.boards.Wrap.{is_wrapped, wrap_of};
 
 use crate::boards::cells::Cells;
 use crate::boards::snakes::Snakes;
@@ -12,6 +13,22 @@ pub enum Mode {
     Standard,
     Solo,
     Constrictor,
+    /// As standard, but the sides of the board meet: who leaves it at one comes back at the other.
+    Wrapped,
+}
+
+impl Mode {
+    /// Whether the sides of the board meet.
+    pub fn is_wrapped(self) -> bool
+        ensures { result ≡ is_wrapped self }
+    {
+        match self {
+            Mode::Standard => false,
+            Mode::Solo => false,
+            Mode::Constrictor => false,
+            Mode::Wrapped => true,
+        }
+    }
 }
 
 /// A board as it stands after a turn.
@@ -47,5 +64,16 @@ impl Board {
             food: self.food.copy(alloc)?,
             snakes: self.snakes.copy(alloc)?,
         })
+    }
+
+    /// The sides that a step is taken modulo, none where it may lead off the board.
+    pub fn wrap(&self) -> Option<(u8, u8)>
+        ensures { result ≡ wrap_of self.now }
+    {
+        if self.mode.is_wrapped() {
+            Some((self.width, self.height))
+        } else {
+            None
+        }
     }
 }

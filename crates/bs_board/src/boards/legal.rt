@@ -60,6 +60,7 @@ fn is_free_of_food(mode: Mode, food: &[Point]) -> bool
         Mode::Standard => true,
         Mode::Solo => true,
         Mode::Constrictor => food.is_empty(),
+        Mode::Wrapped => true,
     }
 }
 
@@ -135,6 +136,7 @@ fn is_legal_out(board: &Board, seat: usize, snake: &Snake, cause: Cause) -> bool
     is_turn_by(board.turn, snake.out)
         && is_health_of(cause, snake.health)
         && is_head_of(
+            board.mode.is_wrapped(),
             cause,
             board.width,
             board.height,
@@ -170,12 +172,20 @@ fn is_near(width: u8, height: u8, cell: Point) -> bool
     -1 <= cell.x && cell.x <= i16::from(width) && -1 <= cell.y && cell.y <= i16::from(height)
 }
 
-fn is_head_of(cause: Cause, width: u8, height: u8, head: Point) -> bool
-    ensures { result ≡ is_head_of cause width height head }
+fn is_head_of(wraps: bool, cause: Cause, width: u8, height: u8, head: Point) -> bool
+    ensures { result ≡ is_head_of wraps cause width height head }
 {
     match cause {
-        Cause::OutOfHealth => is_near(width, height, head),
-        Cause::WallCollision => is_near(width, height, head) && !head.is_on_board(width, height),
+        Cause::OutOfHealth => {
+            if wraps {
+                head.is_on_board(width, height)
+            } else {
+                is_near(width, height, head)
+            }
+        }
+        Cause::WallCollision => {
+            !wraps && is_near(width, height, head) && !head.is_on_board(width, height)
+        }
         Cause::SelfCollision => head.is_on_board(width, height),
         Cause::BodyCollision => head.is_on_board(width, height),
         Cause::HeadCollision => head.is_on_board(width, height),

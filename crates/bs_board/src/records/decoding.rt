@@ -7,7 +7,7 @@ ghost use Rattle.bs_board.specs.declared.records.decode_error.Decode.TheVariants
 ghost use Rattle.bs_board.specs.boards.Legal.{IsLegal};
 ghost use Rattle.bs_board.specs.records.Decoder.{
   Gives,
-  mode_from_byte,
+  mode_from_bytes,
   cause_from_byte,
   killer_from_byte,
   out_from_number,
@@ -80,13 +80,15 @@ struct State {
     parts: u16,
 }
 
-fn mode_from_byte(byte: u8) -> Result<Mode, Decode>
-    ensures { Gives (λ mode. mode) result (mode_from_byte byte) }
+/// Each mode has its own pair of version and byte, and there is no other.
+fn mode_from_bytes(version: u8, byte: u8) -> Result<Mode, Decode>
+    ensures { Gives (λ mode. mode) result (mode_from_bytes version byte) }
 {
-    match byte {
-        0 => Ok(Mode::Standard),
-        1 => Ok(Mode::Solo),
-        2 => Ok(Mode::Constrictor),
+    match (version, byte) {
+        (1, 0) => Ok(Mode::Standard),
+        (1, 1) => Ok(Mode::Solo),
+        (1, 2) => Ok(Mode::Constrictor),
+        (2, 3) => Ok(Mode::Wrapped),
         _ => Err(Decode::NotARecord),
     }
 }
@@ -263,7 +265,7 @@ pub(crate) fn read_head(bytes: &[u8]) -> Result<(Head, &[u8]), Decode>
 {
     match bytes {
         [
-            1,
+            version,
             mode,
             width,
             height,
@@ -277,7 +279,7 @@ pub(crate) fn read_head(bytes: &[u8]) -> Result<(Head, &[u8]), Decode>
             rest @ ..,
         ] => {
             let head = Head {
-                mode: mode_from_byte(*mode)?,
+                mode: mode_from_bytes(*version, *mode)?,
                 width: *width,
                 height: *height,
                 turn: from_two_bytes(*turn_high, *turn_low),

@@ -5,6 +5,7 @@ ghost use Rattle.bs_board.specs.boards.Legal.{IsLegal};
 ghost use Rattle.bs_board.specs.records.Record.{
   two_bytes,
   mode_byte,
+  version_byte,
   cause_byte,
   killer_byte,
   cell_bytes,
@@ -53,7 +54,7 @@ fn head_bytes(board: &Board) -> [u8; 11]
     let [turn_high, turn_low] = two_bytes(board.turn);
     let [food_high, food_low] = two_bytes(board.food.len() as u16);
     [
-        1,
+        version_byte(board.mode),
         mode_byte(board.mode),
         board.width,
         board.height,
@@ -90,6 +91,19 @@ fn mode_byte(mode: Mode) -> u8
         Mode::Standard => 0,
         Mode::Solo => 1,
         Mode::Constrictor => 2,
+        Mode::Wrapped => 3,
+    }
+}
+
+/// The version in which the mode came.
+fn version_byte(mode: Mode) -> u8
+    ensures { result ≡ version_byte mode }
+{
+    match mode {
+        Mode::Standard => 1,
+        Mode::Solo => 1,
+        Mode::Constrictor => 1,
+        Mode::Wrapped => 2,
     }
 }
 

@@ -1,7 +1,9 @@
-//! What a record says of its board with no board decoded: its turn, and how many seats it has.
+//! What a record says of its board with no board decoded: its turn, how many seats it has, and the sides that its
+//! steps are taken modulo.
 
-ghost use Rattle.std.specs.Prelude.{◌≡◌, ◌≤◌, length};
+ghost use Rattle.std.specs.Prelude.{◌≡◌, ◌≤◌, length, nat_eq, if◌then◌else◌, Some, None};
 ghost use Rattle.bs_board.specs.declared.boards.board.Board.{Board as AnyBoard};
+ghost use Rattle.bs_board.specs.boards.Wrap.{wrap_of};
 ghost use Rattle.bs_board.specs.records.Record.{record_of};
 
 /// The turn of the board whose record the bytes are.
@@ -20,4 +22,25 @@ pub fn seats_of_record(bytes: &[u8]) -> usize
     ensures { (b : AnyBoard) → bytes.now ≡ record_of b → result ≡ length b.snakes }
 {
     usize::from(bytes[8])
+}
+
+/// The mode's byte of a wrapped game.
+const WRAPPED: u8 = 3;
+
+fn wrap_from(mode: u8, width: u8, height: u8) -> Option<(u8, u8)>
+    ensures { result ≡ (if nat_eq mode 3 then Some (width, height) else None) }
+{
+    if mode == WRAPPED {
+        Some((width, height))
+    } else {
+        None
+    }
+}
+
+/// The sides that a step is taken modulo on the board whose record the bytes are, none where it may lead off the board.
+pub fn wrap_of_record(bytes: &[u8]) -> Option<(u8, u8)>
+    requires { 4 ≤ length bytes.now }
+    ensures { (b : AnyBoard) → bytes.now ≡ record_of b → result ≡ wrap_of b }
+{
+    wrap_from(bytes[1], bytes[2], bytes[3])
 }

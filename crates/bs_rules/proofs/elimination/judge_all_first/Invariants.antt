@@ -4,4 +4,4 @@ use Rattle.bs_rules.proofs.elimination.judge_all_first.Given as goal
 
 -- judged so far, and the others
 abbrev pub invariant-loop-seat : goal.invariant-loop-seat
-invariant-loop-seat l = l.snakes ≡ map (first_judged l.width l.height l.turn) (take l.seat l.fn.snakes) ++ drop l.seat l.fn.snakes
+invariant-loop-seat l = l.snakes ≡ map (first_judged l.wraps l.width l.height l.turn) (take l.seat l.fn.snakes) ++ drop l.seat l.fn.snakes
