@@ -11,6 +11,7 @@ mod job;
 mod joining;
 mod moving;
 mod out;
+mod parted;
 mod parts;
 mod shared;
 mod stopped;

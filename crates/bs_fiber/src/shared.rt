@@ -1,6 +1,7 @@
 //! A command with several holders.
 ghost use Rattle.std.specs.Prelude.{◌≡◌, IfOk, IfSome, OnOk};
 ghost use Rattle.bs_fiber.specs.Bare.{is_bare};
+ghost use Rattle.bs_game.specs.Reasons.{is_move};
 
 use bs_board::Command;
 use std::alloc::{AllocError, Global};
@@ -56,6 +57,13 @@ impl SharedCommand {
             Command::End => true,
             Command::Bad => true,
         }
+    }
+
+    /// Whether the command is a move.
+    pub fn is_move(&self) -> bool
+        ensures { result ≡ is_move self.now }
+    {
+        matches!(self.get(), Command::Move(_))
     }
 
     /// It becomes a holder of that command. It stays what it is where it holds just such a bare one already: each holder more

@@ -166,7 +166,7 @@ lane_input x worker job right out = fit_input x worker job right (lane_job x wor
 
 -- a job that is taken is out
 
-part_there : (x : Lane) (p : ℕ) → is_part_ready (part_at x p) ≡ true → p < length x.parts
+pub part_there : (x : Lane) (p : ℕ) → is_part_ready (part_at x p) ≡ true → p < length x.parts
 part_there x p ready =
     elim (cases_Bool (nat_lt p (length x.parts))) [
       | inl less ↦ ltb-true _ _ less

@@ -19,6 +19,7 @@ pub mod MovingGames
 pub mod NewestRecords
 pub mod OpenedGames
 pub mod OwnJobs
+pub mod OwnParts
 pub mod Parts
 pub mod PlacedRecords
 pub mod PlanBlocks

@@ -36,6 +36,9 @@ reaches_seats game bytes new = let long = record_reaches_seats new.board bytes n
 pub few_seats : (game : Game) (bytes : List ℕ) (seats : ℕ) (new : NewestOf game bytes) → seats ≡ length new.board.snakes → seats ≤ 8
 few_seats game bytes seats new counted = let few = new.legal.limits.few in omega (arith, few)
 
+pub some_seats : (game : Game) (bytes : List ℕ) (seats : ℕ) (new : NewestOf game bytes) → seats ≡ length new.board.snakes → 1 ≤ seats
+some_seats game bytes seats new counted = let some = new.legal.limits.some in omega (arith, some)
+
 pub parts_of_seats : (game : Game) (bytes : List ℕ) (seats : ℕ) (new : NewestOf game bytes) → seats ≡ length new.board.snakes
     → (seats + 1) / 2 ≡ parts_of (length (snakes_in (last_board game)))
 parts_of_seats game bytes seats new counted = rw (new.last, counted) refl

@@ -8,9 +8,11 @@ pub mod Insides
 pub mod Inputs
 pub mod Isolation
 pub mod Journal
+pub mod Keyed
 pub mod Lane
 pub mod Machine
 pub mod Memory
+pub mod Parts
 pub mod PlanBlocks
 pub mod Putting
 pub mod SharedMemory

@@ -1,6 +1,7 @@
 -- When what a worker brings back is the core's own.
-use Rattle.std.specs.Prelude.{◌≡◌, ℕ, true}
+use Rattle.std.specs.Prelude.{◌≡◌, ◌≢◌, ℕ, true}
 use Rattle.bs_fiber.specs.declared.input.Input.{Input}
+use Rattle.bs_fiber.specs.declared.job.JobKind.TheVariants as kind
 use Rattle.bs_sched.specs.declared.event.Event.TheVariants as event
 use Rattle.bs_sched.specs.Games.{GamesView}
 use Rattle.bs_sched.specs.Inputs.{input_of}
@@ -15,3 +16,8 @@ pub record IsOwnOf (x : Lane) (worker : ℕ) (brought : Input) : Type 0 where
 pub record IsOwn (games : GamesView) (worker : ℕ) (brought : Input) : Type 0 where
   pub out : is_enabled games.workers games.lanes (event.Put worker brought.job) ≡ true
   pub input : brought ≡ input_of (lane_of games.lanes brought.job.game) worker brought.job
+
+-- it is no part: those come back all at once
+pub record IsOwnJob (games : GamesView) (worker : ℕ) (brought : Input) : Type 0 where
+  pub kind : brought.job.kind ≢ kind.Part
+  pub own : IsOwn games worker brought

@@ -1,5 +1,5 @@
 -- What a worker gets that asks for a job.
-use Rattle.std.specs.Prelude.{◌≡◌, ℕ, ◌≤◌, ◌<◌, true, false, List, length}
+use Rattle.std.specs.Prelude.{◌≡◌, ℕ, ◌≤◌, ◌<◌, true, false, List, length, Some, None}
 use Rattle.bs_fiber.specs.declared.input.Input.{Input}
 use Rattle.bs_fiber.specs.declared.job.JobName.{JobName}
 use Rattle.bs_sched.specs.declared.event.Event.TheVariants as event
@@ -9,6 +9,7 @@ use Rattle.bs_sched.specs.declared.taking.Taken.{Taken}
 use Rattle.bs_sched.specs.declared.taking.Taken.TheVariants as taken
 use Rattle.bs_sched.specs.Core.{CoreView, core_after}
 use Rattle.bs_sched.specs.Inputs.{input_of}
+use Rattle.bs_sched.specs.Keyed.{IsKeyOf}
 use Rattle.bs_sched.specs.Lane.{Lane, HasNoneReady, is_ready}
 use Rattle.bs_sched.specs.Machine.{lane_of, is_busy, is_enabled}
 
@@ -58,4 +59,5 @@ abbrev pub TakesAs : ℕ → CoreView → ℕ → Taken → CoreView → Type 0
 TakesAs cap old worker taken.Failed new = IsFailed old new
 TakesAs cap old worker taken.Busy new = IsBusyWorker old worker new
 TakesAs cap old worker taken.Nothing new = HasNothing old worker new
-TakesAs cap old worker (taken.Job ticket) new = TakesJob cap old worker ticket new
+TakesAs cap old worker (taken.Job ticket) new = TakesJob cap old worker ticket new × IsKeyOf ticket.job None
+TakesAs cap old worker (taken.Part ticket key) new = TakesJob cap old worker ticket new × IsKeyOf ticket.job (Some key)

@@ -1,7 +1,8 @@
 //! Two games side by side in one core, by calls that are drawn from a fixed seed, against each of them in a core of its own.
-use crate::tests::{CAP, new_of_three, new_solo, plan_of, straight_on, third_goes_down};
+use crate::tests::{CAP, finish, new_of_three, new_solo, plan_of, straight_on, third_goes_down};
 use crate::{Core, Taken};
 use bs_board::Command;
+use bs_counter::PartKey;
 use bs_fiber::{Done, work};
 use std::alloc::{AllocError, Global};
 use std::fmt::Write;
@@ -33,13 +34,20 @@ impl Draws {
     }
 }
 
+// A job that is worked, with its key if it is a part.
+#[derive(Drop)]
+struct Worked {
+    done: Done,
+    key: Option<PartKey<Done>>,
+}
+
 // A job that is out with that worker, done in both cores.
 #[derive(Drop)]
 struct Out {
     worker: usize,
     game: usize,
-    shared: Done,
-    lone: Done,
+    shared: Worked,
+    lone: Worked,
 }
 
 // The core of both games, and that of each of them alone.
@@ -92,10 +100,17 @@ fn take(
     alloc: Global,
     core: &mut Core<CAP>,
     worker: usize,
-) -> Result<Option<Done>, Fail> {
+) -> Result<Option<Worked>, Fail> {
     assert!(rt; worker <= core.workers());
     match core.take(alloc, worker)? {
-        Taken::Job(ticket) => Ok(Some(work(alloc, ticket)?)),
+        Taken::Job(ticket) => Ok(Some(Worked {
+            done: work(alloc, ticket)?,
+            key: None,
+        })),
+        Taken::Part(ticket, key) => Ok(Some(Worked {
+            done: work(alloc, ticket)?,
+            key: Some(key),
+        })),
         Taken::Busy => Ok(None),
         Taken::Nothing => Ok(None),
         Taken::Failed => Err(Fail::from("failed")),
@@ -120,11 +135,11 @@ fn take_next(rt: &impl Abort, alloc: Global, hosts: &mut Hosts, worker: usize) -
     let Some(shared) = take(rt, alloc, &mut hosts.shared, worker)? else {
         return Ok(());
     };
-    let job = shared.ticket().job();
+    let job = shared.done.ticket().job();
     let core = hosts.lone.get_mut(job.game as usize).ok_or("a game")?;
     let lone = take(rt, alloc, core, worker)?.ok_or("no such job alone")?;
-    assert_eq!(rt; lone.ticket().job().kind, job.kind);
-    assert_eq!(rt; lone.ticket().job().part, job.part);
+    assert_eq!(rt; lone.done.ticket().job().kind, job.kind);
+    assert_eq!(rt; lone.done.ticket().job().part, job.part);
     hosts.out.push(Out {
         worker,
         game: job.game as usize,
@@ -140,12 +155,20 @@ fn put_next(hosts: &mut Hosts, place: usize) -> Result<(), Fail> {
     }
     let out = hosts.out.swap_remove(place);
     let core = hosts.lone.get_mut(out.game).ok_or("a game")?;
-    core.put(out.worker, out.lone)
-        .map_err(|_| Fail::from("a stray alone"))?;
-    hosts
-        .shared
-        .put(out.worker, out.shared)
-        .map_err(|_| Fail::from("a stray among others"))
+    bring(core, out.worker, out.lone)?;
+    bring(&mut hosts.shared, out.worker, out.shared)
+}
+
+// A part is finished, and the last one brings all of them back.
+fn bring(core: &mut Core<CAP>, worker: usize, worked: Worked) -> Result<(), Fail> {
+    let Worked { done, key } = worked;
+    let Some(key) = key else {
+        return core.put(worker, done).map_err(|_| Fail::from("a stray"));
+    };
+    match finish(key, done)? {
+        None => Ok(()),
+        Some(parts) => core.put_parts(parts).map_err(|_| Fail::from("strays")),
+    }
 }
 
 // All that one game of a core shows, as a text.

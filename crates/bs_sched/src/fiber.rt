@@ -1,23 +1,27 @@
 //! The fiber of one game: its commands, its replies, and where it is in the command that it is at. Clauses see its lane.
-ghost use Rattle.std.specs.Prelude.{◌≡◌, ◌+◌, ◌≤◌, ◌<◌, ℕ, true, false, [], length, replicate, map, vec_len, vec_capacity, option_to_list, slice_index_or, MatchOption, ◌++◌, IfOk, IfSome, OnOk, OnErr};
+ghost use Rattle.std.specs.Prelude.{◌≡◌, ◌+◌, ◌≤◌, ◌<◌, ℕ, true, false, [], length, map, vec_len, vec_capacity, option_to_list, slice_index_or, MatchOption, ◌++◌, IfOk, IfSome, OnOk, OnErr};
 ghost use Rattle.std.specs.List.{list_all, filter_map, position};
 ghost use Rattle.bs_game.specs.Answer.{Fits};
 ghost use Rattle.bs_sched.specs.declared.fiber.Slot.TheVariants as slot;
 ghost use Rattle.bs_sched.specs.declared.stage.PartState.TheVariants as state;
 ghost use Rattle.bs_sched.specs.Lane.{is_part_done, is_part_ready, has_part};
+ghost use Rattle.bs_sched.specs.Keyed.{HasKeys};
 ghost use Rattle.bs_sched.specs.Slots.{state_of, emptied, moved_in};
 
 use crate::stage::Stage;
 use bs_board::limits::MOST_QUOTA;
 use bs_board::{Command, Reply, Snakes};
-use bs_fiber::{Handed, JobKind, Parts, SharedCommand};
+use bs_counter::PartKey;
+use bs_fiber::{Done, Handed, JobKind, Parts, SharedCommand};
 use std::alloc::{AllocError, Global};
 use std::marker::Model;
+use std::mem::replace;
 
 /// A part of the move that is played.
 #[derive(Debug, Drop)]
 pub(crate) enum Slot {
-    Ready,
+    /// Nobody has taken the part. Its key goes to who does.
+    Ready(PartKey<Done>),
     Out(usize),
     /// What the part moved, until it is joined.
     Done(Option<Snakes>),
@@ -35,6 +39,8 @@ pub(crate) struct Fiber {
     replies: Vec<Reply>,
     stage: Stage,
     slots: Vec<Slot>,
+    /// The keys for the parts of the command that is begun, if it may be a move that goes.
+    keys: Vec<PartKey<Done>>,
 }
 
 impl Model for Fiber {
@@ -67,16 +73,29 @@ pub(crate) fn keeps_limits(command: &Command)
     }
 }
 
-/// So many parts that are ready.
-fn push_ready(slots: &mut Vec<Slot>, parts: usize)
+/// The parts of these keys are ready.
+fn push_ready(slots: &mut Vec<Slot>, keys: &mut Vec<PartKey<Done>>)
     requires none { slots.old.items ≡ [] }
-    requires few { parts ≤ 4 }
-    requires room { 4 ≤ vec_capacity slots.old }
-    ensures slots { slots.new.items ≡ replicate parts (slot.Ready) }
+    requires room { vec_len keys.old ≤ vec_capacity slots.old }
+    ensures slots { slots.new.items ≡ map (λ key. slot.Ready key) keys.old.items }
     ensures room { vec_capacity slots.new ≡ vec_capacity slots.old }
 {
-    for _part in 0..parts {
-        slots.push_reserved(Slot::Ready);
+    for _part in 0..keys.len() {
+        let key = keys.remove(0);
+        slots.push_reserved(Slot::Ready(key));
+    }
+}
+
+/// The part's key goes out of its slot, which the worker has now.
+fn take_key(place: &mut Slot, worker: usize) -> PartKey<Done>
+    requires { is_part_ready (state_of place.old) ≡ true }
+    ensures place { place.new ≡ slot.Out worker }
+    ensures key { place.old ≡ slot.Ready result }
+{
+    match replace(place, Slot::Out(worker)) {
+        Slot::Ready(key) => key,
+        Slot::Out(_) => unreachable!(),
+        Slot::Done(_) => unreachable!(),
     }
 }
 
@@ -84,7 +103,7 @@ fn is_done(slot: &Slot) -> bool
     ensures { result ≡ is_part_done (state_of slot.now) }
 {
     match slot {
-        Slot::Ready => false,
+        Slot::Ready(_) => false,
         Slot::Out(_) => false,
         Slot::Done(_) => true,
     }
@@ -102,7 +121,7 @@ fn has_part(slots: &[Slot], worker: usize, part: usize) -> bool
 {
     match slots.get(part) {
         Some(Slot::Out(holder)) => *holder == worker,
-        Some(Slot::Ready) => false,
+        Some(Slot::Ready(_)) => false,
         Some(Slot::Done(_)) => false,
         None => false,
     }
@@ -112,7 +131,7 @@ fn is_ready_slot(slot: &Slot) -> bool
     ensures { result ≡ is_part_ready (state_of slot.now) }
 {
     match slot {
-        Slot::Ready => true,
+        Slot::Ready(_) => true,
         Slot::Out(_) => false,
         Slot::Done(_) => false,
     }
@@ -139,7 +158,7 @@ fn take_moved(slot: &mut Slot) -> Option<Snakes>
     ensures moved { result ≡ moved_in slot.old }
 {
     match slot {
-        Slot::Ready => None,
+        Slot::Ready(_) => None,
         Slot::Out(_) => None,
         Slot::Done(moved) => moved.take(),
     }
@@ -190,6 +209,7 @@ impl Fiber {
             replies: Vec::new(alloc),
             stage: Stage::Idle,
             slots: Vec::with_capacity(alloc, MOST_PARTS)?,
+            keys: Vec::new(alloc),
         })
     }
 
@@ -203,24 +223,32 @@ impl Fiber {
         Ok(())
     }
 
-    /// The worker takes the job that begins the first waiting command. Room for the reply is made first.
-    pub(crate) fn begin(&mut self, worker: usize) -> Result<(), AllocError>
-        requires { is_ready self.old kind.Begin 0 ≡ true }
+    /// The worker takes the job that begins the first waiting command, of whose parts these are the keys if it is a move that goes.
+    /// Room for the reply is made first.
+    pub(crate) fn begin(
+        &mut self,
+        worker: usize,
+        keys: Vec<PartKey<Done>>,
+    ) -> Result<(), AllocError>
+        requires ready { is_ready self.old kind.Begin 0 ≡ true }
+        requires keys { HasKeys (with_taken worker kind.Begin 0 self.old) keys.items }
         ensures ok { OnOk result (self.new ≡ with_taken worker kind.Begin 0 self.old) }
         ensures err { OnErr result (self.new ≡ self.old) }
     {
         self.replies.reserve(1)?;
         self.begun += 1;
         self.stage = Stage::Begin(worker);
+        self.keys = keys;
         Ok(())
     }
 
-    /// The worker takes that part.
-    pub(crate) fn take_part(&mut self, worker: usize, part: usize)
+    /// The worker takes that part, and gets its key.
+    pub(crate) fn take_part(&mut self, worker: usize, part: usize) -> PartKey<Done>
         requires { is_ready self.old kind.Part part ≡ true }
-        ensures { self.new ≡ with_taken worker kind.Part part self.old }
+        ensures lane { self.new ≡ with_taken worker kind.Part part self.old }
+        ensures key { result.part ≡ part }
     {
-        self.slots[part] = Slot::Out(worker);
+        take_key(&mut self.slots[part], worker)
     }
 
     /// The worker takes the job that joins all parts, with what they moved. Room for the reply is made first.
@@ -237,15 +265,13 @@ impl Fiber {
         Ok(Parts::from_vec(moved))
     }
 
-    /// The move goes, in so many parts.
-    pub(crate) fn fork(&mut self, parts: usize)
+    /// The move goes, in as many parts as there are keys.
+    pub(crate) fn fork(&mut self)
         requires begun { (worker : ℕ) × (is_out worker self.old kind.Begin 0 ≡ true) }
         requires goes { goes_on self.old ≡ true }
-        requires parts { parts ≡ parts_of (length (snakes_in (last_board self.old.game))) }
-        requires few { parts ≤ 4 }
         ensures { self.new ≡ forked self.old }
     {
-        push_ready(&mut self.slots, parts);
+        push_ready(&mut self.slots, &mut self.keys);
         self.stage = Stage::Parts;
     }
 
@@ -268,6 +294,7 @@ impl Fiber {
         ensures { self.new ≡ answered self.old }
     {
         self.slots.clear();
+        self.keys.clear();
         self.replies.push_reserved(reply);
         self.stage = Stage::Idle;
     }
@@ -343,6 +370,13 @@ impl Fiber {
         ensures { result ≡ is_quiet self.now }
     {
         self.stage == Stage::Idle && self.begun == self.commands.len()
+    }
+
+    /// How many parts the move has.
+    pub(crate) fn count_parts(&self) -> usize
+        ensures { result ≡ length self.now.parts }
+    {
+        self.slots.len()
     }
 
     /// Whether the worker has that job.

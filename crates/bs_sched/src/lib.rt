@@ -2,6 +2,7 @@
 //! journal of all that happened to them.
 #![tactic(auto)]
 
+mod bringing;
 mod busy;
 mod cores;
 #[cfg(test)]
@@ -21,6 +22,7 @@ mod taking;
 #[cfg(test)]
 mod tests;
 
+pub use bringing::Strays;
 pub use cores::{Core, Counts, LEAST_CAPACITY};
 pub use event::Event;
 pub use law::isolation_law;

@@ -1,15 +1,14 @@
 //! Bringing jobs back: whether one is the core's own, and what it makes of its game.
 ghost use Rattle.std.specs.Prelude.{◌≡◌, ◌≤◌, ◌<◌, ◌↔◌, IsTrue, true, ℕ, length, slice_set, IfOk, OnOk, IfErr};
 ghost use Rattle.bs_fiber.specs.declared.job.JobKind.TheVariants as kind;
-ghost use Rattle.bs_fiber.specs.Work.{moved_part, out_seen, parts_of, snakes_in};
-ghost use Rattle.bs_game.specs.Game.{last_board};
+ghost use Rattle.bs_fiber.specs.Work.{moved_part, out_seen};
 ghost use Rattle.bs_game.specs.View.{answer_of};
 ghost use Rattle.bs_sched.specs.Core.{core_after};
 ghost use Rattle.bs_sched.specs.Games.{answer_effect, brought};
 ghost use Rattle.bs_sched.specs.Courses.{IsRight};
 ghost use Rattle.bs_sched.specs.Lane.{occupies, answered, forked, with_part_done, is_out, goes_on, lane_view, lane_command};
 ghost use Rattle.bs_sched.specs.Machine.{lane_of};
-ghost use Rattle.bs_sched.specs.Putting.{IsOwn};
+ghost use Rattle.bs_sched.specs.Putting.{IsOwn, IsOwnJob};
 ghost use Rattle.bs_sched.specs.Storage.{stored};
 ghost use Rattle.bs_sched.specs.declared.event.Event.TheVariants as event;
 
@@ -18,9 +17,8 @@ use crate::cores::{Core, note};
 use crate::event::Event;
 use crate::game::{answer_game, is_own};
 use crate::games::Games;
-use crate::records::parts_of_last;
 use bs_board::Snakes;
-use bs_fiber::{Done, JobName, Out, Ticket};
+use bs_fiber::{Done, JobKind, JobName, Out, Ticket};
 use bs_game::Answer;
 use thiserror::Error;
 
@@ -53,27 +51,14 @@ impl<const CAP: usize> Games<CAP> {
         );
     }
 
-    /// The move of that game goes, in so many parts.
-    fn fork(&mut self, game: usize, parts: usize)
+    /// The move of that game goes, in its parts.
+    fn fork(&mut self, game: usize)
         requires game { game < length self.old.lanes }
         requires begun { (worker : ℕ) × (is_out worker (lane_of self.old.lanes game) kind.Begin 0 ≡ true) }
         requires goes { goes_on (lane_of self.old.lanes game) ≡ true }
-        requires parts { parts ≡ parts_of (length (snakes_in (last_board (lane_of self.old.lanes game).game))) }
-        requires few { parts ≤ 4 }
         ensures { self.new ≡ record self.old { lanes = slice_set self.old.lanes game (forked (lane_of self.old.lanes game)) } }
     {
-        self.fibers[game].fork(parts);
-    }
-
-    /// How many parts a move of that game has.
-    fn parts(&self, game: usize) -> usize
-        requires game { game < length self.now.lanes }
-        requires goes { goes_on (lane_of self.now.lanes game) ≡ true }
-        ensures value { result ≡ parts_of (length (snakes_in (last_board (lane_of self.now.lanes game).game))) }
-        ensures few { result ≤ 4 }
-    {
-        self.fibers[game].keeps();
-        parts_of_last(&self.heaps[game])
+        self.fibers[game].fork();
     }
 
     /// That part of the move came back with what it moved.
@@ -95,7 +80,7 @@ impl<const CAP: usize> Games<CAP> {
     {
         let game = job.game as usize;
         match out {
-            Out::Goes => self.fork(game, self.parts(game)),
+            Out::Goes => self.fork(game),
             Out::Answered(answer) => self.answer(game, answer),
             Out::Moved(moved) => self.put_part(game, job.part as usize, moved),
             Out::Joined(answer) => self.answer(game, answer),
@@ -111,12 +96,19 @@ impl<const CAP: usize> Games<CAP> {
     }
 
     /// Whether the worker has that job out, and what the job read is what the core has for it.
-    fn is_own(&self, worker: usize, done: &Done) -> bool
+    pub(crate) fn is_own(&self, worker: usize, done: &Done) -> bool
         ensures { IsTrue result ↔ IsOwn self.now worker done.now }
     {
         let ticket = done.ticket();
         let game = ticket.job().game as usize;
         game < self.fibers.len() && is_own(&self.fibers[game], &self.heaps[game], worker, ticket)
+    }
+
+    /// The same of a job that is no part.
+    fn is_own_job(&self, worker: usize, done: &Done) -> bool
+        ensures { IsTrue result ↔ IsOwnJob self.now worker done.now }
+    {
+        done.ticket().job().kind != JobKind::Part && self.is_own(worker, done)
     }
 
     /// An own job is done. Its ticket is spent.
@@ -135,7 +127,7 @@ impl<const CAP: usize> Games<CAP> {
 
 impl<const CAP: usize> Core<CAP> {
     /// The worker's own job is done. The journal has room for its coming back.
-    fn settle(&mut self, worker: usize, done: Done) -> Ticket
+    pub(crate) fn settle(&mut self, worker: usize, done: Done) -> Ticket
         requires { IsOwn self.old.games worker done }
         ensures core { self.new ≡ core_after CAP self.old (event.Put worker done.job) }
         ensures spent { result ≡ done }
@@ -152,9 +144,9 @@ impl<const CAP: usize> Core<CAP> {
     /// The worker brings back a job that it took. It asks for no memory. `Stray` gives back what is not the core's, and
     /// then nothing has changed.
     pub fn put(&mut self, worker: usize, done: Done) -> Result<(), Stray>
-        ensures own { OnOk result (IsOwn self.old.games worker done) }
+        ensures own { OnOk result (IsOwnJob self.old.games worker done) }
         ensures ok { OnOk result (self.new ≡ core_after CAP self.old (event.Put worker done.job)) }
-        ensures stray { IfErr result (λ stray. (stray.done ≡ done) × (self.new ≡ self.old) × (IsOwn self.old.games worker done → ⊥)) }
+        ensures stray { IfErr result (λ stray. (stray.done ≡ done) × (self.new ≡ self.old) × (IsOwnJob self.old.games worker done → ⊥)) }
     {
         let _spent = self.put_back(worker, done)?;
         Ok(())
@@ -162,12 +154,12 @@ impl<const CAP: usize> Core<CAP> {
 
     /// The same, and the job's ticket comes back, which is spent: `take_over` can make a new one of it.
     pub fn put_back(&mut self, worker: usize, done: Done) -> Result<Ticket, Stray>
-        ensures own { OnOk result (IsOwn self.old.games worker done) }
+        ensures own { OnOk result (IsOwnJob self.old.games worker done) }
         ensures ok { OnOk result (self.new ≡ core_after CAP self.old (event.Put worker done.job)) }
         ensures spent { IfOk result (λ ticket. ticket ≡ done) }
-        ensures stray { IfErr result (λ stray. (stray.done ≡ done) × (self.new ≡ self.old) × (IsOwn self.old.games worker done → ⊥)) }
+        ensures stray { IfErr result (λ stray. (stray.done ≡ done) × (self.new ≡ self.old) × (IsOwnJob self.old.games worker done → ⊥)) }
     {
-        if !self.games.is_own(worker, &done) {
+        if !self.games.is_own_job(worker, &done) {
             return Err(Stray { done });
         }
         Ok(self.settle(worker, done))

@@ -1,5 +1,6 @@
 //! The records of one game: what its jobs read of them, and what an answer does to them.
-ghost use Rattle.std.specs.Prelude.{◌≡◌, ◌<◌, ◌≤◌, ◌-◌, [], slice_get, length, option_map, IfOk};
+ghost use Rattle.std.specs.Prelude.{◌≡◌, ◌<◌, ◌≤◌, ◌-◌, [], slice_get, length, option_map, IfOk, IfSome};
+ghost use Rattle.bs_board.specs.boards.Over.{is_over};
 ghost use Rattle.bs_board.specs.records.Record.{record_of};
 ghost use Rattle.bs_fiber.specs.Expected.{IsOf};
 ghost use Rattle.bs_fiber.specs.Work.{parts_of, snakes_in};
@@ -15,7 +16,9 @@ ghost use Rattle.bs_sched.specs.Storage.{packing_after, pool_after};
 ghost use Rattle.bs_sched.specs.Turns.{FindsTurn};
 
 use crate::fiber::Fiber;
-use bs_board::{Board, Decode, TurnNumber, decode, seats_of_record, turn_of_record};
+use bs_board::{
+    Board, Decode, TurnNumber, decode, over_of_record, seats_of_record, turn_of_record,
+};
 use bs_fiber::{Expected, Handed, JobName};
 use bs_game::{Effect, place_of_turn};
 use bs_heap::TagHeap;
@@ -116,9 +119,19 @@ pub(crate) fn parts_of_last<const CAP: usize>(heap: &TagHeap<CAP>) -> usize
     requires kept { (game : Game) × IsRecorded game heap.now.records }
     requires some { 0 < length heap.now.records }
     ensures value { (game : Game) → IsRecorded game heap.now.records → result ≡ parts_of (length (snakes_in (last_board game))) }
+    ensures some { 1 ≤ result }
     ensures few { result ≤ 4 }
 {
     (seats_of_record(heap.record(heap.count() - 1)) + 1) / 2
+}
+
+/// Whether the game is over on its newest board.
+pub(crate) fn is_last_over<const CAP: usize>(heap: &TagHeap<CAP>) -> bool
+    requires kept { (game : Game) × IsRecorded game heap.now.records }
+    requires some { 0 < length heap.now.records }
+    ensures { (game : Game) → IsRecorded game heap.now.records → IfSome (last_board game) (λ board. result ≡ is_over board) }
+{
+    over_of_record(heap.record(heap.count() - 1))
 }
 
 /// What an answer does to the records.

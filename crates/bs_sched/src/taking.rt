@@ -1,11 +1,12 @@
 //! Taking jobs: which one a worker gets, and the copy of all that it reads.
-ghost use Rattle.std.specs.Prelude.{◌≡◌, ◌≤◌, ◌<◌, true, length, MatchOption, IfOk, OnOk, OnErr};
+ghost use Rattle.std.specs.Prelude.{◌≡◌, ℕ, ◌≤◌, ◌<◌, true, length, MatchOption, IfOk, OnOk, OnErr};
 ghost use Rattle.bs_heap.specs.Heap.{with_index_room};
 ghost use Rattle.bs_fiber.specs.declared.job.JobKind.TheVariants as kind;
 ghost use Rattle.bs_sched.specs.Core.{core_after};
 ghost use Rattle.bs_sched.specs.Games.{after};
 ghost use Rattle.bs_sched.specs.GamesLayout.{KeepsBoards};
 ghost use Rattle.bs_sched.specs.Inputs.{input_of};
+ghost use Rattle.bs_sched.specs.Keyed.{HasKeys, IsKeyOf};
 ghost use Rattle.bs_sched.specs.Lane.{HasNoneReady, is_ready, with_taken};
 ghost use Rattle.bs_sched.specs.Machine.{is_busy, is_enabled, lane_of};
 ghost use Rattle.bs_sched.specs.Taking.{AreNoneReady, AreNoneReadyBetween, FindsJob, IsReadyJob, TakesAs};
@@ -17,9 +18,10 @@ use crate::event::Event;
 use crate::fiber::Fiber;
 use crate::games::Games;
 use crate::last_games::{last_game, note_game};
-use crate::records::expected;
+use crate::records::{expected, is_last_over, parts_of_last};
 use bs_board::limits::MOST_ROWS;
-use bs_fiber::{Input, JobKind, JobName, Ticket};
+use bs_counter::{PartKey, Tally};
+use bs_fiber::{Done, Input, JobKind, JobName, Ticket};
 use bs_heap::TagHeap;
 use std::alloc::{AllocError, Global};
 
@@ -32,8 +34,10 @@ pub enum Taken {
     Busy,
     /// None, since no game has one ready.
     Nothing,
-    /// This one.
+    /// This one, which begins or joins.
     Job(Ticket),
+    /// This part, with the key for it.
+    Part(Ticket, PartKey<Done>),
 }
 
 /// What stands in the fibers for a worker.
@@ -75,6 +79,29 @@ fn find_job(fibers: &[Fiber], from: usize, to: usize) -> Option<JobName>
     None
 }
 
+/// The keys for the parts of the next command, if it is a move in a game that runs.
+fn open_keys<const CAP: usize>(
+    alloc: Global,
+    fiber: &Fiber,
+    heap: &TagHeap<CAP>,
+) -> Result<Vec<PartKey<Done>>, AllocError>
+    requires waits { 0 < length fiber.now.waiting }
+    requires heap { KeepsBoards fiber.now heap.now }
+    ensures { IfOk result (λ keys. (worker : ℕ) → HasKeys (with_taken worker kind.Begin 0 fiber.now) keys.items) }
+{
+    fiber.keeps();
+    if !fiber.next().shared().is_move() {
+        return Ok(Vec::new(alloc));
+    }
+    if heap.count() == 0 {
+        return Ok(Vec::new(alloc));
+    }
+    if is_last_over(heap) {
+        return Ok(Vec::new(alloc));
+    }
+    Tally::open(alloc, parts_of_last(heap))
+}
+
 /// The next command is begun.
 fn begin_input<const CAP: usize>(
     alloc: Global,
@@ -92,11 +119,12 @@ fn begin_input<const CAP: usize>(
     ensures err { OnErr result (fiber.new ≡ fiber.old) }
 {
     let seq = fiber.next_seq();
+    let keys = open_keys(alloc, fiber, heap)?;
     let holder = fiber.take_holder();
     let input = expected(fiber, heap, fiber.next(), seq, worker, job).to_input(
         alloc, holder, spent,
     )?;
-    fiber.begin(worker as usize)?;
+    fiber.begin(worker as usize, keys)?;
     Ok(input)
 }
 
@@ -108,11 +136,12 @@ fn part_input<const CAP: usize>(
     worker: u32,
     job: JobName,
     spent: Option<Box<Input>>,
-) -> Result<Box<Input>, AllocError>
+) -> Result<(Box<Input>, PartKey<Done>), AllocError>
     requires kind { job.kind ≡ kind.Part }
     requires ready { is_ready fiber.old kind.Part job.part ≡ true }
     requires heap { KeepsBoards fiber.old heap.now }
-    ensures input { IfOk result (λ input. input.value ≡ input_of fiber.new worker job) }
+    ensures input { IfOk result (λ taken. taken.0.value ≡ input_of fiber.new worker job) }
+    ensures key { IfOk result (λ taken. taken.1.part ≡ job.part) }
     ensures ok { OnOk result (fiber.new ≡ with_taken worker kind.Part job.part fiber.old) }
     ensures err { OnErr result (fiber.new ≡ fiber.old) }
 {
@@ -120,8 +149,8 @@ fn part_input<const CAP: usize>(
     let input = expected(fiber, heap, fiber.command(), seq, worker, job).to_input(
         alloc, None, spent,
     )?;
-    fiber.take_part(worker as usize, job.part as usize);
-    Ok(input)
+    let key = fiber.take_part(worker as usize, job.part as usize);
+    Ok((input, key))
 }
 
 /// The joining of all parts goes out, with what they moved.
@@ -155,17 +184,21 @@ fn take_input<const CAP: usize>(
     worker: u32,
     job: JobName,
     spent: Option<Box<Input>>,
-) -> Result<Box<Input>, AllocError>
+) -> Result<(Box<Input>, Option<PartKey<Done>>), AllocError>
     requires ready { is_ready fiber.old job.kind job.part ≡ true }
     requires heap { KeepsBoards fiber.old heap.now }
-    ensures input { IfOk result (λ input. input.value ≡ input_of fiber.new worker job) }
+    ensures input { IfOk result (λ taken. taken.0.value ≡ input_of fiber.new worker job) }
+    ensures key { IfOk result (λ taken. IsKeyOf job taken.1) }
     ensures ok { OnOk result (fiber.new ≡ with_taken worker job.kind job.part fiber.old) }
     ensures err { OnErr result (fiber.new ≡ fiber.old) }
 {
     match job.kind {
-        JobKind::Begin => begin_input(alloc, fiber, heap, worker, job, spent),
-        JobKind::Part => part_input(alloc, fiber, heap, worker, job, spent),
-        JobKind::Join => join_input(alloc, fiber, heap, worker, job, spent),
+        JobKind::Begin => Ok((begin_input(alloc, fiber, heap, worker, job, spent)?, None)),
+        JobKind::Part => {
+            let (input, key) = part_input(alloc, fiber, heap, worker, job, spent)?;
+            Ok((input, Some(key)))
+        }
+        JobKind::Join => Ok((join_input(alloc, fiber, heap, worker, job, spent)?, None)),
     }
 }
 
@@ -179,10 +212,11 @@ fn take_ticket<const CAP: usize>(
     worker: u32,
     job: JobName,
     spent: Option<Box<Input>>,
-) -> Result<Ticket, AllocError>
+) -> Result<(Ticket, Option<PartKey<Done>>), AllocError>
     requires ready { is_ready fiber.old job.kind job.part ≡ true }
     requires heap { KeepsBoards fiber.old heap.old }
-    ensures ticket { IfOk result (λ ticket. ticket ≡ input_of fiber.new worker job) }
+    ensures ticket { IfOk result (λ taken. taken.0 ≡ input_of fiber.new worker job) }
+    ensures key { IfOk result (λ taken. IsKeyOf job taken.1) }
     ensures ok { OnOk result (fiber.new ≡ with_taken worker job.kind job.part fiber.old) }
     ensures room { OnOk result (0 < heap.new.index_room) }
     ensures err { OnErr result (fiber.new ≡ fiber.old) }
@@ -190,9 +224,9 @@ fn take_ticket<const CAP: usize>(
     ensures more { heap.old.index_room ≤ heap.new.index_room }
 {
     heap.grow_index()?;
-    let input = take_input(alloc, fiber, heap, worker, job, spent)?;
+    let (input, key) = take_input(alloc, fiber, heap, worker, job, spent)?;
     fiber.keeps();
-    Ok(Ticket::new(input))
+    Ok((Ticket::new(input), key))
 }
 
 impl<const CAP: usize> Games<CAP> {
@@ -215,10 +249,11 @@ impl<const CAP: usize> Games<CAP> {
         worker: u32,
         job: JobName,
         spent: Option<Box<Input>>,
-    ) -> Result<Ticket, AllocError>
+    ) -> Result<(Ticket, Option<PartKey<Done>>), AllocError>
         requires game { job.game < length self.old.lanes }
         requires ready { is_ready (lane_of self.old.lanes job.game) job.kind job.part ≡ true }
-        ensures ticket { IfOk result (λ ticket. ticket ≡ input_of (lane_of self.new.lanes job.game) worker job) }
+        ensures ticket { IfOk result (λ taken. taken.0 ≡ input_of (lane_of self.new.lanes job.game) worker job) }
+        ensures key { IfOk result (λ taken. IsKeyOf job taken.1) }
         ensures ok { OnOk result (self.new ≡ after CAP self.old (event.Take worker job)) }
         ensures err { OnErr result (self.new ≡ self.old) }
     {
@@ -267,20 +302,21 @@ impl<const CAP: usize> Core<CAP> {
         worker: usize,
         job: JobName,
         spent: Option<Box<Input>>,
-    ) -> Result<Ticket, AllocError>
+    ) -> Result<(Ticket, Option<PartKey<Done>>), AllocError>
         requires enabled { is_enabled self.old.games.workers self.old.games.lanes (event.Take worker job) ≡ true }
-        ensures ticket { IfOk result (λ ticket. ticket ≡ input_of (lane_of self.new.games.lanes job.game) worker job) }
+        ensures ticket { IfOk result (λ taken. taken.0 ≡ input_of (lane_of self.new.games.lanes job.game) worker job) }
+        ensures key { IfOk result (λ taken. IsKeyOf job taken.1) }
         ensures ok { OnOk result (self.new ≡ core_after CAP self.old (event.Take worker job)) }
         ensures err { OnErr result (self.new ≡ self.old) }
     {
         let number = self.games.worker_number(worker);
         reserve_events(&mut self.journal, self.out, 2)?;
-        let ticket = self.games.take_job(alloc, number, job, spent)?;
+        let taken = self.games.take_job(alloc, number, job, spent)?;
         note(&mut self.journal, Event::Take(number, job));
         self.out += 1;
         mark(&mut self.busy, worker, job.kind, true);
         note_game(&mut self.last_games, worker, job.game as usize);
-        Ok(ticket)
+        Ok(taken)
     }
 
     /// A job for that worker, with a copy of all that it reads. No memory is asked for when it comes back. An error is
@@ -311,7 +347,10 @@ impl<const CAP: usize> Core<CAP> {
         match self.find(worker) {
             Found::Busy => Ok(Taken::Busy),
             Found::Nothing => Ok(Taken::Nothing),
-            Found::Job(job) => Ok(Taken::Job(self.take_job(alloc, worker, job, spent)?)),
+            Found::Job(job) => match self.take_job(alloc, worker, job, spent)? {
+                (ticket, None) => Ok(Taken::Job(ticket)),
+                (ticket, Some(key)) => Ok(Taken::Part(ticket, key)),
+            },
         }
     }
 }

@@ -1,11 +1,13 @@
 //! Cores of small plans, played job by job.
 use crate::{Core, Counts, Open, Taken};
+use arrayvec::ArrayVec;
 use bs_board::limits::MOST_ROWS;
 use bs_board::plans::plan::have_distinct_names;
 use bs_board::{
     Cells, Command, Direction, Id, Mode, Move, Moves, New, Plan, Point, Refusal, Reply, Row, Rows,
     Starts, TurnNumber, Word, Words,
 };
+use bs_counter::{Finish, PartKey, Parted};
 use bs_fiber::{Done, Holders, JobKind, SharedCommand, work};
 use std::alloc::{AllocError, Global};
 use std::process::Abort;
@@ -96,10 +98,46 @@ fn take_done(
 ) -> Result<Done, Fail> {
     match take(rt, alloc, core, worker)? {
         Taken::Job(ticket) => Ok(work(alloc, ticket)?),
+        Taken::Part(_, _) => Err(Fail::from("a part")),
         Taken::Failed => Err(Fail::from("failed")),
         Taken::Busy => Err(Fail::from("busy")),
         Taken::Nothing => Err(Fail::from("nothing")),
     }
+}
+
+// A part that is worked, with its key.
+fn take_part(
+    rt: &impl Abort,
+    alloc: Global,
+    core: &mut Core<CAP>,
+    worker: usize,
+) -> Result<(Done, PartKey<Done>), Fail> {
+    match take(rt, alloc, core, worker)? {
+        Taken::Part(ticket, key) => Ok((work(alloc, ticket)?, key)),
+        _ => Err(Fail::from("no part")),
+    }
+}
+
+// All parts, if this was the last.
+pub(crate) fn finish(
+    key: PartKey<Done>,
+    done: Done,
+) -> Result<Option<ArrayVec<Option<Done>, 4>>, Fail> {
+    if key.part() != done.part() {
+        return Err(Fail::from("the key of another part"));
+    }
+    match key.finish(done) {
+        Finish::More(spent) => {
+            drop(spent);
+            Ok(None)
+        }
+        Finish::Last(parts) => Ok(Some(parts)),
+    }
+}
+
+fn put_parts(core: &mut Core<CAP>, parts: ArrayVec<Option<Done>, 4>) -> Result<(), Fail> {
+    core.put_parts(parts)
+        .map_err(|_| Fail::from("strays of its own core"))
 }
 
 fn put(core: &mut Core<CAP>, worker: usize, done: Done) -> Result<(), Fail> {
@@ -115,10 +153,15 @@ fn play<R: Abort + Wait>(
     worker: usize,
 ) -> Result<(), Fail> {
     for _ in rt.forever() {
-        let Taken::Job(ticket) = take(rt, alloc, core, worker)? else {
-            break;
-        };
-        put(core, worker, work(alloc, ticket)?)?;
+        match take(rt, alloc, core, worker)? {
+            Taken::Job(ticket) => put(core, worker, work(alloc, ticket)?)?,
+            Taken::Part(ticket, key) => {
+                if let Some(parts) = finish(key, work(alloc, ticket)?)? {
+                    put_parts(core, parts)?;
+                }
+            }
+            _ => break,
+        }
     }
     Ok(())
 }
@@ -255,16 +298,60 @@ fn play_job(
     put(core, worker, done)
 }
 
-// Both parts are out with one worker, and come back in the other order.
+// The list is none of the core's, and leaves it as it was.
+fn assert_strays(
+    rt: &impl Abort,
+    core: &mut Core<CAP>,
+    parts: ArrayVec<Option<Done>, 4>,
+) -> Result<ArrayVec<Option<Done>, 4>, Fail> {
+    let events = core.journal().len();
+    let Err(strays) = core.put_parts(parts) else {
+        return Err(Fail::from("not all parts of the move"));
+    };
+    assert_eq!(rt; core.journal().len(), events);
+    Ok(strays.parts)
+}
+
+// A part is a stray by itself, and so is a list of it alone where the move has two.
+fn assert_part_strays(rt: &impl Abort, core: &mut Core<CAP>, done: Done) -> Result<Done, Fail> {
+    let events = core.journal().len();
+    let Err(stray) = core.put(0, done) else {
+        return Err(Fail::from("a part that is put by itself"));
+    };
+    assert_eq!(rt; core.journal().len(), events);
+    drop(assert_strays(rt, core, ArrayVec::new())?);
+    let mut one = ArrayVec::new();
+    one.push(Some(stray.done));
+    let mut one = assert_strays(rt, core, one)?;
+    assert!(rt; one.len() == 1);
+    Ok(one.remove(0).ok_or("the part")?)
+}
+
+// Both parts are out with one worker. The second is finished first, and the parts come back at once.
 fn play_parts(rt: &impl Abort, alloc: Global, core: &mut Core<CAP>) -> Result<(), Fail> {
-    let one = take_done(rt, alloc, core, 0)?;
+    let (one, first_key) = take_part(rt, alloc, core, 0)?;
     assert_job(rt, &one, JobKind::Part, 0);
-    let two = take_done(rt, alloc, core, 0)?;
+    let (two, second_key) = take_part(rt, alloc, core, 0)?;
     assert_job(rt, &two, JobKind::Part, 1);
     assert_nothing(rt, alloc, core, 1)?;
-    put(core, 0, two)?;
+    let one = assert_part_strays(rt, core, one)?;
+    assert!(rt; finish(second_key, two)?.is_none());
     assert_nothing(rt, alloc, core, 1)?;
-    put(core, 0, one)
+    let parts = finish(first_key, one)?.ok_or("the last part")?;
+    let parts = assert_in_order(rt, parts)?;
+    put_parts(core, parts)
+}
+
+fn assert_in_order(
+    rt: &impl Abort,
+    parts: ArrayVec<Option<Done>, 4>,
+) -> Result<ArrayVec<Option<Done>, 4>, Fail> {
+    assert!(rt; parts.len() == 2);
+    for (place, part) in parts.as_slice().iter().enumerate() {
+        let done = part.as_ref().ok_or("a part")?;
+        assert_eq!(rt; done.part(), place);
+    }
+    Ok(parts)
 }
 
 fn play_join(rt: &impl Abort, alloc: Global, core: &mut Core<CAP>) -> Result<(), Fail> {

@@ -1,8 +1,11 @@
 //! A crew: the workers that one thread stands for, with the jobs that it has for them.
 use crate::fault::Run;
 use crate::gate::Gate;
+use crate::task::{Refused, Task, Worked, work_at};
+use arrayvec::ArrayVec;
 use bs_board::Command;
-use bs_fiber::{Done, Input, JobKind, Parts, Ticket, work};
+use bs_counter::PartKey;
+use bs_fiber::{Done, Input, JobKind, Parts, Ticket};
 use std::alloc::{AllocError, Global};
 use std::sync::atomic::AtomicU64;
 use std::sync::atomic::Ordering::SeqCst;
@@ -21,9 +24,13 @@ pub(crate) struct Crew {
     /// How many workers it has.
     size: usize,
     /// Jobs to be worked.
-    tickets: Vec<Ticket>,
+    tasks: Vec<Task>,
     /// Jobs to be brought back.
     done: Vec<Done>,
+    /// The parts of moves of which this thread finished the last one, to be brought back.
+    parts: Vec<ArrayVec<Option<Done>, 4>>,
+    /// The key of a part that came to nothing, until the run is broken off.
+    refused: Option<PartKey<Done>>,
     /// Tickets of jobs that were brought back.
     spent: Vec<Ticket>,
     /// Inputs of such tickets, with nothing left in them that would have to be given back at the desk: new ones may take their places.
@@ -36,18 +43,6 @@ pub(crate) struct Crew {
     fault: Option<Run>,
 }
 
-/// The job is worked, once the gate lets it pass.
-#[inline(always)]
-fn work_job<G: Gate>(alloc: Global, thread: usize, ticket: Ticket, gate: &G) -> Result<Done, Run> {
-    if !gate.at(thread, ticket.job()) {
-        return Err(Run::Broken);
-    }
-    match work(alloc, ticket) {
-        Ok(done) => Ok(done),
-        Err(_) => Err(Run::Memory),
-    }
-}
-
 impl Crew {
     /// So many workers for that thread, one at least. The threads before it have as many each. All memory that it needs is
     /// asked for here.
@@ -58,8 +53,10 @@ impl Crew {
             thread,
             first: thread.saturating_mul(size),
             size,
-            tickets: Vec::with_capacity(alloc, room)?,
+            tasks: Vec::with_capacity(alloc, room)?,
             done: Vec::with_capacity(alloc, room)?,
+            parts: Vec::with_capacity(alloc, size)?,
+            refused: None,
             spent: Vec::with_capacity(alloc, room)?,
             cleared: Vec::with_capacity(alloc, room)?,
             read: AtomicU64::new(0),
@@ -83,9 +80,14 @@ impl Crew {
         self.done.len()
     }
 
+    /// Of how many moves it has all parts to bring back.
+    pub(crate) fn count_parts(&self) -> usize {
+        self.parts.len()
+    }
+
     /// Whether it has a job to be worked.
     pub(crate) fn has_jobs(&self) -> bool {
-        !self.tickets.is_empty()
+        !self.tasks.is_empty()
     }
 
     /// It comes to the desk for jobs. Whether it came from work, and had not come for them before.
@@ -112,14 +114,24 @@ impl Crew {
     }
 
     /// A job more.
-    pub(crate) fn add(&mut self, ticket: Ticket) {
-        let added = self.tickets.push(ticket);
+    pub(crate) fn add(&mut self, task: Task) {
+        let added = self.tasks.push(task);
         self.note_fault(added);
     }
 
     /// A job to be brought back.
     pub(crate) fn take_done(&mut self) -> Option<Done> {
         self.done.pop()
+    }
+
+    /// All parts of a move, to be brought back.
+    pub(crate) fn take_parts(&mut self) -> Option<ArrayVec<Option<Done>, 4>> {
+        self.parts.pop()
+    }
+
+    /// The run is broken off, so nobody waits for the part whose key this is.
+    pub(crate) fn give_up_refused(&mut self) {
+        self.refused = None;
     }
 
     /// An input that a new one may take the place of.
@@ -155,21 +167,34 @@ impl Crew {
         }
     }
 
+    fn keep_worked(&mut self, worked: Worked) {
+        match worked {
+            Worked::Job(done) => {
+                self.read_ahead(done.ticket());
+                let kept = self.done.push(done);
+                self.note_fault(kept);
+            }
+            Worked::Parts(parts) => {
+                let kept = self.parts.push(parts);
+                self.note_fault(kept);
+            }
+            Worked::Part => {}
+        }
+    }
+
     /// All its jobs are worked, or those before one that comes to nothing.
     pub(crate) fn work_all<G: Gate>(&mut self, alloc: Global, gate: &G) {
         self.clear_spent(alloc);
-        for _ in 0..self.tickets.len() {
-            let Some(ticket) = self.tickets.pop() else {
+        for _ in 0..self.tasks.len() {
+            let Some(task) = self.tasks.pop() else {
                 break;
             };
-            match work_job(alloc, self.thread, ticket, gate) {
-                Ok(done) => {
-                    self.read_ahead(done.ticket());
-                    let kept = self.done.push(done);
-                    self.note_fault(kept);
-                }
-                Err(fault) => {
+            match work_at(alloc, self.thread, task, gate) {
+                Ok(worked) => self.keep_worked(worked),
+                Err(refused) => {
+                    let Refused { fault, key } = refused;
                     self.fault = Some(fault);
+                    self.refused = key;
                     break;
                 }
             }

@@ -1,16 +1,18 @@
 //! The desk: a core, with what those that work at it have to know of one another.
 use crate::crew::{Crew, MOST_PARTS};
 use crate::fault::Run;
+use crate::task::{PartTask, Task};
+use arrayvec::ArrayVec;
 use bs_board::seats_of_record;
 use bs_fiber::{Done, Holders, Input, JobKind, Out, Ticket};
 use bs_sched::{Core, Taken};
-use std::alloc::{AllocError, Global};
+use std::alloc::Global;
 
 /// What a worker is told that asks for a job.
 #[derive(Drop)]
 pub(crate) enum Assignment {
     /// Work this one.
-    Job(Ticket),
+    Work(Task),
     /// None is ready, and one may become so.
     Wait,
     /// There will be none.
@@ -112,18 +114,6 @@ impl<const CAP: usize> Desk<CAP> {
         self.closed = true;
     }
 
-    fn take(
-        &mut self,
-        alloc: Global,
-        worker: usize,
-        spent: Option<Box<Input>>,
-    ) -> Result<Taken, AllocError> {
-        if worker > self.core.workers() {
-            return Ok(Taken::Busy);
-        }
-        self.core.take_over(alloc, worker, spent)
-    }
-
     fn without_job(&self) -> Assignment {
         if self.closed && self.core.is_quiet() {
             Assignment::End
@@ -139,8 +129,15 @@ impl<const CAP: usize> Desk<CAP> {
         worker: usize,
         spent: Option<Box<Input>>,
     ) -> Assignment {
-        match self.take(alloc, worker, spent) {
-            Ok(Taken::Job(ticket)) => Assignment::Job(ticket),
+        if worker > self.core.workers() {
+            self.stop(Run::Broken);
+            return Assignment::End;
+        }
+        match self.core.take_over(alloc, worker, spent) {
+            Ok(Taken::Job(ticket)) => Assignment::Work(Task::Job(ticket)),
+            Ok(Taken::Part(ticket, key)) => {
+                Assignment::Work(Task::Part(PartTask { ticket, key }))
+            }
             Ok(Taken::Nothing) => self.without_job(),
             Ok(Taken::Failed) => Assignment::End,
             Ok(Taken::Busy) => {
@@ -166,18 +163,28 @@ impl<const CAP: usize> Desk<CAP> {
         }
     }
 
+    /// All parts of a move are brought back.
+    pub(crate) fn put_parts(&mut self, parts: ArrayVec<Option<Done>, 4>) {
+        if self.core.put_parts(parts).is_err() {
+            self.stop(Run::Broken);
+        }
+    }
+
     /// The thread brings back all that it worked.
     fn bring_all(&mut self, crew: &mut Crew) -> Brought {
         let mut brought = Brought {
-            games: 0,
-            spreads: crew.count_done() > 1,
+            games: crew.count_parts(),
+            spreads: crew.count_done().saturating_add(crew.count_parts()) > 1,
         };
+        for _ in 0..crew.count_parts() {
+            if let Some(parts) = crew.take_parts() {
+                self.put_parts(parts);
+            }
+        }
         for _ in 0..crew.count_done() {
             if let Some(done) = crew.take_done() {
                 brought.spreads |= matches!(done.out(), Out::Goes);
-                if done.ticket().job().part == 0 {
-                    brought.games = brought.games.saturating_add(1);
-                }
+                brought.games = brought.games.saturating_add(1);
                 let worker = done.ticket().worker() as usize;
                 if let Some(spent) = self.put(worker, done) {
                     crew.keep_spent(spent);
@@ -193,9 +200,9 @@ impl<const CAP: usize> Desk<CAP> {
         for _ in 0..MOST_PARTS {
             let spent = crew.take_cleared();
             match self.assign(alloc, worker, spent) {
-                Assignment::Job(ticket) => {
-                    let ends = !has_parts_behind(&ticket);
-                    crew.add(ticket);
+                Assignment::Work(task) => {
+                    let ends = !has_parts_behind(task.ticket());
+                    crew.add(task);
                     if ends {
                         return None;
                     }
@@ -235,8 +242,8 @@ impl<const CAP: usize> Desk<CAP> {
     fn assign_one(&mut self, alloc: Global, crew: &mut Crew) -> Option<Next> {
         let spent = crew.take_cleared();
         match self.assign(alloc, crew.worker(0), spent) {
-            Assignment::Job(ticket) => {
-                crew.add(ticket);
+            Assignment::Work(task) => {
+                crew.add(task);
                 None
             }
             Assignment::Wait => Some(Next::Wait),
@@ -249,6 +256,7 @@ impl<const CAP: usize> Desk<CAP> {
     pub(crate) fn exchange(&mut self, alloc: Global, crew: &mut Crew) -> Next {
         if let Some(fault) = crew.fault() {
             self.stop(fault);
+            crew.give_up_refused();
         }
         if crew.comes_for_jobs() {
             self.idle = self.idle.saturating_add(1);

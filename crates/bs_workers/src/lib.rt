@@ -9,6 +9,7 @@ mod gate;
 mod plan_rows;
 mod running;
 mod shop;
+mod task;
 #[cfg(test)]
 mod tests;
 mod working;

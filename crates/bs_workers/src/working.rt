@@ -3,7 +3,8 @@ use crate::desk::{Assignment, Desk};
 use crate::fault::Run;
 use crate::gate::Gate;
 use crate::shop::Shop;
-use bs_fiber::{Holders, SharedCommand, Ticket, work};
+use crate::task::{Refused, Worked, work_at};
+use bs_fiber::{Holders, SharedCommand, Ticket};
 use std::alloc::{AllocError, Global};
 use std::sync::Wait;
 use std::thread::{Threads, join};
@@ -17,21 +18,26 @@ pub(crate) fn finish<const CAP: usize, R: Wait, G: Gate>(
     gate: &G,
 ) {
     let worker = desk.own_worker();
-    let mut assignment = desk.assign(alloc, worker, None);
+    let mut spent = None;
     for _ in rt.forever() {
-        let Assignment::Job(ticket) = assignment else {
+        let Assignment::Work(task) = desk.assign(alloc, worker, spent.map(Ticket::into_input))
+        else {
             break;
         };
-        if !gate.at(thread, ticket.job()) {
-            desk.stop(Run::Broken);
-            break;
-        }
-        let Ok(done) = work(alloc, ticket) else {
-            desk.stop(Run::Memory);
-            break;
+        spent = match work_at(alloc, thread, task, gate) {
+            Ok(Worked::Job(done)) => desk.put(worker, done),
+            Ok(Worked::Parts(parts)) => {
+                desk.put_parts(parts);
+                None
+            }
+            Ok(Worked::Part) => None,
+            Err(refused) => {
+                let Refused { fault, key } = refused;
+                desk.stop(fault);
+                drop(key);
+                break;
+            }
         };
-        let spent = desk.put(worker, done);
-        assignment = desk.assign(alloc, worker, spent.map(Ticket::into_input));
     }
 }
 

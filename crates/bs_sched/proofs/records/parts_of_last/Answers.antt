@@ -1,6 +1,6 @@
 -- The newest record says how many seats its board has, at most eight.
 use Rattle.std.proofs.Common.{arith}
-use Rattle.bs_sched.proofs.NewestRecords.{newest_at, reaches_seats, few_seats, parts_of_seats}
+use Rattle.bs_sched.proofs.NewestRecords.{newest_at, reaches_seats, few_seats, some_seats, parts_of_seats}
 use Rattle.bs_sched.proofs.records.parts_of_last.Goals as goal
 
 pub seats_of_record-requires : goal.seats_of_record-requires
@@ -26,3 +26,10 @@ returns-clause-few g c =
     let new = newest_at kept.0 c.args.heap.now.records c.record.result.now c.count.result kept.1 c.requires.some c.count.ensures.value c.record.ensures in
     let few = few_seats kept.0 _ c.seats_of_record.result new (c.seats_of_record.ensures new.board new.is) in
     omega (arith, few)
+
+pub returns-clause-some : goal.returns-clause-some
+returns-clause-some g c =
+    let kept = c.requires.kept in
+    let new = newest_at kept.0 c.args.heap.now.records c.record.result.now c.count.result kept.1 c.requires.some c.count.ensures.value c.record.ensures in
+    let some = some_seats kept.0 _ c.seats_of_record.result new (c.seats_of_record.ensures new.board new.is) in
+    omega (arith, some)

@@ -21,8 +21,6 @@ fork-requires g c =
     record {
       begun = subst (λ (x : Lane). (w : ℕ) × (is_out w x kind.Begin 0 ≡ true)) same c.requires.begun;
       goes = subst (λ (x : Lane). goes_on x ≡ true) same c.requires.goes;
-      parts = subst (λ (x : Lane). c.args.parts ≡ parts_of (length (snakes_in (last_board x.game)))) same c.requires.parts;
-      few = c.requires.few;
     }
 
 pub invariant_of-self : goal.invariant_of-self

@@ -1,0 +1,4 @@
+pub mod Keys
+pub mod Missing
+pub mod Outcomes
+pub mod Tally

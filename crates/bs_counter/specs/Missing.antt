@@ -1,0 +1,19 @@
+-- The tally as a set: the parts that are missing, from which each finish takes its own away.
+use Rattle.std.specs.Prelude.{◌≡◌, ◌≢◌, ◌↔◌, ℕ, ◌<◌, List, Option, slice_index, slice_set}
+use mathlib.Core.Option.{some}
+use lib.ListN.{get_elem?}
+use Rattle.atomic_table.specs.Table.{State}
+use Rattle.bs_counter.specs.declared.views.View.{View}
+use Rattle.bs_counter.specs.declared.views.View.TheVariants.{Writes, Past, Last}
+use Rattle.bs_counter.specs.Tally.{Covers, Tallied}
+
+-- some seat is to finish the part
+abbrev pub IsMissing : List View → ℕ → Type 0
+IsMissing views p = (i : ℕ) × (v : View) × (get_elem? views i ≡ some v) × Covers v p
+
+-- A state of the rule is a set of missing parts. The word is 0 exactly where it is empty, and a seat that finishes its part takes that
+-- part away and no other, whether it is the last or not.
+pub record IsSet {T : Type 0} (s : State (Option T) View) : Type 0 where
+  pub empty : slice_index s.words 0 ≡ 0 ↔ ((p : ℕ) → ¬ IsMissing s.views p)
+  pub finish : (id p : ℕ) (w : View) → get_elem? s.views id ≡ some (Writes p) → ((q : ℕ) → ¬ Covers w q)
+      → (q : ℕ) → IsMissing (slice_set s.views id w) q ↔ (IsMissing s.views q × (q ≢ p))

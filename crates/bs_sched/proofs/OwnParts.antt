@@ -1,0 +1,154 @@
+-- The parts of a move come back one after the other: each is still the core's own when those before it are back.
+use Rattle.std.proofs.Common.{◌≡◌, ◌≢◌, ℕ, zero, suc, ◌+◌, ◌<◌, Bool, true, false, ◌&&◌, List, [], ◌∷◌, length, Option, Some, None, refl, sym, ap, subst, ◌∙◌, arith, get_or, slice_index_or}
+use Rattle.std.specs.Prelude.{nat_lt, nat_eq, slice_set, slice_get, remove}
+use Rattle.std.specs.List.{list_all}
+use Rattle.std.proofs.lemmas.Bool.{lt-ltb, ltb-true, cond-true}
+use Rattle.std.proofs.lemmas.List.{get_or-set_same, get_or-set_other, length-set}
+use Rattle.bs_board.proofs.Chains.{and_both}
+use Rattle.bs_fiber.specs.declared.input.Input.{Input}
+use Rattle.bs_fiber.specs.declared.job.JobName.{JobName}
+use Rattle.bs_fiber.specs.declared.job.JobKind.TheVariants as kind
+use Rattle.bs_sched.specs.declared.event.Event.TheVariants as event
+use Rattle.bs_sched.specs.declared.stage.PartState.{PartState}
+use Rattle.bs_sched.specs.declared.stage.PartState.TheVariants as part
+use Rattle.bs_sched.specs.declared.stage.Stage.TheVariants as stage
+use Rattle.bs_sched.specs.Core.{CoreView}
+use Rattle.bs_sched.specs.Games.{GamesView, after}
+use Rattle.bs_sched.specs.Inputs.{input_of}
+use Rattle.bs_sched.specs.Lane.{Lane, empty_lane, is_out, is_in_parts, is_part_done, has_part, part_at, with_part_done, stage_with}
+use Rattle.bs_sched.specs.Isolation.{are_enabled}
+use Rattle.bs_sched.specs.Machine.{lane_of, is_enabled, step, lane_effect}
+use Rattle.bs_sched.specs.Parts.{IsOwnPart, AreOwnParts, part_job, core_run, puts_of}
+use Rattle.bs_sched.specs.Putting.{IsOwn}
+use Rattle.bs_sched.proofs.LoneLanes.{both_true}
+use Rattle.bs_sched.proofs.OwnJobs.{own_there, own_out}
+
+-- a part that somebody has is not done, so not all are
+not_all_done : (parts : List PartState) (worker q : ℕ) → has_part worker (get_or parts q part.Done) ≡ true → list_all is_part_done parts ≡ false
+not_all_done [] worker q has = let wrong : false ≡ true = has in absurd cc
+not_all_done (part.Ready ∷ parts) worker q has = refl
+not_all_done (part.Out other ∷ parts) worker q has = refl
+not_all_done (part.Done ∷ parts) worker zero has = let wrong : false ≡ true = has in absurd cc
+not_all_done (part.Done ∷ parts) worker (suc q) has = not_all_done parts worker q has
+
+-- one part is back, another is still out
+out_still : (x : Lane) (worker p q : ℕ) → p ≢ q → is_out worker x kind.Part q ≡ true → is_out worker (with_part_done p x) kind.Part q ≡ true
+out_still x worker p q other out =
+    let both = and_both (is_in_parts x.stage) (has_part worker (part_at x q)) out in
+    let same : get_or (slice_set x.parts p part.Done) q part.Done ≡ get_or x.parts q part.Done
+    = get_or-set_other x.parts p q part.Done part.Done (λ e. other (sym e)) in
+    let has : has_part worker (get_or (slice_set x.parts p part.Done) q part.Done) ≡ true = ap (has_part worker) same ∙ both.1 in
+    let left : list_all is_part_done (slice_set x.parts p part.Done) ≡ false = not_all_done (slice_set x.parts p part.Done) worker q has in
+    rw (left, has) refl
+
+-- the parts that are to come back, from the p-th on
+abbrev pub AreOwnFrom : GamesView → ℕ → ℕ → List (Option Input) → Type 0
+AreOwnFrom games game p [] = Unit {0}
+AreOwnFrom games game p (one ∷ brought) = IsOwnPart games game p one × AreOwnFrom games game (p + 1) brought
+
+from_each : (games : GamesView) (game p : ℕ) (brought : List (Option Input))
+    → ((i : ℕ) → i < length brought → IsOwnPart games game (p + i) (slice_index_or brought i None)) → AreOwnFrom games game p brought
+from_each games game p [] each = tt
+from_each games game p (one ∷ brought) each =
+    let here : p + 0 ≡ p = omega arith in (
+      subst (λ (k : ℕ). IsOwnPart games game k one) here (each 0 (omega arith)),
+      from_each games game (p + 1) brought
+          (λ i within. let next : p + suc i ≡ p + 1 + i = omega arith in subst (λ (k : ℕ). IsOwnPart games game k (slice_index_or brought i None)) next (each (suc i) (omega arith))),
+    )
+
+pub from_all : (games : GamesView) (brought : List (Option Input)) (are : AreOwnParts games brought) → AreOwnFrom games are.game 0 brought
+from_all games brought are =
+    from_each games are.game 0 brought (λ i within. let none : i ≡ 0 + i = omega arith in subst (λ (k : ℕ). IsOwnPart games are.game k (slice_index_or brought i None)) none (are.each i within))
+
+-- one of them is back, and another is still the core's own
+own_still : (cap : ℕ) (games : GamesView) (game p q worker : ℕ) (one : Option Input) → p ≢ q → IsOwnPart games game q one
+    → IsOwnPart (after cap games (event.Put worker (part_job game p))) game q one
+own_still cap games game p q worker one other own =
+    let done : Input = own.done in
+    let is : done.job ≡ part_job game q = own.job in
+    let x = lane_of games.lanes game in
+    let new = after cap games (event.Put worker (part_job game p)) in
+    let there : game < length games.lanes = subst (λ (j : JobName). j.game < length games.lanes) is (own_there games done.worker done own.own) in
+    let out : is_out done.worker x kind.Part q ≡ true
+    = subst (λ (j : JobName). is_out done.worker (lane_of games.lanes j.game) j.kind j.part ≡ true) is (own_out games done.worker done own.own) in
+    let lane : lane_of new.lanes game ≡ with_part_done p x = get_or-set_same games.lanes game (with_part_done p x) (empty_lane 0) there in
+    let many : length new.lanes ≡ length games.lanes = length-set games.lanes game (with_part_done p x) in
+    let here : nat_lt game (length new.lanes) ≡ true = lt-ltb _ _ (omega (arith, many)) in
+    let still : is_out done.worker (lane_of new.lanes game) kind.Part q ≡ true = rw lane (out_still x done.worker p q other out) in
+    let enabled : is_enabled new.workers new.lanes (event.Put done.worker (part_job game q)) ≡ true = rw (here, still) refl in
+    let input : input_of (lane_of new.lanes game) done.worker (part_job game q) ≡ input_of x done.worker (part_job game q)
+    = ap (λ (y : Lane). input_of y done.worker (part_job game q)) lane in
+    let before : done ≡ input_of x done.worker (part_job game q)
+    = subst (λ (j : JobName). done ≡ input_of (lane_of games.lanes j.game) done.worker j) is own.own.input in
+    record {
+      done = done;
+      is = own.is;
+      job = is;
+      own = record {
+        out = subst (λ (j : JobName). is_enabled new.workers new.lanes (event.Put done.worker j) ≡ true) (sym is) enabled;
+        input = subst (λ (j : JobName). done ≡ input_of (lane_of new.lanes j.game) done.worker j) (sym is) (before ∙ sym input);
+      };
+    }
+
+pub own_rest : (cap : ℕ) (games : GamesView) (game p k worker : ℕ) (brought : List (Option Input)) → p < k → AreOwnFrom games game k brought
+    → AreOwnFrom (after cap games (event.Put worker (part_job game p))) game k brought
+own_rest cap games game p k worker [] less own = tt
+own_rest cap games game p k worker (one ∷ brought) less own =
+    (own_still cap games game p k worker one (λ e. absurd (omega arith)) own.0, own_rest cap games game p (k + 1) worker brought (omega arith) own.1)
+
+-- the first of them names the game
+pub first_part : (games : GamesView) (brought : List (Option Input)) (first : Input) → slice_get brought 0 ≡ Some (Some first) → (are : AreOwnParts games brought)
+    → (are.game ≡ first.job.game) × (first.job.game < length games.lanes)
+first_part games [] first is are = let wrong : None ≡ Some (Some first) = is in absurd cc
+first_part games (x ∷ brought) first is are =
+    let own = are.each 0 are.some in
+    let same : own.done ≡ first = let e : x ≡ Some own.done = own.is in let f : Some x ≡ Some (Some first) = is in cc in
+    let job : first.job ≡ part_job are.game 0 = ap (λ (i : Input). i.job) (sym same) ∙ own.job in
+    let game : are.game ≡ first.job.game = ap (λ (j : JobName). j.game) (sym job) in
+    (game, subst (λ (i : Input). i.job.game < length games.lanes) same (own_there games own.done.worker own.done own.own))
+
+abbrev pub NextPart : ℕ → CoreView → CoreView → ℕ → ℕ → List (Option Input) → List (Option Input) → Type 0
+NextPart cap old new game p items rest = AreOwnFrom new.games game (p + 1) rest × (core_run cap new (puts_of rest) ≡ core_run cap old (puts_of items))
+
+next_of : (cap : ℕ) (old : CoreView) (game p : ℕ) (one : Option Input) (rest : List (Option Input)) → AreOwnFrom old.games game p (one ∷ rest)
+    → NextPart cap old (core_run cap old (puts_of (one ∷ []))) game p (one ∷ rest) rest
+next_of cap old game p None rest own = let wrong : None ≡ Some own.0.done = own.0.is in absurd cc
+next_of cap old game p (Some done) rest own =
+    let same : own.0.done ≡ done = let e : Some done ≡ Some own.0.done = own.0.is in cc in
+    let job : done.job ≡ part_job game p = ap (λ (i : Input). i.job) (sym same) ∙ own.0.job in (
+      subst (λ (j : JobName). AreOwnFrom (after cap old.games (event.Put done.worker j)) game (p + 1) rest) (sym job)
+          (own_rest cap old.games game p (p + 1) done.worker rest (omega arith) own.1),
+      refl,
+    )
+
+-- the first of those that are left is brought back
+pub next_part : (cap : ℕ) (old new : CoreView) (game p : ℕ) (items : List (Option Input)) (one : Option Input) → 0 < length items → AreOwnFrom old.games game p items
+    → one ≡ slice_index_or items 0 one → new ≡ core_run cap old (puts_of (one ∷ [])) → NextPart cap old new game p items (remove items 0)
+next_part cap old new game p [] one some own is run = absurd (omega arith)
+next_part cap old new game p (x ∷ rest) one some own is run =
+    subst (λ (core : CoreView). NextPart cap old core game p (x ∷ rest) rest) (sym run)
+    (subst (λ (y : Option Input). NextPart cap old (core_run cap old (puts_of (y ∷ []))) game p (x ∷ rest) rest) (sym is) (next_of cap old game p x rest own))
+
+pub own_next : (games : GamesView) (game p : ℕ) (items : List (Option Input)) (one : Option Input) → 0 < length items → AreOwnFrom games game p items
+    → one ≡ slice_index_or items 0 one → IsOwnPart games game p one
+own_next games game p [] one some own is = absurd (omega arith)
+own_next games game p (x ∷ rest) one some own is = subst (IsOwnPart games game p) (sym is) own.0
+
+-- each is enabled where it comes
+enabled_from : (games : GamesView) (game p : ℕ) (brought : List (Option Input)) → AreOwnFrom games game p brought
+    → are_enabled games.workers games.lanes (puts_of brought) ≡ true
+enabled_from games game p [] own = refl
+enabled_from games game p (None ∷ rest) own = let wrong : None ≡ Some own.0.done = own.0.is in absurd cc
+enabled_from games game p (Some done ∷ rest) own =
+    let e = event.Put done.worker done.job in
+    let same : own.0.done ≡ done = let e : Some done ≡ Some own.0.done = own.0.is in cc in
+    let job : done.job ≡ part_job game p = ap (λ (i : Input). i.job) (sym same) ∙ own.0.job in
+    let here : is_enabled games.workers games.lanes e ≡ true = subst (λ (i : Input). is_enabled games.workers games.lanes (event.Put i.worker i.job) ≡ true) same own.0.own.out in
+    let next = subst (λ (j : JobName). AreOwnFrom (after 0 games (event.Put done.worker j)) game (p + 1) rest) (sym job)
+    (own_rest 0 games game p (p + 1) done.worker rest (omega arith) own.1) in
+    let goes : step games.workers games.lanes e ≡ lane_effect games.lanes e = cond-true _ (lane_effect games.lanes e) games.lanes here in
+    both_true (is_enabled games.workers games.lanes e) _ here
+    (subst (λ (lanes : List Lane). are_enabled games.workers lanes (puts_of rest) ≡ true) (sym goes) (enabled_from (after 0 games e) game (p + 1) rest next))
+
+pub all_enabled : (games : GamesView) (brought : List (Option Input)) → AreOwnParts games brought → are_enabled games.workers games.lanes (puts_of brought) ≡ true
+all_enabled games brought are = enabled_from games are.game 0 brought (from_all games brought are)
