@@ -10,7 +10,8 @@ use Rattle.bs_host.specs.declared.cut_fault.Cut.TheVariants.{TooLong}
 use Rattle.bs_host.specs.declared.limits.TheConstants.{MOST_FILE_BYTES}
 use Rattle.bs_host.specs.declared.pieces.TheConstants.{LINE_FEED}
 use Rattle.bs_host.specs.Cut.{behind_feeds, cut_of, cut_refusal_of, cut_refusal_of_plan, game_at, is_own_line, lone_plan_of, own_lines_in, own_lines_of}
-use Rattle.bs_host.specs.File.{pieces_of, first_piece, later_pieces, plan_in, plan_of, rows_of, version_of}
+use Rattle.bs_host.specs.File.{pieces_of, first_piece, later_pieces, plan_in, plan_of, rows_in, rows_of, version_of}
+use Rattle.bs_host.specs.Routing.{row_named}
 use Rattle.bs_host.proofs.CutLines.{joined_behind}
 
 pub refusal_of_long : (file game : List ℕ) → MOST_FILE_BYTES < length file → cut_refusal_of file game ≡ Some TooLong
@@ -24,11 +25,8 @@ refusal_of_first file game first rest short pieces =
     cond-false _ (Some TooLong) (cut_refusal_of_plan game (plan_of file)) (le-ltb MOST_FILE_BYTES (length file) short)
     ∙ ap (λ all. cut_refusal_of_plan game (plan_line_of (first_piece all))) pieces
 
-plan_of_first : (file first : List ℕ) (rest : List (List ℕ)) (plan : Plan) → pieces_of file ≡ first ∷ rest → plan_line_of first ≡ Ok plan → plan_in (plan_of file) ≡ plan
-plan_of_first file first rest plan pieces read = ap (λ all. plan_in (plan_line_of (first_piece all))) pieces ∙ ap plan_in read
-
 pub rows_of_first : (file first : List ℕ) (rest : List (List ℕ)) (plan : Plan) → pieces_of file ≡ first ∷ rest → plan_line_of first ≡ Ok plan → rows_of file ≡ plan.rows
-rows_of_first file first rest plan pieces read = ap (λ (plan : Plan). plan.rows) (plan_of_first file first rest plan pieces read)
+rows_of_first file first rest plan pieces read = ap (λ all. rows_in (plan_line_of (first_piece all))) pieces ∙ ap rows_in read
 
 -- of that plan and the lines behind it
 abbrev cut_from : Plan → ℕ → List (List ℕ) → List ℕ
@@ -40,8 +38,18 @@ unfolding cut_of
 cut_of_first file first rest plan row pieces read =
     sym (
     joined_behind (lone_plan_of (version_of file) (game_at (rows_of file) row)) (own_lines_of file row)
-    ∙ ap (λ (plan : Plan). cut_from plan row (later_pieces (pieces_of file))) (plan_of_first file first rest plan pieces read)
-    ∙ ap (λ all. cut_from plan row (later_pieces all)) pieces)
+    ∙ ap (λ all. cut_from (plan_in (plan_line_of (first_piece all))) row (later_pieces all)) pieces
+    ∙ ap (λ found. cut_from (plan_in found) row rest) read)
+
+-- what was written for the row of that name is the file's cut
+pub cut_of_named : (file first game name text : List ℕ) (rest : List (List ℕ)) (plan : Plan) (row : ℕ) → pieces_of file ≡ first ∷ rest
+    → plan_line_of first ≡ Ok plan → name ≡ game → Some row ≡ row_named plan.rows name
+    → text ≡ lone_plan_of plan.version (game_at plan.rows row) ++ behind_feeds (own_lines_in plan row rest)
+    → option_map (cut_of file) (row_named (rows_of file) game) ≡ Some text
+cut_of_named file first game name text rest plan row pieces read is named written =
+    let found : row_named (rows_of file) game ≡ Some row =
+    ap (λ rows. row_named rows game) (rows_of_first file first rest plan pieces read) ∙ ap (row_named plan.rows) (sym is) ∙ sym named in
+    ap (option_map (cut_of file)) found ∙ ap Some (sym (written ∙ cut_of_first file first rest plan row pieces read))
 
 -- what is left of the file, in bytes and line feeds
 abbrev pub bytes_left : Option (Bor (List ℕ)) → ℕ

@@ -2,7 +2,7 @@
 use Rattle.std.proofs.Common.{◌≡◌, ℕ, zero, suc, ◌*◌, ◌^◌, ◌<◌, ◌≤◌, Bool, true, false, ◌&&◌, nat_le, nat_lt, List, [], ◌∷◌, ◌++◌, Some, Ok, option_and_then, codes, decimal, length, get_or, inl, inr, refl, sym, ap, ◌∙◌, arith, append_assoc, append-nil, length-append}
 use Rattle.std.proofs.Math.Dec.{eqb}
 use Rattle.std.proofs.lemmas.Bool.{and_parts, and_from, cases_lt, cases_eq, ne_eqb, leb-true, le-ltb, cond-false}
-use Rattle.std.proofs.lemmas.Fmt.{decimal_is_IsNumeral, IsAscii-decimal, length-decimal-le}
+use Rattle.std.proofs.lemmas.Fmt.{decimal_digit, decimal_is_IsNumeral, IsAscii-decimal, length-decimal-le}
 use Rattle.std.proofs.lemmas.List.Folds.{list_all-append}
 use Rattle.std.proofs.lemmas.Str.{IsUtf8-append, IsUtf8-from_ascii, IsUtf8-from_is_utf8, is_utf8-from_IsUtf8}
 use Rattle.std.proofs.lemmas.Str.Parse.{digit_at}
@@ -17,7 +17,7 @@ use Rattle.json.proofs.Printed.Decimals.{IsNumber-decimal}
 use Rattle.json.proofs.Printed.Strings.{escape_byte_plain}
 use Rattle.json.proofs.Printed.Tokens.{tokens-print}
 use Rattle.json.proofs.Printed.Trees.{value-json_tokens}
-use Rattle.json.proofs.Printed.Utf8.{IsUtf8-are_ascii, IsUtf8-quoted}
+use Rattle.json.proofs.Printed.Utf8.{are_ascii, IsUtf8-are_ascii, IsUtf8-quoted}
 use Rattle.serde_json.specs.Data.{Data}
 use Rattle.serde_json.specs.Read.{read, of_json}
 use Rattle.serde_json.specs.Written.{has_float, outline, compact_text}
@@ -70,7 +70,7 @@ lone_plan_is_printable : (version : Version) (row : GameRow) → row.quota < 2 ^
 unfolding lone_plan_data ArePrintable
 lone_plan_is_printable One row small = (tt, (tt, (tt, (tt, (tt, (tt, (tt, (IsNumber-decimal row.quota small, (tt, (tt, (tt, tt)))))))))))
 lone_plan_is_printable Two row small =
-    (tt, (tt, (tt, (tt, (tt, (tt, (tt, (IsNumber-decimal row.quota small, (tt, (tt, (tt, (tt, (IsNumber-decimal 2 (omega arith), (tt, tt))))))))))))))
+    (tt, (tt, (tt, (tt, (tt, (tt, (tt, (IsNumber-decimal row.quota small, (tt, (tt, (tt, (IsNumber-decimal 2 (omega arith), (tt, tt)))))))))))))
 
 lone_plan_back : (version : Version) (row : GameRow) → row.quota < 2 ^ 64 → of_json (outline (lone_plan_data version row)) ≡ Some (lone_plan_data version row)
 unfolding lone_plan_data
@@ -104,7 +104,8 @@ lone_plan_text : (version : Version) (row : GameRow)
 unfolding lone_plan_data escape_byte
 lone_plan_text One row = ap (λ rest. codes "{\"games\":[{\"game\":" ++ rest) (regroup (quoted row.game) (codes ",\"quota\":") (decimal row.quota) (codes "}"))
 lone_plan_text Two row =
-    ap (λ rest. codes "{\"games\":[{\"game\":" ++ rest) (regroup (quoted row.game) (codes ",\"quota\":") (decimal row.quota) (codes ",\"version\":2}"))
+    rw (decimal_digit 2 (omega arith))
+    (ap (λ rest. codes "{\"games\":[{\"game\":" ++ rest) (regroup (quoted row.game) (codes ",\"quota\":") (decimal row.quota) (codes ",\"version\":2}")))
 
 end_is_ascii : (version : Version) → are_ascii (plan_end version) ≡ true
 end_is_ascii One = refl

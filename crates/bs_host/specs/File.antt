@@ -31,17 +31,21 @@ later_pieces (first ∷ rest) = rest
 abbrev pub plan_of : List ℕ → Result Plan PlanFault
 plan_of file = plan_line_of (first_piece (pieces_of file))
 
+abbrev pub rows_in : Result Plan PlanFault → List GameRow
+rows_in (Ok plan) = plan.rows
+rows_in (Err fault) = []
+
+abbrev pub version_in : Result Plan PlanFault → Version
+version_in (Ok plan) = plan.version
+version_in (Err fault) = One
+
 -- where there is no plan, the lines are read as with one of version 1 that has no games
 abbrev pub plan_in : Result Plan PlanFault → Plan
-plan_in (Ok plan) = plan
-plan_in (Err fault) = record { rows = []; version = One }
-
-abbrev pub rows_in : Result Plan PlanFault → List GameRow
-rows_in plan = (plan_in plan).rows
+plan_in found = record { rows = rows_in found; version = version_in found }
 
 -- the games of the file, none where it has no plan
 abbrev pub rows_of : List ℕ → List GameRow
 rows_of file = rows_in (plan_of file)
 
 abbrev pub version_of : List ℕ → Version
-version_of file = (plan_in (plan_of file)).version
+version_of file = version_in (plan_of file)
