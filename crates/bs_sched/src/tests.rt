@@ -211,8 +211,6 @@ fn opens_within_its_blocks(rt: HostRuntime) -> Result<(), Fail> {
     let two = [("a", 64), ("b", 64)];
     let short = Core::<CAP>::open(rt.alloc(), plan_of(&rt, rt.alloc(), &two)?, 11, 3);
     assert_eq!(rt; short.err(), Some(Open::Short));
-    let many = Core::<CAP>::open(rt.alloc(), plan_of(&rt, rt.alloc(), &two)?, 12, 1 << 32);
-    assert_eq!(rt; many.err(), Some(Open::Memory));
 
     let core = Core::<CAP>::open(rt.alloc(), plan_of(&rt, rt.alloc(), &two)?, 12, 3)?;
     let counts = Counts {
