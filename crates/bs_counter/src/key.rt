@@ -11,8 +11,8 @@ use std::fmt::{Debug, Formatter};
 use std::marker::Model;
 use std::sync::Arc;
 
-/// The right to finish one part, once. Contracts see the part, the number of parts, the tally and the
-/// seat.
+/// The right to finish one part, once. Contracts see the part, the number of parts, the tally and
+/// the seat.
 #[derive(Drop)]
 pub struct PartKey<T: Parted> {
     pub(crate) tally: Arc<TallyTable<T>, Global>,
@@ -40,8 +40,8 @@ impl<T: Parted + Drop> PartKey<T> {
         self.part
     }
 
-    /// Finishes the part with its outcome. The last finisher of a tally gets the outcomes of all parts.
-    /// Takes no lock and no memory.
+    /// Finishes the part with its outcome. The last finisher of a tally gets the outcomes of all
+    /// parts. Takes no lock and no memory.
     pub fn finish(self, out: T) -> Finish<T>
         requires { T.part_of out ≡ self.part }
         ensures { Finished T.part_of self result }

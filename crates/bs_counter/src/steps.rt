@@ -1,5 +1,5 @@
-//! The single steps at a tally. Each is one atomic access to the word, and an access to a slot that the
-//! calling seat holds alone.
+//! The single steps at a tally. Each is one atomic access to the word, and an access to a slot that
+//! the calling seat holds alone.
 ghost use Rattle.std.specs.Prelude.{◌≡◌, ◌≢◌, ◌+◌, ◌<◌, [], ◌∷◌, Some, None};
 ghost use Rattle.bs_counter.specs.Tally.{IsSeatAt, IsSameSeat};
 ghost use Rattle.bs_counter.specs.declared.views.View.TheVariants.{Owes, Writes, Past, Last};
@@ -44,8 +44,8 @@ pub(crate) fn start<T: Parted>(tally: &TallyTable<T>, seat: &mut TallySeat<T>, p
     tally.shared.load::<Start>(seat, 0);
 }
 
-/// Writes the outcome into the slot, returns the slot and decrements the word. The result is the word
-/// before that: 1 for the last finisher.
+/// Writes the outcome into the slot, returns the slot and decrements the word. The result is the
+/// word before that: 1 for the last finisher.
 pub(crate) fn end<T: Parted>(
     tally: &TallyTable<T>,
     seat: &mut TallySeat<T>,

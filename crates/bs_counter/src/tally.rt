@@ -9,8 +9,8 @@ use atomic_table::Table;
 use std::alloc::{AllocError, Global};
 use std::sync::Arc;
 
-/// The number of missing parts of a turn, with a slot for the outcome of each part. It lives as long as
-/// one of its keys.
+/// The number of missing parts of a turn, with a slot for the outcome of each part. It lives as
+/// long as one of its keys.
 pub struct Tally;
 
 impl Tally {

@@ -30,8 +30,8 @@ fn finish(key: PartKey<Piece>, value: u64) -> Finish<Piece> {
     key.finish(Piece { part, value })
 }
 
-/// Finishes the key's part with that value. The values of all parts, in the order of the answer, where this
-/// was the last finisher.
+/// Finishes the key's part with that value. The values of all parts, in the order of the answer,
+/// where this was the last finisher.
 fn finish_last(
     rt: &impl Abort,
     alloc: Global,
@@ -85,7 +85,8 @@ fn the_last_of_four_parts_gets_all_values(rt: HostRuntime) -> Result<(), Fail> {
     Ok(())
 }
 
-/// Finishes each key on a thread of its own, and counts those that were told that theirs was the last.
+/// Finishes each key on a thread of its own, and counts those that were told that theirs was the
+/// last.
 fn count_last<R: Threads + Sync>(
     rt: &R,
     alloc: Global,
