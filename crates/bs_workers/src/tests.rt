@@ -242,17 +242,24 @@ fn a_run_is_told_from_another(rt: HostRuntime) -> Result<(), Fail> {
     Ok(())
 }
 
+/// Of two faults want of memory is told, whichever came first.
 #[test]
 fn a_stopped_shop_has_no_core(rt: HostRuntime) -> Result<(), Fail> {
     let alloc = rt.alloc();
     let commands = commands(alloc)?;
-    for fault in [Run::Broken, Run::Memory] {
+    for (first, second, told) in [
+        (Run::Broken, Run::Broken, Run::Broken),
+        (Run::Broken, Run::Memory, Run::Memory),
+        (Run::Memory, Run::Broken, Run::Memory),
+        (Run::Memory, Run::Memory, Run::Memory),
+    ] {
         let core = Core::<524_288>::open(alloc, games(&rt, alloc, &["a", "b"])?, 12, 2)?;
         let shop = Shop::new(alloc, core, 2, 1)?;
-        shop.stop(&rt, fault);
+        shop.stop(&rt, first);
         assert!(rt; !shop.hand(&rt, alloc, commands.as_slice()));
+        shop.stop(&rt, second);
         shop.work_in_threads(&rt, alloc, 0..2, &OpenGate);
-        assert_eq!(rt; shop.finish(&rt, alloc, &OpenGate).err(), Some(fault));
+        assert_eq!(rt; shop.finish(&rt, alloc, &OpenGate).err(), Some(told));
     }
     Ok(())
 }
