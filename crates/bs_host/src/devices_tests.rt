@@ -9,7 +9,7 @@ use std::sync::Wait;
 use std::test::Fail;
 use std::thread::Threads;
 
-/// Takes all that it is given, but fails once, behind so many bytes: by an error or by taking nothing.
+/// Takes all that it is given, but fails once, behind so many bytes: by an error or taking nothing.
 #[derive(Drop)]
 struct Stumbling {
     taken: Vec<u8>,
