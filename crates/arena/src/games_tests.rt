@@ -1,4 +1,4 @@
-//! Whole files through the program: strays, games that take turns and each of them alone, and devices that fail once.
+//! Whole files through the program, together and alone, and devices that fail once.
 use crate::program::arena_run;
 use crate::tests::ran;
 use std::io::{self, ErrorKind, Read, Write};
@@ -44,7 +44,7 @@ const SECOND_TEXT: &str =
 {"board":{"food":[],"food_chance":0,"height":7,"min_food":0,"mode":"standard","over":false,"snakes":[{"body":[{"x":1,"y":2},{"x":1,"y":1},{"x":1,"y":1},{"x":1,"y":1}],"by":null,"cause":null,"health":100,"id":"s","out":null},{"body":[{"x":5,"y":2},{"x":5,"y":1},{"x":5,"y":1}],"by":null,"cause":null,"health":99,"id":"t","out":null},{"body":[{"x":3,"y":4},{"x":3,"y":5},{"x":3,"y":5}],"by":null,"cause":null,"health":99,"id":"u","out":null}],"turn":1,"width":7},"charge":128,"final":true,"game":"b"}
 "#;
 
-// With each number of workers two games are written one behind the other; alone, each writes its own lines and no other.
+// Two games are written one behind the other with each number of workers, and each by itself alone.
 #[test]
 fn worked_files(rt: HostRuntime) -> Result<(), Fail> {
     let alloc = rt.alloc();
@@ -92,7 +92,7 @@ fn options_at_their_limits(rt: HostRuntime) {
     assert_eq!(rt; errors.as_slice(), b"arena: plan P1\n".as_slice());
 }
 
-/// A device that fails once: behind so many bytes, or when it is flushed. Else it gives and takes all.
+/// A device that fails once: behind so many bytes, or when it is flushed. Else it takes all.
 #[derive(Drop)]
 struct Stumbling {
     taken: Vec<u8>,

@@ -1,4 +1,4 @@
-//! Writers and readers that fail once, at each place, and then go on: the fault is told, and nothing is tried again.
+//! Writers and readers that fail once, at each place, and then go on: nothing is tried again.
 use crate::tests::{SOLO, SOLO_TEXT, TWO_GAMES};
 use crate::{read_input, serve, serve_and_close};
 use bs_workers::OpenGate;
@@ -9,7 +9,7 @@ use std::sync::Wait;
 use std::test::Fail;
 use std::thread::Threads;
 
-/// Takes all that it is given but for one time, behind so many bytes: then it fails, by an error or by taking nothing.
+/// Takes all that it is given, but fails once, behind so many bytes: by an error or taking nothing.
 #[derive(Drop)]
 struct Stumbling {
     taken: Vec<u8>,

@@ -1,4 +1,4 @@
-//! Files of several games by several workers: strays, games that take turns, eight games, and two parts of one move at once.
+//! Files by several workers: strays, two games in turns, eight games, and two parts of one move.
 use crate::tests::{SOLO, SOLO_TEXT, TWO_GAMES, worked};
 use crate::{cut, serve_and_close};
 use bs_fiber::{JobKind, JobName};
@@ -8,7 +8,7 @@ use std::sync::atomic::AtomicBool;
 use std::sync::atomic::Ordering::SeqCst;
 use std::test::Fail;
 
-// A game of one snake, and lines between its own that are no JSON, of no game of the plan, and no command.
+// A game of one snake, and lines that are no JSON, of no game of the plan, and no command.
 const SOLO_STRAYS: &str = r#"{"games":[{"game":"a","quota":4096}]}
 {"game":"a","do":"new","mode":"solo","width":3,"height":3,"snakes":[{"id":"s","x":1,"y":1}],"food":[],"min_food":0,"food_chance":0}
 {oops
@@ -89,7 +89,7 @@ const THREE_SNAKES: [&str; 3] = [
     r#"{"game":"b","do":"show"}"#,
 ];
 
-// The line of that number of a game: the games play the solo game and the game of three snakes in turn.
+// A line of a game. Every other game is the solo game, the rest are the game of three snakes.
 fn line_of(game: usize, line: usize) -> Option<&'static str> {
     if game % 2 == 0 {
         SOLO.lines().nth(line)
@@ -128,7 +128,7 @@ fn eight_games(alloc: Global) -> Result<String, Fail> {
     Ok(file)
 }
 
-// With several games a thread, crews take several jobs at once. Each game is written as it is alone.
+// With two games or more a thread, crews take several jobs at once.
 #[test]
 fn eight_games_by_two_and_four_workers(rt: HostRuntime) -> Result<(), Fail> {
     let alloc = rt.alloc();
@@ -180,7 +180,7 @@ impl Gate for Meeting {
     }
 }
 
-// Two workers are at one move at once, each on a thread of its own: on one thread neither part would see the other's flag.
+// Two threads are at one move at once: on one thread no part would see the other's flag.
 #[test]
 fn two_parts_of_one_move_at_once(rt: HostRuntime) -> Result<(), Fail> {
     let alloc = rt.alloc();

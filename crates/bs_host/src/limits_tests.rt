@@ -1,4 +1,4 @@
-//! The limits as numbers, and what is answered at both sides of each: contracts cite limits by name alone.
+//! The limits as numbers, and what is answered at both sides of each: contracts cite their names.
 use crate::tests::worked;
 use crate::{BLOCK_BYTES, MOST_FILE_BYTES};
 use bs_board::limits::{
@@ -193,7 +193,7 @@ fn plans_at_their_limits(rt: HostRuntime) -> Result<(), Fail> {
     Ok(())
 }
 
-// A line may have 65,536 bytes without its line feed. A longer one is told as too long, white space too.
+// A line may have 65,536 bytes without its line feed. A longer one is a stray, white space too.
 #[test]
 fn lines_at_their_limit(rt: HostRuntime) -> Result<(), Fail> {
     let alloc = rt.alloc();
@@ -223,7 +223,7 @@ fn lines_at_their_limit(rt: HostRuntime) -> Result<(), Fail> {
     Ok(())
 }
 
-// A game of the snakes that stand for `SNAKES`, with two moves. In the first a snake b leaves the board.
+// A game of the snakes for which `SNAKES` stands. In its first move a snake b leaves the board.
 const TWO_MOVES: &str = r#"{"games":[{"game":"g","quota":4096}]}
 {"game":"g","do":"new","mode":"solo","width":25,"height":25,"snakes":[SNAKES],"food":[]}
 {"game":"g","do":"move","moves":{"b":"down"}}
