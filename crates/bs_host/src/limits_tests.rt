@@ -203,7 +203,7 @@ fn lines_at_their_limit(rt: HostRuntime) -> Result<(), Fail> {
     for (line, length, first, last) in [
         (
             show,
-            65_536,
+            65_536usize,
             r#"{"game":"a","no":"G2","seq":1,"why":"none"}"#,
             none,
         ),
