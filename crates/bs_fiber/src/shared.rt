@@ -1,7 +1,6 @@
 //! A command that several owners share.
 ghost use Rattle.std.specs.Prelude.{◌≡◌, IfOk, IfSome, OnOk};
 ghost use Rattle.bs_fiber.specs.Bare.{is_bare};
-ghost use Rattle.bs_game.specs.Reasons.{is_move};
 
 use bs_board::Command;
 use std::alloc::{AllocError, Global};
@@ -58,13 +57,6 @@ impl SharedCommand {
             Command::End => true,
             Command::Bad => true,
         }
-    }
-
-    /// Whether the command is a move.
-    pub fn is_move(&self) -> bool
-        ensures { result ≡ is_move self.now }
-    {
-        matches!(self.get(), Command::Move(_))
     }
 
     /// Becomes a handle to that command. Stays as it is where it is a handle to an equal bare

@@ -142,12 +142,12 @@ fn members_at_their_limits(rt: HostRuntime) -> Result<(), Fail> {
         let text = answered(&rt, alloc, members)?;
         assert!(rt; text.starts_with(answer), "{members}");
     }
-    for (words, answer) in [(32, LINES[0].1), (33, BAD)] {
+    for (more, answer) in [(31, LINES[0].1), (32, BAD)] {
         let mut line = String::from_str(alloc, "\"do\":\"move\",\"moves\":{},\"words\":[0")?;
-        line.push_str(",0".repeat(alloc, words - 1)?.as_str())?;
+        line.push_str(",0".repeat(alloc, more)?.as_str())?;
         line.push(']')?;
         let text = answered(&rt, alloc, line.as_str())?;
-        assert!(rt; text.starts_with(answer), "{words}");
+        assert!(rt; text.starts_with(answer), "{more} words more than one");
     }
     Ok(())
 }
@@ -203,7 +203,7 @@ fn lines_at_their_limit(rt: HostRuntime) -> Result<(), Fail> {
     for (line, length, first, last) in [
         (
             show,
-            65_536,
+            65_536usize,
             r#"{"game":"a","no":"G2","seq":1,"why":"none"}"#,
             none,
         ),
@@ -213,7 +213,10 @@ fn lines_at_their_limit(rt: HostRuntime) -> Result<(), Fail> {
     ] {
         let mut file = String::from_str(alloc, "{\"games\":[{\"game\":\"a\",\"quota\":16}]}\n")?;
         file.push_str(line)?;
-        file.push_str(" ".repeat(alloc, length - line.len())?.as_str())?;
+        file.push_str(
+            " ".repeat(alloc, length.saturating_sub(line.len()))?
+                .as_str(),
+        )?;
         let (told, written) = worked(&rt, alloc, file.as_bytes(), 6, 1, &OpenGate)?;
         assert_eq!(rt; told.as_str(), "served");
         let text = String::from_utf8(written).ok().ok_or("text")?;
@@ -244,19 +247,19 @@ impl Gate for CountedParts {
     }
 }
 
-// A move of n seats has n/2 parts, rounded up; seats of snakes that are out count too.
+// The parts of two moves: of n seats each has n/2, rounded up; seats of snakes that are out count.
 #[test]
 fn parts_of_each_number_of_snakes(rt: HostRuntime) -> Result<(), Fail> {
     let alloc = rt.alloc();
     for (names, parts) in [
-        ("a", 1),
-        ("ab", 1),
-        ("abc", 2),
-        ("abcd", 2),
-        ("abcde", 3),
-        ("abcdef", 3),
-        ("abcdefg", 4),
-        ("abcdefgh", 4),
+        ("a", 2),
+        ("ab", 2),
+        ("abc", 4),
+        ("abcd", 4),
+        ("abcde", 6),
+        ("abcdef", 6),
+        ("abcdefg", 8),
+        ("abcdefgh", 8),
     ] {
         let mut snakes = String::new(alloc);
         for (index, name) in names.chars().enumerate() {
@@ -272,7 +275,7 @@ fn parts_of_each_number_of_snakes(rt: HostRuntime) -> Result<(), Fail> {
         };
         let (told, _) = worked(&rt, alloc, file.as_bytes(), 6, 2, &gate)?;
         assert_eq!(rt; told.as_str(), "served");
-        assert_eq!(rt; gate.count.load(SeqCst), 2 * parts, "{names}");
+        assert_eq!(rt; gate.count.load(SeqCst), parts, "{names}");
     }
     Ok(())
 }
