@@ -1,13 +1,13 @@
-//! Boards: what a game consists of, its limits, and the length of a board's record.
+//! Boards as the transcript shows them: the fields stand in the order of their keys.
 
 use std::sync::Arc;
 
 use serde::Serialize;
 
 pub const MAX_TURN: u16 = 10_000;
-const ROUNDING: usize = 16;
+const ROUNDING: usize = 16; // bytes, of a record's charge
 
-#[derive(Clone, Copy, PartialEq, Eq, Serialize)]
+#[derive(Clone, Copy, PartialEq, Eq, Hash, Serialize)]
 pub struct Cell {
     pub x: i8,
     pub y: i8,
@@ -40,21 +40,18 @@ pub enum Cause {
     HeadCollision,
 }
 
-/// How a snake went out: why, by the snake of which seat, and in which turn.
-#[derive(Clone, Copy)]
-pub struct Out {
-    pub cause: Cause,
-    pub killer: Option<usize>,
-    pub turn: u16,
-}
-
-#[derive(Clone)]
+#[derive(Clone, Serialize)]
 pub struct Snake {
-    pub id: Arc<str>,
     /// The head first. At least three parts.
     pub body: Vec<Cell>,
+    /// The id of the snake that killed this one.
+    pub by: Option<Arc<str>>,
+    /// Why the snake is out, if it is.
+    pub cause: Option<Cause>,
     pub health: u8,
-    pub out: Option<Out>,
+    pub id: Arc<str>,
+    /// The turn in which the snake went out.
+    pub out: Option<u16>,
 }
 
 impl Snake {
@@ -63,7 +60,7 @@ impl Snake {
     }
 
     pub fn lives(&self) -> bool {
-        self.out.is_none()
+        self.cause.is_none()
     }
 
     /// Whether a part behind the head is on the cell.
@@ -77,17 +74,18 @@ impl Snake {
     }
 }
 
-#[derive(Clone)]
+#[derive(Clone, Serialize)]
 pub struct Board {
-    pub mode: Mode,
-    pub width: i8,
-    pub height: i8,
-    pub turn: u16,
-    pub min_food: u8,
-    pub food_chance: u8,
     pub food: Vec<Cell>,
-    /// By seat, those that are out among them.
+    pub food_chance: u8,
+    pub height: i8,
+    pub min_food: u8,
+    pub mode: Mode,
+    pub over: bool,
+    /// By seat, with those that are out.
     pub snakes: Vec<Snake>,
+    pub turn: u16,
+    pub width: i8,
 }
 
 impl Board {
@@ -95,7 +93,7 @@ impl Board {
         (0..self.width).contains(&cell.x) && (0..self.height).contains(&cell.y)
     }
 
-    /// The cell next to one; on a wrapped board the one across, where that is beyond an edge.
+    /// The neighbour of a cell; beyond an edge of a wrapped board, the cell across.
     pub fn step(&self, from: Cell, direction: Direction) -> Cell {
         let (x, y) = match direction {
             Direction::Up => (from.x, from.y + 1),
@@ -103,10 +101,9 @@ impl Board {
             Direction::Left => (from.x - 1, from.y),
             Direction::Right => (from.x + 1, from.y),
         };
-        if self.mode == Mode::Wrapped {
-            Cell { x: x.rem_euclid(self.width), y: y.rem_euclid(self.height) }
-        } else {
-            Cell { x, y }
+        match self.mode {
+            Mode::Wrapped => Cell { x: x.rem_euclid(self.width), y: y.rem_euclid(self.height) },
+            _ => Cell { x, y },
         }
     }
 
@@ -119,8 +116,7 @@ impl Board {
     }
 
     pub fn is_over(&self) -> bool {
-        let may_be_left = if self.mode == Mode::Solo { 0 } else { 1 };
-        self.living().count() <= may_be_left
+        self.living().count() <= usize::from(self.mode != Mode::Solo)
     }
 
     /// What the board's record is charged: its bytes, rounded up.

@@ -1,22 +1,10 @@
 //! One game: its kept boards and its answers to commands.
 
 use crate::board::{Board, MAX_TURN};
-use crate::command::{Command, Setup};
+use crate::command::Command;
 use crate::plan::Row;
 use crate::rules;
-use crate::transcript::{self, Line};
-
-/// Why a command is refused.
-#[derive(Clone, Copy)]
-pub enum Refusal {
-    Command,
-    NoGame,
-    Running,
-    Over,
-    Limit,
-    Record,
-    Quota,
-}
+use crate::transcript::{Line, Reason};
 
 struct Game {
     quota: usize,
@@ -26,85 +14,75 @@ struct Game {
     charge: usize,
 }
 
-/// Plays one game's commands. The lines of the transcript that are the game's.
+/// Plays one game's commands, and gives its lines of the transcript.
 pub fn play(row: &Row, commands: &[Command]) -> Vec<u8> {
     let mut game = Game { quota: row.quota, kept: Vec::new(), charge: 0 };
     let mut text = Vec::new();
+    let name = &row.game[..];
     for (before, command) in commands.iter().enumerate() {
-        let (name, seq) = (&row.game[..], before + 1);
+        let seq = before + 1;
         let line = match game.answer(command) {
-            Err(refusal) => Line::refused(name, seq, refusal),
-            Ok(shown) => {
-                let board = shown.map(|at| transcript::board(&game.kept[at]));
-                Line::Accepted { board, charge: game.charge, word: word(command), name, seq }
+            Ok((word, shown)) => {
+                let board = shown.map(|place| &game.kept[place]);
+                Line::Accepted { board, charge: game.charge, word, name, seq }
             }
+            Err((no, why)) => Line::Refused { name, no, seq, why },
         };
         line.write(&mut text);
     }
-    let board = game.kept.last().map(transcript::board);
-    Line::Final { board, charge: game.charge, last: true, name: &row.game }.write(&mut text);
+    let board = game.kept.last();
+    Line::Final { board, charge: game.charge, is_final: true, name }.write(&mut text);
     text
 }
 
-fn word(command: &Command) -> &'static str {
-    match command {
-        Command::New(_) => "new",
-        Command::Move(_) => "move",
-        Command::Show => "show",
-        Command::Turn(_) => "turn",
-        Command::Free => "free",
-        Command::End => "end",
-        Command::Bad => unreachable!("a bad command is refused"),
-    }
-}
+/// A command's word, and the place of the kept board that its reply shows.
+type Answer = Result<(&'static str, Option<usize>), Reason>;
 
 impl Game {
-    /// Does the command. Which kept board its reply shows, if any.
-    fn answer(&mut self, command: &Command) -> Result<Option<usize>, Refusal> {
-        if let Command::Bad = command {
-            return Err(Refusal::Command);
-        }
-        if let Command::New(setup) = command {
-            return self.begin(setup);
-        }
-        let last = self.kept.last().ok_or(Refusal::NoGame)?;
+    fn answer(&mut self, command: &Command) -> Answer {
+        let last = self.kept.last().ok_or(("G2", "none"));
         match command {
-            Command::Move(_) if last.is_over() => Err(Refusal::Over),
-            Command::Move(_) if last.turn == MAX_TURN => Err(Refusal::Limit),
-            Command::Move(given) => self.keep(rules::turn(last, given)),
+            Command::Bad => Err(("G1", "command")),
+            Command::New(_) if last.is_ok() => Err(("G3", "running")),
+            Command::New(board) => self.keep("new", board.clone()),
+            Command::Move(given) => {
+                let last = last?;
+                if last.over {
+                    return Err(("G4", "over"));
+                }
+                if last.turn == MAX_TURN {
+                    return Err(("G5", "limit"));
+                }
+                self.keep("move", rules::turn(last, given))
+            }
+            Command::Show => last.map(|_| ("show", Some(self.kept.len() - 1))),
             Command::Turn(at) => {
+                last?;
                 let place = usize::from(*at).checked_sub(usize::from(self.kept[0].turn));
                 let kept = place.filter(|&place| place < self.kept.len());
-                kept.map(Some).ok_or(Refusal::Record)
+                kept.map(|place| ("turn", Some(place))).ok_or(("G6", "record"))
             }
             Command::Free => {
-                self.charge = last.charge();
+                self.charge = last?.charge();
                 self.kept.drain(..self.kept.len() - 1);
-                Ok(None)
+                Ok(("free", None))
             }
             Command::End => {
+                last?;
                 self.charge = 0;
                 self.kept.clear();
-                Ok(None)
+                Ok(("end", None))
             }
-            _ => Ok(Some(self.kept.len() - 1)),
         }
     }
 
-    fn begin(&mut self, setup: &Setup) -> Result<Option<usize>, Refusal> {
-        if !self.kept.is_empty() {
-            return Err(Refusal::Running);
-        }
-        self.keep(rules::start(setup))
-    }
-
-    fn keep(&mut self, board: Board) -> Result<Option<usize>, Refusal> {
+    fn keep(&mut self, word: &'static str, board: Board) -> Answer {
         let charge = self.charge + board.charge();
         if charge > self.quota {
-            return Err(Refusal::Quota);
+            return Err(("G7", "quota"));
         }
         self.charge = charge;
         self.kept.push(board);
-        Ok(Some(self.kept.len() - 1))
+        Ok((word, Some(self.kept.len() - 1)))
     }
 }

@@ -1,4 +1,4 @@
-//! Members of JSON objects within the limits of docs/FORMATS.md. `None` is a member that is not.
+//! Members of JSON objects within the limits of docs/FORMATS.md; `None` is for those beyond.
 
 use std::ops::RangeInclusive;
 
@@ -14,25 +14,29 @@ pub fn text<'a>(object: &'a Object, key: &str) -> Option<&'a str> {
     (1..=MAX_TEXT).contains(&text.len()).then_some(text)
 }
 
-/// A whole number.
-pub fn whole<T: TryFrom<u64>>(
-    object: &Object,
-    key: &str,
-    range: RangeInclusive<u64>,
-) -> Option<T> {
+/// A whole number, of a type that holds the range.
+pub fn whole<T>(object: &Object, key: &str, range: RangeInclusive<u64>) -> Option<T>
+where
+    T: TryFrom<u64>,
+{
     let number = object.get(key)?.as_u64()?;
     range.contains(&number).then(|| T::try_from(number).ok()).flatten()
 }
 
-/// A whole number that may be left out.
-pub fn whole_or<T: TryFrom<u64>>(
+/// An array whose elements are all read.
+pub fn list<T>(object: &Object, key: &str, read: impl Fn(&Value) -> Option<T>) -> Option<Vec<T>> {
+    object.get(key)?.as_array()?.iter().map(read).collect()
+}
+
+/// The member that `read` reads, or the default where there is none of that key.
+pub fn or<T>(
     object: &Object,
     key: &str,
-    range: RangeInclusive<u64>,
     default: T,
+    read: impl Fn(&Object, &str) -> Option<T>,
 ) -> Option<T> {
     if object.contains_key(key) {
-        whole(object, key, range)
+        read(object, key)
     } else {
         Some(default)
     }

@@ -19,63 +19,61 @@ use std::io::{self, Read, Write};
 use std::os::fd::AsFd;
 use std::process::ExitCode;
 
-use host::{Host, MAX_FILE};
+use host::{Fault, Host, MAX_FILE};
 
 const USAGE: &str = "usage: peer serve FILE [--blocks N] [--workers N]
        peer alone FILE --game NAME [--blocks N]";
 
-#[derive(Default)]
 struct Words {
-    alone: bool,
-    file: Option<String>,
-    game: Option<String>,
-    blocks: Option<usize>,
-    workers: Option<usize>,
+    file: String,
+    host: Host,
 }
 
 impl Words {
     fn parse(given: &[String]) -> Option<Words> {
-        let Some((subcommand, rest)) = given.split_first() else {
-            return Some(Words { file: Some("-".into()), ..Words::default() });
-        };
-        let alone = subcommand == "alone";
-        let mut words = Words { alone, ..Words::default() };
-        let mut rest = rest.iter();
+        let subcommand = given.first().map_or("serve", |word| &word[..]);
+        let is_alone = subcommand == "alone";
+        let (mut file, mut game, mut blocks, mut workers) = (None, None, None, None);
+        let mut rest = given.iter().skip(1);
         while let Some(word) = rest.next() {
-            match &word[..] {
-                "--game" if alone => set(&mut words.game, rest.next()?.clone())?,
-                "--blocks" => set(&mut words.blocks, number(rest.next()?, 4096)?)?,
-                "--workers" if !alone => set(&mut words.workers, number(rest.next()?, 4)?)?,
+            let (place, value) = match &word[..] {
+                "--game" if is_alone => (&mut game, rest.next()?),
+                "--blocks" => (&mut blocks, rest.next()?),
+                "--workers" if !is_alone => (&mut workers, rest.next()?),
                 _ if word != "-" && word.starts_with('-') => return None,
-                _ => set(&mut words.file, word.clone())?,
+                _ => (&mut file, word),
+            };
+            if place.replace(value.clone()).is_some() {
+                return None; // given twice
             }
         }
-        let is_whole = words.file.is_some() && words.game.is_some() == alone;
-        (is_whole && (alone || subcommand == "serve")).then_some(words)
+        if given.is_empty() {
+            file = Some("-".into());
+        }
+        let blocks = number(blocks, 64, 4096)?;
+        let workers = number(workers, if is_alone { 1 } else { 2 }, 4)?;
+        let is_whole = game.is_some() == is_alone && (is_alone || subcommand == "serve");
+        is_whole.then_some(Words { file: file?, host: Host { alone: game, blocks, workers } })
     }
 }
 
-/// Sets what is not set yet.
-fn set<T>(place: &mut Option<T>, value: T) -> Option<()> {
-    place.replace(value).is_none().then_some(())
-}
-
-fn number(word: &str, most: usize) -> Option<usize> {
-    word.parse().ok().filter(|number| (1..=most).contains(number))
+fn number(word: Option<String>, default: usize, most: usize) -> Option<usize> {
+    let number = word.map_or(Some(default), |word| word.parse().ok());
+    number.filter(|number| (1..=most).contains(number))
 }
 
 /// An exit status, and the line of standard error.
 struct Failure(u8, String);
 
-impl From<host::Fault> for Failure {
-    fn from(fault: host::Fault) -> Self {
+impl From<Fault> for Failure {
+    fn from(fault: Fault) -> Self {
         let (status, text) = match fault {
-            host::Fault::TooLong => (3, "file too long"),
-            host::Fault::Plan(plan::Fault::NoPlan) => (4, "plan P1"),
-            host::Fault::Plan(plan::Fault::BadRow) => (4, "plan P2"),
-            host::Fault::Plan(plan::Fault::TooManyGames) => (4, "plan P3"),
-            host::Fault::Plan(plan::Fault::TooFewBlocks) => (4, "plan P4"),
-            host::Fault::NoSuchGame => (4, "no such game"),
+            Fault::TooLong => (3, "file too long"),
+            Fault::NoPlan => (4, "plan P1"),
+            Fault::BadRow => (4, "plan P2"),
+            Fault::TooManyGames => (4, "plan P3"),
+            Fault::TooFewBlocks => (4, "plan P4"),
+            Fault::NoSuchGame => (4, "no such game"),
         };
         Failure(status, text.into())
     }
@@ -107,29 +105,23 @@ fn write(pieces: &[Vec<u8>], output: &mut impl Write) -> Result<(), usize> {
     Ok(())
 }
 
-fn run(words: &Words) -> Result<(), Failure> {
-    let path = words.file.as_deref().unwrap_or("-");
-    let file = read(path).map_err(|_| Failure(3, "cannot read the file".into()))?;
-    let host = Host {
-        alone: words.game.as_deref(),
-        blocks: words.blocks.unwrap_or(64),
-        workers: if words.alone { 1 } else { words.workers.unwrap_or(2) },
-    };
-    let pieces = host.serve(&file)?;
-    let broken = |count| Failure(6, format!("write failed after {count} bytes"));
-    // A file of its own has no buffer, so what it took was written.
-    let output = io::stdout().as_fd().try_clone_to_owned().map_err(|_| broken(0))?;
-    write(&pieces, &mut File::from(output)).map_err(broken)
+fn run(words: Words) -> Result<(), Failure> {
+    let file = read(&words.file).map_err(|_| Failure(3, "cannot read the file".into()))?;
+    let pieces = words.host.serve(&file)?;
+    let failed = |count| Failure(6, format!("write failed after {count} bytes"));
+    // Without standard output's buffer, so that all that it took was written.
+    let output = io::stdout().as_fd().try_clone_to_owned().map_err(|_| failed(0))?;
+    write(&pieces, &mut File::from(output)).map_err(failed)
 }
 
 fn main() -> ExitCode {
-    let given: Result<Vec<String>, _> =
-        std::env::args_os().skip(1).map(|word| word.into_string()).collect();
-    let Some(words) = given.ok().and_then(|given| Words::parse(&given)) else {
+    let given = std::env::args_os().skip(1).map(|word| word.into_string());
+    let words = given.collect::<Result<Vec<_>, _>>().ok().and_then(|given| Words::parse(&given));
+    let Some(words) = words else {
         eprintln!("{USAGE}");
         return ExitCode::from(2);
     };
-    match run(&words) {
+    match run(words) {
         Ok(()) => ExitCode::SUCCESS,
         Err(Failure(status, text)) => {
             eprintln!("arena: {text}");

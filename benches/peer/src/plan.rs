@@ -4,12 +4,12 @@ use std::collections::HashSet;
 
 use serde_json::Value;
 
+use crate::host::{Fault, MAX_LINE};
 use crate::json;
 
-pub const MAX_LINE: usize = 65_536;
 const MAX_GAMES: usize = 64;
 const MAX_QUOTA: u64 = 16_777_216;
-/// Bytes of a block that a record surely finds: 2 MiB less the largest record.
+/// Bytes that records surely find in a block: 2 MiB less the largest record.
 const USED_OF_BLOCK: usize = 2_097_152 - 262_144;
 /// Blocks of a game beside those of its quota: two for its records and four for its turns.
 const FURTHER_BLOCKS: usize = 6;
@@ -23,14 +23,6 @@ pub struct Plan {
     pub rows: Vec<Row>,
     /// Whether games may be wrapped: in version 2.
     pub has_wrapped: bool,
-}
-
-/// Why a plan is refused.
-pub enum Fault {
-    NoPlan,
-    BadRow,
-    TooManyGames,
-    TooFewBlocks,
 }
 
 impl Plan {
@@ -47,10 +39,8 @@ impl Plan {
         Ok(Plan { rows, has_wrapped })
     }
 
-    pub fn reserve(&self, blocks: usize) -> Result<(), Fault> {
-        let of_row = |row: &Row| row.quota / USED_OF_BLOCK + FURTHER_BLOCKS;
-        let reserved: usize = self.rows.iter().map(of_row).sum();
-        if reserved <= blocks { Ok(()) } else { Err(Fault::TooFewBlocks) }
+    pub fn blocks(&self) -> usize {
+        self.rows.iter().map(|row| row.quota / USED_OF_BLOCK + FURTHER_BLOCKS).sum()
     }
 }
 
@@ -59,7 +49,7 @@ fn rows_and_version(line: &[u8]) -> Option<(Vec<Value>, bool)> {
         return None;
     }
     let Value::Object(mut plan) = serde_json::from_slice(line).ok()? else { return None };
-    let version: u64 = json::whole_or(&plan, "version", 1..=2, 1)?;
+    let version: u64 = json::or(&plan, "version", 1, |plan, key| json::whole(plan, key, 1..=2))?;
     match plan.remove("games")? {
         Value::Array(rows) => Some((rows, version == 2)),
         _ => None,

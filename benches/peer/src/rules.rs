@@ -1,38 +1,19 @@
 //! The rules of a turn (docs/RULES.md).
 
 use std::cmp::Reverse;
+use std::mem;
+use std::sync::Arc;
 
-use crate::board::{Board, Cause, Cell, Direction, Mode, Out, Snake};
-use crate::command::{Move, Setup};
+use crate::board::{Board, Cause, Cell, Direction, Mode, Snake};
+use crate::command::Move;
 
-const FULL_HEALTH: u8 = 100;
-
-/// The board of turn 0.
-pub fn start(setup: &Setup) -> Board {
-    let snake = |(id, cell): &(_, Cell)| Snake {
-        id: std::sync::Arc::clone(id),
-        body: vec![*cell; 3],
-        health: FULL_HEALTH,
-        out: None,
-    };
-    let has_food = setup.mode != Mode::Constrictor;
-    Board {
-        mode: setup.mode,
-        width: setup.width,
-        height: setup.height,
-        turn: 0,
-        min_food: setup.min_food,
-        food_chance: setup.food_chance,
-        food: if has_food { setup.food.clone() } else { Vec::new() },
-        snakes: setup.snakes.iter().map(snake).collect(),
-    }
-}
+pub const FULL_HEALTH: u8 = 100;
 
 /// The board one turn on.
 pub fn turn(old: &Board, given: &Move) -> Board {
     let mut board = old.clone();
     board.turn += 1;
-    move_snakes(&mut board, given);
+    move_snakes(&mut board, old, given);
     feed(&mut board);
     first_eliminations(&mut board);
     collisions(&mut board);
@@ -41,20 +22,16 @@ pub fn turn(old: &Board, given: &Move) -> Board {
     } else {
         spawn(&mut board, &given.words);
     }
+    board.over = board.is_over();
     board
 }
 
-fn move_snakes(board: &mut Board, given: &Move) {
-    for seat in 0..board.snakes.len() {
-        let snake = &board.snakes[seat];
-        if !snake.lives() {
-            continue;
-        }
+fn move_snakes(board: &mut Board, old: &Board, given: &Move) {
+    for snake in board.living_mut() {
         let direction = given.directions.get(&*snake.id).copied();
-        let head = board.step(snake.head(), direction.unwrap_or_else(|| ahead(board, snake)));
-        let snake = &mut board.snakes[seat];
+        let direction = direction.unwrap_or_else(|| ahead(old, snake));
         snake.body.rotate_right(1);
-        snake.body[0] = head;
+        snake.body[0] = old.step(snake.body[1], direction);
         snake.health -= 1;
     }
 }
@@ -68,7 +45,7 @@ fn ahead(board: &Board, snake: &Snake) -> Direction {
 }
 
 fn feed(board: &mut Board) {
-    let food = std::mem::take(&mut board.food);
+    let food = mem::take(&mut board.food);
     for snake in board.living_mut().filter(|snake| food.contains(&snake.head())) {
         snake.health = FULL_HEALTH;
         snake.grow();
@@ -80,19 +57,18 @@ fn feed(board: &mut Board) {
 fn first_eliminations(board: &mut Board) {
     for seat in 0..board.snakes.len() {
         let snake = &board.snakes[seat];
-        if !snake.lives() {
-            continue;
-        }
-        if snake.health == 0 {
+        if snake.lives() && snake.health == 0 {
             eliminate(board, seat, Cause::OutOfHealth, None);
-        } else if !board.contains(snake.head()) {
+        } else if snake.lives() && !board.contains(snake.head()) {
             eliminate(board, seat, Cause::WallCollision, None);
         }
     }
 }
 
 fn eliminate(board: &mut Board, seat: usize, cause: Cause, killer: Option<usize>) {
-    board.snakes[seat].out = Some(Out { cause, killer, turn: board.turn });
+    let by = killer.map(|killer| Arc::clone(&board.snakes[killer].id));
+    let snake = &mut board.snakes[seat];
+    (snake.by, snake.cause, snake.out) = (by, Some(cause), Some(board.turn));
 }
 
 /// Judges all collisions on one board, and only then eliminates.
@@ -109,10 +85,10 @@ fn collisions(board: &mut Board) {
 fn collision(board: &Board, seat: usize) -> Option<(Cause, usize)> {
     let snakes = &board.snakes;
     let snake = &snakes[seat];
+    let head = snake.head();
     if !snake.lives() {
         return None;
     }
-    let head = snake.head();
     if snake.covers_behind_head(head) {
         return Some((Cause::SnakeSelfCollision, seat));
     }
@@ -132,10 +108,8 @@ fn collision(board: &Board, seat: usize) -> Option<(Cause, usize)> {
 fn constrict(board: &mut Board) {
     for snake in board.living_mut() {
         snake.health = FULL_HEALTH;
-        if let [.., a, b] = snake.body[..] {
-            if a != b {
-                snake.grow();
-            }
+        if snake.body[snake.body.len() - 2..].windows(2).any(|last| last[0] != last[1]) {
+            snake.grow();
         }
     }
 }
