@@ -1,16 +1,16 @@
 #!/usr/bin/env python3
 """Compares the peer with the program, byte by byte: output, status and standard error.
 
-    benches/compare.py [FILE..]              these command files; the files of cases if none is given
-    benches/compare.py --shapes              the shapes of measure.py
-    benches/compare.py --limits              files and command lines at the ends of limits
-    benches/compare.py --drawn N [--seed S]  N files drawn by chance
-    benches/compare.py --time RUNS FILE..    times both in turns as well
+    benches/compare.py [FILE..]            these command files, or the files of cases
+    benches/compare.py --shapes            the shapes of measure.py
+    benches/compare.py --limits            files and command lines at the ends of limits
+    benches/compare.py --drawn N           N files drawn by chance, from --seed S on
+    benches/compare.py --time RUNS FILE..  times both in turns as well
 
     --program PATH   crates/arena/out/arena if not given
     --stored         the peer against NAME.transcript beside each file, without the program
-    --version 1|2    what the program reads: 2 if not given
-    --keep FOLDER    where a drawn file goes on which the two disagree, cut to the lines that it needs
+    --version 1|2    up to which version of plans to compare: 2 if not given
+    --keep FOLDER    for drawn files on which the two disagree, cut to the lines that matter
 
 The peer is built by benches/peer/build. The status is 0 where all agreed.
 """
@@ -34,6 +34,7 @@ import limits
 import measure
 
 PEER = HERE / "peer/out/release/peer"
+DISAGREEMENTS = HERE / "peer/out/disagreements"
 PROGRAM = ROOT / "crates/arena/out/arena"
 BLOCKS = ["--blocks", "512"]  # enough for each shape
 NO_SUCH_GAME = "\U0001f40d"
@@ -71,7 +72,7 @@ class Comparison:
         return f"peer: {told(peer)}; program: {told(program)}{first_difference(peer, program)}"
 
     def file(self, path, more=()):
-        """A file with 1 to 4 workers, and its first game alone."""
+        """A file with 1 to 4 workers."""
         for workers in "1234":
             self.note(path, ["serve", str(path), "--workers", workers, *more])
 
@@ -102,7 +103,7 @@ class Comparison:
                 keep.mkdir(parents=True, exist_ok=True)
                 path = keep / f"seed_{seed}_{words[0]}.jsonl"
                 path.write_bytes(small)
-                print(f"  cut to {len(small)} bytes: {path}\n  {self.differs(words, small)}", flush=True)
+                print(f"  cut to {len(small)} bytes: {path}\n  {self.differs(words, small)}")
 
     def smallest(self, words, text):
         """The text without lines that the difference does not need."""
@@ -123,14 +124,16 @@ class Comparison:
 def seconds(program, path, workers):
     with tempfile.TemporaryFile() as output:
         began = time.perf_counter()
-        child = subprocess.Popen([program, "serve", str(path), "--workers", workers, *BLOCKS], stdout=output)
+        words = ["serve", str(path), "--workers", workers, *BLOCKS]
+        child = subprocess.Popen([program, *words], stdout=output)
         _, _, usage = os.wait4(child.pid, 0)
         return time.perf_counter() - began, usage.ru_utime + usage.ru_stime, usage.ru_maxrss / 1024
 
 
 def time_both(program, paths, runs):
     """Both in turns on each file, so that what else the machine does falls on both."""
-    print(f"{'file':24}{'workers':>8}{'':>9}{'least s':>10}{'median s':>10}{'cpu s':>8}{'MB':>8}")
+    heads = f"{'least s':>10}{'median s':>10}{'cpu s':>8}{'MB':>8}"
+    print(f"{'file':24}{'workers':>8}{'':>9}{heads}")
     for path in paths:
         for workers in "1234":
             both = {"peer": PEER, "program": program}
@@ -145,7 +148,8 @@ def time_both(program, paths, runs):
 
 
 def arguments():
-    parser = argparse.ArgumentParser(description=__doc__, formatter_class=argparse.RawDescriptionHelpFormatter)
+    raw = argparse.RawDescriptionHelpFormatter
+    parser = argparse.ArgumentParser(description=__doc__, formatter_class=raw)
     parser.add_argument("files", nargs="*", metavar="FILE", type=Path)
     parser.add_argument("--program", type=Path, default=PROGRAM)
     parser.add_argument("--stored", action="store_true")
@@ -154,7 +158,7 @@ def arguments():
     parser.add_argument("--drawn", metavar="N", type=int, default=0)
     parser.add_argument("--seed", type=int, default=1)
     parser.add_argument("--version", type=int, choices=[1, 2], default=2)
-    parser.add_argument("--keep", metavar="FOLDER", type=Path, default=HERE / "peer/out/disagreements")
+    parser.add_argument("--keep", metavar="FOLDER", type=Path, default=DISAGREEMENTS)
     parser.add_argument("--time", metavar="RUNS", type=int, default=0)
     return parser.parse_args()
 

@@ -1,33 +1,63 @@
 """Command files drawn by chance: games of every mode, and lines that are no command.
 
-`command_file(rng, version)` is one file. A tracker of heads and bodies, which is not exact, keeps most
-snakes off walls and bodies, so that games last; the rest is chance.
+`command_file(rng, version)` is one file. A tracker of bodies, which is not exact, keeps most snakes
+off walls and bodies, so that games last; the rest is chance.
 """
 import json
 
 STEPS = {"up": (0, 1), "down": (0, -1), "left": (-1, 0), "right": (1, 0)}
-MODES = {1: ["standard", "solo", "constrictor"] * 5 + ["wrapped"], 2: ["standard", "solo", "constrictor", "wrapped", "wrapped"]}
-IDS = ["s", "t", "u", "a b", "A", "é" * 32, "x" * 64, 'q"\\', "\u0001\n", "😀", "do", "/", "\u2028", "0"]
+MODES = {
+    1: ["standard", "solo", "constrictor"] * 5 + ["wrapped"],
+    2: ["standard", "solo", "constrictor", "wrapped", "wrapped"],
+}
+IDS = [
+    *["s", "t", "u", "a b", "A", "do", "/", "0", "é" * 32, "x" * 64],
+    *['q"\\', "\u0001\n", "\u2028", "\U0001f600"],
+]
 WORDS = [0, 1, 5, 14, 15, 99, 100, 114, 115, 4294967294, 4294967295]
-# What no member may be, each by its own way of being wrong; some are right for some members.
-WRONG = [
-    "-1", "-0", "0.0", "1.0", "1e0", "3E0", "1.5", "true", "false", "null", '""', '"3"', "[]", "{}", "[1]",
-    "4294967296", "18446744073709551615", "18446744073709551616", "1" + "0" * 40, "10001", "10000", "256",
-    "255", "101", "100", "26", "25", "2", "3", "01", "+1", ".5", "1.", "0x1", "NaN", "1e999", "-1e-999",
-    '"' + "x" * 65 + '"', '"' + "é" * 33 + '"', '"\\ud800"', '"\\udc00\\ud800"', '"\\ud83d\\ude00"', '"\\u0073"',
-    '"a\tb"', '"\\x"', "[" * 126 + "]" * 126, "[" * 127 + "]" * 127, "[" * 128 + "]" * 128, "'s'",
-    '"standard"', '"solo"', '"wrapped"', '"up"', '"Up"', '"down "', '[{"id":"s","x":0,"y":0}]', '{"s":"up"}',
-]
-LINES = [
-    b"", b" ", b"\t\r", b"\x0c", b"\xef\xbb\xbf", b"{oops", b"[]", b"3", b"null", b'"a"', b"{}", b"{} {}", b'{"game":1}',
-    b'{"game":null,"do":"show"}', b'{"do":"show"}', b'{"game":"nobody","do":"show"}', b"\xff", b"\x00", b"{}\x00",
-    b'{"game":"g0","do":"show"}x', b'{"game":"g0","do":"show",}', b'{"game":"g0" "do":"show"}', b'{"game":"g0","do":"\xff"}',
-    b'\xef\xbb\xbf{"game":"g0","do":"show"}', b'{"game":"g0","do":"show","x":"\xed\xa0\x80"}', b'{"game":"g0","do":"Show"}',
-    b'{"game":"g0","game":"g1","do":"show"}', b'{"game":"nobody","do":"show","game":"g0"}', b'{"game":"g0","do":"show","do":"jump"}',
-    b'{"game":"g0","do":"turn","at":1,"at":0}', b'{"game":"g0","do":"turn","at":0,"at":"x"}', b'{"game":"g0","do":"move","moves":{"s":"up","s":"down"}}',
-    b'{"game":"g0","do":"move","moves":{"s":"up","s":1}}', b'{"game":"g0","do":"move","moves":{"t":"up","s":"down"},"words":[1,2],"words":[]}',
-    b'{"game":"g0","do":"move","moves":{},"moves":[]}', b'{"moves":{},"do":"move","game":"g0"}', b'{"game":"g0","do":"move","moves":{"":"up"}}',
-]
+QUOTAS = [16, 31, 32, 48, 64, 96, 128, 256, 1024, 1_835_008, 16_777_216]
+QUOTAS += [4096, 65_536, 1_048_576] * 12
+# Values of members, each wrong in a way of its own; some are right for some members.
+WRONG = """
+-1 -0 0.0 1.0 1e0 3E0 1.5 true false null [] {} [1] 01 +1 .5 1. 0x1 NaN 1e999 -1e-999
+2 3 25 26 100 101 255 256 10000 10001 4294967296 18446744073709551615 18446744073709551616
+"" "3" "\\ud800" "\\udc00\\ud800" "\\ud83d\\ude00" "\\u0073" "\\x" 's'
+"standard" "solo" "wrapped" "up" "Up" "up\\n" [{"id":"s","x":0,"y":0}] {"s":"up"}
+""".split()
+WRONG += ["1" + "0" * 40, f'"{"x" * 65}"', f'"{"é" * 33}"', '"a\tb"']
+WRONG += ["[" * depth + "]" * depth for depth in (125, 126, 127, 128)]
+# Lines that are no command, or one that members given twice change.
+LINES = rb"""
+{oops
+[]
+3
+null
+"a"
+{}
+{} {}
+{"game":1}
+{"game":null,"do":"show"}
+{"do":"show"}
+{"game":"nobody","do":"show"}
+{"game":"g0","do":"Show"}
+{"game":"g0","do":"show"}x
+{"game":"g0","do":"show",}
+{"game":"g0" "do":"show"}
+{"game":"g0","game":"g1","do":"show"}
+{"game":"nobody","do":"show","game":"g0"}
+{"game":"g0","do":"show","do":"jump"}
+{"game":"g0","do":"turn","at":1,"at":0}
+{"game":"g0","do":"turn","at":0,"at":"x"}
+{"game":"g0","do":"move","moves":{"s":"up","s":"down"}}
+{"game":"g0","do":"move","moves":{"s":"up","s":1}}
+{"game":"g0","do":"move","moves":{"t":"up","s":"down"},"words":[1,2],"words":[]}
+{"game":"g0","do":"move","moves":{},"moves":[]}
+{"game":"g0","do":"move","moves":{"":"up"}}
+{"moves":{},"do":"move","game":"g0"}
+""".strip().split(b"\n")
+LINES += [b"", b" ", b"\t\r", b"\x0c", b"\xef\xbb\xbf", b"\xff", b"\x00", b"{}\x00"]
+LINES += [b'{"game":"g0","do":"\xff"}', b'\xef\xbb\xbf{"game":"g0","do":"show"}']
+LINES += [b'{"game":"g0","do":"show","x":"\xed\xa0\x80"}']
 
 
 class Raw(str):
@@ -46,21 +76,25 @@ def text(rng, value):
 
 
 def written(rng, value, loose):
-    """A value as JSON, compact, or else with spaces here and there, members shuffled and one of them twice."""
+    """A value as JSON: compact, or loose, with spaces, members shuffled and one of them twice."""
     if isinstance(value, Raw):
         return value
     if isinstance(value, str):
         return text(rng, value)
-    space = (lambda: rng.choice(["", "", "", " ", "\t", "  "])) if loose else (lambda: "")
+    space = lambda: rng.choice(["", "", "", " ", "\t", "  "]) if loose else ""
     if isinstance(value, dict):
         members = list(value.items())
         if loose:
             rng.shuffle(members)
             members += [rng.choice(members)] if members and chance(rng, 10) else []
-        parts = [f"{text(rng, key)}{space()}:{space()}{written(rng, it, loose)}" for key, it in members]
-        return "{" + space() + f"{space()},{space()}".join(parts) + space() + "}"
+        parts = [
+            f"{space()}{text(rng, key)}{space()}:{space()}{written(rng, it, loose)}{space()}"
+            for key, it in members
+        ]
+        return "{" + ",".join(parts) + "}"
     if isinstance(value, list):
-        return "[" + space() + f"{space()},{space()}".join(written(rng, it, loose) for it in value) + space() + "]"
+        parts = [f"{space()}{written(rng, it, loose)}{space()}" for it in value]
+        return "[" + ",".join(parts) + "]"
     return json.dumps(value)
 
 
@@ -93,12 +127,11 @@ class Game:
             return {"game": self.name, "do": "end"}
         if chance(rng, 90):
             return self.move()
-        kind = rng.choice(["show", "turn", "turn", "turn", "free", "end" if chance(rng, 30) else "show", "jump"])
+        kind = rng.choice(["show", "show", "turn", "turn", "turn", "free", "jump"])
         members = {"game": self.name, "do": kind}
         if kind == "turn":
-            members["at"] = rng.choice([0, self.turn, max(0, self.turn - 1), self.turn + 1, rng.randint(0, self.turn)])
-        if kind == "end":
-            self.runs = chance(rng, 10)
+            near = [0, self.turn - 1, self.turn, self.turn + 1, rng.randint(0, self.turn)]
+            members["at"] = rng.choice(near)
         return members
 
     def is_over(self):
@@ -107,7 +140,8 @@ class Game:
     def new(self):
         rng = self.rng
         self.mode = rng.choice(MODES[self.version])
-        self.width, self.height = (rng.choice([3, 3, 4, 5, 5, 7, 11, rng.randint(3, 25)]) for _ in range(2))
+        sides = [3, 3, 4, 5, 5, 7, 11, rng.randint(3, 25)]
+        self.width, self.height = rng.choice(sides), rng.choice(sides)
         self.cells = cells = [(x, y) for x in range(self.width) for y in range(self.height)]
         ids = rng.sample(IDS, rng.choice([1, 2, 2, 3, 4, rng.randint(1, 8)]))
         starts = rng.sample(cells, len(ids))
@@ -116,7 +150,8 @@ class Game:
         self.runs, self.turn = True, 0
         food = rng.sample(cells, rng.randint(0, min(len(cells), rng.choice([0, 1, 3, 8, 30]))))
         members = {
-            "game": self.name, "do": "new", "mode": self.mode, "width": self.width, "height": self.height,
+            **{"game": self.name, "do": "new", "mode": self.mode},
+            **{"width": self.width, "height": self.height},
             "snakes": [{"id": id, "x": x, "y": y} for id, (x, y) in zip(ids, starts)],
             "food": [{"x": x, "y": y} for x, y in food],
         }
@@ -140,8 +175,9 @@ class Game:
             moves = dict(sorted(moves.items()))
         members = {"game": self.name, "do": "move", "moves": moves}
         if chance(rng, 60):
-            draw = lambda: rng.choice(WORDS) if chance(rng, 30) else rng.randrange(2 ** 32)
-            members["words"] = [draw() for _ in range(rng.choice([0, 1, 1, 2, 3, 8, 32, 33]))]
+            count = rng.choice([0, 1, 1, 2, 3, 8, 32, 33])
+            drawn = [rng.choice([rng.choice(WORDS), rng.randrange(2**32)]) for _ in range(count)]
+            members["words"] = drawn
         return members
 
     def step(self, cell, direction):
@@ -151,12 +187,12 @@ class Game:
         return x, y
 
     def go(self, id):
-        """Moves a snake on, mostly to a cell that is free. Its direction, or nothing where it goes straight on."""
+        """Moves a snake, mostly to a free cell. Its direction, or nothing where it goes on."""
         rng, body = self.rng, self.bodies[id]
         taken = {cell for it in self.bodies.values() for cell in it[:-1]}
-        ahead = [direction for direction in STEPS if self.step(body[1], direction) == body[0]] or ["up"]
-        kept = {direction: self.step(body[0], direction) for direction in STEPS}
-        kept = {direction: cell for direction, cell in kept.items() if cell in self.cells and cell not in taken}
+        ahead = [it for it in STEPS if self.step(body[1], it) == body[0]] or ["up"]
+        kept = {it: self.step(body[0], it) for it in STEPS}
+        kept = {it: cell for it, cell in kept.items() if cell in self.cells and cell not in taken}
         if not kept or chance(rng, 2):
             del self.bodies[id]
             return rng.choice([*STEPS, None])
@@ -171,16 +207,20 @@ def plan(rng, version):
     names = [f"g{index}" for index in range(rng.choice([1, 1, 2, 3, 6]))]
     if chance(rng, 20):
         names = rng.sample(IDS, len(names))
-    quotas = [16, 31, 32, 48, 64, 96, 128, 256, 1024] + 12 * [4096, 65_536, 1_048_576] + [1_835_008, 16_777_216]
-    rows = [{"game": name, "quota": rng.choice(quotas)} for name in names]
+    rows = [{"game": name, "quota": rng.choice(QUOTAS)} for name in names]
     said = {"games": rows}
     if version == 2 or chance(rng, 30):
         said["version"] = version
     if chance(rng, 3):
+        wrong, count = Raw(rng.choice(WRONG)), rng.choice([10, 11, 64, 65])
         broken = rng.choice([
-            {"games": rows * 2}, {"games": rows + [{"game": "h", "quota": Raw(rng.choice(WRONG))}]}, {"games": rows[0]},
-            {"games": rows + [{"game": Raw(rng.choice(WRONG)), "quota": 64}]}, {"games": rows, "version": Raw(rng.choice(WRONG))},
-            {"games": [{"game": f"h{at}", "quota": 64} for at in range(rng.choice([10, 11, 64, 65]))]}, {"games": rows + [3]},
+            {"version": wrong},
+            {"games": rows[0]},
+            {"games": rows + [3]},
+            {"games": rows * 2},
+            {"games": rows + [{"game": "h", "quota": wrong}]},
+            {"games": rows + [{"game": wrong, "quota": 64}]},
+            {"games": [{"game": f"h{at}", "quota": 64} for at in range(count)]},
         ])
         said = {**said, **broken}
     return names, said
@@ -205,7 +245,8 @@ def spoil_member(rng, members):
 
 
 def command_file(rng, version):
-    """The names in its plan, and its bytes."""
+    """The names in its plan, and its bytes; of a version up to that one."""
+    version = rng.choice([1, 2, 2, 2]) if version == 2 else 1
     names, said = plan(rng, version)
     games = [Game(rng, name, version) for name in names]
     lines = [written(rng, said, chance(rng, 10)).encode()]
