@@ -299,7 +299,7 @@ fn play_job(
 
 // What the readers of a core of one game show.
 #[derive(Clone, Copy, Debug, PartialEq, Eq)]
-struct Shown {
+struct Readings {
     events: usize,
     counts: Counts,
     taken: usize,
@@ -309,9 +309,9 @@ struct Shown {
     is_quiet: bool,
 }
 
-fn shown(rt: &impl Abort, core: &Core<CAP>) -> Shown {
+fn read_all(rt: &impl Abort, core: &Core<CAP>) -> Readings {
     assert!(rt; core.rows() == 1);
-    Shown {
+    Readings {
         events: core.journal().len(),
         counts: core.counts(),
         taken: core.taken(0).len(),
@@ -328,21 +328,21 @@ fn assert_strays(
     core: &mut Core<CAP>,
     parts: ArrayVec<Option<Done>, 4>,
 ) -> Result<ArrayVec<Option<Done>, 4>, Fail> {
-    let before = shown(rt, core);
+    let before = read_all(rt, core);
     let Err(strays) = core.put_parts(parts) else {
         return Err(Fail::from("not all parts of the move"));
     };
-    assert_eq!(rt; shown(rt, core), before);
+    assert_eq!(rt; read_all(rt, core), before);
     Ok(strays.parts)
 }
 
 // A part is a stray by itself, and so is a list of it alone where the move has two.
 fn assert_part_strays(rt: &impl Abort, core: &mut Core<CAP>, done: Done) -> Result<Done, Fail> {
-    let before = shown(rt, core);
+    let before = read_all(rt, core);
     let Err(stray) = core.put(0, done) else {
         return Err(Fail::from("a part that is put by itself"));
     };
-    assert_eq!(rt; shown(rt, core), before);
+    assert_eq!(rt; read_all(rt, core), before);
     drop(assert_strays(rt, core, ArrayVec::new())?);
     let mut one = ArrayVec::new();
     one.push(Some(stray.done));

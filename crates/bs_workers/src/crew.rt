@@ -1,4 +1,4 @@
-//! A crew: the workers that one thread stands for, with the jobs that it has for them.
+//! A crew: the workers of one thread, with their jobs.
 use crate::fault::Run;
 use crate::gate::Gate;
 use crate::task::{Refused, Task, Worked, work_at};
@@ -10,18 +10,18 @@ use std::alloc::{AllocError, Global};
 use std::sync::atomic::AtomicU64;
 use std::sync::atomic::Ordering::SeqCst;
 
-/// The most parts that a move has, and so the most jobs that a worker takes in one turn at the
+/// The largest number of parts of a move, and so of the jobs that a worker takes in one turn at the
 /// desk.
 pub(crate) const MOST_PARTS: usize = 4;
 
-/// A thread's workers, and where their jobs are. A worker may have one job out that begins or
-/// joins, or all parts of a move, so a thread that takes several jobs in one turn at the desk takes
-/// them for several workers.
+/// The workers of a thread, and their jobs. A worker may have one Begin or Join out, or all parts
+/// of a move, so a thread that takes several jobs in one turn at the desk takes them for several
+/// workers.
 #[derive(Drop)]
 pub(crate) struct Crew {
-    /// The number of the thread, which a gate is told.
+    /// The number of the thread, as a gate gets it.
     thread: usize,
-    /// The number of its first worker; the others come behind it.
+    /// The number of the first worker; the others follow.
     first: usize,
     /// How many workers it has.
     size: usize,
@@ -33,23 +33,22 @@ pub(crate) struct Crew {
     parts: Vec<ArrayVec<Option<Done>, 4>>,
     /// The key of a part that failed, until the core was told to fail.
     refused: Option<PartKey<Done>>,
-    /// Tickets of jobs that were brought back.
+    /// Tickets of completed jobs.
     spent: Vec<Ticket>,
-    /// Inputs of such tickets, with nothing left in them that would have to be given back at the
-    /// desk: new ones may take their places.
+    /// Inputs of such tickets, cleared outside the lock. New tickets reuse their memory.
     cleared: Vec<Box<Input>>,
-    /// Counts what was read ahead. Nobody asks for it: that it is counted keeps the compiler from
-    /// leaving the reading out.
+    /// Counts the bytes read ahead. It is never read: the counting keeps the compiler from removing
+    /// the reads.
     read: AtomicU64,
-    /// Whether it came for jobs and has none yet.
+    /// Whether the thread waits for jobs.
     waits: bool,
     /// Why a job failed.
     fault: Option<Run>,
 }
 
 impl Crew {
-    /// So many workers for that thread, one at least. The threads before it have as many each. All
-    /// memory that it needs is asked for here.
+    /// Makes a crew of `size` workers, at least one, for that thread. Each earlier thread has as
+    /// many. All memory that the crew needs is taken here.
     pub(crate) fn new(alloc: Global, thread: usize, size: usize) -> Result<Self, AllocError> {
         let size = size.max(1);
         let room = size.saturating_mul(MOST_PARTS);
@@ -89,7 +88,7 @@ impl Crew {
         self.parts.len()
     }
 
-    /// Whether it has a job to be worked.
+    /// Whether there is a job to be run.
     pub(crate) fn has_jobs(&self) -> bool {
         !self.tasks.is_empty()
     }
@@ -139,17 +138,17 @@ impl Crew {
         self.refused = None;
     }
 
-    /// An input that a new one may take the place of.
+    /// A cleared input, if there is one.
     pub(crate) fn take_cleared(&mut self) -> Option<Box<Input>> {
         self.cleared.pop()
     }
 
-    /// That ticket's job was brought back.
+    /// Keeps the ticket of a completed job.
     pub(crate) fn keep_spent(&mut self, ticket: Ticket) {
         let _kept = self.spent.push(ticket);
     }
 
-    /// What the parts of moves brought is given back, while nobody waits for it.
+    /// Frees the moved snakes of the spent inputs, outside the lock.
     fn clear_spent(&mut self, alloc: Global) {
         for _ in 0..self.spent.len() {
             if let Some(ticket) = self.spent.pop() {
@@ -160,9 +159,8 @@ impl Crew {
         }
     }
 
-    /// The directions of a move that was begun are read, as the desk will, which compares them: so
-    /// they come into the cache of this processor before the lock is taken, and nobody waits for
-    /// that.
+    /// Reads the directions of a move that was begun. The desk compares them under the lock, and
+    /// then finds them in the processor's cache.
     fn read_ahead(&self, ticket: &Ticket) {
         if let (JobKind::Begin, Command::Move(orders)) = (ticket.job().kind, ticket.command()) {
             let mut bytes = 0u64;

@@ -42,12 +42,11 @@ pub(crate) fn finish<const CAP: usize, R: Wait, G: Gate>(
     }
 }
 
-/// How many commands are handed in at once: the lock is taken once for all of them. Each time the
-/// lines of all games go to the caller's processor and back, so they are many; threads come to the
-/// lock in between.
+/// The number of commands queued under one lock. Each time the cache lines of all games move to the
+/// caller's processor and back, so they are many; other threads get the lock in between.
 const COMMANDS_AT_ONCE: usize = 1024;
 
-/// Makes holders of these commands for a core, each with its game's row.
+/// Makes the handles of these commands for a core, each with the row of its game.
 pub(crate) fn hold_all(
     alloc: Global,
     commands: &[(usize, SharedCommand)],
@@ -59,7 +58,7 @@ pub(crate) fn hold_all(
     Ok(held)
 }
 
-/// Hands in all commands in their order, or as many as the run goes on for.
+/// Queues all commands in order, until the run is stopped.
 fn hand_all<const CAP: usize, R: Wait>(
     rt: &R,
     alloc: Global,
@@ -74,8 +73,8 @@ fn hand_all<const CAP: usize, R: Wait>(
     shop.close(rt);
 }
 
-/// Hands in all commands beside so many threads that work them. A single one is the caller's own,
-/// which works later.
+/// Queues all commands while that many threads run them. A single thread is the caller's own, which
+/// runs them later.
 pub(crate) fn hand_to_threads<const CAP: usize, R: Threads + Wait + Sync, G: Gate>(
     rt: &R,
     alloc: Global,
