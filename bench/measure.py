@@ -29,8 +29,8 @@ def line(**members):
     return json.dumps(members, separators=(",", ":"))
 
 
-def plan(names, quota):
-    return line(games=[{"game": name, "quota": quota} for name in names])
+def plan(names, quota, **more):
+    return line(games=[{"game": name, "quota": quota} for name in names], **more)
 
 
 ROUND = 95  # turns, fewer than a snake lives without food
@@ -160,6 +160,21 @@ def constrictor(rounds):
             yield line(game=name, do="end")
 
 
+def wrapped(rounds):
+    """Eight wrapped games, in each of which eight snakes go to the right, each in a row of its own and again and again across the edge."""
+    names = [f"g{index}" for index in range(8)]
+    snakes = [{"id": id, "x": 0, "y": 3 * index} for index, id in enumerate("abcdefgh")]
+    yield plan(names, 16_384, version=2)
+    for _ in range(rounds):
+        for name in names:
+            yield line(game=name, do="new", mode="wrapped", width=LARGE, height=LARGE, snakes=snakes, food=[], min_food=0, food_chance=0)
+        for turn in range(ROUND):
+            for name in names:
+                yield line(game=name, do="move", moves={} if turn else {snake["id"]: "right" for snake in snakes})
+        for name in names:
+            yield line(game=name, do="end")
+
+
 def short_commands(count):
     """Commands that are short and change nothing: turns that are not kept, of a game of one record."""
     yield plan(["g"], 4096)
@@ -174,6 +189,7 @@ SHAPES = [
     ("one long game", long_game, 5_000, lambda turns: turns),
     ("growing, large boards", growing_snakes, 4, lambda rounds: 8 * GROWING * rounds),
     ("constrictor, eight", constrictor, 8, lambda rounds: 8 * FILLING * rounds),
+    ("wrapped, eight snakes", wrapped, 8, lambda rounds: 8 * ROUND * rounds),
     ("short commands", short_commands, 200_000, lambda count: 0),
 ]
 

@@ -41,5 +41,5 @@ function drawBoard(svg, board, withEarlier) {
     cellsPicture(board),
     drawn('rect', { class: 'wall', x: 0, y: 0, width, height }),
     ...board.food.map((cell) => foodPicture(cell, height)),
-    ...seatsToDraw(board, withEarlier).map((seat) => snakePicture(board.snakes[seat], seat, height)));
+    ...seatsToDraw(board, withEarlier).map((seat) => snakePicture(board.snakes[seat], seat, board)));
 }

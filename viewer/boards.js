@@ -48,7 +48,7 @@ function faultOfBoard(board) {
   if (!isWhole(board.turn, 0, 10000) || !isWhole(board.min_food, 0, 255) || !isWhole(board.food_chance, 0, 100)) {
     return 'its turn or the numbers for its food are out of their range';
   }
-  if (!['standard', 'solo', 'constrictor'].includes(board.mode) || typeof board.over !== 'boolean') {
+  if (!['standard', 'solo', 'constrictor', 'wrapped'].includes(board.mode) || typeof board.over !== 'boolean') {
     return 'its mode, or whether it is over, is not told';
   }
   if (!Array.isArray(board.food) || !board.food.every((cell) => isCell(cell, board, 0))) {
@@ -85,9 +85,20 @@ function fateOf(snake) {
   return isLiving(snake) ? 'lives' : `out in turn ${snake.out}: ${CAUSES[snake.cause].told(snake.by)}`;
 }
 
+/** A difference of two columns or rows; on a wrapped board that from one edge to the opposite one is a step across the edge. */
+function acrossEdge(difference, side, board) {
+  return board.mode === 'wrapped' && Math.abs(difference) === side - 1 ? -Math.sign(difference) : difference;
+}
+
+/** The step from a cell to a neighbour or to itself; null where they are neither. */
+function stepBetween(from, to, board) {
+  const x = acrossEdge(to.x - from.x, board.width, board);
+  const y = acrossEdge(to.y - from.y, board.height, board);
+  return Math.abs(x) + Math.abs(y) <= 1 ? { x, y } : null;
+}
+
 /** The direction from a snake's second part to its head, where they are neighbours; null where the board tells none. */
-function directionOf(body) {
-  const x = body[0].x - body[1].x;
-  const y = body[0].y - body[1].y;
-  return Math.abs(x) + Math.abs(y) === 1 ? { x, y } : null;
+function directionOf(body, board) {
+  const step = stepBetween(body[1], body[0], board);
+  return step && step.x === 0 && step.y === 0 ? null : step;
 }

@@ -6,17 +6,27 @@ function middleOf(cell, height) {
   return { x: cell.x + 0.5, y: height - cell.y - 0.5 };
 }
 
-/** The line along a body. It is broken where two parts that follow each other are no neighbours. */
-function pathAlong(body, height) {
+/** The line from a part to the next: across an edge of a wrapped board to that edge, and on from the opposite one. */
+function lineBetween(from, to, step, height) {
+  const { x, y } = middleOf(to, height);
+  if (to.x - from.x === step.x && to.y - from.y === step.y) {
+    return `L${x} ${y}`;
+  }
+  const before = middleOf(from, height);
+  return `L${before.x + step.x / 2} ${before.y - step.y / 2}M${x - step.x / 2} ${y + step.y / 2}L${x} ${y}`;
+}
+
+/** The line along a body. It is broken at an edge that the body crosses, and where two parts that follow each other are no neighbours. */
+function pathAlong(body, board) {
   let path = '';
   let before = null;
   for (const cell of body) {
-    const { x, y } = middleOf(cell, height);
-    const step = before ? Math.abs(cell.x - before.x) + Math.abs(cell.y - before.y) : null;
-    if (step === 1) {
-      path += `L${x} ${y}`;
-    } else if (step !== 0) {
+    const step = before ? stepBetween(before, cell, board) : null;
+    if (!step) {
+      const { x, y } = middleOf(cell, board.height);
       path += `M${x} ${y}h0`;
+    } else if (step.x !== 0 || step.y !== 0) {
+      path += lineBetween(before, cell, step, board.height);
     }
     before = cell;
   }
@@ -24,9 +34,9 @@ function pathAlong(body, height) {
 }
 
 /** A head with two eyes, drawn as it looks to the right and then turned; one without a direction looks out of the picture. */
-function headPicture(body, height, colour) {
-  const { x, y } = middleOf(body[0], height);
-  const direction = directionOf(body);
+function headPicture(body, board, colour) {
+  const { x, y } = middleOf(body[0], board.height);
+  const direction = directionOf(body, board);
   const turn = direction ? Math.atan2(-direction.y, direction.x) * 180 / Math.PI : 0;
   const shape = direction
     ? drawn('path', { d: 'M-.2-.4H.1Q.46-.36.46 0Q.46.36.1.4H-.2Q-.4.4-.4 0Q-.4-.4-.2-.4Z' })
@@ -49,20 +59,20 @@ function crossPicture(body, height) {
   return drawn('path', { class: 'cross', d: `M${x - 0.3} ${y - 0.3}l.6 .6m0-.6l-.6 .6` });
 }
 
-/** A snake of a seat on a board of a height. */
-function snakePicture(snake, seat, height) {
+/** A snake of a seat on a board. */
+function snakePicture(snake, seat, board) {
   const { colour, mark } = SEATS[seat];
-  const path = pathAlong(snake.body, height);
+  const path = pathAlong(snake.body, board);
   const picture = drawn('g', { class: isLiving(snake) ? 'snake' : 'snake out', 'data-seat': seat },
     drawn('title'),
     drawn('g', { class: 'figure' },
       drawn('path', { class: 'casing', d: path }),
       drawn('path', { class: 'body', d: path, stroke: colour }),
       drawn('path', { class: `mark ${mark}`, d: path }),
-      headPicture(snake.body, height, colour)));
+      headPicture(snake.body, board, colour)));
   picture.firstChild.textContent = `${snake.id}: ${fateOf(snake)}`;
   if (!isLiving(snake)) {
-    picture.append(crossPicture(snake.body, height));
+    picture.append(crossPicture(snake.body, board.height));
   }
   return picture;
 }
@@ -71,7 +81,7 @@ function snakePicture(snake, seat, height) {
 function swatchPicture(seat, lives = true) {
   const body = [{ x: 2, y: 0 }, { x: 1, y: 0 }, { x: 0, y: 0 }];
   const snake = lives ? { body, id: '', cause: null } : { body, id: '', cause: 'wall-collision', by: null, out: 1 };
-  const picture = snakePicture(snake, seat, 1);
+  const picture = snakePicture(snake, seat, { mode: 'solo', width: 3, height: 1 });
   picture.firstChild.remove();
   return drawn('svg', { class: 'swatch', viewBox: '0 0 3 1', 'aria-hidden': 'true' }, picture);
 }

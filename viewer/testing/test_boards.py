@@ -17,8 +17,19 @@ def fate(snake):
     return "lives" if snake["cause"] is None else f"out in turn {snake['out']}: {FATES[snake['cause']].format(by=snake['by'])}"
 
 
-def looks(body):
-    return LOOKS.get((body[0]["x"] - body[1]["x"], body[0]["y"] - body[1]["y"]), "nowhere")
+def step(before, cell, board):
+    """The columns and rows from a cell to another; on a wrapped board a step across an edge is one to the neighbour."""
+    found = []
+    for axis, side in (("x", board["width"]), ("y", board["height"])):
+        apart = cell[axis] - before[axis]
+        if board["mode"] == "wrapped":
+            apart = {1: 1, side - 1: -1}.get(apart % side, 0)
+        found.append(apart)
+    return tuple(found)
+
+
+def looks(body, board):
+    return LOOKS.get(step(body[1], body[0], board), "nowhere")
 
 
 def middles(cells, height):
@@ -27,9 +38,27 @@ def middles(cells, height):
     return [place for index, place in enumerate(places) if index == 0 or place != places[index - 1]]
 
 
-def drawn_snake(seat, snake, height):
+def line_along(body, board):
+    """The points of the line along a body, and in how many pieces: where it crosses an edge, it ends there and begins at the opposite edge."""
+    places, pieces = [], 1
+    for before, cell in zip([None, *body], body):
+        [here] = middles([cell], board["height"])
+        if before and (cell["x"], cell["y"]) == (before["x"], before["y"]):
+            continue
+        if before:
+            x, y = step(before, cell, board)
+            if (before["x"] + x, before["y"] + y) != (cell["x"], cell["y"]):
+                [there] = middles([before], board["height"])
+                places += [[there[0] + x / 2, there[1] - y / 2], [here[0] - x / 2, here[1] + y / 2]]
+                pieces += 1
+        places.append(here)
+    return places, pieces
+
+
+def drawn_snake(seat, snake, board):
     out = snake["cause"] is not None
-    return {"seat": seat, "out": out, "crossed": out, "cells": middles(snake["body"], height), "pieces": 1, "looks": looks(snake["body"])}
+    cells, pieces = line_along(snake["body"], board)
+    return {"seat": seat, "out": out, "crossed": out, "cells": cells, "pieces": pieces, "looks": looks(snake["body"], board)}
 
 
 def expected(board, last, with_earlier=False):
@@ -43,7 +72,7 @@ def expected(board, last, with_earlier=False):
                  + (", over" if board["over"] else ""),
         "view": f"-1 -1 {board['width'] + 2} {board['height'] + 2}",
         "food": middles(board["food"], board["height"]),
-        "snakes": [drawn_snake(seat, snake, board["height"]) for seat, snake in out + living],
+        "snakes": [drawn_snake(seat, snake, board) for seat, snake in out + living],
         "cards": [{"id": snake["id"], "fate": fate(snake), "numbers": f"health {snake['health']}, length {len(snake['body'])}",
                    "meter": snake["health"]} for snake in board["snakes"]],
     }
@@ -81,6 +110,13 @@ class BoardsTest(PageCase):
         boards = [board for game in read(TOURNAMENT)[0] for boards in game.rounds for board in boards]
         self.assertEqual({snake["cause"] for board in boards for snake in board["snakes"]}, {None, *FATES})
         self.assertEqual(max(len(board["snakes"]) for board in boards), 8)
+
+    def test_the_cases_hold_bodies_that_cross_each_edge(self):
+        boards = [board for path in CASES for game in read(path)[0] for boards in game.rounds for board in boards]
+        bodies = [(snake["body"], board) for board in boards if board["mode"] == "wrapped" for snake in board["snakes"]]
+        crossed = {step(before, cell, board) for body, board in bodies for before, cell in zip(body, body[1:])
+                   if abs(cell["x"] - before["x"]) + abs(cell["y"] - before["y"]) > 1}
+        self.assertEqual(crossed, set(LOOKS))
 
     def test_bodies_that_went_out_earlier_are_drawn_where_they_are_wished_for(self):
         boards = self.open(TOURNAMENT)[0].rounds[0]

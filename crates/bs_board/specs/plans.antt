@@ -1,2 +1,3 @@
--- The games of a plan.
+-- The games of a plan, and its version.
 pub mod Plan
+pub mod Version

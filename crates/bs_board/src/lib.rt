@@ -29,6 +29,7 @@ pub use commands::words::Words;
 pub use id::Id;
 pub use plans::plan::{Plan, Rows};
 pub use plans::row::Row;
+pub use plans::version::Version;
 pub use records::decode_error::Decode;
 pub use records::decoding::decode;
 pub use records::encoding::{encode, encode_into};

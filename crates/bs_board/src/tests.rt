@@ -219,10 +219,25 @@ fn a_plan_is_copied(rt: HostRuntime) -> Result<(), Fail> {
     assert!(rt; rows.len() <= limits::MOST_ROWS);
     let plan = Plan {
         rows: Rows::from_vec(rows),
+        version: Version::Two,
     }
     .copy(alloc)?;
     let row = plan.rows.as_slice().first().ok_or("a row")?;
     assert_eq!(rt; (row.game.as_str(), row.quota), ("a", 64));
+    assert_eq!(rt; plan.version, Version::Two);
+    Ok(())
+}
+
+#[test]
+fn versions_by_number(rt: HostRuntime) -> Result<(), Fail> {
+    for (number, version, has_wrapped) in [(1, Version::One, false), (2, Version::Two, true)] {
+        assert_eq!(rt; Version::from_number(number), Some(version));
+        assert_eq!(rt; u64::from(version.number()), number);
+        assert_eq!(rt; version.has_wrapped(), has_wrapped);
+    }
+    for number in [0, 3, 257] {
+        assert_eq!(rt; Version::from_number(number), None, "{number}");
+    }
     Ok(())
 }
 
@@ -268,7 +283,7 @@ fn bytes_that_are_no_record(rt: HostRuntime) -> Result<(), Fail> {
     longer.push(0)?;
     assert_eq!(rt; decode(alloc, &longer).err(), Some(Decode::NotARecord));
     assert_eq!(rt; decode(alloc, &FIRST[..25]).err(), Some(Decode::NotARecord));
-    // a mode of another version, and a health of 101
+    // the mode byte of version 2 in version 1, and a health of 101
     for (place, byte) in [(1, 3), (13, 101)] {
         let mut wrong = FIRST;
         wrong[place] = byte;
@@ -281,7 +296,7 @@ fn bytes_that_are_no_record(rt: HostRuntime) -> Result<(), Fail> {
     Ok(())
 }
 
-// Two snakes that have just started on a wrapped board of five by five.
+// A wrapped board of five by five on which two snakes have just started.
 fn wrapped(alloc: Global) -> Result<Board, AllocError> {
     let first = seat(alloc, "s", &[(3, 1), (3, 1), (3, 1)], 100)?;
     let second = seat(alloc, "t", &[(3, 3), (3, 3), (3, 3)], 100)?;
@@ -316,7 +331,7 @@ fn record_of_a_wrapped_board(rt: HostRuntime) -> Result<(), Fail> {
     Ok(())
 }
 
-// Of all pairs of a version and a mode, those that are read of a board that is legal in each mode.
+// Four pairs of a version and a mode byte are read, in a record whose board is legal in each mode.
 #[test]
 fn versions_and_modes(rt: HostRuntime) -> Result<(), Fail> {
     let alloc = rt.alloc();
@@ -335,7 +350,7 @@ fn versions_and_modes(rt: HostRuntime) -> Result<(), Fail> {
     Ok(())
 }
 
-// On a wrapped board no head is off the board, whether it has starved or not, and nobody is out by the wall.
+// A wrapped board is legal only if each head is on it, that of a starved snake too, and no snake is out by the wall.
 #[test]
 fn heads_of_a_wrapped_board(rt: HostRuntime) -> Result<(), Fail> {
     let alloc = rt.alloc();

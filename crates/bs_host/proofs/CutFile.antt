@@ -5,13 +5,12 @@ use Rattle.std.proofs.lemmas.List.Concat.{flat_map-cons}
 use Rattle.std.specs.Borrow.{Bor}
 use Rattle.std.specs.Prelude.{IfSome, option_map, unwrap_or}
 use Rattle.bs_board.specs.declared.plans.plan.Plan.{Plan}
-use Rattle.bs_board.specs.plans.Plan.{GameRow}
 use Rattle.bs_json.specs.PlanLine.{plan_line_of}
 use Rattle.bs_host.specs.declared.cut_fault.Cut.TheVariants.{TooLong}
 use Rattle.bs_host.specs.declared.limits.TheConstants.{MOST_FILE_BYTES}
 use Rattle.bs_host.specs.declared.pieces.TheConstants.{LINE_FEED}
-use Rattle.bs_host.specs.Cut.{behind_feeds, cut_of, cut_refusal_of, cut_refusal_of_plan, game_at, is_own_line, lone_plan_of, own_lines_in}
-use Rattle.bs_host.specs.File.{pieces_of, first_piece, later_pieces, plan_of, rows_in, rows_of}
+use Rattle.bs_host.specs.Cut.{behind_feeds, cut_of, cut_refusal_of, cut_refusal_of_plan, game_at, is_own_line, lone_plan_of, own_lines_in, own_lines_of}
+use Rattle.bs_host.specs.File.{pieces_of, first_piece, later_pieces, plan_in, plan_of, rows_of, version_of}
 use Rattle.bs_host.proofs.CutLines.{joined_behind}
 
 pub refusal_of_long : (file game : List ℕ) → MOST_FILE_BYTES < length file → cut_refusal_of file game ≡ Some TooLong
@@ -25,21 +24,24 @@ refusal_of_first file game first rest short pieces =
     cond-false _ (Some TooLong) (cut_refusal_of_plan game (plan_of file)) (le-ltb MOST_FILE_BYTES (length file) short)
     ∙ ap (λ all. cut_refusal_of_plan game (plan_line_of (first_piece all))) pieces
 
-pub rows_of_first : (file first : List ℕ) (rest : List (List ℕ)) (plan : Plan) → pieces_of file ≡ first ∷ rest → plan_line_of first ≡ Ok plan → rows_of file ≡ plan.rows
-rows_of_first file first rest plan pieces read = ap (λ all. rows_in (plan_line_of (first_piece all))) pieces ∙ ap rows_in read
+plan_of_first : (file first : List ℕ) (rest : List (List ℕ)) (plan : Plan) → pieces_of file ≡ first ∷ rest → plan_line_of first ≡ Ok plan → plan_in (plan_of file) ≡ plan
+plan_of_first file first rest plan pieces read = ap (λ all. plan_in (plan_line_of (first_piece all))) pieces ∙ ap plan_in read
 
--- of these rows and the lines behind the plan
-abbrev cut_from : List GameRow → ℕ → List (List ℕ) → List ℕ
-cut_from rows row lines = lone_plan_of (game_at rows row) ++ behind_feeds (own_lines_in rows row lines)
+pub rows_of_first : (file first : List ℕ) (rest : List (List ℕ)) (plan : Plan) → pieces_of file ≡ first ∷ rest → plan_line_of first ≡ Ok plan → rows_of file ≡ plan.rows
+rows_of_first file first rest plan pieces read = ap (λ (plan : Plan). plan.rows) (plan_of_first file first rest plan pieces read)
+
+-- of that plan and the lines behind it
+abbrev cut_from : Plan → ℕ → List (List ℕ) → List ℕ
+cut_from plan row lines = lone_plan_of plan.version (game_at plan.rows row) ++ behind_feeds (own_lines_in plan row lines)
 
 pub cut_of_first : (file first : List ℕ) (rest : List (List ℕ)) (plan : Plan) (row : ℕ) → pieces_of file ≡ first ∷ rest → plan_line_of first ≡ Ok plan
-    → lone_plan_of (game_at plan.rows row) ++ behind_feeds (own_lines_in plan.rows row rest) ≡ cut_of file row
+    → lone_plan_of plan.version (game_at plan.rows row) ++ behind_feeds (own_lines_in plan row rest) ≡ cut_of file row
 unfolding cut_of
 cut_of_first file first rest plan row pieces read =
     sym (
-    joined_behind (lone_plan_of (game_at (rows_of file) row)) (own_lines_in (rows_of file) row (later_pieces (pieces_of file)))
-    ∙ ap (λ rows. cut_from rows row (later_pieces (pieces_of file))) (rows_of_first file first rest plan pieces read)
-    ∙ ap (λ all. cut_from plan.rows row (later_pieces all)) pieces)
+    joined_behind (lone_plan_of (version_of file) (game_at (rows_of file) row)) (own_lines_of file row)
+    ∙ ap (λ (plan : Plan). cut_from plan row (later_pieces (pieces_of file))) (plan_of_first file first rest plan pieces read)
+    ∙ ap (λ all. cut_from plan row (later_pieces all)) pieces)
 
 -- what is left of the file, in bytes and line feeds
 abbrev pub bytes_left : Option (Bor (List ℕ)) → ℕ
@@ -50,12 +52,12 @@ fewer_left left None text is shorter = rw is (omega arith)
 fewer_left left (Some rest) text is shorter = rw is (omega (arith, shorter))
 
 -- the line goes to the game, behind what was written before
-pub own_line_goes : (rows : List GameRow) (row : ℕ) (line written : List ℕ) (lines : List (List ℕ)) → is_own_line rows row line ≡ true
-    → (written ++ LINE_FEED ∷ line) ++ behind_feeds (own_lines_in rows row lines) ≡ written ++ behind_feeds (own_lines_in rows row (line ∷ lines))
-own_line_goes rows row line written lines own =
-    rw own (append_assoc written (LINE_FEED ∷ line) (behind_feeds (own_lines_in rows row lines))
-    ∙ ap (λ rest. written ++ rest) (sym (flat_map-cons (λ l. LINE_FEED ∷ l) line (own_lines_in rows row lines))))
+pub own_line_goes : (plan : Plan) (row : ℕ) (line written : List ℕ) (lines : List (List ℕ)) → is_own_line plan row line ≡ true
+    → (written ++ LINE_FEED ∷ line) ++ behind_feeds (own_lines_in plan row lines) ≡ written ++ behind_feeds (own_lines_in plan row (line ∷ lines))
+own_line_goes plan row line written lines own =
+    rw own (append_assoc written (LINE_FEED ∷ line) (behind_feeds (own_lines_in plan row lines))
+    ∙ ap (λ rest. written ++ rest) (sym (flat_map-cons (λ l. LINE_FEED ∷ l) line (own_lines_in plan row lines))))
 
-pub other_line_goes : (rows : List GameRow) (row : ℕ) (line written : List ℕ) (lines : List (List ℕ)) → is_own_line rows row line ≡ false
-    → written ++ behind_feeds (own_lines_in rows row lines) ≡ written ++ behind_feeds (own_lines_in rows row (line ∷ lines))
-other_line_goes rows row line written lines other = rw other refl
+pub other_line_goes : (plan : Plan) (row : ℕ) (line written : List ℕ) (lines : List (List ℕ)) → is_own_line plan row line ≡ false
+    → written ++ behind_feeds (own_lines_in plan row lines) ≡ written ++ behind_feeds (own_lines_in plan row (line ∷ lines))
+other_line_goes plan row line written lines other = rw other refl

@@ -24,6 +24,8 @@ use Rattle.serde_json.specs.Written.{has_float, outline, compact_text}
 use Rattle.serde_json.proofs.Numbers.{number_of-decimal}
 use Rattle.serde_json.proofs.Texts.{print-outline}
 use Rattle.bs_board.specs.declared.limits.TheConstants.{LEAST_QUOTA, LONGEST_ID, MOST_QUOTA}
+use Rattle.bs_board.specs.declared.plans.version.Version.{Version}
+use Rattle.bs_board.specs.declared.plans.version.Version.TheVariants.{One, Two}
 use Rattle.bs_board.specs.plans.Plan.{GameRow, is_fit_row}
 use Rattle.bs_board.specs.Texts.{is_short_text}
 use Rattle.bs_json.specs.declared.limits.TheConstants.{MAX_LINE}
@@ -32,9 +34,10 @@ use Rattle.bs_json.specs.Values.{value_of}
 use Rattle.bs_host.specs.declared.pieces.TheConstants.{LINE_FEED}
 use Rattle.bs_host.specs.Cut.{lone_plan_data, lone_plan_of}
 
-pub lone_plan_has_no_float : (row : GameRow) → has_float (lone_plan_data row) ≡ false
+pub lone_plan_has_no_float : (version : Version) (row : GameRow) → has_float (lone_plan_data version row) ≡ false
 unfolding lone_plan_data
-lone_plan_has_no_float row = refl
+lone_plan_has_no_float One row = refl
+lone_plan_has_no_float Two row = refl
 
 -- a row within its limits
 
@@ -63,43 +66,69 @@ reads_back d printable back shallow =
     ∙ ap (λ found. option_and_then of_json (option_and_then (λ p. json.if_last p.0 p.1) found)) (value-json_tokens (outline d) 127 [] shallow)
     ∙ back
 
-lone_plan_is_printable : (row : GameRow) → row.quota < 2 ^ 64 → ArePrintable (tree.json_tokens (outline (lone_plan_data row)))
+lone_plan_is_printable : (version : Version) (row : GameRow) → row.quota < 2 ^ 64 → ArePrintable (tree.json_tokens (outline (lone_plan_data version row)))
 unfolding lone_plan_data ArePrintable
-lone_plan_is_printable row small = (tt, (tt, (tt, (tt, (tt, (tt, (tt, (IsNumber-decimal row.quota small, (tt, (tt, (tt, tt)))))))))))
+lone_plan_is_printable One row small = (tt, (tt, (tt, (tt, (tt, (tt, (tt, (IsNumber-decimal row.quota small, (tt, (tt, (tt, tt)))))))))))
+lone_plan_is_printable Two row small =
+    (tt, (tt, (tt, (tt, (tt, (tt, (tt, (IsNumber-decimal row.quota small, (tt, (tt, (tt, (tt, (IsNumber-decimal 2 (omega arith), (tt, tt))))))))))))))
 
-lone_plan_back : (row : GameRow) → row.quota < 2 ^ 64 → of_json (outline (lone_plan_data row)) ≡ Some (lone_plan_data row)
+lone_plan_back : (version : Version) (row : GameRow) → row.quota < 2 ^ 64 → of_json (outline (lone_plan_data version row)) ≡ Some (lone_plan_data version row)
 unfolding lone_plan_data
-lone_plan_back row small = rw (number_of-decimal row.quota small) refl
+lone_plan_back One row small = rw (number_of-decimal row.quota small) refl
+lone_plan_back Two row small = rw (number_of-decimal row.quota small, number_of-decimal 2 (omega arith)) refl
 
-lone_plan_depth : (row : GameRow) → tree.depth (outline (lone_plan_data row)) ≤ 127
+lone_plan_depth : (version : Version) (row : GameRow) → tree.depth (outline (lone_plan_data version row)) ≤ 127
 unfolding lone_plan_data
-lone_plan_depth row = omega arith
+lone_plan_depth One row = omega arith
+lone_plan_depth Two row = omega arith
 
-lone_plan_reads : (row : GameRow) → row.quota < 2 ^ 64 → read (lone_plan_of row) ≡ Some (lone_plan_data row)
-lone_plan_reads row small = reads_back (lone_plan_data row) (lone_plan_is_printable row small) (lone_plan_back row small) (lone_plan_depth row)
+lone_plan_reads : (version : Version) (row : GameRow) → row.quota < 2 ^ 64 → read (lone_plan_of version row) ≡ Some (lone_plan_data version row)
+lone_plan_reads version row small =
+    reads_back (lone_plan_data version row) (lone_plan_is_printable version row small) (lone_plan_back version row small) (lone_plan_depth version row)
 
 -- its bytes
 
-regroup : (name middle number : List ℕ) → ((name ++ (middle ++ (number ++ 125 ∷ []))) ++ 93 ∷ []) ++ 125 ∷ [] ≡ name ++ (middle ++ (number ++ codes "}]}"))
-regroup name middle number = simp append_assoc
+abbrev pub is_no_feed : ℕ → Bool
+is_no_feed byte = not (eqb byte LINE_FEED)
 
-lone_plan_text : (row : GameRow) → lone_plan_of row ≡ codes "{\"games\":[{\"game\":" ++ (quoted row.game ++ (codes ",\"quota\":" ++ (decimal row.quota ++ codes "}]}")))
+-- what follows the quota
+abbrev plan_end : Version → List ℕ
+plan_end One = codes "}]}"
+plan_end Two = codes "}],\"version\":2}"
+
+regroup : (name middle number end : List ℕ) → ((name ++ (middle ++ (number ++ 125 ∷ []))) ++ 93 ∷ []) ++ end ≡ name ++ (middle ++ (number ++ 125 ∷ 93 ∷ end))
+regroup name middle number end = simp append_assoc
+
+lone_plan_text : (version : Version) (row : GameRow)
+    → lone_plan_of version row ≡ codes "{\"games\":[{\"game\":" ++ (quoted row.game ++ (codes ",\"quota\":" ++ (decimal row.quota ++ plan_end version)))
 unfolding lone_plan_data escape_byte
-lone_plan_text row = ap (λ rest. codes "{\"games\":[{\"game\":" ++ rest) (regroup (quoted row.game) (codes ",\"quota\":") (decimal row.quota))
+lone_plan_text One row = ap (λ rest. codes "{\"games\":[{\"game\":" ++ rest) (regroup (quoted row.game) (codes ",\"quota\":") (decimal row.quota) (codes "}"))
+lone_plan_text Two row =
+    ap (λ rest. codes "{\"games\":[{\"game\":" ++ rest) (regroup (quoted row.game) (codes ",\"quota\":") (decimal row.quota) (codes ",\"version\":2}"))
 
-lone_plan_is_text : (row : GameRow) → IsFit row → is_utf8 (lone_plan_of row) ≡ true
-lone_plan_is_text row fit =
+end_is_ascii : (version : Version) → are_ascii (plan_end version) ≡ true
+end_is_ascii One = refl
+end_is_ascii Two = refl
+
+end_has_no_feed : (version : Version) → list_all is_no_feed (plan_end version) ≡ true
+end_has_no_feed One = refl
+end_has_no_feed Two = refl
+
+end_is_short : (version : Version) → length (plan_end version) ≤ 15
+end_is_short One = omega arith
+end_is_short Two = omega arith
+
+lone_plan_is_text : (version : Version) (row : GameRow) → IsFit row → is_utf8 (lone_plan_of version row) ≡ true
+lone_plan_is_text version row fit =
     let small : row.quota < 2 ^ 64 = omega (arith, fit.small) in
-    let end = IsUtf8-append (decimal row.quota) (codes "}]}") (IsUtf8-from_ascii (decimal row.quota) (IsAscii-decimal row.quota small)) (IsUtf8-are_ascii (codes "}]}") refl) in
+    let last = IsUtf8-are_ascii (plan_end version) (end_is_ascii version) in
+    let end = IsUtf8-append (decimal row.quota) (plan_end version) (IsUtf8-from_ascii (decimal row.quota) (IsAscii-decimal row.quota small)) last in
     let middle = IsUtf8-append (codes ",\"quota\":") _ (IsUtf8-are_ascii (codes ",\"quota\":") refl) end in
     let name = IsUtf8-append (quoted row.game) _ (IsUtf8-quoted row.game (IsUtf8-from_is_utf8 row.game fit.text)) middle in
     let all = IsUtf8-append (codes "{\"games\":[{\"game\":") _ (IsUtf8-are_ascii (codes "{\"games\":[{\"game\":") refl) name in
-    ap is_utf8 (lone_plan_text row) ∙ is_utf8-from_IsUtf8 _ all
+    ap is_utf8 (lone_plan_text version row) ∙ is_utf8-from_IsUtf8 _ all
 
 -- each byte of a name is written as up to six bytes, none of which is a line feed
-
-abbrev pub is_no_feed : ℕ → Bool
-is_no_feed byte = not (eqb byte LINE_FEED)
 
 abbrev is_short_piece : ℕ → Bool
 is_short_piece byte = nat_le (length (escape_byte byte)) 6 && list_all is_no_feed (escape_byte byte)
@@ -156,37 +185,42 @@ decimal_has_no_feed n small = digits_have_no_feed (decimal n) (λ i within. digi
 both : (xs ys : List ℕ) → list_all is_no_feed xs ≡ true → list_all is_no_feed ys ≡ true → list_all is_no_feed (xs ++ ys) ≡ true
 both xs ys first rest = list_all-append is_no_feed xs ys ∙ and_from _ _ first rest
 
-pub lone_plan_has_no_feed : (row : GameRow) → IsFit row → list_all is_no_feed (lone_plan_of row) ≡ true
-lone_plan_has_no_feed row fit =
+pub lone_plan_has_no_feed : (version : Version) (row : GameRow) → IsFit row → list_all is_no_feed (lone_plan_of version row) ≡ true
+lone_plan_has_no_feed version row fit =
     let small : row.quota < 2 ^ 64 = omega (arith, fit.small) in
-    let end = decimal row.quota ++ codes "}]}" in
+    let end = decimal row.quota ++ plan_end version in
     let middle = codes ",\"quota\":" ++ end in
     let name = quoted row.game ++ middle in
-    let ends = both (decimal row.quota) (codes "}]}") (decimal_has_no_feed row.quota small) refl in
+    let ends = both (decimal row.quota) (plan_end version) (decimal_has_no_feed row.quota small) (end_has_no_feed version) in
     let goes_on = both (quoted row.game) middle (quoted_has_no_feed row.game) (both (codes ",\"quota\":") end refl ends) in
-    ap (list_all is_no_feed) (lone_plan_text row) ∙ both (codes "{\"games\":[{\"game\":") name refl goes_on
+    ap (list_all is_no_feed) (lone_plan_text version row) ∙ both (codes "{\"games\":[{\"game\":") name refl goes_on
 
-pub lone_plan_is_short : (row : GameRow) → IsFit row → length (lone_plan_of row) ≤ 512
-lone_plan_is_short row fit =
+pub lone_plan_is_short : (version : Version) (row : GameRow) → IsFit row → length (lone_plan_of version row) ≤ 512
+lone_plan_is_short version row fit =
     let n = decimal row.quota in
     let number : length n ≤ 8 = length-decimal-le 8 row.quota (omega arith) fit.small (omega (arith, fit.small)) in
     let name = escaped_is_short row.game in
     let quotes = length-append (escape row.game) (34 ∷ []) in
-    let all = ap length (lone_plan_text row) in
-    omega (arith, all, number, name, quotes, fit.short, length-append (quoted row.game) (codes ",\"quota\":" ++ (n ++ codes "}]}")), length-append n (codes "}]}"))
+    let all = ap length (lone_plan_text version row) in
+    let end = plan_end version in
+    let last = end_is_short version in
+    omega (arith, all, number, name, quotes, last, fit.short, length-append (quoted row.game) (codes ",\"quota\":" ++ (n ++ end)), length-append n end)
 
 -- it is read back as the plan with that row
 
-lone_plan_from : (row : GameRow) → IsFit row → is_fit_row row ≡ true → plan_from (Some (lone_plan_data row)) ≡ Ok (record { rows = row ∷ [] })
+lone_plan_from : (version : Version) (row : GameRow) → IsFit row → is_fit_row row ≡ true
+    → plan_from (Some (lone_plan_data version row)) ≡ Ok (record { rows = row ∷ []; version = version })
 unfolding lone_plan_data
-lone_plan_from row parts fit = rw (parts.most, fit) refl
+lone_plan_from One row parts fit = rw (parts.most, fit) refl
+lone_plan_from Two row parts fit = rw (parts.most, fit) refl
 
-pub lone_plan_is_plan : (row : GameRow) → is_fit_row row ≡ true → plan_line_of (lone_plan_of row) ≡ Ok (record { rows = row ∷ [] })
+pub lone_plan_is_plan : (version : Version) (row : GameRow) → is_fit_row row ≡ true
+    → plan_line_of (lone_plan_of version row) ≡ Ok (record { rows = row ∷ []; version = version })
 unfolding plan_line_of value_of
-lone_plan_is_plan row fit =
+lone_plan_is_plan version row fit =
     let parts = fit_parts row fit in
-    let short = lone_plan_is_short row parts in
+    let short = lone_plan_is_short version row parts in
     let small : row.quota < 2 ^ 64 = omega (arith, parts.small) in
-    let is : value_of (lone_plan_of row) ≡ Some (lone_plan_data row) = rw (lone_plan_is_text row parts) (lone_plan_reads row small) in
-    cond-false (nat_lt MAX_LINE (length (lone_plan_of row))) _ _ (le-ltb MAX_LINE _ (omega (arith, short)))
-    ∙ ap plan_from is ∙ lone_plan_from row parts fit
+    let is : value_of (lone_plan_of version row) ≡ Some (lone_plan_data version row) = rw (lone_plan_is_text version row parts) (lone_plan_reads version row small) in
+    cond-false (nat_lt MAX_LINE (length (lone_plan_of version row))) _ _ (le-ltb MAX_LINE _ (omega (arith, short)))
+    ∙ ap plan_from is ∙ lone_plan_from version row parts fit

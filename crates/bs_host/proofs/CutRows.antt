@@ -5,10 +5,11 @@ use Rattle.serde_json.specs.Data.{Data, Items, no_items, item}
 use Rattle.serde_json.specs.Find.{get, as_array}
 use Rattle.bs_board.specs.declared.limits.TheConstants.{MOST_QUOTA, MOST_ROWS}
 use Rattle.bs_board.specs.declared.plans.plan.Plan.{Plan}
+use Rattle.bs_board.specs.declared.plans.version.Version.{Version}
 use Rattle.bs_board.specs.plans.Plan.{GameRow, row_of, is_fit_row, have_distinct_names}
 use Rattle.bs_json.specs.declared.limits.TheConstants.{MAX_LINE}
 use Rattle.bs_json.specs.declared.plan.PlanFault.{PlanFault}
-use Rattle.bs_json.specs.PlanLine.{fit_row, row_from, plan_of_rows, plan_of_games, plan_from, plan_line_of, is_known_version}
+use Rattle.bs_json.specs.PlanLine.{fit_row, row_from, plan_of_rows, plan_of_games, plan_from, plan_line_of, version_of}
 use Rattle.bs_json.specs.Values.{◌>>=◌, each, number_at, text_at, value_of}
 use Rattle.bs_host.specs.File.{plan_of, rows_in, rows_of}
 
@@ -57,9 +58,9 @@ each_is_fit : (games : Items) → AreFitIfRead (each row_from games)
 each_is_fit no_items = λ k d within. absurd (omega arith)
 each_is_fit (item d ds) = next_are_fit (row_from d) (each row_from ds) (row_from_is_fit d) (each_is_fit ds)
 
-plan_of_rows_is_fit : (rows : Option (List GameRow)) → AreFitIfRead rows → IsFitPlanIfRead (plan_of_rows rows)
-plan_of_rows_is_fit None fit = tt
-plan_of_rows_is_fit (Some rows) fit = elim (cases_Bool (have_distinct_names rows)) [
+plan_of_rows_is_fit : (version : Version) (rows : Option (List GameRow)) → AreFitIfRead rows → IsFitPlanIfRead (plan_of_rows version rows)
+plan_of_rows_is_fit version None fit = tt
+plan_of_rows_is_fit version (Some rows) fit = elim (cases_Bool (have_distinct_names rows)) [
   | inl distinct ↦ elim (cases_Bool (nat_le (length rows) MOST_ROWS)) [
     | inl few ↦ rw (distinct, few) fit
     | inr many ↦ rw (distinct, many) tt
@@ -67,16 +68,14 @@ plan_of_rows_is_fit (Some rows) fit = elim (cases_Bool (have_distinct_names rows
   | inr twice ↦ rw twice tt
 ]
 
-plan_of_games_is_fit : (games : Option Items) → IsFitPlanIfRead (plan_of_games games)
-plan_of_games_is_fit None = tt
-plan_of_games_is_fit (Some games) = plan_of_rows_is_fit (each row_from games) (each_is_fit games)
+plan_of_games_is_fit : (version : Option Version) (games : Option Items) → IsFitPlanIfRead (plan_of_games version games)
+plan_of_games_is_fit (Some version) (Some games) = plan_of_rows_is_fit version (each row_from games) (each_is_fit games)
+plan_of_games_is_fit (Some version) None = tt
+plan_of_games_is_fit None games = tt
 
 plan_from_is_fit : (d : Option Data) → IsFitPlanIfRead (plan_from d)
 plan_from_is_fit None = tt
-plan_from_is_fit (Some d) = elim (cases_Bool (is_known_version (get (codes "version") d))) [
-  | inl known ↦ rw known (plan_of_games_is_fit (get (codes "games") d >>= as_array))
-  | inr unknown ↦ rw unknown tt
-]
+plan_from_is_fit (Some d) = plan_of_games_is_fit (version_of (get (codes "version") d)) (get (codes "games") d >>= as_array)
 
 plan_line_is_fit : (line : List ℕ) → IsFitPlanIfRead (plan_line_of line)
 unfolding plan_line_of

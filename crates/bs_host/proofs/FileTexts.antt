@@ -9,7 +9,7 @@ use Rattle.bs_json.specs.PlanLine.{plan_line_of}
 use Rattle.bs_sched.specs.Core.{CoreView}
 use Rattle.bs_host.specs.declared.fault.Fault.TheVariants.{TooLong}
 use Rattle.bs_host.specs.declared.limits.TheConstants.{MOST_FILE_BYTES}
-use Rattle.bs_host.specs.File.{pieces_of, first_piece, later_pieces, plan_of, rows_in}
+use Rattle.bs_host.specs.File.{pieces_of, first_piece, later_pieces, plan_in, plan_of, rows_in}
 use Rattle.bs_host.specs.Hosted.{Hosts, HostsLines}
 use Rattle.bs_host.specs.Routing.{routes_from, strays_in, strays_of}
 use Rattle.bs_host.specs.Faults.{refusal_of, refusal_of_plan}
@@ -34,35 +34,35 @@ refusal_of_read blocks file first rest plan short pieces read =
 
 -- from the plan and the pieces behind it
 abbrev HostsFrom : ℕ → Result Plan PlanFault → List (List ℕ) → CoreView → Type 0
-HostsFrom blocks plan pieces = HostsLines blocks (rows_in plan) (routes_from (rows_in plan) 2 pieces)
+HostsFrom blocks plan pieces = HostsLines blocks (rows_in plan) (routes_from (plan_in plan) 2 pieces)
 
 pub hosts_first : (blocks : ℕ) (file first : List ℕ) (rest : List (List ℕ)) (plan : Plan) (core : CoreView) → pieces_of file ≡ first ∷ rest
-    → plan_line_of first ≡ Ok plan → HostsLines blocks plan.rows (routes_from plan.rows 2 rest) core → Hosts blocks file core
+    → plan_line_of first ≡ Ok plan → HostsLines blocks plan.rows (routes_from plan 2 rest) core → Hosts blocks file core
 hosts_first blocks file first rest plan core pieces read hosts =
     let one : HostsFrom blocks (plan_line_of first) rest core = subst (λ found. HostsFrom blocks found rest core) (sym read) hosts in
     subst (λ all. HostsFrom blocks (plan_line_of (first_piece all)) (later_pieces all) core) (sym pieces) one
 
 abbrev strays_from : Result Plan PlanFault → List (List ℕ) → List (ℕ × Stray)
-strays_from plan pieces = strays_in (routes_from (rows_in plan) 2 pieces)
+strays_from plan pieces = strays_in (routes_from (plan_in plan) 2 pieces)
 
 pub strays_of_first : (file first : List ℕ) (rest : List (List ℕ)) (plan : Plan) → pieces_of file ≡ first ∷ rest → plan_line_of first ≡ Ok plan
-    → strays_in (routes_from plan.rows 2 rest) ≡ strays_of file
+    → strays_in (routes_from plan 2 rest) ≡ strays_of file
 strays_of_first file first rest plan pieces read =
     ap (λ found. strays_from found rest) (sym read)
     ∙ ap (λ all. strays_from (plan_line_of (first_piece all)) (later_pieces all)) (sym pieces)
 
 -- what a core tells that hosts the file's lines is the file's transcript
 pub text_of_first : (blocks : ℕ) (file first : List ℕ) (rest : List (List ℕ)) (plan : Plan) (core : CoreView) (text : List ℕ) → pieces_of file ≡ first ∷ rest
-    → plan_line_of first ≡ Ok plan → HostsLines blocks plan.rows (routes_from plan.rows 2 rest) core → length core.games.lanes ≡ length core.games.rows
-    → text ≡ core_text_of core (strays_in (routes_from plan.rows 2 rest)) → text ≡ transcript_of file
+    → plan_line_of first ≡ Ok plan → HostsLines blocks plan.rows (routes_from plan 2 rest) core → length core.games.lanes ≡ length core.games.rows
+    → text ≡ core_text_of core (strays_in (routes_from plan 2 rest)) → text ≡ transcript_of file
 text_of_first blocks file first rest plan core text pieces read hosts lanes is =
-    is ∙ transcript_of_core blocks file core (strays_in (routes_from plan.rows 2 rest)) (hosts_first blocks file first rest plan core pieces read hosts) lanes
+    is ∙ transcript_of_core blocks file core (strays_in (routes_from plan 2 rest)) (hosts_first blocks file first rest plan core pieces read hosts) lanes
     (strays_of_first file first rest plan pieces read)
 
 pub text_if_ok : {X E : Type 0} (core_of : X → CoreView) (text_in : X → List ℕ) (hosted : Result X E) (blocks : ℕ) (file first : List ℕ) (rest : List (List ℕ)) (plan : Plan)
-    → pieces_of file ≡ first ∷ rest → plan_line_of first ≡ Ok plan → IfOk hosted (λ h. HostsLines blocks plan.rows (routes_from plan.rows 2 rest) (core_of h))
+    → pieces_of file ≡ first ∷ rest → plan_line_of first ≡ Ok plan → IfOk hosted (λ h. HostsLines blocks plan.rows (routes_from plan 2 rest) (core_of h))
     → IfOk hosted (λ h. length (core_of h).games.lanes ≡ length (core_of h).games.rows)
-    → IfOk hosted (λ h. text_in h ≡ core_text_of (core_of h) (strays_in (routes_from plan.rows 2 rest))) → IfOk hosted (λ h. text_in h ≡ transcript_of file)
+    → IfOk hosted (λ h. text_in h ≡ core_text_of (core_of h) (strays_in (routes_from plan 2 rest))) → IfOk hosted (λ h. text_in h ≡ transcript_of file)
 text_if_ok core_of text_in (Ok h) blocks file first rest plan pieces read hosts lanes is =
     text_of_first blocks file first rest plan (core_of h) (text_in h) pieces read hosts lanes is
 text_if_ok core_of text_in (Err e) blocks file first rest plan pieces read hosts lanes is = tt

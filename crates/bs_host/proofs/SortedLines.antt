@@ -5,7 +5,7 @@ use Rattle.std.specs.Borrow.{Bor}
 use Rattle.std.specs.List.{cons_option}
 use Rattle.std.proofs.lemmas.List.Elements.{All-push}
 use Rattle.bs_board.specs.declared.commands.command.Command.{Command}
-use Rattle.bs_board.specs.plans.Plan.{GameRow}
+use Rattle.bs_board.specs.declared.plans.plan.Plan.{Plan}
 use Rattle.bs_json.specs.declared.line.Stray.{Stray}
 use Rattle.bs_json.specs.Line.{line_of}
 use Rattle.bs_host.specs.declared.requests.Requests.{Requests}
@@ -45,9 +45,9 @@ stays_within many number (route.Game row command) old new inside handed within =
 stays_within many number (route.Stray kind) old new inside handed within = rw (handed.commands, append-nil old.commands) within
 stays_within many number route.Nowhere old new inside handed within = rw (handed.commands, append-nil old.commands) within
 
-pub begins : (rows : List GameRow) (first : ℕ) (pieces : List (List ℕ)) (r : Requests) → r.commands ≡ [] → r.strays ≡ []
-    → IsUnderWay rows (routes_from rows first pieces) first pieces r
-begins rows first pieces r commands strays = record {
+pub begins : (plan : Plan) (first : ℕ) (pieces : List (List ℕ)) (r : Requests) → r.commands ≡ [] → r.strays ≡ []
+    → IsUnderWay plan (routes_from plan first pieces) first pieces r
+begins plan first pieces r commands strays = record {
   commands = rw commands refl;
   strays = rw strays refl;
   within = rw commands (λ k d within. absurd (omega arith));
@@ -62,41 +62,41 @@ moves_on : {X : Type 0} (before after : List X) (first : Option X) (rest : List 
     → after ++ rest ≡ before ++ cons_option first rest
 moves_on before after first rest is = rw (is, cons_is_append first rest) (append_assoc before (option_to_list first) rest)
 
-pub goes_on : (rows : List GameRow) (all : List (ℕ × Route)) (number : ℕ) (left : List (List ℕ)) (piece : List ℕ) (rest : List (List ℕ)) (goes : Route)
-    (old new : Requests) → left ≡ piece ∷ rest → goes ≡ route_of rows (line_of piece) → IsWithinPlan (length rows) goes → HandsOn number goes old new
-    → IsUnderWay rows all number left old → IsUnderWay rows all (number + 1) rest new
-goes_on rows all number left piece rest goes old new is to inside handed way =
+pub goes_on : (plan : Plan) (all : List (ℕ × Route)) (number : ℕ) (left : List (List ℕ)) (piece : List ℕ) (rest : List (List ℕ)) (goes : Route)
+    (old new : Requests) → left ≡ piece ∷ rest → goes ≡ route_of plan.rows (line_of plan.version piece) → IsWithinPlan (length plan.rows) goes → HandsOn number goes old new
+    → IsUnderWay plan all number left old → IsUnderWay plan all (number + 1) rest new
+goes_on plan all number left piece rest goes old new is to inside handed way =
     let step = rw to at handed in
     let commands = rw is at way.commands in
     let strays = rw is at way.strays in
     record {
       commands =
-          moves_on old.commands new.commands (command_by_row (route_of rows (line_of piece))) (commands_by_row (routes_from rows (number + 1) rest)) step.commands
+          moves_on old.commands new.commands (command_by_row (route_of plan.rows (line_of plan.version piece))) (commands_by_row (routes_from plan (number + 1) rest)) step.commands
           ∙ commands;
       strays =
-          moves_on old.strays new.strays (numbered_stray (number, route_of rows (line_of piece))) (strays_in (routes_from rows (number + 1) rest)) step.strays
+          moves_on old.strays new.strays (numbered_stray (number, route_of plan.rows (line_of plan.version piece))) (strays_in (routes_from plan (number + 1) rest)) step.strays
           ∙ strays;
-      within = stays_within (length rows) number goes old new inside handed way.within;
+      within = stays_within (length plan.rows) number goes old new inside handed way.within;
     }
 
-pub ends : (rows : List GameRow) (all : List (ℕ × Route)) (number : ℕ) (left : List (List ℕ)) (r : Requests) → left ≡ []
-    → IsUnderWay rows all number left r → r ≡ requests_of all
-ends rows all number left r none way =
+pub ends : (plan : Plan) (all : List (ℕ × Route)) (number : ℕ) (left : List (List ℕ)) (r : Requests) → left ≡ []
+    → IsUnderWay plan all number left r → r ≡ requests_of all
+ends plan all number left r none way =
     let commands : r.commands ++ [] ≡ commands_by_row all = rw none at way.commands in
     let strays : r.strays ++ [] ≡ strays_in all = rw none at way.strays in
     let one : r.commands ≡ commands_by_row all = sym (append-nil r.commands) ∙ commands in
     let two : r.strays ≡ strays_in all = sym (append-nil r.strays) ∙ strays in
     rw (← one, ← two) refl
 
-pub within_way : (rows : List GameRow) (all : List (ℕ × Route)) (number : ℕ) (left : List (List ℕ)) (r : Requests) → IsUnderWay rows all number left r
-    → AreWithinPlan (length rows) r.commands
-within_way rows all number left r way = way.within
+pub within_way : (plan : Plan) (all : List (ℕ × Route)) (number : ℕ) (left : List (List ℕ)) (r : Requests) → IsUnderWay plan all number left r
+    → AreWithinPlan (length plan.rows) r.commands
+within_way plan all number left r way = way.within
 
 -- those that were left bring the rest
-pub ends_with : (rows : List GameRow) (all : List (ℕ × Route)) (number : ℕ) (left : List (List ℕ)) (old rest new : Requests)
-    → IsUnderWay rows all number left old → rest ≡ requests_of (routes_from rows number left) → new.commands ≡ old.commands ++ rest.commands
+pub ends_with : (plan : Plan) (all : List (ℕ × Route)) (number : ℕ) (left : List (List ℕ)) (old rest new : Requests)
+    → IsUnderWay plan all number left old → rest ≡ requests_of (routes_from plan number left) → new.commands ≡ old.commands ++ rest.commands
     → new.strays ≡ old.strays ++ rest.strays → new ≡ requests_of all
-ends_with rows all number left old rest new way is commands strays =
+ends_with plan all number left old rest new way is commands strays =
     let one : new.commands ≡ commands_by_row all = commands ∙ ap (λ (q : Requests). old.commands ++ q.commands) is ∙ way.commands in
     let two : new.strays ≡ strays_in all = strays ∙ ap (λ (q : Requests). old.strays ++ q.strays) is ∙ way.strays in
     rw (← one, ← two) refl

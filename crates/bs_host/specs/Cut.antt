@@ -5,6 +5,8 @@ use Rattle.serde_json.specs.Data.{Data, string, array}
 use Rattle.serde_json.specs.View.{items_of}
 use Rattle.serde_json.specs.Written.{compact_text}
 use Rattle.bs_board.specs.declared.plans.plan.Plan.{Plan}
+use Rattle.bs_board.specs.declared.plans.version.Version.{Version}
+use Rattle.bs_board.specs.declared.plans.version.Version.TheVariants.{One, Two}
 use Rattle.bs_board.specs.plans.Plan.{GameRow, row_of}
 use Rattle.bs_json.specs.declared.plan.PlanFault.{PlanFault}
 use Rattle.bs_json.specs.declared.plan.PlanFault.TheVariants as plan
@@ -16,29 +18,34 @@ use Rattle.bs_host.specs.declared.cut_fault.Cut.TheVariants.{TooLong, Plan as Of
 use Rattle.bs_host.specs.declared.fault.PlanRefusal.TheVariants as refusal
 use Rattle.bs_host.specs.declared.limits.TheConstants.{BLOCK_BYTES, MOST_FILE_BYTES}
 use Rattle.bs_host.specs.declared.pieces.TheConstants.{LINE_FEED}
-use Rattle.bs_host.specs.File.{pieces_of, later_pieces, plan_of, rows_of}
+use Rattle.bs_host.specs.File.{pieces_of, later_pieces, plan_in, plan_of, rows_of, version_of}
 use Rattle.bs_host.specs.Routing.{command_to, commands_of, route_of, row_named}
 use Rattle.bs_host.specs.Transcript.{section_of, transcript_of}
 
 abbrev pub row_data : GameRow → Data
 row_data row = object_of ((codes "game", string row.game) ∷ (codes "quota", whole_data row.quota) ∷ [])
 
--- the plan that has this game alone
-unfoldable pub lone_plan_data : GameRow → Data
-lone_plan_data row = object_of ((codes "games", array (items_of (row_data row ∷ []))) ∷ [])
+-- version 1 is left out
+abbrev pub version_members : Version → List (List ℕ × Data)
+version_members One = []
+version_members Two = (codes "version", whole_data 2) ∷ []
 
-abbrev pub lone_plan_of : GameRow → List ℕ
-lone_plan_of row = compact_text (lone_plan_data row)
+-- the plan of that version that has this game alone
+unfoldable pub lone_plan_data : Version → GameRow → Data
+lone_plan_data version row = object_of ((codes "games", array (items_of (row_data row ∷ []))) ∷ version_members version)
 
-abbrev pub is_own_line : List GameRow → ℕ → List ℕ → Bool
-is_own_line rows row line = is_some (command_to row (route_of rows (line_of line)))
+abbrev pub lone_plan_of : Version → GameRow → List ℕ
+lone_plan_of version row = compact_text (lone_plan_data version row)
+
+abbrev pub is_own_line : Plan → ℕ → List ℕ → Bool
+is_own_line plan row line = is_some (command_to row (route_of plan.rows (line_of plan.version line)))
 
 -- the lines that go to the game of that row, as they stand
-abbrev pub own_lines_in : List GameRow → ℕ → List (List ℕ) → List (List ℕ)
-own_lines_in rows row = filter (is_own_line rows row)
+abbrev pub own_lines_in : Plan → ℕ → List (List ℕ) → List (List ℕ)
+own_lines_in plan row = filter (is_own_line plan row)
 
 abbrev pub own_lines_of : List ℕ → ℕ → List (List ℕ)
-own_lines_of file row = own_lines_in (rows_of file) row (later_pieces (pieces_of file))
+own_lines_of file row = own_lines_in (plan_in (plan_of file)) row (later_pieces (pieces_of file))
 
 -- of a row that the plan has
 abbrev pub game_at : List GameRow → ℕ → GameRow
@@ -46,7 +53,7 @@ game_at rows row = slice_index_or rows row (row_of [] 0)
 
 -- The file of the game of that row alone: its plan and its lines, with a line feed between any two of them.
 unfoldable pub cut_of : List ℕ → ℕ → List ℕ
-cut_of file row = join_with_byte LINE_FEED (lone_plan_of (game_at (rows_of file) row) ∷ own_lines_of file row)
+cut_of file row = join_with_byte LINE_FEED (lone_plan_of (version_of file) (game_at (rows_of file) row) ∷ own_lines_of file row)
 
 -- the same, one line after the other
 abbrev pub behind_feeds : List (List ℕ) → List ℕ
@@ -54,8 +61,8 @@ behind_feeds = flat_map (λ line. LINE_FEED ∷ line)
 
 -- What serving that file comes to.
 pub record IsServedAlone (file : List ℕ) (row : ℕ) (game : GameRow) : Type 0 where
-  -- its plan is that game's row
-  pub plan : plan_of (cut_of file row) ≡ Ok (record { rows = game ∷ [] })
+  -- its plan is that game's row, in the file's version
+  pub plan : plan_of (cut_of file row) ≡ Ok (record { rows = game ∷ []; version = version_of file })
   -- its transcript is the game's section of the whole file's transcript, and nothing else
   pub text : transcript_of (cut_of file row) ≡ section_of game (commands_of file row)
   pub size : length (cut_of file row) ≤ length file + 512

@@ -2,6 +2,8 @@
 use Rattle.std.specs.Prelude.{ℕ, ◌==◌, List, [], ◌∷◌, Option, Some, None, Result, Ok, Err}
 use Rattle.std.specs.List.{slice_split}
 use Rattle.bs_board.specs.declared.plans.plan.Plan.{Plan}
+use Rattle.bs_board.specs.declared.plans.version.Version.{Version}
+use Rattle.bs_board.specs.declared.plans.version.Version.TheVariants.{One}
 use Rattle.bs_board.specs.plans.Plan.{GameRow}
 use Rattle.bs_json.specs.declared.plan.PlanFault.{PlanFault}
 use Rattle.bs_json.specs.PlanLine.{plan_line_of}
@@ -29,10 +31,17 @@ later_pieces (first ∷ rest) = rest
 abbrev pub plan_of : List ℕ → Result Plan PlanFault
 plan_of file = plan_line_of (first_piece (pieces_of file))
 
+-- where there is no plan, the lines are read as with one of version 1 that has no games
+abbrev pub plan_in : Result Plan PlanFault → Plan
+plan_in (Ok plan) = plan
+plan_in (Err fault) = record { rows = []; version = One }
+
 abbrev pub rows_in : Result Plan PlanFault → List GameRow
-rows_in (Ok plan) = plan.rows
-rows_in (Err fault) = []
+rows_in plan = (plan_in plan).rows
 
 -- the games of the file, none where it has no plan
 abbrev pub rows_of : List ℕ → List GameRow
 rows_of file = rows_in (plan_of file)
+
+abbrev pub version_of : List ℕ → Version
+version_of file = (plan_in (plan_of file)).version

@@ -2,7 +2,7 @@
 use Rattle.std.specs.Prelude.{◌≡◌, ℕ, ◌<◌, List, ◌++◌, All, Option, Some, None, option_to_list}
 use Rattle.std.specs.List.{filter_map}
 use Rattle.bs_board.specs.declared.commands.command.Command.{Command}
-use Rattle.bs_board.specs.plans.Plan.{GameRow}
+use Rattle.bs_board.specs.declared.plans.plan.Plan.{Plan}
 use Rattle.bs_host.specs.File.{pieces_of}
 use Rattle.bs_host.specs.declared.requests.Requests.{Requests}
 use Rattle.bs_host.specs.declared.routing.Route.{Route}
@@ -23,8 +23,8 @@ abbrev pub requests_of : List (ℕ × Route) → Requests
 requests_of routes = record { commands = commands_by_row routes; strays = strays_in routes }
 
 -- what the lines of a text ask for, of which the first has that number
-abbrev pub requests_in : List GameRow → ℕ → List ℕ → Requests
-requests_in rows first text = requests_of (routes_from rows first (pieces_of text))
+abbrev pub requests_in : Plan → ℕ → List ℕ → Requests
+requests_in plan first text = requests_of (routes_from plan first (pieces_of text))
 
 -- each command is for a game of a plan of so many rows
 abbrev pub AreWithinPlan : ℕ → List (ℕ × Command) → Type 0

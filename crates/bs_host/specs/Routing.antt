@@ -3,6 +3,7 @@ use Rattle.std.specs.Prelude.{◌≡◌, ℕ, ◌<◌, true, List, [], length, O
 use Rattle.std.specs.List.{enumerate_from, filter_map, position}
 use Rattle.bs_board.specs.declared.commands.command.Command.{Command}
 use Rattle.bs_board.specs.declared.commands.command.Command.TheVariants as command
+use Rattle.bs_board.specs.declared.plans.plan.Plan.{Plan}
 use Rattle.bs_board.specs.plans.Plan.{GameRow, row_of}
 use Rattle.bs_board.specs.Texts.{is_same_text}
 use Rattle.bs_json.specs.declared.line.Line.{Line}
@@ -12,7 +13,7 @@ use Rattle.bs_json.specs.declared.line.Stray.TheVariants as stray
 use Rattle.bs_json.specs.Line.{line_of}
 use Rattle.bs_host.specs.declared.routing.Route.{Route}
 use Rattle.bs_host.specs.declared.routing.Route.TheVariants as route
-use Rattle.bs_host.specs.File.{pieces_of, later_pieces, rows_of}
+use Rattle.bs_host.specs.File.{pieces_of, later_pieces, plan_in, plan_of}
 
 -- the row of the game of that name, if the plan has one
 abbrev pub row_named : List GameRow → List ℕ → Option ℕ
@@ -34,13 +35,14 @@ route_of rows (line.Command game command) = route_to (row_named rows game) comma
 route_of rows (line.Bad game) = route_to (row_named rows game) command.Bad
 route_of rows (line.Stray kind) = route.Stray kind
 
--- the lines that stand in a file from that number on, with their numbers
-abbrev pub routes_from : List GameRow → ℕ → List (List ℕ) → List (ℕ × Route)
-routes_from rows number pieces = map (λ piece. (piece.0, route_of rows (line_of piece.1))) (enumerate_from number pieces)
+-- the lines of a file from that number on, with their numbers
+abbrev pub routes_from : Plan → ℕ → List (List ℕ) → List (ℕ × Route)
+routes_from plan number pieces =
+    map (λ piece. (piece.0, route_of plan.rows (line_of plan.version piece.1))) (enumerate_from number pieces)
 
 -- lines are counted from 1, and the first is the plan
 abbrev pub routes_of : List ℕ → List (ℕ × Route)
-routes_of file = routes_from (rows_of file) 2 (later_pieces (pieces_of file))
+routes_of file = routes_from (plan_in (plan_of file)) 2 (later_pieces (pieces_of file))
 
 -- what a line asks of the game of that row
 abbrev pub command_to : ℕ → Route → Option Command

@@ -40,6 +40,18 @@ const LOOSE_FIRST: &str = r#"{"games":[{"game":"a\n","quota":16}]}
   {"game" : "\u0061\u000a", "do" : "show" } 
 {"game":"a\n","do":"end"}"#;
 
+// The cut of a file of version 2 is of version 2, however its plan is written.
+const VERSION_TWO: &str =
+    r#"{"version":2, "games":[{"game":"a","quota":64},{"game":"b","quota":4096}]}
+{"game":"b","do":"new","mode":"wrapped","width":5,"height":5,"snakes":[{"id":"s","x":3,"y":1},{"id":"t","x":3,"y":3}],"food":[],"min_food":0,"food_chance":0}
+{"game":"a","do":"show"}
+{"game":"b","do":"move","moves":{"s":"right"}}
+"#;
+
+const VERSION_TWO_SECOND: &str = r#"{"games":[{"game":"b","quota":4096}],"version":2}
+{"game":"b","do":"new","mode":"wrapped","width":5,"height":5,"snakes":[{"id":"s","x":3,"y":1},{"id":"t","x":3,"y":3}],"food":[],"min_food":0,"food_chance":0}
+{"game":"b","do":"move","moves":{"s":"right"}}"#;
+
 // The cut, or the fault.
 fn outcome(alloc: Global, file: &[u8], game: &str) -> Result<Vec<u8>, AllocError> {
     match cut(alloc, file, game) {
@@ -56,6 +68,8 @@ fn files_and_their_cuts(rt: HostRuntime) -> Result<(), Fail> {
         (TWO_GAMES, "b", SECOND_GAME),
         (FIRST_GAME, "a", FIRST_GAME),
         (LOOSE, "a\n", LOOSE_FIRST),
+        (VERSION_TWO, "b", VERSION_TWO_SECOND),
+        (VERSION_TWO_SECOND, "b", VERSION_TWO_SECOND),
         (LOOSE, "b", r#"{"games":[{"game":"b","quota":17}]}"#),
         (TWO_GAMES, "c", "no such game"),
         (TWO_GAMES, "", "no such game"),

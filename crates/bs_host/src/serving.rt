@@ -16,7 +16,7 @@ use crate::pieces::cut_piece;
 use crate::requests::Requests;
 use crate::sections::compare_and_tell;
 use crate::sorting::{Readers, sort_lines};
-use bs_board::{Plan, Rows};
+use bs_board::Plan;
 use bs_json::read_plan;
 use bs_sched::Core;
 use bs_transcript::{Parts, write_parts};
@@ -78,16 +78,16 @@ fn count_readers(threads: usize) -> usize {
 fn read_and_work<R: Threads + Wait + Sync, G: Gate>(
     rt: &R,
     alloc: Global,
-    rows: &Rows,
+    plan: &Plan,
     text: &[u8],
     threads: usize,
     readers: &Readers,
     gate: &G,
 ) -> Result<Requests, AllocError>
     requires short { length text.now ≤ MOST_FILE_BYTES }
-    ensures { IfOk result (λ r. r ≡ requests_in rows.now 2 text.now) }
+    ensures { IfOk result (λ r. r ≡ requests_in plan.now 2 text.now) }
 {
-    let requests = sort_lines(rt, alloc, rows, text, readers);
+    let requests = sort_lines(rt, alloc, plan, text, readers);
     let shop = readers.shop();
     if requests.is_err() {
         shop.stop(rt, Run::Memory);
@@ -103,17 +103,17 @@ fn read_and_work<R: Threads + Wait + Sync, G: Gate>(
 fn read_beside_others<R: Threads + Wait + Sync, G: Gate>(
     rt: &R,
     alloc: Global,
-    rows: &Rows,
+    plan: &Plan,
     text: &[u8],
     threads: usize,
     readers: &Readers,
     gate: &G,
 ) -> Result<Requests, AllocError>
     requires short { length text.now ≤ MOST_FILE_BYTES }
-    ensures { IfOk result (λ r. r ≡ requests_in rows.now 2 text.now) }
+    ensures { IfOk result (λ r. r ≡ requests_in plan.now 2 text.now) }
 {
     if threads <= 1 {
-        return read_and_work(rt, alloc, rows, text, threads, readers, gate);
+        return read_and_work(rt, alloc, plan, text, threads, readers, gate);
     }
     let (_, requests) = join(
         rt,
@@ -123,8 +123,8 @@ fn read_beside_others<R: Threads + Wait + Sync, G: Gate>(
         },
         || -> Result<Requests, AllocError>
             requires { IsSync R.row × (length text.now ≤ MOST_FILE_BYTES) }
-            ensures { IfOk result (λ r. r ≡ requests_in rows.entry.now 2 text.entry.now) }
-        { read_and_work(rt, alloc, rows, text, threads, readers, gate) },
+            ensures { IfOk result (λ r. r ≡ requests_in plan.entry.now 2 text.entry.now) }
+        { read_and_work(rt, alloc, plan, text, threads, readers, gate) },
     );
     requests
 }
@@ -133,21 +133,21 @@ fn read_beside_others<R: Threads + Wait + Sync, G: Gate>(
 fn read_all<R: Threads + Wait + Sync, G: Gate>(
     rt: &R,
     alloc: Global,
-    rows: &Rows,
+    plan: &Plan,
     rest: Option<&[u8]>,
     threads: usize,
     readers: &Readers,
     gate: &G,
 ) -> Result<Requests, AllocError>
     requires short { IfSome rest (λ text. length text.now ≤ MOST_FILE_BYTES) }
-    ensures { IfOk result (λ r. r ≡ requests_of (routes_from rows.now 2 (pieces_after (option_copied rest.entry)))) }
+    ensures { IfOk result (λ r. r ≡ requests_of (routes_from plan.now 2 (pieces_after (option_copied rest.entry)))) }
 {
     match rest {
         None => {
             readers.shop().close(rt);
             Ok(Requests::new(alloc))
         }
-        Some(text) => read_beside_others(rt, alloc, rows, text, threads, readers, gate),
+        Some(text) => read_beside_others(rt, alloc, plan, text, threads, readers, gate),
     }
 }
 
@@ -164,21 +164,21 @@ fn host_plan<R: Threads + Wait + Sync, G: Gate>(
 ) -> Result<Hosted, Fault>
     requires short { IfSome rest (λ text. length text.now ≤ MOST_FILE_BYTES) }
     ensures core { IfOk result
-        (λ hosted. HostsLines blocks plan.rows (routes_from plan.rows 2 (pieces_after (option_copied rest.entry))) hosted.core) }
+        (λ hosted. HostsLines blocks plan.rows (routes_from plan 2 (pieces_after (option_copied rest.entry))) hosted.core) }
     ensures text { IfOk result
-        (λ hosted. hosted.text ≡ core_text_of hosted.core (strays_in (routes_from plan.rows 2 (pieces_after (option_copied rest.entry))))) }
+        (λ hosted. hosted.text ≡ core_text_of hosted.core (strays_in (routes_from plan 2 (pieces_after (option_copied rest.entry))))) }
     ensures lanes { IfOk result (λ hosted. length hosted.core.games.lanes ≡ length hosted.core.games.rows) }
     ensures served { OnOk result (refusal_of_plan blocks (Ok plan) ≡ None) }
     ensures fault { IfErr result (IsRefusal (refusal_of_plan blocks (Ok plan))) }
 {
-    let rows = plan.rows.copy(alloc)?;
-    let crew = crew_size(rows.as_slice().len(), workers);
+    let lines_plan = plan.copy(alloc)?;
+    let crew = crew_size(lines_plan.rows.as_slice().len(), workers);
     let members = count_workers(workers, crew)?;
     let core = open_core(alloc, plan, blocks, members)?;
     let given = Given::of(alloc, &core)?;
     let shop = Shop::new(alloc, core, workers, crew)?;
     let readers = Readers::new(count_readers(workers), shop);
-    let requests = read_all(rt, alloc, &rows, rest, workers, &readers, gate)?;
+    let requests = read_all(rt, alloc, &lines_plan, rest, workers, &readers, gate)?;
     let core = readers.into_shop().finish(rt, alloc, gate)?;
     let (is_run, text) = compare_and_tell(rt, alloc, given, &core, requests, workers);
     if is_run {

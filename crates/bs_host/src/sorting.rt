@@ -11,7 +11,7 @@ use crate::limits::{BLOCK_BYTES, MOST_FILE_BYTES};
 use crate::pieces::{count_pieces, cut_from, cut_piece};
 use crate::requests::{Commands, Requests};
 use crate::routing::{FIRST_ROW, next_guess, route_of};
-use bs_board::Rows;
+use bs_board::Plan;
 use bs_json::read_line;
 use bs_transcript::SpareThreads;
 use bs_workers::Shop;
@@ -88,7 +88,7 @@ fn hand_in<R: Wait>(
 fn sort_alone<'t, R: Wait>(
     rt: &R,
     alloc: Global,
-    rows: &Rows,
+    plan: &Plan,
     first: u64,
     text: &'t [u8],
     spare: Option<&SpareThreads>,
@@ -96,7 +96,7 @@ fn sort_alone<'t, R: Wait>(
 ) -> Result<(Requests, u64, Option<&'t [u8]>), AllocError>
     requires short { first + length text.now < 2 ^ 63 }
     ensures way { IfOk result
-        (λ s. IsUnderWay rows.now (routes_from rows.now first (pieces_of text.now)) s.1 (pieces_after (option_copied s.2)) s.0) }
+        (λ s. IsUnderWay plan.now (routes_from plan.now first (pieces_of text.now)) s.1 (pieces_after (option_copied s.2)) s.0) }
     ensures short { IfOk result (λ s. IfSome s.2 (λ rest. s.1 + length rest.now < 2 ^ 63)) }
     ensures shorter { IfOk result (λ s. IfSome s.2 (λ rest. length rest.now ≤ length text.now)) }
     ensures all { IfOk result (λ s. spare.entry ≡ None → s.2 ≡ None) }
@@ -116,8 +116,8 @@ fn sort_alone<'t, R: Wait>(
             }
         }
         let (piece, more) = cut_piece(text);
-        let line = read_line(alloc, piece)?;
-        let route = route_of(rows, guess, line);
+        let line = read_line(alloc, piece, plan.version)?;
+        let route = route_of(&plan.rows, guess, line);
         guess = next_guess(&route, guess);
         requests.hand_on(alloc, number, route)?;
         number += 1;
@@ -132,16 +132,16 @@ fn sort_alone<'t, R: Wait>(
 fn sort_in_turn<R: Wait>(
     rt: &R,
     alloc: Global,
-    rows: &Rows,
+    plan: &Plan,
     first: u64,
     text: &[u8],
     shop: Option<&Shop<BLOCK_BYTES>>,
 ) -> Result<Requests, AllocError>
     requires short { first + length text.now < 2 ^ 63 }
-    ensures value { IfOk result (λ r. r ≡ requests_in rows.now first text.now) }
-    ensures within { IfOk result (λ r. AreWithinPlan (length rows.now) r.commands) }
+    ensures value { IfOk result (λ r. r ≡ requests_in plan.now first text.now) }
+    ensures within { IfOk result (λ r. AreWithinPlan (length plan.now.rows) r.commands) }
 {
-    let (requests, _, _) = sort_alone(rt, alloc, rows, first, text, None, shop)?;
+    let (requests, _, _) = sort_alone(rt, alloc, plan, first, text, None, shop)?;
     Ok(requests)
 }
 
@@ -151,20 +151,20 @@ fn sort_in_turn<R: Wait>(
 fn sort_halves<R: Threads + Wait + Sync>(
     rt: &R,
     alloc: Global,
-    rows: &Rows,
+    plan: &Plan,
     first: u64,
     text: &[u8],
     readers: &Readers,
     hands_in: bool,
 ) -> Result<Requests, AllocError>
     requires short { first + length text.now < 2 ^ 63 }
-    ensures value { IfOk result (λ r. r ≡ requests_in rows.now first text.now) }
-    ensures within { IfOk result (λ r. AreWithinPlan (length rows.now) r.commands) }
+    ensures value { IfOk result (λ r. r ≡ requests_in plan.now first text.now) }
+    ensures within { IfOk result (λ r. AreWithinPlan (length plan.now.rows) r.commands) }
 {
     let Some((front, back)) = cut_from(text, text.len() / 2) else {
         // The second half is one line.
         readers.spare.give_back();
-        return sort_in_turn(rt, alloc, rows, first, text, readers.counter(hands_in));
+        return sort_in_turn(rt, alloc, plan, first, text, readers.counter(hands_in));
     };
     let second = first + count_pieces(front);
     let (requests, later) = join(
@@ -172,13 +172,13 @@ fn sort_halves<R: Threads + Wait + Sync>(
         || -> Result<Requests, AllocError>
             requires { IsSync R.row × (first + length front.now < 2 ^ 63) }
             ensures { IfOk result
-                (λ r. (r ≡ requests_in rows.entry.now first front.entry.now) × AreWithinPlan (length rows.entry.now) r.commands) }
-        { sort_text(rt, alloc, rows, first, front, readers, hands_in) },
+                (λ r. (r ≡ requests_in plan.entry.now first front.entry.now) × AreWithinPlan (length plan.entry.now.rows) r.commands) }
+        { sort_text(rt, alloc, plan, first, front, readers, hands_in) },
         || -> Result<Requests, AllocError>
             requires { IsSync R.row × (second + length back.now < 2 ^ 63) }
             ensures { IfOk result
-                (λ r. (r ≡ requests_in rows.entry.now second back.entry.now) × AreWithinPlan (length rows.entry.now) r.commands) }
-        { sort_text(rt, alloc, rows, second, back, readers, false) },
+                (λ r. (r ≡ requests_in plan.entry.now second back.entry.now) × AreWithinPlan (length plan.entry.now.rows) r.commands) }
+        { sort_text(rt, alloc, plan, second, back, readers, false) },
     );
     let mut requests = requests?;
     let later = later?;
@@ -192,21 +192,21 @@ fn sort_halves<R: Threads + Wait + Sync>(
 fn sort_text<R: Threads + Wait + Sync>(
     rt: &R,
     alloc: Global,
-    rows: &Rows,
+    plan: &Plan,
     first: u64,
     text: &[u8],
     readers: &Readers,
     hands_in: bool,
 ) -> Result<Requests, AllocError>
     requires short { first + length text.now < 2 ^ 63 }
-    ensures value { IfOk result (λ r. r ≡ requests_in rows.now first text.now) }
-    ensures within { IfOk result (λ r. AreWithinPlan (length rows.now) r.commands) }
+    ensures value { IfOk result (λ r. r ≡ requests_in plan.now first text.now) }
+    ensures within { IfOk result (λ r. AreWithinPlan (length plan.now.rows) r.commands) }
 {
     let counter = readers.counter(hands_in);
     let (mut requests, number, left) = sort_alone(
         rt,
         alloc,
-        rows,
+        plan,
         first,
         text,
         Some(&readers.spare),
@@ -216,7 +216,7 @@ fn sort_text<R: Threads + Wait + Sync>(
         readers.spare.give_back();
         return Ok(requests);
     };
-    requests.append(sort_halves(rt, alloc, rows, number, text, readers, hands_in)?)?;
+    requests.append(sort_halves(rt, alloc, plan, number, text, readers, hands_in)?)?;
     Ok(requests)
 }
 
@@ -224,13 +224,13 @@ fn sort_text<R: Threads + Wait + Sync>(
 pub(crate) fn sort_lines<R: Threads + Wait + Sync>(
     rt: &R,
     alloc: Global,
-    rows: &Rows,
+    plan: &Plan,
     text: &[u8],
     readers: &Readers,
 ) -> Result<Requests, AllocError>
     requires short { length text.now ≤ MOST_FILE_BYTES }
-    ensures value { IfOk result (λ r. r ≡ requests_in rows.now 2 text.now) }
-    ensures within { IfOk result (λ r. AreWithinPlan (length rows.now) r.commands) }
+    ensures value { IfOk result (λ r. r ≡ requests_in plan.now 2 text.now) }
+    ensures within { IfOk result (λ r. AreWithinPlan (length plan.now.rows) r.commands) }
 {
-    sort_text(rt, alloc, rows, 2, text, readers, true)
+    sort_text(rt, alloc, plan, 2, text, readers, true)
 }

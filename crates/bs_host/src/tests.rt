@@ -111,6 +111,52 @@ const TINY_TEXT: &str = r#"{"game":"a","no":"G7","seq":1,"why":"quota"}
 {"board":null,"charge":0,"final":true,"game":"a"}
 "#;
 
+// Two snakes that cross the right edge of a wrapped board, first by an order and then straight on.
+const WRAPPED: &str = r#"{"games":[{"game":"a","quota":4096}],"version":2}
+{"game":"a","do":"new","mode":"wrapped","width":5,"height":5,"snakes":[{"id":"s","x":3,"y":1},{"id":"t","x":3,"y":3}],"food":[],"min_food":0,"food_chance":0}
+{"game":"a","do":"move","moves":{"s":"right","t":"right"}}
+{"game":"a","do":"move","moves":{}}
+{"game":"a","do":"move","moves":{}}
+"#;
+
+const WRAPPED_TEXT: &str =
+    r#"{"board":{"food":[],"food_chance":0,"height":5,"min_food":0,"mode":"wrapped","over":false,"snakes":[{"body":[{"x":3,"y":1},{"x":3,"y":1},{"x":3,"y":1}],"by":null,"cause":null,"health":100,"id":"s","out":null},{"body":[{"x":3,"y":3},{"x":3,"y":3},{"x":3,"y":3}],"by":null,"cause":null,"health":100,"id":"t","out":null}],"turn":0,"width":5},"charge":48,"do":"new","game":"a","seq":1}
+{"board":{"food":[],"food_chance":0,"height":5,"min_food":0,"mode":"wrapped","over":false,"snakes":[{"body":[{"x":4,"y":1},{"x":3,"y":1},{"x":3,"y":1}],"by":null,"cause":null,"health":99,"id":"s","out":null},{"body":[{"x":4,"y":3},{"x":3,"y":3},{"x":3,"y":3}],"by":null,"cause":null,"health":99,"id":"t","out":null}],"turn":1,"width":5},"charge":96,"do":"move","game":"a","seq":2}
+{"board":{"food":[],"food_chance":0,"height":5,"min_food":0,"mode":"wrapped","over":false,"snakes":[{"body":[{"x":0,"y":1},{"x":4,"y":1},{"x":3,"y":1}],"by":null,"cause":null,"health":98,"id":"s","out":null},{"body":[{"x":0,"y":3},{"x":4,"y":3},{"x":3,"y":3}],"by":null,"cause":null,"health":98,"id":"t","out":null}],"turn":2,"width":5},"charge":144,"do":"move","game":"a","seq":3}
+{"board":{"food":[],"food_chance":0,"height":5,"min_food":0,"mode":"wrapped","over":false,"snakes":[{"body":[{"x":1,"y":1},{"x":0,"y":1},{"x":4,"y":1}],"by":null,"cause":null,"health":97,"id":"s","out":null},{"body":[{"x":1,"y":3},{"x":0,"y":3},{"x":4,"y":3}],"by":null,"cause":null,"health":97,"id":"t","out":null}],"turn":3,"width":5},"charge":192,"do":"move","game":"a","seq":4}
+{"board":{"food":[],"food_chance":0,"height":5,"min_food":0,"mode":"wrapped","over":false,"snakes":[{"body":[{"x":1,"y":1},{"x":0,"y":1},{"x":4,"y":1}],"by":null,"cause":null,"health":97,"id":"s","out":null},{"body":[{"x":1,"y":3},{"x":0,"y":3},{"x":4,"y":3}],"by":null,"cause":null,"health":97,"id":"t","out":null}],"turn":3,"width":5},"charge":192,"final":true,"game":"a"}
+"#;
+
+// The same lines in version 1, which has no such mode.
+const WRAPPED_TOO_EARLY_TEXT: &str = r#"{"game":"a","no":"G1","seq":1,"why":"command"}
+{"game":"a","no":"G2","seq":2,"why":"none"}
+{"game":"a","no":"G2","seq":3,"why":"none"}
+{"game":"a","no":"G2","seq":4,"why":"none"}
+{"board":null,"charge":0,"final":true,"game":"a"}
+"#;
+
+#[test]
+fn snakes_cross_an_edge_in_version_two(rt: HostRuntime) -> Result<(), Fail> {
+    let alloc = rt.alloc();
+    let (told, written) = outcome(&rt, alloc, WRAPPED.as_bytes(), 6)?;
+    assert_eq!(rt; told.as_str(), "served");
+    assert_eq!(rt; written.as_slice(), WRAPPED_TEXT.as_bytes());
+    let (_, lines) = WRAPPED.split_once('\n').ok_or("a plan")?;
+    for plan in [
+        r#"{"games":[{"game":"a","quota":4096}]}"#,
+        r#"{"games":[{"game":"a","quota":4096}],"version":1}"#,
+    ] {
+        let file = format!(in alloc; "{plan}\n{lines}")?;
+        let (told, written) = outcome(&rt, alloc, file.as_bytes(), 6)?;
+        assert_eq!(rt; told.as_str(), "served");
+        assert_eq!(rt; written.as_slice(), WRAPPED_TOO_EARLY_TEXT.as_bytes());
+    }
+    let (told, written) = outcome(&rt, alloc, br#"{"games":[],"version":2}"#, 64)?;
+    assert_eq!(rt; told.as_str(), "served");
+    assert_eq!(rt; written.len(), 0);
+    Ok(())
+}
+
 // What the file is answered, "served" or the fault, and what was written, with so many workers.
 pub(crate) fn worked<R: Threads + Wait + Sync, G: Gate>(
     rt: &R,
@@ -313,7 +359,7 @@ fn plans_are_refused(rt: HostRuntime) -> Result<(), Fail> {
     let two = r#"{"games":[{"game":"a","quota":64},{"game":"b","quota":64}]}"#;
     let large = r#"{"games":[{"game":"a","quota":16777216}]}"#;
     for (file, blocks, wanted) in [
-        (r#"{"games":[],"version":2}"#, 64, "plan P1"),
+        (r#"{"games":[],"version":3}"#, 64, "plan P1"),
         (twice, 64, "plan P2"),
         (many.as_str(), 4096, "plan P3"),
         (two, 11, "plan P4"),

@@ -1,5 +1,5 @@
 -- What a command's compact text says is read back: the line of that text is the command for its game.
-use Rattle.std.proofs.Common.{◌≡◌, ◌≤◌, ◌<◌, ◌^◌, ◌==◌, ℕ, suc, List, [], ◌∷◌, ◌++◌, All, Bool, true, false, not, nat_le, nat_lt, Some, option_and_then, IsUtf8}
+use Rattle.std.proofs.Common.{◌≡◌, ◌≤◌, ◌<◌, ◌^◌, ◌==◌, ℕ, List, [], ◌∷◌, ◌++◌, All, Bool, true, false, not, nat_le, nat_lt, Some, option_and_then, IsUtf8}
 use Rattle.std.proofs.Common.{length, codes, refl, sym, ap, ap₂, ◌∙◌, subst, arith, append_assoc, append-nil, Less, Equal, Greater}
 use Rattle.std.proofs.lemmas.Bool.{le-leb, le-ltb, leb-true}
 use Rattle.std.proofs.lemmas.Cmp.{nat_list_cmp_total}
@@ -30,6 +30,7 @@ use Rattle.bs_board.specs.Texts.{is_text_below}
 use Rattle.bs_board.proofs.Chains.{and_both}
 use Rattle.bs_json.specs.declared.limits.TheConstants.{MAX_LINE, MOST_WORD}
 use Rattle.bs_json.specs.declared.line.Line.TheVariants as line
+use Rattle.bs_board.specs.declared.plans.version.Version.{Version}
 use Rattle.bs_json.specs.Commands.{command_of}
 use Rattle.bs_json.specs.Compact.{IsCompact, are_plain, compact_text, direction_name, is_plain, moves_text, words_text}
 use Rattle.bs_json.specs.Line.{is_space, line_from, line_of}
@@ -181,19 +182,19 @@ value_reads : (text : List ℕ) (sent found : Data) → text ≡ written_as.comp
 value_reads text sent found is numbers shallow back utf8 = value_of_read text found utf8 (ap read is ∙ read_printed sent numbers shallow ∙ back)
 
 -- a line that begins as an object
-line_of_value : (text rest : List ℕ) (d : Data) → text ≡ 123 ∷ rest → length text ≤ MAX_LINE → value_of text ≡ Some d → line_of text ≡ line_from (Some d)
+line_of_value : (version : Version) (text rest : List ℕ) (d : Data) → text ≡ 123 ∷ rest → length text ≤ MAX_LINE → value_of text ≡ Some d → line_of version text ≡ line_from version (Some d)
 unfolding line_of
-line_of_value text rest d begins short value =
+line_of_value version text rest d begins short value =
     let no_space : list_all is_space text ≡ false = ap (list_all is_space) begins in
     rw (le-ltb MAX_LINE (length text) short, no_space, value) refl
 
 -- so a line that is such a text is what its data says
-line_is_from : (text game word : List ℕ) (rest : Members) (found : Data) → text ≡ line_text game word rest → are_plain game ≡ true → escape word ≡ word
+line_is_from : (version : Version) (text game word : List ℕ) (rest : Members) (found : Data) → text ≡ line_text game word rest → are_plain game ≡ true → escape word ≡ word
     → tree.MembersHaveNumbers (written_as.members_outline rest) → tree.members_depth (written_as.members_outline rest) ≤ 1
-    → of_json (written_as.outline (line_data game word rest)) ≡ Some found → IsUtf8 text → length text ≤ MAX_LINE → line_of text ≡ line_from (Some found)
-line_is_from text game word rest found is plain same numbers shallow back utf8 short =
+    → of_json (written_as.outline (line_data game word rest)) ≡ Some found → IsUtf8 text → length text ≤ MAX_LINE → line_of version text ≡ line_from version (Some found)
+line_is_from version text game word rest found is plain same numbers shallow back utf8 short =
     let sent = is ∙ sym (line_data_text game word rest plain same) in
-    line_of_value text _ found is short (value_reads text (line_data game word rest) found sent (tt, (tt, numbers)) (omega arith) back utf8)
+    line_of_value version text _ found is short (value_reads text (line_data game word rest) found sent (tt, (tt, numbers)) (omega arith) back utf8)
 
 -- ---- the commands of one word
 
@@ -201,23 +202,23 @@ line_is_from text game word rest found is plain same numbers shallow back utf8 s
 abbrev word_data : List ℕ → List ℕ → Data
 word_data game word = object (member (codes "do") (string word) (member (codes "game") (string game) no_members))
 
-show_line_is : (text game : List ℕ) (written : Bool) → text ≡ compact_text written game command.Show → are_plain game ≡ true
-    → IsUtf8 text → length text ≤ MAX_LINE → line_of text ≡ line.Command game command.Show
+show_line_is : (version : Version) (text game : List ℕ) (written : Bool) → text ≡ compact_text written game command.Show → are_plain game ≡ true
+    → IsUtf8 text → length text ≤ MAX_LINE → line_of version text ≡ line.Command game command.Show
 unfolding command_of escape_byte
-show_line_is text game written is plain utf8 short =
-    line_is_from text game (codes "show") no_members (word_data game (codes "show")) is plain refl tt (omega arith) refl utf8 short
+show_line_is version text game written is plain utf8 short =
+    line_is_from version text game (codes "show") no_members (word_data game (codes "show")) is plain refl tt (omega arith) refl utf8 short
 
-free_line_is : (text game : List ℕ) (written : Bool) → text ≡ compact_text written game command.Free → are_plain game ≡ true
-    → IsUtf8 text → length text ≤ MAX_LINE → line_of text ≡ line.Command game command.Free
+free_line_is : (version : Version) (text game : List ℕ) (written : Bool) → text ≡ compact_text written game command.Free → are_plain game ≡ true
+    → IsUtf8 text → length text ≤ MAX_LINE → line_of version text ≡ line.Command game command.Free
 unfolding command_of escape_byte
-free_line_is text game written is plain utf8 short =
-    line_is_from text game (codes "free") no_members (word_data game (codes "free")) is plain refl tt (omega arith) refl utf8 short
+free_line_is version text game written is plain utf8 short =
+    line_is_from version text game (codes "free") no_members (word_data game (codes "free")) is plain refl tt (omega arith) refl utf8 short
 
-end_line_is : (text game : List ℕ) (written : Bool) → text ≡ compact_text written game command.End → are_plain game ≡ true
-    → IsUtf8 text → length text ≤ MAX_LINE → line_of text ≡ line.Command game command.End
+end_line_is : (version : Version) (text game : List ℕ) (written : Bool) → text ≡ compact_text written game command.End → are_plain game ≡ true
+    → IsUtf8 text → length text ≤ MAX_LINE → line_of version text ≡ line.Command game command.End
 unfolding command_of escape_byte
-end_line_is text game written is plain utf8 short =
-    line_is_from text game (codes "end") no_members (word_data game (codes "end")) is plain refl tt (omega arith) refl utf8 short
+end_line_is version text game written is plain utf8 short =
+    line_is_from version text game (codes "end") no_members (word_data game (codes "end")) is plain refl tt (omega arith) refl utf8 short
 
 -- ---- a question about a turn
 
@@ -228,15 +229,15 @@ abbrev turn_data : List ℕ → ℕ → Data
 turn_data game at =
     object (member (codes "at") (number (unsigned at)) (member (codes "do") (string (codes "turn")) (member (codes "game") (string game) no_members)))
 
-turn_line_is : (text game : List ℕ) (written : Bool) (at : ℕ) → text ≡ compact_text written game (command.Turn at) → are_plain game ≡ true → at ≤ LAST_TURN
-    → IsUtf8 text → length text ≤ MAX_LINE → line_of text ≡ line.Command game (command.Turn at)
+turn_line_is : (version : Version) (text game : List ℕ) (written : Bool) (at : ℕ) → text ≡ compact_text written game (command.Turn at) → are_plain game ≡ true → at ≤ LAST_TURN
+    → IsUtf8 text → length text ≤ MAX_LINE → line_of version text ≡ line.Command game (command.Turn at)
 unfolding command_of escape_byte
-turn_line_is text game written at is plain within utf8 short =
+turn_line_is version text game written at is plain within utf8 short =
     let small : at < 2 ^ 64 = omega arith in
     let back : of_json (written_as.outline (line_data game (codes "turn") (turn_members at))) ≡ Some (turn_data game at) =
     rw (number_of-decimal at small) refl in
-    let asks : line_from (Some (turn_data game at)) ≡ line.Command game (command.Turn at) = rw (le-leb at LAST_TURN within) refl in
-    line_is_from text game (codes "turn") (turn_members at) (turn_data game at) is plain refl (IsNumber-decimal at small, tt) (omega arith) back utf8 short
+    let asks : line_from version (Some (turn_data game at)) ≡ line.Command game (command.Turn at) = rw (le-leb at LAST_TURN within) refl in
+    line_is_from version text game (codes "turn") (turn_members at) (turn_data game at) is plain refl (IsNumber-decimal at small, tt) (omega arith) back utf8 short
     ∙ asks
 
 -- ---- the words of a move
@@ -289,10 +290,10 @@ abbrev move_data : List ℕ → List (List ℕ × Direction) → Members → Dat
 move_data game moves more = object (member (codes "do") (string (codes "move")) (member (codes "game") (string game) (move_members moves more)))
 
 -- a move whose words are left out, since there are none
-bare_move_line_is : (text game : List ℕ) (orders : Orders) → text ≡ compact_text false game (command.Move orders) → are_plain game ≡ true
-    → IsCompact false (command.Move orders) → IsUtf8 text → length text ≤ MAX_LINE → line_of text ≡ line.Command game (command.Move orders)
+bare_move_line_is : (version : Version) (text game : List ℕ) (orders : Orders) → text ≡ compact_text false game (command.Move orders) → are_plain game ≡ true
+    → IsCompact false (command.Move orders) → IsUtf8 text → length text ≤ MAX_LINE → line_of version text ≡ line.Command game (command.Move orders)
 unfolding command_of orders_from escape_byte
-bare_move_line_is text game orders is plain compact utf8 short =
+bare_move_line_is version text game orders is plain compact utf8 short =
     let moves = orders.moves in
     let rest = move_members moves no_members in
     let all : moves_text false moves ++ codes "}}" ≡ written_as.members_text false (moves_members moves) ++ codes "}" =
@@ -301,10 +302,10 @@ bare_move_line_is text game orders is plain compact utf8 short =
     is ∙ ap (λ some. codes "{\"game\":\"" ++ (game ++ (codes "\",\"do\":\"move\",\"moves\":{" ++ some))) all in
     let back : of_json (written_as.outline (line_data game (codes "move") rest)) ≡ Some (move_data game moves no_members) =
     rw (members_from [] moves compact.1) refl in
-    let asks : line_from (Some (move_data game moves no_members)) ≡ line.Command game (command.Move orders) =
+    let asks : line_from version (Some (move_data game moves no_members)) ≡ line.Command game (command.Move orders) =
     ap₂ (λ found words. line.Command game (command.Move (orders_of found words))) (directions_back moves) (sym compact.3) in
     let shallow = no_depth moves in
-    line_is_from text game (codes "move") rest (move_data game moves no_members) sent plain refl (has_numbers moves, tt) (omega arith) back utf8 short
+    line_is_from version text game (codes "move") rest (move_data game moves no_members) sent plain refl (has_numbers moves, tt) (omega arith) back utf8 short
     ∙ asks
 
 -- what is written behind the opening bracket of the moves, in the brackets of either definition
@@ -313,10 +314,10 @@ regroup_words : (moves mark middle words close end : List ℕ) → moves ++ (mar
 regroup_words moves mark middle words close end = simp append_assoc
 
 -- a move whose words are written
-full_move_line_is : (text game : List ℕ) (orders : Orders) → text ≡ compact_text true game (command.Move orders) → are_plain game ≡ true
-    → IsCompact true (command.Move orders) → IsUtf8 text → length text ≤ MAX_LINE → line_of text ≡ line.Command game (command.Move orders)
+full_move_line_is : (version : Version) (text game : List ℕ) (orders : Orders) → text ≡ compact_text true game (command.Move orders) → are_plain game ≡ true
+    → IsCompact true (command.Move orders) → IsUtf8 text → length text ≤ MAX_LINE → line_of version text ≡ line.Command game (command.Move orders)
 unfolding command_of orders_from escape_byte
-full_move_line_is text game orders is plain compact utf8 short =
+full_move_line_is version text game orders is plain compact utf8 short =
     let moves = orders.moves in
     let words = orders.words in
     let fit = compact.2 in
@@ -330,33 +331,33 @@ full_move_line_is text game orders is plain compact utf8 short =
     is ∙ ap (λ some. codes "{\"game\":\"" ++ (game ++ (codes "\",\"do\":\"move\",\"moves\":{" ++ some))) all in
     let back : of_json (written_as.outline (line_data game (codes "move") rest)) ≡ Some (move_data game moves more) =
     rw (members_from [] moves compact.1, items_back words fit.small) refl in
-    let asks : line_from (Some (move_data game moves more)) ≡ line.Command game (command.Move orders) =
+    let asks : line_from version (Some (move_data game moves more)) ≡ line.Command game (command.Move orders) =
     rw (words_back words fit.small, le-leb (length words) MOST_WORDS fit.few, directions_back moves) refl in
     let shallow = no_depth moves in
     let shallow_words = no_items_depth words in
     let numbers : tree.MembersHaveNumbers (written_as.members_outline rest) = (has_numbers moves, (have_numbers words fit.small, tt)) in
-    line_is_from text game (codes "move") rest (move_data game moves more) sent plain refl numbers (omega arith) back utf8 short
+    line_is_from version text game (codes "move") rest (move_data game moves more) sent plain refl numbers (omega arith) back utf8 short
     ∙ asks
 
-move_line_is : (text game : List ℕ) (written : Bool) (orders : Orders) → text ≡ compact_text written game (command.Move orders) → are_plain game ≡ true
-    → IsCompact written (command.Move orders) → IsUtf8 text → length text ≤ MAX_LINE → line_of text ≡ line.Command game (command.Move orders)
-move_line_is text game false orders is plain compact utf8 short = bare_move_line_is text game orders is plain compact utf8 short
-move_line_is text game true orders is plain compact utf8 short = full_move_line_is text game orders is plain compact utf8 short
+move_line_is : (version : Version) (text game : List ℕ) (written : Bool) (orders : Orders) → text ≡ compact_text written game (command.Move orders) → are_plain game ≡ true
+    → IsCompact written (command.Move orders) → IsUtf8 text → length text ≤ MAX_LINE → line_of version text ≡ line.Command game (command.Move orders)
+move_line_is version text game false orders is plain compact utf8 short = bare_move_line_is version text game orders is plain compact utf8 short
+move_line_is version text game true orders is plain compact utf8 short = full_move_line_is version text game orders is plain compact utf8 short
 
 -- ---- every command
 
-line_of_text : (text game : List ℕ) (written : Bool) (c : Command) → text ≡ compact_text written game c → are_plain game ≡ true
-    → IsCompact written c → IsUtf8 text → length text ≤ MAX_LINE → line_of text ≡ line.Command game c
-line_of_text text game written (command.New new) is plain compact utf8 short = absurd compact
-line_of_text text game written (command.Move orders) is plain compact utf8 short = move_line_is text game written orders is plain compact utf8 short
-line_of_text text game written (command.Turn at) is plain compact utf8 short = turn_line_is text game written at is plain compact utf8 short
-line_of_text text game written command.Show is plain compact utf8 short = show_line_is text game written is plain utf8 short
-line_of_text text game written command.Free is plain compact utf8 short = free_line_is text game written is plain utf8 short
-line_of_text text game written command.End is plain compact utf8 short = end_line_is text game written is plain utf8 short
-line_of_text text game written command.Bad is plain compact utf8 short = absurd compact
+line_of_text : (version : Version) (text game : List ℕ) (written : Bool) (c : Command) → text ≡ compact_text written game c → are_plain game ≡ true
+    → IsCompact written c → IsUtf8 text → length text ≤ MAX_LINE → line_of version text ≡ line.Command game c
+line_of_text version text game written (command.New new) is plain compact utf8 short = absurd compact
+line_of_text version text game written (command.Move orders) is plain compact utf8 short = move_line_is version text game written orders is plain compact utf8 short
+line_of_text version text game written (command.Turn at) is plain compact utf8 short = turn_line_is version text game written at is plain compact utf8 short
+line_of_text version text game written command.Show is plain compact utf8 short = show_line_is version text game written is plain utf8 short
+line_of_text version text game written command.Free is plain compact utf8 short = free_line_is version text game written is plain utf8 short
+line_of_text version text game written command.End is plain compact utf8 short = end_line_is version text game written is plain utf8 short
+line_of_text version text game written command.Bad is plain compact utf8 short = absurd compact
 
 -- the compact text of a command for a game is read as that command for that game
-pub line_of_compact : (text game : List ℕ) (written : Bool) (c : Command) → text ≡ compact_text written game c → are_plain game ≡ true
-    → IsCompact written c → length text ≤ MAX_LINE → line_of text ≡ line.Command game c
-line_of_compact text game written c is plain compact short =
-    line_of_text text game written c is plain compact (subst IsUtf8 (sym is) (compact_is_utf8 game written c plain compact)) short
+pub line_of_compact : (version : Version) (text game : List ℕ) (written : Bool) (c : Command) → text ≡ compact_text written game c → are_plain game ≡ true
+    → IsCompact written c → length text ≤ MAX_LINE → line_of version text ≡ line.Command game c
+line_of_compact version text game written c is plain compact short =
+    line_of_text version text game written c is plain compact (subst IsUtf8 (sym is) (compact_is_utf8 game written c plain compact)) short

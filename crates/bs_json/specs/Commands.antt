@@ -5,6 +5,7 @@ use Rattle.bs_board.specs.declared.commands.command.Command.{Command}
 use Rattle.bs_board.specs.declared.commands.command.Command.TheVariants as command
 use Rattle.bs_board.specs.declared.commands.command.Word.{Word}
 use Rattle.bs_board.specs.declared.commands.command.Word.TheVariants as word
+use Rattle.bs_board.specs.declared.plans.version.Version.{Version}
 use Rattle.bs_board.specs.Texts.{is_same_text}
 use Rattle.bs_board.specs.declared.limits.TheConstants.{LAST_TURN}
 use Rattle.bs_json.specs.Moves.{orders_from}
@@ -24,15 +25,15 @@ word_named text =
 abbrev pub word_at : Data → Option Word
 word_at d = text_at (codes "do") d >>= word_named
 
-abbrev pub command_for : Word → Data → Option Command
-command_for word.New d = option_map command.New (setup_from d)
-command_for word.Move d = option_map command.Move (orders_from d)
-command_for word.Show d = Some command.Show
-command_for word.Turn d = option_map command.Turn (number_at (codes "at") LAST_TURN d)
-command_for word.Free d = Some command.Free
-command_for word.End d = Some command.End
+abbrev pub command_for : Version → Word → Data → Option Command
+command_for version word.New d = option_map command.New (setup_from version d)
+command_for version word.Move d = option_map command.Move (orders_from d)
+command_for version word.Show d = Some command.Show
+command_for version word.Turn d = option_map command.Turn (number_at (codes "at") LAST_TURN d)
+command_for version word.Free d = Some command.Free
+command_for version word.End d = Some command.End
 
-unfoldable pub command_of : Data → Option Command
-command_of d = do
+unfoldable pub command_of : Version → Data → Option Command
+command_of version d = do
   word ← word_at d
-  command_for word d
+  command_for version word d

@@ -1,24 +1,22 @@
 -- The plan that the first line of a command file is.
-use Rattle.std.specs.Prelude.{◌≡◌, ℕ, codes, length, List, Bool, true, Option, Some, None, Result, Ok, Err, nat_lt, nat_le, nat_eq, if◌then◌else◌}
+use Rattle.std.specs.Prelude.{◌≡◌, ℕ, codes, length, List, Option, Some, None, Result, Ok, Err, nat_lt, nat_le, if◌then◌else◌}
 use Rattle.serde_json.specs.Data.{Data, Items}
 use Rattle.serde_json.specs.Find.{get, as_array}
 use Rattle.bs_board.specs.declared.plans.plan.Plan.{Plan}
+use Rattle.bs_board.specs.declared.plans.version.Version.{Version}
+use Rattle.bs_board.specs.declared.plans.version.Version.TheVariants.{One}
 use Rattle.bs_board.specs.plans.Plan.{GameRow, row_of, is_fit_row, have_distinct_names}
+use Rattle.bs_board.specs.plans.Version.{version_numbered}
 use Rattle.bs_board.specs.declared.limits.TheConstants.{MOST_QUOTA, MOST_ROWS}
-use Rattle.bs_json.specs.declared.limits.TheConstants.{FORMAT_VERSION, MAX_LINE}
+use Rattle.bs_json.specs.declared.limits.TheConstants.{MAX_LINE}
 use Rattle.bs_json.specs.declared.plan.PlanFault.{PlanFault}
 use Rattle.bs_json.specs.declared.plan.PlanFault.TheVariants.{Malformed, BadRow, TooMany, Memory}
 use Rattle.bs_json.specs.Values.{◌>>=◌, value_of, whole, number_at, text_at, each}
 
--- the version of this format
-abbrev pub is_version : Option ℕ → Bool
-is_version None = Bool.false
-is_version (Some n) = nat_eq n FORMAT_VERSION
-
--- it may be left out
-abbrev pub is_known_version : Option Data → Bool
-is_known_version None = true
-is_known_version (Some d) = is_version (whole d)
+-- 1 where the member is left out
+abbrev pub version_of : Option Data → Option Version
+version_of None = Some One
+version_of (Some d) = whole d >>= version_numbered
 
 abbrev pub fit_row : GameRow → Option GameRow
 fit_row row = if is_fit_row row then Some row else None
@@ -30,21 +28,20 @@ row_from d = do
   fit_row (row_of game quota)
 
 -- a row or a name that is refused comes before their number
-abbrev pub plan_of_rows : Option (List GameRow) → Result Plan PlanFault
-plan_of_rows None = Err BadRow
-plan_of_rows (Some rows) =
-    if have_distinct_names rows then (if nat_le (length rows) MOST_ROWS then Ok (record { rows = rows }) else Err TooMany)
+abbrev pub plan_of_rows : Version → Option (List GameRow) → Result Plan PlanFault
+plan_of_rows version None = Err BadRow
+plan_of_rows version (Some rows) =
+    if have_distinct_names rows then (if nat_le (length rows) MOST_ROWS then Ok (record { rows = rows; version = version }) else Err TooMany)
     else Err BadRow
 
-abbrev pub plan_of_games : Option Items → Result Plan PlanFault
-plan_of_games None = Err Malformed
-plan_of_games (Some games) = plan_of_rows (each row_from games)
+abbrev pub plan_of_games : Option Version → Option Items → Result Plan PlanFault
+plan_of_games (Some version) (Some games) = plan_of_rows version (each row_from games)
+plan_of_games (Some version) None = Err Malformed
+plan_of_games None games = Err Malformed
 
 abbrev pub plan_from : Option Data → Result Plan PlanFault
 plan_from None = Err Malformed
-plan_from (Some d) =
-    if is_known_version (get (codes "version") d) then plan_of_games (get (codes "games") d >>= as_array)
-    else Err Malformed
+plan_from (Some d) = plan_of_games (version_of (get (codes "version") d)) (get (codes "games") d >>= as_array)
 
 unfoldable pub plan_line_of : List ℕ → Result Plan PlanFault
 plan_line_of bytes = if nat_lt MAX_LINE (length bytes) then Err Malformed else plan_from (value_of bytes)

@@ -1,24 +1,28 @@
 -- What a `new` line asks for.
-use Rattle.std.specs.Prelude.{ℕ, ◌-◌, pos, codes, List, Option, Some, None, if◌then◌else◌}
+use Rattle.std.specs.Prelude.{ℕ, ◌-◌, ◌&&◌, pos, codes, List, Option, Some, None, if◌then◌else◌}
 use Rattle.serde_json.specs.Data.{Data}
 use Rattle.bs_board.specs.declared.boards.point.Point.{Point}
 use Rattle.bs_board.specs.declared.boards.board.Mode.{Mode}
-use Rattle.bs_board.specs.declared.boards.board.Mode.TheVariants.{Standard, Solo, Constrictor}
+use Rattle.bs_board.specs.declared.boards.board.Mode.TheVariants.{Standard, Solo, Constrictor, Wrapped}
+use Rattle.bs_board.specs.declared.plans.version.Version.{Version}
 use Rattle.bs_board.specs.commands.Setup.{Setup, setup_of, is_fit_setup}
+use Rattle.bs_board.specs.plans.Version.{has_wrapped}
 use Rattle.bs_board.specs.Texts.{is_same_text}
 use Rattle.bs_board.specs.declared.limits.TheConstants.{LONGEST_SIDE, MOST_CHANCE, MOST_MIN_FOOD}
 use Rattle.bs_json.specs.declared.limits.TheConstants.{USUAL_CHANCE, USUAL_MIN_FOOD}
 use Rattle.bs_json.specs.Values.{◌>>=◌, number_at, number_or, text_at, list_at}
 
-abbrev pub mode_named : List ℕ → Option Mode
-mode_named word =
+-- `wrapped` names a mode only where the version has it
+abbrev pub mode_named : Version → List ℕ → Option Mode
+mode_named version word =
     if is_same_text word (codes "standard") then Some Standard
     else (if is_same_text word (codes "solo") then Some Solo
     else (if is_same_text word (codes "constrictor") then Some Constrictor
-    else None))
+    else (if is_same_text word (codes "wrapped") && has_wrapped version then Some Wrapped
+    else None)))
 
-abbrev pub mode_at : Data → Option Mode
-mode_at d = text_at (codes "mode") d >>= mode_named
+abbrev pub mode_at : Version → Data → Option Mode
+mode_at version d = text_at (codes "mode") d >>= mode_named version
 
 -- columns and rows are counted from 0, and no board has more than the longest side
 abbrev pub cell_from : Data → Option Point
@@ -37,9 +41,9 @@ abbrev pub fit_setup : Setup → Option Setup
 fit_setup setup = if is_fit_setup setup then Some setup else None
 
 -- the minimum of food and its chance are the usual ones where the line does not say
-unfoldable pub setup_from : Data → Option Setup
-setup_from d = do
-  mode ← mode_at d
+unfoldable pub setup_from : Version → Data → Option Setup
+setup_from version d = do
+  mode ← mode_at version d
   width ← number_at (codes "width") LONGEST_SIDE d
   height ← number_at (codes "height") LONGEST_SIDE d
   snakes ← list_at (codes "snakes") start_from d

@@ -16,6 +16,7 @@ pub fn mode_text(mode: Mode) -> &'static str
         Mode::Standard => "standard",
         Mode::Solo => "solo",
         Mode::Constrictor => "constrictor",
+        Mode::Wrapped => "wrapped",
     }
 }
 
@@ -120,7 +121,7 @@ pub fn is_over(board: &Board) -> bool
         .filter(|snake| snake.is_living())
         .count();
     match board.mode {
-        Mode::Standard | Mode::Constrictor => living <= 1,
+        Mode::Standard | Mode::Constrictor | Mode::Wrapped => living <= 1,
         Mode::Solo => living == 0,
     }
 }

@@ -8,7 +8,7 @@ use crate::moves::orders_from;
 use crate::setups::setup_from;
 use crate::values::{number_at, text_at};
 use bs_board::limits::LAST_TURN;
-use bs_board::{Command, TurnNumber, Word};
+use bs_board::{Command, TurnNumber, Version, Word};
 use serde_json::Value;
 use std::alloc::{AllocError, Global};
 
@@ -32,11 +32,16 @@ fn word_named(word: &str) -> Option<Word>
     }
 }
 
-fn command_for(alloc: Global, word: Word, line: &mut Value) -> Result<Option<Command>, AllocError>
-    ensures { IfOk result (λ command. command ≡ command_for word (view line.old)) }
+fn command_for(
+    alloc: Global,
+    version: Version,
+    word: Word,
+    line: &mut Value,
+) -> Result<Option<Command>, AllocError>
+    ensures { IfOk result (λ command. command ≡ command_for version word (view line.old)) }
 {
     Ok(match word {
-        Word::New => setup_from(alloc, line)?.map(Command::New),
+        Word::New => setup_from(alloc, version, line)?.map(Command::New),
         Word::Move => orders_from(alloc, line)?.map(Command::Move),
         Word::Show => Some(Command::Show),
         Word::Turn => turn_at(line).map(Command::Turn),
@@ -51,14 +56,18 @@ fn word_at(line: &Value) -> Option<Word>
     word_named(text_at(line, "do")?)
 }
 
-/// `None` where `do` is missing or unknown, or a member is missing, of the wrong type or out of range. What becomes part
-/// of the command is taken out of the line.
+/// The command that a line asks for in a file of that version. `None` where `do` is missing or unknown, or a member is
+/// missing, of the wrong type or out of range. What becomes part of the command is taken out of the line.
 #[tactic(auto, unfolding(crate::specs::Commands::command_of))]
-pub fn command_of(alloc: Global, line: &mut Value) -> Result<Option<Command>, AllocError>
-    ensures { IfOk result (λ command. command ≡ command_of (view line.old)) }
+pub fn command_of(
+    alloc: Global,
+    version: Version,
+    line: &mut Value,
+) -> Result<Option<Command>, AllocError>
+    ensures { IfOk result (λ command. command ≡ command_of version (view line.old)) }
 {
     match word_at(line) {
-        Some(word) => command_for(alloc, word, line),
+        Some(word) => command_for(alloc, version, word, line),
         None => Ok(None),
     }
 }

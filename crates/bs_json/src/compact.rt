@@ -5,6 +5,7 @@ ghost use Rattle.std.specs.List.{list_all, position};
 ghost use Rattle.serde_json.specs.Written.{comma_if};
 ghost use Rattle.bs_board.specs.commands.Orders.{AreFitWords};
 ghost use Rattle.bs_json.specs.Compact.{is_plain, are_plain, are_plain_moves, move_text, moves_text, words_text, tail_text, order_text, IsCompact, IsCompactMove, MayLeaveOut};
+ghost use Rattle.bs_board.specs.declared.plans.version.Version.{Version as AnyVersion};
 ghost use Rattle.bs_json.specs.Line.{line_of};
 ghost use Rattle.bs_json.specs.declared.limits.TheConstants.{MAX_LINE};
 
@@ -294,12 +295,12 @@ fn cut_game<'l>(line: &'l [u8]) -> Option<(&'l [u8], &'l [u8])>
     Some((game, behind(rest, b",\"do\":\"")?))
 }
 
-/// What a line in its compact form is, and `None` of any other line.
+/// What a line in its compact form is in a file of any version, and `None` for any other line.
 #[tactic(auto, using(crate::proofs::CompactLines::line_of_compact))]
 #[inline(always)]
 pub(crate) fn compact_line(alloc: Global, line: &[u8]) -> Result<Option<Line>, AllocError>
     requires { length line.now ≤ MAX_LINE }
-    ensures { IfOk result (λ found. IfSome found (λ l. l ≡ line_of line.now)) }
+    ensures { IfOk result (λ found. IfSome found (λ l. (version : AnyVersion) → l ≡ line_of version line.now)) }
 {
     let Some((name, order)) = cut_game(line) else {
         return Ok(None);

@@ -3,9 +3,6 @@
 /// The most bytes of a line, without its line feed.
 pub const MAX_LINE: usize = 65_536;
 
-/// The version of the format of command files.
-pub const FORMAT_VERSION: u64 = 1;
-
 /// The minimum of food where a line does not say it.
 pub const USUAL_MIN_FOOD: u8 = 1;
 

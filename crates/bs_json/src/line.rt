@@ -8,7 +8,7 @@ use crate::commands::command_of;
 use crate::compact::compact_line;
 use crate::limits::MAX_LINE;
 use crate::values::{id_at, parsed};
-use bs_board::{Command, Id};
+use bs_board::{Command, Id, Version};
 use serde_json::Value;
 use std::alloc::{AllocError, Global};
 
@@ -46,8 +46,8 @@ fn is_blank(line: &[u8]) -> bool
     line.iter().all(|byte| is_space(*byte))
 }
 
-fn line_from(alloc: Global, value: &mut Value) -> Result<Line, AllocError>
-    ensures { IfOk result (λ line. line ≡ line_from (Some (view value.old))) }
+fn line_from(alloc: Global, version: Version, value: &mut Value) -> Result<Line, AllocError>
+    ensures { IfOk result (λ line. line ≡ line_from version (Some (view value.old))) }
 {
     if !value.is_object() {
         return Ok(Line::Stray(Stray::Json));
@@ -55,18 +55,18 @@ fn line_from(alloc: Global, value: &mut Value) -> Result<Line, AllocError>
     let Some(game) = id_at(alloc, value, "game")? else {
         return Ok(Line::Stray(Stray::Game));
     };
-    match command_of(alloc, value)? {
+    match command_of(alloc, version, value)? {
         Some(command) => Ok(Line::Command { game, command }),
         None => Ok(Line::Bad { game }),
     }
 }
 
-/// Reads one line, given without its line feed. Whether the plan has the game is for the caller to see. A line in its compact
-/// form is read without a JSON value; that is all that it is told apart for.
+/// Reads one line of a file whose plan has that version. The line is given without its line feed. It is not checked that
+/// the plan has the game. A line in its compact form is read without making a JSON value.
 #[tactic(auto, unfolding(crate::specs::Line::line_of))]
 #[inline(always)]
-pub fn read_line(alloc: Global, line: &[u8]) -> Result<Line, AllocError>
-    ensures { IfOk result (λ l. l ≡ line_of line.now) }
+pub fn read_line(alloc: Global, line: &[u8], version: Version) -> Result<Line, AllocError>
+    ensures { IfOk result (λ l. l ≡ line_of version line.now) }
 {
     if line.len() > MAX_LINE {
         return Ok(Line::Stray(Stray::Long));
@@ -78,7 +78,7 @@ pub fn read_line(alloc: Global, line: &[u8]) -> Result<Line, AllocError>
         return Ok(Line::Blank);
     }
     match parsed(alloc, line)? {
-        Some(mut value) => line_from(alloc, &mut value),
+        Some(mut value) => line_from(alloc, version, &mut value),
         None => Ok(Line::Stray(Stray::Json)),
     }
 }

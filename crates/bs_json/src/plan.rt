@@ -2,13 +2,13 @@
 ghost use Rattle.std.specs.Prelude.{◌≡◌, codes, option_map, IfOk, MatchResult};
 ghost use Rattle.serde_json.specs.Find.{get};
 ghost use Rattle.serde_json.specs.View.{view};
-ghost use Rattle.bs_json.specs.PlanLine.{is_known_version, row_from, plan_of_rows, plan_from, plan_line_of, IsPlanFault};
+ghost use Rattle.bs_json.specs.PlanLine.{version_of, row_from, plan_of_rows, plan_from, plan_line_of, IsPlanFault};
 
-use crate::limits::{FORMAT_VERSION, MAX_LINE};
+use crate::limits::MAX_LINE;
 use crate::values::{FromItem, each, id_at, number_at, parsed};
 use bs_board::limits::{MOST_QUOTA, MOST_ROWS};
 use bs_board::plans::plan::have_distinct_names;
-use bs_board::{Plan, Row, Rows};
+use bs_board::{Plan, Row, Rows, Version};
 use serde_json::Value;
 use std::alloc::{AllocError, Global};
 use thiserror::Error;
@@ -16,7 +16,7 @@ use thiserror::Error;
 /// Why the first line of a file is no plan.
 #[derive(Clone, Copy, Debug, Drop, Error, PartialEq, Eq)]
 pub enum PlanFault {
-    /// P1: it is too long, no JSON, no object with an array of games, or of another version.
+    /// P1: it is too long, no JSON, no object with an array of games, or of an unknown version.
     #[error("the first line is no plan")]
     Malformed,
     /// P2: a row that is out of range, or a name that stands twice.
@@ -39,12 +39,12 @@ impl From<AllocError> for PlanFault {
     }
 }
 
-fn is_known_version(line: &Value) -> bool
-    ensures { result ≡ is_known_version (get (codes "version") (view line.now)) }
+fn version_of(line: &Value) -> Option<Version>
+    ensures { result ≡ version_of (get (codes "version") (view line.now)) }
 {
     match line.get("version") {
-        Some(version) => version.as_u64() == Some(FORMAT_VERSION),
-        None => true,
+        Some(version) => Version::from_number(version.as_u64()?),
+        None => Some(Version::One),
     }
 }
 
@@ -68,8 +68,8 @@ impl FromItem for Row {
     }
 }
 
-fn plan_of_rows(rows: Option<Vec<Row>>) -> Result<Plan, PlanFault>
-    ensures { result ≡ plan_of_rows (option_map (λ r. r.items) rows) }
+fn plan_of_rows(version: Version, rows: Option<Vec<Row>>) -> Result<Plan, PlanFault>
+    ensures { result ≡ plan_of_rows version (option_map (λ r. r.items) rows) }
 {
     let Some(rows) = rows else {
         return Err(PlanFault::BadRow);
@@ -82,6 +82,7 @@ fn plan_of_rows(rows: Option<Vec<Row>>) -> Result<Plan, PlanFault>
     }
     Ok(Plan {
         rows: Rows::from_vec(rows),
+        version,
     })
 }
 
@@ -89,11 +90,11 @@ fn plan_from(alloc: Global, line: &Value) -> Result<Plan, PlanFault>
     ensures { let plan = plan_from (Some (view line.now))
         in MatchResult result (λ p. plan ≡ Ok p) (IsPlanFault plan) }
 {
-    if !is_known_version(line) {
+    let Some(version) = version_of(line) else {
         return Err(PlanFault::Malformed);
-    }
+    };
     match line.get("games").and_then(Value::as_array) {
-        Some(games) => plan_of_rows(each(alloc, games.as_slice())?),
+        Some(games) => plan_of_rows(version, each(alloc, games.as_slice())?),
         None => Err(PlanFault::Malformed),
     }
 }

@@ -7,25 +7,26 @@ ghost use Rattle.bs_json.specs.Values.{list_at};
 use crate::limits::{USUAL_CHANCE, USUAL_MIN_FOOD};
 use crate::values::{FromItem, byte_at, byte_or, each, id_at, text_at};
 use bs_board::limits::{LONGEST_SIDE, MOST_CHANCE, MOST_MIN_FOOD};
-use bs_board::{Cells, Id, Mode, New, Point, Starts};
+use bs_board::{Cells, Id, Mode, New, Point, Starts, Version};
 use serde_json::Value;
 use std::alloc::{AllocError, Global};
 
-fn mode_named(word: &str) -> Option<Mode>
-    ensures { result ≡ mode_named word.now }
+fn mode_named(version: Version, word: &str) -> Option<Mode>
+    ensures { result ≡ mode_named version word.now }
 {
     match word {
         "standard" => Some(Mode::Standard),
         "solo" => Some(Mode::Solo),
         "constrictor" => Some(Mode::Constrictor),
+        "wrapped" if version.has_wrapped() => Some(Mode::Wrapped),
         _ => None,
     }
 }
 
-fn mode_at(line: &Value) -> Option<Mode>
-    ensures { result ≡ mode_at (view line.now) }
+fn mode_at(version: Version, line: &Value) -> Option<Mode>
+    ensures { result ≡ mode_at version (view line.now) }
 {
-    mode_named(text_at(line, "mode")?)
+    mode_named(version, text_at(line, "mode")?)
 }
 
 fn cell_from(value: &Value) -> Option<Point>
@@ -85,12 +86,12 @@ fn food_at(alloc: Global, line: &Value) -> Result<Option<Cells>, AllocError>
     }
 }
 
-/// None where a member is missing, of another type or out of range.
+/// `None` where a member is missing, of another type or out of range, or where the version does not have the mode.
 #[tactic(auto, unfolding(crate::specs::Setups::setup_from))]
-pub fn setup_from(alloc: Global, line: &Value) -> Result<Option<New>, AllocError>
-    ensures { IfOk result (λ new. new ≡ setup_from (view line.now)) }
+pub fn setup_from(alloc: Global, version: Version, line: &Value) -> Result<Option<New>, AllocError>
+    ensures { IfOk result (λ new. new ≡ setup_from version (view line.now)) }
 {
-    let Some(mode) = mode_at(line) else {
+    let Some(mode) = mode_at(version, line) else {
         return Ok(None);
     };
     let Some(width) = byte_at(line, "width", LONGEST_SIDE) else {

@@ -5,7 +5,7 @@ use crate::{
 };
 use bs_board::{
     Board, Cause, Cells, Command, Id, KeptBoard, Mode, Move, New, Plan, Point, Refusal, Reply,
-    Snake, Snakes, Word, is_legal,
+    Snake, Snakes, Version, Word, is_legal,
 };
 use std::alloc::{AllocError, Global};
 use std::process::Abort;
@@ -54,7 +54,7 @@ fn told(alloc: Global, line: &Line) -> Result<String, AllocError> {
     }
 }
 
-// What is read, and behind the bar the line.
+// What is read in each version, and behind the bar the line.
 const LINES: &str =
     r#"a: new Solo 3x3 min 0 chance 0 s@1,1|{"game":"a","do":"new","mode":"solo","width":3,"height":3,"snakes":[{"id":"s","x":1,"y":1}],"food":[],"min_food":0,"food_chance":0}
 b: new Standard 7x7 min 0 chance 0 s@1,1 t@5,1 u@3,5 food 1,2|{"game":"b","do":"new","mode":"standard","width":7,"height":7,"snakes":[{"id":"s","x":1,"y":1},{"id":"t","x":5,"y":1},{"id":"u","x":3,"y":5}],"food":[{"x":1,"y":2}],"min_food":0,"food_chance":0}
@@ -115,8 +115,29 @@ fn lines_are_read(rt: HostRuntime) -> Result<(), Fail> {
     let alloc = rt.alloc();
     for row in LINES.split('\n') {
         let (want, line) = row.split_once('|').ok_or("a bar in each row")?;
-        let read = read_line(alloc, line.as_bytes())?;
-        assert_eq!(rt; told(alloc, &read)?.as_str(), want, "at {line}");
+        for version in [Version::One, Version::Two] {
+            let read = read_line(alloc, line.as_bytes(), version)?;
+            assert_eq!(rt; told(alloc, &read)?.as_str(), want, "{version:?} at {line}");
+        }
+    }
+    Ok(())
+}
+
+const NEW_WRAPPED: &str =
+    r#"{"game":"w","do":"new","mode":"wrapped","width":5,"height":5,"snakes":[{"id":"s","x":3,"y":1},{"id":"t","x":3,"y":3}],"food":[],"min_food":0,"food_chance":0}"#;
+
+#[test]
+fn wrapped_is_a_mode_of_version_two_alone(rt: HostRuntime) -> Result<(), Fail> {
+    let alloc = rt.alloc();
+    for (version, want) in [
+        (Version::One, "w: bad"),
+        (
+            Version::Two,
+            "w: new Wrapped 5x5 min 0 chance 0 s@3,1 t@3,3",
+        ),
+    ] {
+        let read = read_line(alloc, NEW_WRAPPED.as_bytes(), version)?;
+        assert_eq!(rt; told(alloc, &read)?.as_str(), want, "{version:?}");
     }
     Ok(())
 }
@@ -151,7 +172,7 @@ fn a_new_game_is_within_the_limits(rt: HostRuntime) -> Result<(), Fail> {
     let alloc = rt.alloc();
     for row in NEW_GAMES.split('\n') {
         let (want, line) = row.split_once('|').ok_or("a bar in each row")?;
-        let read = read_line(alloc, line.as_bytes())?;
+        let read = read_line(alloc, line.as_bytes(), Version::One)?;
         let is_read = matches!(&read, Line::Command { .. });
         assert_eq!(rt; is_read, want == "read", "at {line}");
     }
@@ -163,7 +184,7 @@ fn a_long_line_is_judged_first(rt: HostRuntime) -> Result<(), Fail> {
     let alloc = rt.alloc();
     for (spaces, want) in [(65_536usize, "blank"), (65_537, "stray Long")] {
         let line = vec![in alloc; b' '; spaces]?;
-        let read = read_line(alloc, line.as_slice())?;
+        let read = read_line(alloc, line.as_slice(), Version::One)?;
         assert_eq!(rt; told(alloc, &read)?.as_str(), want);
         assert_eq!(rt;
             read_plan(alloc, line.as_slice()).err(),
@@ -173,13 +194,13 @@ fn a_long_line_is_judged_first(rt: HostRuntime) -> Result<(), Fail> {
     Ok(())
 }
 
-// The names and quotas of a plan, or its fault.
+// The version of a plan, and its names and quotas, or its fault.
 fn told_plan(alloc: Global, plan: &Result<Plan, PlanFault>) -> Result<String, AllocError> {
     let plan = match plan {
         Ok(plan) => plan,
         Err(fault) => return format!(in alloc; "{fault:?}"),
     };
-    let mut told = String::from_str(alloc, "plan")?;
+    let mut told = format!(in alloc; "version {}", plan.version.number())?;
     for row in plan.rows.as_slice() {
         told.push_str(format!(in alloc; " {} {}", row.game.as_str(), row.quota)?.as_str())?;
     }
@@ -187,14 +208,19 @@ fn told_plan(alloc: Global, plan: &Result<Plan, PlanFault>) -> Result<String, Al
 }
 
 // What is read, and behind the bar the line of the plan.
-const PLANS: &str = r#"plan|{"games":[]}
-plan a 4096|{"games":[{"game":"a","quota":4096}]}
-plan b 16777216 a 16|{"version":1,"games":[{"game":"b","quota":16777216},{"quota":16,"game":"a","x":[]}]}
+const PLANS: &str = r#"version 1|{"games":[]}
+version 1 a 4096|{"games":[{"game":"a","quota":4096}]}
+version 1 b 16777216 a 16|{"version":1,"games":[{"game":"b","quota":16777216},{"quota":16,"game":"a","x":[]}]}
 Malformed|
 Malformed|{"games":1}
 Malformed|{}
 Malformed|[]
-Malformed|{"games":[],"version":2}
+version 2|{"games":[],"version":2}
+version 2 a 16|{"version":2,"games":[{"game":"a","quota":16}]}
+Malformed|{"games":[],"version":3}
+Malformed|{"games":[],"version":0}
+Malformed|{"games":[],"version":2.0}
+Malformed|{"games":[],"version":"2"}
 Malformed|{"games":[1],"version":null}
 BadRow|{"games":[{"game":"a","quota":15}]}
 BadRow|{"games":[{"game":"a","quota":16777217}]}

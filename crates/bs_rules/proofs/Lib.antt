@@ -1,4 +1,3 @@
-pub mod Apart
 pub mod CollisionLaw
 pub mod CollisionMeaning
 pub mod CollisionTest

@@ -81,7 +81,7 @@ pub legal_is_movable : (b : Board) → IsLegal b → All IsMovable b.snakes
 legal_is_movable b l seat d within =
     snake_is_movable b seat (get_or b.snakes seat d) (side_at_most b.width l.limits.width) (side_at_most b.height l.limits.height) (l.snakes seat d within)
 
--- where the sides of a legal board meet, they are a board's
+-- a wrapped legal board has sides of a legal length
 sides_if : (wraps : Bool) (w h : ℕ) → is_side w ≡ true → is_side h ≡ true → AreSides (cond wraps (Some (w, h)) None)
 sides_if true w h wide high = (wide, high)
 sides_if false w h wide high = tt

@@ -78,12 +78,12 @@ step_is_near w h p Right on =
     let q = four_parts (int_le (pos 0) p.x) (int_lt p.x (pos w)) (int_le (pos 0) p.y) (int_lt p.y (pos h)) on in
     near_of w h (p.x +ℤ pos 1) p.y (up_from p.x w q.0 q.1) (stays p.y h q.2 q.3)
 
--- what is taken modulo a side lies within it
+-- a number modulo a side is within the side
 within_side : (z : ℤ) (n : ℕ) → 1 ≤ n → (int_le (pos 0) (int_rem_euclid z (pos n)) ≡ true) × (int_lt (int_rem_euclid z (pos n)) (pos n) ≡ true)
 within_side (pos a) n some = let low = mod_below a n some in (grind (arith, ints), grind (arith, ints))
 within_side (negsuc a) n some = (grind (arith, ints), grind (arith, ints))
 
--- what is taken modulo the sides lies on the board
+-- a cell modulo both sides is on the board
 torus_is_on_board : (w h : ℕ) (p : Point) → 1 ≤ w → 1 ≤ h → is_on_board w h (on_torus (Some (w, h)) p) ≡ true
 torus_is_on_board w h p wide high =
     let x = int_rem_euclid p.x (pos w) in
@@ -92,7 +92,7 @@ torus_is_on_board w h p wide high =
     let row = within_side p.y h high in
     four_from (int_le (pos 0) x) (int_lt x (pos w)) (int_le (pos 0) y) (int_lt y (pos h)) column.0 column.1 row.0 row.1
 
--- a step from the board leads at most one cell beyond it, and stays on it where its sides meet
+-- a step from the board leads at most one cell beyond it, and on a wrapped board stays on it
 neighbor_is_near : (wraps : Bool) (w h : ℕ) (p : Point) (d : Direction) → 1 ≤ w → 1 ≤ h → is_on_board w h p ≡ true
     → is_head_of wraps OutOfHealth w h (neighbor (cond wraps (Some (w, h)) None) p d) ≡ true
 neighbor_is_near true w h p d wide high on = torus_is_on_board w h (one_step p d) wide high

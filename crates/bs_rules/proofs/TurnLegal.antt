@@ -41,7 +41,7 @@ each_map P Q f xs step all seat d within =
 abbrev survivors : List (List ℕ × Direction) → Board → Board
 survivors orders b = collided (starved_or_outside (fed (moved_board orders b)))
 
--- a side has cells
+-- a side has at least one cell
 some_side : (n : ℕ) → is_side n ≡ true → 1 ≤ n
 some_side n h = let least = leb-true 3 n (and_parts (leb 3 n) (leb n 25) h).0 in omega arith
 
@@ -182,7 +182,7 @@ pub next_is_legal : (b moved next : Board) (orders : List (List ℕ × Direction
     → IsLegal b → b.turn < 10000 → IsLegal next
 next_is_legal b moved next orders words e f l early = rw (f, e) (finished_is_legal b orders words l early)
 
--- the same for the value, where the orders are told by their parts
+-- the value of a turn, from the two parts of the orders
 pub next_is_turn : (b moved next : Board) (orders : Orders) (moves : List (List ℕ × Direction)) (words : List ℕ) → moves ≡ orders.moves → words ≡ orders.words
     → moved ≡ moved_board moves b → next ≡ finished words moved → next ≡ turn_of b orders
 unfolding turn_of

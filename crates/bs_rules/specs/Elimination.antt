@@ -13,7 +13,7 @@ abbrev pub judged : ℕ → Option Verdict → Snake → Snake
 judged turn None s = s
 judged turn (Some v) s = record s { cause = Some v.cause; killer = v.killer; out = Some turn }
 
--- starved, else off the board, where its sides do not meet; nobody's doing
+-- starved, else off a board that is not wrapped; no snake is the killer
 abbrev pub first_verdict : Bool → ℕ → ℕ → Snake → Option Verdict
 first_verdict wraps width height s =
     if nat_eq s.health 0 then Some (record { cause = OutOfHealth; killer = None })

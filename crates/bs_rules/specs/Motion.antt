@@ -20,12 +20,12 @@ one_step p Down = record p { y = p.y -ℤ pos 1 }
 one_step p Left = record p { x = p.x -ℤ pos 1 }
 one_step p Right = record p { x = p.x +ℤ pos 1 }
 
--- the column modulo the width and the row modulo the height, where the sides meet
+-- on a wrapped board the column modulo the width and the row modulo the height
 abbrev pub on_torus : Option (ℕ × ℕ) → Point → Point
 on_torus None p = p
 on_torus (Some sides) p = record { x = int_rem_euclid p.x (pos sides.0); y = int_rem_euclid p.y (pos sides.1) }
 
--- one cell further, where the sides meet modulo them
+-- one cell further, modulo the sides of a wrapped board
 abbrev pub neighbor : Option (ℕ × ℕ) → Point → Direction → Point
 neighbor wrap p d = on_torus wrap (one_step p d)
 

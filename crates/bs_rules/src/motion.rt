@@ -46,7 +46,7 @@ fn one_step(cell: Point, direction: Direction) -> Point
     }
 }
 
-/// The column modulo the width and the row modulo the height, where the sides of the board meet.
+/// On a wrapped board the column modulo the width and the row modulo the height.
 fn on_torus(wrap: Option<(u8, u8)>, cell: Point) -> Point
     requires { AreSides wrap }
     ensures { result ≡ on_torus wrap cell }
@@ -116,8 +116,8 @@ fn move_body(
 }
 
 /// A living snake one step on, in the given direction or else straight on: a new head in front, the last part taken
-/// away, a turn hungrier. One that is out stays as it is. `wrap` has the sides of a board where they meet, and a step is
-/// taken modulo them.
+/// away, a turn hungrier. One that is out stays as it is. `wrap` is the width and height of a wrapped board, which each
+/// step is taken modulo.
 pub fn move_snake(
     alloc: Global,
     snake: &Snake,

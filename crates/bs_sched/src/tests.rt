@@ -5,7 +5,7 @@ use bs_board::limits::MOST_ROWS;
 use bs_board::plans::plan::have_distinct_names;
 use bs_board::{
     Cells, Command, Direction, Id, Mode, Move, Moves, New, Plan, Point, Refusal, Reply, Row, Rows,
-    Starts, TurnNumber, Word, Words,
+    Starts, TurnNumber, Version, Word, Words,
 };
 use bs_counter::{Finish, PartKey, Parted};
 use bs_fiber::{Done, Holders, JobKind, SharedCommand, work};
@@ -25,6 +25,7 @@ pub(crate) fn plan_of(rt: &impl Abort, alloc: Global, rows: &[(&str, u32)]) -> R
     assert!(rt; all.len() <= MOST_ROWS);
     Ok(Plan {
         rows: Rows::from_vec(all),
+        version: Version::One,
     })
 }
 

@@ -8,7 +8,7 @@ use bs_board::limits::MOST_ROWS;
 use bs_board::plans::plan::have_distinct_names;
 use bs_board::{
     Cells, Command, Direction, Id, Mode, Move, Moves, New, Plan, Point, Row, Rows, Starts,
-    TurnNumber, Words,
+    TurnNumber, Version, Words,
 };
 use bs_fiber::{JobKind, JobName, SharedCommand};
 use bs_sched::Core;
@@ -70,6 +70,7 @@ fn games(rt: &impl Abort, alloc: Global, names: &[&str]) -> Result<Plan, Fail>
     assert!(rt; rows.len() == names.len());
     Ok(Plan {
         rows: Rows::from_vec(rows),
+        version: Version::One,
     })
 }
 

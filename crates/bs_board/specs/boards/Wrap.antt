@@ -1,4 +1,4 @@
--- Boards whose sides meet.
+-- Wrapped boards, whose opposite edges are joined.
 use Rattle.std.specs.Prelude.{◌≡◌, ℕ, Bool, true, false, if◌then◌else◌, Option, Some, None, MatchOption}
 use Rattle.bs_board.specs.declared.boards.board.Board.{Board}
 use Rattle.bs_board.specs.declared.boards.board.Mode.{Mode}
@@ -11,10 +11,10 @@ is_wrapped Solo = false
 is_wrapped Constrictor = false
 is_wrapped Wrapped = true
 
--- the sides that a step is taken modulo, none where it may lead off the board
+-- the width and height that a step is taken modulo, none where it may lead off the board
 abbrev pub wrap_of : Board → Option (ℕ × ℕ)
 wrap_of b = if is_wrapped b.mode then Some (b.width, b.height) else None
 
--- both are a board's
+-- each is the side of some board
 abbrev pub AreSides : Option (ℕ × ℕ) → Type 0
 AreSides wrap = MatchOption wrap (Unit {0}) (λ sides. (is_side sides.0 ≡ true) × (is_side sides.1 ≡ true))

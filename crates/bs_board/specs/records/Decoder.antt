@@ -29,7 +29,7 @@ abbrev pub Gives : {X Y : Type 0} → (X → Y) → Result X Decode → Option Y
 Gives view (Ok x) read = read ≡ Some (view x)
 Gives view (Err error) read = Fails error read
 
--- the mode that has these bytes, and the cause that has this byte
+-- the mode with that version and byte, and the cause with that byte
 abbrev pub mode_from_bytes : ℕ → ℕ → Option Mode
 mode_from_bytes version byte =
     find (λ mode. version_byte mode == version && mode_byte mode == byte) (Standard ∷ Solo ∷ Constrictor ∷ Wrapped ∷ [])

@@ -18,7 +18,7 @@ mode_byte Solo = 1
 mode_byte Constrictor = 2
 mode_byte Wrapped = 3
 
--- the version in which the mode came
+-- the record's version, which depends on the mode alone
 abbrev pub version_byte : Mode → ℕ
 version_byte Standard = 1
 version_byte Solo = 1

@@ -13,12 +13,12 @@ pub enum Mode {
     Standard,
     Solo,
     Constrictor,
-    /// As standard, but the sides of the board meet: who leaves it at one comes back at the other.
+    /// As standard, on a board whose opposite edges are joined: a step across one enters at the other.
     Wrapped,
 }
 
 impl Mode {
-    /// Whether the sides of the board meet.
+    /// Whether opposite edges of the board are joined.
     pub fn is_wrapped(self) -> bool
         ensures { result ≡ is_wrapped self }
     {
@@ -66,7 +66,7 @@ impl Board {
         })
     }
 
-    /// The sides that a step is taken modulo, none where it may lead off the board.
+    /// The width and height that a step is taken modulo, `None` where it may lead off the board.
     pub fn wrap(&self) -> Option<(u8, u8)>
         ensures { result ≡ wrap_of self.now }
     {

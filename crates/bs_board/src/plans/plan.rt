@@ -7,6 +7,7 @@ ghost use Rattle.bs_board.specs.Texts.{is_same_text};
 
 use crate::limits::MOST_ROWS;
 use crate::plans::row::Row;
+use crate::plans::version::Version;
 use std::alloc::{AllocError, Global};
 use std::marker::Model;
 
@@ -95,10 +96,11 @@ impl Rows {
     }
 }
 
-/// The first line of a command file: the games that it hosts.
+/// The first line of a command file: the games that it hosts, and the version of its format.
 #[derive(Debug, Drop)]
 pub struct Plan {
     pub rows: Rows,
+    pub version: Version,
 }
 
 impl Plan {
@@ -108,6 +110,7 @@ impl Plan {
     {
         Ok(Plan {
             rows: self.rows.copy(alloc)?,
+            version: self.version,
         })
     }
 }

@@ -80,7 +80,7 @@ struct State {
     parts: u16,
 }
 
-/// Each mode has its own pair of version and byte, and there is no other.
+/// The mode with that version and byte; any other pair is in no record.
 fn mode_from_bytes(version: u8, byte: u8) -> Result<Mode, Decode>
     ensures { Gives (λ mode. mode) result (mode_from_bytes version byte) }
 {

@@ -95,7 +95,7 @@ fn mode_byte(mode: Mode) -> u8
     }
 }
 
-/// The version in which the mode came.
+/// The record's version, which depends on the mode alone.
 fn version_byte(mode: Mode) -> u8
     ensures { result ≡ version_byte mode }
 {

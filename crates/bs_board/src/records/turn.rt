@@ -1,5 +1,4 @@
-//! What a record says of its board with no board decoded: its turn, how many seats it has, and the sides that its
-//! steps are taken modulo.
+//! Values read from a record with no board decoded: the turn, the number of seats, and the sides of a wrapped board.
 
 ghost use Rattle.std.specs.Prelude.{◌≡◌, ◌≤◌, length, nat_eq, if◌then◌else◌, Some, None};
 ghost use Rattle.bs_board.specs.declared.boards.board.Board.{Board as AnyBoard};
@@ -24,7 +23,7 @@ pub fn seats_of_record(bytes: &[u8]) -> usize
     usize::from(bytes[8])
 }
 
-/// The mode's byte of a wrapped game.
+/// The mode byte of a wrapped board.
 const WRAPPED: u8 = 3;
 
 fn wrap_from(mode: u8, width: u8, height: u8) -> Option<(u8, u8)>
@@ -37,7 +36,8 @@ fn wrap_from(mode: u8, width: u8, height: u8) -> Option<(u8, u8)>
     }
 }
 
-/// The sides that a step is taken modulo on the board whose record the bytes are, none where it may lead off the board.
+/// The width and height that a step is taken modulo on the board whose record the bytes are, `None` where it may lead
+/// off the board.
 pub fn wrap_of_record(bytes: &[u8]) -> Option<(u8, u8)>
     requires { 4 ≤ length bytes.now }
     ensures { (b : AnyBoard) → bytes.now ≡ record_of b → result ≡ wrap_of b }

@@ -1,6 +1,6 @@
-use Rattle.std.proofs.Common.{◌≡◌, List, ap, subst, sym, ◌∙◌}
+use Rattle.std.proofs.Common.{◌≡◌, ap, subst, sym, ◌∙◌}
 use Rattle.std.specs.Prelude.{option_copied}
-use Rattle.bs_board.specs.plans.Plan.{GameRow}
+use Rattle.bs_board.specs.declared.plans.plan.Plan.{Plan}
 use Rattle.bs_host.specs.declared.limits.TheConstants.{BLOCK_BYTES}
 use Rattle.bs_host.specs.File.{pieces_after}
 use Rattle.bs_host.specs.Hosted.{HostsLines}
@@ -12,14 +12,15 @@ use Rattle.bs_host.proofs.serving.host_plan.Goals as goal
 
 pub returns-then-is_run-clause-core : goal.returns-then-is_run-clause-core
 returns-then-is_run-clause-core g c =
-    let rows = c.args.plan.rows in
+    let plan = c.args.plan in
+    let rows = plan.rows in
     let pieces = pieces_after (option_copied c.args.rest) in
-    let routes = routes_from rows 2 pieces in
-    let copied = c.in_ok-rows.rows in
+    let routes = routes_from plan 2 pieces in
+    let copied = c.in_ok-lines_plan.lines_plan in
     let requests = c.in_ok-requests.requests in
     let asked : requests.commands ≡ commands_by_row routes =
     requests_commands requests (routes_from copied 2 pieces) c.in_ok-requests.ensures
-    ∙ ap (λ (rows : List GameRow). commands_by_row (routes_from rows 2 pieces)) c.in_ok-rows.ensures in
+    ∙ ap (λ (plan : Plan). commands_by_row (routes_from plan 2 pieces)) c.in_ok-lines_plan.ensures in
     let given = c.in_ok-given.given in
     let ran = c.compare_and_tell-is_run.ensures.run c.if-is_run.true in
     let hosts = hosts_lines BLOCK_BYTES c.args.blocks c.in_ok-members.members rows routes requests.commands c.in_ok-core.core c.in_ok-core-2.core

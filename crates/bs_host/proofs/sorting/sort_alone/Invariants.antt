@@ -8,7 +8,7 @@ use Rattle.bs_host.proofs.sorting.sort_alone.Given as goal
 
 abbrev pub invariant-lines : goal.invariant-lines
 invariant-lines g l = record {
-  way : IsUnderWay l.rows (routes_from l.rows l.first (pieces_of l.fn.text)) l.number (pieces_after (option_copied l.left)) l.requests;
+  way : IsUnderWay l.plan (routes_from l.plan l.first (pieces_of l.fn.text)) l.number (pieces_after (option_copied l.left)) l.requests;
   few : l.number + bytes_left l.left ≤ 2 ^ 63;
   fewer : bytes_left l.left ≤ length l.fn.text + 1;
 }

@@ -1,0 +1,45 @@
+//! The versions of the format of command files.
+
+ghost use Rattle.std.specs.Prelude.{◌≡◌};
+ghost use Rattle.bs_board.specs.plans.Version.{has_wrapped, version_number, version_numbered};
+
+/// A version of the format of command files. Each has all that the versions before it have.
+#[derive(Clone, Copy, Debug, PartialEq, Eq)]
+pub enum Version {
+    One,
+    /// Adds the mode `wrapped`.
+    Two,
+}
+
+impl Version {
+    /// The version of that number, `None` for any other number.
+    pub fn from_number(number: u64) -> Option<Version>
+        ensures { result ≡ version_numbered number }
+    {
+        match number {
+            1 => Some(Version::One),
+            2 => Some(Version::Two),
+            _ => None,
+        }
+    }
+
+    /// The number that a plan gives for the version.
+    pub fn number(self) -> u8
+        ensures { result ≡ version_number self }
+    {
+        match self {
+            Version::One => 1,
+            Version::Two => 2,
+        }
+    }
+
+    /// Whether a game may be played in wrapped mode.
+    pub fn has_wrapped(self) -> bool
+        ensures { result ≡ has_wrapped self }
+    {
+        match self {
+            Version::One => false,
+            Version::Two => true,
+        }
+    }
+}
