@@ -22,8 +22,8 @@ use bs_fiber::{Done, JobKind, JobName, Out, Ticket};
 use bs_game::Answer;
 use thiserror::Error;
 
-/// The worker has no such job of the core out, or what it read is not what the core has for it. It comes back as it
-/// was.
+/// The worker has no such job of the core out, or what it read is not what the core has for it. It
+/// comes back as it was.
 #[derive(Debug, Drop, Error)]
 #[error("no such job is out with this worker")]
 pub struct Stray {
@@ -104,7 +104,7 @@ impl<const CAP: usize> Games<CAP> {
         game < self.fibers.len() && is_own(&self.fibers[game], &self.heaps[game], worker, ticket)
     }
 
-    /// The same of a job that is no part.
+    /// Whether it is no part, and the worker's own.
     fn is_own_job(&self, worker: usize, done: &Done) -> bool
         ensures { IsTrue result ↔ IsOwnJob self.now worker done.now }
     {
@@ -141,8 +141,8 @@ impl<const CAP: usize> Core<CAP> {
         ticket
     }
 
-    /// The worker brings back a job that it took. It asks for no memory. `Stray` gives back what is not the core's, and
-    /// then nothing has changed.
+    /// The worker brings back a job that it took. It asks for no memory. `Stray` gives back what is
+    /// not the core's, and then nothing has changed.
     pub fn put(&mut self, worker: usize, done: Done) -> Result<(), Stray>
         ensures own { OnOk result (IsOwnJob self.old.games worker done) }
         ensures ok { OnOk result (self.new ≡ core_after CAP self.old (event.Put worker done.job)) }
@@ -152,7 +152,8 @@ impl<const CAP: usize> Core<CAP> {
         Ok(())
     }
 
-    /// The same, and the job's ticket comes back, which is spent: `take_over` can make a new one of it.
+    /// The same, and the job's ticket comes back, which is spent: `take_over` can make a new one of
+    /// it.
     pub fn put_back(&mut self, worker: usize, done: Done) -> Result<Ticket, Stray>
         ensures own { OnOk result (IsOwnJob self.old.games worker done) }
         ensures ok { OnOk result (self.new ≡ core_after CAP self.old (event.Put worker done.job)) }

@@ -8,10 +8,10 @@ use bs_fiber::{Done, Holders, Input, JobKind, Out, Ticket};
 use bs_sched::{Core, Taken};
 use std::alloc::Global;
 
-/// What a worker is told that asks for a job.
+/// The answer to a worker that asks for a job.
 #[derive(Drop)]
 pub(crate) enum Assignment {
-    /// Work this one.
+    /// Run this job.
     Work(Task),
     /// None is ready, and one may become so.
     Wait,
@@ -22,7 +22,8 @@ pub(crate) enum Assignment {
 /// What a thread is told that asks for jobs.
 #[derive(Clone, Copy, PartialEq, Eq)]
 pub(crate) enum Next {
-    /// It has some to work. Before that it calls those that wait, if there may be some for them too.
+    /// It has some to work. Before that it calls those that wait, if there may be some for them
+    /// too.
     Work { calls: bool },
     /// None is ready, and one may become so.
     Wait,
@@ -50,7 +51,8 @@ fn has_parts_behind(ticket: &Ticket) -> bool {
 struct Brought {
     /// Of how many games there may be a job ready now that was not before.
     games: usize,
-    /// Whether that may be more jobs than one: a move that goes makes all its parts ready, any other job one at most.
+    /// Whether that may be more jobs than one: a move that goes makes all its parts ready, any
+    /// other job one at most.
     spreads: bool,
 }
 
@@ -60,7 +62,8 @@ pub struct Desk<const CAP: usize> {
     core: Core<CAP>,
     /// How many threads came for jobs and have none.
     idle: usize,
-    /// Whether who looked last found no job more, and since then none was left by who could have taken it.
+    /// Whether who looked last found no job more, and since then none was left by who could have
+    /// taken it.
     drained: bool,
     /// Whether the last command is handed in.
     closed: bool,
@@ -122,7 +125,8 @@ impl<const CAP: usize> Desk<CAP> {
         }
     }
 
-    /// What the worker is to do next. A new ticket's input takes the place of a spent one, if there is one.
+    /// Takes a job for the worker. The new ticket reuses the memory of a spent input, if there is
+    /// one.
     pub(crate) fn assign(
         &mut self,
         alloc: Global,
@@ -151,7 +155,7 @@ impl<const CAP: usize> Desk<CAP> {
         }
     }
 
-    /// The worker brings back a job that is done, and keeps the ticket that it spent.
+    /// Completes a job of the worker. The result is its spent ticket.
     #[inline(always)]
     pub(crate) fn put(&mut self, worker: usize, done: Done) -> Option<Ticket> {
         match self.core.put_back(worker, done) {
@@ -163,14 +167,14 @@ impl<const CAP: usize> Desk<CAP> {
         }
     }
 
-    /// All parts of a move are brought back.
+    /// Completes all parts of a move.
     pub(crate) fn put_parts(&mut self, parts: ArrayVec<Option<Done>, 4>) {
         if self.core.put_parts(parts).is_err() {
             self.stop(Run::Broken);
         }
     }
 
-    /// The thread brings back all that it worked.
+    /// Completes all that the thread ran.
     fn bring_all(&mut self, crew: &mut Crew) -> Brought {
         let mut brought = Brought {
             games: crew.count_parts(),
@@ -194,8 +198,8 @@ impl<const CAP: usize> Desk<CAP> {
         brought
     }
 
-    /// The worker takes a job, and where that is a part of a move the parts behind it too. Where there was none, what one is told
-    /// that asks for a job more.
+    /// The worker takes a job, and where that is a part of a move the parts behind it too. Where
+    /// there was none, what one is told that asks for a job more.
     fn assign_parts(&mut self, alloc: Global, crew: &mut Crew, worker: usize) -> Option<Next> {
         for _ in 0..MOST_PARTS {
             let spent = crew.take_cleared();
@@ -214,7 +218,8 @@ impl<const CAP: usize> Desk<CAP> {
         None
     }
 
-    /// The thread takes jobs for so many of its workers. Where there were fewer, what one is told that asks for a job more.
+    /// The thread takes jobs for so many of its workers. Where there were fewer, what one is told
+    /// that asks for a job more.
     fn assign_some(&mut self, alloc: Global, crew: &mut Crew, workers: usize) -> Option<Next> {
         for place in 0..workers {
             let fewer = self.assign_parts(alloc, crew, crew.worker(place));
@@ -225,9 +230,10 @@ impl<const CAP: usize> Desk<CAP> {
         None
     }
 
-    /// For how many of its workers a thread takes jobs that brought back those of so many games. Where others have none it leaves
-    /// them their share. Where nothing was left when somebody looked last, there is no more than its own games have next: to look
-    /// through all games for more would take long, and each of them would go from its thread's cache to this one's.
+    /// For how many of its workers a thread takes jobs that brought back those of so many games.
+    /// Where others have none it leaves them their share. Where nothing was left when somebody
+    /// looked last, there is no more than its own games have next: to look through all games for
+    /// more would take long, and each of them would go from its thread's cache to this one's.
     fn count_asking(&self, size: usize, games: usize) -> usize {
         if self.idle > 1 {
             (games / self.idle.max(1)).clamp(1, size.max(1))
@@ -251,8 +257,9 @@ impl<const CAP: usize> Desk<CAP> {
         }
     }
 
-    /// The thread brings back what it worked, and takes jobs for its workers: for fewer of them where other threads have none, which
-    /// it then calls where it may have left some that they could take.
+    /// The thread brings back what it worked, and takes jobs for its workers: for fewer of them
+    /// where other threads have none, which it then calls where it may have left some that they
+    /// could take.
     pub(crate) fn exchange(&mut self, alloc: Global, crew: &mut Crew) -> Next {
         if let Some(fault) = crew.fault() {
             self.stop(fault);

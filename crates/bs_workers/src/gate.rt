@@ -3,7 +3,8 @@ use bs_fiber::JobName;
 
 /// Asked before each job is worked, by the thread that works it, while it holds no lock.
 pub trait Gate: Sync {
-    /// Whether the worker may work the job: the thread of that number, from 0 on. Where it may not, the run is broken off.
+    /// Whether the worker may work the job: the thread of that number, from 0 on. Where it may not,
+    /// the run is broken off.
     fn at(&self, worker: usize, job: JobName) -> bool;
 }
 

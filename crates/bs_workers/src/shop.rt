@@ -12,13 +12,14 @@ use std::ops::Range;
 use std::sync::{Condvar, Mutex, MutexGuard, Wait};
 use std::thread::{self, Threads};
 
-/// A core at which several threads work, while commands are handed in. Its lock is held while commands are handed in, and once
-/// between two turns of a thread at its jobs, while those are brought back and the next are taken; never while a job is worked.
-/// Of the core that comes out of it nothing is promised: `Given::is_left` tells whether it is what it has to be.
+/// A core at which several threads work, while commands are handed in. Its lock is held while
+/// commands are handed in, and once between two turns of a thread at its jobs, while those are
+/// brought back and the next are taken; never while a job is worked. Of the core that comes out of
+/// it nothing is promised: `Given::is_left` tells whether it is what it has to be.
 #[derive(Drop)]
 pub struct Shop<const CAP: usize> {
-    /// The desk lies in memory of its own: each look at the lock takes the lock's line of the cache from the thread that is at
-    /// the desk, and what that works with would lie in the same line.
+    /// The desk lies in memory of its own: each look at the lock takes the lock's line of the cache
+    /// from the thread that is at the desk, and what that works with would lie in the same line.
     desk: Mutex<Box<Desk<CAP>>>,
     changed: Condvar,
     /// How many threads work there at most.
@@ -27,10 +28,11 @@ pub struct Shop<const CAP: usize> {
     crew: usize,
 }
 
-/// How often a thread looks whether the desk is free before it sleeps for it. A lock that somebody slept for is left to those that
-/// sleep, and is idle until one of them is awake: where others come to it every few microseconds, they then go to sleep in turn. So a
-/// thread sleeps only where all looks were in vain. They take a tenth of a millisecond to one, by what a hint is to the processor: more
-/// than ten turns at the desk.
+/// How often a thread looks whether the desk is free before it sleeps for it. A lock that somebody
+/// slept for is left to those that sleep, and is idle until one of them is awake: where others come
+/// to it every few microseconds, they then go to sleep in turn. So a thread sleeps only where all
+/// looks were in vain. They take a tenth of a millisecond to one, by what a hint is to the
+/// processor: more than ten turns at the desk.
 const LOOKS: u32 = 4_000;
 
 /// How many hints that it waits the processor gets between two looks.
@@ -44,8 +46,8 @@ fn pause() {
 }
 
 impl<const CAP: usize> Shop<CAP> {
-    /// Nothing was done yet with that core, at which so many threads are to work, each of which stands for a crew of so many
-    /// workers.
+    /// Nothing was done yet with that core, at which so many threads are to work, each of which
+    /// stands for a crew of so many workers.
     pub fn new(
         alloc: Global,
         core: Core<CAP>,
@@ -60,8 +62,9 @@ impl<const CAP: usize> Shop<CAP> {
         })
     }
 
-    /// The desk, once no other thread is at it. A turn at it takes less time than going to sleep and waking up, so the thread
-    /// looks many times whether the desk is free before it sleeps for it.
+    /// The desk, once no other thread is at it. A turn at it takes less time than going to sleep
+    /// and waking up, so the thread looks many times whether the desk is free before it sleeps for
+    /// it.
     fn enter<R: Wait>(&self, rt: &R) -> MutexGuard<'_, Box<Desk<CAP>>> {
         for _ in 0..LOOKS {
             if let Some(desk) = self.desk.try_lock() {
@@ -80,8 +83,9 @@ impl<const CAP: usize> Shop<CAP> {
         }
     }
 
-    /// What the thread is to do, once it has brought back what it worked. Where nothing is ready it waits for a change first,
-    /// and then is to ask again. One that ends wakes all, since they are to end too.
+    /// What the thread is to do, once it has brought back what it worked. Where nothing is ready it
+    /// waits for a change first, and then is to ask again. One that ends wakes all, since they are
+    /// to end too.
     fn exchange<R: Wait>(&self, rt: &R, alloc: Global, crew: &mut Crew) -> Next {
         let mut desk = self.enter(rt);
         let next = desk.exchange(alloc, crew);
@@ -101,8 +105,9 @@ impl<const CAP: usize> Shop<CAP> {
         !desk.is_stopped()
     }
 
-    /// Hands in commands, each with the row of its game, after which there may be jobs more. Their holders are made before the
-    /// lock is taken. Whether the run goes on: it is broken off where there is no memory, or no such row.
+    /// Hands in commands, each with the row of its game, after which there may be jobs more. Their
+    /// holders are made before the lock is taken. Whether the run goes on: it is broken off where
+    /// there is no memory, or no such row.
     pub fn hand<R: Wait>(
         &self,
         rt: &R,
@@ -130,7 +135,8 @@ impl<const CAP: usize> Shop<CAP> {
         self.changed.notify_all();
     }
 
-    /// The caller's thread works as the one of that number: what is ready, and what becomes so, until the end.
+    /// The caller's thread works as the one of that number: what is ready, and what becomes so,
+    /// until the end.
     fn work<R: Wait, G: Gate>(&self, rt: &R, alloc: Global, thread: usize, gate: &G) {
         let Ok(mut crew) = Crew::new(alloc, thread, self.crew) else {
             self.stop(rt, Run::Memory);
@@ -145,8 +151,8 @@ impl<const CAP: usize> Shop<CAP> {
         }
     }
 
-    /// The threads of these numbers work until the end: the first of them is the caller's own, the others are started. One that the
-    /// system does not start is left out.
+    /// The threads of these numbers work until the end: the first of them is the caller's own, the
+    /// others are started. One that the system does not start is left out.
     pub fn work_in_threads<R: Threads + Wait + Sync, G: Gate>(
         &self,
         rt: &R,
@@ -167,8 +173,8 @@ impl<const CAP: usize> Shop<CAP> {
         });
     }
 
-    /// The core, once no other thread is there and the caller's has worked what is left. The gate is told that this thread comes
-    /// behind all others.
+    /// The core, once no other thread is there and the caller's has worked what is left. The gate
+    /// is told that this thread comes behind all others.
     pub fn finish<R: Wait, G: Gate>(
         self,
         rt: &R,

@@ -1,4 +1,5 @@
-//! Working: commands handed in beside the threads that work them, and what the caller's own worker makes of what is left.
+//! Queueing commands beside the threads that run them, and finishing what is left on the caller's
+//! thread.
 use crate::desk::{Assignment, Desk};
 use crate::fault::Run;
 use crate::gate::Gate;
@@ -9,7 +10,7 @@ use std::alloc::{AllocError, Global};
 use std::sync::Wait;
 use std::thread::{Threads, join};
 
-/// The caller's own worker does all that is left to do, once no other is there.
+/// Runs all that is left on the caller's own worker, after the other threads have ended.
 pub(crate) fn finish<const CAP: usize, R: Wait, G: Gate>(
     rt: &R,
     alloc: Global,
@@ -41,8 +42,9 @@ pub(crate) fn finish<const CAP: usize, R: Wait, G: Gate>(
     }
 }
 
-/// How many commands are handed in at once: the lock is taken once for all of them. Each time the lines of all games go to the caller's
-/// processor and back, so they are many; threads come to the lock in between.
+/// How many commands are handed in at once: the lock is taken once for all of them. Each time the
+/// lines of all games go to the caller's processor and back, so they are many; threads come to the
+/// lock in between.
 const COMMANDS_AT_ONCE: usize = 1024;
 
 /// Makes holders of these commands for a core, each with its game's row.
@@ -72,7 +74,8 @@ fn hand_all<const CAP: usize, R: Wait>(
     shop.close(rt);
 }
 
-/// Hands in all commands beside so many threads that work them. A single one is the caller's own, which works later.
+/// Hands in all commands beside so many threads that work them. A single one is the caller's own,
+/// which works later.
 pub(crate) fn hand_to_threads<const CAP: usize, R: Threads + Wait + Sync, G: Gate>(
     rt: &R,
     alloc: Global,
