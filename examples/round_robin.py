@@ -1,12 +1,12 @@
 #!/usr/bin/env python3
-"""Writes the command file of a round robin: each of the given bots meets each other one once, in a game of two snakes.
+"""Writes the command file of a round robin: each of the given bots meets each other one once a round, in a game of two snakes.
 
-    examples/round_robin.py [--turns N] [--seed N] BOT.moves .. > FILE
+    examples/round_robin.py [--turns N] [--rounds N] [--seed N] BOT.moves .. > FILE
 
 A bot is a file of its moves: the words up, down, left and right, from the first turn on; after the last word it begins with the first
 again, and # starts a comment. It plays under the file's name without the ending. All games go on at once, turn by turn. The numbers that
 decide where food appears are drawn from the seed, so the same words on the command line give the same file. The last line, on the
-standard error, says how many blocks the games need.
+standard error, says how many blocks the games need, or that they are more than a file may have: then examples/split.py comes next.
 """
 import argparse
 import json
@@ -48,20 +48,32 @@ def pairings(names):
     return pairs
 
 
+def named_games(names, rounds):
+    """The two bots of each game by its name. With each round they change sides; from the second on its number is in the name."""
+    games = {}
+    for at in range(1, rounds + 1):
+        for a, b in pairings(names):
+            left, right = (a, b) if at % 2 else (b, a)
+            games[f"{left}-{right}" if at == 1 else f"{left}-{right}-{at}"] = (left, right)
+    return games
+
+
 def blocks_for(games, quota=QUOTA):
     """The blocks that so many games of that quota need: docs/FORMATS.md says how many for each."""
     return games * (quota // 1_835_008 + 2 + 4)
 
 
-def command_lines(bots, turns, seed):
+def command_lines(bots, turns, seed, rounds=1):
     """The lines of the file; bots has the moves of each by its name."""
     draw = random.Random(seed)
-    games = {f"{a}-{b}": (a, b) for a, b in pairings(sorted(bots))}
+    games = named_games(sorted(bots), rounds)
     for name in games:
         if len(name.encode()) > LONGEST_NAME:
             raise ValueError(f"the name of the game {name} has more than {LONGEST_NAME} bytes")
-    if not 1 <= len(games) <= MOST_GAMES:
-        raise ValueError(f"{len(bots)} bots are {len(games)} games, and a file has 1 to {MOST_GAMES}")
+    if not games:
+        raise ValueError(f"{rounds} rounds of {len(bots)} bots have no game")
+    if len(games) != rounds * len(bots) * (len(bots) - 1) // 2:
+        raise ValueError("two games have the same name")
     yield line(games=[{"game": name, "quota": QUOTA} for name in games])
     for name, pair in games.items():
         snakes = [{"id": id, **start} for id, start in zip(pair, STARTS)]
@@ -85,19 +97,27 @@ def read_bots(paths):
     return bots
 
 
+def told(games, turns):
+    """What the standard error says of so many games."""
+    said = f"{games} games of {turns} moves: "
+    if games > MOST_GAMES:
+        return said + f"a file has at most {MOST_GAMES}, so give it to examples/split.py"
+    return said + f"arena serve needs --blocks {blocks_for(games)} or more"
+
+
 def main():
     parser = argparse.ArgumentParser(description=__doc__, formatter_class=argparse.RawDescriptionHelpFormatter)
     parser.add_argument("bots", nargs="+", metavar="BOT.moves", type=Path)
     parser.add_argument("--turns", type=int, default=150, help="moves that each game is given, 150 if left out")
+    parser.add_argument("--rounds", type=int, default=1, help="how often each two meet, once if left out")
     parser.add_argument("--seed", type=int, default=1, help="of the numbers for food, 1 if left out")
     given = parser.parse_args()
     try:
-        lines = list(command_lines(read_bots(given.bots), given.turns, given.seed))
+        lines = list(command_lines(read_bots(given.bots), given.turns, given.seed, given.rounds))
     except (OSError, ValueError) as fault:
         sys.exit(f"round_robin: {fault}")
     print("\n".join(lines))
-    games = len(json.loads(lines[0])["games"])
-    print(f"{games} games of {given.turns} moves: arena serve needs --blocks {blocks_for(games)} or more", file=sys.stderr)
+    print(told(len(json.loads(lines[0])["games"]), given.turns), file=sys.stderr)
 
 
 if __name__ == "__main__":

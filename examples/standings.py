@@ -1,9 +1,9 @@
 #!/usr/bin/env python3
-"""Reads a transcript and prints the standings: for each snake its games, wins, draws, losses, turns lived, and how it went out.
+"""Reads transcripts and prints the standings: for each snake its games, wins, draws, losses, turns lived, and how it went out.
 
-    examples/standings.py [TRANSCRIPT]
+    examples/standings.py [TRANSCRIPT ..]
 
-The standard input is read where no file is named. A snake wins where it alone lives on the final board of a game that is over. It draws
+All games of all files are counted in one table. The standard input is read where no file is named. A snake wins where it alone lives on the final board of a game that is over. It draws
 where it lives on the final board of a game that is not over, or where nobody lives and it was among the last to go out. Any other game
 is lost. Turns lived are up to the turn in which the snake went out, or to the final board's. A game of one snake gives no win, draw or
 loss. Snakes stand in the order of wins, then draws, then turns lived. Below the table stands what the host turned down.
@@ -87,13 +87,19 @@ def report(lines):
     return "\n".join(parts)
 
 
+def lines_of(paths):
+    """The lines of these files, one file after the other."""
+    for path in paths:
+        with open(path) as file:
+            yield from file
+
+
 def main():
     parser = argparse.ArgumentParser(description=__doc__, formatter_class=argparse.RawDescriptionHelpFormatter)
-    parser.add_argument("transcript", nargs="?", type=Path)
+    parser.add_argument("transcripts", nargs="*", metavar="TRANSCRIPT", type=Path)
     given = parser.parse_args()
     try:
-        text = given.transcript.read_text() if given.transcript else sys.stdin.read()
-        print(report(text.splitlines()))
+        print(report(lines_of(given.transcripts) if given.transcripts else sys.stdin))
     except (OSError, ValueError) as fault:
         sys.exit(f"standings: {fault}")
 

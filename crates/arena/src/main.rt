@@ -3,6 +3,8 @@
 
 mod command_line;
 mod failure;
+#[cfg(test)]
+mod games_tests;
 mod program;
 #[cfg(test)]
 mod tests;

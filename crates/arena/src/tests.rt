@@ -17,7 +17,7 @@ const TWO_GAMES_END: &str = "{\"board\":null,\"charge\":0,\"final\":true,\"game\
     {\"board\":null,\"charge\":0,\"final\":true,\"game\":\"b\"}\n";
 
 // The status, the output and the errors of a run on those words and that standard input.
-fn ran<H: Files + Threads + Wait + Sync>(
+pub(crate) fn ran<H: Files + Threads + Wait + Sync>(
     rt: &H,
     alloc: Global,
     words: &[&str],

@@ -108,3 +108,9 @@ pub length-extended : (xs : List ℕ) (n : ℕ) (ws : List ℕ) → length (exte
 length-extended xs n ws =
     let new = refill n (replicate n 0) ws in let long : n ≡ length new = length_refill n (replicate n 0) ws (sym (length-replicate {A = ℕ} n 0)) in
     omega (arith, length-append xs (padded new), length-padded new, ap rounded long)
+
+-- bytes that fill the whole piece stand there, and zeros behind them
+pub extended_whole : (xs : List ℕ) (n : ℕ) (ws : List ℕ)
+    → length ws ≡ n → extended xs n ws ≡ xs ++ padded ws
+extended_whole xs n ws whole =
+    ap (λ l. xs ++ padded l) (take_at ws (drop (length ws) (replicate n 0)) n whole)

@@ -1,6 +1,6 @@
 -- What a block ends as, once a `&mut` into it has ended.
-use Rattle.std.specs.Prelude.{ℕ, List}
-use Rattle.std.specs.Borrow.{Fml, MutBor, RattleType, Array, Lends, u8}
+use Rattle.std.specs.Prelude.{ℕ, List, Option}
+use Rattle.std.specs.Borrow.{Fml, Bor, MutBor, RattleType, Array, Lends, follows_if, name_if_some, u8}
 use Rattle.bs_block.specs.Bytes.{with_range, extended}
 use Rattle.bs_block.specs.contracts.block.Block.{the_row}
 
@@ -12,3 +12,9 @@ module _ (CAP : RattleType) (b : MutBor (List ℕ)) where
   -- the old bytes are as before, and those behind the n are zeros
   abbrev pub lends_fresh : ℕ → MutBor (List ℕ) → Fml
   lends_fresh n r = Lends (the_row CAP) (Array u8 0) b r (extended b.now n)
+
+  -- at `Some` as after the loan of `fill`, and at `None` as before
+  abbrev pub lends_fresh_if : ℕ → Option (Bor (List ℕ) × MutBor (List ℕ)) → Fml
+  lends_fresh_if n parts =
+      follows_if (the_row CAP) (Array u8 0) b.ghost_name
+      (name_if_some (λ lent. lent.1.ghost_name) parts) (extended b.now n) b.now

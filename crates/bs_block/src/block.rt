@@ -1,5 +1,5 @@
 //! A block and its calls. A clause sees a block as the list of its bytes.
-ghost use Rattle.std.specs.Prelude.{◌≡◌, ◌+◌, ◌-◌, ◌≤◌, [], ◌++◌, length, take, replicate, IfOk, MatchOption};
+ghost use Rattle.std.specs.Prelude.{◌≡◌, ◌+◌, ◌-◌, ◌≤◌, [], ◌++◌, length, take, replicate, IfOk, MatchOption, IsTrue, ◌↔◌};
 ghost use Rattle.std.specs.Borrow.{sem};
 ghost use Rattle.bs_block.specs.Bytes.{IsCapacity, HasRoom, Overflows, Pushes, range};
 ghost use Rattle.bs_block.specs.Rounding.{rounded};
@@ -35,7 +35,7 @@ impl<const CAP: usize> Model for Block<CAP> {
 }
 
 impl<const CAP: usize> Block<CAP> {
-    ghost use Rattle.bs_block.specs.BlockLends.{lends_range, lends_fresh};
+    ghost use Rattle.bs_block.specs.BlockLends.{lends_range, lends_fresh, lends_fresh_if};
 
     /// An empty block. Only this call takes memory, `CAP` bytes at once, and it touches none of them.
     /// An error is the allocator's.
@@ -145,6 +145,13 @@ impl<const CAP: usize> Block<CAP> {
         Some(size)
     }
 
+    /// Whether the rounded size of `n` bytes exceeds the room.
+    fn overflows(&self, n: usize) -> bool
+        ensures { IsTrue result ↔ Overflows CAP self.now n }
+    {
+        self.fitting(n).is_none()
+    }
+
     /// Appends the bytes, then zeros up to a multiple of `UNIT`, and answers the old length: where the bytes now lie.
     /// `None` where the rounded size exceeds the room.
     #[tactic(auto, using(crate::proofs::Rounded::rounded_above))]
@@ -173,12 +180,16 @@ impl<const CAP: usize> Block<CAP> {
         self.lend(old, n)
     }
 
-    /// `fill`, or `None` where the rounded size exceeds the room. A caller's proof does not learn from it what stands in
-    /// the block after the loan, as it does from `fill`.
+    /// Appends and lends as `fill` does. `None` where the rounded size exceeds the room, and then the
+    /// block is unchanged.
     pub fn split_fill(&mut self, n: usize) -> Option<(&[u8], &mut [u8])>
-        ensures { MatchOption result (Overflows CAP self.old n) (λ parts. HasRoom CAP self.old n × (parts.0.now ≡ self.old) × (parts.1.now ≡ replicate n 0)) }
+        ensures* writes_back { sem 𝓛 (lends_fresh_if CAP.row self.entry n result) }
+        ensures parts { MatchOption result (Overflows CAP self.old n)
+            (λ parts. HasRoom CAP self.old n × (parts.0.now ≡ self.old) × (parts.1.now ≡ replicate n 0)) }
     {
-        self.fitting(n)?;
+        if self.overflows(n) {
+            return None;
+        }
         Some(self.fill(n))
     }
 }

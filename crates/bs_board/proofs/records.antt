@@ -1,6 +1,7 @@
 -- Lemmas on the bytes that a board is kept as.
 pub mod BoardRecord
 pub mod Fields
+pub mod FitSnake
 pub mod KeptRecord
 pub mod Lengths
 pub mod Parts

@@ -1,5 +1,6 @@
 -- The bytes that a board is kept as.
 pub mod Decoder
+pub mod FitSnake
 pub mod Kept
 pub mod Record
 pub mod Writing

@@ -10,6 +10,8 @@ pub mod limits;
 pub mod plans;
 pub mod records;
 #[cfg(test)]
+mod snake_tests;
+#[cfg(test)]
 mod tests;
 
 pub use boards::board::{Board, Mode};
@@ -37,4 +39,5 @@ pub use records::kept::{kept_board, kept_ground, kept_snakes};
 pub use records::kept_board::KeptBoard;
 pub use records::over::over_of_record;
 pub use records::sizes::size;
+pub use records::snake::{decode_snake, encode_snake_into, snake_size};
 pub use records::turn::{seats_of_record, turn_of_record, wrap_of_record};

@@ -7,4 +7,5 @@ pub mod kept;
 pub mod kept_board;
 pub mod over;
 pub mod sizes;
+pub mod snake;
 pub mod turn;

@@ -11,8 +11,8 @@ use Rattle.bs_counter.specs.Tally.{Covers, Tallied}
 abbrev pub IsMissing : List View → ℕ → Type 0
 IsMissing views p = (i : ℕ) × (v : View) × (get_elem? views i ≡ some v) × Covers v p
 
--- A state of the rule is a set of missing parts. The word is 0 exactly where it is empty, and a seat that finishes its part takes that
--- part away and no other, whether it is the last or not.
+-- A state of the rule is a set of missing parts. The word is 0 exactly where it is empty, and a
+-- seat that finishes its part takes that part away and no other, whether it is the last or not.
 pub record IsSet {T : Type 0} (s : State (Option T) View) : Type 0 where
   pub empty : slice_index s.words 0 ≡ 0 ↔ ((p : ℕ) → ¬ IsMissing s.views p)
   pub finish : (id p : ℕ) (w : View) → get_elem? s.views id ≡ some (Writes p) → ((q : ℕ) → ¬ Covers w q)

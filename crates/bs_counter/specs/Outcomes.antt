@@ -10,7 +10,8 @@ pub record AreOutcomes {T : Type 0} (part : T → ℕ) (n : ℕ) (outs : List (O
   pub many : length outs ≡ n
   pub each : (p : ℕ) → p < n → (x : T) × (slice_get outs p ≡ Some (Some x)) × (part x ≡ p)
 
--- where others are missing, the key's own seat comes back, which is past its step; else the outcomes of all parts
+-- where others are missing, the key's own seat comes back, which is past its step; else the
+-- outcomes of all parts
 abbrev pub Finished : {T : Type 0} → (T → ℕ) → Key → Finish T → Type 0
 Finished part key (finish.More spent) = (spent.seat.table_id ≡ key.tally) × (spent.seat.id ≡ key.seat) × (spent.seat.me ≡ (Past, []))
 Finished part key (finish.Last outs) = AreOutcomes part key.parts outs.items

@@ -1,4 +1,5 @@
--- What the seats of a tally know, the rule that ties this to its word and its slots, and what each step tells.
+-- What the seats of a tally know, the rule that ties this to its word and its slots, and what each
+-- step tells.
 use Rattle.std.specs.Prelude.{◌≡◌, ◌≢◌, ℕ, ◌+◌, ◌-◌, ◌<◌, ◌≤◌, List, [], ◌∷◌, length, slice_index, Option, Some, None}
 use mathlib.Core.Option.{some}
 use mathlib.Core.Option as maybe

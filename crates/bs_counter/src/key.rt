@@ -4,18 +4,19 @@ ghost use Rattle.bs_counter.specs.Outcomes.{Finished};
 
 use crate::finish::{Finish, Spent, fetch_all};
 use crate::parted::Parted;
-use crate::steps::{Board, Chair, end, start};
+use crate::steps::{TallySeat, TallyTable, end, start};
 use std::alloc::Global;
 use std::fmt;
 use std::fmt::{Debug, Formatter};
 use std::marker::Model;
 use std::sync::Arc;
 
-/// The right to finish one part, once. Clauses see its part, how many parts there are, and which seat it has at which tally.
+/// The right to finish one part, once. Contracts see the part, the number of parts, the tally and
+/// the seat.
 #[derive(Drop)]
 pub struct PartKey<T: Parted> {
-    pub(crate) tally: Arc<Board<T>, Global>,
-    pub(crate) seat: Chair<T>,
+    pub(crate) tally: Arc<TallyTable<T>, Global>,
+    pub(crate) seat: TallySeat<T>,
     pub(crate) part: usize,
     pub(crate) parts: usize,
 }
@@ -32,14 +33,15 @@ impl<T: Parted> Model for PartKey<T> {
 }
 
 impl<T: Parted + Drop> PartKey<T> {
-    /// The number of its part.
+    /// The number of the part.
     pub fn part(&self) -> usize
         ensures { result ≡ self.now.part }
     {
         self.part
     }
 
-    /// The part is finished, with that outcome. Who finishes the last part that is missing gets the outcomes of all.
+    /// Finishes the part with its outcome. The last finisher of a tally gets the outcomes of all
+    /// parts. Takes no lock and no memory.
     pub fn finish(self, out: T) -> Finish<T>
         requires { T.part_of out ≡ self.part }
         ensures { Finished T.part_of self result }

@@ -1,4 +1,4 @@
-//! Counting down the parts of a turn, by threads that take no lock.
+//! A tally counts the missing parts of a turn, by atomic steps and without a lock.
 #![tactic(auto)]
 
 mod finish;

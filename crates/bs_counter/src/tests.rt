@@ -1,4 +1,4 @@
-//! Tallies of one and of four parts, the latter by four threads too.
+//! Tallies of one and of four parts, the latter also finished by four threads.
 ghost use Rattle.std.specs.Prelude.{◌≡◌};
 
 use crate::{Finish, PartKey, Parted, Tally};
@@ -9,7 +9,7 @@ use std::test::Fail;
 use std::thread;
 use std::thread::Threads;
 
-/// What a part comes to.
+/// The outcome of a part: a value beside the number of the part.
 #[derive(Drop)]
 struct Piece {
     part: usize,
@@ -24,53 +24,69 @@ impl Parted for Piece {
     }
 }
 
+/// Finishes the key's part with that value.
 fn finish(key: PartKey<Piece>, value: u64) -> Finish<Piece> {
     let part = key.part();
     key.finish(Piece { part, value })
 }
 
-/// The values of all parts, if this was the last.
-fn finish_last(rt: &impl Abort, key: PartKey<Piece>, value: u64) -> Option<[u64; 4]> {
+/// Finishes the key's part with that value. The values of all parts, in the order of the answer,
+/// where this was the last finisher.
+fn finish_last(
+    rt: &impl Abort,
+    alloc: Global,
+    key: PartKey<Piece>,
+    value: u64,
+) -> Result<Option<Vec<u64>>, Fail> {
     match finish(key, value) {
         Finish::More(spent) => {
             drop(spent);
-            None
+            Ok(None)
         }
         Finish::Last(outs) => {
-            let mut values = [0; 4];
+            let mut values = Vec::new(alloc);
             for (place, out) in outs.as_slice().iter().enumerate() {
-                if let Some(piece) = out {
-                    assert!(rt; piece.part() == place && place < 4);
-                    values[place] = piece.value;
-                }
+                let piece = out.as_ref().ok_or("an outcome")?;
+                assert_eq!(rt; piece.part(), place);
+                values.push(piece.value)?;
             }
             drop(outs);
-            Some(values)
+            Ok(Some(values))
         }
     }
 }
 
 #[test]
-fn one_part(rt: HostRuntime) -> Result<(), Fail> {
-    let mut keys = Tally::open(rt.alloc(), 1)?;
+fn the_only_part_is_the_last(rt: HostRuntime) -> Result<(), Fail> {
+    let alloc = rt.alloc();
+    let mut keys = Tally::open(alloc, 1)?;
+    assert_eq!(rt; keys.len(), 1);
     let key = keys.pop().ok_or("a key")?;
-    assert_eq!(rt; finish_last(&rt, key, 7), Some([7, 0, 0, 0]));
+    let values = finish_last(&rt, alloc, key, 7)?.ok_or("the last part")?;
+    assert_eq!(rt; values.as_slice(), [7].as_slice());
     Ok(())
 }
 
+/// The parts 3, 1, 0 and 2 of a tally of four are finished in this order.
 #[test]
-fn four_parts(rt: HostRuntime) -> Result<(), Fail> {
-    let mut keys = Tally::open(rt.alloc(), 4)?;
-    for value in [13, 12, 11] {
-        let key = keys.pop().ok_or("a key")?;
-        assert_eq!(rt; finish_last(&rt, key, value), None);
+fn the_last_of_four_parts_gets_all_values(rt: HostRuntime) -> Result<(), Fail> {
+    let alloc = rt.alloc();
+    let mut keys = Tally::open(alloc, 4)?;
+    for (place, part, value) in [(3usize, 3usize, 13), (1, 1, 11), (0, 0, 10)] {
+        assert!(rt; place < keys.len());
+        let key = keys.remove(place);
+        assert_eq!(rt; key.part(), part);
+        assert!(rt; finish_last(&rt, alloc, key, value)?.is_none());
     }
     let key = keys.pop().ok_or("a key")?;
-    assert_eq!(rt; finish_last(&rt, key, 10), Some([10, 11, 12, 13]));
+    assert_eq!(rt; key.part(), 2);
+    let values = finish_last(&rt, alloc, key, 12)?.ok_or("the last part")?;
+    assert_eq!(rt; values.as_slice(), [10, 11, 12, 13].as_slice());
     Ok(())
 }
 
-/// How many of four threads were told that theirs was the last part.
+/// Finishes each key on a thread of its own, and counts those that were told that theirs was the
+/// last.
 fn count_last<R: Threads + Sync>(
     rt: &R,
     alloc: Global,
@@ -85,7 +101,7 @@ fn count_last<R: Threads + Sync>(
 }
 
 #[test]
-fn four_threads(rt: HostRuntime) -> Result<(), Fail> {
+fn one_of_four_threads_is_the_last(rt: HostRuntime) -> Result<(), Fail> {
     for _ in 0..1000 {
         let keys = Tally::open(rt.alloc(), 4)?;
         assert_eq!(rt; count_last(&rt, rt.alloc(), keys)?, 1);

@@ -1,20 +1,20 @@
-//! What a seat at a tally knows, and the rule that ties that to the tally's word and its slots.
+//! What a seat at a tally knows, and the rule that relates it to the word and the slots.
 use crate::parted::Parted;
 use atomic_table::TableRule;
 
-/// What a seat knows. No value of it is made.
+/// What a seat knows. No value of this type is made.
 pub enum View {
-    /// It has yet to finish the parts from the first number on and before the second.
+    /// The seat is to finish the parts from the first number to the second, exclusive.
     Owes(u64, u64),
-    /// It finishes that part, and has its slot.
+    /// The seat is finishing that part and holds its slot.
     Writes(u64),
-    /// It finished its part, and others are left.
+    /// The seat finished its part while others were missing.
     Past,
-    /// It finished the last part, and took the outcomes of so many, from part 0.
+    /// The seat finished the last part, and has taken that many outcomes, from part 0.
     Last(u64),
 }
 
-/// The rule of a tally. Its key is the number of parts.
+/// The rule of a tally. The key of its table is the number of parts.
 pub struct Turn;
 
 impl<T: Parted> TableRule<Option<T>, View, usize> for Turn {

@@ -1,7 +1,8 @@
--- What the job that begins a command wants of it.
-use Rattle.std.specs.Prelude.{◌≡◌, ℕ, Option, Some, None}
+-- What the job that begins a command needs of it.
+use Rattle.std.specs.Prelude.{◌≡◌, ℕ, true, false, Option, Some, None}
 use Rattle.bs_board.specs.declared.commands.command.Command.{Command}
 use Rattle.bs_board.specs.declared.commands.command.Command.TheVariants as command
+use Rattle.bs_game.specs.Reasons.{is_move}
 use Rattle.bs_fiber.specs.declared.handed.Wanted.{Wanted}
 use Rattle.bs_fiber.specs.declared.handed.Wanted.TheVariants as wanted
 
@@ -15,8 +16,11 @@ asked_turn command.Free = None
 asked_turn command.End = None
 asked_turn command.Bad = None
 
--- that is wanted of the command
+-- the handle is the command's; the turn is the one it asks for; a move is told from all other
+-- commands
 abbrev pub IsWantedOf : Command → Wanted → Type 0
-IsWantedOf c wanted.Nothing = asked_turn c ≡ None
-IsWantedOf c (wanted.Holder holder) = (holder ≡ c) × (asked_turn c ≡ None)
-IsWantedOf c (wanted.Turn at) = asked_turn c ≡ Some at
+IsWantedOf c wanted.Nothing = (asked_turn c ≡ None) × (is_move c ≡ false)
+IsWantedOf c (wanted.Setup handle) = (handle ≡ c) × (asked_turn c ≡ None) × (is_move c ≡ false)
+IsWantedOf c (wanted.Orders handle) = (handle ≡ c) × (asked_turn c ≡ None) × (is_move c ≡ true)
+IsWantedOf c wanted.Moves = (asked_turn c ≡ None) × (is_move c ≡ true)
+IsWantedOf c (wanted.Turn at) = (asked_turn c ≡ Some at) × (is_move c ≡ false)

@@ -1,6 +1,8 @@
-//! A command as its game keeps it, with what the job that begins it takes along.
+//! A command as its game keeps it, with what the job that begins it needs of it.
 ghost use Rattle.std.specs.Prelude.{◌≡◌, IfOk, IfSome};
+ghost use Rattle.bs_board.specs.declared.commands.command.Command.{Command};
 ghost use Rattle.bs_fiber.specs.Asking.{IsWantedOf, asked_turn};
+ghost use Rattle.bs_game.specs.Reasons.{is_move};
 
 use crate::shared::SharedCommand;
 use bs_board::{Command, TurnNumber};
@@ -8,13 +10,17 @@ use std::alloc::AllocError;
 use std::marker::Model;
 use std::mem::replace;
 
-/// What the job that begins a command wants of it.
+/// What the job that begins a command needs of it.
 #[derive(Debug, Drop)]
 pub(crate) enum Wanted {
-    /// Nothing: a bare command that asks for no turn, or one of which the job has its holder.
+    /// Nothing: a bare command that asks for no turn, or a setup whose handle was taken.
     Nothing,
-    /// A holder of its own, of a setup or a move.
-    Holder(SharedCommand),
+    /// A handle of its own to a setup.
+    Setup(SharedCommand),
+    /// A handle of its own to a move.
+    Orders(SharedCommand),
+    /// Nothing more of a move: its handle was taken.
+    Moves,
     /// The turn whose board is asked for.
     Turn(TurnNumber),
 }
@@ -23,8 +29,8 @@ fn wanted_of(command: &SharedCommand) -> Result<Wanted, AllocError>
     ensures { IfOk result (IsWantedOf command.now) }
 {
     match command.get() {
-        Command::New(_) => Ok(Wanted::Holder(command.share()?)),
-        Command::Move(_) => Ok(Wanted::Holder(command.share()?)),
+        Command::New(_) => Ok(Wanted::Setup(command.share()?)),
+        Command::Move(_) => Ok(Wanted::Orders(command.share()?)),
         Command::Turn(at) => Ok(Wanted::Turn(*at)),
         Command::Show => Ok(Wanted::Nothing),
         Command::Free => Ok(Wanted::Nothing),
@@ -33,8 +39,22 @@ fn wanted_of(command: &SharedCommand) -> Result<Wanted, AllocError>
     }
 }
 
-/// A command that a game was handed, with what the job that begins it wants of it. So nothing of the command itself is read when that
-/// job is taken: that is done while a lock is held, and the command is in no cache of the processor then. Clauses see the command.
+/// The handle that was made for the job that begins the command, if it is still there.
+fn handle_in(wanted: Wanted) -> Option<SharedCommand>
+    ensures { (command : Command) → IsWantedOf command wanted → IfSome result (λ handle. handle ≡ command) }
+{
+    match wanted {
+        Wanted::Setup(handle) => Some(handle),
+        Wanted::Orders(handle) => Some(handle),
+        Wanted::Nothing => None,
+        Wanted::Moves => None,
+        Wanted::Turn(_) => None,
+    }
+}
+
+/// A command that a game was handed, with what the job that begins it needs of it. The job is taken
+/// while a lock is held, when the command is in no cache of the processor; so the command is not
+/// read then. Contracts see the command.
 #[derive(Debug, Drop)]
 pub struct Handed {
     command: SharedCommand,
@@ -55,7 +75,8 @@ impl Model for Handed {
 const _: () = prove!(size_of::<Handed>() == 24);
 
 impl Handed {
-    /// The command, of which it becomes a holder, or two. An error is that there are too many to be counted.
+    /// Keeps one or two handles to the command. An error means that its handles can't be counted
+    /// any more.
     pub fn new(command: &SharedCommand) -> Result<Handed, AllocError>
         ensures { IfOk result (λ handed. handed ≡ command.now) }
     {
@@ -78,29 +99,43 @@ impl Handed {
     {
         match &self.wanted {
             Wanted::Nothing => None,
-            Wanted::Holder(_) => None,
+            Wanted::Setup(_) => None,
+            Wanted::Orders(_) => None,
+            Wanted::Moves => None,
             Wanted::Turn(at) => Some(*at),
         }
     }
 
-    /// The holder for the job that begins it, once, where it brings a setup or moves.
+    /// Whether it is a move. The command itself is not read.
+    pub fn is_move(&self) -> bool
+        ensures { result ≡ is_move self.now }
+    {
+        match &self.wanted {
+            Wanted::Nothing => false,
+            Wanted::Setup(_) => false,
+            Wanted::Orders(_) => true,
+            Wanted::Moves => true,
+            Wanted::Turn(_) => false,
+        }
+    }
+
+    /// Takes the handle for the job that begins a setup or a move, once.
     pub fn take_holder(&mut self) -> Option<SharedCommand>
         ensures same { self.new ≡ self.old }
         ensures holder { IfSome result (λ holder. holder ≡ self.old) }
     {
-        if !matches!(self.wanted, Wanted::Holder(_)) {
-            return None;
-        }
-        match replace(&mut self.wanted, Wanted::Nothing) {
-            Wanted::Holder(holder) => Some(holder),
+        match self.wanted {
             Wanted::Nothing => None,
+            Wanted::Setup(_) => handle_in(replace(&mut self.wanted, Wanted::Nothing)),
+            Wanted::Orders(_) => handle_in(replace(&mut self.wanted, Wanted::Moves)),
+            Wanted::Moves => None,
             Wanted::Turn(_) => None,
         }
     }
 }
 
-/// A command with all holders that a core wants of it: its game's and the journal's. They are counted here, before the core is at hand.
-/// Clauses see the command.
+/// A command with all handles that a core keeps of it: its game's and the journal's. They are made
+/// before the core is locked. Contracts see the command.
 #[derive(Debug, Drop)]
 pub struct Holders {
     handed: Handed,
@@ -119,7 +154,7 @@ impl Model for Holders {
 }
 
 impl Holders {
-    /// Holders of that command. An error is that there are too many to be counted.
+    /// Makes the handles. An error means that they can't be counted any more.
     pub fn new(command: &SharedCommand) -> Result<Holders, AllocError>
         ensures { IfOk result (λ holders. holders ≡ command.now) }
     {
@@ -136,7 +171,7 @@ impl Holders {
         self.noted.get()
     }
 
-    /// The game's, and the journal's.
+    /// The game's handle and the journal's.
     pub fn into_parts(self) -> (Handed, SharedCommand)
         ensures handed { result.0 ≡ self }
         ensures noted { result.1 ≡ self }

@@ -1,4 +1,4 @@
-//! Which part a job that is done was.
+//! The part that a finished job belongs to: the job's own part, 0 for Begin and Join.
 ghost use Rattle.std.specs.Prelude.{◌≡◌};
 ghost use Rattle.bs_fiber.specs.PartOf.{part_of, part_of_kind};
 

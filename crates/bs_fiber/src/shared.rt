@@ -1,15 +1,14 @@
-//! A command with several holders.
+//! A command that several owners share.
 ghost use Rattle.std.specs.Prelude.{◌≡◌, IfOk, IfSome, OnOk};
 ghost use Rattle.bs_fiber.specs.Bare.{is_bare};
-ghost use Rattle.bs_game.specs.Reasons.{is_move};
 
 use bs_board::Command;
 use std::alloc::{AllocError, Global};
 use std::marker::Model;
 use std::sync::Arc;
 
-/// A command that the core, its journal and the tickets of its jobs hold together: it lies in memory once, and goes with
-/// the last of them. Clauses see the command.
+/// A reference-counted command. The core, its journal and the tickets of its jobs share it.
+/// Contracts see the command.
 #[derive(Debug, Drop)]
 pub struct SharedCommand {
     command: Arc<Command>,
@@ -25,7 +24,7 @@ impl Model for SharedCommand {
 }
 
 impl SharedCommand {
-    /// The command with one holder.
+    /// Moves the command into memory of its own, with one handle to it.
     pub fn new(alloc: Global, command: Command) -> Result<SharedCommand, AllocError>
         ensures { IfOk result (λ shared. shared ≡ command) }
     {
@@ -35,7 +34,8 @@ impl SharedCommand {
         }
     }
 
-    /// One holder more, in no memory of its own. An error is that there are too many to be counted.
+    /// Adds a handle, in no memory of its own. An error means that the handles can't be counted any
+    /// more.
     pub fn share(&self) -> Result<SharedCommand, AllocError>
         ensures { IfOk result (λ shared. shared ≡ self.now) }
     {
@@ -59,15 +59,9 @@ impl SharedCommand {
         }
     }
 
-    /// Whether the command is a move.
-    pub fn is_move(&self) -> bool
-        ensures { result ≡ is_move self.now }
-    {
-        matches!(self.get(), Command::Move(_))
-    }
-
-    /// It becomes a holder of that command. It stays what it is where it holds just such a bare one already: each holder more
-    /// and each less is an atomic step, which takes longer than to compare two of them.
+    /// Becomes a handle to that command. Stays as it is where it is a handle to an equal bare
+    /// command: each handle made or dropped is an atomic step, which takes longer than to compare
+    /// two bare commands.
     pub(crate) fn hold(&mut self, command: &SharedCommand) -> Result<(), AllocError>
         ensures { OnOk result (self.new ≡ command.now) }
     {
@@ -78,7 +72,7 @@ impl SharedCommand {
         Ok(())
     }
 
-    /// It becomes a holder of that command: the one that is there already, or else one more.
+    /// Becomes a handle to that command: the given one, or else a new one.
     pub(crate) fn hold_by(
         &mut self,
         holder: Option<SharedCommand>,

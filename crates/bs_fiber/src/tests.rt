@@ -123,7 +123,8 @@ fn no_parts(alloc: Global) -> Parts
     Parts::from_vec(Vec::new(alloc))
 }
 
-// What a core expects of the first job for that command, on a game whose newest board has that record.
+// What a core expects of the first job for that command, on a game whose newest board has that
+// record.
 fn expected<'a>(record: &'a [u8], command: &'a SharedCommand) -> Expected<'a> {
     Expected {
         job: job(JobKind::Begin, 0),
@@ -221,21 +222,25 @@ fn an_expected_input_is_copied(rt: HostRuntime) -> Result<(), Fail> {
     Ok(())
 }
 
-// Beside a command that was handed in lies a holder for the job that begins it, once, or the turn that it asks for.
+// A handed command has a handle for the job that begins it, once, or the turn that it asks for. A
+// move stays one after its handle was taken.
 #[test]
-fn a_handed_command_has_what_its_begin_wants(rt: HostRuntime) -> Result<(), Fail> {
+fn a_handed_command_has_what_its_begin_needs(rt: HostRuntime) -> Result<(), Fail> {
     let alloc = rt.alloc();
     let moved = shared_move(alloc)?;
     let mut handed = Handed::new(&moved)?;
     assert!(rt; handed.asks().is_none());
+    assert!(rt; handed.is_move());
     assert!(rt; handed.shared().get().is_same(moved.get()));
     assert!(rt; matches!(handed.take_holder(), Some(holder) if holder.get().is_same(moved.get())));
     assert!(rt; handed.take_holder().is_none());
+    assert!(rt; handed.is_move());
 
     let at = TurnNumber::new(7).ok_or("a turn")?;
     let turn = SharedCommand::new(alloc, Command::Turn(at))?;
     let (mut handed, noted) = Holders::new(&turn)?.into_parts();
     assert_eq!(rt; handed.asks(), Some(at));
+    assert!(rt; !handed.is_move());
     assert!(rt; handed.take_holder().is_none());
     assert!(rt; handed.shared().get().is_same(turn.get()) && noted.get().is_same(turn.get()));
     Ok(())

@@ -1,5 +1,6 @@
 -- A core from its opening to the text of what it answered.
-use Rattle.std.proofs.Common.{◌≡◌, ℕ, suc, ◌+◌, ◌<◌, ◌≤◌, List, [], ◌∷◌, ◌++◌, Option, None, Some, length, refl, sym, ap, subst, ◌∙◌, arith}
+use Rattle.std.proofs.Common.{◌≡◌, ℕ, suc, ◌+◌, ◌*◌, ◌<◌, ◌≤◌, List, [], ◌∷◌, ◌++◌, Option, None, Some, length, refl, sym, ap, subst, ◌∙◌, arith}
+use Rattle.std.proofs.Math.Nat.{mul-le-mul}
 use Rattle.std.specs.Prelude.{Ok}
 use Rattle.std.specs.List.{enumerate_from, flat_map}
 use Rattle.std.proofs.lemmas.Bool.{lt-ltb, le-ltb, cond-true, cond-false}
@@ -73,6 +74,10 @@ commands_of_row row ((number, route.Game to command) ∷ routes) = rw (commands_
 commands_of_row row ((number, route.Stray kind) ∷ routes) = commands_of_row row routes
 commands_of_row row ((number, route.Nowhere) ∷ routes) = commands_of_row row routes
 
+-- the workers of all crews are few
+pub few_workers : (threads crew : ℕ) → threads ≤ 1024 → crew ≤ 16 → threads * crew ≤ 16384
+few_workers threads crew t c = mul-le-mul t c
+
 -- what a core was before its run is what was given
 pub run_of_given : (rows : List GameRow) (blocks : ℕ) (commands : List (ℕ × Command)) (old new : CoreView) → rows ≡ old.games.rows
     → blocks ≡ size old.games.storage.pool → IsRunFrom rows blocks commands new → IsRunOf old commands new
@@ -81,6 +86,7 @@ run_of_given rows blocks commands old new plan many ran =
     record {
       plan = from.plan;
       blocks = from.as_many;
+      failed = from.failed;
       quiet = from.quiet;
       handed = from.handed;
       served = from.served;
@@ -93,6 +99,7 @@ hosts_lines capacity blocks workers rows routes commands old new is asked ran =
     record {
       rows = ran.plan ∙ same;
       pool = ran.blocks ∙ ap (λ core. size core.games.storage.pool) is ∙ length-replicate blocks None;
+      failed = ran.failed;
       quiet = ran.quiet;
       handed = ran.handed ∙ asked;
       served = λ row within.

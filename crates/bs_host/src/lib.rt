@@ -6,8 +6,14 @@ mod cut_fault;
 #[cfg(test)]
 mod cut_tests;
 mod cutting;
+#[cfg(test)]
+mod devices_tests;
 mod fault;
+#[cfg(test)]
+mod games_tests;
 mod limits;
+#[cfg(test)]
+mod limits_tests;
 mod pieces;
 mod reading;
 mod requests;

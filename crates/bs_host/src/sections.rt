@@ -1,6 +1,5 @@
 //! What a core tells of its games, and whether it is the core that it has to be.
 ghost use Rattle.std.specs.Prelude.{◌≡◌, ◌<◌, IsTrue, length, OnOk, IfOk};
-ghost use Rattle.std.specs.Thread.{IsSync};
 ghost use Rattle.std.specs.List.{flat_map};
 ghost use Rattle.bs_sched.specs.Games.{row_at};
 ghost use Rattle.bs_sched.specs.Machine.{lane_of};
@@ -14,7 +13,7 @@ use bs_sched::Core;
 use bs_transcript::{Parts, Section, text_by};
 use bs_workers::Given;
 use std::alloc::{AllocError, Global};
-use std::thread::{Threads, join};
+use std::thread::Threads;
 
 /// What the game of that row was answered, and how it stands.
 fn section_of_game<'c>(
@@ -71,8 +70,8 @@ fn is_left(given: Given, core: &Core<BLOCK_BYTES>, commands: Commands) -> bool
     given.is_left(core, commands.as_slice())
 }
 
-/// Whether the core is what the requests had to leave of one that had this, and the text of what it tells. Neither needs the
-/// other, so where there are several workers a thread more looks at the one while they make the other.
+/// Whether the core is what the requests had to leave of one that had this, and the text of what it
+/// tells, by that many threads at most.
 pub(crate) fn compare_and_tell<R: Threads + Sync>(
     rt: &R,
     alloc: Global,
@@ -86,19 +85,6 @@ pub(crate) fn compare_and_tell<R: Threads + Sync>(
     ensures lanes { OnOk result.1 (length core.now.games.lanes ≡ length core.now.games.rows) }
 {
     let Requests { commands, strays } = requests;
-    if workers <= 1 {
-        let is_run = is_left(given, core, commands);
-        return (is_run, core_text(rt, alloc, core, &strays, workers));
-    }
-    join(
-        rt,
-        move || -> bool
-            ensures { IsTrue result → IsRunFrom given.0 given.1 commands core.entry.now }
-        { is_left(given, core, commands) },
-        || -> Result<Parts, AllocError>
-            requires { IsSync R.row }
-            ensures text { IfOk result (λ text. text ≡ core_text_of core.entry.now strays) }
-            ensures lanes { OnOk result (length core.entry.now.games.lanes ≡ length core.entry.now.games.rows) }
-        { core_text(rt, alloc, core, &strays, workers) },
-    )
+    let is_run = is_left(given, core, commands);
+    (is_run, core_text(rt, alloc, core, &strays, workers))
 }

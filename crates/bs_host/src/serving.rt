@@ -18,7 +18,7 @@ use crate::sections::compare_and_tell;
 use crate::sorting::{Readers, sort_lines};
 use bs_board::Plan;
 use bs_json::read_plan;
-use bs_sched::Core;
+use bs_sched::{Core, MOST_WORKERS};
 use bs_transcript::{Parts, write_parts};
 use bs_workers::{Gate, Given, Run, Shop};
 use std::alloc::{AllocError, Global};
@@ -41,6 +41,7 @@ fn open_core(
     blocks: usize,
     workers: usize,
 ) -> Result<Core<BLOCK_BYTES>, Fault>
+    requires workers { workers ≤ MOST_WORKERS }
     ensures core { IfOk result (λ core. core ≡ opened_core BLOCK_BYTES blocks workers plan.rows) }
     ensures served { OnOk result (refusal_of_plan blocks (Ok plan) ≡ None) }
     ensures fault { IfErr result (IsRefusal (refusal_of_plan blocks (Ok plan))) }
@@ -51,21 +52,30 @@ fn open_core(
 /// The largest crew of a thread: so many jobs take so long that the turn at the lock between two of them counts for little.
 const LARGEST_CREW: usize = 16;
 
-/// How many workers each of so many threads stands for: as many as there are games for each thread, one at least. So all games go on
-/// at once, and come to their ends together. The caller's thread alone needs no crew.
-fn crew_size(games: usize, threads: usize) -> usize {
+/// The largest number of threads. Further ones are left out, as a thread is that the system refuses
+/// to start.
+const MOST_THREADS: usize = 1_024;
+
+/// The number of workers that each thread works for: as many as there are games for each thread, one
+/// at least. So all games go on at once, and end together. The caller's thread alone needs no crew.
+fn crew_size(games: usize, threads: usize) -> usize
+    ensures { result ≤ LARGEST_CREW }
+{
     if threads <= 1 {
         return 1;
     }
     (games / threads).clamp(1, LARGEST_CREW)
 }
 
-/// How many workers so many crews of that size have. As many as can't be counted are answered as want of memory is: tables by
-/// worker would take more than there is.
-fn count_workers(crews: usize, size: usize) -> Result<usize, AllocError>
-    ensures { IfOk result (λ workers. workers ≡ crews * size) }
+/// The number of workers of all crews.
+#[tactic(auto, using(crate::proofs::HostedCore::few_workers))]
+fn count_workers(threads: usize, crew: usize) -> usize
+    requires threads { threads ≤ MOST_THREADS }
+    requires crew { crew ≤ LARGEST_CREW }
+    ensures value { result ≡ threads * crew }
+    ensures few { result ≤ MOST_WORKERS }
 {
-    crews.checked_mul(size).ok_or(AllocError)
+    threads * crew
 }
 
 /// How many of so many threads read lines at first. The others work meanwhile, and so do these once all lines are read.
@@ -172,15 +182,16 @@ fn host_plan<R: Threads + Wait + Sync, G: Gate>(
     ensures fault { IfErr result (IsRefusal (refusal_of_plan blocks (Ok plan))) }
 {
     let lines_plan = plan.copy(alloc)?;
-    let crew = crew_size(lines_plan.rows.as_slice().len(), workers);
-    let members = count_workers(workers, crew)?;
+    let threads = workers.min(MOST_THREADS);
+    let crew = crew_size(lines_plan.rows.as_slice().len(), threads);
+    let members = count_workers(threads, crew);
     let core = open_core(alloc, plan, blocks, members)?;
     let given = Given::of(alloc, &core)?;
-    let shop = Shop::new(alloc, core, workers, crew)?;
-    let readers = Readers::new(count_readers(workers), shop);
-    let requests = read_all(rt, alloc, &lines_plan, rest, workers, &readers, gate)?;
+    let shop = Shop::new(alloc, core, threads, crew)?;
+    let readers = Readers::new(count_readers(threads), shop);
+    let requests = read_all(rt, alloc, &lines_plan, rest, threads, &readers, gate)?;
     let core = readers.into_shop().finish(rt, alloc, gate)?;
-    let (is_run, text) = compare_and_tell(rt, alloc, given, &core, requests, workers);
+    let (is_run, text) = compare_and_tell(rt, alloc, given, &core, requests, threads);
     if is_run {
         Ok(Hosted { core, text: text? })
     } else {

@@ -10,14 +10,14 @@ use std::test::Fail;
 use std::thread::Threads;
 
 // A snake alone goes straight on and into the wall; what is asked of it then is refused.
-const SOLO: &str = r#"{"games":[{"game":"a","quota":4096}]}
+pub(crate) const SOLO: &str = r#"{"games":[{"game":"a","quota":4096}]}
 {"game":"a","do":"new","mode":"solo","width":3,"height":3,"snakes":[{"id":"s","x":1,"y":1}],"food":[],"min_food":0,"food_chance":0}
 {"game":"a","do":"move","moves":{}}
 {"game":"a","do":"move","moves":{}}
 {"game":"a","do":"move","moves":{}}
 "#;
 
-const SOLO_TEXT: &str =
+pub(crate) const SOLO_TEXT: &str =
     r#"{"board":{"food":[],"food_chance":0,"height":3,"min_food":0,"mode":"solo","over":false,"snakes":[{"body":[{"x":1,"y":1},{"x":1,"y":1},{"x":1,"y":1}],"by":null,"cause":null,"health":100,"id":"s","out":null}],"turn":0,"width":3},"charge":32,"do":"new","game":"a","seq":1}
 {"board":{"food":[],"food_chance":0,"height":3,"min_food":0,"mode":"solo","over":false,"snakes":[{"body":[{"x":1,"y":2},{"x":1,"y":1},{"x":1,"y":1}],"by":null,"cause":null,"health":99,"id":"s","out":null}],"turn":1,"width":3},"charge":64,"do":"move","game":"a","seq":2}
 {"board":{"food":[],"food_chance":0,"height":3,"min_food":0,"mode":"solo","over":true,"snakes":[{"body":[{"x":1,"y":3},{"x":1,"y":2},{"x":1,"y":1}],"by":null,"cause":"wall-collision","health":98,"id":"s","out":2}],"turn":2,"width":3},"charge":96,"do":"move","game":"a","seq":3}
@@ -26,7 +26,7 @@ const SOLO_TEXT: &str =
 "#;
 
 // Two games whose lines take turns: each is answered by its own lines alone.
-const TWO_GAMES: &str = r#"{"games":[{"game":"a","quota":64},{"game":"b","quota":4096}]}
+pub(crate) const TWO_GAMES: &str = r#"{"games":[{"game":"a","quota":64},{"game":"b","quota":4096}]}
 {"game":"a","do":"new","mode":"solo","width":5,"height":5,"snakes":[{"id":"s","x":1,"y":1}],"food":[],"min_food":0,"food_chance":0}
 {"game":"b","do":"new","mode":"standard","width":7,"height":7,"snakes":[{"id":"s","x":1,"y":1},{"id":"t","x":5,"y":1},{"id":"u","x":3,"y":5}],"food":[{"x":1,"y":2}],"min_food":0,"food_chance":0}
 {"game":"a","do":"move","moves":{}}
@@ -158,7 +158,7 @@ fn snakes_cross_an_edge_in_version_two(rt: HostRuntime) -> Result<(), Fail> {
 }
 
 // What the file is answered, "served" or the fault, and what was written, with so many workers.
-fn worked<R: Threads + Wait + Sync, G: Gate>(
+pub(crate) fn worked<R: Threads + Wait + Sync, G: Gate>(
     rt: &R,
     alloc: Global,
     file: &[u8],

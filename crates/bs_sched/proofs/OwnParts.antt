@@ -44,21 +44,21 @@ out_still x worker p q other out =
 -- the parts that are to come back, from the p-th on
 abbrev pub AreOwnFrom : GamesView → ℕ → ℕ → List (Option Input) → Type 0
 AreOwnFrom games game p [] = Unit {0}
-AreOwnFrom games game p (one ∷ brought) = IsOwnPart games game p one × AreOwnFrom games game (p + 1) brought
+AreOwnFrom games game p (one ∷ completed) = IsOwnPart games game p one × AreOwnFrom games game (p + 1) completed
 
-from_each : (games : GamesView) (game p : ℕ) (brought : List (Option Input))
-    → ((i : ℕ) → i < length brought → IsOwnPart games game (p + i) (slice_index_or brought i None)) → AreOwnFrom games game p brought
+from_each : (games : GamesView) (game p : ℕ) (completed : List (Option Input))
+    → ((i : ℕ) → i < length completed → IsOwnPart games game (p + i) (slice_index_or completed i None)) → AreOwnFrom games game p completed
 from_each games game p [] each = tt
-from_each games game p (one ∷ brought) each =
+from_each games game p (one ∷ completed) each =
     let here : p + 0 ≡ p = omega arith in (
       subst (λ (k : ℕ). IsOwnPart games game k one) here (each 0 (omega arith)),
-      from_each games game (p + 1) brought
-          (λ i within. let next : p + suc i ≡ p + 1 + i = omega arith in subst (λ (k : ℕ). IsOwnPart games game k (slice_index_or brought i None)) next (each (suc i) (omega arith))),
+      from_each games game (p + 1) completed
+          (λ i within. let next : p + suc i ≡ p + 1 + i = omega arith in subst (λ (k : ℕ). IsOwnPart games game k (slice_index_or completed i None)) next (each (suc i) (omega arith))),
     )
 
-pub from_all : (games : GamesView) (brought : List (Option Input)) (are : AreOwnParts games brought) → AreOwnFrom games are.game 0 brought
-from_all games brought are =
-    from_each games are.game 0 brought (λ i within. let none : i ≡ 0 + i = omega arith in subst (λ (k : ℕ). IsOwnPart games are.game k (slice_index_or brought i None)) none (are.each i within))
+pub from_all : (games : GamesView) (completed : List (Option Input)) (are : AreOwnParts games completed) → AreOwnFrom games are.game 0 completed
+from_all games completed are =
+    from_each games are.game 0 completed (λ i within. let none : i ≡ 0 + i = omega arith in subst (λ (k : ℕ). IsOwnPart games are.game k (slice_index_or completed i None)) none (are.each i within))
 
 -- one of them is back, and another is still the core's own
 own_still : (cap : ℕ) (games : GamesView) (game p q worker : ℕ) (one : Option Input) → p ≢ q → IsOwnPart games game q one
@@ -90,17 +90,17 @@ own_still cap games game p q worker one other own =
       };
     }
 
-pub own_rest : (cap : ℕ) (games : GamesView) (game p k worker : ℕ) (brought : List (Option Input)) → p < k → AreOwnFrom games game k brought
-    → AreOwnFrom (after cap games (event.Put worker (part_job game p))) game k brought
+pub own_rest : (cap : ℕ) (games : GamesView) (game p k worker : ℕ) (completed : List (Option Input)) → p < k → AreOwnFrom games game k completed
+    → AreOwnFrom (after cap games (event.Put worker (part_job game p))) game k completed
 own_rest cap games game p k worker [] less own = tt
-own_rest cap games game p k worker (one ∷ brought) less own =
-    (own_still cap games game p k worker one (λ e. absurd (omega arith)) own.0, own_rest cap games game p (k + 1) worker brought (omega arith) own.1)
+own_rest cap games game p k worker (one ∷ completed) less own =
+    (own_still cap games game p k worker one (λ e. absurd (omega arith)) own.0, own_rest cap games game p (k + 1) worker completed (omega arith) own.1)
 
 -- the first of them names the game
-pub first_part : (games : GamesView) (brought : List (Option Input)) (first : Input) → slice_get brought 0 ≡ Some (Some first) → (are : AreOwnParts games brought)
+pub first_part : (games : GamesView) (completed : List (Option Input)) (first : Input) → slice_get completed 0 ≡ Some (Some first) → (are : AreOwnParts games completed)
     → (are.game ≡ first.job.game) × (first.job.game < length games.lanes)
 first_part games [] first is are = let wrong : None ≡ Some (Some first) = is in absurd cc
-first_part games (x ∷ brought) first is are =
+first_part games (x ∷ completed) first is are =
     let own = are.each 0 are.some in
     let same : own.done ≡ first = let e : x ≡ Some own.done = own.is in let f : Some x ≡ Some (Some first) = is in cc in
     let job : first.job ≡ part_job are.game 0 = ap (λ (i : Input). i.job) (sym same) ∙ own.job in
@@ -121,7 +121,7 @@ next_of cap old game p (Some done) rest own =
       refl,
     )
 
--- the first of those that are left is brought back
+-- the first of those that are left is completed back
 pub next_part : (cap : ℕ) (old new : CoreView) (game p : ℕ) (items : List (Option Input)) (one : Option Input) → 0 < length items → AreOwnFrom old.games game p items
     → one ≡ slice_index_or items 0 one → new ≡ core_run cap old (puts_of (one ∷ [])) → NextPart cap old new game p items (remove items 0)
 next_part cap old new game p [] one some own is run = absurd (omega arith)
@@ -135,8 +135,8 @@ own_next games game p [] one some own is = absurd (omega arith)
 own_next games game p (x ∷ rest) one some own is = subst (IsOwnPart games game p) (sym is) own.0
 
 -- each is enabled where it comes
-enabled_from : (games : GamesView) (game p : ℕ) (brought : List (Option Input)) → AreOwnFrom games game p brought
-    → are_enabled games.workers games.lanes (puts_of brought) ≡ true
+enabled_from : (games : GamesView) (game p : ℕ) (completed : List (Option Input)) → AreOwnFrom games game p completed
+    → are_enabled games.workers games.lanes (puts_of completed) ≡ true
 enabled_from games game p [] own = refl
 enabled_from games game p (None ∷ rest) own = let wrong : None ≡ Some own.0.done = own.0.is in absurd cc
 enabled_from games game p (Some done ∷ rest) own =
@@ -150,5 +150,5 @@ enabled_from games game p (Some done ∷ rest) own =
     both_true (is_enabled games.workers games.lanes e) _ here
     (subst (λ (lanes : List Lane). are_enabled games.workers lanes (puts_of rest) ≡ true) (sym goes) (enabled_from (after 0 games e) game (p + 1) rest next))
 
-pub all_enabled : (games : GamesView) (brought : List (Option Input)) → AreOwnParts games brought → are_enabled games.workers games.lanes (puts_of brought) ≡ true
-all_enabled games brought are = enabled_from games are.game 0 brought (from_all games brought are)
+pub all_enabled : (games : GamesView) (completed : List (Option Input)) → AreOwnParts games completed → are_enabled games.workers games.lanes (puts_of completed) ≡ true
+all_enabled games completed are = enabled_from games are.game 0 completed (from_all games completed are)

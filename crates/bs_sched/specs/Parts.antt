@@ -1,4 +1,4 @@
--- When the parts of a move that are brought back are the core's own, and what their coming back makes of the core.
+-- When the completed parts of a move are the core's own, and the core after their completion.
 use Rattle.std.specs.Prelude.{◌≡◌, ℕ, ◌+◌, ◌<◌, List, [], ◌∷◌, length, fold, Option, Some, None, slice_index_or}
 use Rattle.bs_fiber.specs.declared.input.Input.{Input}
 use Rattle.bs_fiber.specs.declared.job.JobKind.TheVariants as kind
@@ -13,26 +13,27 @@ use Rattle.bs_sched.specs.Putting.{IsOwn}
 abbrev pub part_job : ℕ → ℕ → JobName
 part_job game p = record { game = game; kind = kind.Part; part = p }
 
--- it is that part of the game's move, and the own job of the worker that it names
-pub record IsOwnPart (games : GamesView) (game p : ℕ) (brought : Option Input) : Type 0 where
+-- it is that part of the game's move, out with the worker that it names, and of the core's input
+pub record IsOwnPart (games : GamesView) (game p : ℕ) (completed : Option Input) : Type 0 where
   pub done : Input
-  pub is : brought ≡ Some done
+  pub is : completed ≡ Some done
   pub job : done.job ≡ part_job game p
   pub own : IsOwn games done.worker done
 
--- each part of one game's move, in their order
-pub record AreOwnParts (games : GamesView) (brought : List (Option Input)) : Type 0 where
+-- all parts of one game's move, in part order; where part 0 is out, the game is in stage Parts, and
+-- a move has one part at least
+pub record AreOwnParts (games : GamesView) (completed : List (Option Input)) : Type 0 where
   pub game : ℕ
-  pub some : 0 < length brought
-  pub all : length brought ≡ length (lane_of games.lanes game).parts
-  pub each : (p : ℕ) → p < length brought → IsOwnPart games game p (slice_index_or brought p None)
+  pub some : 0 < length completed
+  pub all : length completed ≡ length (lane_of games.lanes game).parts
+  pub each : (p : ℕ) → p < length completed → IsOwnPart games game p (slice_index_or completed p None)
 
--- the coming back of each, in their order
+-- the event of each, in part order
 abbrev pub puts_of : List (Option Input) → List Event
 puts_of [] = []
-puts_of (None ∷ brought) = puts_of brought
-puts_of (Some done ∷ brought) = event.Put done.worker done.job ∷ puts_of brought
+puts_of (None ∷ completed) = puts_of completed
+puts_of (Some done ∷ completed) = event.Put done.worker done.job ∷ puts_of completed
 
--- the core after events each of which is enabled where it comes
+-- the core after a list of events
 abbrev pub core_run : ℕ → CoreView → List Event → CoreView
 core_run cap = fold (core_after cap)

@@ -1,19 +1,20 @@
-//! Which workers have a job that begins or joins: a table by their numbers, kept beside the games.
-ghost use Rattle.std.specs.Prelude.{◌≡◌, ◌+◌, false, replicate, slice_index_or, slice_set, IfOk};
+//! For each worker, whether it has a Begin or a Join out: a table beside the games.
+ghost use Rattle.std.specs.Prelude.{◌≡◌, ◌≤◌, ◌+◌, false, replicate, slice_index_or, slice_set, IfOk};
 ghost use Rattle.bs_sched.specs.Busy.{marked};
 
+use crate::cores::MOST_WORKERS;
 use bs_fiber::JobKind;
 use std::alloc::{AllocError, Global};
 
-/// A table of workers from 0 to the last, none of which has such a job.
+/// The table for workers 0 to `workers`, all of them free.
 pub(crate) fn nobody_busy(alloc: Global, workers: usize) -> Result<Vec<bool>, AllocError>
+    requires { workers ≤ MOST_WORKERS }
     ensures { IfOk result (λ busy. busy.items ≡ replicate (workers + 1) false) }
 {
-    let many = workers.checked_add(1).ok_or(AllocError)?;
-    Vec::from_elem(alloc, false, many)
+    Vec::from_elem(alloc, false, workers + 1)
 }
 
-/// Whether the worker has one; who is not in the table has none.
+/// Whether the worker has one; a worker beyond the table has none.
 pub(crate) fn is_marked(busy: &[bool], worker: usize) -> bool
     ensures { result ≡ slice_index_or busy.now worker false }
 {
@@ -31,7 +32,7 @@ fn set_mark(busy: &mut Vec<bool>, worker: usize, is: bool)
     }
 }
 
-/// A job of that kind was taken by the worker, or came back.
+/// Records that the worker took a job of that kind, or completed it.
 pub(crate) fn mark(busy: &mut Vec<bool>, worker: usize, kind: JobKind, is: bool)
     ensures { busy.new.items ≡ marked kind worker is busy.old.items }
 {

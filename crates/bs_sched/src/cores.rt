@@ -22,31 +22,34 @@ use bs_fiber::{Handed, Holders, SharedCommand};
 use std::alloc::{AllocError, Global};
 use std::marker::Model;
 
-/// How many blocks a core has.
+/// The block counts of a core.
 #[derive(Clone, Copy, Debug, PartialEq, Eq)]
 pub struct Counts {
-    /// Those that no game holds.
+    /// Blocks that no game holds.
     pub free: usize,
-    /// Those in which games keep records.
+    /// Blocks in which games keep records.
     pub held: usize,
-    /// All of them.
+    /// All blocks.
     pub size: usize,
 }
 
 /// The least size of a block: a record, or the parts of a turn, fit into one twice.
 pub const LEAST_CAPACITY: usize = 524_288;
 
-/// All games of a plan, with the blocks that their records are kept in, and the list of all that happened to them.
+/// The largest worker number: an event has 32 bits for it.
+pub const MOST_WORKERS: usize = 4_294_967_295;
+
+/// All games of a plan, with the blocks of their records and the journal of their events.
 #[derive(Drop)]
 pub struct Core<const CAP: usize> {
     pub(crate) games: Games<CAP>,
-    /// Its events, in their order.
+    /// The events, in order.
     pub(crate) journal: Vec<Event>,
-    /// How many jobs are out. The journal has room for the coming back of each.
+    /// The number of jobs that are out. The journal has room for the completion of each.
     pub(crate) out: usize,
-    /// Which workers have a job that begins or joins.
+    /// For each worker, whether it has a Begin or a Join out.
     pub(crate) busy: Vec<bool>,
-    /// Which game each worker was at last.
+    /// The game of each worker's last job.
     pub(crate) last_games: Vec<usize>,
 }
 
@@ -61,7 +64,9 @@ impl<const CAP: usize> Model for Core<CAP> {
     ghost invariant = { λ c. IsJournaled CAP c };
 }
 
-/// Room for so many events more than those of the jobs that are out.
+/// Makes room for `more` events beside the completions of the jobs that are out. The sum can't
+/// overflow, since each of the 64 games has four jobs out at most; an overflow would be answered as
+/// want of memory.
 pub(crate) fn reserve_events(
     journal: &mut Vec<Event>,
     out: usize,
@@ -76,7 +81,7 @@ pub(crate) fn reserve_events(
     journal.reserve(room)
 }
 
-/// One event more, for which there is room.
+/// Appends an event, for which there is room.
 pub(crate) fn note(journal: &mut Vec<Event>, event: Event)
     requires { vec_len journal.old < vec_capacity journal.old }
     ensures items { journal.new.items ≡ journal.old.items ++ event ∷ [] }
@@ -87,8 +92,7 @@ pub(crate) fn note(journal: &mut Vec<Event>, event: Event)
 }
 
 impl<const CAP: usize> Core<CAP> {
-    /// A command goes to the end of those that wait in the game of that row. An error is the allocator's, and leaves
-    /// all as it was.
+    /// Queues a command for the game of that row. After want of memory the core is unchanged.
     pub fn hand(&mut self, alloc: Global, game: usize, command: Command) -> Result<(), AllocError>
         requires { game < length self.old.games.lanes }
         ensures ok { OnOk result (self.new ≡ core_after CAP self.old (event.Hand game command)) }
@@ -97,7 +101,7 @@ impl<const CAP: usize> Core<CAP> {
         self.hand_shared(game, &SharedCommand::new(alloc, command)?)
     }
 
-    /// The same of a command that others hold too. It is not copied: the core and its journal become holders more.
+    /// Queues a shared command without copying it: the core and its journal each keep a handle.
     pub fn hand_shared(&mut self, game: usize, command: &SharedCommand) -> Result<(), AllocError>
         requires { game < length self.old.games.lanes }
         ensures ok { OnOk result (self.new ≡ core_after CAP self.old (event.Hand game command.now)) }
@@ -106,7 +110,7 @@ impl<const CAP: usize> Core<CAP> {
         self.hand_held(game, Holders::new(command)?)
     }
 
-    /// The same of holders that were made before, so that the command itself is not read here.
+    /// Queues a command by handles that were made before, so that the command itself is not read.
     pub fn hand_held(&mut self, game: usize, holders: Holders) -> Result<(), AllocError>
         requires { game < length self.old.games.lanes }
         ensures ok { OnOk result (self.new ≡ core_after CAP self.old (event.Hand game holders)) }
@@ -121,16 +125,23 @@ impl<const CAP: usize> Core<CAP> {
         Ok(())
     }
 
-    /// From now on no job is taken. What is out may still come back.
+    /// Stops the core: no job is taken any more. Jobs that are out may still be completed.
     pub fn fail(&mut self)
         ensures { self.new ≡ record self.old { games = record self.old.games { failed = true } } }
     {
         self.games.fail();
     }
 
-    /// All that happened, in its order: each command that was handed in, each job that was taken, and each that came
-    /// back. Every event was enabled where it came, and the core is what they make of a core that was just opened. So
-    /// the isolation law speaks of it, between any two calls.
+    /// Whether the core was told to fail.
+    pub fn has_failed(&self) -> bool
+        ensures { result ≡ self.now.games.failed }
+    {
+        self.games.has_failed()
+    }
+
+    /// All events in order: each command queued, each job taken and each job completed. Every event
+    /// was enabled where it came, and the core is what the events make of a core that was just
+    /// opened. So the isolation law holds of the core between any two calls.
     pub fn journal(&self) -> &[Event]
         ensures value { result.now ≡ self.now.journal }
         ensures journal { IsItsJournal CAP self.now }
@@ -139,7 +150,7 @@ impl<const CAP: usize> Core<CAP> {
         self.journal.as_slice()
     }
 
-    /// How many games the plan has.
+    /// The number of games in the plan.
     pub fn rows(&self) -> usize
         ensures value { result ≡ length self.now.games.lanes }
         ensures plan { IsFitPlan self.now.games.rows }

@@ -1,4 +1,4 @@
-//! The fiber of one game: its commands, its replies, and where it is in the command that it is at. Clauses see its lane.
+//! The fiber of one game: its commands, its replies and its stage. Contracts see its lane.
 ghost use Rattle.std.specs.Prelude.{◌≡◌, ◌+◌, ◌≤◌, ◌<◌, ℕ, true, false, [], length, map, vec_len, vec_capacity, option_to_list, slice_index_or, MatchOption, ◌++◌, IfOk, IfSome, OnOk, OnErr};
 ghost use Rattle.std.specs.List.{list_all, filter_map, position};
 ghost use Rattle.bs_game.specs.Answer.{Fits};
@@ -20,26 +20,27 @@ use std::mem::replace;
 /// A part of the move that is played.
 #[derive(Debug, Drop)]
 pub(crate) enum Slot {
-    /// Nobody has taken the part. Its key goes to who does.
+    /// The part can be taken, with its key.
     Ready(PartKey<Done>),
+    /// That worker has the part out.
     Out(usize),
-    /// What the part moved, until it is joined.
+    /// The part's moved snakes, until they are joined.
     Done(Option<Snakes>),
 }
 
-/// The most parts that a move has.
+/// The largest number of parts of a move.
 const MOST_PARTS: usize = 4;
 
 #[derive(Debug, Drop)]
 pub(crate) struct Fiber {
     quota: u32,
-    /// All that were handed in. The first `begun` of them were taken.
+    /// All commands handed in. The first `begun` were taken.
     commands: Vec<Handed>,
     begun: usize,
     replies: Vec<Reply>,
     stage: Stage,
     slots: Vec<Slot>,
-    /// The keys for the parts of the command that is begun, if it may be a move that goes.
+    /// Between the take and the completion of a move's Begin, the keys of its parts.
     keys: Vec<PartKey<Done>>,
 }
 
@@ -73,7 +74,7 @@ pub(crate) fn keeps_limits(command: &Command)
     }
 }
 
-/// The parts of these keys are ready.
+/// Makes one ready slot for each key, in order.
 fn push_ready(slots: &mut Vec<Slot>, keys: &mut Vec<PartKey<Done>>)
     requires none { slots.old.items ≡ [] }
     requires room { vec_len keys.old ≤ vec_capacity slots.old }
@@ -86,7 +87,7 @@ fn push_ready(slots: &mut Vec<Slot>, keys: &mut Vec<PartKey<Done>>)
     }
 }
 
-/// The part's key goes out of its slot, which the worker has now.
+/// Takes the key out of the slot, and marks the slot as out with the worker.
 fn take_key(place: &mut Slot, worker: usize) -> PartKey<Done>
     requires { is_part_ready (state_of place.old) ≡ true }
     ensures place { place.new ≡ slot.Out worker }
@@ -223,8 +224,8 @@ impl Fiber {
         Ok(())
     }
 
-    /// The worker takes the job that begins the first waiting command, of whose parts these are the keys if it is a move that goes.
-    /// Room for the reply is made first.
+    /// Begins the first waiting command for the worker. The keys are those of its parts, where it
+    /// is a move that goes. Makes room for the reply first.
     pub(crate) fn begin(
         &mut self,
         worker: usize,
@@ -242,7 +243,7 @@ impl Fiber {
         Ok(())
     }
 
-    /// The worker takes that part, and gets its key.
+    /// Takes that part for the worker, with its key.
     pub(crate) fn take_part(&mut self, worker: usize, part: usize) -> PartKey<Done>
         requires { is_ready self.old kind.Part part ≡ true }
         ensures lane { self.new ≡ with_taken worker kind.Part part self.old }
@@ -251,7 +252,8 @@ impl Fiber {
         take_key(&mut self.slots[part], worker)
     }
 
-    /// The worker takes the job that joins all parts, with what they moved. Room for the reply is made first.
+    /// The worker takes the job that joins all parts, with what they moved. Room for the reply is
+    /// made first.
     pub(crate) fn join(&mut self, alloc: Global, worker: usize) -> Result<Parts, AllocError>
         requires { is_ready self.old kind.Join 0 ≡ true }
         ensures ok { OnOk result (self.new ≡ with_taken worker kind.Join 0 self.old) }
@@ -265,7 +267,7 @@ impl Fiber {
         Ok(Parts::from_vec(moved))
     }
 
-    /// The move goes, in as many parts as there are keys.
+    /// Starts the move: one ready part for each key.
     pub(crate) fn fork(&mut self)
         requires begun { (worker : ℕ) × (is_out worker self.old kind.Begin 0 ≡ true) }
         requires goes { goes_on self.old ≡ true }
@@ -287,7 +289,7 @@ impl Fiber {
         }
     }
 
-    /// The command has its reply.
+    /// Appends the reply and ends the command.
     pub(crate) fn answer(&mut self, reply: Reply)
         requires out { (worker : ℕ) × (occupies worker self.old ≡ true) }
         requires reply { reply ≡ (lane_outcome self.old).reply }
@@ -372,7 +374,7 @@ impl Fiber {
         self.stage == Stage::Idle && self.begun == self.commands.len()
     }
 
-    /// How many parts the move has.
+    /// The number of parts of the move.
     pub(crate) fn count_parts(&self) -> usize
         ensures { result ≡ length self.now.parts }
     {

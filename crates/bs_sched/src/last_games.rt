@@ -1,17 +1,23 @@
-//! Which game each worker was at last: a table by their numbers. Only the order in which games are looked at goes by it.
+//! The game of each worker's last job: a table by worker number. It decides only the order in which
+//! games are searched.
+ghost use Rattle.std.specs.Prelude.{◌≤◌};
+
+use crate::cores::MOST_WORKERS;
 use std::alloc::{AllocError, Global};
 
-/// The game that is looked at first by who is not in the table.
+/// The first game searched for a worker beyond the table.
 const FIRST_GAME: usize = 0;
 
-/// A table of workers from 0 to the last, each at a game as far from the others' as can be: what belongs to games that stand
-/// beside each other lies in the same lines of the processors' caches.
+/// The table for workers 0 to `workers`, their games as far apart as possible: adjacent games share
+/// cache lines.
 pub(crate) fn spread_games(
     alloc: Global,
     workers: usize,
     games: usize,
-) -> Result<Vec<usize>, AllocError> {
-    let many = workers.checked_add(1).ok_or(AllocError)?;
+) -> Result<Vec<usize>, AllocError>
+    requires { workers ≤ MOST_WORKERS }
+{
+    let many = workers + 1;
     let distance = games / workers.max(1);
     let mut first = Vec::with_capacity(alloc, many)?;
     for worker in 0..many {
@@ -20,7 +26,7 @@ pub(crate) fn spread_games(
     Ok(first)
 }
 
-/// The game that the worker was at last.
+/// The game of the worker's last job.
 pub(crate) fn last_game(games: &[usize], worker: usize) -> usize {
     match games.get(worker) {
         Some(game) => *game,
@@ -28,7 +34,8 @@ pub(crate) fn last_game(games: &[usize], worker: usize) -> usize {
     }
 }
 
-/// The worker is at that game. Nothing is written where it was there before, so that others need not fetch the table anew.
+/// Records the worker's game. Writes nothing where it is unchanged, so that the cache line stays
+/// shared.
 pub(crate) fn note_game(games: &mut Vec<usize>, worker: usize, game: usize) {
     if worker < games.len() && games[worker] != game {
         games[worker] = game;

@@ -1,9 +1,9 @@
-//! The core: all games of a plan, the jobs that their commands are carried out by, the records that they keep, and the
-//! journal of all that happened to them.
+//! The core: all games of a plan, the jobs that carry out their commands, their records, and the journal of
+//! all events.
 #![tactic(auto)]
 
-mod bringing;
 mod busy;
+mod completing;
 mod cores;
 #[cfg(test)]
 mod drawn_tests;
@@ -22,8 +22,8 @@ mod taking;
 #[cfg(test)]
 mod tests;
 
-pub use bringing::Strays;
-pub use cores::{Core, Counts, LEAST_CAPACITY};
+pub use completing::Strays;
+pub use cores::{Core, Counts, LEAST_CAPACITY, MOST_WORKERS};
 pub use event::Event;
 pub use law::isolation_law;
 pub use opening::Open;

@@ -1,4 +1,4 @@
-//! Opening a core: a fiber and a heap for each game, and the blocks that are set aside for all of them.
+//! Opening a core: a fiber and a heap for each game, and the reserved blocks.
 ghost use Rattle.std.specs.Prelude.{◌≡◌, ◌*◌, ◌≤◌, ◌<◌, map, length, IfOk, IfErr, OnOk};
 ghost use Rattle.bs_block.specs.Bytes.{IsCapacity};
 ghost use Rattle.bs_board.specs.plans.Plan.{IsFitPlan};
@@ -10,7 +10,7 @@ ghost use Rattle.bs_sched.specs.PlanBlocks.{blocks_of_all};
 ghost use Rattle.bs_sched.specs.declared.opening.Open.TheVariants as cause;
 
 use crate::busy::nobody_busy;
-use crate::cores::{Core, LEAST_CAPACITY};
+use crate::cores::{Core, LEAST_CAPACITY, MOST_WORKERS};
 use crate::fiber::Fiber;
 use crate::games::Games;
 use crate::last_games::spread_games;
@@ -21,10 +21,10 @@ use bs_heap::{MOST_RECORD_BYTES, TagHeap};
 use std::alloc::{AllocError, Global};
 use thiserror::Error;
 
-/// Why a core was not opened.
+/// Why a core can't be opened.
 #[derive(Clone, Copy, Debug, PartialEq, Eq, Error)]
 pub enum Open {
-    /// More blocks would be set aside for the plan's games than there are.
+    /// The plan's games reserve more blocks than there are.
     #[error("too few blocks for the plan")]
     Short,
     #[error("out of memory")]
@@ -37,14 +37,6 @@ impl From<AllocError> for Open {
     fn from(_error: AllocError) -> Open {
         Open::Memory
     }
-}
-
-/// The last worker's number as the core keeps it. One of more than 32 bits is answered as want of memory is: the tables by
-/// worker would take gigabytes.
-fn last_worker(workers: usize) -> Result<u32, AllocError>
-    ensures { IfOk result (λ last. last ≡ workers) }
-{
-    u32::try_from(workers).map_err(|_| AllocError)
 }
 
 fn open_fibers(alloc: Global, rows: &[Row]) -> Result<Vec<Fiber>, AllocError>
@@ -74,11 +66,12 @@ fn open_heaps<const CAP: usize>(
 }
 
 impl<const CAP: usize> Games<CAP> {
-    /// Games that were handed nothing yet.
+    /// Opens games that were handed nothing yet.
     #[tactic(auto, using(crate::proofs::OpenedGames::opened_packings))]
     fn open(alloc: Global, plan: Plan, blocks: usize, workers: usize) -> Result<Self, Open>
         requires capacity { IsCapacity CAP }
         requires wide { LEAST_CAPACITY ≤ CAP }
+        requires workers { workers ≤ MOST_WORKERS }
         ensures games { IfOk result (λ games. games ≡ opened CAP blocks workers plan.rows) }
         ensures plan { IsFitPlan plan.rows }
         ensures room { OnOk result (blocks_of_all CAP plan.rows ≤ blocks) }
@@ -88,13 +81,12 @@ impl<const CAP: usize> Games<CAP> {
         if blocks_of_all(CAP, rows) > blocks {
             return Err(Open::Short);
         }
-        let workers = last_worker(workers)?;
         let pool = open_pool(alloc, rows, blocks)?;
         let fibers = open_fibers(alloc, rows)?;
         let heaps = open_heaps(alloc, rows)?;
         Ok(Games {
             rows: plan.rows,
-            workers,
+            workers: workers as u32,
             failed: false,
             fibers,
             heaps,
@@ -104,12 +96,13 @@ impl<const CAP: usize> Games<CAP> {
 }
 
 impl<const CAP: usize> Core<CAP> {
-    /// A core over so many blocks, in which each game's own are set aside. Workers are numbered from 0 to `workers`,
-    /// the caller's own being the last. `Short` where the plan needs more blocks; `Memory` also where a worker's number
-    /// would have more than 32 bits.
+    /// Opens a core with that many blocks and reserves each game's own. Workers are numbered from 0
+    /// to `workers`; the last is the caller's own. `Short` where the plan reserves more blocks than
+    /// there are.
     pub fn open(alloc: Global, plan: Plan, blocks: usize, workers: usize) -> Result<Self, Open>
         requires capacity { IsCapacity CAP }
         requires wide { LEAST_CAPACITY ≤ CAP }
+        requires workers { workers ≤ MOST_WORKERS }
         ensures core { IfOk result (λ core. core ≡ opened_core CAP blocks workers plan.rows) }
         ensures room { OnOk result (blocks_of_all CAP plan.rows ≤ blocks) }
         ensures short { IfErr result (λ fault. fault ≡ cause.Short → blocks < blocks_of_all CAP plan.rows) }

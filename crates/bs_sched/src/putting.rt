@@ -1,4 +1,4 @@
-//! Bringing jobs back: whether one is the core's own, and what it makes of its game.
+//! Completing jobs: whether one is the core's own, and its effect on the game.
 ghost use Rattle.std.specs.Prelude.{◌≡◌, ◌≤◌, ◌<◌, ◌↔◌, IsTrue, true, ℕ, length, slice_set, IfOk, OnOk, IfErr};
 ghost use Rattle.bs_fiber.specs.declared.job.JobKind.TheVariants as kind;
 ghost use Rattle.bs_fiber.specs.Work.{moved_part, out_seen};
@@ -22,17 +22,17 @@ use bs_fiber::{Done, JobKind, JobName, Out, Ticket};
 use bs_game::Answer;
 use thiserror::Error;
 
-/// The worker has no such job of the core out, or what it read is not what the core has for it. It comes back as it
-/// was.
+/// The worker has no such job of the core out, or its ticket is not the core's input, or it is a
+/// part. The done is returned as it was.
 #[derive(Debug, Drop, Error)]
 #[error("no such job is out with this worker")]
 pub struct Stray {
-    /// What was brought.
+    /// The done.
     pub done: Done,
 }
 
 impl<const CAP: usize> Games<CAP> {
-    /// The command of that game has its answer.
+    /// Answers the command of that game.
     #[inline(always)]
     fn answer(&mut self, game: usize, answer: Answer)
         requires game { game < length self.old.lanes }
@@ -51,7 +51,7 @@ impl<const CAP: usize> Games<CAP> {
         );
     }
 
-    /// The move of that game goes, in its parts.
+    /// Starts the parts of that game's move.
     fn fork(&mut self, game: usize)
         requires game { game < length self.old.lanes }
         requires begun { (worker : ℕ) × (is_out worker (lane_of self.old.lanes game) kind.Begin 0 ≡ true) }
@@ -61,7 +61,7 @@ impl<const CAP: usize> Games<CAP> {
         self.fibers[game].fork();
     }
 
-    /// That part of the move came back with what it moved.
+    /// Completes that part of the move with its moved snakes.
     fn put_part(&mut self, game: usize, part: usize, moved: Snakes)
         requires game { game < length self.old.lanes }
         requires out { (worker : ℕ) × (is_out worker (lane_of self.old.lanes game) kind.Part part ≡ true) }
@@ -71,7 +71,7 @@ impl<const CAP: usize> Games<CAP> {
         self.fibers[game].put_part(part, moved);
     }
 
-    /// What a job came to that was out.
+    /// Applies the result of a job that was out.
     fn bring(&mut self, job: JobName, out: Out)
         requires game { job.game < length self.old.lanes }
         requires out { (worker : ℕ) × (is_out worker (lane_of self.old.lanes job.game) job.kind job.part ≡ true) }
@@ -87,7 +87,7 @@ impl<const CAP: usize> Games<CAP> {
         }
     }
 
-    /// What is so of each game between two events.
+    /// What holds of each game between two events.
     fn keeps(&self, game: usize)
         requires { game < length self.now.lanes }
         ensures { IsRight (lane_of self.now.lanes game) }
@@ -95,7 +95,7 @@ impl<const CAP: usize> Games<CAP> {
         self.fibers[game].keeps();
     }
 
-    /// Whether the worker has that job out, and what the job read is what the core has for it.
+    /// Whether the worker has that job out and its ticket is the core's input.
     pub(crate) fn is_own(&self, worker: usize, done: &Done) -> bool
         ensures { IsTrue result ↔ IsOwn self.now worker done.now }
     {
@@ -104,14 +104,14 @@ impl<const CAP: usize> Games<CAP> {
         game < self.fibers.len() && is_own(&self.fibers[game], &self.heaps[game], worker, ticket)
     }
 
-    /// The same of a job that is no part.
+    /// Whether it is no part, and the worker's own.
     fn is_own_job(&self, worker: usize, done: &Done) -> bool
         ensures { IsTrue result ↔ IsOwnJob self.now worker done.now }
     {
         done.ticket().job().kind != JobKind::Part && self.is_own(worker, done)
     }
 
-    /// An own job is done. Its ticket is spent.
+    /// Completes a job of the core's own. The result is its spent ticket.
     fn settle(&mut self, done: Done) -> Ticket
         requires { (worker : ℕ) × IsOwn self.old worker done }
         ensures games { self.new ≡ brought CAP self.old done.job }
@@ -126,7 +126,7 @@ impl<const CAP: usize> Games<CAP> {
 }
 
 impl<const CAP: usize> Core<CAP> {
-    /// The worker's own job is done. The journal has room for its coming back.
+    /// Completes a job of the worker. The journal has room for it.
     pub(crate) fn settle(&mut self, worker: usize, done: Done) -> Ticket
         requires { IsOwn self.old.games worker done }
         ensures core { self.new ≡ core_after CAP self.old (event.Put worker done.job) }
@@ -141,8 +141,8 @@ impl<const CAP: usize> Core<CAP> {
         ticket
     }
 
-    /// The worker brings back a job that it took. It asks for no memory. `Stray` gives back what is not the core's, and
-    /// then nothing has changed.
+    /// Completes a Begin or a Join of the worker. Takes no memory. `Stray` returns what is not the
+    /// core's own, and each part; then nothing has changed.
     pub fn put(&mut self, worker: usize, done: Done) -> Result<(), Stray>
         ensures own { OnOk result (IsOwnJob self.old.games worker done) }
         ensures ok { OnOk result (self.new ≡ core_after CAP self.old (event.Put worker done.job)) }
@@ -152,7 +152,7 @@ impl<const CAP: usize> Core<CAP> {
         Ok(())
     }
 
-    /// The same, and the job's ticket comes back, which is spent: `take_over` can make a new one of it.
+    /// `put` that returns the job's spent ticket, whose memory `take_over` reuses.
     pub fn put_back(&mut self, worker: usize, done: Done) -> Result<Ticket, Stray>
         ensures own { OnOk result (IsOwnJob self.old.games worker done) }
         ensures ok { OnOk result (self.new ≡ core_after CAP self.old (event.Put worker done.job)) }

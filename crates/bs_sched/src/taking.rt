@@ -1,4 +1,4 @@
-//! Taking jobs: which one a worker gets, and the copy of all that it reads.
+//! Taking jobs: which job a worker gets, and the copy of all that the job reads.
 ghost use Rattle.std.specs.Prelude.{◌≡◌, ℕ, ◌≤◌, ◌<◌, true, length, MatchOption, IfOk, OnOk, OnErr};
 ghost use Rattle.bs_heap.specs.Heap.{with_index_room};
 ghost use Rattle.bs_fiber.specs.declared.job.JobKind.TheVariants as kind;
@@ -25,22 +25,22 @@ use bs_fiber::{Done, Input, JobKind, JobName, Ticket};
 use bs_heap::TagHeap;
 use std::alloc::{AllocError, Global};
 
-/// What a worker gets that asks for a job.
+/// The answer to a worker that asks for a job.
 #[derive(Debug, Drop)]
 pub enum Taken {
-    /// None any more, since the core was told to fail.
+    /// No job: the core was told to fail.
     Failed,
-    /// None, since the worker has a job that begins or joins.
+    /// No job: the worker has a Begin or a Join out.
     Busy,
-    /// None, since no game has one ready.
+    /// No job: none is ready in any game.
     Nothing,
-    /// This one, which begins or joins.
+    /// A Begin or a Join.
     Job(Ticket),
-    /// This part, with the key for it.
+    /// A part, with its key.
     Part(Ticket, PartKey<Done>),
 }
 
-/// What stands in the fibers for a worker.
+/// What the fibers have for a worker.
 #[derive(Clone, Copy, Debug)]
 pub(crate) enum Found {
     Busy,
@@ -79,7 +79,8 @@ fn find_job(fibers: &[Fiber], from: usize, to: usize) -> Option<JobName>
     None
 }
 
-/// The keys for the parts of the next command, if it is a move in a game that runs.
+/// Opens a tally where the next command is a move in a game that runs; else returns no keys. The
+/// command itself is not read.
 fn open_keys<const CAP: usize>(
     alloc: Global,
     fiber: &Fiber,
@@ -90,7 +91,7 @@ fn open_keys<const CAP: usize>(
     ensures { IfOk result (λ keys. (worker : ℕ) → HasKeys (with_taken worker kind.Begin 0 fiber.now) keys.items) }
 {
     fiber.keeps();
-    if !fiber.next().shared().is_move() {
+    if !fiber.next().is_move() {
         return Ok(Vec::new(alloc));
     }
     if heap.count() == 0 {
@@ -102,7 +103,7 @@ fn open_keys<const CAP: usize>(
     Tally::open(alloc, parts_of_last(heap))
 }
 
-/// The next command is begun.
+/// Begins the next command.
 fn begin_input<const CAP: usize>(
     alloc: Global,
     fiber: &mut Fiber,
@@ -128,7 +129,7 @@ fn begin_input<const CAP: usize>(
     Ok(input)
 }
 
-/// A part goes out.
+/// Takes a part, with its key.
 fn part_input<const CAP: usize>(
     alloc: Global,
     fiber: &mut Fiber,
@@ -153,7 +154,7 @@ fn part_input<const CAP: usize>(
     Ok((input, key))
 }
 
-/// The joining of all parts goes out, with what they moved.
+/// Takes the Join, with the moved snakes of all parts.
 fn join_input<const CAP: usize>(
     alloc: Global,
     fiber: &mut Fiber,
@@ -202,8 +203,8 @@ fn take_input<const CAP: usize>(
     }
 }
 
-/// The worker takes that job of a game. All memory that its answer will need is asked for here. The new ticket takes the
-/// place of a spent one, if there is one.
+/// Takes that job of a game for the worker, and all memory that its completion needs. The new
+/// ticket reuses the memory of a spent one, if there is one.
 #[tactic(auto, using(crate::proofs::FitInputs::taken_input))]
 fn take_ticket<const CAP: usize>(
     alloc: Global,
@@ -230,7 +231,7 @@ fn take_ticket<const CAP: usize>(
 }
 
 impl<const CAP: usize> Games<CAP> {
-    /// The first job that is ready in that game or one behind it, or else in one before it.
+    /// The first ready job in that game or a later one, else in an earlier one.
     #[tactic(auto, using(crate::proofs::FoundJobs::none_anywhere))]
     fn find(&self, first: usize) -> Option<JobName>
         ensures { MatchOption result (AreNoneReady self.now.lanes) (IsReadyJob self.now.lanes) }
@@ -269,7 +270,7 @@ impl<const CAP: usize> Games<CAP> {
 }
 
 impl<const CAP: usize> Core<CAP> {
-    /// Whether the worker has a job that begins or joins.
+    /// Whether the worker has a Begin or a Join out.
     fn is_busy(&self, worker: usize) -> bool
         requires { worker ≤ self.now.games.workers }
         ensures { result ≡ is_busy worker self.now.games.lanes }
@@ -277,8 +278,8 @@ impl<const CAP: usize> Core<CAP> {
         is_marked(self.busy.as_slice(), worker)
     }
 
-    /// What stands in the games for the worker. It stays at the game that it was at last as long as that has a job, since
-    /// what the job reads then lies in its processor's cache, and goes on to those behind it.
+    /// What the games have for the worker. It stays at its last game while that has a ready job,
+    /// whose records then lie in the processor's cache, and goes on to the later games.
     fn find(&self, worker: usize) -> Found
         requires { worker ≤ self.now.games.workers }
         ensures { FindsJob worker self.now.games.lanes result }
@@ -295,7 +296,7 @@ impl<const CAP: usize> Core<CAP> {
         }
     }
 
-    /// The worker takes that job. The journal gets room for its coming back too.
+    /// Takes that job for the worker. The journal gets room for its completion too.
     fn take_job(
         &mut self,
         alloc: Global,
@@ -319,8 +320,8 @@ impl<const CAP: usize> Core<CAP> {
         Ok(taken)
     }
 
-    /// A job for that worker, with a copy of all that it reads. No memory is asked for when it comes back. An error is
-    /// the allocator's, and leaves all as it was.
+    /// Takes a job for that worker, with a copy of all that it reads. Its completion takes no
+    /// memory. After want of memory the core is unchanged.
     pub fn take(&mut self, alloc: Global, worker: usize) -> Result<Taken, AllocError>
         requires { worker ≤ self.old.games.workers }
         ensures ok { IfOk result (λ taken. TakesAs CAP self.old worker taken self.new) }
@@ -329,8 +330,8 @@ impl<const CAP: usize> Core<CAP> {
         self.take_over(alloc, worker, None)
     }
 
-    /// The same, but that the new ticket takes the place in memory of a spent one's input, if there is one: whichever that is, it is
-    /// given up.
+    /// `take` whose ticket reuses the memory of a spent input, if there is one. That input is lost
+    /// in any case.
     pub fn take_over(
         &mut self,
         alloc: Global,

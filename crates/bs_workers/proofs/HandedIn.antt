@@ -92,6 +92,7 @@ run_from cap rows blocks commands new apart given handed =
     record {
       plan = given.plan;
       as_many = given.as_many;
+      failed = given.failed;
       quiet = given.quiet;
       handed = handed;
       served =
@@ -105,4 +106,4 @@ run_from cap rows blocks commands new apart given handed =
 
 pub as_given : (rows : List GameRow) (blocks : ℕ) (commands : List (ℕ × Command)) (new : CoreView) → IsRunFrom rows blocks commands new
     → IsAsGiven rows blocks new
-as_given rows blocks commands new run = record { plan = run.plan; as_many = run.as_many; quiet = run.quiet }
+as_given rows blocks commands new run = record { plan = run.plan; as_many = run.as_many; failed = run.failed; quiet = run.quiet }

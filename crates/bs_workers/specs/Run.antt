@@ -1,5 +1,6 @@
--- What a run leaves: every command handed in, in order, and answered, each game by its own commands alone.
-use Rattle.std.specs.Prelude.{◌≡◌, ℕ, ◌<◌, true, List, length, Option, Some, None, nat_eq, if◌then◌else◌}
+-- The result of a run: every command was queued in order and answered, each game by its own
+-- commands alone.
+use Rattle.std.specs.Prelude.{◌≡◌, ℕ, ◌<◌, true, false, List, length, Option, Some, None, nat_eq, if◌then◌else◌}
 use Rattle.std.specs.List.{filter_map, list_all}
 use Rattle.bs_board.specs.declared.commands.command.Command.{Command}
 use Rattle.bs_pool.specs.Ledger.{size}
@@ -17,11 +18,13 @@ command_for game command = if nat_eq command.0 game then Some command.1 else Non
 abbrev pub commands_for : ℕ → List (ℕ × Command) → List Command
 commands_for game = filter_map (command_for game)
 
--- the core has the same plan and as many blocks, and nothing is left to do; its journal hands in just these commands, in their order, and
--- each game is as its own commands leave it
+-- the core has the same plan and as many blocks, was not told to fail, and nothing is left to do;
+-- its journal queues just these commands, in their order, and each game is as its own commands
+-- leave it
 pub record IsRunOf (old : CoreView) (commands : List (ℕ × Command)) (new : CoreView) : Type 0 where
   pub plan : new.games.rows ≡ old.games.rows
   pub blocks : size new.games.storage.pool ≡ size old.games.storage.pool
+  pub failed : new.games.failed ≡ false
   pub quiet : list_all is_quiet new.games.lanes ≡ true
   pub handed : hands_of new.journal ≡ commands
   pub served : (game : ℕ) → game < length old.games.rows → IsServed (row_at old.games.rows game) (commands_for game commands) (lane_of new.games.lanes game)

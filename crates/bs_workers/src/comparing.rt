@@ -1,4 +1,4 @@
-//! Whether a core is what a run has to leave.
+//! Whether a core is the result of a run.
 ghost use Rattle.std.specs.Prelude.{◌≡◌, ◌↔◌, [], ◌∷◌, ◌++◌, IsTrue, MatchOption};
 ghost use Rattle.bs_sched.specs.Handed.{hands_of};
 ghost use Rattle.bs_workers.specs.Given.{CannotHandIn, IsAsGiven, IsNotNext, IsRunFrom};
@@ -10,14 +10,15 @@ use bs_sched::{Core, Event};
 use std::alloc::{AllocError, Global};
 use std::marker::Model;
 
-/// Whether what is to be handed in next is that command, for the game of that row.
+/// Whether the next command to be queued is that command, for the game of that row.
 fn is_next(next: &(usize, SharedCommand), game: usize, command: &Command) -> bool
     ensures { IsTrue result ↔ next.now ≡ (game, command.now) }
 {
     next.0 == game && next.1.get().is_same(command)
 }
 
-/// The commands behind the first, where the first is that one, for the game of that row; none where it isn't.
+/// The commands after the first, where the first is that command for the game of that row; else
+/// none.
 fn behind_hand<'c>(
     commands: &'c [(usize, SharedCommand)],
     game: usize,
@@ -35,7 +36,7 @@ fn behind_hand<'c>(
     }
 }
 
-/// The commands that are left after the event; none where it hands in a command that isn't the first.
+/// The commands that remain after the event; none where it queues a command that isn't the first.
 fn behind<'c>(
     commands: &'c [(usize, SharedCommand)],
     event: &Event,
@@ -51,7 +52,7 @@ fn behind<'c>(
     }
 }
 
-/// Whether these events hand in just these commands, in their order.
+/// Whether these events queue just these commands, in this order.
 fn are_handed(events: &[Event], commands: &[(usize, SharedCommand)]) -> bool
     ensures { IsTrue result ↔ hands_of events.now ≡ commands.now }
 {
@@ -65,14 +66,15 @@ fn are_handed(events: &[Event], commands: &[(usize, SharedCommand)]) -> bool
     left.is_empty()
 }
 
-/// Whether the core has that plan and so many blocks, and nothing is left to do.
+/// Whether the core has that plan and that many blocks, was not told to fail, and nothing is left
+/// to do.
 fn is_as_given<const CAP: usize>(core: &Core<CAP>, rows: &[Row], blocks: usize) -> bool
     ensures { IsTrue result ↔ IsAsGiven rows.now blocks core.now }
 {
-    has_rows(core, rows) && core.counts().size == blocks && core.is_quiet()
+    has_rows(core, rows) && core.counts().size == blocks && !core.has_failed() && core.is_quiet()
 }
 
-/// What the core of a run had before it: its plan, and how many blocks. Clauses see both.
+/// The plan and the number of blocks of a core before its run. Contracts see both.
 #[derive(Debug, Drop)]
 pub struct Given {
     rows: Vec<Row>,
@@ -92,7 +94,7 @@ impl Given {
     ghost use Rattle.std.specs.Prelude.{IfOk};
     ghost use Rattle.bs_pool.specs.Ledger.{size};
 
-    /// What this core has.
+    /// Copies the plan and the number of blocks of this core.
     pub fn of<const CAP: usize>(alloc: Global, core: &Core<CAP>) -> Result<Given, AllocError>
         ensures { IfOk result (λ given. given ≡ (core.now.games.rows, size core.now.games.storage.pool)) }
     {
@@ -102,8 +104,9 @@ impl Given {
         })
     }
 
-    /// Whether the core is what a run of these commands leaves of one that had this: nothing is left to do, and its journal
-    /// hands in just these commands, in their order.
+    /// Whether the core is the result of a run of these commands from a core with this plan and
+    /// number of blocks: it was not told to fail, nothing is left to do, and its journal queues
+    /// just these commands in their order.
     #[tactic(auto, using(crate::proofs::HandedIn::run_from, crate::proofs::HandedIn::as_given))]
     pub fn is_left<const CAP: usize>(
         &self,

@@ -1,4 +1,4 @@
-//! A crew: the workers that one thread stands for, with the jobs that it has for them.
+//! A crew: the workers of one thread, with their jobs.
 use crate::fault::Run;
 use crate::gate::Gate;
 use crate::task::{Refused, Task, Worked, work_at};
@@ -10,42 +10,45 @@ use std::alloc::{AllocError, Global};
 use std::sync::atomic::AtomicU64;
 use std::sync::atomic::Ordering::SeqCst;
 
-/// The most parts that a move has, and so the most jobs that a worker takes in one turn at the desk.
+/// The largest number of parts of a move, and so of the jobs that a worker takes in one turn at the
+/// desk.
 pub(crate) const MOST_PARTS: usize = 4;
 
-/// A thread's workers, and where their jobs are. A worker may have one job out that begins or joins, or all parts of a move, so
-/// a thread that takes several jobs in one turn at the desk takes them for several workers.
+/// The workers of a thread, and their jobs. A worker may have one Begin or Join out, or all parts
+/// of a move, so a thread that takes several jobs in one turn at the desk takes them for several
+/// workers.
 #[derive(Drop)]
 pub(crate) struct Crew {
-    /// The number of the thread, which a gate is told.
+    /// The number of the thread, as a gate gets it.
     thread: usize,
-    /// The number of its first worker; the others come behind it.
+    /// The number of the first worker; the others follow.
     first: usize,
     /// How many workers it has.
     size: usize,
-    /// Jobs to be worked.
+    /// Jobs to be run.
     tasks: Vec<Task>,
-    /// Jobs to be brought back.
+    /// Finished Begins and Joins, to be completed.
     done: Vec<Done>,
-    /// The parts of moves of which this thread finished the last one, to be brought back.
+    /// The parts of the moves whose last part this thread finished, to be completed.
     parts: Vec<ArrayVec<Option<Done>, 4>>,
-    /// The key of a part that came to nothing, until the run is broken off.
+    /// The key of a part that failed, until the core was told to fail.
     refused: Option<PartKey<Done>>,
-    /// Tickets of jobs that were brought back.
+    /// Tickets of completed jobs.
     spent: Vec<Ticket>,
-    /// Inputs of such tickets, with nothing left in them that would have to be given back at the desk: new ones may take their places.
+    /// Inputs of such tickets, cleared outside the lock. New tickets reuse their memory.
     cleared: Vec<Box<Input>>,
-    /// Counts what was read ahead. Nobody asks for it: that it is counted keeps the compiler from leaving the reading out.
+    /// Counts the bytes read ahead. It is never read: the counting keeps the compiler from removing
+    /// the reads.
     read: AtomicU64,
-    /// Whether it came for jobs and has none yet.
+    /// Whether the thread waits for jobs.
     waits: bool,
-    /// Why one of its jobs came to nothing.
+    /// Why a job failed.
     fault: Option<Run>,
 }
 
 impl Crew {
-    /// So many workers for that thread, one at least. The threads before it have as many each. All memory that it needs is
-    /// asked for here.
+    /// Makes a crew of `size` workers, at least one, for that thread. Each earlier thread has as
+    /// many. All memory that the crew needs is taken here.
     pub(crate) fn new(alloc: Global, thread: usize, size: usize) -> Result<Self, AllocError> {
         let size = size.max(1);
         let room = size.saturating_mul(MOST_PARTS);
@@ -75,34 +78,34 @@ impl Crew {
         self.first.saturating_add(place)
     }
 
-    /// How many jobs it has to bring back.
+    /// The number of Begins and Joins to be completed.
     pub(crate) fn count_done(&self) -> usize {
         self.done.len()
     }
 
-    /// Of how many moves it has all parts to bring back.
+    /// The number of moves whose parts are to be completed.
     pub(crate) fn count_parts(&self) -> usize {
         self.parts.len()
     }
 
-    /// Whether it has a job to be worked.
+    /// Whether there is a job to be run.
     pub(crate) fn has_jobs(&self) -> bool {
         !self.tasks.is_empty()
     }
 
-    /// It comes to the desk for jobs. Whether it came from work, and had not come for them before.
+    /// Marks the thread as waiting for jobs. True where it was busy before.
     pub(crate) fn comes_for_jobs(&mut self) -> bool {
         let comes = !self.waits;
         self.waits = true;
         comes
     }
 
-    /// It has jobs, and goes to work them.
+    /// Marks the thread as busy.
     pub(crate) fn goes_to_work(&mut self) {
         self.waits = false;
     }
 
-    /// Why one of its jobs came to nothing.
+    /// Why a job failed.
     pub(crate) fn fault(&self) -> Option<Run> {
         self.fault
     }
@@ -113,38 +116,39 @@ impl Crew {
         }
     }
 
-    /// A job more.
+    /// Adds a job.
     pub(crate) fn add(&mut self, task: Task) {
         let added = self.tasks.push(task);
         self.note_fault(added);
     }
 
-    /// A job to be brought back.
+    /// A Begin or a Join to be completed.
     pub(crate) fn take_done(&mut self) -> Option<Done> {
         self.done.pop()
     }
 
-    /// All parts of a move, to be brought back.
+    /// All parts of a move to be completed.
     pub(crate) fn take_parts(&mut self) -> Option<ArrayVec<Option<Done>, 4>> {
         self.parts.pop()
     }
 
-    /// The run is broken off, so nobody waits for the part whose key this is.
+    /// Drops the key of a part that failed. The core was told to fail, so nobody waits for the
+    /// part.
     pub(crate) fn give_up_refused(&mut self) {
         self.refused = None;
     }
 
-    /// An input that a new one may take the place of.
+    /// A cleared input, if there is one.
     pub(crate) fn take_cleared(&mut self) -> Option<Box<Input>> {
         self.cleared.pop()
     }
 
-    /// That ticket's job was brought back.
+    /// Keeps the ticket of a completed job.
     pub(crate) fn keep_spent(&mut self, ticket: Ticket) {
         let _kept = self.spent.push(ticket);
     }
 
-    /// What the parts of moves brought is given back, while nobody waits for it.
+    /// Frees the moved snakes of the spent inputs, outside the lock.
     fn clear_spent(&mut self, alloc: Global) {
         for _ in 0..self.spent.len() {
             if let Some(ticket) = self.spent.pop() {
@@ -155,8 +159,8 @@ impl Crew {
         }
     }
 
-    /// The directions of a move that was begun are read, as the desk will, which compares them: so they come into the cache of this
-    /// processor before the lock is taken, and nobody waits for that.
+    /// Reads the directions of a move that was begun. The desk compares them under the lock, and
+    /// then finds them in the processor's cache.
     fn read_ahead(&self, ticket: &Ticket) {
         if let (JobKind::Begin, Command::Move(orders)) = (ticket.job().kind, ticket.command()) {
             let mut bytes = 0u64;
@@ -167,6 +171,7 @@ impl Crew {
         }
     }
 
+    /// Keeps what is to be completed.
     fn keep_worked(&mut self, worked: Worked) {
         match worked {
             Worked::Job(done) => {
@@ -182,7 +187,7 @@ impl Crew {
         }
     }
 
-    /// All its jobs are worked, or those before one that comes to nothing.
+    /// Runs all jobs, up to the first that fails.
     pub(crate) fn work_all<G: Gate>(&mut self, alloc: Global, gate: &G) {
         self.clear_spent(alloc);
         for _ in 0..self.tasks.len() {

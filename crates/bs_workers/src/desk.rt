@@ -1,4 +1,4 @@
-//! The desk: a core, with what those that work at it have to know of one another.
+//! The desk: a core, with the state that its threads share.
 use crate::crew::{Crew, MOST_PARTS};
 use crate::fault::Run;
 use crate::task::{PartTask, Task};
@@ -8,10 +8,10 @@ use bs_fiber::{Done, Holders, Input, JobKind, Out, Ticket};
 use bs_sched::{Core, Taken};
 use std::alloc::Global;
 
-/// What a worker is told that asks for a job.
+/// The answer to a worker that asks for a job.
 #[derive(Drop)]
 pub(crate) enum Assignment {
-    /// Work this one.
+    /// Run this job.
     Work(Task),
     /// None is ready, and one may become so.
     Wait,
@@ -19,10 +19,10 @@ pub(crate) enum Assignment {
     End,
 }
 
-/// What a thread is told that asks for jobs.
+/// The answer to a thread that asks for jobs.
 #[derive(Clone, Copy, PartialEq, Eq)]
 pub(crate) enum Next {
-    /// It has some to work. Before that it calls those that wait, if there may be some for them too.
+    /// It got jobs. It first wakes the waiting threads where there may be jobs for them too.
     Work { calls: bool },
     /// None is ready, and one may become so.
     Wait,
@@ -30,10 +30,10 @@ pub(crate) enum Next {
     End,
 }
 
-/// A record has this many bytes at least.
+/// The smallest length of a record in bytes.
 const LEAST_RECORD: usize = 9;
 
-/// Whether the job is a part of a move that has parts behind it: each moves two seats of the board.
+/// Whether the job is a part of a move with later parts. Each part moves two seats of the board.
 fn has_parts_behind(ticket: &Ticket) -> bool {
     let job = ticket.job();
     let Some(record) = ticket.last() else {
@@ -45,31 +45,32 @@ fn has_parts_behind(ticket: &Ticket) -> bool {
         && 2 * (usize::from(job.part) + 1) < seats_of_record(bytes)
 }
 
-/// What a thread brought back.
+/// What a thread completed in one turn at the desk.
 #[derive(Clone, Copy)]
 struct Brought {
-    /// Of how many games there may be a job ready now that was not before.
+    /// The number of games that may have a ready job now and had none before.
     games: usize,
-    /// Whether that may be more jobs than one: a move that goes makes all its parts ready, any other job one at most.
+    /// Whether there may be more such jobs than games: a move that goes makes all its parts ready,
+    /// any other job at most one.
     spreads: bool,
 }
 
-/// A core that commands are handed to and jobs are taken from.
+/// A core that commands are queued in and jobs are taken from.
 #[derive(Drop)]
 pub struct Desk<const CAP: usize> {
     core: Core<CAP>,
-    /// How many threads came for jobs and have none.
+    /// The number of threads that wait for jobs.
     idle: usize,
-    /// Whether who looked last found no job more, and since then none was left by who could have taken it.
+    /// Whether the last search found no further job, and no job was left to others since.
     drained: bool,
-    /// Whether the last command is handed in.
+    /// Whether all commands are queued.
     closed: bool,
-    /// Why the run was broken off.
+    /// Why the run was stopped.
     fault: Option<Run>,
 }
 
 impl<const CAP: usize> Desk<CAP> {
-    /// Nothing was done yet with that core.
+    /// A desk for a core that was just opened.
     pub(crate) fn new(core: Core<CAP>) -> Self {
         Desk {
             core,
@@ -80,12 +81,12 @@ impl<const CAP: usize> Desk<CAP> {
         }
     }
 
-    /// Whether the run was broken off.
+    /// Whether the run was stopped.
     pub(crate) fn is_stopped(&self) -> bool {
         self.fault.is_some()
     }
 
-    /// The run is broken off. Want of memory is told before any other fault.
+    /// Stops the run. Want of memory takes precedence over any other fault.
     pub(crate) fn stop(&mut self, fault: Run) {
         if self.fault != Some(Run::Memory) {
             self.fault = Some(fault);
@@ -101,7 +102,7 @@ impl<const CAP: usize> Desk<CAP> {
         }
     }
 
-    /// Commands, each for the game of its row, in their order.
+    /// Queues the commands in order, each for the game of its row.
     pub(crate) fn hand_all(&mut self, commands: &mut Vec<(usize, Holders)>) {
         for (game, command) in commands.drain(..) {
             self.hand(game, command);
@@ -109,7 +110,7 @@ impl<const CAP: usize> Desk<CAP> {
         self.drained = false;
     }
 
-    /// All commands are handed in.
+    /// Marks that all commands are queued.
     pub(crate) fn close(&mut self) {
         self.closed = true;
     }
@@ -122,7 +123,8 @@ impl<const CAP: usize> Desk<CAP> {
         }
     }
 
-    /// What the worker is to do next. A new ticket's input takes the place of a spent one, if there is one.
+    /// Takes a job for the worker. The new ticket reuses the memory of a spent input, if there is
+    /// one.
     pub(crate) fn assign(
         &mut self,
         alloc: Global,
@@ -151,7 +153,7 @@ impl<const CAP: usize> Desk<CAP> {
         }
     }
 
-    /// The worker brings back a job that is done, and keeps the ticket that it spent.
+    /// Completes a job of the worker. The result is its spent ticket.
     #[inline(always)]
     pub(crate) fn put(&mut self, worker: usize, done: Done) -> Option<Ticket> {
         match self.core.put_back(worker, done) {
@@ -163,14 +165,14 @@ impl<const CAP: usize> Desk<CAP> {
         }
     }
 
-    /// All parts of a move are brought back.
+    /// Completes all parts of a move.
     pub(crate) fn put_parts(&mut self, parts: ArrayVec<Option<Done>, 4>) {
         if self.core.put_parts(parts).is_err() {
             self.stop(Run::Broken);
         }
     }
 
-    /// The thread brings back all that it worked.
+    /// Completes all that the thread ran.
     fn bring_all(&mut self, crew: &mut Crew) -> Brought {
         let mut brought = Brought {
             games: crew.count_parts(),
@@ -194,8 +196,8 @@ impl<const CAP: usize> Desk<CAP> {
         brought
     }
 
-    /// The worker takes a job, and where that is a part of a move the parts behind it too. Where there was none, what one is told
-    /// that asks for a job more.
+    /// Takes a job for the worker; where that is a part of a move, the later parts too. Where there
+    /// was none, the answer to a further request.
     fn assign_parts(&mut self, alloc: Global, crew: &mut Crew, worker: usize) -> Option<Next> {
         for _ in 0..MOST_PARTS {
             let spent = crew.take_cleared();
@@ -214,7 +216,8 @@ impl<const CAP: usize> Desk<CAP> {
         None
     }
 
-    /// The thread takes jobs for so many of its workers. Where there were fewer, what one is told that asks for a job more.
+    /// Takes jobs for that many workers of the thread. Where there were fewer jobs, the answer to a
+    /// further request.
     fn assign_some(&mut self, alloc: Global, crew: &mut Crew, workers: usize) -> Option<Next> {
         for place in 0..workers {
             let fewer = self.assign_parts(alloc, crew, crew.worker(place));
@@ -225,9 +228,10 @@ impl<const CAP: usize> Desk<CAP> {
         None
     }
 
-    /// For how many of its workers a thread takes jobs that brought back those of so many games. Where others have none it leaves
-    /// them their share. Where nothing was left when somebody looked last, there is no more than its own games have next: to look
-    /// through all games for more would take long, and each of them would go from its thread's cache to this one's.
+    /// The number of workers that a thread takes jobs for, after it completed jobs of that many
+    /// games. Where other threads wait, it leaves them their share. Where the last search found
+    /// nothing, only its own games can have jobs: searching all games takes long, and moves their
+    /// cache lines to this thread's processor.
     fn count_asking(&self, size: usize, games: usize) -> usize {
         if self.idle > 1 {
             (games / self.idle.max(1)).clamp(1, size.max(1))
@@ -238,7 +242,7 @@ impl<const CAP: usize> Desk<CAP> {
         }
     }
 
-    /// The thread takes one job.
+    /// Takes one job for the thread.
     fn assign_one(&mut self, alloc: Global, crew: &mut Crew) -> Option<Next> {
         let spent = crew.take_cleared();
         match self.assign(alloc, crew.worker(0), spent) {
@@ -251,8 +255,8 @@ impl<const CAP: usize> Desk<CAP> {
         }
     }
 
-    /// The thread brings back what it worked, and takes jobs for its workers: for fewer of them where other threads have none, which
-    /// it then calls where it may have left some that they could take.
+    /// Completes what the thread ran, and takes jobs for its workers: for fewer of them where other
+    /// threads wait, which it then wakes where it may have left jobs for them.
     pub(crate) fn exchange(&mut self, alloc: Global, crew: &mut Crew) -> Next {
         if let Some(fault) = crew.fault() {
             self.stop(fault);
@@ -290,7 +294,7 @@ impl<const CAP: usize> Desk<CAP> {
         self.core.workers()
     }
 
-    /// The core, unless the run was broken off.
+    /// The core, unless the run was stopped.
     pub(crate) fn into_core(self) -> Result<Core<CAP>, Run> {
         match self.fault {
             None => Ok(self.core),

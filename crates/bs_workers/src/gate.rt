@@ -1,9 +1,9 @@
-//! What is asked before each job.
+//! The gate, which is consulted before each job.
 use bs_fiber::JobName;
 
-/// Asked before each job is worked, by the thread that works it, while it holds no lock.
+/// Consulted before each job, by the thread that runs it, with no lock held.
 pub trait Gate: Sync {
-    /// Whether the worker may work the job: the thread of that number, from 0 on. Where it may not, the run is broken off.
+    /// Whether the thread of that number, from 0, may run the job. False stops the run.
     fn at(&self, worker: usize, job: JobName) -> bool;
 }
 

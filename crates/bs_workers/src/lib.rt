@@ -1,4 +1,5 @@
-//! The workers of a core: threads that take its jobs, work them and bring them back, until every command is answered.
+//! The workers of a core: threads that take its jobs, work them and bring them back, until every
+//! command is answered.
 #![tactic(auto)]
 
 mod comparing;

@@ -1,4 +1,4 @@
-//! The plan of a core: a copy of it, and whether a core has it still.
+//! The plan of a core: a copy of it, and the comparison with it.
 ghost use Rattle.std.specs.Prelude.{◌≡◌, ◌↔◌, length, IsTrue, IfOk};
 
 use bs_board::Row;

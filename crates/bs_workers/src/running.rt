@@ -1,5 +1,5 @@
-//! A run: every command is handed in and answered.
-ghost use Rattle.std.specs.Prelude.{◌≡◌, ◌*◌, ◌<◌, All, length, IfOk};
+//! A run: every command is queued and answered.
+ghost use Rattle.std.specs.Prelude.{◌≡◌, ◌*◌, IfOk};
 ghost use Rattle.bs_pool.specs.Ledger.{size};
 ghost use Rattle.bs_sched.specs.Core.{opened_core};
 ghost use Rattle.bs_workers.specs.Run.{IsRunOf};
@@ -15,9 +15,11 @@ use std::alloc::Global;
 use std::sync::Wait;
 use std::thread::Threads;
 
-/// Hands the commands, each with the row of its game, to a core that was just opened, in their order, and has so many
-/// threads answer all of them, each of which stands for a crew of so many workers. In one turn at the lock a thread takes a
-/// job for each worker of its crew, but one job where another thread has none. A gate is told the thread's number.
+/// Queues the commands, each with the row of its game, in their order, in a core that was just
+/// opened, and has `threads` threads answer all of them. Each thread works for a crew of `crew`
+/// workers: in one turn at the lock it takes a job for each of them, but a single job where another
+/// thread has none. The gate gets the thread's number. A command for a row that the plan does not
+/// have stops the run: `Broken`.
 pub fn run_in_crews<const CAP: usize, R: Threads + Wait + Sync, G: Gate>(
     rt: &R,
     alloc: Global,
@@ -27,7 +29,6 @@ pub fn run_in_crews<const CAP: usize, R: Threads + Wait + Sync, G: Gate>(
     crew: usize,
     gate: &G,
 ) -> Result<Core<CAP>, Run>
-    requires rows { All (λ command. command.0 < length core.games.rows) commands.now }
     requires fresh { core ≡ opened_core CAP (size core.games.storage.pool) core.games.workers core.games.rows }
     requires workers { core.games.workers ≡ threads * crew }
     ensures { IfOk result (λ done. IsRunOf core.entry commands.now done) }
@@ -43,7 +44,7 @@ pub fn run_in_crews<const CAP: usize, R: Threads + Wait + Sync, G: Gate>(
     }
 }
 
-/// The same, where each worker is a thread of its own.
+/// `run_in_crews` with one worker for each thread.
 pub fn run<const CAP: usize, R: Threads + Wait + Sync, G: Gate>(
     rt: &R,
     alloc: Global,
@@ -52,7 +53,6 @@ pub fn run<const CAP: usize, R: Threads + Wait + Sync, G: Gate>(
     workers: usize,
     gate: &G,
 ) -> Result<Core<CAP>, Run>
-    requires rows { All (λ command. command.0 < length core.games.rows) commands.now }
     requires fresh { core ≡ opened_core CAP (size core.games.storage.pool) core.games.workers core.games.rows }
     requires workers { core.games.workers ≡ workers }
     ensures { IfOk result (λ done. IsRunOf core.entry commands.now done) }

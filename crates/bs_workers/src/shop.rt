@@ -1,4 +1,4 @@
-//! The shop: a desk behind a lock, at which threads work and wait while commands are handed in.
+//! The shop: a desk behind a lock, at which threads run jobs while commands are queued.
 use crate::crew::Crew;
 use crate::desk::{Desk, Next};
 use crate::fault::Run;
@@ -12,31 +12,32 @@ use std::ops::Range;
 use std::sync::{Condvar, Mutex, MutexGuard, Wait};
 use std::thread::{self, Threads};
 
-/// A core at which several threads work, while commands are handed in. Its lock is held while commands are handed in, and once
-/// between two turns of a thread at its jobs, while those are brought back and the next are taken; never while a job is worked.
-/// Of the core that comes out of it nothing is promised: `Given::is_left` tells whether it is what it has to be.
+/// A core at which several threads run jobs while commands are queued. A thread holds its lock
+/// while it queues commands, and once between two rounds of jobs, to complete the last and take the
+/// next; never while a job runs. Nothing is promised of the core that comes out: `Given::is_left`
+/// tells whether it is the result of a run.
 #[derive(Drop)]
 pub struct Shop<const CAP: usize> {
-    /// The desk lies in memory of its own: each look at the lock takes the lock's line of the cache from the thread that is at
-    /// the desk, and what that works with would lie in the same line.
+    /// The desk has memory of its own: each poll of the lock takes the lock's cache line from the
+    /// thread at the desk, and the desk's fields must not share that line.
     desk: Mutex<Box<Desk<CAP>>>,
     changed: Condvar,
-    /// How many threads work there at most.
+    /// The largest number of threads.
     threads: usize,
-    /// How many workers each of them stands for.
+    /// The number of workers of each thread.
     crew: usize,
 }
 
-/// How often a thread looks whether the desk is free before it sleeps for it. A lock that somebody slept for is left to those that
-/// sleep, and is idle until one of them is awake: where others come to it every few microseconds, they then go to sleep in turn. So a
-/// thread sleeps only where all looks were in vain. They take a tenth of a millisecond to one, by what a hint is to the processor: more
-/// than ten turns at the desk.
+/// The number of polls of the lock before a thread sleeps for it. A lock that a thread slept for
+/// goes to the sleepers, and is idle until one is awake; where others come every few microseconds,
+/// they sleep in turn. So a thread sleeps only where all polls failed. They take 0.1 to 1 ms, by
+/// the processor: more than ten turns at the desk.
 const LOOKS: u32 = 4_000;
 
-/// How many hints that it waits the processor gets between two looks.
+/// The number of spin-loop hints between two polls.
 const HINTS: u32 = 4;
 
-/// Lets a moment go by.
+/// Waits a moment.
 fn pause() {
     for _ in 0..HINTS {
         spin_loop();
@@ -44,8 +45,8 @@ fn pause() {
 }
 
 impl<const CAP: usize> Shop<CAP> {
-    /// Nothing was done yet with that core, at which so many threads are to work, each of which stands for a crew of so many
-    /// workers.
+    /// A shop for a core that was just opened, with that many threads, each with a crew of that
+    /// size.
     pub fn new(
         alloc: Global,
         core: Core<CAP>,
@@ -60,8 +61,8 @@ impl<const CAP: usize> Shop<CAP> {
         })
     }
 
-    /// The desk, once no other thread is at it. A turn at it takes less time than going to sleep and waking up, so the thread
-    /// looks many times whether the desk is free before it sleeps for it.
+    /// Locks the desk. A turn at it is shorter than sleeping and waking up, so the thread polls
+    /// many times before it sleeps.
     fn enter<R: Wait>(&self, rt: &R) -> MutexGuard<'_, Box<Desk<CAP>>> {
         for _ in 0..LOOKS {
             if let Some(desk) = self.desk.try_lock() {
@@ -72,7 +73,7 @@ impl<const CAP: usize> Shop<CAP> {
         self.desk.lock(rt)
     }
 
-    /// The lock is given up, and those that wait look again where there is something for them.
+    /// Releases the lock, and wakes the waiting threads where there is something for them.
     fn leave(&self, desk: MutexGuard<'_, Box<Desk<CAP>>>, tells: bool) {
         drop(desk);
         if tells {
@@ -80,8 +81,8 @@ impl<const CAP: usize> Shop<CAP> {
         }
     }
 
-    /// What the thread is to do, once it has brought back what it worked. Where nothing is ready it waits for a change first,
-    /// and then is to ask again. One that ends wakes all, since they are to end too.
+    /// Completes what the thread ran and takes its next jobs. Where none is ready, waits for a
+    /// change; the thread then asks again. A thread that ends wakes all, since they are to end too.
     fn exchange<R: Wait>(&self, rt: &R, alloc: Global, crew: &mut Crew) -> Next {
         let mut desk = self.enter(rt);
         let next = desk.exchange(alloc, crew);
@@ -101,8 +102,9 @@ impl<const CAP: usize> Shop<CAP> {
         !desk.is_stopped()
     }
 
-    /// Hands in commands, each with the row of its game, after which there may be jobs more. Their holders are made before the
-    /// lock is taken. Whether the run goes on: it is broken off where there is no memory, or no such row.
+    /// Queues commands, each with the row of its game. Their handles are made before the lock is
+    /// taken. False where the run was stopped: for want of memory, or for a row that the plan does
+    /// not have.
     pub fn hand<R: Wait>(
         &self,
         rt: &R,
@@ -118,19 +120,19 @@ impl<const CAP: usize> Shop<CAP> {
         goes_on
     }
 
-    /// All commands are handed in.
+    /// Marks that all commands are queued.
     pub fn close<R: Wait>(&self, rt: &R) {
         self.enter(rt).close();
         self.changed.notify_all();
     }
 
-    /// The run is broken off.
+    /// Stops the run.
     pub fn stop<R: Wait>(&self, rt: &R, fault: Run) {
         self.enter(rt).stop(fault);
         self.changed.notify_all();
     }
 
-    /// The caller's thread works as the one of that number: what is ready, and what becomes so, until the end.
+    /// Runs jobs on the calling thread, under that number, until the end.
     fn work<R: Wait, G: Gate>(&self, rt: &R, alloc: Global, thread: usize, gate: &G) {
         let Ok(mut crew) = Crew::new(alloc, thread, self.crew) else {
             self.stop(rt, Run::Memory);
@@ -145,8 +147,8 @@ impl<const CAP: usize> Shop<CAP> {
         }
     }
 
-    /// The threads of these numbers work until the end: the first of them is the caller's own, the others are started. One that the
-    /// system does not start is left out.
+    /// Runs jobs on the threads of these numbers until the end: the first is the calling thread,
+    /// the others are started. A thread that the system does not start is left out.
     pub fn work_in_threads<R: Threads + Wait + Sync, G: Gate>(
         &self,
         rt: &R,
@@ -167,8 +169,8 @@ impl<const CAP: usize> Shop<CAP> {
         });
     }
 
-    /// The core, once no other thread is there and the caller's has worked what is left. The gate is told that this thread comes
-    /// behind all others.
+    /// The core, after the other threads have ended and the calling thread has run what is left.
+    /// The gate gets the number behind all other threads.
     pub fn finish<R: Wait, G: Gate>(
         self,
         rt: &R,

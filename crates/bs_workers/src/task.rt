@@ -1,4 +1,4 @@
-//! Jobs as a thread works them: a part goes with its key.
+//! Jobs as a thread runs them: a part has its key with it.
 ghost use Rattle.std.specs.Prelude.{◌≡◌};
 ghost use Rattle.bs_fiber.specs.declared.job.JobKind.TheVariants as kind;
 
@@ -9,7 +9,7 @@ use bs_counter::{Finish, PartKey};
 use bs_fiber::{Done, JobName, Ticket, work};
 use std::alloc::Global;
 
-/// A part to be worked, with its key.
+/// A part to be run, with its key.
 #[derive(Drop)]
 pub(crate) struct PartTask {
     pub(crate) ticket: Ticket,
@@ -18,26 +18,26 @@ pub(crate) struct PartTask {
     ghost its_key: { key.part ≡ ticket.job.part },
 }
 
-/// A job to be worked.
+/// A job to be run.
 #[derive(Drop)]
 pub(crate) enum Task {
-    /// One that begins or joins.
+    /// A Begin or a Join.
     Job(Ticket),
     Part(PartTask),
 }
 
-/// What a job came to.
+/// The result of a job.
 #[derive(Drop)]
 pub(crate) enum Worked {
-    /// It is to be brought back.
+    /// A Begin or a Join, to be completed.
     Job(Done),
-    /// All parts of a move, of which this was the last to be finished: they are to be brought back.
+    /// The last part of a move: all its parts, to be completed.
     Parts(ArrayVec<Option<Done>, 4>),
-    /// A part, of whose move others are missing. Who finishes the last brings it back.
+    /// A part of a move of which others are missing. The last finisher completes it.
     Part,
 }
 
-/// A job that came to nothing. The key of a part is kept until the run is broken off.
+/// A job that failed. The key of a part is kept until the core was told to fail.
 #[derive(Drop)]
 pub(crate) struct Refused {
     pub(crate) fault: Run,
@@ -45,7 +45,7 @@ pub(crate) struct Refused {
 }
 
 impl Task {
-    /// The job's name.
+    /// The name of the job.
     pub(crate) fn job(&self) -> JobName {
         match self {
             Task::Job(ticket) => ticket.job(),
@@ -53,7 +53,7 @@ impl Task {
         }
     }
 
-    /// What it reads.
+    /// The ticket of the job.
     pub(crate) fn ticket(&self) -> &Ticket {
         match self {
             Task::Job(ticket) => ticket,
@@ -62,7 +62,7 @@ impl Task {
     }
 }
 
-/// The part is worked, and then finished. No lock is held.
+/// Runs the part and finishes it. No lock is held.
 fn work_part(alloc: Global, part: PartTask) -> Result<Worked, Refused> {
     let PartTask { ticket, key } = part;
     let Ok(done) = work(alloc, ticket) else {
@@ -80,6 +80,7 @@ fn work_part(alloc: Global, part: PartTask) -> Result<Worked, Refused> {
     }
 }
 
+/// Runs the job.
 fn work_task(alloc: Global, task: Task) -> Result<Worked, Refused> {
     match task {
         Task::Job(ticket) => match work(alloc, ticket) {
@@ -93,6 +94,7 @@ fn work_task(alloc: Global, task: Task) -> Result<Worked, Refused> {
     }
 }
 
+/// The key of the task, if it is a part.
 fn key_of(task: Task) -> Option<PartKey<Done>> {
     match task {
         Task::Job(ticket) => {
@@ -107,7 +109,7 @@ fn key_of(task: Task) -> Option<PartKey<Done>> {
     }
 }
 
-/// The job is worked, once the gate lets it pass.
+/// Asks the gate, and runs the job where it answers true.
 #[inline(always)]
 pub(crate) fn work_at<G: Gate>(
     alloc: Global,

@@ -1,6 +1,6 @@
-//! Games of three snakes, played by one worker and by several, by threads with crews, and what becomes of them where a gate
-//! is shut.
-ghost use Rattle.std.specs.Prelude.{◌≡◌, ◌<◌, ℕ, All, IsTrue, IfOk, length};
+//! Games of three snakes, played by one worker and by several, by threads with crews, and what
+//! becomes of them where a gate is shut.
+ghost use Rattle.std.specs.Prelude.{◌≡◌, IfOk, length};
 ghost use Rattle.bs_sched.specs.Core.{opened_core};
 
 use crate::{Gate, Given, OpenGate, Run, Shop, run, run_in_crews};
@@ -11,7 +11,7 @@ use bs_board::{
     TurnNumber, Version, Words,
 };
 use bs_fiber::{JobKind, JobName, SharedCommand};
-use bs_sched::Core;
+use bs_sched::{Core, MOST_WORKERS};
 use std::alloc::{AllocError, Global};
 use std::process::Abort;
 use std::sync::Wait;
@@ -127,12 +127,6 @@ fn commands(alloc: Global) -> Result<Vec<(usize, SharedCommand)>, Fail> {
     Ok(commands)
 }
 
-fn are_within(commands: &[(usize, SharedCommand)], count: usize) -> bool
-    ensures { IsTrue result → All (λ command. command.0 < count) commands.now }
-{
-    commands.iter().all(|command| command.0 < count)
-}
-
 /// A run of these commands over two games.
 fn played<R: Threads + Wait + Abort + Sync, G: Gate>(
     rt: &R,
@@ -141,7 +135,7 @@ fn played<R: Threads + Wait + Abort + Sync, G: Gate>(
     workers: usize,
     gate: &G,
 ) -> Result<Result<Core<524_288>, Run>, Fail> {
-    assert!(rt; are_within(commands, 2));
+    assert!(rt; workers <= MOST_WORKERS);
     let core = Core::<524_288>::open(alloc, games(rt, alloc, &["a", "b"])?, 12, workers)?;
     Ok(run(rt, alloc, core, commands, workers, gate))
 }
@@ -191,7 +185,7 @@ fn played_in_crews<R: Threads + Wait + Abort + Sync>(
     crew: usize,
 ) -> Result<Core<524_288>, Fail> {
     let workers = threads.checked_mul(crew).ok_or("a number of workers")?;
-    assert!(rt; are_within(commands, 16));
+    assert!(rt; workers <= MOST_WORKERS);
     let core = Core::<524_288>::open(alloc, games(rt, alloc, &NAMES)?, 96, workers)?;
     Ok(run_in_crews(rt, alloc, core, commands, threads, crew, &OpenGate)?)
 }
@@ -223,7 +217,8 @@ fn threads_with_crews_give_the_same_replies(rt: HostRuntime) -> Result<(), Fail>
     Ok(())
 }
 
-/// What threads make of the commands is told from what they would make of fewer, or over more blocks.
+/// What threads make of the commands is told from what they would make of fewer, or over more
+/// blocks.
 #[test]
 fn a_run_is_told_from_another(rt: HostRuntime) -> Result<(), Fail> {
     let alloc = rt.alloc();
@@ -247,17 +242,24 @@ fn a_run_is_told_from_another(rt: HostRuntime) -> Result<(), Fail> {
     Ok(())
 }
 
+/// Of two faults want of memory is told, whichever came first.
 #[test]
 fn a_stopped_shop_has_no_core(rt: HostRuntime) -> Result<(), Fail> {
     let alloc = rt.alloc();
     let commands = commands(alloc)?;
-    for fault in [Run::Broken, Run::Memory] {
+    for (first, second, told) in [
+        (Run::Broken, Run::Broken, Run::Broken),
+        (Run::Broken, Run::Memory, Run::Memory),
+        (Run::Memory, Run::Broken, Run::Memory),
+        (Run::Memory, Run::Memory, Run::Memory),
+    ] {
         let core = Core::<524_288>::open(alloc, games(&rt, alloc, &["a", "b"])?, 12, 2)?;
         let shop = Shop::new(alloc, core, 2, 1)?;
-        shop.stop(&rt, fault);
+        shop.stop(&rt, first);
         assert!(rt; !shop.hand(&rt, alloc, commands.as_slice()));
+        shop.stop(&rt, second);
         shop.work_in_threads(&rt, alloc, 0..2, &OpenGate);
-        assert_eq!(rt; shop.finish(&rt, alloc, &OpenGate).err(), Some(fault));
+        assert_eq!(rt; shop.finish(&rt, alloc, &OpenGate).err(), Some(told));
     }
     Ok(())
 }
@@ -270,6 +272,36 @@ fn a_shut_gate_breaks_the_run(rt: HostRuntime) -> Result<(), Fail> {
         let broken = played(&rt, alloc, commands.as_slice(), workers, &NoJoin)?;
         assert_eq!(rt; broken.err(), Some(Run::Broken));
     }
+    Ok(())
+}
+
+/// A command for a row that the plan does not have stops the run, alone and among others.
+#[test]
+fn a_command_for_no_row_breaks_the_run(rt: HostRuntime) -> Result<(), Fail> {
+    let alloc = rt.alloc();
+    for workers in [0usize, 1, 2, 4] {
+        let mut commands = commands(alloc)?;
+        push(alloc, &mut commands, 2, Command::Show)?;
+        let broken = played(&rt, alloc, commands.as_slice(), workers, &OpenGate)?;
+        assert_eq!(rt; broken.err(), Some(Run::Broken));
+    }
+    let mut alone = Vec::new(alloc);
+    push(alloc, &mut alone, usize::MAX, Command::Show)?;
+    let broken = played(&rt, alloc, alone.as_slice(), 2, &OpenGate)?;
+    assert_eq!(rt; broken.err(), Some(Run::Broken));
+    Ok(())
+}
+
+/// A core that was told to fail is no result of a run, though nothing is left to do.
+#[test]
+fn a_failed_core_is_no_result(rt: HostRuntime) -> Result<(), Fail> {
+    let alloc = rt.alloc();
+    let mut core = Core::<524_288>::open(alloc, games(&rt, alloc, &["a", "b"])?, 12, 2)?;
+    let given = Given::of(alloc, &core)?;
+    assert!(rt; given.is_left(&core, &[]));
+    core.fail();
+    assert!(rt; core.is_quiet());
+    assert!(rt; !given.is_left(&core, &[]));
     Ok(())
 }
 

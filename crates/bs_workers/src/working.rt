@@ -1,4 +1,5 @@
-//! Working: commands handed in beside the threads that work them, and what the caller's own worker makes of what is left.
+//! Queueing commands beside the threads that run them, and finishing what is left on the caller's
+//! thread.
 use crate::desk::{Assignment, Desk};
 use crate::fault::Run;
 use crate::gate::Gate;
@@ -9,7 +10,7 @@ use std::alloc::{AllocError, Global};
 use std::sync::Wait;
 use std::thread::{Threads, join};
 
-/// The caller's own worker does all that is left to do, once no other is there.
+/// Runs all that is left on the caller's own worker, after the other threads have ended.
 pub(crate) fn finish<const CAP: usize, R: Wait, G: Gate>(
     rt: &R,
     alloc: Global,
@@ -41,11 +42,11 @@ pub(crate) fn finish<const CAP: usize, R: Wait, G: Gate>(
     }
 }
 
-/// How many commands are handed in at once: the lock is taken once for all of them. Each time the lines of all games go to the caller's
-/// processor and back, so they are many; threads come to the lock in between.
+/// The number of commands queued under one lock. Each time the cache lines of all games move to the
+/// caller's processor and back, so they are many; other threads get the lock in between.
 const COMMANDS_AT_ONCE: usize = 1024;
 
-/// Makes holders of these commands for a core, each with its game's row.
+/// Makes the handles of these commands for a core, each with the row of its game.
 pub(crate) fn hold_all(
     alloc: Global,
     commands: &[(usize, SharedCommand)],
@@ -57,7 +58,7 @@ pub(crate) fn hold_all(
     Ok(held)
 }
 
-/// Hands in all commands in their order, or as many as the run goes on for.
+/// Queues all commands in order, until the run is stopped.
 fn hand_all<const CAP: usize, R: Wait>(
     rt: &R,
     alloc: Global,
@@ -72,7 +73,8 @@ fn hand_all<const CAP: usize, R: Wait>(
     shop.close(rt);
 }
 
-/// Hands in all commands beside so many threads that work them. A single one is the caller's own, which works later.
+/// Queues all commands while that many threads run them. A single thread is the caller's own, which
+/// runs them later.
 pub(crate) fn hand_to_threads<const CAP: usize, R: Threads + Wait + Sync, G: Gate>(
     rt: &R,
     alloc: Global,

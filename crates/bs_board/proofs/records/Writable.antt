@@ -34,7 +34,7 @@ on_board_is_byte width height p wide high on =
     let y = on_side_is_byte p.y height high low.1 last.1 in
     (record { x = x.0; y = y.0 }, record { x = x.1; y = y.1 })
 
-near_is_byte : (width height : ℕ) (p : Point) → width ≤ 25 → height ≤ 25 → is_near width height p ≡ true → IsByteCell 1 p
+pub near_is_byte : (width height : ℕ) (p : Point) → width ≤ 25 → height ≤ 25 → is_near width height p ≡ true → IsByteCell 1 p
 near_is_byte width height p wide high near =
     let last = and_both _ _ near in
     let low = and_both _ _ last.0 in

@@ -103,6 +103,12 @@ read_snake is_text bytes = do
     body.1,
   )
 
+-- a snake from all of the bytes
+unfoldable pub read_only_snake : (List ℕ → Bool) → List ℕ → Option Snake
+read_only_snake is_text bytes = do
+  snake ← read_snake is_text bytes
+  if length snake.1 == 0 then Some snake.0 else None
+
 unfoldable pub read_head : List ℕ → Option (Head × List ℕ)
 read_head (version ∷ mode_is ∷ width ∷ height ∷ turn_high ∷ turn_low ∷ min_food ∷ chance ∷ snakes ∷ food_high ∷ food_low ∷ rest) = do
   mode ← mode_from_bytes version mode_is

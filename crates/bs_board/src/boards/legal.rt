@@ -166,7 +166,7 @@ fn is_health_of(cause: Cause, health: u8) -> bool
     }
 }
 
-fn is_near(width: u8, height: u8, cell: Point) -> bool
+pub(crate) fn is_near(width: u8, height: u8, cell: Point) -> bool
     ensures { result ≡ is_near width height cell }
 {
     -1 <= cell.x && cell.x <= i16::from(width) && -1 <= cell.y && cell.y <= i16::from(height)

@@ -225,7 +225,7 @@ fn read_id(alloc: Global, bytes: &[u8]) -> Result<(Id, &[u8]), Decode>
 }
 
 #[tactic(auto, unfolding(crate::specs::records::Decoder::read_snake))]
-fn read_snake(alloc: Global, bytes: &[u8]) -> Result<(Snake, &[u8]), Decode>
+pub(crate) fn read_snake(alloc: Global, bytes: &[u8]) -> Result<(Snake, &[u8]), Decode>
     ensures { Gives (λ x. (x.0, x.1.now)) result (read_snake is_utf8 bytes.now) }
 {
     let (id, rest) = read_id(alloc, bytes)?;

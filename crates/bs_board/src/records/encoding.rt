@@ -195,7 +195,7 @@ fn state_bytes(snake: &Snake) -> [u8; 7]
 }
 
 #[tactic(auto, using(crate::proofs::records::Parts::puts_snake, crate::proofs::records::Lengths::length_of_snake))]
-fn put_snake(into: &mut [u8], at: usize, snake: &Snake) -> usize
+pub(crate) fn put_snake(into: &mut [u8], at: usize, snake: &Snake) -> usize
     requires room { at + length (snake_record snake.now) ≤ length into.old }
     requires numbers { IsWritable snake.now }
     ensures { Puts at (snake_record snake.now) into.old into.new result }

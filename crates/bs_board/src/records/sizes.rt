@@ -5,6 +5,7 @@ ghost use Rattle.bs_board.specs.records.Record.{record_of, snake_record};
 
 use crate::boards::board::Board;
 use crate::boards::snake::Snake;
+use crate::records::snake::snake_size;
 
 /// How many bytes the board's record has. It is asked of boards whose record has a length at all; a legal board's
 /// has at most 161,885.
@@ -25,12 +26,4 @@ fn snakes_size(snakes: &[Snake]) -> usize
         total += snake_size(snake);
     }
     total
-}
-
-#[tactic(auto, using(crate::proofs::records::Lengths::length_of_snake))]
-fn snake_size(snake: &Snake) -> usize
-    requires { length (snake_record snake.now) < 2 ^ 64 }
-    ensures { result ≡ length (snake_record snake.now) }
-{
-    8 + snake.id.len() + 2 * snake.body.len()
 }

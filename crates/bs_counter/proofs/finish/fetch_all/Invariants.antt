@@ -7,7 +7,7 @@ use Rattle.bs_counter.proofs.finish.fetch_all.Given as goal
 -- the outcomes before this part are out
 abbrev pub invariant-loop-part : goal.invariant-loop-part
 invariant-loop-part g l = record {
-  seat : IsSeatAt l.board.shared.table_id l.seat;
+  seat : IsSeatAt l.tally.shared.table_id l.seat;
   last : l.seat.me.0 ≡ Last l.part;
   outs : AreOutcomes g.T.Parted.part_of l.part l.outs.items;
 }

@@ -9,8 +9,8 @@ use Rattle.bs_counter.proofs.tally.Tally.open.Given as goal
 -- the keys before this one are there
 abbrev pub invariant-loop-part : goal.invariant-loop-part
 invariant-loop-part g l = record {
-  seat : IsSeatAt (arc_value l.board).shared.table_id l.seat;
-  key : (arc_value l.board).shared.key ≡ l.n;
+  seat : IsSeatAt (arc_value l.tally).shared.table_id l.seat;
+  key : (arc_value l.tally).shared.key ≡ l.n;
   owes : l.seat.me ≡ (Owes l.part l.n, []);
   keys : AreFirstKeys l.part l.n l.seat.table_id l.keys.items;
   room : l.n ≤ vec_capacity l.keys;

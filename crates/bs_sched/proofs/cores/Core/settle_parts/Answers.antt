@@ -6,7 +6,7 @@ use Rattle.bs_sched.proofs.cores.Core.settle_parts.Goals as goal
 
 pub loop-part-init : goal.loop-part-init
 loop-part-init g c = record {
-  own = (c.requires.game, from_all c.args.self.now.games c.args.brought.items c.requires);
+  own = (c.requires.game, from_all c.args.self.now.games c.args.completed.items c.requires);
   run = refl;
   many = omega arith;
 }

@@ -7,6 +7,6 @@ use Rattle.bs_sched.proofs.cores.Core.settle_parts.Given as goal
 abbrev pub invariant-loop-part : goal.invariant-loop-part
 invariant-loop-part g l = record {
   own : (game : ℕ) × AreOwnFrom l.self.games game l._part l.rest.items;
-  run : core_run g.row.CAP l.self (puts_of l.rest.items) ≡ core_run g.row.CAP l.fn.self (puts_of l.fn.brought.items);
-  many : length l.rest.items + l._part ≡ length l.fn.brought.items;
+  run : core_run g.row.CAP l.self (puts_of l.rest.items) ≡ core_run g.row.CAP l.fn.self (puts_of l.fn.completed.items);
+  many : length l.rest.items + l._part ≡ length l.fn.completed.items;
 }

@@ -8,24 +8,24 @@ use Rattle.bs_sched.proofs.games.Games.are_own_parts.Goals as goal
 
 pub returns-then-game-count_rows : goal.returns-then-game-count_rows
 returns-then-game-count_rows g c =
-    let first : slice_get c.args.brought.now 0 ≡ Some (Some c.in-Some-Some.first)
+    let first : slice_get c.args.completed.now 0 ≡ Some (Some c.in-Some-Some.first)
     = sym c.first.ensures.value ∙ ap option_copied c.in-Some-Some.is ∙ ap Some c.in-Some-Some.field-0-is in
     let game : c.job-game.result.game ≡ c.in-Some-Some.first.job.game = ap (λ (j : JobName). j.game) c.job-game.ensures ∙ ap (λ i. i.job.game) c.ticket.ensures in
     (λ wrong. let w : false ≡ true = wrong in absurd cc, λ are. let there = (first_part _ _ _ first are).1 in let rows = c.count_rows.ensures.value in absurd (omega arith))
 
 pub returns : goal.returns
 returns g c =
-    let first : slice_get c.args.brought.now 0 ≡ Some (Some c.in-Some-Some.first)
+    let first : slice_get c.args.completed.now 0 ≡ Some (Some c.in-Some-Some.first)
     = sym c.first.ensures.value ∙ ap option_copied c.in-Some-Some.is ∙ ap Some c.in-Some-Some.field-0-is in
     let game : c.job-game.result.game ≡ c.in-Some-Some.first.job.game = ap (λ (j : JobName). j.game) c.job-game.ensures ∙ ap (λ i. i.job.game) c.ticket.ensures in (
       (λ yes. record {
         game = c.job-game.result.game;
-        some = slice_get_within c.args.brought.now 0 (Some c.in-Some-Some.first) first;
-        all = sym c.if-count_parts-brought.false ∙ c.count_parts.ensures;
+        some = slice_get_within c.args.completed.now 0 (Some c.in-Some-Some.first) first;
+        all = sym c.if-count_parts-completed.false ∙ c.count_parts.ensures;
         each = c.are_own_parts_of.ensures.0 yes;
       }),
       (λ are.
           let same : are.game ≡ c.job-game.result.game = (first_part _ _ _ first are).0 ∙ sym game in
           c.are_own_parts_of.ensures.1
-          (subst (λ (k : ℕ). (p : ℕ) → p < length c.args.brought.now → IsOwnPart c.args.self.now k p (slice_index_or c.args.brought.now p None)) same are.each)),
+          (subst (λ (k : ℕ). (p : ℕ) → p < length c.args.completed.now → IsOwnPart c.args.self.now k p (slice_index_or c.args.completed.now p None)) same are.each)),
     )

@@ -1,4 +1,4 @@
-//! Bringing back all parts of a move at once.
+//! Completing all parts of a move at once.
 ghost use Rattle.std.specs.Prelude.{◌≡◌, ℕ, ◌<◌, ◌↔◌, IsTrue, true, None, [], ◌∷◌, length, slice_index_or, IfErr, OnOk};
 ghost use Rattle.bs_fiber.specs.declared.job.JobKind.TheVariants as kind;
 ghost use Rattle.bs_sched.specs.Isolation.{are_enabled};
@@ -11,19 +11,21 @@ use arrayvec::ArrayVec;
 use bs_fiber::{Done, JobKind};
 use thiserror::Error;
 
-/// The list is not each part of one game's move, in their order, as their workers have them out. It comes back as it was.
+/// The list does not hold each part of one game's move, in part order, each out with its worker. It
+/// is returned as it was.
 #[derive(Debug, Drop, Error)]
 #[error("these are not the parts of a move that is out")]
 pub struct Strays {
-    /// What was brought.
+    /// The list.
     pub parts: ArrayVec<Option<Done>, 4>,
 }
 
 impl<const CAP: usize> Games<CAP> {
-    fn is_own_part(&self, game: usize, part: usize, brought: &Option<Done>) -> bool
-        ensures { IsTrue result ↔ IsOwnPart self.now game part brought.now }
+    /// Whether it is that part of that game's move, out with its worker and of the core's input.
+    fn is_own_part(&self, game: usize, part: usize, completed: &Option<Done>) -> bool
+        ensures { IsTrue result ↔ IsOwnPart self.now game part completed.now }
     {
-        let Some(done) = brought else {
+        let Some(done) = completed else {
             return false;
         };
         let job = done.ticket().job();
@@ -33,7 +35,7 @@ impl<const CAP: usize> Games<CAP> {
             && self.is_own(done.ticket().worker() as usize, done)
     }
 
-    /// How many parts the move of that game has.
+    /// The number of parts of that game's move; 0 where no move is played.
     fn count_parts(&self, game: usize) -> usize
         requires { game < length self.now.lanes }
         ensures { result ≡ length (lane_of self.now.lanes game).parts }
@@ -41,41 +43,43 @@ impl<const CAP: usize> Games<CAP> {
         self.fibers[game].count_parts()
     }
 
-    fn are_own_parts_of(&self, game: usize, brought: &[Option<Done>]) -> bool
-        ensures { IsTrue result ↔ ((part : ℕ) → part < length brought.now → IsOwnPart self.now game part (slice_index_or brought.now part None)) }
+    /// Whether each is the part of its place in that game's move.
+    fn are_own_parts_of(&self, game: usize, completed: &[Option<Done>]) -> bool
+        ensures { IsTrue result ↔ ((part : ℕ) → part < length completed.now → IsOwnPart self.now game part (slice_index_or completed.now part None)) }
     {
-        for part in 0..brought.len() {
-            if !self.is_own_part(game, part, &brought[part]) {
+        for part in 0..completed.len() {
+            if !self.is_own_part(game, part, &completed[part]) {
                 return false;
             }
         }
         true
     }
 
-    fn are_own_parts(&self, brought: &[Option<Done>]) -> bool
-        ensures { IsTrue result ↔ AreOwnParts self.now brought.now }
+    /// Whether these are all parts of one game's move, in part order.
+    fn are_own_parts(&self, completed: &[Option<Done>]) -> bool
+        ensures { IsTrue result ↔ AreOwnParts self.now completed.now }
     {
-        let Some(Some(first)) = brought.first() else {
+        let Some(Some(first)) = completed.first() else {
             return false;
         };
         let game = first.ticket().job().game as usize;
         if game >= self.count_rows() {
             return false;
         }
-        if self.count_parts(game) != brought.len() {
+        if self.count_parts(game) != completed.len() {
             return false;
         }
-        self.are_own_parts_of(game, brought)
+        self.are_own_parts_of(game, completed)
     }
 }
 
 impl<const CAP: usize> Core<CAP> {
-    /// The worker's own part is done.
-    fn settle_part(&mut self, brought: Option<Done>)
-        requires { (game part : ℕ) × IsOwnPart self.old.games game part brought }
-        ensures { self.new ≡ core_run CAP self.old (puts_of (brought ∷ [])) }
+    /// Completes one part of the core's own.
+    fn settle_part(&mut self, completed: Option<Done>)
+        requires { (game part : ℕ) × IsOwnPart self.old.games game part completed }
+        ensures { self.new ≡ core_run CAP self.old (puts_of (completed ∷ [])) }
     {
-        match brought {
+        match completed {
             Some(done) => {
                 let worker = done.ticket().worker() as usize;
                 let _spent = self.settle(worker, done);
@@ -84,20 +88,20 @@ impl<const CAP: usize> Core<CAP> {
         }
     }
 
-    /// The core's own parts of one move are done. The journal has room for the coming back of each.
-    fn settle_parts(&mut self, brought: ArrayVec<Option<Done>, 4>)
-        requires { AreOwnParts self.old.games brought.items }
-        ensures { self.new ≡ core_run CAP self.old (puts_of brought.items) }
+    /// Completes all parts of one move of the core's own. The journal has room for each.
+    fn settle_parts(&mut self, completed: ArrayVec<Option<Done>, 4>)
+        requires { AreOwnParts self.old.games completed.items }
+        ensures { self.new ≡ core_run CAP self.old (puts_of completed.items) }
     {
-        let mut rest = brought;
+        let mut rest = completed;
         for _part in 0..rest.len() {
             let first = rest.remove(0);
             self.settle_part(first);
         }
     }
 
-    /// All parts of one move are brought back, in their order, each as its worker's that has it out. It asks for no memory. `Strays`
-    /// gives back what is not this, and then nothing has changed.
+    /// Completes all parts of one game's move, in part order, each for the worker that has it out.
+    /// Takes no memory. `Strays` returns any other list, and then nothing has changed.
     #[tactic(auto, using(crate::proofs::OwnParts::all_enabled))]
     pub fn put_parts(&mut self, parts: ArrayVec<Option<Done>, 4>) -> Result<(), Strays>
         ensures own { OnOk result (AreOwnParts self.old.games parts.items) }

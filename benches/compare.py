@@ -1,0 +1,198 @@
+#!/usr/bin/env python3
+"""Compares the peer with the program, byte by byte: output, status and standard error.
+
+    benches/compare.py [FILE..]            these command files, or the files of cases
+    benches/compare.py --shapes            the shapes of measure.py
+    benches/compare.py --limits            files and command lines at the ends of limits
+    benches/compare.py --drawn N           N files drawn by chance, from --seed S on
+    benches/compare.py --time RUNS FILE..  times both in turns as well
+
+    --program PATH   crates/arena/out/arena if not given
+    --stored         the peer against NAME.transcript beside each file, without the program
+    --version 1|2    up to which version of plans to compare: 2 if not given
+    --keep FOLDER    for drawn files on which the two disagree, cut to the lines that matter
+
+The peer is built by benches/peer/build. The status is 0 where all agreed.
+"""
+import argparse
+import os
+import random
+import subprocess
+import sys
+import tempfile
+import time
+from pathlib import Path
+from statistics import median
+
+HERE = Path(__file__).resolve().parent
+ROOT = HERE.parent
+sys.dont_write_bytecode = True
+sys.path[:0] = [str(HERE), str(ROOT / "bench"), str(ROOT / "tools")]
+import cases
+import drawn
+import limits
+import measure
+
+PEER = HERE / "peer/out/release/peer"
+DISAGREEMENTS = HERE / "peer/out/disagreements"
+PROGRAM = ROOT / "crates/arena/out/arena"
+BLOCKS = ["--blocks", "512"]  # enough for each shape
+NO_SUCH_GAME = "\U0001f40d"
+
+
+def ran(program, words, text=None):
+    """Status, output and standard error, of which a refused command line gives only the status."""
+    done = subprocess.run([program, *words], input=text, capture_output=True)
+    return (2, b"", b"") if done.returncode == 2 else (done.returncode, done.stdout, done.stderr)
+
+
+def told(result):
+    status, output, errors = result
+    return f"status {status}, {len(output)} bytes, {errors.decode(errors='replace').strip()!r}"
+
+
+def first_difference(one, other):
+    lines = zip(one[1].split(b"\n"), other[1].split(b"\n"))
+    for number, (left, right) in enumerate(lines, 1):
+        if left != right:
+            return f"\n  line {number}\n    peer    {left[:600]!r}\n    program {right[:600]!r}"
+    return ""
+
+
+class Comparison:
+    def __init__(self, program):
+        self.program, self.compared, self.disagreements = program, 0, 0
+
+    def differs(self, words, text=None):
+        """In words, where the two differ."""
+        peer, program = ran(PEER, words, text), ran(self.program, words, text)
+        self.compared += 1
+        if peer == program:
+            return None
+        return f"peer: {told(peer)}; program: {told(program)}{first_difference(peer, program)}"
+
+    def file(self, path, more=()):
+        """A file with 1 to 4 workers."""
+        for workers in "1234":
+            self.note(path, ["serve", str(path), "--workers", workers, *more])
+
+    def note(self, name, words, text=None):
+        said = self.differs(words, text)
+        if said:
+            self.disagreements += 1
+            print(f"{name}: {' '.join(words)}\n  {said}", flush=True)
+        return said
+
+    def stored(self, path, transcript):
+        self.compared += 1
+        peer, wanted = ran(PEER, ["serve", str(path)]), (0, transcript.read_bytes(), b"")
+        if peer != wanted:
+            self.disagreements += 1
+            print(f"{path}: {told(peer)}{first_difference(peer, wanted)}")
+
+    def drawn(self, seed, version, keep):
+        rng = random.Random(seed)
+        names, text = drawn.command_file(rng, version)
+        some = ["--blocks", rng.choice(["6", "12", "15", "64"])] if rng.random() < 0.2 else []
+        runs = [["serve", "-", "--workers", rng.choice("1234"), *some]]
+        if rng.random() < 0.3:
+            runs.append(["alone", "-", "--game", rng.choice([*names, NO_SUCH_GAME]), *some])
+        for words in runs:
+            if self.note(f"seed {seed}", words, text):
+                small = self.smallest(words, text)
+                keep.mkdir(parents=True, exist_ok=True)
+                path = keep / f"seed_{seed}_{words[0]}.jsonl"
+                path.write_bytes(small)
+                print(f"  cut to {len(small)} bytes: {path}\n  {self.differs(words, small)}")
+
+    def smallest(self, words, text):
+        """The text without lines that the difference does not need."""
+        lines = text.split(b"\n")
+        size = len(lines) // 2
+        while size:
+            at = 0
+            while at < len(lines):
+                fewer = lines[:at] + lines[at + size:]
+                if self.differs(words, b"\n".join(fewer)):
+                    lines = fewer
+                else:
+                    at += size
+            size //= 2
+        return b"\n".join(lines)
+
+
+def seconds(program, path, workers):
+    with tempfile.TemporaryFile() as output:
+        began = time.perf_counter()
+        words = ["serve", str(path), "--workers", workers, *BLOCKS]
+        child = subprocess.Popen([program, *words], stdout=output)
+        _, _, usage = os.wait4(child.pid, 0)
+        return time.perf_counter() - began, usage.ru_utime + usage.ru_stime, usage.ru_maxrss / 1024
+
+
+def time_both(program, paths, runs):
+    """Both in turns on each file, so that what else the machine does falls on both."""
+    heads = f"{'least s':>10}{'median s':>10}{'cpu s':>8}{'MB':>8}"
+    print(f"{'file':24}{'workers':>8}{'':>9}{heads}")
+    for path in paths:
+        for workers in "1234":
+            both = {"peer": PEER, "program": program}
+            found = {name: [] for name in both}
+            for _ in range(runs):
+                for name, it in both.items():
+                    found[name].append(seconds(it, path, workers))
+            for name, rows in found.items():
+                wall, cpu, memory = zip(*rows)
+                figures = f"{min(wall):10.3f}{median(wall):10.3f}{min(cpu):8.3f}{max(memory):8.1f}"
+                print(f"{path.stem:24}{workers:>8}{name:>9}{figures}", flush=True)
+
+
+def arguments():
+    raw = argparse.RawDescriptionHelpFormatter
+    parser = argparse.ArgumentParser(description=__doc__, formatter_class=raw)
+    parser.add_argument("files", nargs="*", metavar="FILE", type=Path)
+    parser.add_argument("--program", type=Path, default=PROGRAM)
+    parser.add_argument("--stored", action="store_true")
+    parser.add_argument("--shapes", action="store_true")
+    parser.add_argument("--limits", action="store_true")
+    parser.add_argument("--drawn", metavar="N", type=int, default=0)
+    parser.add_argument("--seed", type=int, default=1)
+    parser.add_argument("--version", type=int, choices=[1, 2], default=2)
+    parser.add_argument("--keep", metavar="FOLDER", type=Path, default=DISAGREEMENTS)
+    parser.add_argument("--time", metavar="RUNS", type=int, default=0)
+    return parser.parse_args()
+
+
+def main():
+    given = arguments()
+    program = given.program.resolve()
+    for path in [PEER] if given.stored else [PEER, program]:
+        if not path.is_file():
+            sys.exit(f"benches/compare.py: there is no {path}")
+    comparison = Comparison(program)
+    files = given.files
+    if not (files or given.drawn or given.shapes or given.limits):
+        files = [case.file for case in cases.cases()]
+    if given.stored:
+        transcripts = {case.file: case.transcript for case in cases.cases()}
+        for path in files:
+            comparison.stored(path, transcripts.get(path, path.with_suffix(".transcript")))
+    else:
+        with tempfile.TemporaryDirectory() as folder:
+            if given.shapes:
+                measure.write_all(Path(folder))
+                files += sorted(Path(folder).glob("*.jsonl"))
+            for path in files:
+                comparison.file(path, BLOCKS)
+            for name, words, text in limits.made(given.version) if given.limits else ():
+                comparison.note(name, words, text)
+            for seed in range(given.seed, given.seed + given.drawn):
+                comparison.drawn(seed, given.version, given.keep)
+            if given.time:
+                time_both(program, files, given.time)
+    print(f"compared {comparison.compared} runs: {comparison.disagreements} disagreements")
+    return 1 if comparison.disagreements else 0
+
+
+if __name__ == "__main__":
+    sys.exit(main())

@@ -1,0 +1,171 @@
+"""Files and command lines at the ends of limits: `made(version)` yields names, words and bytes."""
+import json
+
+import measure
+
+MAX_FILE, MAX_LINE = 16_777_216, 65_536
+SNAKE = {"id": "s", "x": 1, "y": 1}
+NEW = {
+    **{"game": "a", "do": "new", "mode": "solo", "width": 5, "height": 5},
+    **{"snakes": [SNAKE], "food": []},
+}
+SHOW = b'{"game":"a","do":"show"}'
+SERVE = ["serve", "-"]
+
+
+def plan(*rows, **more):
+    rows = rows or [("a", 4096)]
+    return {"games": [{"game": game, "quota": quota} for game, quota in rows], **more}
+
+
+def lines(*values):
+    said = [
+        it if isinstance(it, bytes) else json.dumps(it, ensure_ascii=False).encode()
+        for it in values
+    ]
+    return b"\n".join(said)
+
+
+def command(do, **members):
+    return {"game": "a", "do": do, **members}
+
+
+def padded(line, size):
+    return line + b" " * (size - len(line))
+
+
+def row_lists():
+    for quota in (15, 16, MAX_FILE, MAX_FILE + 1, 16.0):
+        yield [("a", quota)]
+    for name in ("", "x" * 64, "x" * 65, "é" * 32, "é" * 32 + "e", '\0\x1f\x7f"\\/\u2028'):
+        yield [(name, 16)]
+    yield [("a", 16), ("b", 16), ("a", 16)]
+    for count in (10, 11, 64, 65):
+        yield [(f"g{at}", 16) for at in range(count)]
+    yield [(f"g{at}", 16) for at in range(65)] + [("g3", 16)]
+
+
+def plans():
+    first = lines(plan())
+    texts = [
+        *[b"", b"\n", b"{}", b"[]", b"\xff", b'{"games":1}', b'{"games":[]}', b'{"games":[]}\nx'],
+        *[b'{"games":[]}\r\n \r\n\r', b'{"games":[3]}', first, b"\n" + first],
+        *[padded(first, MAX_LINE), padded(first, MAX_LINE + 1)],
+        b'{"games":[],"games":[{"game":"a","quota":16}]}',
+        *[b'{"games":[]}'.ljust(size, b"\n") for size in (MAX_FILE, MAX_FILE + 1)],
+        b"x" * (MAX_FILE + 1),
+    ]
+    for version in b"0 1 3 4 1.0 -1 '1' null true 18446744073709551617".split():
+        texts.append(b'{"games":[],"version":' + version.replace(b"'", b'"') + b"}")
+    for number, text in enumerate([*texts, *(lines(plan(*rows)) for rows in row_lists())]):
+        yield f"plan {number}", SERVE, text
+    for quota in (16, 1_835_007, 1_835_008, 3_670_015, 3_670_016, MAX_FILE):
+        for blocks in range(5, 16):
+            words = [*SERVE, "--blocks", str(blocks)]
+            yield f"quota {quota}, {blocks} blocks", words, lines(plan(("a", quota)))
+
+
+def line_lengths():
+    for size in (MAX_LINE - 1, MAX_LINE, MAX_LINE + 1):
+        for line in (SHOW, b"", b"x", b'{"game":"b"}', lines({**NEW, "ground": "é" * 9})):
+            yield f"a line of {size}", SERVE, lines(plan(), NEW, padded(line, size), SHOW)
+
+
+def row_of_snakes(count):
+    return [{"id": str(at), "x": at % 5, "y": at // 5} for at in range(count)]
+
+
+MEMBERS = {
+    "mode": ["Solo", "royale", "wrapped", None, 0],
+    "width": [2, 3, 25, 26, -3, 5.0, "5", None],
+    "height": [2, 3, 25, 26],
+    "min_food": [0, 255, 256, -1, None, [], "1"],
+    "food_chance": [0, 100, 101, None],
+    "food": [
+        *[None, {}, [{"x": 5, "y": 0}], [{"x": 0, "y": -1}], [[1, 1]], [{"x": 2, "y": 1}] * 2],
+        *[[{"x": 4, "y": 4, "z": 0}], [{"x": 1, "y": 1}]],
+    ],
+    "snakes": [
+        *[[], {}, None, [{"id": "s", "x": 0}], [SNAKE, {**SNAKE, "x": 0}], [SNAKE, SNAKE]],
+        *[[{**SNAKE, "id": id}] for id in ("", 3, "é" * 32, "é" * 33)],
+        *[[{**SNAKE, "x": 5}], [SNAKE, {**SNAKE, "id": "t"}], row_of_snakes(8), row_of_snakes(9)],
+    ],
+}
+
+
+def members_of_new(version):
+    first, move = plan(version=version), command("move", moves={"s": "up"}, words=[3, 4])
+    for key, values in MEMBERS.items():
+        for value in values:
+            yield f"{key} {value}", SERVE, lines(first, {**NEW, key: value}, move)
+    for key in NEW:
+        less = {it: NEW[it] for it in NEW if it != key}
+        yield f"without {key}", SERVE, lines(first, less, move)
+
+
+def other_members():
+    tried = [{"moves": {}}, {}]
+    for words in ([0] * 32, [0] * 33, [2**32 - 1], [2**32], [-1], [1.0], {}, None, "5"):
+        tried.append({"moves": {}, "words": words})
+    for moves in ({"s": None}, {"s": "Up"}, {"t": "left"}, {"s": "left", "": "up"}):
+        tried.append({"moves": moves})
+    for moves in ([], None, "up", {"x" * 100: "up"}):
+        tried.append({"moves": moves})
+    for members in tried:
+        yield f"move {members}", SERVE, lines(plan(), NEW, command("move", **members))
+    for at in (0, 1, 9999, 10_000, 10_001, -1, 0.0, "0", None):
+        yield f"turn {at}", SERVE, lines(plan(), NEW, command("turn", at=at))
+
+
+def to_the_last_turn(version):
+    first, new, *moves = measure.long_game(10_003)
+    yield "to the last turn", SERVE, "\n".join([first, new, *moves]).encode()
+    if version == 2:
+        first = first.replace("]}", '],"version":2}')
+        new = new.replace('"solo"', '"wrapped"')
+        new = new.replace('"y":0}', '"y":0},{"id":"t","x":0,"y":2}')
+        yield "wrapped, to the last turn", SERVE, "\n".join([first, new, *moves]).encode()
+
+
+COMMAND_LINES = """
+play
+serve
+alone -
+serve - -
+serve - --workers
+serve - --workers 0
+serve - --workers 5
+serve - --workers 1 --workers 1
+serve --blocks 4096 --workers 4 -
+serve - --blocks 0
+serve - --blocks 4097
+serve - --blocks -1
+serve - --blocks 11
+serve - --blocks 12
+serve - --game a
+serve /
+serve no_such_file
+alone - --game a
+alone - --game a --workers 1
+alone --game b - --blocks 6
+alone - --game b --blocks 5
+alone - --game c --blocks 5
+""".strip().split("\n")
+
+
+def command_lines():
+    file = lines(plan(("a", 64), ("b", 64)), NEW, b"x", {"game": "b", "do": "show"})
+    for words in [*(it.split() for it in COMMAND_LINES), [], ["serve", ""]]:
+        yield " ".join(words), words, file
+    for text in (b"", b'{"games":[3]}', b'{"games":[]}', b"x" * (MAX_FILE + 1)):
+        yield "alone", ["alone", "-", "--game", "a"], text
+
+
+def made(version):
+    yield from plans()
+    yield from line_lengths()
+    for one in range(1, version + 1):
+        yield from members_of_new(one)
+    yield from other_members()
+    yield from to_the_last_turn(version)
+    yield from command_lines()

@@ -1,0 +1,71 @@
+"""What tools/twins and tools/edits share: reading edits, and copies of crates to try them in."""
+import shutil
+import subprocess
+import sys
+from pathlib import Path
+
+ROOT = Path(__file__).resolve().parent.parent
+
+
+def dependencies():
+    """The libraries of each crate of the repository, by its line in crates.txt."""
+    found = {}
+    for line in (ROOT / "crates.txt").read_text().splitlines():
+        words = line.split("#")[0].split(":")
+        if len(words) == 2:
+            found[words[0].split()[0]] = words[1].split()
+    return found
+
+
+def chosen(names, uses):
+    """The named crates, or all. Ends the program where a name is no crate's."""
+    unknown = [name for name in names if name not in uses]
+    if unknown:
+        sys.exit(f"no crate of crates.txt: {' '.join(unknown)}")
+    return names or list(uses)
+
+
+def below(name, uses):
+    """The crate and the repository's crates that it stands on."""
+    found = [name]
+    for crate in found:
+        found += [d for d in uses.get(crate, []) if d in uses and d not in found]
+    return found
+
+
+def copied(name, uses, scratch):
+    """Copies what a check of the crate reads, with its kept proofs. Returns its folder there."""
+    if (ROOT / "HANDLES").exists():
+        shutil.copy2(ROOT / "HANDLES", scratch)
+    (scratch / "crates").mkdir()
+    lines = []
+    for crate in below(name, uses):
+        lines.append(f"{crate}: {' '.join(uses[crate])}\n")
+        words = ["cp", "-a", "--reflink=auto", ROOT / "crates" / crate, scratch / "crates"]
+        subprocess.run(words, check=True)
+    (scratch / "crates.txt").write_text("".join(lines))
+    return scratch / "crates" / name
+
+
+def pairs(edit):
+    """The file that an edit changes, and its pairs of old and new text."""
+    lines = [line for line in edit.read_text().splitlines() if line.strip()]
+    words = [line.split(": ", 1) for line in lines]
+    if [w[0] for w in words] != ["file"] + ["old", "new"] * (len(words) // 2):
+        sys.exit(f"{edit}: a line 'file: ', and then pairs of 'old: ' and 'new: '")
+    texts = [w[1] for w in words]
+    return texts[0], list(zip(texts[1::2], texts[2::2]))
+
+
+def applied(edit):
+    """The file that an edit changes, its text after the edit or None, and why it is None."""
+    path, changes = pairs(edit)
+    file = edit.parent.parent / path
+    if not file.exists():
+        return path, None, f"there is no file {path}"
+    text = file.read_text()
+    for old, new in changes:
+        if text.count(old) != 1:
+            return path, None, f"'old: {old}' stands {text.count(old)} times, and not once"
+        text = text.replace(old, new)
+    return path, text, None
