@@ -23,7 +23,7 @@ returns-then-is_run-clause-core g c =
     ∙ ap (λ (plan : Plan). commands_by_row (routes_from plan 2 pieces)) c.in_ok-lines_plan.ensures in
     let given = c.in_ok-given.given in
     let ran = c.compare_and_tell-is_run.ensures.run c.if-is_run.true in
-    let hosts = hosts_lines BLOCK_BYTES c.args.blocks c.in_ok-members.members rows routes requests.commands c.in_ok-core.core c.in_ok-core-2.core
+    let hosts = hosts_lines BLOCK_BYTES c.args.blocks c.count_workers-members.result rows routes requests.commands c.in_ok-core.core c.in_ok-core-2.core
     c.in_ok-core.ensures.core asked
     (run_of_given given.0 given.1 requests.commands c.in_ok-core.core c.in_ok-core-2.core (ap (λ given. given.0) c.in_ok-given.ensures)
     (ap (λ given. given.1) c.in_ok-given.ensures) ran) in
