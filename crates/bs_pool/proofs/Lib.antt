@@ -1,5 +1,9 @@
+pub mod Accounts
 pub mod Counts
 pub mod Owners
+pub mod Parts
 pub mod Pigeonhole
+pub mod Positions
 pub mod Reservations
 pub mod Soundness
+pub mod Marks

@@ -1,11 +1,13 @@
 -- What becomes of the counts and of other numbers' owners when a number is drawn or given.
-use Rattle.std.proofs.Common.{◌≡◌, ◌≢◌, ℕ, ◌+◌, ◌<◌, true, not, List, [], ◌∷◌, length, Option, Some, None, slice_get, slice_index_or, slice_set, refl, ap, ◌∙◌, arith}
+use Rattle.std.proofs.Common.{◌≡◌, ◌≢◌, ℕ, ◌+◌, ◌<◌, true, not, List, [], ◌∷◌, length, Option, Some, None, slice_get, slice_index_or, slice_set, subst, refl, sym, ap, ◌∙◌, arith}
 use Rattle.std.specs.Prelude.{count_by, position}
 use Rattle.std.proofs.lemmas.Bool.{eq-eqb, ne_eqb}
 use Rattle.std.proofs.lemmas.List.{length-set, get_or-set_same, get_or-set_other}
 use Rattle.std.proofs.lemmas.List.Quantifiers.{position-Some}
 use Rattle.std.proofs.lemmas.Option.{slice_get_within, slice_get-get_or, get_or_from_slice_get}
 use Rattle.bs_pool.specs.Ledger.{Ledger, is_unowned, is_owned_by, size, free, held, least_free, Owns, drawn, given}
+use Rattle.bs_pool.specs.declared.owned.Owned.{Owned}
+use Rattle.bs_pool.specs.DrawAnswer.{Draws}
 use Rattle.bs_pool.proofs.Counts.{count_cons, count_set}
 
 free_is_none : (o : Option ℕ) → is_unowned o ≡ true → o ≡ None
@@ -82,6 +84,12 @@ pub still_owns_drawn : (pool : Ledger) (tag n other m : ℕ) → least_free pool
 still_owns_drawn pool tag n other m at owns =
     let apart : m ≢ n = λ same. let here : slice_get pool.owners n ≡ Some (Some other) = rw (← same) owns in let none = free_at pool.owners n at in cc in
     get_set_other pool.owners n m (Some other) (Some tag) owns apart
+
+-- the same, whatever the draw answers
+pub still_owns_draw : {most : ℕ} (old new : Ledger) (tag other m : ℕ) (answer : Option (Owned most)) → Draws tag old answer new → Owns other m old → Owns other m new
+still_owns_draw old new tag other m None (full, same) owns = subst (Owns other m) (sym same) owns
+still_owns_draw old new tag other m (Some owned) is owns =
+    subst (Owns other m) (sym is.4) (still_owns_drawn old tag owned.number other m is.2 owns)
 
 pub still_owns_given : (pool : Ledger) (n other m : ℕ) → Owns other m pool → m ≢ n → Owns other m (given n pool)
 still_owns_given pool n other m owns apart = get_set_other pool.owners n m (Some other) None owns apart

@@ -1,6 +1,6 @@
 -- What becomes of the reservations of each tag when one is made or taken away.
 use Rattle.std.proofs.Common.{◌≡◌, ◌≢◌, ℕ, zero, suc, slice_index_or, ◌+◌, ◌-◌, ◌<◌, ◌≤◌, true, false, List, [], ◌∷◌, ◌++◌, length, None, IsSome, refl, sym, ◌∙◌, arith, inl, inr}
-use Rattle.std.specs.Prelude.{nat_eq, find}
+use Rattle.std.specs.Prelude.{nat_eq, find, AllPairs}
 use Rattle.std.proofs.lemmas.Bool.{cases_Bool, cases_eq, eq-eqb, ne_eqb, eqb-false}
 use Rattle.std.proofs.lemmas.List.Sums.{sum_by-cons, sum_by_push}
 use Rattle.bs_pool.specs.declared.reservation.Reservation.{Reservation}
@@ -95,4 +95,36 @@ all_reserved_without tag (r ∷ rs) =
     elim (cases_Bool (nat_eq r.tag tag)) [
       | inl same ↦ rw same (omega (arith, sum, rest))
       | inr differ ↦ let sum' = sum_by-cons (λ x. x.blocks) r (without tag rs) in rw differ (omega (arith, sum, sum', rest))
+    ]
+
+no_tag : (tag : ℕ) (rs : List Reservation) → ((k : ℕ) (d : Reservation) → k < length rs → (slice_index_or rs k d).tag ≢ tag)
+    → find (is_of tag) rs ≡ None
+no_tag tag [] others = refl
+no_tag tag (r ∷ rs) others =
+    rw (ne_eqb r.tag tag (others 0 r (omega arith))) (no_tag tag rs (λ k d within. others (suc k) d (omega (arith, within))))
+
+none_removed : (tag : ℕ) (rs : List Reservation) → find (is_of tag) rs ≡ None → all_reserved (without tag rs) ≡ all_reserved rs
+none_removed tag [] none = refl
+none_removed tag (r ∷ rs) none = elim (cases_Bool (nat_eq r.tag tag)) [
+  | inl same ↦ let e = rw same at none in cc
+  | inr differ ↦
+      let e = rw differ at none in
+      let sum = sum_by-cons (λ x. x.blocks) r rs in let sum' = sum_by-cons (λ x. x.blocks) r (without tag rs) in
+      rw differ (omega (arith, sum, sum', none_removed tag rs e))
+]
+
+-- what a tag reserved is free to reserve again
+pub all_removed : (tag : ℕ) (rs : List Reservation) → AllPairs (λ r s. r.tag ≢ s.tag) rs
+    → all_reserved (without tag rs) + reserved_by tag rs ≡ all_reserved rs
+all_removed tag [] distinct = refl
+all_removed tag (r ∷ rs) distinct =
+    let sum = sum_by-cons (λ x. x.blocks) r rs in
+    elim (cases_eq r.tag tag) [
+      | inl same ↦
+          let none = no_tag tag rs (λ k d within is. distinct 0 (suc k) d (omega arith) (omega (arith, within)) (same ∙ sym is)) in
+          rw (eq-eqb r.tag tag same) (omega (arith, sum, none_removed tag rs none))
+      | inr differ ↦
+          let rest = all_removed tag rs (λ i j d less within. distinct (suc i) (suc j) d (omega (arith, less)) (omega (arith, within))) in
+          let sum' = sum_by-cons (λ x. x.blocks) r (without tag rs) in
+          rw (ne_eqb r.tag tag differ) (omega (arith, sum, sum', rest))
     ]

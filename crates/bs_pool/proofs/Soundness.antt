@@ -7,9 +7,9 @@ use Rattle.std.proofs.lemmas.List.Quantifiers.{all_pairs_push}
 use Rattle.std.proofs.lemmas.List.Kept.{AllPairs-filter}
 use Rattle.bs_pool.specs.declared.reservation.Reservation.{Reservation}
 use Rattle.bs_pool.specs.Reservations.{is_of, is_reserved, reserved_by, all_reserved, without}
-use Rattle.bs_pool.specs.Ledger.{Ledger, IsSound, is_unowned, is_owned_by, free, held, reserved, least_free, opened, ledger_of}
+use Rattle.bs_pool.specs.Ledger.{Ledger, IsSound, Owns, given, is_unowned, is_owned_by, free, held, reserved, least_free, opened, ledger_of}
 use Rattle.bs_pool.proofs.Counts.{count_cons, count_when}
-use Rattle.bs_pool.proofs.Owners.{all_numbers, held_drawn, held_drawn_other, size_drawn}
+use Rattle.bs_pool.proofs.Owners.{all_numbers, held_drawn, held_drawn_other, size_drawn, held_given, held_given_other, size_given}
 use Rattle.bs_pool.proofs.Pigeonhole.{left_free}
 use Rattle.bs_pool.proofs.Reservations.{none_since, other_tags, reserved_none, reserved_pushed, reserved_pushed_other, all_reserved_pushed, reserved_without_other, all_reserved_without}
 
@@ -55,6 +55,16 @@ sound_drawn owners owners' rs tag n sound less at is = let pool = ledger_of owne
     | inr differ ↦ let e = held_drawn_other pool tag n other at differ in omega (arith, e, sound.kept other)
   ];
 })
+
+pub sound_given : (pool : Ledger) (tag n : ℕ) → IsSound pool → Owns tag n pool → IsSound (given n pool)
+sound_given pool tag n sound owns = record {
+  within = let e = size_given pool n in omega (arith, e, sound.within);
+  distinct = sound.distinct;
+  kept = λ other. elim (cases_eq tag other) [
+    | inl same ↦ let e = held_given pool tag n owns in rw (← same) (omega (arith, e, sound.kept tag))
+    | inr differ ↦ let e = held_given_other pool tag n other owns differ in omega (arith, e, sound.kept other)
+  ];
+}
 
 pub sound_pushed : (owners : List (Option ℕ)) (rs rs' : List Reservation) (tag n : ℕ) → IsSound (ledger_of owners rs)
     → is_reserved tag rs ≡ false → n ≤ length owners - all_reserved rs → rs' ≡ rs ++ record { tag = tag; blocks = n } ∷ []

@@ -7,10 +7,13 @@ mod reservation;
 mod slot;
 #[cfg(test)]
 mod tests;
+mod words;
 
 pub use owned::Owned;
 pub use pool::Pool;
 pub use reservation::{Reservation, Reserve};
 // A crate can name a pool in a contract only if the types of its fields are exported.
+#[doc(hidden)]
+pub use reservation::Account;
 #[doc(hidden)]
 pub use slot::{Slot, Whereabouts};

@@ -6,8 +6,12 @@ ghost use Rattle.bs_pool.specs.DrawAnswer.{Draws};
 ghost use Rattle.bs_pool.specs.ReserveAnswer.{Reserves};
 
 use crate::owned::Owned;
-use crate::reservation::{Reservation, Reserve, all_reserved, is_reserved, reserved_by, withdraw};
-use crate::slot::{Slot, count_free, count_owned_by, first_free, new_slots};
+use crate::reservation::{
+    Account, Reservation, Reserve, all_reserved, count_drawn, count_given, counted, is_reserved,
+    reserved_by, withdraw,
+};
+use crate::slot::{Slot, count_free, new_slots};
+use crate::words::{first_marked, mark, new_words, unmark};
 use std::alloc::{AllocError, Global};
 use std::marker::Model;
 
@@ -16,17 +20,20 @@ use std::marker::Model;
 #[derive(Drop)]
 pub struct Pool<const CAP: usize> {
     slots: Vec<Slot<CAP>>,
-    reservations: Vec<Reservation>,
+    reservations: Vec<Account>,
+    // A bit for each number, set where it is free.
+    words: Vec<u64>,
 }
 
 impl<const CAP: usize> Model for Pool<CAP> {
-    ghost use Rattle.bs_pool.specs.Ledger.{Ledger, ledger_of, IsSound};
+    ghost use Rattle.bs_pool.specs.Ledger.{Ledger};
+    ghost use Rattle.bs_pool.specs.PoolParts.{ledger_in, AreParts};
 
     ghost Value = { Ledger };
 
-    ghost view = { λ p. ledger_of p.slots.items p.reservations.items };
+    ghost view = { λ p. ledger_in p.slots.items p.reservations.items };
 
-    ghost invariant = { λ p. IsSound (ledger_of p.slots.items p.reservations.items) };
+    ghost invariant = { λ p. AreParts p.slots.items p.reservations.items p.words.items };
 }
 
 impl<const CAP: usize> Pool<CAP> {
@@ -39,6 +46,7 @@ impl<const CAP: usize> Pool<CAP> {
         Ok(Pool {
             slots: new_slots(alloc, n)?,
             reservations: Vec::new(alloc),
+            words: new_words(alloc, n)?,
         })
     }
 
@@ -53,7 +61,7 @@ impl<const CAP: usize> Pool<CAP> {
     pub fn held(&self, tag: u32) -> usize
         ensures { result ≡ held tag self.now }
     {
-        count_owned_by(self.slots.as_slice(), tag)
+        counted(self.reservations.as_slice(), tag)
     }
 
     /// The number of blocks that the tag reserved, 0 where it has no reservation.
@@ -80,7 +88,7 @@ impl<const CAP: usize> Pool<CAP> {
 
     /// Reserves `n` blocks for the tag: from now on it may own up to so many. `TagTaken` where the tag has a
     /// reservation, then `Short` where less than `n` blocks are left beside all reservations, whether owned or not.
-    #[tactic(auto, using(crate::proofs::Reservations::none_since, crate::proofs::Reservations::some_since))]
+    #[tactic(auto, using(crate::proofs::Accounts::none_in, crate::proofs::Accounts::some_in, crate::proofs::Accounts::pushed_in))]
     pub fn reserve(&mut self, tag: u32, n: usize) -> Result<(), Reserve>
         requires { 1 ≤ n }
         ensures { Reserves tag n self.old result self.new }
@@ -93,21 +101,26 @@ impl<const CAP: usize> Pool<CAP> {
             return Err(Reserve::Short { free_to_reserve });
         }
         let reservation = Reservation { tag, blocks: n };
-        if self.reservations.push(reservation).is_err() {
+        let account = Account {
+            reservation,
+            held: 0,
+        };
+        if self.reservations.push(account).is_err() {
             return Err(Reserve::Memory);
         }
         Ok(())
     }
 
     /// The free block of the least number, empty, now owned by the tag. None where the tag owns all that it reserved.
-    #[tactic(auto, using(crate::proofs::Soundness::some_free))]
     pub fn draw(&mut self, tag: u32) -> Option<Owned<CAP>>
         ensures { Draws tag self.old result self.new }
     {
         if self.reserved(tag) <= self.held(tag) {
             return None;
         }
-        let number = first_free(self.slots.as_slice()).unwrap();
+        let number = first_marked(self.words.as_slice()).unwrap();
+        unmark(&mut self.words, number);
+        count_drawn(&mut self.reservations, tag);
         let block = self.slots[number].hand_out(tag);
         Some(Owned::new(tag, number, block))
     }
@@ -118,6 +131,8 @@ impl<const CAP: usize> Pool<CAP> {
         ensures { self.new ≡ given owned.entry.number self.old }
     {
         let number = owned.number();
+        mark(&mut self.words, number);
+        count_given(&mut self.reservations, owned.tag());
         self.slots[number] = Slot::home(owned.into_block());
     }
 

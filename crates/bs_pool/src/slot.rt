@@ -1,7 +1,7 @@
 //! The slot of one block in a pool. A clause sees it as the tag that owns the block, or None where the block is free.
-ghost use Rattle.std.specs.Prelude.{◌≡◌, IfOk, None, count_by, position, replicate};
+ghost use Rattle.std.specs.Prelude.{◌≡◌, IfOk, None, count_by, replicate};
 ghost use Rattle.bs_block.specs.Bytes.{IsCapacity};
-ghost use Rattle.bs_pool.specs.Ledger.{is_unowned, is_owned_by};
+ghost use Rattle.bs_pool.specs.Ledger.{is_unowned};
 
 use bs_block::Block;
 use std::alloc::{AllocError, Global};
@@ -54,15 +54,6 @@ impl<const CAP: usize> Slot<CAP> {
         matches!(self.whereabouts, Whereabouts::Home(_))
     }
 
-    pub(crate) fn is_owned_by(&self, tag: u32) -> bool
-        ensures { result ≡ is_owned_by tag self.now }
-    {
-        match self.whereabouts {
-            Whereabouts::Home(_) => false,
-            Whereabouts::Out(owner) => owner == tag,
-        }
-    }
-
     /// Takes the block out of its slot, for the tag.
     pub(crate) fn hand_out(&mut self, tag: u32) -> Block<CAP>
         requires { self.old ≡ None }
@@ -91,17 +82,6 @@ pub(crate) fn new_slots<const CAP: usize>(
     Ok(slots)
 }
 
-/// The first number whose block is free.
-pub(crate) fn first_free<const CAP: usize>(slots: &[Slot<CAP>]) -> Option<usize>
-    ensures { result ≡ position is_unowned slots.now }
-{
-    slots.iter().position(
-        |slot| -> bool
-            ensures { result ≡ is_unowned slot.now }
-        { slot.is_unowned() },
-    )
-}
-
 /// The number of free blocks.
 pub(crate) fn count_free<const CAP: usize>(slots: &[Slot<CAP>]) -> usize
     ensures { result ≡ count_by is_unowned slots.now }
@@ -112,20 +92,6 @@ pub(crate) fn count_free<const CAP: usize>(slots: &[Slot<CAP>]) -> usize
             |slot| -> bool
                 ensures { result ≡ is_unowned slot.now.now }
             { slot.is_unowned() },
-        )
-        .count()
-}
-
-/// The number of blocks that the tag owns.
-pub(crate) fn count_owned_by<const CAP: usize>(slots: &[Slot<CAP>], tag: u32) -> usize
-    ensures { result ≡ count_by (is_owned_by tag) slots.now }
-{
-    slots
-        .iter()
-        .filter(
-            |slot| -> bool
-                ensures { result ≡ is_owned_by tag slot.now.now }
-            { slot.is_owned_by(tag) },
         )
         .count()
 }

@@ -54,3 +54,30 @@ fn a_block_that_is_given_back_is_drawn_empty(rt: HostRuntime) -> Result<(), Fail
     assert_eq!(rt; pool.reserve(8, 2), Ok(()));
     Ok(())
 }
+
+/// The numbers of three words are drawn in order, and one that is given back is drawn next.
+#[test]
+#[tactic(auto, using(crate::proofs::Owners::owns_drawn, crate::proofs::Owners::still_owns_draw))]
+fn a_pool_of_130_blocks(rt: HostRuntime) -> Result<(), Fail> {
+    let mut pool = Pool::<64>::open(rt.alloc(), 130)?;
+    assert_eq!(rt; pool.reserve(1, 130), Ok(()));
+
+    for number in 0..64 {
+        let block = pool.draw(1).ok_or("a block of the first word")?;
+        assert_eq!(rt; block.number(), number);
+    }
+    let kept = pool.draw(1).ok_or("the first block of the second word")?;
+    assert_eq!(rt; kept.number(), 64);
+    for rest in 65..130 {
+        let block = pool.draw(1).ok_or("a block of the other words")?;
+        assert_eq!(rt; block.number(), rest);
+    }
+    assert_eq!(rt; pool.draw(1).is_none(), true);
+    assert_eq!(rt; pool.held(1), 130);
+    assert_eq!(rt; pool.free(), 0);
+
+    pool.give(kept);
+    let again = pool.draw(1).ok_or("the block that came back")?;
+    assert_eq!(rt; again.number(), 64);
+    Ok(())
+}
