@@ -1,7 +1,7 @@
 -- Each call keeps the parts of a pool as they have to be, and the first mark is the least free number.
-use Rattle.std.proofs.Common.{◌≡◌, ◌≢◌, ℕ, ◌+◌, ◌-◌, ◌*◌, ◌/◌, ◌<◌, ◌≤◌, ◌^◌, Bool, true, false, List, [], ◌∷◌, ◌++◌, length, take, drop, Option, Some, None, IsSome, slice_get, slice_set, slice_index_or, refl, sym, ap, ◌∙◌, arith, inl, inr, take_at, subst, not, map}
+use Rattle.std.proofs.Common.{◌≡◌, ℕ, ◌+◌, ◌-◌, ◌*◌, ◌/◌, ◌<◌, ◌≤◌, ◌^◌, Bool, true, false, List, [], ◌∷◌, ◌++◌, length, take, drop, Option, Some, None, IsSome, slice_set, refl, sym, ap, ◌∙◌, arith, inl, inr, take_at, subst, not}
 use Rattle.std.specs.List.{position_or_len}
-use Rattle.std.specs.Prelude.{cond, nat_lt, position, count_by, All, MatchOption}
+use Rattle.std.specs.Prelude.{cond, nat_lt, count_by}
 use Rattle.std.proofs.lemmas.Bool.{cases_Bool, cases_eq, cases_lt, lt-ltb, ltb-true}
 use Rattle.std.proofs.lemmas.List.{length-set, length-map, map-append, get_or-set_same, get_or-set_other, get_or_past}
 use Rattle.std.proofs.lemmas.List.Elements.{All-push, All-filter}
@@ -9,12 +9,12 @@ use Rattle.std.proofs.lemmas.List.Sums.{position_or_len_is, passes_at_first}
 use Rattle.std.proofs.lemmas.Option.{slice_get_within}
 use Rattle.bs_pool.specs.declared.reservation.Account.{Account}
 use Rattle.bs_pool.specs.declared.reservation.Reservation.{Reservation}
-use Rattle.bs_pool.specs.Accounts.{reservations_of, is_account_of, has_account, without_account, counted, AreCounted, Recounts}
-use Rattle.bs_pool.specs.Ledger.{Ledger, IsSound, Owns, is_unowned, is_owned_by, held, reserved, least_free, ledger_of, drawn, given}
+use Rattle.bs_pool.specs.Accounts.{reservations_of, is_account_of, has_account, without_account, counted, Recounts}
+use Rattle.bs_pool.specs.Ledger.{Ledger, Owns, is_unowned, is_owned_by, held, reserved, least_free}
 use Rattle.bs_pool.specs.Marks.{mark_of, IsFirstMark, FindsMark, SetsMark, MarksFree, is_free_at}
 use Rattle.bs_pool.specs.PoolParts.{ledger_in, AreParts}
-use Rattle.bs_pool.specs.Reservations.{is_reserved, reserved_by, all_reserved}
-use Rattle.bs_pool.proofs.Accounts.{counted_is, counts_again, recounted, is_reserved_in, all_reserved_in, without_in}
+use Rattle.bs_pool.specs.Reservations.{is_reserved, all_reserved}
+use Rattle.bs_pool.proofs.Accounts.{counted_is, counts_again, recounted, is_reserved_in, without_in}
 use Rattle.bs_pool.proofs.Owners.{free_at, held_drawn, held_drawn_other, held_given, held_given_other}
 use Rattle.bs_pool.proofs.Reservations.{none_since, reserved_none}
 use Rattle.bs_pool.proofs.Soundness.{some_free, sound_drawn, sound_given, sound_pushed, sound_withdrawn}

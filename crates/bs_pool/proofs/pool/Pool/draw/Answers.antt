@@ -1,8 +1,8 @@
-use Rattle.std.proofs.Common.{◌≡◌, ◌+◌, ◌<◌, List, None, Some, Option, ℕ, length, slice_set, ap, sym, subst, arith, ◌∙◌}
+use Rattle.std.proofs.Common.{◌≡◌, ◌+◌, ◌<◌, Some, slice_set, ap, sym, subst, arith, ◌∙◌}
 use Rattle.bs_pool.specs.Accounts.{Recounts, counted}
 use Rattle.bs_pool.specs.Ledger.{held, reserved, least_free, drawn, ledger_of}
 use Rattle.bs_pool.specs.Marks.{IsFirstMark, FindsMark, SetsMark}
-use Rattle.bs_pool.specs.PoolParts.{AreParts, ledger_in}
+use Rattle.bs_pool.specs.PoolParts.{ledger_in}
 use Rattle.bs_pool.proofs.Owners.{first_is_free}
 use Rattle.bs_pool.proofs.Parts.{drawn_lent, finds_some, held_counted, least_marked}
 use Rattle.bs_pool.proofs.pool.Pool.draw.Goals as goal
