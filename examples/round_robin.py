@@ -49,7 +49,10 @@ def pairings(names):
 
 
 def named_games(names, rounds):
-    """The two bots of each game by its name. With each round they change sides; from the second on its number is in the name."""
+    """The two bots of each game by its name. They change sides with each round.
+
+    From the second round on its number is in the name.
+    """
     games = {}
     for at in range(1, rounds + 1):
         for a, b in pairings(names):
@@ -109,7 +112,7 @@ def main():
     parser = argparse.ArgumentParser(description=__doc__, formatter_class=argparse.RawDescriptionHelpFormatter)
     parser.add_argument("bots", nargs="+", metavar="BOT.moves", type=Path)
     parser.add_argument("--turns", type=int, default=150, help="moves that each game is given, 150 if left out")
-    parser.add_argument("--rounds", type=int, default=1, help="how often each two meet, once if left out")
+    parser.add_argument("--rounds", type=int, default=1, help="1 if left out")
     parser.add_argument("--seed", type=int, default=1, help="of the numbers for food, 1 if left out")
     given = parser.parse_args()
     try:
