@@ -127,6 +127,20 @@ def to_the_last_turn(version):
         yield "wrapped, to the last turn", SERVE, "\n".join([first, new, *moves]).encode()
 
 
+def hunger(version):
+    """Two snakes go round in four cells, and at the end of their health into food, a wall, or on."""
+    snakes = [{"id": "s", "x": 0, "y": 0}, {"id": "t", "x": 3, "y": 3}]
+    food = [{"x": x, "y": y} for x, y in ((2, 0), (2, 1), (0, 2), (1, 2))]
+    for mode in ("standard", "constrictor", "wrapped")[: version + 1]:
+        new = {**NEW, "mode": mode, "snakes": snakes, "food": food, "min_food": 0}
+        for turns in range(97, 101):
+            round = [("up", "right", "down", "left")[turn % 4] for turn in range(turns)]
+            for last in ("up", "right", "down", "left"):
+                moves = [command("move", moves={"s": it, "t": it}) for it in [*round, last, last]]
+                file = lines(plan(("a", MAX_FILE), version=version), new, *moves)
+                yield f"{mode}, {turns} turns, then {last}", SERVE, file
+
+
 COMMAND_LINES = """
 play
 serve
@@ -168,4 +182,5 @@ def made(version):
         yield from members_of_new(one)
     yield from other_members()
     yield from to_the_last_turn(version)
+    yield from hunger(version)
     yield from command_lines()
