@@ -1,4 +1,5 @@
 """Files and command lines at the ends of limits: `made(version)` yields names, words and bytes."""
+import itertools
 import json
 
 import measure
@@ -141,6 +142,19 @@ def hunger(version):
                 yield f"{mode}, {turns} turns, then {last}", SERVE, file
 
 
+def meetings():
+    """Two to four snakes of one length meet in a cell, in every order of their seats."""
+    ways = [("a", 1, 2, "right"), ("b", 3, 2, "left"), ("c", 2, 3, "down"), ("d", 2, 1, "up")]
+    values = []
+    for count in (2, 3, 4):
+        for some in itertools.permutations(ways, count):
+            snakes = [{"id": id, "x": x, "y": y} for id, x, y, _ in some]
+            values.append({**NEW, "mode": "standard", "snakes": snakes})
+            values.append(command("move", moves={id: way for id, _, _, way in some}))
+            values.append(command("end"))
+    yield "meetings", SERVE, lines(plan(), *values)
+
+
 COMMAND_LINES = """
 play
 serve
@@ -183,4 +197,5 @@ def made(version):
     yield from other_members()
     yield from to_the_last_turn(version)
     yield from hunger(version)
+    yield from meetings()
     yield from command_lines()
