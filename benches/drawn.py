@@ -122,7 +122,7 @@ class Game:
         rng = self.rng
         if not self.runs or chance(rng, 1):
             return self.new()
-        if chance(rng, 50 if self.is_over() else 2):
+        if chance(rng, 60 if self.is_over() else 4):
             self.runs = False
             return {"game": self.name, "do": "end"}
         if chance(rng, 90):
@@ -167,7 +167,10 @@ class Game:
     def move(self):
         rng = self.rng
         self.turn += 1
-        moves = {id: self.go(id) for id in list(self.bodies)}
+        # Sometimes all that can meet in one cell.
+        body = rng.choice(list(self.bodies.values()) or [[(0, 0)]])
+        meeting = self.step(body[0], rng.choice(list(STEPS))) if chance(rng, 15) else None
+        moves = {id: self.go(id, meeting) for id in list(self.bodies)}
         moves = {id: direction for id, direction in moves.items() if direction}
         if chance(rng, 5):
             moves[rng.choice(IDS)] = rng.choice(["up", "left", "", "sideways", 3, None, ["up"]])
@@ -186,13 +189,19 @@ class Game:
             return x % self.width, y % self.height
         return x, y
 
-    def go(self, id):
+    def go(self, id, meeting):
         """Moves a snake, mostly to a free cell. Its direction, or nothing where it goes on."""
         rng, body = self.rng, self.bodies[id]
         taken = {cell for it in self.bodies.values() for cell in it[:-1]}
         ahead = [it for it in STEPS if self.step(body[1], it) == body[0]] or ["up"]
         kept = {it: self.step(body[0], it) for it in STEPS}
         kept = {it: cell for it, cell in kept.items() if cell in self.cells and cell not in taken}
+        if meeting in kept.values():
+            met = any(it[0] == meeting for it in self.bodies.values())
+            body.insert(0, meeting)
+            if met:
+                del self.bodies[id]
+            return next(it for it, cell in kept.items() if cell == meeting)
         if not kept or chance(rng, 2):
             del self.bodies[id]
             return rng.choice([*STEPS, None])
@@ -250,7 +259,7 @@ def command_file(rng, version):
     names, said = plan(rng, version)
     games = [Game(rng, name, version) for name in names]
     lines = [written(rng, said, chance(rng, 10)).encode()]
-    for _ in range(rng.choice([0, 3, 20, 60, 200, 400])):
+    for _ in range(rng.choice([0, 3, 20, 100, 200, 400])):
         members = rng.choice(games).command()
         if chance(rng, 2):
             members = json.loads(json.dumps(members))

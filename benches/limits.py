@@ -1,4 +1,5 @@
 """Files and command lines at the ends of limits: `made(version)` yields names, words and bytes."""
+import itertools
 import json
 
 import measure
@@ -127,6 +128,33 @@ def to_the_last_turn(version):
         yield "wrapped, to the last turn", SERVE, "\n".join([first, new, *moves]).encode()
 
 
+def hunger(version):
+    """Two snakes go round in four cells, and at the end of their health into food, a wall, or on."""
+    snakes = [{"id": "s", "x": 0, "y": 0}, {"id": "t", "x": 3, "y": 3}]
+    food = [{"x": x, "y": y} for x, y in ((2, 0), (2, 1), (0, 2), (1, 2))]
+    for mode in ("standard", "constrictor", "wrapped")[: version + 1]:
+        new = {**NEW, "mode": mode, "snakes": snakes, "food": food, "min_food": 0}
+        for turns in range(97, 101):
+            round = [("up", "right", "down", "left")[turn % 4] for turn in range(turns)]
+            for last in ("up", "right", "down", "left"):
+                moves = [command("move", moves={"s": it, "t": it}) for it in [*round, last, last]]
+                file = lines(plan(("a", MAX_FILE), version=version), new, *moves)
+                yield f"{mode}, {turns} turns, then {last}", SERVE, file
+
+
+def meetings():
+    """Two to four snakes of one length meet in a cell, in every order of their seats."""
+    ways = [("a", 1, 2, "right"), ("b", 3, 2, "left"), ("c", 2, 3, "down"), ("d", 2, 1, "up")]
+    values = []
+    for count in (2, 3, 4):
+        for some in itertools.permutations(ways, count):
+            snakes = [{"id": id, "x": x, "y": y} for id, x, y, _ in some]
+            values.append({**NEW, "mode": "standard", "snakes": snakes})
+            values.append(command("move", moves={id: way for id, _, _, way in some}))
+            values.append(command("end"))
+    yield "meetings", SERVE, lines(plan(), *values)
+
+
 COMMAND_LINES = """
 play
 serve
@@ -168,4 +196,6 @@ def made(version):
         yield from members_of_new(one)
     yield from other_members()
     yield from to_the_last_turn(version)
+    yield from hunger(version)
+    yield from meetings()
     yield from command_lines()
