@@ -27,7 +27,7 @@ from statistics import median
 HERE = Path(__file__).resolve().parent
 ROOT = HERE.parent
 sys.dont_write_bytecode = True
-sys.path[:0] = [str(HERE), str(ROOT / "bench"), str(ROOT / "tools")]
+sys.path[:0] = [str(HERE), str(ROOT / "tests")]
 import cases
 import drawn
 import limits

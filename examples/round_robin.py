@@ -1,12 +1,15 @@
 #!/usr/bin/env python3
-"""Writes the command file of a round robin: each of the given bots meets each other one once a round, in a game of two snakes.
+"""Writes the command file of a round robin: each of the given bots meets each other one once a round,
+in a game of two snakes.
 
     examples/round_robin.py [--turns N] [--rounds N] [--seed N] BOT.moves .. > FILE
 
-A bot is a file of its moves: the words up, down, left and right, from the first turn on; after the last word it begins with the first
-again, and # starts a comment. It plays under the file's name without the ending. All games go on at once, turn by turn. The numbers that
-decide where food appears are drawn from the seed, so the same words on the command line give the same file. The last line, on the
-standard error, says how many blocks the games need, or that they are more than a file may have: then examples/split.py comes next.
+A bot is a file of its moves: the words up, down, left and right, from the first turn on; after the
+last word it begins with the first again, and # starts a comment. It plays under the file's name
+without the ending. All games go on at once, turn by turn. The numbers that decide where food
+appears are drawn from the seed, so the same words on the command line give the same file. The last
+line, on the standard error, says how many blocks the games need, or that they are more than a file
+may have: then examples/split.py comes next.
 """
 import argparse
 import json

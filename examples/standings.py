@@ -1,12 +1,15 @@
 #!/usr/bin/env python3
-"""Reads transcripts and prints the standings: for each snake its games, wins, draws, losses, turns lived, and how it went out.
+"""Reads transcripts and prints the standings: for each snake its games, wins, draws, losses, turns
+lived, and how it went out.
 
     examples/standings.py [TRANSCRIPT ..]
 
-All games of all files are counted in one table. The standard input is read where no file is named. A snake wins where it alone lives on the final board of a game that is over. It draws
-where it lives on the final board of a game that is not over, or where nobody lives and it was among the last to go out. Any other game
-is lost. Turns lived are up to the turn in which the snake went out, or to the final board's. A game of one snake gives no win, draw or
-loss. Snakes stand in the order of wins, then draws, then turns lived. Below the table stands what the host turned down.
+All games of all files are counted in one table. The standard input is read where no file is named.
+A snake wins where it alone lives on the final board of a game that is over. It draws where it lives
+on the final board of a game that is not over, or where nobody lives and it was among the last to go
+out. Any other game is lost. Turns lived are up to the turn in which the snake went out, or to the
+final board's. A game of one snake gives no win, draw or loss. Snakes stand in the order of wins,
+then draws, then turns lived. Below the table stands what the host turned down.
 """
 import argparse
 import json

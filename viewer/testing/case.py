@@ -1,4 +1,5 @@
-# What the test cases share: one browser and one server for all, and a page that may leave no error in the console.
+# What the test cases share: one browser and one server for all, and a page that may leave no error
+# in the console.
 import tempfile
 import unittest
 from pathlib import Path

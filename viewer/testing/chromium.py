@@ -1,4 +1,5 @@
-# Chromium without a window: found or installed from Debian's packages, and driven by the WebDriver protocol.
+# Chromium without a window: found or installed from Debian's packages, and driven by the WebDriver
+# protocol.
 import base64
 import json
 import os

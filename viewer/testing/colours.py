@@ -1,4 +1,5 @@
-# How far apart two colours are for an eye: CIEDE2000, for normal sight and for the three kinds of colour blindness.
+# How far apart two colours are for an eye: CIEDE2000, for normal sight and for the three kinds of
+# colour blindness.
 import math
 
 # What each kind of eye makes of linear red, green and blue, for a cone that is wholly missing.

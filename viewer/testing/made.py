@@ -1,4 +1,5 @@
-# Transcripts made for the tests: a large one of a real game's lines under other names, and one long game of a single snake.
+# Transcripts made for the tests: a large one of a real game's lines under other names, and one long
+# game of a single snake.
 import json
 
 

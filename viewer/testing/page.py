@@ -11,7 +11,8 @@ return [...document.querySelectorAll('#games tbody tr')].map((row) => [...row.ce
 """
 
 BOARD = """
-// The direction from the middle of a head to the middle between its eyes, as the browser has turned it.
+// The direction from the middle of a head to the middle between its eyes, as the browser has turned
+// it.
 const looks = (head) => {
   const { a, b } = head.transform.baseVal.consolidate().matrix;
   const forward = [...head.querySelectorAll('.eye')].reduce((sum, eye) => sum + eye.cx.baseVal.value, 0);

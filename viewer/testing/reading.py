@@ -1,4 +1,5 @@
-# What a transcript says, read line by line with Python's own JSON, as docs/FORMATS.md has it: what the page is compared with.
+# What a transcript says, read line by line with Python's own JSON, as docs/FORMATS.md has it: what
+# the page is compared with.
 import json
 from dataclasses import dataclass, field
 

@@ -47,7 +47,8 @@ BROKEN = {
     "an endless line": (b"x" * (3 << 20), "The file holds a line that is longer than any line of a transcript."),
 }
 
-# A member of the board in line 2, which is read only when its turn is asked for, and what the page says of it.
+# A member of the board in line 2, which is read only when its turn is asked for, and what the page
+# says of it.
 BROKEN_LATER = [
     (("width",), 26, "its sides are no numbers from 3 to 25"),
     (("min_food",), -1, "its turn or the numbers for its food are out of their range"),

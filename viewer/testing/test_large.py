@@ -1,4 +1,5 @@
-# Large transcripts: 85 MB with 64 games, and one game of 10,000 turns. The page has to answer while it reads them.
+# Large transcripts: 85 MB with 64 games, and one game of 10,000 turns. The page has to answer while
+# it reads them.
 import tempfile
 import time
 from pathlib import Path

@@ -1,4 +1,5 @@
-# Pictures of three boards, to be looked at; their colours are counted, and measured for colour-blind eyes.
+# Pictures of three boards, to be looked at; their colours are counted, and measured for
+# colour-blind eyes.
 import itertools
 import os
 import re
@@ -14,7 +15,8 @@ from testing.served import ROOT
 
 FOLDER = Path(os.environ.get("VIEWER_PICTURES", ROOT / "viewer" / "out"))
 
-# The name of a picture, the file, the game and the turn that it shows, and whether the bodies that went out earlier are drawn.
+# The name of a picture, the file, the game and the turn that it shows, and whether the bodies that
+# went out earlier are drawn.
 PICTURES = [
     ("board_of_eight", TOURNAMENT, "eight", 10, False),
     ("board_of_constrictor", TOURNAMENT, "constrictor", 24, True),

@@ -20,7 +20,7 @@ use Rattle.bs_fiber.specs.Work.{goes}
 use Rattle.bs_fiber.proofs.Gathered.{joined_board, nothing_speaks}
 use Rattle.bs_fiber.proofs.Seen.{fit_job, seen_is_fit, some_view}
 
-fit_join : (input : Input) (view : View) → IsFitInput input → input.job.kind ≡ Join → IsSeen view input → IsFitJoin input.parts view input.command
+pub fit_join : (input : Input) (view : View) → IsFitInput input → input.job.kind ≡ Join → IsSeen view input → IsFitJoin input.parts view input.command
 fit_join input view fit kind seen = rw kind at (fit_job input view fit seen)
 
 -- the board that is seen of a record

@@ -1,6 +1,11 @@
+pub mod Added
+pub mod Blocks
+pub mod FitSnakes
+pub mod Framed
 pub mod Gathered
 pub mod Joined
 pub mod Seats
 pub mod Seen
 pub mod ThreeSeats
 pub mod Unseen
+pub mod Written

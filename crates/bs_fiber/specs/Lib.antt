@@ -2,6 +2,8 @@ pub mod Asking
 pub mod Bare
 pub mod Expected
 pub mod Fit
+pub mod Frames
 pub mod PartOf
 pub mod Seeing
+pub mod Tickets
 pub mod Work

@@ -1,5 +1,5 @@
 -- What each job comes to.
-use Rattle.std.specs.Prelude.{◌≡◌, ℕ, ◌+◌, ◌*◌, ◌/◌, Bool, ◌&&◌, List, [], take, drop, map, Option, Some, None, is_none, if◌then◌else◌}
+use Rattle.std.specs.Prelude.{◌≡◌, ℕ, ◌+◌, ◌*◌, ◌/◌, Bool, ◌&&◌, List, [], length, take, drop, map, Option, Some, None, is_none, if◌then◌else◌}
 use Rattle.bs_board.specs.declared.boards.board.Board.{Board}
 use Rattle.bs_board.specs.boards.Wrap.{wrap_of}
 use Rattle.bs_board.specs.declared.commands.command.Command.{Command}
@@ -9,6 +9,8 @@ use Rattle.bs_board.specs.declared.commands.reply.Reply.TheVariants.{Refused}
 use Rattle.bs_board.specs.declared.boards.point.Direction.{Direction}
 use Rattle.bs_board.specs.declared.boards.snake.Snake.{Snake}
 use Rattle.bs_rules.specs.Motion.{moved, given_to}
+use Rattle.bs_game.specs.declared.reply.Effect.{Effect}
+use Rattle.bs_game.specs.declared.reply.Effect.TheVariants as effect
 use Rattle.bs_game.specs.declared.view.View.{View}
 use Rattle.bs_game.specs.Reasons.{is_move, first_reason}
 use Rattle.bs_game.specs.View.{answer_of, answer_with}
@@ -17,6 +19,8 @@ use Rattle.bs_fiber.specs.declared.job.JobKind.{JobKind}
 use Rattle.bs_fiber.specs.declared.job.JobKind.TheVariants.{Begin, Part, Join}
 use Rattle.bs_fiber.specs.declared.out.Out.{Out}
 use Rattle.bs_fiber.specs.declared.out.Out.TheVariants.{Goes, Answered, Moved, Joined}
+use Rattle.bs_fiber.specs.declared.piece.Piece.{Piece}
+use Rattle.bs_fiber.specs.Frames.{frame_of}
 use Rattle.bs_fiber.specs.Seeing.{IsSeen}
 
 -- a move that no reason speaks against before there is a new board
@@ -56,10 +60,30 @@ moves_in _ = []
 abbrev pub moved_part : ℕ → View → Command → List Snake
 moved_part part view command = map (λ s. moved (wrap_in view.last) (given_to (moves_in command) s.id) s) (seats_of part (snakes_in view.last))
 
+-- where a record that is added lies: behind what part 0 wrote into its block
+abbrev pub piece_added : Effect → List Snake → Option Piece
+piece_added effect.Keep first = None
+piece_added (effect.Add bytes) first = Some (record { at = length (frame_of first); len = length bytes })
+piece_added effect.Trim first = None
+piece_added effect.Drop first = None
+
+-- the record that an answer adds
+abbrev pub added_by : Effect → Option (List ℕ)
+added_by effect.Keep = None
+added_by (effect.Add bytes) = Some bytes
+added_by effect.Trim = None
+added_by effect.Drop = None
+
+-- the record that a Join adds
+abbrev pub added_seen : JobKind → View → Command → Option (List ℕ)
+added_seen Begin view command = None
+added_seen Part view command = None
+added_seen Join view command = added_by (answer_of view command).effect
+
 abbrev pub out_seen : JobKind → ℕ → View → Command → Out
 out_seen Begin part view command = begun view command
 out_seen Part part view command = Moved (moved_part part view command)
-out_seen Join part view command = Joined (answer_of view command)
+out_seen Join part view command = Joined (answer_of view command) (piece_added (answer_of view command).effect (moved_part 0 view command))
 
 -- what the job comes to from all that it sees, which is one view alone
 abbrev pub IsWorked : Input → Out → Type 0

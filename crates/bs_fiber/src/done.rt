@@ -1,80 +1,141 @@
-//! Jobs that are done.
-ghost use Rattle.std.specs.Prelude.{◌≡◌, IfOk};
+//! Completed jobs, and running one.
+ghost use Rattle.std.specs.Prelude.{◌≡◌, ◌≤◌, IfOk, IfErr, map, option_map};
+ghost use Rattle.bs_fiber.specs.declared.input.Input.{Input as AnyInput};
 ghost use Rattle.bs_fiber.specs.Fit.{IsFitInput};
-ghost use Rattle.bs_fiber.specs.Work.{IsWorked};
+ghost use Rattle.bs_fiber.specs.Tickets.{HoldsWork, IsFresh, bytes_of, fresh_bytes, frames_in, names_of, worked_bytes};
+ghost use Rattle.bs_game.specs.declared.view.View.{View as AnyView};
+ghost use Rattle.bs_fiber.specs.Seeing.{IsSeen};
+ghost use Rattle.bs_fiber.specs.Work.{IsWorked, added_seen};
 
 use crate::beginning::begin;
+use crate::contents::{Contents, LEAST_CAPACITY};
 use crate::input::Input;
 use crate::job::JobKind;
-use crate::joining::join;
+use crate::joining::join_parts;
 use crate::moving::move_part;
 use crate::out::Out;
 use crate::stopped::Stopped;
 use crate::ticket::Ticket;
+use bs_pool::Owned;
 use std::alloc::{AllocError, Global};
 use std::marker::Model;
 
-/// A job that is done: its ticket, and what that comes to. Clauses see the ticket's input, which determines the rest.
-/// `work` alone makes one.
+/// A completed job: its ticket and its output. Contracts see the ticket. Only `work` makes one.
 #[derive(Debug, Drop)]
-pub struct Done {
-    ticket: Ticket,
+pub struct Done<const CAP: usize> {
+    ticket: Ticket<CAP>,
     out: Out,
 }
 
-impl Model for Done {
-    ghost use Rattle.bs_fiber.specs.declared.input.Input.{Input};
+impl<const CAP: usize> Model for Done<CAP> {
+    ghost use Rattle.bs_fiber.specs.Tickets.{TicketView};
 
-    ghost Value = { Input };
+    ghost Value = { TicketView };
 
     ghost view = { λ d. d.ticket };
 
+    ghost use Rattle.bs_fiber.specs.Tickets.{HoldsWork};
     ghost use Rattle.bs_fiber.specs.Work.{IsWorked};
 
-    ghost invariant = { λ d. IsWorked d.ticket d.out };
+    ghost invariant = { λ d. IsWorked d.ticket.input d.out × HoldsWork d.ticket d.out };
 }
 
-impl Done {
-    /// The ticket that was handed to `work`.
-    pub fn ticket(&self) -> &Ticket
+impl<const CAP: usize> Done<CAP> {
+    /// The ticket, with the frame blocks as the job left them.
+    pub fn ticket(&self) -> &Ticket<CAP>
         ensures { result.now ≡ self.now }
     {
         &self.ticket
     }
 
-    /// What it comes to.
+    /// The output of the job.
     pub fn out(&self) -> &Out
-        ensures { IsWorked self.now result.now }
+        ensures out { IsWorked self.now.input result.now }
+        ensures holds { HoldsWork self.now result.now }
     {
         &self.out
     }
 
-    /// Both of them.
-    pub fn into_parts(self) -> (Ticket, Out)
-        ensures ticket { result.0 ≡ self }
-        ensures out { IsWorked self result.1 }
+    /// The record that a Join adds, read from part 0's block.
+    pub fn added(&self) -> Option<&[u8]>
+        ensures { (view : AnyView) → IsSeen view self.now.input → option_map (λ bytes. bytes.now) result ≡ added_seen self.now.input.job.kind view self.now.input.command }
+    {
+        added_in(&self.ticket, &self.out)
+    }
+
+    /// Splits it into the ticket and the output.
+    pub fn into_parts(self) -> (Ticket<CAP>, Out)
+        ensures ticket { result.0 ≡ self.entry }
+        ensures out { IsWorked self.entry.input result.1 }
+        ensures holds { HoldsWork self.entry result.1 }
     {
         (self.ticket, self.out)
     }
 }
 
-#[tactic(auto, using(crate::proofs::Joined::join_is_of_a_move, crate::proofs::Joined::join_has_a_board))]
-fn out_of(alloc: Global, input: &Input) -> Result<Out, AllocError>
-    requires { IsFitInput input.now }
-    ensures { IfOk result (λ out. IsWorked input.now out) }
+fn added_in<'a, const CAP: usize>(ticket: &'a Ticket<CAP>, out: &Out) -> Option<&'a [u8]>
+    requires worked { IsWorked ticket.now.input out.now }
+    requires holds { HoldsWork ticket.now out.now }
+    ensures { (view : AnyView) → IsSeen view ticket.now.input → option_map (λ bytes. bytes.now) result ≡ added_seen ticket.now.input.job.kind view ticket.now.input.command }
 {
-    match input.job.kind {
-        JobKind::Begin => begin(alloc, input),
-        JobKind::Part => Ok(Out::Moved(move_part(alloc, input)?)),
-        JobKind::Join => Ok(Out::Joined(join(alloc, input)?)),
+    let frames = ticket.frames();
+    match out {
+        Out::Goes => None,
+        Out::Answered(_) => None,
+        Out::Moved(_) => None,
+        Out::Joined(_, piece) => match piece {
+            None => None,
+            Some(piece) => Some(frames[0].block().get(piece.at, piece.len)),
+        },
     }
 }
 
-/// Does the job. The ticket is lost where memory runs out.
-#[inline(always)]
-pub fn work(alloc: Global, ticket: Ticket) -> Result<Done, Stopped>
-    ensures { IfOk result (λ done. done ≡ ticket) }
+fn out_of<const CAP: usize>(
+    alloc: Global,
+    input: &Input,
+    frames: &mut Vec<Owned<CAP>>,
+) -> Result<Out, AllocError>
+    requires wide { LEAST_CAPACITY ≤ CAP }
+    requires fit { IsFitInput input.now }
+    requires fresh { bytes_of (frames_in frames.old.items) ≡ fresh_bytes input.now.job.kind input.now.parts }
+    ensures worked { IfOk result (λ out. IsWorked input.now out) }
+    ensures holds { IfOk result (λ out. bytes_of (frames_in frames.new.items) ≡ worked_bytes input.now.parts out) }
+    ensures names { names_of (frames_in frames.new.items) ≡ names_of (frames_in frames.old.items) }
 {
-    let out = out_of(alloc, ticket.input())?;
-    Ok(Done { ticket, out })
+    match input.job.kind {
+        JobKind::Begin => begin(alloc, input),
+        JobKind::Part => Ok(Out::Moved(move_part(alloc, input, frames)?)),
+        JobKind::Join => join_parts(alloc, input, frames),
+    }
+}
+
+fn work_in<const CAP: usize>(alloc: Global, contents: &mut Contents<CAP>) -> Result<Out, AllocError>
+    requires wide { LEAST_CAPACITY ≤ CAP }
+    requires fit { IsFitInput contents.old.input }
+    requires fresh { bytes_of (frames_in contents.old.frames.items) ≡ fresh_bytes contents.old.input.job.kind contents.old.input.parts }
+    ensures input { contents.new.input ≡ contents.old.input }
+    ensures worked { IfOk result (λ out. IsWorked contents.old.input out) }
+    ensures holds { IfOk result (λ out. bytes_of (frames_in contents.new.frames.items) ≡ worked_bytes contents.old.input.parts out) }
+    ensures names { names_of (frames_in contents.new.frames.items) ≡ names_of (frames_in contents.old.frames.items) }
+{
+    out_of(alloc, &contents.input, &mut contents.frames)
+}
+
+/// Runs the job. Where memory runs out, `Stopped` returns its frame blocks.
+pub fn work<const CAP: usize>(alloc: Global, ticket: Ticket<CAP>) -> Result<Done<CAP>, Stopped<CAP>>
+    requires { IsFresh ticket }
+    ensures input { IfOk result (λ done. done.input ≡ ticket.entry.input) }
+    ensures frames { IfOk result (λ done. names_of done.frames ≡ names_of ticket.entry.frames) }
+    ensures stopped { IfErr result (λ stopped. names_of (frames_in stopped.blocks.items) ≡ names_of ticket.entry.frames) }
+{
+    let mut contents = ticket.into_contents();
+    match work_in(alloc, &mut contents) {
+        Ok(out) => Ok(Done {
+            ticket: Ticket::again(contents),
+            out,
+        }),
+        Err(_) => Err(Stopped {
+            blocks: Box::into_inner(contents).frames,
+        }),
+    }
 }

@@ -1,6 +1,7 @@
 //! The input that a core expects of a job.
 ghost use Rattle.std.specs.Prelude.{◌≡◌, option_map, IfOk, IfSome, OnOk};
 
+use crate::contents::Contents;
 use crate::input::Input;
 use crate::job::JobName;
 use crate::parts::Parts;
@@ -71,16 +72,12 @@ impl Expected<'_> {
     }
 
     /// All of it, the records copied and the command held: an input that has no parts yet.
-    fn new_input(
-        &self,
-        alloc: Global,
-        holder: Option<SharedCommand>,
-    ) -> Result<Box<Input>, AllocError>
+    fn new_input(&self, alloc: Global, holder: Option<SharedCommand>) -> Result<Input, AllocError>
         requires { IfSome holder (λ holder. holder ≡ self.now.command.now) }
-        ensures expected { IfOk result (λ input. IsOf input.value self.now) }
-        ensures parts { IfOk result (λ input. input.value.parts ≡ []) }
+        ensures expected { IfOk result (λ input. IsOf input self.now) }
+        ensures parts { IfOk result (λ input. input.parts ≡ []) }
     {
-        let input = Input {
+        Ok(Input {
             job: self.job,
             worker: self.worker,
             seq: self.seq,
@@ -91,21 +88,37 @@ impl Expected<'_> {
             asked: copy_record(alloc, self.asked)?,
             command: self.held(holder)?,
             parts: Parts::from_vec(Vec::new(alloc)),
-        };
-        Ok(Box::new(alloc, input)?)
+        })
     }
 
-    /// The same in the place of a spent one. Each field is written where it lies, since an input has more than a hundred
-    /// bytes.
-    fn input_over(
+    /// The input in new contents, with no blocks.
+    fn new_contents<const CAP: usize>(
         &self,
         alloc: Global,
         holder: Option<SharedCommand>,
-        mut input: Box<Input>,
-    ) -> Result<Box<Input>, AllocError>
+    ) -> Result<Box<Contents<CAP>>, AllocError>
         requires { IfSome holder (λ holder. holder ≡ self.now.command.now) }
-        ensures expected { IfOk result (λ input. IsOf input.value self.now) }
-        ensures parts { IfOk result (λ input. input.value.parts ≡ []) }
+        ensures expected { IfOk result (λ contents. IsOf contents.value.input self.now) }
+        ensures parts { IfOk result (λ contents. contents.value.input.parts ≡ []) }
+        ensures frames { IfOk result (λ contents. contents.value.frames.items ≡ []) }
+    {
+        let contents = Contents {
+            input: self.new_input(alloc, holder)?,
+            frames: Vec::new(alloc),
+        };
+        Ok(Box::new(alloc, contents)?)
+    }
+
+    /// Writes the input over a spent one, field by field, since an input has more than a hundred bytes.
+    fn write_over(
+        &self,
+        alloc: Global,
+        holder: Option<SharedCommand>,
+        input: &mut Input,
+    ) -> Result<(), AllocError>
+        requires { IfSome holder (λ holder. holder ≡ self.now.command.now) }
+        ensures expected { OnOk result (IsOf input.new self.now) }
+        ensures parts { OnOk result (input.new.parts ≡ []) }
     {
         input.job = self.job;
         input.worker = self.worker;
@@ -117,25 +130,42 @@ impl Expected<'_> {
         copy_record_over(alloc, &self.asked, &mut input.asked)?;
         input.command.hold_by(holder, self.command)?;
         input.parts = Parts::from_vec(Vec::new(alloc));
-        Ok(input)
+        Ok(())
     }
 
-    /// All of it, the records copied and the command held: an input that has no parts yet. The command's holder may be there
-    /// already. The input takes the place of a spent one, if there is one; then it asks for memory only where a record is longer than
-    /// that one's.
-    pub fn to_input(
+    fn contents_over<const CAP: usize>(
         &self,
         alloc: Global,
         holder: Option<SharedCommand>,
-        spent: Option<Box<Input>>,
-    ) -> Result<Box<Input>, AllocError>
+        mut contents: Box<Contents<CAP>>,
+    ) -> Result<Box<Contents<CAP>>, AllocError>
         requires { IfSome holder (λ holder. holder ≡ self.now.command.now) }
-        ensures expected { IfOk result (λ input. IsOf input.value self.now) }
-        ensures parts { IfOk result (λ input. input.value.parts ≡ []) }
+        ensures expected { IfOk result (λ contents. IsOf contents.value.input self.now) }
+        ensures parts { IfOk result (λ contents. contents.value.input.parts ≡ []) }
+        ensures frames { IfOk result (λ contents. contents.value.frames.items ≡ []) }
+    {
+        self.write_over(alloc, holder, &mut contents.input)?;
+        contents.frames.clear();
+        Ok(contents)
+    }
+
+    /// All of it, the records copied and the command held: an input that has no parts yet, and no blocks. The command's holder
+    /// may be there already. It takes the place of a spent one, if there is one; then it asks for memory only where a record is
+    /// longer than that one's.
+    pub fn to_contents<const CAP: usize>(
+        &self,
+        alloc: Global,
+        holder: Option<SharedCommand>,
+        spent: Option<Box<Contents<CAP>>>,
+    ) -> Result<Box<Contents<CAP>>, AllocError>
+        requires { IfSome holder (λ holder. holder ≡ self.now.command.now) }
+        ensures expected { IfOk result (λ contents. IsOf contents.value.input self.now) }
+        ensures parts { IfOk result (λ contents. contents.value.input.parts ≡ []) }
+        ensures frames { IfOk result (λ contents. contents.value.frames.items ≡ []) }
     {
         match spent {
-            None => self.new_input(alloc, holder),
-            Some(input) => self.input_over(alloc, holder, input),
+            None => self.new_contents(alloc, holder),
+            Some(contents) => self.contents_over(alloc, holder, contents),
         }
     }
 }

@@ -1,70 +1,144 @@
 //! The job that answers a move once all parts are done.
-ghost use Rattle.std.specs.Prelude.{◌≡◌, true, Some, is_some, IfOk, flat_map};
+ghost use Rattle.std.specs.Prelude.{◌≡◌, ◌≤◌, true, [], Some, is_some, IfOk, flat_map, map, length, slice_index_or};
 ghost use Rattle.bs_board.specs.declared.boards.board.Board.{Board as AnyBoard};
 ghost use Rattle.bs_board.specs.declared.commands.command.Command.TheVariants as command;
 ghost use Rattle.bs_board.specs.boards.Legal.{IsLegal};
 ghost use Rattle.bs_board.specs.records.Kept.{IsLegalRecord};
 ghost use Rattle.bs_board.specs.records.Record.{record_of};
 ghost use Rattle.bs_game.specs.declared.view.View.{View as AnyView};
+ghost use Rattle.bs_game.specs.Law.{IsFitEffect};
 ghost use Rattle.bs_game.specs.Reasons.{is_move};
 ghost use Rattle.bs_game.specs.View.{answer_of};
 ghost use Rattle.bs_fiber.specs.declared.job.JobKind.TheVariants as kind;
 ghost use Rattle.bs_fiber.specs.Fit.{IsFitInput};
+ghost use Rattle.bs_fiber.specs.Frames.{frame_of};
 ghost use Rattle.bs_fiber.specs.Seeing.{IsSeen};
+ghost use Rattle.bs_fiber.specs.Tickets.{bytes_of, frames_in, names_of, with_added, worked_bytes};
+ghost use Rattle.bs_fiber.specs.Work.{IsWorked, piece_added};
 
+use crate::contents::LEAST_CAPACITY;
+use crate::frames::{read_all, write_record};
 use crate::input::Input;
-use bs_board::{Board, Command, Move, Snakes, kept_ground};
-use bs_game::{Answer, Record, joined_within};
+use crate::moved::Moved;
+use crate::out::Out;
+use crate::piece::Piece;
+use bs_board::{Board, Command, Move, kept_ground};
+use bs_game::{Answer, Effect, Record, joined_within};
+use bs_pool::Owned;
 use std::alloc::{AllocError, Global};
 
-/// The snakes of all parts, by their seats.
-fn all_seats(alloc: Global, parts: &[Snakes]) -> Result<Snakes, AllocError>
-    ensures { IfOk result (λ snakes. snakes ≡ flat_map (λ part. part) parts.now) }
-{
-    let mut seats = Vec::new(alloc);
-    for part in parts {
-        seats.append(&mut part.copy(alloc)?.into_vec())?;
-    }
-    Ok(Snakes::from_vec(seats))
-}
-
-/// The newest board with all its seats moved, of which no more is read than what is no snake.
-fn moved_board(alloc: Global, last: &Record, parts: &[Snakes]) -> Result<Board, AllocError>
-    requires { IsLegalRecord last.now }
+/// The newest board with all seats moved. The snakes are read from the parts' blocks, all else from
+/// the record.
+fn moved_board<const CAP: usize>(
+    alloc: Global,
+    last: &Record,
+    frames: &[Owned<CAP>],
+    parts: &[Moved],
+) -> Result<Board, AllocError>
+    requires last { IsLegalRecord last.now }
+    requires frames { bytes_of (frames_in frames.now) ≡ map frame_of parts.now }
     ensures { IfOk result (λ moved. (board : AnyBoard) → IsLegal board → last.now ≡ record_of board
         → moved ≡ record board { snakes = flat_map (λ part. part) parts.now }) }
 {
     let mut board = kept_ground(alloc, last.as_slice())?;
-    board.snakes = all_seats(alloc, parts)?;
+    board.snakes = read_all(alloc, frames, parts)?;
     Ok(board)
 }
 
-fn join_move(
+fn join_move<const CAP: usize>(
     alloc: Global,
     input: &Input,
+    frames: &[Owned<CAP>],
     orders: &Move,
     last: &Record,
 ) -> Result<Answer, AllocError>
     requires fit { IsFitInput input.now }
     requires kind { input.now.job.kind ≡ kind.Join }
+    requires frames { bytes_of (frames_in frames.now) ≡ map frame_of input.now.parts }
     requires command { input.now.command ≡ command.Move orders.now }
     requires last { input.now.last ≡ Some last.now }
-    ensures { IfOk result (λ answer. (view : AnyView) → IsSeen view input.now → answer ≡ answer_of view input.now.command) }
+    ensures value { IfOk result (λ answer. (view : AnyView) → IsSeen view input.now → answer ≡ answer_of view input.now.command) }
+    ensures fits { IfOk result (λ answer. IsFitEffect input.now.quota input.now.charge answer.effect) }
 {
-    let moved = moved_board(alloc, last, input.parts.as_slice())?;
+    let moved = moved_board(alloc, last, frames, input.parts.as_slice())?;
     joined_within(alloc, input.quota, input.charge, orders, moved)
 }
 
 /// The answer to a move that goes, from what its parts moved.
-pub(crate) fn join(alloc: Global, input: &Input) -> Result<Answer, AllocError>
+fn join<const CAP: usize>(
+    alloc: Global,
+    input: &Input,
+    frames: &[Owned<CAP>],
+) -> Result<Answer, AllocError>
     requires fit { IsFitInput input.now }
     requires kind { input.now.job.kind ≡ kind.Join }
+    requires frames { bytes_of (frames_in frames.now) ≡ map frame_of input.now.parts }
     requires goes { is_move input.now.command ≡ true }
     requires runs { is_some input.now.last ≡ true }
-    ensures { IfOk result (λ answer. (view : AnyView) → IsSeen view input.now → answer ≡ answer_of view input.now.command) }
+    ensures value { IfOk result (λ answer. (view : AnyView) → IsSeen view input.now → answer ≡ answer_of view input.now.command) }
+    ensures fits { IfOk result (λ answer. IsFitEffect input.now.quota input.now.charge answer.effect) }
 {
     match (input.command.get(), &input.last) {
-        (Command::Move(orders), Some(last)) => join_move(alloc, input, orders, last),
+        (Command::Move(orders), Some(last)) => join_move(alloc, input, frames, orders, last),
         _ => unreachable!(),
     }
+}
+
+/// Writes the record that the answer adds behind the bytes of part 0. The result is its piece.
+fn write_added<const CAP: usize>(
+    frames: &mut Vec<Owned<CAP>>,
+    parts: &[Moved],
+    effect: &Effect,
+    quota: u32,
+    charge: u32,
+) -> Option<Piece>
+    requires wide { LEAST_CAPACITY ≤ CAP }
+    requires frames { bytes_of (frames_in frames.old.items) ≡ map frame_of parts.now }
+    requires some { 1 ≤ length parts.now }
+    requires fits { IsFitEffect quota charge effect.now }
+    ensures piece { result ≡ piece_added effect.now (slice_index_or parts.now 0 []) }
+    ensures holds { bytes_of (frames_in frames.new.items) ≡ with_added effect.now (map frame_of parts.now) }
+    ensures names { names_of (frames_in frames.new.items) ≡ names_of (frames_in frames.old.items) }
+{
+    match effect {
+        Effect::Keep => None,
+        Effect::Add(record) => {
+            let bytes = record.as_slice();
+            parts[0].keeps();
+            let at = frames[0].block().len();
+            write_record(&mut frames[0], bytes);
+            Some(Piece {
+                at,
+                len: bytes.len(),
+            })
+        }
+        Effect::Trim => None,
+        Effect::Drop => None,
+    }
+}
+
+/// Joins the parts: the answer to the move, and its record in part 0's block.
+#[tactic(auto, using(crate::proofs::Joined::join_is_of_a_move, crate::proofs::Joined::join_has_a_board))]
+pub(crate) fn join_parts<const CAP: usize>(
+    alloc: Global,
+    input: &Input,
+    frames: &mut Vec<Owned<CAP>>,
+) -> Result<Out, AllocError>
+    requires wide { LEAST_CAPACITY ≤ CAP }
+    requires fit { IsFitInput input.now }
+    requires kind { input.now.job.kind ≡ kind.Join }
+    requires fresh { bytes_of (frames_in frames.old.items) ≡ map frame_of input.now.parts }
+    ensures worked { IfOk result (λ out. IsWorked input.now out) }
+    ensures holds { IfOk result (λ out. bytes_of (frames_in frames.new.items) ≡ worked_bytes input.now.parts out) }
+    ensures names { names_of (frames_in frames.new.items) ≡ names_of (frames_in frames.old.items) }
+{
+    let answer = join(alloc, input, frames.as_slice())?;
+    let piece = write_added(
+        frames,
+        input.parts.as_slice(),
+        &answer.effect,
+        input.quota,
+        input.charge,
+    );
+    Ok(Out::Joined(answer, piece))
 }

@@ -3,16 +3,20 @@
 #![tactic(auto)]
 
 mod beginning;
+mod contents;
 mod done;
 mod expected;
+mod frames;
 mod handed;
 mod input;
 mod job;
 mod joining;
+mod moved;
 mod moving;
 mod out;
 mod parted;
 mod parts;
+mod piece;
 mod shared;
 mod stopped;
 #[cfg(test)]
@@ -20,13 +24,16 @@ mod tests;
 mod ticket;
 mod viewing;
 
+pub use contents::{Contents, LEAST_CAPACITY};
 pub use done::{Done, work};
 pub use expected::Expected;
 pub use handed::{Handed, Holders};
 pub use input::Input;
 pub use job::{JobKind, JobName};
+pub use moved::Moved;
 pub use out::Out;
 pub use parts::Parts;
+pub use piece::{Piece, SEATS};
 pub use shared::SharedCommand;
 pub use stopped::Stopped;
 pub use ticket::Ticket;

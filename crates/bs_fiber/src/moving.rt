@@ -1,22 +1,26 @@
 //! The jobs that move the snakes, two seats each.
-ghost use Rattle.std.specs.Prelude.{◌≡◌, Option, IfOk, IfSome, All};
+ghost use Rattle.std.specs.Prelude.{◌≡◌, ◌≤◌, [], ◌∷◌, Option, IfOk, IfSome, All};
 ghost use Rattle.bs_board.specs.declared.boards.board.Board.{Board as AnyBoard};
 ghost use Rattle.bs_board.specs.boards.Wrap.{AreSides};
 ghost use Rattle.bs_board.specs.records.Kept.{IsLegalRecord};
 ghost use Rattle.bs_game.specs.declared.view.View.{View as AnyView};
 ghost use Rattle.bs_rules.specs.Motion.{IsMovable};
 ghost use Rattle.bs_fiber.specs.Fit.{IsFitGame};
+ghost use Rattle.bs_fiber.specs.Frames.{frame_of};
 ghost use Rattle.bs_fiber.specs.Seeing.{IsBoardOf, IsSeen};
+ghost use Rattle.bs_fiber.specs.Tickets.{bytes_of, frames_in, names_of};
 ghost use Rattle.bs_fiber.specs.Work.{moves_in, snakes_in, seats_of, wrap_in, moved_part};
 
+use crate::contents::LEAST_CAPACITY;
+use crate::frames::write_moved;
 use crate::input::Input;
+use crate::moved::Moved;
+use crate::piece::SEATS;
 use bs_board::{Command, Direction, Id, Snakes, kept_snakes, wrap_of_record};
 use bs_game::Record;
+use bs_pool::Owned;
 use bs_rules::move_snakes;
 use std::alloc::{AllocError, Global};
-
-/// How many seats a part has; the last one may have fewer.
-const SEATS: usize = 2;
 
 /// The seats of a part of the newest board, none where there is no such part. The other seats are not read.
 fn seats_of(alloc: Global, last: &Option<Record>, part: usize) -> Result<Snakes, AllocError>
@@ -55,12 +59,38 @@ fn moves_in(command: &Command) -> &[(Id, Direction)]
     }
 }
 
-/// The snakes of a part after the move, those that are out as they are.
-pub(crate) fn move_part(alloc: Global, input: &Input) -> Result<Snakes, AllocError>
+/// Moves the snakes of a part; those that are out stay as they are.
+fn move_seats(alloc: Global, input: &Input) -> Result<Snakes, AllocError>
     requires { IsFitGame input.now }
     ensures { IfOk result (λ moved. (view : AnyView) → IsSeen view input.now → moved ≡ moved_part input.now.job.part view input.now.command) }
 {
     let seats = seats_of(alloc, &input.last, input.job.part as usize)?;
     let moves = moves_in(input.command.get());
     move_snakes(alloc, seats.as_slice(), moves, wrap_in(&input.last))
+}
+
+/// Moves the snakes of a part, and makes their pieces.
+fn plan_moved(alloc: Global, input: &Input) -> Result<Moved, AllocError>
+    requires { IsFitGame input.now }
+    ensures { IfOk result (λ moved. (view : AnyView) → IsSeen view input.now → moved ≡ moved_part input.now.job.part view input.now.command) }
+{
+    Moved::new(alloc, move_seats(alloc, input)?)
+}
+
+/// Moves the snakes of a part, and writes them into the part's block.
+pub(crate) fn move_part<const CAP: usize>(
+    alloc: Global,
+    input: &Input,
+    frames: &mut Vec<Owned<CAP>>,
+) -> Result<Moved, AllocError>
+    requires wide { LEAST_CAPACITY ≤ CAP }
+    requires fit { IsFitGame input.now }
+    requires fresh { bytes_of (frames_in frames.old.items) ≡ [] ∷ [] }
+    ensures moved { IfOk result (λ moved. (view : AnyView) → IsSeen view input.now → moved ≡ moved_part input.now.job.part view input.now.command) }
+    ensures holds { IfOk result (λ moved. bytes_of (frames_in frames.new.items) ≡ frame_of moved ∷ []) }
+    ensures names { names_of (frames_in frames.new.items) ≡ names_of (frames_in frames.old.items) }
+{
+    let moved = plan_moved(alloc, input)?;
+    write_moved(&mut frames[0], &moved);
+    Ok(moved)
 }

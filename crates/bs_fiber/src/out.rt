@@ -1,16 +1,17 @@
-//! What a job comes to.
-use bs_board::Snakes;
+//! The output of a job.
+use crate::moved::Moved;
+use crate::piece::Piece;
 use bs_game::Answer;
 
-/// What a job comes to.
+/// The output of a job.
 #[derive(Debug, Drop)]
 pub enum Out {
     /// Begin: a move that nothing speaks against. Its parts are next.
     Goes,
     /// Begin: any other command is answered at once.
     Answered(Answer),
-    /// Part: its snakes, moved.
-    Moved(Snakes),
-    /// Join: the answer to the move.
-    Joined(Answer),
+    /// Part: its moved snakes, with their pieces of its block.
+    Moved(Moved),
+    /// Join: the answer to the move, and the piece of part 0's block with the record that it adds.
+    Joined(Answer, Option<Piece>),
 }

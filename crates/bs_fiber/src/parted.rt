@@ -16,8 +16,8 @@ fn part_of_job(job: JobName) -> usize
     }
 }
 
-impl Parted for Done {
-    ghost part_of = { part_of };
+impl<const CAP: usize> Parted for Done<CAP> {
+    ghost part_of = { λ done. part_of done.input };
 
     fn part(&self) -> usize {
         part_of_job(self.ticket().job())

@@ -1,11 +1,11 @@
 //! What the parts of a move hand to its Join.
-use bs_board::Snakes;
+use crate::moved::Moved;
 use std::marker::Model;
 
-/// The moved snakes of each part, from part 0.
+/// What each part moved, from part 0. Clauses see the snakes.
 #[derive(Debug, Drop)]
 pub struct Parts {
-    parts: Vec<Snakes>,
+    parts: Vec<Moved>,
 }
 
 impl Model for Parts {
@@ -21,14 +21,14 @@ impl Parts {
     ghost use Rattle.std.specs.Prelude.{◌≡◌};
 
     /// The list with those parts.
-    pub fn from_vec(parts: Vec<Snakes>) -> Parts
+    pub fn from_vec(parts: Vec<Moved>) -> Parts
         ensures { result ≡ parts.items }
     {
         Parts { parts }
     }
 
     /// The parts in their order.
-    pub fn as_slice(&self) -> &[Snakes]
+    pub fn as_slice(&self) -> &[Moved]
         ensures { result.now ≡ self.now }
     {
         self.parts.as_slice()

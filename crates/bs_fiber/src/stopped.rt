@@ -1,14 +1,10 @@
-//! What stands in a job's place where memory ran out.
-use std::alloc::AllocError;
+//! A job for which memory ran out.
+use bs_pool::Owned;
 use thiserror::Error;
 
-/// The job was given up for want of memory.
-#[derive(Clone, Copy, Debug, PartialEq, Eq, Error)]
+/// Memory ran out before the job was completed. The frame blocks of the job are returned.
+#[derive(Debug, Drop, Error)]
 #[error("out of memory")]
-pub struct Stopped;
-
-impl From<AllocError> for Stopped {
-    fn from(_error: AllocError) -> Stopped {
-        Stopped
-    }
+pub struct Stopped<const CAP: usize> {
+    pub blocks: Vec<Owned<CAP>>,
 }

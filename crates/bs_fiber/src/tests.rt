@@ -1,5 +1,6 @@
 //! The jobs of one move of three snakes, with the boards that the rules give.
 ghost use Rattle.std.specs.Prelude.{◌≡◌, ◌<◌, true, [], Some, None, IfOk, length};
+ghost use Rattle.bs_fiber.specs.Frames.{frame_of};
 ghost use Rattle.bs_board.specs.boards.Legal.{IsLegal};
 ghost use Rattle.bs_board.specs.records.Record.{record_of};
 ghost use Rattle.bs_board.specs.declared.commands.command.Command.TheVariants as command;
@@ -7,19 +8,22 @@ ghost use Rattle.bs_fiber.specs.Work.{goes, moved_part, parts_of};
 
 use crate::beginning::goes;
 use crate::{
-    Done, Expected, Handed, Holders, Input, JobKind, JobName, Out, Parts, SharedCommand, Ticket,
-    work,
+    Contents, Done, Expected, Handed, Holders, Input, JobKind, JobName, Moved, Out, Parts,
+    SharedCommand, Ticket, work,
 };
 use bs_board::{
     Board, Cells, Command, Direction, Id, Mode, Move, Moves, Point, Reply, Snake, Snakes,
     TurnNumber, Word, Words, encode, is_legal,
 };
 use bs_game::{Answer, Effect, Record, View};
+use bs_pool::{Owned, Pool};
 use std::alloc::{AllocError, Global};
 use std::process::Abort;
 use std::test::Fail;
 
 type Cell = (i16, i16);
+
+const CAP: usize = 524_288;
 
 fn cells(alloc: Global, parts: &[Cell]) -> Result<Cells, AllocError> {
     let mut cells = Cells::new(alloc);
@@ -88,9 +92,11 @@ fn input(
     command: Command,
     job: JobName,
     parts: Parts,
-) -> Result<Box<Input>, AllocError>
+    frames: Vec<Owned<CAP>>,
+) -> Result<Box<Contents<CAP>>, AllocError>
     requires { IsLegal last.now }
-    ensures { IfOk result (λ input. input.value ≡ record { job = job; worker = 1; seq = 2; quota = 4096; charge = 64; kept = 1; last = Some (record_of last.now); asked = None; command = command; parts = parts }) }
+    ensures frames { IfOk result (λ contents. contents.value.frames.items ≡ frames.items) }
+    ensures input { IfOk result (λ contents. contents.value.input ≡ record { job = job; worker = 1; seq = 2; quota = 4096; charge = 64; kept = 1; last = Some (record_of last.now); asked = None; command = command; parts = parts }) }
 {
     let input = Input {
         job,
@@ -104,7 +110,7 @@ fn input(
         command: SharedCommand::new(alloc, command)?,
         parts,
     };
-    Ok(Box::new(alloc, input)?)
+    Ok(Box::new(alloc, Contents { input, frames })?)
 }
 
 fn job(kind: JobKind, part: u8) -> JobName
@@ -115,6 +121,12 @@ fn job(kind: JobKind, part: u8) -> JobName
         kind,
         part,
     }
+}
+
+fn no_frames(alloc: Global) -> Vec<Owned<CAP>>
+    ensures { result.items ≡ [] }
+{
+    Vec::new(alloc)
 }
 
 fn no_parts(alloc: Global) -> Parts
@@ -144,11 +156,18 @@ fn shared_move(alloc: Global) -> Result<SharedCommand, AllocError> {
 }
 
 // The job that begins the move of the third snake, done.
-fn begun(rt: &impl Abort, alloc: Global, last: &Board) -> Result<Done, Fail> {
+fn begun(rt: &impl Abort, alloc: Global, last: &Board) -> Result<Done<CAP>, Fail> {
     assert!(rt; is_legal(last));
     let command = Command::Move(third_goes_down(alloc)?);
     let begin = job(JobKind::Begin, 0);
-    let input = input(alloc, last, command, begin, no_parts(alloc))?;
+    let input = input(
+        alloc,
+        last,
+        command,
+        begin,
+        no_parts(alloc),
+        no_frames(alloc),
+    )?;
     Ok(work(alloc, Ticket::new(input))?)
 }
 
@@ -199,7 +218,8 @@ fn an_expected_input_is_copied(rt: HostRuntime) -> Result<(), Fail> {
         asked: Some(&[9]),
         command: &show,
     };
-    let input = expected.to_input(alloc, None, None)?;
+    let contents = expected.to_contents::<CAP>(alloc, None, None)?;
+    let input = &contents.input;
     assert_eq!(rt; (input.worker, input.seq, input.kept), (1, 2, 1));
     assert!(rt; matches!(&input.last, Some(bytes) if bytes.as_slice() == [7, 8].as_slice()));
     assert!(rt; matches!(&input.asked, Some(bytes) if bytes.as_slice() == [9].as_slice()));
@@ -214,7 +234,8 @@ fn an_expected_input_is_copied(rt: HostRuntime) -> Result<(), Fail> {
         command: &end,
         ..expected
     };
-    let input = later.to_input(alloc, Some(end.share()?), Some(input))?;
+    let contents = later.to_contents(alloc, Some(end.share()?), Some(contents))?;
+    let input = &contents.input;
     assert_eq!(rt; (input.worker, input.seq, input.kept), (1, 3, 1));
     assert!(rt; matches!(&input.last, Some(bytes) if bytes.as_slice() == [4, 5, 6].as_slice()));
     assert!(rt; input.asked.is_none());
@@ -252,7 +273,14 @@ fn begin_answers_show(rt: HostRuntime) -> Result<(), Fail> {
     let last = before(alloc)?;
     assert!(rt; is_legal(&last));
     let begin = job(JobKind::Begin, 0);
-    let input = input(alloc, &last, Command::Show, begin, no_parts(alloc))?;
+    let input = input(
+        alloc,
+        &last,
+        Command::Show,
+        begin,
+        no_parts(alloc),
+        no_frames(alloc),
+    )?;
     let (_, out) = work(alloc, Ticket::new(input))?.into_parts();
     let Out::Answered(
         Answer {
@@ -302,10 +330,13 @@ fn part_moved(
     last: &Board,
     orders: &Move,
     part: u8,
-) -> Result<Snakes, Fail>
+    owned: Owned<CAP>,
+) -> Result<(Moved, Owned<CAP>), Fail>
     requires legal { IsLegal last.now }
     requires view { view.now ≡ record { quota = 4096; charge = 64; kept = 1; last = Some last.now; asked = None } }
-    ensures { IfOk result (λ moved. moved ≡ moved_part part view.now (command.Move orders.now)) }
+    requires empty { owned.block ≡ [] }
+    ensures moved { IfOk result (λ back. back.0 ≡ moved_part part view.now (command.Move orders.now)) }
+    ensures holds { IfOk result (λ back. back.1.block ≡ frame_of back.0) }
 {
     let command = Command::Move(orders.copy(alloc)?);
     assert_goes(rt, view, &command);
@@ -316,13 +347,18 @@ fn part_moved(
         command,
         job(JobKind::Part, part),
         no_parts(alloc),
+        vec![in alloc; owned]?,
     )?;
-    let (_, out) = work(alloc, Ticket::new(input))?.into_parts();
+    let (ticket, out) = work(alloc, Ticket::new(input))?.into_parts();
+    let mut contents = ticket.into_contents();
     match out {
-        Out::Moved(moved) => Ok(moved),
+        Out::Moved(moved) => match contents.frames.pop() {
+            Some(owned) => Ok((moved, owned)),
+            None => Err(Fail::from("no block")),
+        },
         Out::Goes => Err(Fail::from("no part")),
         Out::Answered(_) => Err(Fail::from("no part")),
-        Out::Joined(_) => Err(Fail::from("no part")),
+        Out::Joined(_, _) => Err(Fail::from("no part")),
     }
 }
 
@@ -333,18 +369,22 @@ fn join_done(
     view: &View,
     last: &Board,
     orders: &Move,
-    moved: (Snakes, Snakes),
-) -> Result<Done, Fail>
+    moved: (Moved, Moved),
+    blocks: (Owned<CAP>, Owned<CAP>),
+) -> Result<Done<CAP>, Fail>
     requires legal { IsLegal last.now }
     requires three { length last.now.snakes ≡ 3 }
     requires view { view.now ≡ record { quota = 4096; charge = 64; kept = 1; last = Some last.now; asked = None } }
     requires first { moved.0 ≡ moved_part 0 view.now (command.Move orders.now) }
     requires second { moved.1 ≡ moved_part 1 view.now (command.Move orders.now) }
+    requires first_holds { blocks.0.block ≡ frame_of moved.0 }
+    requires second_holds { blocks.1.block ≡ frame_of moved.1 }
 {
     let command = Command::Move(orders.copy(alloc)?);
     assert_goes(rt, view, &command);
     let parts = Parts::from_vec(vec![in alloc; moved.0, moved.1]?);
-    let input = input(alloc, last, command, job(JobKind::Join, 0), parts)?;
+    let frames = vec![in alloc; blocks.0, blocks.1]?;
+    let input = input(alloc, last, command, job(JobKind::Join, 0), parts, frames)?;
     let done = work(alloc, Ticket::new(input))?;
     Ok(done)
 }
@@ -364,6 +404,7 @@ fn assert_joined(rt: &impl Abort, alloc: Global, out: &Out) -> Result<(), Fail> 
             reply: Reply::Shown(Word::Move, shown, 128),
             effect: Effect::Add(record),
         },
+        Some(_),
     ) = out
     else {
         return Err(Fail::from("not joined"));
@@ -381,8 +422,19 @@ fn two_parts_are_joined(rt: HostRuntime) -> Result<(), Fail> {
     assert_eq!(rt; last.snakes.len(), 3);
     let view = view_on(alloc, &last)?;
     let orders = third_goes_down(alloc)?;
-    let first = part_moved(&rt, alloc, &view, &last, &orders, 0)?;
-    let second = part_moved(&rt, alloc, &view, &last, &orders, 1)?;
+    let mut pool = Pool::<CAP>::open(alloc, 4)?;
+    assert_eq!(rt; pool.reserve(1, 4), Ok(()));
+    let one = pool.draw(1).ok_or("a first block")?;
+    let two = pool.draw(1).ok_or("a second block")?;
+    let (first, one) = part_moved(&rt, alloc, &view, &last, &orders, 0, one)?;
+    let (second, two) = part_moved(&rt, alloc, &view, &last, &orders, 1, two)?;
+    assert_eq!(rt; first.pieces().len(), 2);
+    assert_eq!(rt; one.block().len(), 32);
+    assert_eq!(rt;
+        one.block().get(0, 15),
+        [1, 115, 99, 0, 0, 0, 0, 0, 3, 2, 3, 2, 2, 2, 2].as_slice()
+    );
+    assert_eq!(rt; two.block().len(), 16);
     match (first.as_slice(), second.as_slice()) {
         ([s, t], [u]) => {
             assert_snake(&rt, s, 99, Point { x: 1, y: 2 }, 3);
@@ -391,7 +443,22 @@ fn two_parts_are_joined(rt: HostRuntime) -> Result<(), Fail> {
         }
         _ => assert!(rt; false, "not two snakes and one"),
     }
-    let done = join_done(&rt, alloc, &view, &last, &orders, (first, second))?;
+    let done = join_done(
+        &rt,
+        alloc,
+        &view,
+        &last,
+        &orders,
+        (first, second),
+        (one, two),
+    )?;
     assert_eq!(rt; done.ticket().parts().len(), 2);
-    assert_joined(&rt, alloc, done.out())
+    assert_joined(&rt, alloc, done.out())?;
+    let next = after(alloc)?;
+    assert!(rt; is_legal(&next));
+    let added = done.added().ok_or("a record in part 0's block")?;
+    assert_eq!(rt; added, encode(alloc, &next)?.as_slice());
+    assert_eq!(rt; done.ticket().frames()[0].number(), 0);
+    assert_eq!(rt; done.ticket().frames()[1].block().len(), 16);
+    Ok(())
 }

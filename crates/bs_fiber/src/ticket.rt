@@ -2,11 +2,14 @@
 ghost use Rattle.std.specs.Prelude.{◌≡◌, ◌↔◌, IsTrue, option_map};
 ghost use Rattle.bs_fiber.specs.Expected.{HasNumbersOf, HasContentsOf, IsOf};
 
+use crate::contents::{Contents, LEAST_CAPACITY};
 use crate::expected::Expected;
 use crate::input::Input;
 use crate::job::JobName;
-use bs_board::{Command, Snakes};
+use crate::moved::Moved;
+use bs_board::Command;
 use bs_game::Record;
+use bs_pool::Owned;
 use std::marker::Model;
 
 fn is_same_record(kept: &Option<Record>, expected: &Option<&[u8]>) -> bool
@@ -39,127 +42,148 @@ fn has_contents_of(input: &Input, expected: &Expected) -> bool
         && input.command.get().is_same(expected.command.get())
 }
 
-/// A job to be worked, with a copy of all that it reads. That lies behind a pointer, since a ticket is moved from hand to
-/// hand and an input has more than a hundred bytes. Clauses see its input.
+/// A job to be worked, with a copy of all that it reads and with its frame blocks. These lie behind a pointer, since a ticket
+/// is moved from hand to hand and they have more than a hundred bytes. Clauses see its input and its blocks.
 #[derive(Debug, Drop)]
-pub struct Ticket {
-    input: Box<Input>,
+pub struct Ticket<const CAP: usize> {
+    contents: Box<Contents<CAP>>,
 }
 
-impl Model for Ticket {
-    ghost use Rattle.bs_fiber.specs.declared.input.Input.{Input};
-    ghost use Rattle.bs_fiber.specs.Fit.{IsFitInput};
+impl<const CAP: usize> Model for Ticket<CAP> {
+    ghost use Rattle.bs_fiber.specs.Tickets.{TicketView, IsTicket, ticket_in};
 
-    ghost Value = { Input };
+    ghost Value = { TicketView };
 
-    ghost view = { λ t. t.input.value };
+    ghost view = { λ t. ticket_in t.contents.value };
 
-    ghost invariant = { λ t. IsFitInput t.input.value };
+    ghost invariant = { λ t. IsTicket CAP t.contents.value };
 }
 
-impl Ticket {
+impl<const CAP: usize> Ticket<CAP> {
+    ghost use Rattle.std.specs.Prelude.{◌≤◌};
     ghost use Rattle.bs_fiber.specs.Fit.{IsFitInput};
+    ghost use Rattle.bs_fiber.specs.Tickets.{IsFresh, IsTicket, ticket_in, frames_in};
 
     /// The records are those of legal boards, one that is asked for comes with a `turn` alone, and the charge is within
-    /// the quota. A Part or a Join is of a move that goes, and a Join alone has parts: what each of them moved.
-    pub fn new(input: Box<Input>) -> Ticket
-        requires { IsFitInput input.value }
-        ensures { result ≡ input.value }
+    /// the quota. A Part or a Join is of a move that goes. A Part has an empty block; a Join alone has parts, what each of
+    /// them moved, and their blocks as they wrote them.
+    pub fn new(contents: Box<Contents<CAP>>) -> Ticket<CAP>
+        requires wide { LEAST_CAPACITY ≤ CAP }
+        requires fit { IsFitInput contents.value.input }
+        requires fresh { IsFresh (ticket_in contents.value) }
+        ensures { result ≡ ticket_in contents.entry.value }
     {
-        Ticket { input }
+        Ticket { contents }
     }
 
-    /// The input, with the memory that holds it.
-    pub fn into_input(self) -> Box<Input>
-        ensures { result.value ≡ self }
+    /// A ticket again, whose blocks may have been written.
+    pub(crate) fn again(contents: Box<Contents<CAP>>) -> Ticket<CAP>
+        requires { IsTicket CAP contents.value }
+        ensures { result ≡ ticket_in contents.entry.value }
     {
-        let Ticket { input } = self;
-        input
+        Self { contents }
     }
 
-    /// All of its parts at once.
+    /// What it holds, with the memory that holds it.
+    pub fn into_contents(self) -> Box<Contents<CAP>>
+        ensures value { ticket_in result.value ≡ self.entry }
+        ensures fit { IsTicket CAP result.value }
+    {
+        let Ticket { contents } = self;
+        contents
+    }
+
+    /// All that the job reads but for its blocks.
     pub(crate) fn input(&self) -> &Input
-        ensures value { result.now ≡ self.now }
-        ensures fit { IsFitInput self.now }
+        ensures value { result.now ≡ self.now.input }
+        ensures fit { IsFitInput self.now.input }
     {
-        &self.input
+        &self.contents.input
+    }
+
+    /// Its frame blocks: a part's own, or for a Join those of all parts.
+    pub fn frames(&self) -> &[Owned<CAP>]
+        ensures value { frames_in result.now ≡ self.now.frames }
+        ensures fit { IsFitInput self.now.input }
+    {
+        self.contents.frames.as_slice()
     }
 
     /// What is to be done.
     pub fn job(&self) -> JobName
-        ensures { result ≡ self.now.job }
+        ensures { result ≡ self.now.input.job }
     {
-        self.input.job
+        self.contents.input.job
     }
 
     /// The worker that took it.
     pub fn worker(&self) -> u32
-        ensures { result ≡ self.now.worker }
+        ensures { result ≡ self.now.input.worker }
     {
-        self.input.worker
+        self.contents.input.worker
     }
 
     /// The number of the command in its game, from 1.
     pub fn seq(&self) -> u64
-        ensures { result ≡ self.now.seq }
+        ensures { result ≡ self.now.input.seq }
     {
-        self.input.seq
+        self.contents.input.seq
     }
 
     /// What the game's records may be charged at most, in bytes.
     pub fn quota(&self) -> u32
-        ensures { result ≡ self.now.quota }
+        ensures { result ≡ self.now.input.quota }
     {
-        self.input.quota
+        self.contents.input.quota
     }
 
     /// What the kept records are charged, in bytes.
     pub fn charge(&self) -> u32
-        ensures { result ≡ self.now.charge }
+        ensures { result ≡ self.now.input.charge }
     {
-        self.input.charge
+        self.contents.input.charge
     }
 
     /// How many turns are kept.
     pub fn kept(&self) -> usize
-        ensures { result ≡ self.now.kept }
+        ensures { result ≡ self.now.input.kept }
     {
-        self.input.kept
+        self.contents.input.kept
     }
 
     /// The record of the newest board.
     pub fn last(&self) -> Option<&Record>
-        ensures { option_map (λ kept. kept.now) result ≡ self.now.last }
+        ensures { option_map (λ kept. kept.now) result ≡ self.now.input.last }
     {
-        self.input.last.as_ref()
+        self.contents.input.last.as_ref()
     }
 
     /// The record of the turn that the command asks for, where that is kept.
     pub fn asked(&self) -> Option<&Record>
-        ensures { option_map (λ kept. kept.now) result ≡ self.now.asked }
+        ensures { option_map (λ kept. kept.now) result ≡ self.now.input.asked }
     {
-        self.input.asked.as_ref()
+        self.contents.input.asked.as_ref()
     }
 
     /// The command that the game is at.
     pub fn command(&self) -> &Command
-        ensures { result.now ≡ self.now.command }
+        ensures { result.now ≡ self.now.input.command }
     {
-        self.input.command.get()
+        self.contents.input.command.get()
     }
 
     /// What each part moved, from part 0.
-    pub fn parts(&self) -> &[Snakes]
-        ensures { result.now ≡ self.now.parts }
+    pub fn parts(&self) -> &[Moved]
+        ensures { result.now ≡ self.now.input.parts }
     {
-        self.input.parts.as_slice()
+        self.contents.input.parts.as_slice()
     }
 
     /// Whether all that it holds but for its parts is what was expected.
     pub fn is_of(&self, expected: &Expected) -> bool
-        ensures value { IsTrue result ↔ IsOf self.now expected.now }
-        ensures fit { IsFitInput self.now }
+        ensures value { IsTrue result ↔ IsOf self.now.input expected.now }
+        ensures fit { IsFitInput self.now.input }
     {
-        has_numbers_of(&self.input, expected) && has_contents_of(&self.input, expected)
+        has_numbers_of(self.input(), expected) && has_contents_of(self.input(), expected)
     }
 }

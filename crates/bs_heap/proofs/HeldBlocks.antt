@@ -13,7 +13,7 @@ use Rattle.bs_heap.specs.Packing.{Use, Place, Packing, fits, with_block, with_pl
 use Rattle.bs_heap.specs.HeldBlocks.{AreOwned, Holds, IsKeptIn, LeavesOthers, all_given}
 
 -- a number that is drawn next is nobody's
-not_free : (tag m n : ℕ) (pool : Ledger) → least_free pool ≡ Some n → Owns tag m pool → m ≢ n
+pub not_free : (tag m n : ℕ) (pool : Ledger) → least_free pool ≡ Some n → Owns tag m pool → m ≢ n
 not_free tag m n pool at owns same =
     let found = (position-Some is_unowned pool.owners n None at).1 in
     let here : slice_get pool.owners n ≡ Some (Some tag) = rw (← same) owns in

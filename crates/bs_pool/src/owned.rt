@@ -3,6 +3,7 @@ ghost use Rattle.std.specs.Prelude.{◌≡◌};
 ghost use Rattle.std.specs.Borrow.{sem};
 
 use bs_block::Block;
+use std::fmt;
 
 /// One block of a pool, handed out to a tag. Only `Pool::draw` makes one, and it cannot be copied, so its holder alone
 /// reads and writes the block. It goes back by `Pool::give`; one that is dropped stays owned in its pool.
@@ -57,5 +58,11 @@ impl<const CAP: usize> Owned<CAP> {
         ensures value { result.now ≡ self.old.block }
     {
         &mut self.block
+    }
+}
+
+impl<const CAP: usize> fmt::Debug for Owned<CAP> {
+    fn fmt<W: fmt::Write>(&self, f: &mut fmt::Formatter<W>) -> fmt::Result {
+        write!(f, "block {} of tag {}", self.number, self.tag)
     }
 }

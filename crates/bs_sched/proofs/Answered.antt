@@ -41,8 +41,8 @@ fit_command x right busy =
 
 -- the answer that the definition gives to the command that the lane is at
 pub told : (x : Lane) → IsRight x → is_idle x.stage ≡ false
-    → IsAnswerTo x.quota x.game (lane_outcome x) (answer_of (lane_view x) (lane_command x))
-told x right busy = answers_the_game x.quota x.game (lane_command x) right.right right.within (fit_command x right busy)
+    → IsAnswerTo x.row.quota x.game (lane_outcome x) (answer_of (lane_view x) (lane_command x))
+told x right busy = answers_the_game x.row.quota x.game (lane_command x) right.right right.within (fit_command x right busy)
 
 pub told_reply : (x : Lane) (answer : Answer) → IsRight x → is_idle x.stage ≡ false → answer ≡ answer_of (lane_view x) (lane_command x)
     → answer.reply ≡ (lane_outcome x).reply

@@ -15,7 +15,7 @@ use Rattle.bs_sched.specs.declared.event.Event.TheVariants as event
 use Rattle.bs_sched.specs.declared.stage.Stage.{Stage}
 use Rattle.bs_sched.specs.declared.stage.Stage.TheVariants as stage
 use Rattle.bs_sched.specs.Busy.{IsBusyTable, held_by, lanes_held, marked, one_if}
-use Rattle.bs_sched.specs.Lane.{Lane, empty_lane, goes_on, is_idle, is_in_parts, is_to_join, is_part_done, has_begin, has_join, is_ready, is_out, occupies, forked, answered, with_waiting, with_taken, with_put}
+use Rattle.bs_sched.specs.Lane.{Lane, empty_lane, no_lane, goes_on, is_idle, is_in_parts, is_to_join, is_part_done, has_begin, has_join, is_ready, is_out, occupies, forked, answered, with_waiting, with_taken, with_put}
 use Rattle.bs_sched.specs.Machine.{lane_of, lane_effect, is_busy, is_enabled}
 
 not_true : (b : Bool) → not b ≡ true → b ≡ false
@@ -107,10 +107,10 @@ put_held x worker kind.Join p w out =
 
 -- of all lanes
 
-none_held : (w : ℕ) (rows : List GameRow) → lanes_held w (map (λ (row : GameRow). empty_lane row.quota) rows) ≡ 0
+none_held : (w : ℕ) (rows : List GameRow) → lanes_held w (map (λ (row : GameRow). empty_lane row) rows) ≡ 0
 none_held w [] = refl
 none_held w (row ∷ rows) =
-    let sum = sum_by-cons (held_by w) (empty_lane row.quota) (map (λ (each : GameRow). empty_lane each.quota) rows) in
+    let sum = sum_by-cons (held_by w) (empty_lane row) (map (λ (each : GameRow). empty_lane each) rows) in
     let rest = none_held w rows in
     omega (arith, sum, rest)
 
@@ -173,7 +173,7 @@ hand_marks_none workers lanes busy game command within table =
     record {
       many = table.many;
       each = λ w bound.
-          let sum = sum_by-set (held_by w) lanes game (with_waiting command (lane_of lanes game)) (empty_lane 0) within in
+          let sum = sum_by-set (held_by w) lanes game (with_waiting command (lane_of lanes game)) no_lane within in
           let was = table.each w bound in
           omega (arith, sum, was);
     }
@@ -214,7 +214,7 @@ take_marks workers lanes busy worker job enabled table =
     let free = not_true (is_busy worker lanes) (and_both (nat_le worker workers) (not (is_busy worker lanes)) hands.1).1 in
     mark_taken workers lanes (lane_effect lanes (event.Take worker job)) busy job.kind worker free
     (λ w. let here = taken_held x worker job.kind job.part w hands.0 in
-    let sum = sum_by-set (held_by w) lanes job.game (with_taken worker job.kind job.part x) (empty_lane 0) within in
+    let sum = sum_by-set (held_by w) lanes job.game (with_taken worker job.kind job.part x) no_lane within in
     omega (arith, sum, here)) table
 
 unmark_one : (workers : ℕ) (lanes new : List Lane) (busy : List Bool) (worker : ℕ)
@@ -253,7 +253,7 @@ put_marks workers lanes busy worker job enabled table =
     let out : is_out worker x job.kind job.part ≡ true = (and_both _ _ both.1).0 in
     mark_put workers lanes (lane_effect lanes (event.Put worker job)) busy job.kind worker
     (λ w. let here = put_held x worker job.kind job.part w out in
-    let sum = sum_by-set (held_by w) lanes job.game (with_put job.kind job.part x) (empty_lane 0) within in
+    let sum = sum_by-set (held_by w) lanes job.game (with_put job.kind job.part x) no_lane within in
     omega (arith, sum, here)) table
 
 none_there : (n w : ℕ) → slice_index_or (replicate n false) w false ≡ false
@@ -262,7 +262,7 @@ none_there zero (suc w) = refl
 none_there (suc n) zero = refl
 none_there (suc n) (suc w) = none_there n w
 
-pub none_marked : (workers : ℕ) (rows : List GameRow) → IsBusyTable workers (map (λ (row : GameRow). empty_lane row.quota) rows) (replicate (workers + 1) false)
+pub none_marked : (workers : ℕ) (rows : List GameRow) → IsBusyTable workers (map (λ (row : GameRow). empty_lane row) rows) (replicate (workers + 1) false)
 none_marked workers rows =
     record {
       many = length-replicate (workers + 1) false;

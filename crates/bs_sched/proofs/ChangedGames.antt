@@ -1,13 +1,13 @@
 -- A core of which one game has changed.
 use Rattle.std.proofs.Common.{◌≡◌, ℕ, ◌<◌, ◌≤◌, true, List, length, map, refl, sym, ap, subst, ◌∙◌, get_or, Result, Ok, Err}
-use Rattle.std.specs.Prelude.{slice_set, OnOk, OnErr}
+use Rattle.std.specs.Prelude.{[], Option, None, Some, replicate, slice_index_or, slice_set, OnOk, OnErr}
 use Rattle.bs_board.specs.declared.commands.command.Command.{Command}
 use Rattle.std.proofs.lemmas.List.{map-set, length-set, set-get_or}
 use Rattle.std.proofs.Math.Seq.{map-set_same}
 use Rattle.std.proofs.Math.ListN.{get_or-map}
 use Rattle.std.proofs.lemmas.Option.{slice_get_read, get_or_from_slice_get}
 use Rattle.bs_heap.specs.Heap.{Heap, empty_heap, with_index_room}
-use Rattle.bs_heap.specs.HeldBlocks.{IsKeptIn, next_number}
+use Rattle.bs_heap.specs.HeldBlocks.{IsKeptIn, all_given, next_number}
 use Rattle.bs_heap.specs.Charge.{blocks_for}
 use Rattle.bs_board.specs.records.Record.{record_of}
 use Rattle.bs_sched.specs.Insides.{may_answer}
@@ -15,28 +15,77 @@ use Rattle.bs_heap.specs.Packing.{no_packing}
 use Rattle.bs_pool.specs.Ledger.{Ledger, reserved}
 use Rattle.bs_game.specs.declared.reply.Effect.{Effect}
 use Rattle.bs_game.specs.declared.reply.Effect.TheVariants as effect
-use Rattle.bs_sched.specs.GamesLayout.{storage_in, heap_of, AreHeapsOf, IsHeapOf, IsSound}
+use Rattle.bs_sched.specs.GamesLayout.{storage_in, frames_at, heap_of, AreHeapsOf, IsHeapOf, IsSound}
 use Rattle.bs_sched.specs.declared.games.Games.TheInside.{Inside}
-use Rattle.bs_sched.proofs.Heaps.{changed_lane, changed_heaps, unchanged_pool}
+use Rattle.std.specs.List.{range_with_len}
+use Rattle.bs_counter.specs.Keys.{Key}
+use Rattle.bs_fiber.specs.Frames.{frame_of}
+use Rattle.bs_fiber.specs.Work.{moved_part}
+use Rattle.bs_game.specs.declared.view.View.{View}
+use Rattle.bs_fiber.specs.declared.job.JobKind.{JobKind}
+use Rattle.bs_fiber.specs.declared.job.JobKind.TheVariants as kind
+use Rattle.bs_sched.specs.declared.stage.PartState.{PartState}
+use Rattle.bs_sched.specs.declared.stage.PartState.TheVariants as part
+use Rattle.bs_sched.specs.declared.stage.Stage.{Stage}
+use Rattle.bs_sched.specs.declared.stage.Stage.TheVariants as stage
+use Rattle.bs_sched.specs.Frames.{FramesView, AreFramesAt, AreFramesOf, LeavesBut, frames_taken, known, no_frames, pool_taken}
+use Rattle.bs_sched.specs.Games.{storage_taken}
+use Rattle.bs_sched.proofs.ChangedFrames.{changed_frames, changed_lane_frames, leaves_all}
+use Rattle.bs_sched.proofs.Heaps.{changed_lane, changed_heaps}
+use Rattle.bs_sched.proofs.PartFrames.{same_frame}
 use Rattle.std.specs.Vec.{with_item}
-use Rattle.bs_sched.specs.Lane.{Lane, empty_lane, with_waiting}
+use Rattle.bs_sched.specs.Lane.{Lane, no_lane, lane_command, lane_view, part_at, with_waiting}
 use Rattle.bs_sched.specs.Machine.{lane_of}
-use Rattle.bs_sched.specs.Storage.{Storage, packing_of, packing_after, pool_after, record_tag, stored}
+use Rattle.bs_sched.specs.Storage.{Storage, frame_tag, frames_of, packing_of, packing_after, pool_after, record_tag, stored, with_parts, without_frames}
 
 -- what is read at a place within a list is there whatever stands behind its end
 pub read_at : {X : Type 0} (xs : List X) (i : ℕ) (x d : X) → i < length xs → x ≡ get_or xs i x → x ≡ get_or xs i d
 read_at xs i x d within is = sym (get_or_from_slice_get xs i x d (slice_get_read xs (length xs) i x refl within is))
 
--- where the records of a game lie after its heap and the pool have changed
-pub changed_storage : (cap game : ℕ) (heaps : List Heap) (pool pool' : Ledger) (heap new : Heap) (effect : Effect) → heap ≡ heap_of heaps game
-    → new.packing ≡ packing_after cap (next_number pool) effect heap.packing → pool' ≡ pool_after cap (record_tag game) effect heap.packing pool
-    → storage_in (slice_set heaps game new) pool' ≡ stored cap game effect (storage_in heaps pool)
-changed_storage cap game heaps pool pool' heap new effect is packing drawn =
-    let there : packing_of (storage_in heaps pool) game ≡ heap.packing
+-- the numbers of a game's frame blocks, in all of them
+changed_numbers : (game : ℕ) (frames : List FramesView) (h : FramesView)
+    → map (λ (f : FramesView). f.numbers) (slice_set frames game h) ≡ slice_set (map (λ (f : FramesView). f.numbers) frames) game h.numbers
+changed_numbers game frames h = map-set (λ (f : FramesView). f.numbers) frames game h
+
+pub numbers_there : (game : ℕ) (heaps : List Heap) (frames : List FramesView) (pool : Ledger) (f : FramesView) → f ≡ frames_at frames game
+    → frames_of (storage_in heaps frames pool) game ≡ f.numbers
+numbers_there game heaps frames pool f is = get_or-map (λ (f : FramesView). f.numbers) frames game (no_frames 0) ∙ ap (λ (f : FramesView). f.numbers) (sym is)
+
+-- where the records and the frame blocks of a game lie after its command was answered
+pub changed_storage : (cap game : ℕ) (heaps : List Heap) (frames : List FramesView) (pool pool' : Ledger) (heap new : Heap) (f h : FramesView) (effect : Effect)
+    → heap ≡ heap_of heaps game → f ≡ frames_at frames game → new.packing ≡ packing_after cap (next_number pool) effect heap.packing → h.numbers ≡ []
+    → pool' ≡ all_given (known f.numbers) (pool_after cap (record_tag game) effect heap.packing pool)
+    → storage_in (slice_set heaps game new) (slice_set frames game h) pool' ≡ without_frames game (stored cap game effect (storage_in heaps frames pool))
+changed_storage cap game heaps frames pool pool' heap new f h effect is f_is packing none drawn =
+    let there : packing_of (storage_in heaps frames pool) game ≡ heap.packing
     = get_or-map (λ (h : Heap). h.packing) heaps game (empty_heap 0 0) ∙ ap (λ (h : Heap). h.packing) (sym is) in
+    let at = numbers_there game heaps frames pool f f_is in
     let all : map (λ (h : Heap). h.packing) (slice_set heaps game new) ≡ slice_set (map (λ (h : Heap). h.packing) heaps) game new.packing
     = map-set (λ (h : Heap). h.packing) heaps game new in
-    rw (all, packing, drawn, ← there) refl
+    rw (all, changed_numbers game frames h, packing, none, drawn, ← there, ← at) refl
+
+-- a move goes in its parts
+pub forked_storage : (game parts : ℕ) (heaps : List Heap) (frames : List FramesView) (pool : Ledger) (h : FramesView) → h.numbers ≡ replicate parts None
+    → storage_in heaps (slice_set frames game h) pool ≡ with_parts game parts (storage_in heaps frames pool)
+forked_storage game parts heaps frames pool h fresh = rw (changed_numbers game frames h, fresh) refl
+
+-- no block is drawn, and none goes back
+pub same_numbers : (game : ℕ) (frames : List FramesView) (f h : FramesView) → f ≡ frames_at frames game → h.numbers ≡ f.numbers
+    → map (λ (f : FramesView). f.numbers) (slice_set frames game h) ≡ map (λ (f : FramesView). f.numbers) frames
+same_numbers game frames f h is same = map-set_same (λ (f : FramesView). f.numbers) frames game h (no_frames 0) (same ∙ ap (λ (f : FramesView). f.numbers) is)
+
+-- a job is taken
+pub taken_storage_is : (k : JobKind) (game p : ℕ) (heaps : List Heap) (frames : List FramesView) (pool pool' : Ledger) (keys : List Key) (f h : FramesView)
+    → f ≡ frames_at frames game → f.tag ≡ frame_tag game → h ≡ frames_taken k p (next_number pool) keys f → pool' ≡ pool_taken k f.tag (next_number pool) pool
+    → storage_in heaps (slice_set frames game h) pool' ≡ storage_taken k game p (storage_in heaps frames pool)
+taken_storage_is kind.Begin game p heaps frames pool pool' keys f h is tag taken drawn =
+    rw (same_numbers game frames f h is (ap (λ (f : FramesView). f.numbers) taken), drawn) refl
+taken_storage_is kind.Part game p heaps frames pool pool' keys f h is tag taken drawn =
+    let at = numbers_there game heaps frames pool f is in
+    let numbers : h.numbers ≡ slice_set f.numbers p (Some (next_number pool)) = ap (λ (f : FramesView). f.numbers) taken in
+    rw (changed_numbers game frames h, numbers, drawn, tag, ← at) refl
+taken_storage_is kind.Join game p heaps frames pool pool' keys f h is tag taken drawn =
+    rw (same_numbers game frames f h is (ap (λ (f : FramesView). f.numbers) taken), drawn) refl
 
 -- a game's heap, found at the game's place
 
@@ -49,15 +98,16 @@ own_heap cap own x heap pool kept =
     record { tag = refl; quota = kept.quota; records = kept.records; held = kept.held; blocks = kept.blocks; room = kept.room }
 
 -- a lane keeps its quota
-pub same_quotas : (lanes : List Lane) (game : ℕ) (x : Lane) → x.quota ≡ (lane_of lanes game).quota
-    → map (λ (y : Lane). y.quota) (slice_set lanes game x) ≡ map (λ (y : Lane). y.quota) lanes
-same_quotas lanes game x same = map-set_same (λ (y : Lane). y.quota) lanes game x (empty_lane 0) same
+pub same_quotas : (lanes : List Lane) (game : ℕ) (x : Lane) → x.row.quota ≡ (lane_of lanes game).row.quota
+    → map (λ (y : Lane). y.row.quota) (slice_set lanes game x) ≡ map (λ (y : Lane). y.row.quota) lanes
+same_quotas lanes game x same = map-set_same (λ (y : Lane). y.row.quota) lanes game x no_lane same
 
--- a core stays sound where one lane changes, and the game's heap is still the lane's
+-- a core stays sound where one lane changes, and the game's heap and frames are still the lane's
 pub sound_lane : (cap : ℕ) {at : ℕ} (c : Inside at) (game : ℕ) (x : Lane) → IsSound cap c → game < length c.fibers.items
-    → x.quota ≡ (lane_of c.fibers.items game).quota → IsHeapOf cap (record_tag game) x (heap_of c.heaps.items game) c.pool
+    → x.row.quota ≡ (lane_of c.fibers.items game).row.quota → IsHeapOf cap (record_tag game) x (heap_of c.heaps.items game) c.pool
+    → AreFramesOf (frame_tag game) x (frames_at c.frames.items game) c.pool
     → IsSound cap (record c { fibers = with_item c.fibers game x })
-sound_lane cap c game x sound within quota here =
+sound_lane cap c game x sound within quota here frames =
     let long = length-set c.fibers.items game x in
     record {
       wide = sound.wide;
@@ -66,11 +116,53 @@ sound_lane cap c game x sound within quota here =
       quotas = same_quotas c.fibers.items game x quota ∙ sound.quotas;
       many = sound.many ∙ sym long;
       heaps = changed_lane cap game c.fibers.items c.heaps.items c.pool x sound.heaps within here;
+      as_many = sound.as_many ∙ sym long;
+      frames = changed_lane_frames game c.fibers.items c.frames.items c.pool x sound.frames within frames;
+    }
+
+-- where its frames change too
+pub sound_turn : (cap : ℕ) {at : ℕ} (c : Inside at) (game : ℕ) (x : Lane) (f : FramesView) → IsSound cap c → game < length c.fibers.items
+    → x.row.quota ≡ (lane_of c.fibers.items game).row.quota → IsHeapOf cap (record_tag game) x (heap_of c.heaps.items game) c.pool
+    → AreFramesOf (frame_tag game) x f c.pool
+    → IsSound cap (record c { fibers = with_item c.fibers game x; frames = with_item c.frames game f })
+sound_turn cap c game x f sound within quota here frames =
+    let long = length-set c.fibers.items game x in
+    let as_long = length-set c.frames.items game f in
+    record {
+      wide = sound.wide;
+      plan = sound.plan;
+      lanes = long ∙ sound.lanes;
+      quotas = same_quotas c.fibers.items game x quota ∙ sound.quotas;
+      many = sound.many ∙ sym long;
+      heaps = changed_lane cap game c.fibers.items c.heaps.items c.pool x sound.heaps within here;
+      as_many = as_long ∙ sound.as_many ∙ sym long;
+      frames =
+          changed_frames game c.fibers.items c.frames.items c.pool c.pool x f sound.frames sound.as_many within frames (leaves_all (record_tag game) (frame_tag game) c.pool);
+    }
+
+-- and where its heap and its blocks in the pool do
+pub sound_game : (cap : ℕ) {at : ℕ} (c : Inside at) (game : ℕ) (x : Lane) (heap : Heap) (f : FramesView) (pool : Ledger) → IsSound cap c → game < length c.fibers.items
+    → x.row.quota ≡ (lane_of c.fibers.items game).row.quota → IsHeapOf cap (record_tag game) x heap pool → AreFramesOf (frame_tag game) x f pool
+    → LeavesBut (record_tag game) (frame_tag game) c.pool pool
+    → IsSound cap (record c { fibers = with_item c.fibers game x; heaps = with_item c.heaps game heap; frames = with_item c.frames game f; pool = pool })
+sound_game cap c game x heap f pool sound within quota here frames leaves =
+    let long = length-set c.fibers.items game x in
+    let heaps_long = length-set c.heaps.items game heap in
+    let frames_long = length-set c.frames.items game f in
+    record {
+      wide = sound.wide;
+      plan = sound.plan;
+      lanes = long ∙ sound.lanes;
+      quotas = same_quotas c.fibers.items game x quota ∙ sound.quotas;
+      many = heaps_long ∙ sound.many ∙ sym long;
+      heaps = changed_heaps cap game c.fibers.items c.heaps.items c.pool pool x heap sound.heaps sound.many within here leaves;
+      as_many = frames_long ∙ sound.as_many ∙ sym long;
+      frames = changed_frames game c.fibers.items c.frames.items c.pool pool x f sound.frames sound.as_many within frames leaves;
     }
 
 -- a core of which a game's job was taken: its heap may have grown its index
 
-roomier_heap : (cap own : ℕ) (x y : Lane) (heap new : Heap) (pool : Ledger) → IsHeapOf cap own x heap pool → y.quota ≡ x.quota → y.game ≡ x.game
+pub roomier_heap : (cap own : ℕ) (x y : Lane) (heap new : Heap) (pool : Ledger) → IsHeapOf cap own x heap pool → y.row.quota ≡ x.row.quota → y.game ≡ x.game
     → new ≡ with_index_room new.index_room heap → (may_answer y.stage ≡ true → 0 < new.index_room) → IsHeapOf cap own y new pool
 roomier_heap cap own x y heap new pool kept quota boards grown room =
     record {
@@ -80,24 +172,6 @@ roomier_heap cap own x y heap new pool kept quota boards grown room =
       held = subst (λ (h : Heap). IsKeptIn h pool) (sym grown) kept.held;
       blocks = subst (λ (h : Heap). blocks_for cap h.quota ≤ reserved h.tag pool) (sym grown) kept.blocks;
       room = room;
-    }
-
-pub sound_game : (cap : ℕ) {at : ℕ} (c : Inside at) (game : ℕ) (x y : Lane) (heap new : Heap) → IsSound cap c → game < length c.fibers.items
-    → x ≡ lane_of c.fibers.items game → heap ≡ heap_of c.heaps.items game → y.quota ≡ x.quota → y.game ≡ x.game
-    → new ≡ with_index_room new.index_room heap → (may_answer y.stage ≡ true → 0 < new.index_room)
-    → IsSound cap (record c { fibers = with_item c.fibers game y; heaps = with_item c.heaps game new })
-sound_game cap c game x y heap new sound within lane is quota boards grown room =
-    let fibers_long = length-set c.fibers.items game y in
-    let heaps_long = length-set c.heaps.items game new in
-    let before = heap_there cap game c.fibers.items c.heaps.items c.pool x heap sound.heaps within lane is in
-    record {
-      wide = sound.wide;
-      plan = sound.plan;
-      lanes = fibers_long ∙ sound.lanes;
-      quotas = same_quotas c.fibers.items game y (quota ∙ ap (λ (z : Lane). z.quota) lane) ∙ sound.quotas;
-      many = heaps_long ∙ sound.many ∙ sym fibers_long;
-      heaps = changed_heaps cap game c.fibers.items c.heaps.items c.pool c.pool y new sound.heaps sound.many within
-          (roomier_heap cap (record_tag game) x y heap new c.pool before quota boards grown room) (unchanged_pool (record_tag game) c.pool);
     }
 
 -- the packings are as they were
@@ -113,16 +187,19 @@ kept_storage cap game storage = ap (λ packings. record storage { packings = pac
 -- a command was handed in, or was not for want of memory
 
 pub record SameStage (x y : Lane) : Type 0 where
-  pub quota : y.quota ≡ x.quota
+  pub quota : y.row.quota ≡ x.row.quota
   pub game : y.game ≡ x.game
   pub stage : y.stage ≡ x.stage
+  pub view : lane_view y ≡ lane_view x
+  pub command : lane_command y ≡ lane_command x
+  pub parts : y.parts ≡ x.parts
 
 pub same_stage : {A B : Type 0} (result : Result A B) (x y : Lane) (command : Command) → OnOk result (y ≡ with_waiting command x) → OnErr result (y ≡ x)
     → SameStage x y
 same_stage (Ok value) x y command handed same =
-    record { quota = ap (λ (z : Lane). z.quota) handed; game = ap (λ (z : Lane). z.game) handed; stage = ap (λ (z : Lane). z.stage) handed }
+    record { quota = ap (λ (z : Lane). z.row.quota) handed; game = ap (λ (z : Lane). z.game) handed; stage = ap (λ (z : Lane). z.stage) handed; view = ap lane_view handed; command = ap lane_command handed; parts = ap (λ (z : Lane). z.parts) handed }
 same_stage (Err error) x y command handed same =
-    record { quota = ap (λ (z : Lane). z.quota) same; game = ap (λ (z : Lane). z.game) same; stage = ap (λ (z : Lane). z.stage) same }
+    record { quota = ap (λ (z : Lane). z.row.quota) same; game = ap (λ (z : Lane). z.game) same; stage = ap (λ (z : Lane). z.stage) same; view = ap lane_view same; command = ap lane_command same; parts = ap (λ (z : Lane). z.parts) same }
 
 pub handed_heap : (cap own : ℕ) (x y : Lane) (heap : Heap) (pool : Ledger) → IsHeapOf cap own x heap pool → SameStage x y → IsHeapOf cap own y heap pool
 handed_heap cap own x y heap pool kept same =
@@ -134,3 +211,35 @@ handed_heap cap own x y heap pool kept same =
       blocks = kept.blocks;
       room = λ may. kept.room (ap may_answer (sym same.stage) ∙ may);
     }
+
+abbrev moved_frames : View → Command → List PartState → List (Option (List ℕ))
+moved_frames view command parts = map (λ p. Some (frame_of (moved_part p view command))) (range_with_len 0 (length parts))
+
+same_moved : (x y : Lane) → lane_view y ≡ lane_view x → lane_command y ≡ lane_command x → y.parts ≡ x.parts
+    → moved_frames (lane_view x) (lane_command x) x.parts ≡ moved_frames (lane_view y) (lane_command y) y.parts
+same_moved x y view command parts =
+    ap (λ (v : View). moved_frames v (lane_command x) x.parts) (sym view) ∙ ap (λ (c : Command). moved_frames (lane_view y) c x.parts) (sym command)
+    ∙ ap (λ (ps : List PartState). moved_frames (lane_view y) (lane_command y) ps) (sym parts)
+
+same_at : (s : Stage) (x y : Lane) (f : FramesView) → lane_view y ≡ lane_view x → lane_command y ≡ lane_command x → y.parts ≡ x.parts
+    → AreFramesAt s x f → AreFramesAt s y f
+same_at stage.Idle x y f view command parts at = at
+same_at (stage.Begin worker) x y f view command parts at = record { none = at.none; keys = rw (view, command) at.keys }
+same_at stage.Parts x y f view command parts at = record {
+  all = at.all ∙ ap length (sym parts);
+  same = at.same ∙ ap length (sym parts);
+  each = λ p number bytes n_is b_is.
+      let state : part_at y p ≡ part_at x p = ap (λ (ps : List PartState). slice_index_or ps p part.Done) parts in
+      rw state (same_frame (part_at x p) x y p number bytes (sym view) (sym command) (at.each p number bytes n_is b_is));
+}
+same_at (stage.Join None) x y f view command parts at = record { all = rw parts at.all; bytes_are = at.bytes_are ∙ same_moved x y view command parts }
+same_at (stage.Join (Some worker)) x y f view command parts at = record { all = rw parts at.all; none = rw parts at.none }
+
+pub handed_frames : (own : ℕ) (x y : Lane) (f : FramesView) (pool : Ledger) → AreFramesOf own x f pool → SameStage x y → AreFramesOf own y f pool
+handed_frames own x y f pool are same = record {
+  tag = are.tag;
+  held = are.held;
+  room = are.room;
+  few = are.few;
+  at = subst (λ (s : Stage). AreFramesAt s y f) (sym same.stage) (same_at x.stage x y f same.view same.command same.parts are.at);
+}

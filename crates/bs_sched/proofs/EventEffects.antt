@@ -1,6 +1,6 @@
 -- What an event does to the records of the game that it names, which its lane tells.
-use Rattle.std.proofs.Common.{◌≡◌, ℕ, Bool, true, false, if◌then◌else◌, map, refl, sym, ap}
-use Rattle.std.specs.Prelude.{nat_eq}
+use Rattle.std.proofs.Common.{◌≡◌, ℕ, Bool, true, false, if◌then◌else◌, [], length, map, refl, sym, ap, ◌∙◌}
+use Rattle.std.specs.Prelude.{nat_eq, slice_set}
 use Rattle.std.proofs.lemmas.List.{set-get_or}
 use Rattle.bs_board.proofs.Chains.{and_both}
 use Rattle.bs_board.specs.records.Record.{record_of}
@@ -17,19 +17,20 @@ use Rattle.bs_sched.specs.declared.event.Event.{Event}
 use Rattle.bs_sched.specs.declared.event.Event.TheVariants as event
 use Rattle.bs_sched.specs.declared.stage.Stage.{Stage}
 use Rattle.bs_sched.specs.declared.stage.Stage.TheVariants as stage
-use Rattle.bs_sched.specs.Games.{answer_effect, put_effect, storage_after}
+use Rattle.bs_sched.specs.FrameEffects.{Keeps, Forks, Draws, brought_effect, frame_effect, framed_by, taken_effect}
+use Rattle.bs_sched.specs.Games.{answer_effect, put_effect, storage_after, storage_answered, storage_put, storage_taken}
 use Rattle.bs_sched.specs.Courses.{IsRight}
 use Rattle.bs_sched.specs.Isolation.{records_of}
 use Rattle.bs_sched.specs.Lane.{Lane, goes_on, is_idle, has_begin, has_join, is_out, forked, answered, with_put, with_taken}
 use Rattle.bs_sched.specs.Machine.{is_allowed, lane_after, game_of}
 use Rattle.bs_sched.specs.Memory.{effect_at}
-use Rattle.bs_sched.specs.Storage.{Storage, stored}
+use Rattle.bs_sched.specs.Storage.{Storage, frames_of, stored, with_parts}
 use Rattle.bs_sched.proofs.Answered.{told}
 
 -- the boards after the event are those whose records the effect leaves, and one that is added fits into the quota
 pub record IsTold (x y : Lane) (effect : Effect) : Type 0 where
   pub records : records_of y.game ≡ effected effect (records_of x.game)
-  pub fits : IsFitEffect x.quota (charge_of (records_of x.game)) effect
+  pub fits : IsFitEffect x.row.quota (charge_of (records_of x.game)) effect
 
 pub charge_of_boards : (game : Game) → IsGame game → charge_of (records_of game) ≡ game_charge game
 charge_of_boards game right = same_charge game (map record_of game) (record { right = right; is = refl })
@@ -75,12 +76,42 @@ told_at x (event.Hand game command) right allowed = record { records = refl; fit
 told_at x (event.Take worker job) right allowed = told_taken x worker job.kind job.part
 told_at x (event.Put worker job) right allowed = told_put x worker job.kind job.part right allowed
 
--- an event that keeps the records leaves the storage as it is
+-- what an event does to the records leaves the frames, and what it does to the frames comes after that
 
-same_storage : (cap game : ℕ) (storage : Storage) → storage ≡ stored cap game effect.Keep storage
-same_storage cap game storage = ap (λ packings. record { packings = packings; pool = storage.pool }) (sym (set-get_or storage.packings game no_packing))
+kept_frames : (game : ℕ) (storage : Storage) → slice_set storage.frames game (frames_of storage game) ≡ storage.frames
+kept_frames game storage = set-get_or storage.frames game []
 
-pub storage_is : (cap : ℕ) (e : Event) (x : Lane) (storage : Storage) → storage_after cap e x storage ≡ stored cap (game_of e) (effect_at e x) storage
-storage_is cap (event.Hand game command) x storage = same_storage cap game storage
-storage_is cap (event.Take worker job) x storage = same_storage cap job.game storage
-storage_is cap (event.Put worker job) x storage = refl
+same_storage : (cap game : ℕ) (storage : Storage) → stored cap game effect.Keep storage ≡ storage
+same_storage cap game storage = ap (λ packings. record storage { packings = packings }) (set-get_or storage.packings game no_packing)
+
+-- nothing is done to the frames
+framed_kept : (game : ℕ) (storage : Storage) → framed_by Keeps game storage ≡ storage
+framed_kept game storage = ap (λ frames. record storage { frames = frames }) (kept_frames game storage)
+
+-- an event that does nothing to either
+same_after : (cap game : ℕ) (storage : Storage) → storage ≡ framed_by Keeps game (stored cap game effect.Keep storage)
+same_after cap game storage = sym (ap (λ (s : Storage). framed_by Keeps game s) (same_storage cap game storage) ∙ framed_kept game storage)
+
+storage_of_taken : (cap game p : ℕ) (k : JobKind) (storage : Storage) → storage_taken k game p storage ≡ framed_by (taken_effect k p) game (stored cap game effect.Keep storage)
+storage_of_taken cap game p kind.Begin storage = same_after cap game storage
+storage_of_taken cap game p kind.Part storage = sym (ap (λ (s : Storage). framed_by (Draws p) game s) (same_storage cap game storage))
+storage_of_taken cap game p kind.Join storage = same_after cap game storage
+
+storage_of_begun : (cap game : ℕ) (x : Lane) (on : Bool) (storage : Storage)
+    → (if on then with_parts game (length (forked x).parts) storage else storage_answered kind.Begin cap game x storage)
+    ≡ framed_by (if on then Forks (length (forked x).parts) else Keeps) game (stored cap game (if on then effect.Keep else answer_effect x) storage)
+storage_of_begun cap game x true storage =
+    sym (ap (λ (s : Storage). framed_by (Forks (length (forked x).parts)) game s) (same_storage cap game storage))
+storage_of_begun cap game x false storage = sym (framed_kept game (stored cap game (answer_effect x) storage))
+
+storage_of_put : (cap game : ℕ) (k : JobKind) (x : Lane) (storage : Storage)
+    → storage_put k cap game x storage ≡ framed_by (brought_effect k x) game (stored cap game (put_effect k x) storage)
+storage_of_put cap game kind.Begin x storage = storage_of_begun cap game x (goes_on x) storage
+storage_of_put cap game kind.Part x storage = same_after cap game storage
+storage_of_put cap game kind.Join x storage = refl
+
+pub storage_is : (cap : ℕ) (e : Event) (x : Lane) (storage : Storage)
+    → storage_after cap e x storage ≡ framed_by (frame_effect e x) (game_of e) (stored cap (game_of e) (effect_at e x) storage)
+storage_is cap (event.Hand game command) x storage = same_after cap game storage
+storage_is cap (event.Take worker job) x storage = storage_of_taken cap job.game job.part job.kind storage
+storage_is cap (event.Put worker job) x storage = storage_of_put cap job.game job.kind x storage

@@ -16,20 +16,11 @@ use Rattle.bs_sched.specs.declared.fiber.Slot.TheVariants as slot
 use Rattle.bs_sched.specs.declared.stage.Stage.{Stage}
 use Rattle.bs_sched.specs.declared.stage.Stage.TheVariants as stage
 use Rattle.bs_sched.specs.Inputs.{moved_parts_for}
-use Rattle.bs_sched.specs.Insides.{lane_in, IsFiber, IsAt, IsSlot, IsPlaying, IsJoining}
-use Rattle.bs_counter.specs.Keys.{Key}
-use Rattle.bs_game.specs.Game.{last_board}
-use Rattle.bs_fiber.specs.Work.{parts_of, snakes_in}
-use Rattle.bs_sched.specs.Keyed.{IsKeyed, HasKeys}
-use Rattle.std.proofs.Common.{eqb-true, ◌+◌, ◌-◌, drop, [], slice_index_or, length-drop}
-use Rattle.bs_sched.specs.Lane.{is_idle}
-use Rattle.bs_sched.proofs.ChangedGames.{read_at}
-use Rattle.bs_board.proofs.Chains.{and_both}
-use Rattle.bs_sched.proofs.FitInputs.{part_there}
-use Rattle.bs_sched.specs.Lane.{Lane, goes_on, has_begin, forked, is_part_done, is_ready, is_out, lane_view, lane_command, with_taken, with_part_done}
+use Rattle.bs_sched.specs.Insides.{lane_in, IsFiber, IsAt, IsPlaying, IsJoining}
+use Rattle.bs_sched.specs.Lane.{Lane, is_part_done, is_ready, is_out, lane_view, lane_command, with_taken, with_part_done}
 use Rattle.bs_sched.specs.Slots.{state_of, emptied, moved_in}
-use Rattle.bs_sched.proofs.Lanes.{ready_join, ready_part, ready_begin, begun_lane, out_part, joined_lane, done_lane, forked_lane}
-use Rattle.bs_sched.proofs.Parts.{collected, emptied_states, emptied_right, ready_right, slots_set}
+use Rattle.bs_sched.proofs.Lanes.{ready_join, out_part, joined_lane, done_lane}
+use Rattle.bs_sched.proofs.Parts.{collected, emptied_states, emptied_right, slots_set}
 
 -- the lane of a fiber that is at that stage
 
@@ -87,7 +78,6 @@ joined_fiber f x replies slots worker kept is ready same room empty cap =
       fits = kept.fits;
       replies = same ∙ told;
       stage = subst (λ (y : Lane). IsJoining true (lane_view y) (lane_command y) slots.items) (sym lane) here;
-      keys = tt;
       room = record { reply = λ answers. room; parts = omega (arith, cap, parts) };
     }
 
@@ -130,106 +120,5 @@ done_fiber f x slots moved p worker kept is out brought same cap all =
       fits = kept.fits;
       replies = told;
       stage = subst (λ (y : Lane). IsJoining false (lane_view y) (lane_command y) slots.items) (sym lane) whole;
-      keys = tt;
       room = record { reply = λ answers. let wrong : false ≡ true = answers in absurd cc; parts = omega (arith, cap, parts) };
     }
-
--- the move goes
-
-begin_of : (worker : ℕ) (s : Stage) → has_begin worker s ≡ true → s ≡ stage.Begin worker
-begin_of worker stage.Idle has = let wrong : false ≡ true = has in absurd cc
-begin_of worker (stage.Begin other) has = ap stage.Begin (eqb-true other worker has)
-begin_of worker stage.Parts has = let wrong : false ≡ true = has in absurd cc
-begin_of worker (stage.Join taker) has = let wrong : false ≡ true = has in absurd cc
-
-pub at_begin : (f : Inside) (x : Lane) (worker : ℕ) → lane_in f ≡ x → is_out worker x kind.Begin 0 ≡ true → f.stage ≡ stage.Begin worker
-at_begin f x worker is out = begin_of worker f.stage (subst (λ (y : Lane). is_out worker y kind.Begin 0 ≡ true) (sym is) out)
-
--- a command that is begun has its keys
-pub begun_keys : (f : Inside) (x : Lane) (worker : ℕ) → IsFiber f → lane_in f ≡ x → is_out worker x kind.Begin 0 ≡ true → HasKeys (lane_in f) f.keys.items
-begun_keys f x worker kept is out =
-    subst (λ (s : Stage). IsKeyed s (lane_view (lane_in f)) (lane_command (lane_in f)) f.keys.items) (at_begin f x worker is out) kept.keys
-
-pub as_many_keys : (f : Inside) (x : Lane) (worker : ℕ) → IsFiber f → lane_in f ≡ x → is_out worker x kind.Begin 0 ≡ true → goes_on x ≡ true
-    → length f.keys.items ≡ parts_of (length (snakes_in (last_board x.game)))
-as_many_keys f x worker kept is out goes =
-    let keys = (begun_keys f x worker kept is out).each (subst (λ (y : Lane). goes_on y ≡ true) (sym is) goes) in
-    keys.1.all ∙ ap (λ (y : Lane). parts_of (length (snakes_in (last_board y.game)))) is
-
-pub forked_fiber : (f : Inside) (x : Lane) (slots : Vec Slot Global) (keys : Vec Key Global) (worker : ℕ) → IsFiber f → lane_in f ≡ x
-    → is_out worker x kind.Begin 0 ≡ true → goes_on x ≡ true → slots.items ≡ map (λ key. slot.Ready key) f.keys.items
-    → vec_capacity slots ≡ vec_capacity f.slots → IsFiber (record f { stage = stage.Parts; slots = slots; keys = keys })
-forked_fiber f x slots keys worker kept is out goes ready cap =
-    let at = at_begin f x worker is out in
-    let new : Inside = record f { stage = stage.Parts; slots = slots; keys = keys } in
-    let here : goes_on (lane_in f) ≡ true = subst (λ (y : Lane). goes_on y ≡ true) (sym is) goes in
-    let has = begun_keys f x worker kept is out in
-    let lane : lane_in new ≡ forked (lane_in f)
-    = forked_lane f (lane_in f) slots keys worker refl (subst (λ (y : Lane). is_out worker y kind.Begin 0 ≡ true) (sym is) out)
-    (as_many_keys f (lane_in f) worker kept refl (subst (λ (y : Lane). is_out worker y kind.Begin 0 ≡ true) (sym is) out) here) ready in
-    let many : length slots.items ≡ length f.keys.items = ap length ready ∙ length-map f.keys.items (λ key. slot.Ready key) in
-    let played : IsPlaying false (lane_view (lane_in f)) (lane_command (lane_in f)) slots.items = record {
-      goes = here;
-      all = many ∙ (has.each here).1.all;
-      few = let few = has.few in omega (arith, many, few);
-      right = ready_right (lane_view (lane_in f)) (lane_command (lane_in f)) _ f.keys.items slots.items (has.each here) ready;
-    } in
-    let told = rw at at kept.replies in
-    let parts = kept.room.parts in
-    record {
-      begun = kept.begun;
-      at = λ idle. kept.at (rw at refl);
-      small = kept.small;
-      fits = kept.fits;
-      replies = told;
-      stage = subst (λ (y : Lane). IsPlaying false (lane_view y) (lane_command y) slots.items) (sym lane) played;
-      keys = tt;
-      room = record { reply = λ answers. let wrong : false ≡ true = answers in absurd cc; parts = omega (arith, cap, parts) };
-    }
-
--- the key that goes out with a part is that part's
-pub key_of : (f : Inside) (x : Lane) (p : ℕ) (key : Key) (old : Slot) → IsFiber f → lane_in f ≡ x → is_ready x kind.Part p ≡ true → p < length f.slots.items
-    → old ≡ slice_index_or f.slots.items p old → old ≡ slot.Ready key → key.part ≡ p
-key_of f x p key old kept is ready within here same =
-    let at = ready_part (lane_in f) p (subst (λ (y : Lane). is_ready y kind.Part p ≡ true) (sym is) ready) in
-    let read : old ≡ slice_index_or f.slots.items p (slot.Out 0) = read_at f.slots.items p old (slot.Out 0) within here in
-    subst (λ (s : Slot). IsSlot false p (lane_view (lane_in f)) (lane_command (lane_in f)) s) (sym read ∙ same) ((playing f kept at).right p within)
-
-idle_slots : (s : Stage) (view : View) (command : Command) (slots : List Slot) → is_idle s ≡ true → IsAt s view command slots → slots ≡ []
-idle_slots stage.Idle view command slots idle at = at
-idle_slots (stage.Begin worker) view command slots idle at = let wrong : false ≡ true = idle in absurd cc
-idle_slots stage.Parts view command slots idle at = let wrong : false ≡ true = idle in absurd cc
-idle_slots (stage.Join taker) view command slots idle at = let wrong : false ≡ true = idle in absurd cc
-
--- a command is begun
-pub begun_fiber : (f : Inside) (x : Lane) (replies : Vec Reply Global) (keys : Vec Key Global) (worker : ℕ) → IsFiber f → lane_in f ≡ x
-    → is_ready x kind.Begin 0 ≡ true → replies.items ≡ f.replies.items → vec_len replies < vec_capacity replies
-    → HasKeys (with_taken worker kind.Begin 0 x) keys.items
-    → IsFiber (record f { begun = f.begun + 1; replies = replies; stage = stage.Begin worker; keys = keys })
-begun_fiber f x replies keys worker kept is ready same room has =
-    let both = ready_begin (lane_in f) (subst (λ (y : Lane). is_ready y kind.Begin 0 ≡ true) (sym is) ready) in
-    let idle : is_idle f.stage ≡ true = both.0 in
-    let some : 0 < length (drop f.begun f.commands.items) = both.1 in
-    let lane = begun_lane f x replies keys worker is ready same in
-    let rest = length-drop f.begun f.commands.items in
-    let less : f.begun + 1 - 1 ≡ f.begun = omega arith in
-    let told = rw idle at kept.replies in
-    let parts = kept.room.parts in
-    record {
-      begun = omega (arith, some, rest);
-      at = λ busy. omega arith;
-      small = kept.small;
-      fits = kept.fits;
-      replies = rw less (same ∙ told);
-      stage = idle_slots f.stage (lane_view (lane_in f)) (lane_command (lane_in f)) f.slots.items idle kept.stage;
-      keys = subst (λ (y : Lane). HasKeys y keys.items) (sym lane) has;
-      room = record { reply = λ answers. room; parts = parts };
-    }
-
--- a part that is ready has a slot
-pub slot_there : (f : Inside) (x : Lane) (p : ℕ) → lane_in f ≡ x → is_ready x kind.Part p ≡ true → p < length f.slots.items
-slot_there f x p is ready =
-    let here = subst (λ (y : Lane). is_ready y kind.Part p ≡ true) (sym is) ready in
-    let within = part_there (lane_in f) p (and_both _ _ here).1 in
-    let many = length-map f.slots.items state_of in
-    omega (arith, within, many)

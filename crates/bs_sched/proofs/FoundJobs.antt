@@ -1,8 +1,7 @@
 -- What was found in the lanes of a core.
-use Rattle.std.proofs.Common.{ℕ, ◌≤◌, ◌<◌, List, length, inl, inr, arith}
+use Rattle.std.proofs.Common.{ℕ, List, length, inl, inr, arith}
 use Rattle.std.proofs.lemmas.Bool.{cases_lt}
-use Rattle.bs_sched.specs.Lane.{Lane, HasNoneReady}
-use Rattle.bs_sched.specs.Machine.{lane_of}
+use Rattle.bs_sched.specs.Lane.{Lane}
 use Rattle.bs_sched.specs.Taking.{AreNoneReady, AreNoneReadyBetween}
 
 -- what is so from a row on and before it is so of all

@@ -19,7 +19,7 @@ use Rattle.bs_sched.specs.declared.event.Event.TheVariants as event
 use Rattle.bs_sched.specs.Games.{opened, row_at}
 use Rattle.bs_sched.specs.Courses.{IsRight, answered_commands}
 use Rattle.bs_sched.specs.Handed.{commands_of, quota_of, handed_to, handed_after, IsServed}
-use Rattle.bs_sched.specs.Lane.{Lane, empty_lane, goes_on, is_idle, is_quiet, forked, answered, with_waiting, with_taken, with_put}
+use Rattle.bs_sched.specs.Lane.{Lane, empty_lane, no_lane, goes_on, is_idle, is_quiet, forked, answered, with_waiting, with_taken, with_put}
 use Rattle.bs_sched.specs.Machine.{lane_of, lane_after, lane_effect}
 
 -- of one lane
@@ -67,19 +67,19 @@ pub all_handed : (lanes : List Lane) (game : ℕ) (command : Command)
     → map commands_of (lane_effect lanes (event.Hand game command))
     ≡ slice_set (map commands_of lanes) game (slice_index_or (map commands_of lanes) game [] ++ command ∷ [])
 all_handed lanes game command =
-    let before : get_or (map commands_of lanes) game [] ≡ commands_of (lane_of lanes game) = get_or-map commands_of lanes game (empty_lane 0) in
+    let before : get_or (map commands_of lanes) game [] ≡ commands_of (lane_of lanes game) = get_or-map commands_of lanes game no_lane in
     let here : commands_of (with_waiting command (lane_of lanes game)) ≡ get_or (map commands_of lanes) game [] ++ command ∷ []
     = commands_handed (lane_of lanes game) command ∙ ap (λ all. all ++ command ∷ []) (sym before) in
     map-set commands_of lanes game (with_waiting command (lane_of lanes game)) ∙ ap (slice_set (map commands_of lanes) game) here
 
 pub all_taken : (lanes : List Lane) (worker : ℕ) (job : JobName) → map commands_of (lane_effect lanes (event.Take worker job)) ≡ map commands_of lanes
 all_taken lanes worker job =
-    map-set_same commands_of lanes job.game (with_taken worker job.kind job.part (lane_of lanes job.game)) (empty_lane 0)
+    map-set_same commands_of lanes job.game (with_taken worker job.kind job.part (lane_of lanes job.game)) no_lane
     (commands_taken (lane_of lanes job.game) worker job.kind job.part)
 
 pub all_put : (lanes : List Lane) (worker : ℕ) (job : JobName) → map commands_of (lane_effect lanes (event.Put worker job)) ≡ map commands_of lanes
 all_put lanes worker job =
-    map-set_same commands_of lanes job.game (with_put job.kind job.part (lane_of lanes job.game)) (empty_lane 0)
+    map-set_same commands_of lanes job.game (with_put job.kind job.part (lane_of lanes job.game)) no_lane
     (commands_put (lane_of lanes job.game) job.kind job.part)
 
 pub all_handed_after : (lanes : List Lane) (e : Event) → map commands_of (lane_effect lanes e) ≡ handed_after (map commands_of lanes) e
@@ -89,13 +89,13 @@ all_handed_after lanes (event.Put worker job) = all_put lanes worker job
 
 pub all_quotas_kept : (lanes : List Lane) (e : Event) → map quota_of (lane_effect lanes e) ≡ map quota_of lanes
 all_quotas_kept lanes (event.Hand game command) =
-    map-set_same quota_of lanes game (lane_after (lane_of lanes game) (event.Hand game command)) (empty_lane 0)
+    map-set_same quota_of lanes game (lane_after (lane_of lanes game) (event.Hand game command)) no_lane
     (quota_kept (lane_of lanes game) (event.Hand game command))
 all_quotas_kept lanes (event.Take worker job) =
-    map-set_same quota_of lanes job.game (lane_after (lane_of lanes job.game) (event.Take worker job)) (empty_lane 0)
+    map-set_same quota_of lanes job.game (lane_after (lane_of lanes job.game) (event.Take worker job)) no_lane
     (quota_kept (lane_of lanes job.game) (event.Take worker job))
 all_quotas_kept lanes (event.Put worker job) =
-    map-set_same quota_of lanes job.game (lane_after (lane_of lanes job.game) (event.Put worker job)) (empty_lane 0)
+    map-set_same quota_of lanes job.game (lane_after (lane_of lanes job.game) (event.Put worker job)) no_lane
     (quota_kept (lane_of lanes job.game) (event.Put worker job))
 
 pub as_many_lanes : (lanes : List Lane) (e : Event) → length (lane_effect lanes e) ≡ length lanes
@@ -105,11 +105,11 @@ as_many_lanes lanes (event.Put worker job) = length-set lanes job.game (lane_aft
 
 -- of a core that was just opened
 
-none_handed : (rows : List GameRow) → map commands_of (map (λ (row : GameRow). empty_lane row.quota) rows) ≡ map (λ (_ : GameRow). []) rows
+none_handed : (rows : List GameRow) → map commands_of (map (λ (row : GameRow). empty_lane row) rows) ≡ map (λ (_ : GameRow). []) rows
 none_handed [] = refl
 none_handed (row ∷ rows) = ap (λ rest. [] ∷ rest) (none_handed rows)
 
-pub quotas_of_rows : (rows : List GameRow) → map quota_of (map (λ (row : GameRow). empty_lane row.quota) rows) ≡ map (λ (row : GameRow). row.quota) rows
+pub quotas_of_rows : (rows : List GameRow) → map quota_of (map (λ (row : GameRow). empty_lane row) rows) ≡ map (λ (row : GameRow). row.quota) rows
 quotas_of_rows [] = refl
 quotas_of_rows (row ∷ rows) = ap (λ rest. row.quota ∷ rest) (quotas_of_rows rows)
 
@@ -132,14 +132,14 @@ quiet_commands x quiet =
     rw (idle, none, all) refl
 
 pub quiet_course : (x : Lane) → IsRight x → is_quiet x ≡ true
-    → (x.replies ≡ (course_of x.quota (commands_of x)).replies) × (x.game ≡ (course_of x.quota (commands_of x)).game)
+    → (x.replies ≡ (course_of x.row.quota (commands_of x)).replies) × (x.game ≡ (course_of x.row.quota (commands_of x)).game)
 quiet_course x right quiet =
     let same = quiet_commands x quiet in (
-      right.course.replies ∙ ap (λ commands. (course_of x.quota commands).replies) same,
-      right.course.game ∙ ap (λ commands. (course_of x.quota commands).game) same,
+      right.course.replies ∙ ap (λ commands. (course_of x.row.quota commands).replies) same,
+      right.course.game ∙ ap (λ commands. (course_of x.row.quota commands).game) same,
     )
 
-pub served : (x : Lane) (row : GameRow) (commands : List Command) → IsRight x → is_quiet x ≡ true → x.quota ≡ row.quota
+pub served : (x : Lane) (row : GameRow) (commands : List Command) → IsRight x → is_quiet x ≡ true → x.row.quota ≡ row.quota
     → commands_of x ≡ commands → IsServed row commands x
 served x row commands right quiet quota handed =
     let course = quiet_course x right quiet in
@@ -158,10 +158,10 @@ pub served_lane : (lanes : List Lane) (rows : List GameRow) (handed : List (List
     → map commands_of lanes ≡ handed → IsServed (row_at rows game) (handed_to handed game) (lane_of lanes game)
 served_lane lanes rows handed game within right quiet quotas commands =
     let each = AllPass-from_list_all is_quiet lanes quiet in
-    let still : is_quiet (lane_of lanes game) ≡ true = each game (empty_lane 0) within in
+    let still : is_quiet (lane_of lanes game) ≡ true = each game no_lane within in
     let quota : quota_of (lane_of lanes game) ≡ (row_at rows game).quota
-    = sym (get_or-map quota_of lanes game (empty_lane 0)) ∙ ap (λ all. get_or all game 0) quotas
+    = sym (get_or-map quota_of lanes game no_lane) ∙ ap (λ all. get_or all game 0) quotas
     ∙ get_or-map (λ (row : GameRow). row.quota) rows game (row_of [] 0) in
     let all : commands_of (lane_of lanes game) ≡ handed_to handed game
-    = sym (get_or-map commands_of lanes game (empty_lane 0)) ∙ ap (λ every. get_or every game []) commands in
+    = sym (get_or-map commands_of lanes game no_lane) ∙ ap (λ every. get_or every game []) commands in
     served (lane_of lanes game) (row_at rows game) (handed_to handed game) right still quota all

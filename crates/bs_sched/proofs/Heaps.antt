@@ -1,11 +1,10 @@
 -- The heaps of all games, after one of them changed.
-use Rattle.std.proofs.Common.{◌≡◌, ◌≢◌, ℕ, ◌*◌, ◌<◌, true, false, List, length, refl, sym, ◌∙◌, arith, inl, inr}
+use Rattle.std.proofs.Common.{◌≡◌, ◌≢◌, ℕ, ◌+◌, ◌*◌, ◌<◌, true, false, List, length, refl, sym, ◌∙◌, arith, inl, inr}
 use Rattle.std.specs.Prelude.{slice_set}
 use Rattle.std.proofs.lemmas.Bool.{cases_eq}
 use Rattle.std.proofs.lemmas.Grind.{get_or-set_at}
 use Rattle.std.proofs.lemmas.List.{get_or-set_other, length-set}
 use Rattle.bs_heap.specs.Heap.{Heap, empty_heap}
-use Rattle.bs_heap.specs.HeldBlocks.{LeavesOthers}
 use Rattle.bs_heap.specs.Packing.{numbers_of}
 use Rattle.bs_pool.specs.Ledger.{Ledger}
 use Rattle.bs_sched.specs.GamesLayout.{AreHeapsOf, IsHeapOf, heap_of}
@@ -14,43 +13,43 @@ use Rattle.std.specs.Prelude.{Bool, None, if◌then◌else◌}
 use Rattle.std.specs.List.{list_all}
 use Rattle.bs_sched.specs.declared.stage.PartState.{PartState}
 use Rattle.bs_sched.specs.declared.stage.Stage.TheVariants as stage
-use Rattle.bs_sched.specs.Lane.{Lane, empty_lane, stage_with, is_part_done}
+use Rattle.bs_sched.specs.Lane.{Lane, no_lane, stage_with, is_part_done}
 use Rattle.bs_sched.specs.Machine.{lane_of}
-use Rattle.bs_sched.specs.Storage.{record_tag}
+use Rattle.bs_sched.specs.Frames.{LeavesBut}
+use Rattle.bs_sched.specs.Storage.{frame_tag, record_tag}
 
 -- what another tag draws or gives back leaves a game's heap
-left_heap : (cap own tag : ℕ) (x : Lane) (heap : Heap) (pool pool' : Ledger) → IsHeapOf cap own x heap pool → own ≢ tag
-    → LeavesOthers tag pool pool' → IsHeapOf cap own x heap pool'
-left_heap cap own tag x heap pool pool' kept other leaves =
-    let differ : heap.tag ≢ tag = λ same. other (sym kept.tag ∙ same) in
+left_heap : (cap own tag other : ℕ) (x : Lane) (heap : Heap) (pool pool' : Ledger) → IsHeapOf cap own x heap pool → own ≢ tag → own ≢ other
+    → LeavesBut tag other pool pool' → IsHeapOf cap own x heap pool'
+left_heap cap own tag other x heap pool pool' kept a b leaves =
+    let differ : heap.tag ≢ tag = λ same. a (sym kept.tag ∙ same) in
+    let differs : heap.tag ≢ other = λ same. b (sym kept.tag ∙ same) in
     record {
       tag = kept.tag;
       quota = kept.quota;
       records = kept.records;
-      held = leaves.holds heap.tag (numbers_of heap.packing) differ kept.held;
+      held = leaves.holds heap.tag (numbers_of heap.packing) differ differs kept.held;
       blocks = rw leaves.reservations kept.blocks;
       room = kept.room;
     }
 
 pub changed_heaps : (cap game : ℕ) (lanes : List Lane) (heaps : List Heap) (pool pool' : Ledger) (x : Lane) (heap : Heap)
     → AreHeapsOf cap lanes heaps pool → length heaps ≡ length lanes → game < length lanes → IsHeapOf cap (record_tag game) x heap pool'
-    → LeavesOthers (record_tag game) pool pool' → AreHeapsOf cap (slice_set lanes game x) (slice_set heaps game heap) pool'
+    → LeavesBut (record_tag game) (frame_tag game) pool pool' → AreHeapsOf cap (slice_set lanes game x) (slice_set heaps game heap) pool'
 changed_heaps cap game lanes heaps pool pool' x heap all many within here leaves other less =
     elim (cases_eq other game) [
       | inl same ↦
-          rw (get_or-set_at lanes game other x (empty_lane 0) same within, get_or-set_at heaps game other heap (empty_heap 0 0) same (omega (arith, many)), same) here
+          rw (get_or-set_at lanes game other x no_lane same within, get_or-set_at heaps game other heap (empty_heap 0 0) same (omega (arith, many)), same) here
       | inr differ ↦
           let before : other < length lanes = let l = length-set lanes game x in omega (arith, l) in
-          rw (get_or-set_other lanes game other x (empty_lane 0) differ, get_or-set_other heaps game other heap (empty_heap 0 0) differ)
-          (left_heap cap (record_tag other) (record_tag game) (lane_of lanes other) (heap_of heaps other) pool pool' (all other before)
-          (λ same. differ (let twice : 2 * other ≡ 2 * game = same in omega (arith, twice))) leaves)
+          rw (get_or-set_other lanes game other x no_lane differ, get_or-set_other heaps game other heap (empty_heap 0 0) differ)
+          (left_heap cap (record_tag other) (record_tag game) (frame_tag game) (lane_of lanes other) (heap_of heaps other) pool pool' (all other before)
+          (λ same. differ (let twice : 2 * other ≡ 2 * game = same in omega (arith, twice)))
+          (λ same. let odd : 2 * other ≡ 2 * game + 1 = same in omega (arith, odd)) leaves)
     ]
 
-pub unchanged_pool : (tag : ℕ) (pool : Ledger) → LeavesOthers tag pool pool
-unchanged_pool tag pool = record { holds = λ other numbers differ held. held; reservations = refl }
-
 -- a lane that keeps its boards, and at which no answer may come, needs no other heap
-pub same_heap : (cap own : ℕ) (x y : Lane) (heap : Heap) (pool : Ledger) → IsHeapOf cap own x heap pool → y.quota ≡ x.quota → y.game ≡ x.game
+pub same_heap : (cap own : ℕ) (x y : Lane) (heap : Heap) (pool : Ledger) → IsHeapOf cap own x heap pool → y.row.quota ≡ x.row.quota → y.game ≡ x.game
     → may_answer y.stage ≡ false → IsHeapOf cap own y heap pool
 same_heap cap own x y heap pool kept quota boards none =
     record {
@@ -67,10 +66,10 @@ pub changed_lane : (cap game : ℕ) (lanes : List Lane) (heaps : List Heap) (poo
     → AreHeapsOf cap (slice_set lanes game x) heaps pool
 changed_lane cap game lanes heaps pool x all within here other less =
     elim (cases_eq other game) [
-      | inl same ↦ rw (get_or-set_at lanes game other x (empty_lane 0) same within, same) here
+      | inl same ↦ rw (get_or-set_at lanes game other x no_lane same within, same) here
       | inr differ ↦
           let before : other < length lanes = let l = length-set lanes game x in omega (arith, l) in
-          rw (get_or-set_other lanes game other x (empty_lane 0) differ) (all other before)
+          rw (get_or-set_other lanes game other x no_lane differ) (all other before)
     ]
 
 may_answer_if : (done : Bool) → may_answer (if done then stage.Join None else stage.Parts) ≡ false

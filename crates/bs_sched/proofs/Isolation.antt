@@ -23,7 +23,7 @@ use Rattle.bs_sched.proofs.RightRuns.{opened_lane, right_opened, right_run}
 -- a game runs alone
 
 many_opened : (rows : List GameRow) → length (opened_lanes rows) ≡ length rows
-many_opened rows = length-map rows (λ (row : GameRow). empty_lane row.quota)
+many_opened rows = length-map rows (λ (row : GameRow). empty_lane row)
 
 lone_opened : (rows : List GameRow) (game : ℕ) → lone_lanes rows game ≡ lone (opened_lanes rows) game
 lone_opened rows game = ap (λ x. x ∷ []) (sym (opened_lane rows game))

@@ -22,7 +22,7 @@ use Rattle.bs_sched.specs.declared.stage.PartState.{PartState}
 use Rattle.bs_sched.specs.declared.stage.PartState.TheVariants as part
 use Rattle.bs_sched.specs.Games.{opened}
 use Rattle.bs_sched.specs.Courses.{IsRight}
-use Rattle.bs_sched.specs.Lane.{Lane, empty_lane, goes_on, is_idle, is_in_parts, is_to_join, has_begin, has_join, has_part, is_part_ready, is_part_done, is_ready, is_out, is_quiet, forked, answered, stage_with, with_waiting, with_taken, with_put}
+use Rattle.bs_sched.specs.Lane.{Lane, empty_lane, no_lane, goes_on, is_idle, is_in_parts, is_to_join, has_begin, has_join, has_part, is_part_ready, is_part_done, is_ready, is_out, is_quiet, forked, answered, stage_with, with_waiting, with_taken, with_put}
 use Rattle.bs_sched.specs.Machine.{lane_of, lane_effect, is_enabled}
 
 -- a part is to be taken and to be put
@@ -158,7 +158,7 @@ put_is_lighter x worker kind.Join p right out =
 lighter_lane : (lanes : List Lane) (game : ℕ) (new : Lane) → game < length lanes → weight new < weight (lane_of lanes game)
     → core_weight (slice_set lanes game new) < core_weight lanes
 lighter_lane lanes game new within less =
-    let sum = sum_by-set weight lanes game new (empty_lane 0) within in
+    let sum = sum_by-set weight lanes game new no_lane within in
     omega (arith, sum, less)
 
 pub taken_is_lighter : (workers : ℕ) (lanes : List Lane) (worker : ℕ) (job : JobName) → is_enabled workers lanes (event.Take worker job) ≡ true
@@ -190,14 +190,14 @@ pub handed_weighs : (lanes : List Lane) (game : ℕ) (command : Command) → gam
     → core_weight (lane_effect lanes (event.Hand game command)) ≡ core_weight lanes + 12
 handed_weighs lanes game command within =
     let x = lane_of lanes game in
-    let sum = sum_by-set weight lanes game (with_waiting command x) (empty_lane 0) within in
+    let sum = sum_by-set weight lanes game (with_waiting command x) no_lane within in
     let more : weight (with_waiting command x) ≡ weight x + 12 = hand_weighs x command in
     omega (arith, sum, more)
 
-empty_weighs : (rows : List GameRow) → core_weight (map (λ (row : GameRow). empty_lane row.quota) rows) ≡ 0
+empty_weighs : (rows : List GameRow) → core_weight (map (λ (row : GameRow). empty_lane row) rows) ≡ 0
 empty_weighs [] = refl
 empty_weighs (row ∷ rows) =
-    let sum = sum_by-cons weight (empty_lane row.quota) (map (λ (each : GameRow). empty_lane each.quota) rows) in
+    let sum = sum_by-cons weight (empty_lane row) (map (λ (each : GameRow). empty_lane each) rows) in
     let rest = empty_weighs rows in
     omega (arith, sum, rest)
 

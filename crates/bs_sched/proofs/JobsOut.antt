@@ -19,7 +19,7 @@ use Rattle.bs_sched.specs.declared.stage.Stage.TheVariants as stage
 use Rattle.bs_sched.specs.declared.stage.PartState.{PartState}
 use Rattle.bs_sched.specs.declared.stage.PartState.TheVariants as part
 use Rattle.bs_sched.specs.Journal.{out_of_part, out_of_stage, out_of_lane, jobs_out}
-use Rattle.bs_sched.specs.Lane.{Lane, empty_lane, goes_on, is_idle, is_in_parts, is_to_join, has_begin, has_join, has_part, is_part_ready, is_part_done, is_ready, is_out, forked, answered, stage_with, with_waiting, with_taken, with_put}
+use Rattle.bs_sched.specs.Lane.{Lane, empty_lane, no_lane, goes_on, is_idle, is_in_parts, is_to_join, has_begin, has_join, has_part, is_part_ready, is_part_done, is_ready, is_out, forked, answered, stage_with, with_waiting, with_taken, with_put}
 use Rattle.bs_sched.specs.Machine.{lane_of, lane_effect, is_enabled}
 
 -- of the parts
@@ -127,7 +127,7 @@ begun_in x false = refl
 
 put_out : (x : Lane) (worker : ℕ) (k : JobKind) (p : ℕ) → is_out worker x k p ≡ true → out_of_lane (with_put k p x) + 1 ≡ out_of_lane x
 put_out x worker kind.Begin p out =
-    let old : out_of_lane x ≡ 1 = out_begun worker x.stage x.parts (and_both _ _ out).1 in
+    let old : out_of_lane x ≡ 1 = out_begun worker x.stage x.parts (and_both (nat_eq p 0) (has_begin worker x.stage) out).1 in
     let new = begun_in x (goes_on x) in
     omega (arith, old, new)
 put_out x worker kind.Part p out =
@@ -145,17 +145,17 @@ put_out x worker kind.Join p out =
 
 -- of all lanes
 
-pub none_out : (rows : List GameRow) → jobs_out (map (λ (row : GameRow). empty_lane row.quota) rows) ≡ 0
+pub none_out : (rows : List GameRow) → jobs_out (map (λ (row : GameRow). empty_lane row) rows) ≡ 0
 none_out [] = refl
 none_out (row ∷ rows) =
-    let sum = sum_by-cons out_of_lane (empty_lane row.quota) (map (λ (each : GameRow). empty_lane each.quota) rows) in
+    let sum = sum_by-cons out_of_lane (empty_lane row) (map (λ (each : GameRow). empty_lane each) rows) in
     let rest = none_out rows in
     omega (arith, sum, rest)
 
 pub as_many_handed : (lanes : List Lane) (game : ℕ) (command : Command) → game < length lanes
     → jobs_out (lane_effect lanes (event.Hand game command)) ≡ jobs_out lanes
 as_many_handed lanes game command within =
-    let sum = sum_by-set out_of_lane lanes game (with_waiting command (lane_of lanes game)) (empty_lane 0) within in
+    let sum = sum_by-set out_of_lane lanes game (with_waiting command (lane_of lanes game)) no_lane within in
     omega (arith, sum)
 
 pub one_more_out : (workers : ℕ) (lanes : List Lane) (worker : ℕ) (job : JobName) → is_enabled workers lanes (event.Take worker job) ≡ true
@@ -166,7 +166,7 @@ one_more_out workers lanes worker job enabled =
     let x = lane_of lanes job.game in
     let ready : is_ready x job.kind job.part ≡ true = (and_both _ _ both.1).0 in
     let here = taken_out x worker job.kind job.part ready in
-    let sum = sum_by-set out_of_lane lanes job.game (with_taken worker job.kind job.part x) (empty_lane 0) within in
+    let sum = sum_by-set out_of_lane lanes job.game (with_taken worker job.kind job.part x) no_lane within in
     omega (arith, sum, here)
 
 pub one_less_out : (workers : ℕ) (lanes : List Lane) (worker : ℕ) (job : JobName) → is_enabled workers lanes (event.Put worker job) ≡ true
@@ -177,5 +177,5 @@ one_less_out workers lanes worker job enabled =
     let x = lane_of lanes job.game in
     let out : is_out worker x job.kind job.part ≡ true = (and_both _ _ both.1).0 in
     let here = put_out x worker job.kind job.part out in
-    let sum = sum_by-set out_of_lane lanes job.game (with_put job.kind job.part x) (empty_lane 0) within in
+    let sum = sum_by-set out_of_lane lanes job.game (with_put job.kind job.part x) no_lane within in
     omega (arith, sum, here)

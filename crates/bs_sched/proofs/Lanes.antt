@@ -13,7 +13,6 @@ use Rattle.bs_game.specs.Game.{last_board}
 use Rattle.bs_fiber.specs.declared.job.JobKind.TheVariants as kind
 use Rattle.bs_fiber.specs.Work.{parts_of, snakes_in}
 use Rattle.bs_sched.specs.declared.fiber.Fiber.TheInside.{Inside}
-use Rattle.bs_counter.specs.Keys.{Key}
 use Rattle.bs_sched.specs.declared.fiber.Slot.{Slot}
 use Rattle.bs_sched.specs.declared.fiber.Slot.TheVariants as slot
 use Rattle.bs_sched.specs.declared.stage.Stage.{Stage}
@@ -67,10 +66,10 @@ ready_join x ready = join_of_ready x.stage ready
 
 -- the lanes after the events
 
-pub begun_lane : (f : Inside) (x : Lane) (replies : Vec Reply Global) (keys : Vec Key Global) (worker : ℕ) → lane_in f ≡ x → is_ready x kind.Begin 0 ≡ true
+pub begun_lane : (f : Inside) (x : Lane) (replies : Vec Reply Global) (worker : ℕ) → lane_in f ≡ x → is_ready x kind.Begin 0 ≡ true
     → replies.items ≡ f.replies.items
-    → lane_in (record f { begun = f.begun + 1; replies = replies; stage = stage.Begin worker; keys = keys }) ≡ with_taken worker kind.Begin 0 x
-begun_lane f x replies keys worker is ready same =
+    → lane_in (record f { begun = f.begun + 1; replies = replies; stage = stage.Begin worker }) ≡ with_taken worker kind.Begin 0 x
+begun_lane f x replies worker is ready same =
     let idle : is_idle f.stage ≡ true = (ready_begin (lane_in f) (subst (λ (y : Lane). is_ready y kind.Begin 0 ≡ true) (sym is) ready)).0 in
     let less : f.begun + 1 - 1 ≡ f.begun = omega arith in
     rw (← is, less, take-add, drop_more, same, idle) refl
@@ -86,12 +85,12 @@ joined_lane f x replies slots worker is ready same empty =
     let at : f.stage ≡ stage.Join None = ready_join (lane_in f) (subst (λ (y : Lane). is_ready y kind.Join 0 ≡ true) (sym is) ready) in
     rw (← is, same, empty, emptied_states, at) refl
 
-pub forked_lane : (f : Inside) (x : Lane) (slots : Vec Slot Global) (keys : Vec Key Global) (worker : ℕ) → lane_in f ≡ x → is_out worker x kind.Begin 0 ≡ true
-    → length f.keys.items ≡ parts_of (length (snakes_in (last_board x.game))) → slots.items ≡ map (λ key. slot.Ready key) f.keys.items
-    → lane_in (record f { stage = stage.Parts; slots = slots; keys = keys }) ≡ forked x
-forked_lane f x slots keys worker is out many ready =
+pub forked_lane : (f : Inside) (x : Lane) (slots : Vec Slot Global) (parts worker : ℕ) → lane_in f ≡ x → is_out worker x kind.Begin 0 ≡ true
+    → parts ≡ parts_of (length (snakes_in (last_board x.game))) → slots.items ≡ replicate parts slot.Ready
+    → lane_in (record f { stage = stage.Parts; slots = slots }) ≡ forked x
+forked_lane f x slots parts worker is out many ready =
     let busy : is_idle f.stage ≡ false = out_begin (lane_in f) worker (subst (λ (y : Lane). is_out worker y kind.Begin 0 ≡ true) (sym is) out) in
-    let states = ready_states f.keys.items in
+    let states = ready_states parts in
     let count = rw (← is) at many in
     rw (← is, ready, states, count, busy) refl
 

@@ -1,5 +1,12 @@
+pub mod FrameBlocks
+pub mod FrameNumbers
+pub mod FramesCollected
+pub mod FramesJoined
 pub mod Answered
+pub mod BegunParts
+pub mod Brought
 pub mod BusyTable
+pub mod ChangedFrames
 pub mod ChangedGames
 pub mod EventEffects
 pub mod Fibers
@@ -24,8 +31,11 @@ pub mod Parts
 pub mod PlacedRecords
 pub mod PlanBlocks
 pub mod ReadGames
+pub mod Reframed
 pub mod RightLanes
 pub mod RightRuns
 pub mod SharedMemory
 pub mod StoredRecords
 pub mod TakenJobs
+pub mod PartFrames
+pub mod JoinFrames

@@ -7,7 +7,7 @@ use Rattle.std.proofs.lemmas.List.Folds.{list_any_at}
 use Rattle.bs_board.proofs.Chains.{and_both}
 use Rattle.bs_sched.specs.declared.event.Event.{Event}
 use Rattle.bs_sched.specs.declared.event.Event.TheVariants as event
-use Rattle.bs_sched.specs.Lane.{Lane, empty_lane, occupies}
+use Rattle.bs_sched.specs.Lane.{Lane, no_lane, occupies}
 use Rattle.bs_sched.specs.Machine.{lane_of, game_of, is_busy, is_allowed, has_hands, is_enabled, lane_after, lane_effect, step, run_of}
 use Rattle.bs_sched.specs.Isolation.{alone_event, is_accepted, accepted, are_enabled, OthersLeave}
 use Rattle.bs_sched.proofs.HandedCommands.{as_many_lanes}
@@ -51,7 +51,7 @@ free_of : (worker game : ℕ) (lanes : List Lane) → game < length lanes → is
 free_of worker game lanes within free =
     elim (cases_Bool (occupies worker (lane_of lanes game))) [
       | inl busy ↦
-          let some : is_busy worker lanes ≡ true = list_any_at (occupies worker) lanes game (empty_lane 0) within busy in
+          let some : is_busy worker lanes ≡ true = list_any_at (occupies worker) lanes game no_lane within busy in
           let wrong : true ≡ false = sym some ∙ free in
           cc
       | inr idle ↦ idle
@@ -102,7 +102,7 @@ pub named_lane : (workers : ℕ) (lanes : List Lane) (e : Event) → is_enabled 
 named_lane workers lanes e on =
     let within : game_of e < length lanes = ltb-true _ _ (and_both _ _ on).0 in
     ap (λ (ls : List Lane). lane_of ls (game_of e)) (step_enabled workers lanes e on)
-    ∙ get_or-set_same lanes (game_of e) (lane_after (lane_of lanes (game_of e)) e) (empty_lane 0) within
+    ∙ get_or-set_same lanes (game_of e) (lane_after (lane_of lanes (game_of e)) e) no_lane within
 
 -- each other lane
 pub others_leave : (workers : ℕ) (lanes : List Lane) (game : ℕ) → OthersLeave workers lanes game
@@ -110,7 +110,7 @@ others_leave workers lanes game e other =
     elim (cases_Bool (is_enabled workers lanes e)) [
       | inl on ↦
           ap (λ (ls : List Lane). lane_of ls game) (step_enabled workers lanes e on)
-          ∙ get_or-set_other lanes (game_of e) game (lane_after (lane_of lanes (game_of e)) e) (empty_lane 0) (λ same. other (sym same))
+          ∙ get_or-set_other lanes (game_of e) game (lane_after (lane_of lanes (game_of e)) e) no_lane (λ same. other (sym same))
       | inr off ↦ ap (λ (ls : List Lane). lane_of ls game) (step_refused workers lanes e off)
     ]
 

@@ -1,8 +1,8 @@
 -- The isolation law of the memory, of what all games' records and blocks are.
-use Rattle.std.proofs.Common.{◌≡◌, ◌≢◌, ℕ, zero, suc, ◌+◌, ◌<◌, ◌≤◌, true, false, List, [], ◌∷◌, length, map, replicate, None, refl, sym, ap, subst, ◌∙◌, arith, inl, inr}
+use Rattle.std.proofs.Common.{◌≡◌, ◌≢◌, ℕ, zero, suc, ◌+◌, ◌<◌, ◌≤◌, true, false, List, [], ◌∷◌, length, map, replicate, Option, None, refl, sym, ap, subst, ◌∙◌, arith, inl, inr}
 use Rattle.std.specs.Prelude.{All, slice_index_or, count_by}
 use Rattle.std.proofs.Math.ListN.{get_or-map}
-use Rattle.std.proofs.lemmas.Bool.{cases_Bool, cond-true, cond-false}
+use Rattle.std.proofs.lemmas.Bool.{cases_Bool, cond-true, cond-false, ltb-true}
 use Rattle.std.proofs.lemmas.List.{length-map, length-replicate, get_or-set_other}
 use Rattle.std.proofs.lemmas.List.Elements.{All-nil, All-cons, All-head, All-tail, All-get_or, All-contains}
 use Rattle.std.proofs.lemmas.List.Sums.{sum_by-cons, get_or-le-sum_by}
@@ -14,7 +14,9 @@ use Rattle.bs_heap.proofs.PackedPlaces.{apart_none}
 use Rattle.bs_pool.specs.declared.reservation.Reservation.{Reservation}
 use Rattle.bs_heap.specs.Charge.{blocks_for}
 use Rattle.bs_pool.specs.Ledger.{Ledger, reserved, is_unowned}
-use Rattle.bs_pool.specs.Reservations.{all_reserved}
+use Rattle.bs_pool.specs.Reservations.{all_reserved, reserved_by}
+use Rattle.bs_sched.specs.Frames.{known}
+use Rattle.bs_board.proofs.Chains.{and_both}
 use Rattle.bs_pool.proofs.Counts.{count_cons}
 use Rattle.bs_sched.specs.declared.plan_blocks.TheConstants.{FRAME_BLOCKS}
 use Rattle.bs_sched.specs.declared.event.Event.{Event}
@@ -24,16 +26,19 @@ use Rattle.bs_sched.specs.Isolation.{HandsFit, alone_event, accepted, is_accepte
 use Rattle.bs_sched.specs.Lane.{Lane, empty_lane}
 use Rattle.bs_sched.specs.Machine.{lane_of, game_of, is_enabled, step, run_of}
 use Rattle.bs_sched.specs.Memory.{Memory, World, block_in, effect_at, world_after, world_step, world_run, opened_world, games_step, games_run}
-use Rattle.bs_sched.specs.PlanBlocks.{blocks_of, blocks_of_all, record_blocks, reservations_from}
-use Rattle.bs_sched.specs.SharedMemory.{IsHosted, shared_world, lone_world, games_with, packing_in, numbers_in, bytes_in, all_held, SharesBlocks, KeepsBytes, IsIsolatedInMemory, MemoryLaw}
+use Rattle.bs_sched.specs.PlanBlocks.{blocks_of, blocks_of_all, record_blocks, reservations_from, reservations_of}
+use Rattle.bs_sched.specs.SharedMemory.{IsHosted, shared_world, lone_world, games_with, packing_in, numbers_in, frames_in, bytes_in, all_framed, all_held, SharesBlocks, KeepsBytes, IsIsolatedInMemory, MemoryLaw}
 use Rattle.bs_sched.specs.Storage.{Storage, packing_of, record_tag, frame_tag, packing_after}
 use Rattle.bs_sched.proofs.EventEffects.{storage_is}
 use Rattle.bs_sched.proofs.Isolation.{runs_alone}
 use Rattle.bs_sched.proofs.LoneLanes.{as_many_after, others_leave}
 use Rattle.bs_sched.proofs.PlacedRecords.{laid_nothing}
-use Rattle.bs_sched.proofs.PlanBlocks.{nothing_held, reserved_for_row}
+use Rattle.bs_sched.proofs.PlanBlocks.{nothing_held, reserved_for_frames, reserved_for_row}
 use Rattle.bs_sched.proofs.RightRuns.{opened_lane, right_opened, right_step}
-use Rattle.bs_sched.proofs.SharedMemory.{KeepsLane, IsWorldStored, AreRight, few_of, can_draw, told_named, stored_after}
+use Rattle.bs_sched.proofs.BegunParts.{few_numbers, none_idle}
+use Rattle.bs_sched.proofs.PartFrames.{length_known}
+use Rattle.bs_sched.proofs.Reframed.{IsFramed, numbers_at}
+use Rattle.bs_sched.proofs.SharedMemory.{KeepsLane, IsWorldStored, AreRight, few_of, can_draw, frame_there, told_named, stored_after}
 use Rattle.bs_sched.proofs.StoredRecords.{of_others}
 
 -- the lanes go their way
@@ -117,6 +122,13 @@ all_free : (blocks : ℕ) → count_by is_unowned (replicate blocks None) ≡ bl
 all_free zero = refl
 all_free (suc blocks) = let one = count_cons is_unowned None (replicate blocks None) in let rest = all_free blocks in omega (arith, one, rest)
 
+none_framed : (rows : List GameRow) → all_framed (map (λ (_ : GameRow). []) rows) ≡ 0
+none_framed [] = refl
+none_framed (row ∷ rows) =
+    let sum = sum_by-cons (λ (ns : List (Option ℕ)). length (known ns)) [] (map (λ (_ : GameRow). []) rows) in
+    let rest = none_framed rows in
+    omega (arith, sum, rest)
+
 none_held : (rows : List GameRow) → all_held (map (λ (_ : GameRow). no_packing) rows) ≡ 0
 none_held [] = refl
 none_held (row ∷ rows) =
@@ -129,9 +141,9 @@ no_bytes zero number = refl
 no_bytes (suc blocks) zero = refl
 no_bytes (suc blocks) (suc number) = no_bytes blocks number
 
-kept_nothing : (cap game quota blocks : ℕ) (pool : Ledger) (memory : Memory) → pool.owners ≡ replicate blocks None → blocks_for cap quota ≤ reserved (record_tag game) pool
-    → KeepsLane cap game (empty_lane quota) no_packing pool memory
-kept_nothing cap game quota blocks pool memory owners room =
+kept_nothing : (cap game : ℕ) (row : GameRow) (blocks : ℕ) (pool : Ledger) (memory : Memory) → pool.owners ≡ replicate blocks None → blocks_for cap row.quota ≤ reserved (record_tag game) pool
+    → KeepsLane cap game (empty_lane row) no_packing pool memory
+kept_nothing cap game row blocks pool memory owners room =
     record {
       within = omega arith;
       full = full_none cap 0;
@@ -141,33 +153,55 @@ kept_nothing cap game quota blocks pool memory owners room =
       reserved = room;
     }
 
+framed_nothing : (cap game : ℕ) (row : GameRow) (rows : List GameRow) (blocks : ℕ) (pool : Ledger) (memory : Memory) → pool.owners ≡ replicate blocks None
+    → game < length rows → pool.reservations ≡ reservations_of cap rows → IsFramed game (empty_lane row) [] pool memory
+framed_nothing cap game row rows blocks pool memory owners within reservations =
+    record {
+      held = nothing_held blocks (frame_tag game) pool owners;
+      room = ap (reserved_by (frame_tag game)) reservations ∙ reserved_for_frames cap game rows within;
+      begun = record { are = refl };
+      bare = All-nil (λ n. block_in memory n ≡ []);
+    }
+
 sound_opened : (cap blocks workers : ℕ) (rows : List GameRow) → IsHosted cap blocks rows → IsSoundWorld cap blocks (opened_world cap blocks workers rows)
 sound_opened cap blocks workers rows hosted =
     let world = opened_world cap blocks workers rows in
     let pool : Ledger = world.storage.pool in
     let none : GameRow → Packing = λ (_ : GameRow). no_packing in
-    let lanes : length (opened_lanes rows) ≡ length rows = length-map rows (λ (row : GameRow). empty_lane row.quota) in
+    let lanes : length (opened_lanes rows) ≡ length rows = length-map rows (λ (row : GameRow). empty_lane row) in
     let packings : length (map none rows) ≡ length rows = length-map rows none in
     let set_aside = reserved_from cap 0 rows in
     let wide = hosted.wide in
     let room = hosted.room in
     let all = all_free blocks in
     let nothing = none_held rows in
+    let framed = none_framed rows in
+    let empty : GameRow → List (Option ℕ) = λ (_ : GameRow). [] in
+    let parts : length (map empty rows) ≡ length rows = length-map rows empty in
     record {
       stored = record {
-        wide = omega (arith, wide);
-        many = omega (arith, lanes, packings);
-        numbers = length-replicate blocks None;
-        bytes = length-replicate blocks [];
-        within = omega (arith, set_aside, room);
-        kept = λ game less.
-            let within : game < length rows = omega (arith, less, lanes) in
-            let reserved_here = reserved_for_row cap game rows (row_of [] 0) within in
-            rw (opened_lane rows game, get_or-map none rows game (row_of [] 0))
-            (kept_nothing cap game (row_at rows game).quota blocks pool world.memory refl (omega (arith, reserved_here)));
-        rest = λ tag other. nothing_held blocks tag pool refl;
-        wiped = λ number is_free. no_bytes blocks number;
-        counts = omega (arith, all, nothing);
+        stored = record {
+          wide = omega (arith, wide);
+          many = omega (arith, lanes, packings);
+          numbers = length-replicate blocks None;
+          bytes = length-replicate blocks [];
+          within = omega (arith, set_aside, room);
+          kept = λ game less.
+              let within : game < length rows = omega (arith, less, lanes) in
+              let reserved_here = reserved_for_row cap game rows (row_of [] 0) within in
+              rw (opened_lane rows game, get_or-map none rows game (row_of [] 0))
+              (kept_nothing cap game (row_at rows game) blocks pool world.memory refl (omega (arith, reserved_here)));
+          rest = λ tag other. nothing_held blocks tag pool refl;
+          wiped = λ number is_free. no_bytes blocks number;
+          counts = omega (arith, all, nothing, framed);
+        };
+        framed = record {
+          many = omega (arith, lanes, parts);
+          each = λ game less.
+              let within : game < length rows = omega (arith, less, lanes) in
+              rw (opened_lane rows game, get_or-map empty rows game (row_of [] 0))
+              (framed_nothing cap game (row_at rows game) rows blocks pool world.memory refl within refl);
+        };
       };
       right = λ game less. right_opened rows game hosted.plan (omega (arith, less, lanes));
     }
@@ -183,7 +217,19 @@ blocks_differ : (cap blocks : ℕ) (world : World) (game other : ℕ) → IsSoun
     → game ≢ other → All (λ number. All (λ n. n ≢ number) (numbers_in world other)) (numbers_in world game)
 blocks_differ cap blocks world game other sound here there differ k d within =
     of_others (record_tag other) (record_tag game) _ (numbers_in world other) world.storage.pool (λ same. differ (omega (arith, same)))
-    (sound.stored.kept other there).held.owned.each ((sound.stored.kept game here).held.owned.each k d within)
+    (sound.stored.stored.kept other there).held.owned.each ((sound.stored.stored.kept game here).held.owned.each k d within)
+
+frames_differ : (cap blocks : ℕ) (world : World) (game other : ℕ) → IsSoundWorld cap blocks world → game < length world.lanes → other < length world.lanes
+    → game ≢ other → All (λ number. All (λ n. n ≢ number) (frames_in world other)) (frames_in world game)
+frames_differ cap blocks world game other sound here there differ k d within =
+    of_others (frame_tag other) (frame_tag game) _ (frames_in world other) world.storage.pool (λ same. differ (omega (arith, same)))
+    (sound.stored.framed.each other there).held.owned.each ((sound.stored.framed.each game here).held.owned.each k d within)
+
+frames_beside : (cap blocks : ℕ) (world : World) (game other : ℕ) → IsSoundWorld cap blocks world → game < length world.lanes → other < length world.lanes
+    → All (λ number. All (λ n. n ≢ number) (numbers_in world other)) (frames_in world game)
+frames_beside cap blocks world game other sound here there k d within =
+    of_others (record_tag other) (frame_tag game) _ (numbers_in world other) world.storage.pool (λ same. absurd (omega (arith, same)))
+    (sound.stored.stored.kept other there).held.owned.each ((sound.stored.framed.each game here).held.owned.each k d within)
 
 -- each place is in a block of its game
 records_differ : (cap blocks : ℕ) (world : World) (game other : ℕ) → IsSoundWorld cap blocks world → game < length world.lanes → other < length world.lanes
@@ -192,8 +238,8 @@ records_differ cap blocks world game other sound here there differ k d within i 
     let p = slice_index_or (packing_in world game).places k d in
     let q = slice_index_or (packing_in world other).places i d' in
     let numbers = blocks_differ cap blocks world game other sound here there differ in
-    let mine = ((sound.stored.kept game here).apart.inside k d within).block in
-    let others = ((sound.stored.kept other there).apart.inside i d' within').block in
+    let mine = ((sound.stored.stored.kept game here).apart.inside k d within).block in
+    let others = ((sound.stored.stored.kept other there).apart.inside i d' within').block in
     let beside : All (λ n. n ≢ p.number) (numbers_in world other)
     = All-contains (λ number. All (λ n. n ≢ number) (numbers_in world other)) (numbers_in world game) p.number numbers mine in
     All-contains (λ n. n ≢ p.number) (numbers_in world other) q.number beside others
@@ -202,25 +248,38 @@ shares_blocks : (cap blocks workers : ℕ) (world : World) → IsSoundWorld cap 
 shares_blocks cap blocks workers world sound =
     let pool = world.storage.pool in
     record {
-      size = sound.stored.numbers;
-      counts = sound.stored.counts;
+      size = sound.stored.stored.numbers;
+      counts = sound.stored.stored.counts;
       apart = λ game other here there differ. blocks_differ cap blocks world game other sound here there differ;
       records_apart = λ game other here there differ. records_differ cap blocks world game other sound here there differ;
-      empty = sound.stored.wiped;
-      frames = λ game. (sound.stored.rest (frame_tag game) (λ other less same. omega (arith, same))).all;
+      empty = sound.stored.stored.wiped;
+      frames = λ game within. (sound.stored.framed.each game within).held;
+      frames_apart = λ game other here there differ. frames_differ cap blocks world game other sound here there differ;
+      frames_hold_none = λ game other here there. frames_beside cap blocks world game other sound here there;
+      idle = λ game within resting. none_idle (lane_of world.lanes game) (numbers_at world.storage.frames game) resting (sound.stored.framed.each game within).begun;
+      few_frames = λ game within.
+          let few = few_numbers (lane_of world.lanes game) (numbers_at world.storage.frames game) (sound.right game within) (sound.stored.framed.each game within).begun in
+          let less = length_known (numbers_at world.storage.frames game) in
+          omega (arith, few, less);
+      drawn = λ worker game p on.
+          let both = and_both _ _ on in
+          let within : game < length world.lanes = ltb-true _ _ both.0 in
+          frame_there cap blocks (all_framed world.storage.frames) world.lanes world.storage.packings world.storage.frames pool world.memory sound.stored.stored sound.stored.framed
+          sound.right game p within (and_both _ _ both.1).0;
       draws = λ e on.
           let named = told_named workers world.lanes e on sound.right in
-          can_draw (effect_at e (lane_of world.lanes (game_of e))) cap blocks world.lanes world.storage.packings pool world.memory (game_of e) sound.stored named.0 named.1.fits;
+          can_draw cap blocks (all_framed world.storage.frames) world.lanes world.storage.packings world.storage.frames pool world.memory sound.stored.stored sound.stored.framed sound.right
+          (effect_at e (lane_of world.lanes (game_of e))) (game_of e) named.0 named.1.fits;
     }
 
 keeps_bytes : (cap blocks : ℕ) (world : World) (game : ℕ) → IsSoundWorld cap blocks world → game < length world.lanes → KeepsBytes cap world game
 keeps_bytes cap blocks world game sound within =
-    let kept = sound.stored.kept game within in
+    let kept = sound.stored.stored.kept game within in
     record {
       bytes = kept.laid.reads;
       places = kept.apart;
       own = kept.held;
-      few = few_of cap (record_tag game) (lane_of world.lanes game) (packing_in world game) world.storage.pool world.memory sound.stored.wide kept;
+      few = few_of cap (record_tag game) (lane_of world.lanes game) (packing_in world game) world.storage.pool world.memory sound.stored.stored.wide kept;
     }
 
 packing_stays : (cap workers : ℕ) (world : World) (game : ℕ) (e : Event) → game_of e ≢ game → packing_in (world_step cap workers world e) game ≡ packing_in world game
@@ -305,7 +364,7 @@ within_run : (cap blocks workers : ℕ) (rows : List GameRow) (events : List Eve
 within_run cap blocks workers rows events game within =
     let lanes = ap length (lanes_run cap workers (opened_world cap blocks workers rows) events) in
     let many = many_after workers (opened_lanes rows) events in
-    let first : length (opened_lanes rows) ≡ length rows = length-map rows (λ (row : GameRow). empty_lane row.quota) in
+    let first : length (opened_lanes rows) ≡ length rows = length-map rows (λ (row : GameRow). empty_lane row) in
     omega (arith, lanes, many, first, within)
 
 isolated : (cap blocks workers : ℕ) (rows : List GameRow) (events : List Event) (game : ℕ) → IsHosted cap blocks rows → All HandsFit events → game < length rows

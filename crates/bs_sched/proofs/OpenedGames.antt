@@ -1,5 +1,5 @@
 -- A core that was just opened: each game's lane and heap are empty, and its blocks are set aside.
-use Rattle.std.proofs.Common.{◌≡◌, ℕ, zero, suc, ◌+◌, ◌<◌, ◌≤◌, true, false, List, [], ◌∷◌, length, map, refl, sym, ap, ◌∙◌, arith}
+use Rattle.std.proofs.Common.{◌≡◌, ℕ, zero, suc, ◌+◌, ◌<◌, ◌≤◌, true, false, List, [], ◌∷◌, Option, length, map, refl, sym, ap, ◌∙◌, arith}
 use Rattle.std.proofs.Math.ListN.{get_or-map}
 use Rattle.std.proofs.lemmas.List.{length-map}
 use Rattle.bs_board.specs.plans.Plan.{GameRow, IsFitPlan, row_of}
@@ -11,12 +11,16 @@ use Rattle.bs_sched.proofs.HandedCommands.{quotas_of_rows}
 use Rattle.bs_sched.specs.declared.games.Games.TheInside.{Inside}
 use Rattle.bs_sched.specs.declared.cores.TheConstants.{LEAST_CAPACITY}
 use Rattle.bs_sched.specs.Games.{row_at}
-use Rattle.bs_sched.specs.GamesLayout.{AreHeapsOf, IsHeapOf, IsSound, heap_of, opened_heaps, opened_heaps_from}
+use Rattle.std.specs.List.{range_with_len}
+use Rattle.std.proofs.lemmas.List.FromFn.{get_or-map-range_with_len, length-map-range_with_len}
+use Rattle.bs_sched.specs.declared.plan_blocks.TheConstants.{FRAME_BLOCKS}
+use Rattle.bs_sched.specs.Frames.{FramesView, AreFramesOf, no_frames}
+use Rattle.bs_sched.specs.GamesLayout.{AreAllFramesOf, AreHeapsOf, IsHeapOf, IsSound, frames_at, heap_of, opened_frames, opened_heaps, opened_heaps_from}
 use Rattle.bs_sched.specs.Lane.{Lane, empty_lane}
 use Rattle.bs_sched.specs.Machine.{lane_of}
 use Rattle.bs_sched.specs.PlanBlocks.{reservations_of}
-use Rattle.bs_sched.specs.Storage.{record_tag}
-use Rattle.bs_sched.proofs.PlanBlocks.{nothing_held, reserved_for_row}
+use Rattle.bs_sched.specs.Storage.{frame_tag, record_tag}
+use Rattle.bs_sched.proofs.PlanBlocks.{nothing_held, reserved_for_frames, reserved_for_row}
 
 many_heaps : (from : ℕ) (rows : List GameRow) → length (opened_heaps_from from rows) ≡ length rows
 many_heaps from [] = refl
@@ -42,13 +46,13 @@ opened_heap : (game : ℕ) (rows : List GameRow) → game < length rows
     → heap_of (opened_heaps rows) game ≡ empty_heap (record_tag game) (row_at rows game).quota
 opened_heap game rows within = heap_from 0 game game rows (omega arith) within
 
-opened_lane : (game : ℕ) (rows : List GameRow) → lane_of (map (λ row. empty_lane row.quota) rows) game ≡ empty_lane (row_at rows game).quota
-opened_lane game rows = get_or-map (λ (row : GameRow). empty_lane row.quota) rows game (row_of [] 0)
+opened_lane : (game : ℕ) (rows : List GameRow) → lane_of (map (λ row. empty_lane row) rows) game ≡ empty_lane (row_at rows game)
+opened_lane game rows = get_or-map (λ (row : GameRow). empty_lane row) rows game (row_of [] 0)
 
 -- an empty heap is an empty lane's where enough blocks are set aside
-empty_heap_of : (cap own quota blocks : ℕ) (pool : Ledger) → pool.owners ≡ (opened blocks).owners → blocks_for cap quota ≤ reserved own pool
-    → IsHeapOf cap own (empty_lane quota) (empty_heap own quota) pool
-empty_heap_of cap own quota blocks pool owners room =
+empty_heap_of : (cap own : ℕ) (row : GameRow) (blocks : ℕ) (pool : Ledger) → pool.owners ≡ (opened blocks).owners → blocks_for cap row.quota ≤ reserved own pool
+    → IsHeapOf cap own (empty_lane row) (empty_heap own row.quota) pool
+empty_heap_of cap own row blocks pool owners room =
     record {
       tag = refl;
       quota = refl;
@@ -59,24 +63,48 @@ empty_heap_of cap own quota blocks pool owners room =
     }
 
 heaps_opened : (cap blocks : ℕ) (rows : List GameRow) (pool : Ledger) → pool ≡ ledger_of (opened blocks).owners (reservations_of cap rows)
-    → AreHeapsOf cap (map (λ row. empty_lane row.quota) rows) (opened_heaps rows) pool
+    → AreHeapsOf cap (map (λ row. empty_lane row) rows) (opened_heaps rows) pool
 heaps_opened cap blocks rows pool is game less =
-    let within : game < length rows = let long = length-map rows (λ (row : GameRow). empty_lane row.quota) in omega (arith, long) in
+    let within : game < length rows = let long = length-map rows (λ (row : GameRow). empty_lane row) in omega (arith, long) in
     let set_aside = reserved_for_row cap game rows (row_of [] 0) within in
     let room : reserved (record_tag game) pool ≡ blocks_for cap (row_at rows game).quota = rw is set_aside in
     rw (opened_heap game rows within, opened_lane game rows)
-    (empty_heap_of cap (record_tag game) (row_at rows game).quota blocks pool (ap (λ (p : Ledger). p.owners) is) (omega (arith, room)))
+    (empty_heap_of cap (record_tag game) (row_at rows game) blocks pool (ap (λ (p : Ledger). p.owners) is) (omega (arith, room)))
+
+-- no game has a frame block yet
+
+numbers_from : (from : ℕ) (rows : List GameRow)
+    → map (λ (f : FramesView). f.numbers) (map (λ game. no_frames (frame_tag game)) (range_with_len from (length rows))) ≡ map (λ _. []) rows
+numbers_from from [] = refl
+numbers_from from (row ∷ rows) = ap (λ (rest : List (List (Option ℕ))). [] ∷ rest) (numbers_from (from + 1) rows)
+
+pub opened_numbers : (rows : List GameRow) → map (λ (f : FramesView). f.numbers) (opened_frames (length rows)) ≡ map (λ _. []) rows
+opened_numbers rows = numbers_from 0 rows
+
+opened_frame : (game many : ℕ) → game < many → frames_at (opened_frames many) game ≡ no_frames (frame_tag game)
+opened_frame game many within = get_or-map-range_with_len (λ g. no_frames (frame_tag g)) 0 many game game (no_frames 0) within (omega arith)
+
+frames_opened : (cap blocks : ℕ) (rows : List GameRow) (pool : Ledger) → pool ≡ ledger_of (opened blocks).owners (reservations_of cap rows)
+    → AreAllFramesOf (map (λ row. empty_lane row) rows) (opened_frames (length rows)) pool
+frames_opened cap blocks rows pool is game less =
+    let within : game < length rows = let long = length-map rows (λ (row : GameRow). empty_lane row) in omega (arith, long) in
+    let room : reserved (frame_tag game) pool ≡ FRAME_BLOCKS = rw is (reserved_for_frames cap game rows within) in
+    let here : AreFramesOf (frame_tag game) (empty_lane (row_at rows game)) (no_frames (frame_tag game)) pool =
+    record { tag = refl; held = nothing_held blocks (frame_tag game) pool (ap (λ (p : Ledger). p.owners) is); room = room; few = omega arith; at = refl } in
+    rw (opened_frame game (length rows) within, opened_lane game rows) here
 
 pub sound_opened : (cap blocks : ℕ) {at : ℕ} (c : Inside at) → LEAST_CAPACITY ≤ cap → IsFitPlan c.rows
-    → c.fibers.items ≡ map (λ row. empty_lane row.quota) c.rows → c.heaps.items ≡ opened_heaps c.rows
-    → c.pool ≡ ledger_of (opened blocks).owners (reservations_of cap c.rows) → IsSound cap c
-sound_opened cap blocks c wide plan fibers heaps pool =
-    let many : length c.fibers.items ≡ length c.rows = ap length fibers ∙ length-map c.rows (λ (row : GameRow). empty_lane row.quota) in
+    → c.fibers.items ≡ map (λ row. empty_lane row) c.rows → c.heaps.items ≡ opened_heaps c.rows
+    → c.frames.items ≡ opened_frames (length c.rows) → c.pool ≡ ledger_of (opened blocks).owners (reservations_of cap c.rows) → IsSound cap c
+sound_opened cap blocks c wide plan fibers heaps frames pool =
+    let many : length c.fibers.items ≡ length c.rows = ap length fibers ∙ length-map c.rows (λ (row : GameRow). empty_lane row) in
     record {
       wide = wide;
       plan = plan;
       lanes = many;
-      quotas = ap (map (λ (x : Lane). x.quota)) fibers ∙ quotas_of_rows c.rows;
+      quotas = ap (map (λ (x : Lane). x.row.quota)) fibers ∙ quotas_of_rows c.rows;
       many = ap length heaps ∙ many_heaps 0 c.rows ∙ sym many;
       heaps = rw (fibers, heaps) (heaps_opened cap blocks c.rows c.pool pool);
+      as_many = ap length frames ∙ length-map-range_with_len (λ g. no_frames (frame_tag g)) 0 (length c.rows) ∙ sym many;
+      frames = rw (fibers, frames) (frames_opened cap blocks c.rows c.pool pool);
     }

@@ -1,5 +1,5 @@
 -- When a ticket holds what its lane has for its job.
-use Rattle.std.proofs.Common.{◌≡◌, ℕ, ◌<◌, Bool, true, length, sym, ap, subst, ◌∙◌}
+use Rattle.std.proofs.Common.{◌≡◌, ℕ, ◌<◌, Bool, true, List, length, sym, ap, subst, ◌∙◌}
 use Rattle.std.specs.Prelude.{IsTrue, ◌↔◌, nat_lt}
 use Rattle.std.proofs.lemmas.Bool.{ltb-true}
 use Rattle.bs_board.proofs.Chains.{and_both}
@@ -11,14 +11,15 @@ use Rattle.bs_fiber.specs.Expected.{IsOf}
 use Rattle.bs_fiber.specs.declared.out.Out.{Out}
 use Rattle.bs_fiber.specs.Fit.{IsFitInput}
 use Rattle.bs_fiber.specs.Seeing.{IsSeen}
+use Rattle.bs_fiber.specs.Tickets.{Frame, TicketView, names_of}
 use Rattle.bs_fiber.specs.Work.{IsWorked, out_seen}
 use Rattle.bs_fiber.proofs.Seen.{both_expected}
 use Rattle.bs_sched.specs.Courses.{IsRight}
-use Rattle.bs_sched.specs.Inputs.{input_for, input_of}
+use Rattle.bs_sched.specs.Inputs.{input_for, input_of, names_for}
 use Rattle.bs_sched.specs.Lane.{Lane, lane_command, lane_view, is_out}
 use Rattle.bs_sched.specs.Games.{GamesView}
 use Rattle.bs_sched.specs.Machine.{lane_of}
-use Rattle.bs_sched.specs.Putting.{IsOwn, IsOwnOf}
+use Rattle.bs_sched.specs.Putting.{IsOwn, IsOwnInput, IsOwnOf}
 use Rattle.bs_sched.proofs.FitInputs.{lane_input, lane_seen}
 
 -- what the lane expects does not depend on the parts
@@ -39,29 +40,29 @@ own_expected x worker job command seq e is_command is_seq expects =
       contents = record { last = here.contents.last; asked = here.contents.asked; command = here.contents.command };
     }
 
-pub own_of_expected : (x : Lane) (worker : ℕ) (ticket : Input) (command : Command) (seq : ℕ) (e : Expected) (answer : Bool) → IsRight x
-    → is_out worker x ticket.job.kind ticket.job.part ≡ true → command ≡ lane_command x → seq ≡ length x.taken
-    → IsOf (input_for x command seq worker ticket.job) e → IsFitInput ticket → IsTrue answer ↔ IsOf ticket e → IsTrue answer ↔ IsOwnOf x worker ticket
+pub own_of_expected : (x : Lane) (worker : ℕ) (ticket : TicketView) (command : Command) (seq : ℕ) (e : Expected) (answer : Bool) → IsRight x
+    → is_out worker x ticket.input.job.kind ticket.input.job.part ≡ true → command ≡ lane_command x → seq ≡ length x.taken
+    → IsOf (input_for x command seq worker ticket.input.job) e → IsFitInput ticket.input → IsTrue answer ↔ IsOf ticket.input e → IsTrue answer ↔ IsOwnOf x worker ticket
 own_of_expected x worker ticket command seq e answer right out is_command is_seq expects fit both =
-    let mine = own_expected x worker ticket.job command seq e is_command is_seq expects in (
+    let mine = own_expected x worker ticket.input.job command seq e is_command is_seq expects in (
       (λ yes.
           record {
             out = out;
-            input = both_expected ticket (input_of x worker ticket.job) e fit (lane_input x worker ticket.job right out) (both.0 yes) mine;
+            input = both_expected ticket.input (input_of x worker ticket.input.job) e fit (lane_input x worker ticket.input.job right out) (both.0 yes) mine;
           }),
       (λ own. both.1 (subst (λ (i : Input). IsOf i e) (sym own.input) mine)),
     )
 
 -- what is brought back of an own job that is out
 
-pub own_there : (core : GamesView) (worker : ℕ) (brought : Input) → IsOwn core worker brought → brought.job.game < length core.lanes
-own_there core worker brought own = ltb-true _ _ (and_both (nat_lt brought.job.game (length core.lanes)) _ own.out).0
+pub own_there : (core : GamesView) (worker : ℕ) (brought : TicketView) → IsOwn core worker brought → brought.input.job.game < length core.lanes
+own_there core worker brought own = ltb-true _ _ (and_both (nat_lt brought.input.job.game (length core.lanes)) _ own.out).0
 
-pub own_out : (core : GamesView) (worker : ℕ) (brought : Input) → IsOwn core worker brought
-    → is_out worker (lane_of core.lanes brought.job.game) brought.job.kind brought.job.part ≡ true
+pub own_out : (core : GamesView) (worker : ℕ) (brought : TicketView) → IsOwn core worker brought
+    → is_out worker (lane_of core.lanes brought.input.job.game) brought.input.job.kind brought.input.job.part ≡ true
 own_out core worker brought own =
-    let rest = (and_both (nat_lt brought.job.game (length core.lanes)) _ own.out).1 in
-    (and_both (is_out worker (lane_of core.lanes brought.job.game) brought.job.kind brought.job.part) true rest).0
+    let rest = (and_both (nat_lt brought.input.job.game (length core.lanes)) _ own.out).1 in
+    (and_both (is_out worker (lane_of core.lanes brought.input.job.game) brought.input.job.kind brought.input.job.part) true rest).0
 
 -- it is what the job comes to from what its lane shows
 pub own_worked : (x : Lane) (worker : ℕ) (brought : Input) (out : Out) → IsRight x → brought ≡ input_of x worker brought.job → IsWorked brought out
@@ -70,18 +71,33 @@ own_worked x worker brought out right is worked =
     let seen : IsSeen (lane_view x) brought = subst (IsSeen (lane_view x)) (sym is) (lane_seen x worker brought.job right) in
     worked (lane_view x) seen ∙ ap (λ (i : Input). out_seen brought.job.kind brought.job.part (lane_view x) i.command) is
 
-pub record IsBrought (core : GamesView) (job : JobName) (value : Out) : Type 0 where
+pub record IsBrought (core : GamesView) (job : JobName) (frames : List Frame) (value : Out) : Type 0 where
   pub there : job.game < length core.lanes
   pub out : (worker : ℕ) × (is_out worker (lane_of core.lanes job.game) job.kind job.part ≡ true)
   pub worked : value ≡ out_seen job.kind job.part (lane_view (lane_of core.lanes job.game)) (lane_command (lane_of core.lanes job.game))
+  pub names : names_of frames ≡ names_for core.storage job
 
-pub brings : (core : GamesView) (worker : ℕ) (brought : Input) (job : JobName) (out : Out) → IsOwn core worker brought → job ≡ brought.job
-    → IsRight (lane_of core.lanes job.game) → IsWorked brought out → IsBrought core job out
+pub brings : (core : GamesView) (worker : ℕ) (brought : TicketView) (job : JobName) (out : Out) → IsOwn core worker brought → job ≡ brought.input.job
+    → IsRight (lane_of core.lanes job.game) → IsWorked brought.input out → IsBrought core job brought.frames out
 brings core worker brought job out own is right worked =
-    subst (λ (j : JobName). IsBrought core j out) (sym is)
+    subst (λ (j : JobName). IsBrought core j brought.frames out) (sym is)
     (record {
       there = own_there core worker brought own;
       out = (worker, own_out core worker brought own);
-      worked = own_worked (lane_of core.lanes brought.job.game) worker brought out
+      worked = own_worked (lane_of core.lanes brought.input.job.game) worker brought.input out
           (subst (λ (j : JobName). IsRight (lane_of core.lanes j.game)) is right) own.input worked;
+      names = own.frames;
     })
+
+-- its input and its blocks
+
+pub input_there : (games : GamesView) (worker : ℕ) (brought : TicketView) → IsOwnInput games worker brought → brought.input.job.game < length games.lanes
+input_there games worker brought own = ltb-true _ _ (and_both (nat_lt brought.input.job.game (length games.lanes)) _ own.out).0
+
+pub own_both : (games : GamesView) (worker : ℕ) (brought : TicketView) (answer : Bool) → IsOwnInput games worker brought
+    → (IsTrue answer ↔ names_of brought.frames ≡ names_for games.storage brought.input.job) → (IsTrue answer ↔ IsOwn games worker brought)
+own_both games worker brought answer own frames =
+    (λ yes. record { out = own.out; input = own.input; frames = frames.0 yes }, λ is. frames.1 is.frames)
+
+pub own_neither : (games : GamesView) (worker : ℕ) (brought : TicketView) → (IsOwnInput games worker brought → ⊥) → IsOwn games worker brought → ⊥
+own_neither games worker brought not_own is = not_own (record { out = is.out; input = is.input })

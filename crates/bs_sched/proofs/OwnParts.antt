@@ -5,7 +5,7 @@ use Rattle.std.specs.List.{list_all}
 use Rattle.std.proofs.lemmas.Bool.{lt-ltb, ltb-true, cond-true}
 use Rattle.std.proofs.lemmas.List.{get_or-set_same, get_or-set_other, length-set}
 use Rattle.bs_board.proofs.Chains.{and_both}
-use Rattle.bs_fiber.specs.declared.input.Input.{Input}
+use Rattle.bs_fiber.specs.Tickets.{TicketView, names_of}
 use Rattle.bs_fiber.specs.declared.job.JobName.{JobName}
 use Rattle.bs_fiber.specs.declared.job.JobKind.TheVariants as kind
 use Rattle.bs_sched.specs.declared.event.Event.TheVariants as event
@@ -15,7 +15,7 @@ use Rattle.bs_sched.specs.declared.stage.Stage.TheVariants as stage
 use Rattle.bs_sched.specs.Core.{CoreView}
 use Rattle.bs_sched.specs.Games.{GamesView, after}
 use Rattle.bs_sched.specs.Inputs.{input_of}
-use Rattle.bs_sched.specs.Lane.{Lane, empty_lane, is_out, is_in_parts, is_part_done, has_part, part_at, with_part_done, stage_with}
+use Rattle.bs_sched.specs.Lane.{Lane, no_lane, is_out, is_in_parts, is_part_done, has_part, part_at, with_part_done, stage_with}
 use Rattle.bs_sched.specs.Isolation.{are_enabled}
 use Rattle.bs_sched.specs.Machine.{lane_of, is_enabled, step, lane_effect}
 use Rattle.bs_sched.specs.Parts.{IsOwnPart, AreOwnParts, part_job, core_run, puts_of}
@@ -42,11 +42,11 @@ out_still x worker p q other out =
     rw (left, has) refl
 
 -- the parts that are to come back, from the p-th on
-abbrev pub AreOwnFrom : GamesView → ℕ → ℕ → List (Option Input) → Type 0
+abbrev pub AreOwnFrom : GamesView → ℕ → ℕ → List (Option TicketView) → Type 0
 AreOwnFrom games game p [] = Unit {0}
 AreOwnFrom games game p (one ∷ completed) = IsOwnPart games game p one × AreOwnFrom games game (p + 1) completed
 
-from_each : (games : GamesView) (game p : ℕ) (completed : List (Option Input))
+from_each : (games : GamesView) (game p : ℕ) (completed : List (Option TicketView))
     → ((i : ℕ) → i < length completed → IsOwnPart games game (p + i) (slice_index_or completed i None)) → AreOwnFrom games game p completed
 from_each games game p [] each = tt
 from_each games game p (one ∷ completed) each =
@@ -56,99 +56,100 @@ from_each games game p (one ∷ completed) each =
           (λ i within. let next : p + suc i ≡ p + 1 + i = omega arith in subst (λ (k : ℕ). IsOwnPart games game k (slice_index_or completed i None)) next (each (suc i) (omega arith))),
     )
 
-pub from_all : (games : GamesView) (completed : List (Option Input)) (are : AreOwnParts games completed) → AreOwnFrom games are.game 0 completed
+pub from_all : (games : GamesView) (completed : List (Option TicketView)) (are : AreOwnParts games completed) → AreOwnFrom games are.game 0 completed
 from_all games completed are =
     from_each games are.game 0 completed (λ i within. let none : i ≡ 0 + i = omega arith in subst (λ (k : ℕ). IsOwnPart games are.game k (slice_index_or completed i None)) none (are.each i within))
 
 -- one of them is back, and another is still the core's own
-own_still : (cap : ℕ) (games : GamesView) (game p q worker : ℕ) (one : Option Input) → p ≢ q → IsOwnPart games game q one
+own_still : (cap : ℕ) (games : GamesView) (game p q worker : ℕ) (one : Option TicketView) → p ≢ q → IsOwnPart games game q one
     → IsOwnPart (after cap games (event.Put worker (part_job game p))) game q one
 own_still cap games game p q worker one other own =
-    let done : Input = own.done in
-    let is : done.job ≡ part_job game q = own.job in
+    let done : TicketView = own.done in
+    let is : done.input.job ≡ part_job game q = own.job in
     let x = lane_of games.lanes game in
     let new = after cap games (event.Put worker (part_job game p)) in
-    let there : game < length games.lanes = subst (λ (j : JobName). j.game < length games.lanes) is (own_there games done.worker done own.own) in
-    let out : is_out done.worker x kind.Part q ≡ true
-    = subst (λ (j : JobName). is_out done.worker (lane_of games.lanes j.game) j.kind j.part ≡ true) is (own_out games done.worker done own.own) in
-    let lane : lane_of new.lanes game ≡ with_part_done p x = get_or-set_same games.lanes game (with_part_done p x) (empty_lane 0) there in
+    let there : game < length games.lanes = subst (λ (j : JobName). j.game < length games.lanes) is (own_there games done.input.worker done own.own) in
+    let out : is_out done.input.worker x kind.Part q ≡ true
+    = subst (λ (j : JobName). is_out done.input.worker (lane_of games.lanes j.game) j.kind j.part ≡ true) is (own_out games done.input.worker done own.own) in
+    let lane : lane_of new.lanes game ≡ with_part_done p x = get_or-set_same games.lanes game (with_part_done p x) no_lane there in
     let many : length new.lanes ≡ length games.lanes = length-set games.lanes game (with_part_done p x) in
     let here : nat_lt game (length new.lanes) ≡ true = lt-ltb _ _ (omega (arith, many)) in
-    let still : is_out done.worker (lane_of new.lanes game) kind.Part q ≡ true = rw lane (out_still x done.worker p q other out) in
-    let enabled : is_enabled new.workers new.lanes (event.Put done.worker (part_job game q)) ≡ true = rw (here, still) refl in
-    let input : input_of (lane_of new.lanes game) done.worker (part_job game q) ≡ input_of x done.worker (part_job game q)
-    = ap (λ (y : Lane). input_of y done.worker (part_job game q)) lane in
-    let before : done ≡ input_of x done.worker (part_job game q)
-    = subst (λ (j : JobName). done ≡ input_of (lane_of games.lanes j.game) done.worker j) is own.own.input in
+    let still : is_out done.input.worker (lane_of new.lanes game) kind.Part q ≡ true = rw lane (out_still x done.input.worker p q other out) in
+    let enabled : is_enabled new.workers new.lanes (event.Put done.input.worker (part_job game q)) ≡ true = rw (here, still) refl in
+    let input : input_of (lane_of new.lanes game) done.input.worker (part_job game q) ≡ input_of x done.input.worker (part_job game q)
+    = ap (λ (y : Lane). input_of y done.input.worker (part_job game q)) lane in
+    let before : done.input ≡ input_of x done.input.worker (part_job game q)
+    = subst (λ (j : JobName). done.input ≡ input_of (lane_of games.lanes j.game) done.input.worker j) is own.own.input in
     record {
       done = done;
       is = own.is;
       job = is;
       own = record {
-        out = subst (λ (j : JobName). is_enabled new.workers new.lanes (event.Put done.worker j) ≡ true) (sym is) enabled;
-        input = subst (λ (j : JobName). done ≡ input_of (lane_of new.lanes j.game) done.worker j) (sym is) (before ∙ sym input);
+        out = subst (λ (j : JobName). is_enabled new.workers new.lanes (event.Put done.input.worker j) ≡ true) (sym is) enabled;
+        input = subst (λ (j : JobName). done.input ≡ input_of (lane_of new.lanes j.game) done.input.worker j) (sym is) (before ∙ sym input);
+        frames = own.own.frames;
       };
     }
 
-pub own_rest : (cap : ℕ) (games : GamesView) (game p k worker : ℕ) (completed : List (Option Input)) → p < k → AreOwnFrom games game k completed
+pub own_rest : (cap : ℕ) (games : GamesView) (game p k worker : ℕ) (completed : List (Option TicketView)) → p < k → AreOwnFrom games game k completed
     → AreOwnFrom (after cap games (event.Put worker (part_job game p))) game k completed
 own_rest cap games game p k worker [] less own = tt
 own_rest cap games game p k worker (one ∷ completed) less own =
     (own_still cap games game p k worker one (λ e. absurd (omega arith)) own.0, own_rest cap games game p (k + 1) worker completed (omega arith) own.1)
 
 -- the first of them names the game
-pub first_part : (games : GamesView) (completed : List (Option Input)) (first : Input) → slice_get completed 0 ≡ Some (Some first) → (are : AreOwnParts games completed)
-    → (are.game ≡ first.job.game) × (first.job.game < length games.lanes)
+pub first_part : (games : GamesView) (completed : List (Option TicketView)) (first : TicketView) → slice_get completed 0 ≡ Some (Some first) → (are : AreOwnParts games completed)
+    → (are.game ≡ first.input.job.game) × (first.input.job.game < length games.lanes)
 first_part games [] first is are = let wrong : None ≡ Some (Some first) = is in absurd cc
 first_part games (x ∷ completed) first is are =
     let own = are.each 0 are.some in
     let same : own.done ≡ first = let e : x ≡ Some own.done = own.is in let f : Some x ≡ Some (Some first) = is in cc in
-    let job : first.job ≡ part_job are.game 0 = ap (λ (i : Input). i.job) (sym same) ∙ own.job in
-    let game : are.game ≡ first.job.game = ap (λ (j : JobName). j.game) (sym job) in
-    (game, subst (λ (i : Input). i.job.game < length games.lanes) same (own_there games own.done.worker own.done own.own))
+    let job : first.input.job ≡ part_job are.game 0 = ap (λ (i : TicketView). i.input.job) (sym same) ∙ own.job in
+    let game : are.game ≡ first.input.job.game = ap (λ (j : JobName). j.game) (sym job) in
+    (game, subst (λ (i : TicketView). i.input.job.game < length games.lanes) same (own_there games own.done.input.worker own.done own.own))
 
-abbrev pub NextPart : ℕ → CoreView → CoreView → ℕ → ℕ → List (Option Input) → List (Option Input) → Type 0
+abbrev pub NextPart : ℕ → CoreView → CoreView → ℕ → ℕ → List (Option TicketView) → List (Option TicketView) → Type 0
 NextPart cap old new game p items rest = AreOwnFrom new.games game (p + 1) rest × (core_run cap new (puts_of rest) ≡ core_run cap old (puts_of items))
 
-next_of : (cap : ℕ) (old : CoreView) (game p : ℕ) (one : Option Input) (rest : List (Option Input)) → AreOwnFrom old.games game p (one ∷ rest)
+next_of : (cap : ℕ) (old : CoreView) (game p : ℕ) (one : Option TicketView) (rest : List (Option TicketView)) → AreOwnFrom old.games game p (one ∷ rest)
     → NextPart cap old (core_run cap old (puts_of (one ∷ []))) game p (one ∷ rest) rest
 next_of cap old game p None rest own = let wrong : None ≡ Some own.0.done = own.0.is in absurd cc
 next_of cap old game p (Some done) rest own =
     let same : own.0.done ≡ done = let e : Some done ≡ Some own.0.done = own.0.is in cc in
-    let job : done.job ≡ part_job game p = ap (λ (i : Input). i.job) (sym same) ∙ own.0.job in (
-      subst (λ (j : JobName). AreOwnFrom (after cap old.games (event.Put done.worker j)) game (p + 1) rest) (sym job)
-          (own_rest cap old.games game p (p + 1) done.worker rest (omega arith) own.1),
+    let job : done.input.job ≡ part_job game p = ap (λ (i : TicketView). i.input.job) (sym same) ∙ own.0.job in (
+      subst (λ (j : JobName). AreOwnFrom (after cap old.games (event.Put done.input.worker j)) game (p + 1) rest) (sym job)
+          (own_rest cap old.games game p (p + 1) done.input.worker rest (omega arith) own.1),
       refl,
     )
 
 -- the first of those that are left is completed back
-pub next_part : (cap : ℕ) (old new : CoreView) (game p : ℕ) (items : List (Option Input)) (one : Option Input) → 0 < length items → AreOwnFrom old.games game p items
+pub next_part : (cap : ℕ) (old new : CoreView) (game p : ℕ) (items : List (Option TicketView)) (one : Option TicketView) → 0 < length items → AreOwnFrom old.games game p items
     → one ≡ slice_index_or items 0 one → new ≡ core_run cap old (puts_of (one ∷ [])) → NextPart cap old new game p items (remove items 0)
 next_part cap old new game p [] one some own is run = absurd (omega arith)
 next_part cap old new game p (x ∷ rest) one some own is run =
     subst (λ (core : CoreView). NextPart cap old core game p (x ∷ rest) rest) (sym run)
-    (subst (λ (y : Option Input). NextPart cap old (core_run cap old (puts_of (y ∷ []))) game p (x ∷ rest) rest) (sym is) (next_of cap old game p x rest own))
+    (subst (λ (y : Option TicketView). NextPart cap old (core_run cap old (puts_of (y ∷ []))) game p (x ∷ rest) rest) (sym is) (next_of cap old game p x rest own))
 
-pub own_next : (games : GamesView) (game p : ℕ) (items : List (Option Input)) (one : Option Input) → 0 < length items → AreOwnFrom games game p items
+pub own_next : (games : GamesView) (game p : ℕ) (items : List (Option TicketView)) (one : Option TicketView) → 0 < length items → AreOwnFrom games game p items
     → one ≡ slice_index_or items 0 one → IsOwnPart games game p one
 own_next games game p [] one some own is = absurd (omega arith)
 own_next games game p (x ∷ rest) one some own is = subst (IsOwnPart games game p) (sym is) own.0
 
 -- each is enabled where it comes
-enabled_from : (games : GamesView) (game p : ℕ) (completed : List (Option Input)) → AreOwnFrom games game p completed
+enabled_from : (games : GamesView) (game p : ℕ) (completed : List (Option TicketView)) → AreOwnFrom games game p completed
     → are_enabled games.workers games.lanes (puts_of completed) ≡ true
 enabled_from games game p [] own = refl
 enabled_from games game p (None ∷ rest) own = let wrong : None ≡ Some own.0.done = own.0.is in absurd cc
 enabled_from games game p (Some done ∷ rest) own =
-    let e = event.Put done.worker done.job in
+    let e = event.Put done.input.worker done.input.job in
     let same : own.0.done ≡ done = let e : Some done ≡ Some own.0.done = own.0.is in cc in
-    let job : done.job ≡ part_job game p = ap (λ (i : Input). i.job) (sym same) ∙ own.0.job in
-    let here : is_enabled games.workers games.lanes e ≡ true = subst (λ (i : Input). is_enabled games.workers games.lanes (event.Put i.worker i.job) ≡ true) same own.0.own.out in
-    let next = subst (λ (j : JobName). AreOwnFrom (after 0 games (event.Put done.worker j)) game (p + 1) rest) (sym job)
-    (own_rest 0 games game p (p + 1) done.worker rest (omega arith) own.1) in
+    let job : done.input.job ≡ part_job game p = ap (λ (i : TicketView). i.input.job) (sym same) ∙ own.0.job in
+    let here : is_enabled games.workers games.lanes e ≡ true = subst (λ (i : TicketView). is_enabled games.workers games.lanes (event.Put i.input.worker i.input.job) ≡ true) same own.0.own.out in
+    let next = subst (λ (j : JobName). AreOwnFrom (after 0 games (event.Put done.input.worker j)) game (p + 1) rest) (sym job)
+    (own_rest 0 games game p (p + 1) done.input.worker rest (omega arith) own.1) in
     let goes : step games.workers games.lanes e ≡ lane_effect games.lanes e = cond-true _ (lane_effect games.lanes e) games.lanes here in
     both_true (is_enabled games.workers games.lanes e) _ here
     (subst (λ (lanes : List Lane). are_enabled games.workers lanes (puts_of rest) ≡ true) (sym goes) (enabled_from (after 0 games e) game (p + 1) rest next))
 
-pub all_enabled : (games : GamesView) (completed : List (Option Input)) → AreOwnParts games completed → are_enabled games.workers games.lanes (puts_of completed) ≡ true
+pub all_enabled : (games : GamesView) (completed : List (Option TicketView)) → AreOwnParts games completed → are_enabled games.workers games.lanes (puts_of completed) ≡ true
 all_enabled games completed are = enabled_from games are.game 0 completed (from_all games completed are)

@@ -1,6 +1,6 @@
 -- The slots of a move's parts: filled, emptied and read.
 use Rattle.std.proofs.Common.{◌≡◌, ℕ, zero, suc, ◌+◌, ◌<◌, ◌≤◌, true, false, List, [], ◌∷◌, ◌++◌, Option, Some, None, length, take, drop, map, slice_index_or, refl, sym, ap, ◌∙◌, subst, arith, inl, inr}
-use Rattle.std.specs.Prelude.{slice_get, slice_set, replicate, option_to_list, nat_lt}
+use Rattle.std.specs.Prelude.{slice_set, replicate, option_to_list, nat_lt}
 use Rattle.std.specs.List.{filter_map, list_all, range_with_len}
 use Rattle.std.proofs.Math.ListN.{set, get_or}
 use Rattle.std.proofs.lemmas.Grind.{get_or-set_at}
@@ -10,7 +10,6 @@ use Rattle.bs_modes.proofs.InPlace.{set_next}
 use Rattle.std.proofs.lemmas.Bool.{cases_Bool, cases_eq, ltb-true, ltb-false}
 use Rattle.std.proofs.lemmas.List.{take_more, length-map, get_or-map, get_or_past}
 use Rattle.std.proofs.lemmas.List.Elements.{filter_map-append}
-use Rattle.bs_counter.specs.Keys.{Key, AreKeys}
 use Rattle.bs_board.specs.declared.commands.command.Command.{Command}
 use Rattle.bs_board.specs.declared.boards.snake.Snake.{Snake}
 use Rattle.bs_game.specs.declared.view.View.{View}
@@ -24,7 +23,7 @@ use Rattle.bs_sched.specs.Lane.{is_part_done, is_part_ready}
 use Rattle.bs_sched.specs.Slots.{state_of, emptied, moved_in}
 
 one_moved : (x : Slot) → filter_map moved_in (x ∷ []) ≡ option_to_list (moved_in x)
-one_moved (slot.Ready key) = refl
+one_moved slot.Ready = refl
 one_moved (slot.Out worker) = refl
 one_moved (slot.Done None) = refl
 one_moved (slot.Done (Some moved)) = refl
@@ -62,31 +61,31 @@ moved_next xs zs i x before after one is here within e was next =
     let last : filter_map moved_in (x ∷ []) ≡ option_to_list (moved_in x) = one_moved x in
     rw (next, was, e, more, same, filter_map-append, last) refl
 
-pub ready_states : (keys : List Key) → map state_of (map (λ key. slot.Ready key) keys) ≡ replicate (length keys) part.Ready
-ready_states [] = refl
-ready_states (key ∷ keys) = ap (λ rest. part.Ready ∷ rest) (ready_states keys)
+pub ready_states : (n : ℕ) → map state_of (replicate n slot.Ready) ≡ replicate n part.Ready
+ready_states zero = refl
+ready_states (suc n) = ap (λ rest. part.Ready ∷ rest) (ready_states n)
 
 pub emptied_states : (slots : List Slot) → map state_of (map emptied slots) ≡ map state_of slots
 emptied_states [] = refl
-emptied_states (slot.Ready key ∷ slots) = ap (λ rest. part.Ready ∷ rest) (emptied_states slots)
+emptied_states (slot.Ready ∷ slots) = ap (λ rest. part.Ready ∷ rest) (emptied_states slots)
 emptied_states (slot.Out worker ∷ slots) = ap (λ rest. part.Out worker ∷ rest) (emptied_states slots)
 emptied_states (slot.Done moved ∷ slots) = ap (λ rest. part.Done ∷ rest) (emptied_states slots)
 
 pub few_collected : (slots : List Slot) (i : ℕ) → length (filter_map moved_in (take i slots)) ≤ i
 few_collected slots zero = omega arith
 few_collected [] (suc i) = omega arith
-few_collected (slot.Ready key ∷ slots) (suc i) = let rest = few_collected slots i in omega (arith, rest)
+few_collected (slot.Ready ∷ slots) (suc i) = let rest = few_collected slots i in omega (arith, rest)
 few_collected (slot.Out worker ∷ slots) (suc i) = let rest = few_collected slots i in omega (arith, rest)
 few_collected (slot.Done None ∷ slots) (suc i) = let rest = few_collected slots i in omega (arith, rest)
 few_collected (slot.Done (Some moved) ∷ slots) (suc i) = let rest = few_collected slots i in omega (arith, rest)
 
 -- what all parts moved, by their numbers from k on
 collected_from : (view : View) (command : Command) (slots : List Slot) (k : ℕ)
-    → ((p : ℕ) → p < length slots → IsSlot false (k + p) view command (slice_index_or slots p (slot.Out 0)))
+    → ((p : ℕ) → p < length slots → IsSlot false (k + p) view command (slice_index_or slots p slot.Ready))
     → list_all is_part_done (map state_of slots) ≡ true
     → filter_map moved_in slots ≡ map (λ p. moved_part p view command) (range_with_len k (length slots))
 collected_from view command [] k right done = refl
-collected_from view command (slot.Ready key ∷ slots) k right done = let wrong : false ≡ true = done in cc
+collected_from view command (slot.Ready ∷ slots) k right done = let wrong : false ≡ true = done in cc
 collected_from view command (slot.Out worker ∷ slots) k right done = let wrong : false ≡ true = done in cc
 collected_from view command (slot.Done None ∷ slots) k right done = absurd (right 0 (omega arith))
 collected_from view command (slot.Done (Some moved) ∷ slots) k right done =
@@ -107,34 +106,13 @@ collected view command slots right done =
     rw same (collected_from view command slots 0 (λ p within. let none : 0 + p ≡ p = omega arith in rw none (right p within)) done)
 
 -- emptied slots are those of parts that are joined
-emptied_at : (view : View) (command : Command) (slots : List Slot) → list_all is_part_done (map state_of slots) ≡ true
-    → (p q : ℕ) → p < length (map emptied slots) → IsSlot true q view command (slice_index_or (map emptied slots) p (slot.Out 0))
-emptied_at view command [] done p q within = absurd (omega arith)
-emptied_at view command (slot.Ready key ∷ slots) done p q within = let wrong : false ≡ true = done in absurd cc
-emptied_at view command (slot.Out worker ∷ slots) done p q within = let wrong : false ≡ true = done in absurd cc
-emptied_at view command (slot.Done moved ∷ slots) done zero q within = tt
-emptied_at view command (slot.Done moved ∷ slots) done (suc p) q within = emptied_at view command slots done p q (omega arith)
-
 pub emptied_right : (view : View) (command : Command) (slots : List Slot) → list_all is_part_done (map state_of slots) ≡ true
     → AreSlots true view command (map emptied slots)
-emptied_right view command slots done p within = emptied_at view command slots done p p within
-
--- the parts of a move that goes are ready, each with its key
-
-ready_at : (keys : List Key) (p : ℕ) (key : Key) → slice_get keys p ≡ Some key → slice_index_or (map (λ k. slot.Ready k) keys) p (slot.Out 0) ≡ slot.Ready key
-ready_at [] p key is = let wrong : None ≡ Some key = is in absurd cc
-ready_at (first ∷ keys) zero key is = let same : first ≡ key = let e : Some first ≡ Some key = is in cc in ap (λ (k : Key). slot.Ready k) same
-ready_at (first ∷ keys) (suc p) key is = ready_at keys p key is
-
-pub ready_right : (view : View) (command : Command) (n : ℕ) (keys : List Key) (slots : List Slot) → AreKeys n keys → slots ≡ map (λ k. slot.Ready k) keys
-    → AreSlots false view command slots
-ready_right view command n keys slots are is =
-    subst (AreSlots false view command) (sym is)
-    (λ p within.
-    let many = length-map keys (λ k. slot.Ready k) in
-    let all = are.1.all in
-    let here = are.1.each p (omega arith) in
-    subst (λ (s : Slot). IsSlot false p view command s) (sym (ready_at keys p here.0 here.1)) here.2)
+emptied_right view command (slot.Done moved ∷ slots) done zero within = tt
+emptied_right view command (slot.Done moved ∷ slots) done (suc p) within = emptied_right view command slots done p (omega arith)
+emptied_right view command [] done p within = tt
+emptied_right view command (slot.Ready ∷ slots) done p within = let wrong : false ≡ true = done in absurd cc
+emptied_right view command (slot.Out worker ∷ slots) done p within = let wrong : false ≡ true = done in absurd cc
 
 -- a slot is written
 pub slots_set : (view : View) (command : Command) (slots : List Slot) (i : ℕ) (new : Slot) → AreSlots false view command slots
@@ -144,10 +122,10 @@ slots_set view command (x ∷ slots) i new right here p within =
     elim (cases_eq p i) [
       | inl same ↦
           let there : i < length (x ∷ slots) = let l = length-set (x ∷ slots) i new in omega (arith, l) in
-          subst (λ (y : Slot). IsSlot false p view command y) (sym (get_or-set_at (x ∷ slots) i p new (slot.Out 0) same there))
+          subst (λ (y : Slot). IsSlot false p view command y) (sym (get_or-set_at (x ∷ slots) i p new slot.Ready same there))
           (subst (λ (q : ℕ). IsSlot false q view command new) (sym same) here)
       | inr differ ↦
-          subst (λ (y : Slot). IsSlot false p view command y) (sym (get_or-set_other (x ∷ slots) i p new (slot.Out 0) differ))
+          subst (λ (y : Slot). IsSlot false p view command y) (sym (get_or-set_other (x ∷ slots) i p new slot.Ready differ))
           (right p (let l = length-set (x ∷ slots) i new in omega (arith, l)))
     ]
 

@@ -60,6 +60,22 @@ pub reserved_for_row : (cap game : ℕ) (rows : List GameRow) (d : GameRow) → 
     → reserved_by (2 * game) (reservations_of cap rows) ≡ record_blocks cap (slice_index_or rows game d)
 reserved_for_row cap game rows d within = reserved_place cap 0 game game rows d (omega arith) within
 
+-- and where its frame blocks stand
+frames_place : (cap from place at : ℕ) (rows : List GameRow) → at ≡ from + place → place < length rows
+    → reserved_by (2 * at + 1) (reservations_from cap from rows) ≡ FRAME_BLOCKS
+frames_place cap from place at [] is within = absurd (omega arith)
+frames_place cap from zero at (row ∷ rows) is within =
+    let beside : nat_eq (2 * from) (2 * at + 1) ≡ false = ne_eqb _ _ (λ same. omega arith) in
+    let here : nat_eq (2 * from + 1) (2 * at + 1) ≡ true = eq-eqb _ _ (omega arith) in
+    rw (beside, here) refl
+frames_place cap from (suc place) at (row ∷ rows) is within =
+    let beside : nat_eq (2 * from) (2 * at + 1) ≡ false = ne_eqb _ _ (λ same. omega arith) in
+    let next : nat_eq (2 * from + 1) (2 * at + 1) ≡ false = ne_eqb _ _ (λ same. omega arith) in
+    rw (beside, next) (frames_place cap (from + 1) place at rows (omega arith) (omega arith))
+
+pub reserved_for_frames : (cap game : ℕ) (rows : List GameRow) → game < length rows → reserved_by (2 * game + 1) (reservations_of cap rows) ≡ FRAME_BLOCKS
+reserved_for_frames cap game rows within = frames_place cap 0 game game rows (omega arith) within
+
 -- no tag has a block of a pool that was just opened
 pub nothing_held : (blocks tag : ℕ) (pool : Ledger) → pool.owners ≡ (opened blocks).owners → Holds tag [] pool
 nothing_held blocks tag pool same =

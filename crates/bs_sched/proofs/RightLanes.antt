@@ -43,7 +43,7 @@ pub right_lane : (f : Inside) → IsFiber f → IsRight (lane_in f)
 right_lane f kept =
     let answered = answered_in f kept.begun in
     let fits : All Fits (take (answered_count f.stage f.begun) f.commands.items) = All-take Fits (answered_count f.stage f.begun) f.commands.items kept.fits in
-    let game = course_is_game f.quota (take (answered_count f.stage f.begun) f.commands.items) fits in
+    let game = course_is_game f.row.quota (take (answered_count f.stage f.begun) f.commands.items) fits in
     record {
       small = kept.small;
       taken = All-take Fits f.begun f.commands.items kept.fits;

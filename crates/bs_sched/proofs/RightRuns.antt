@@ -79,23 +79,23 @@ last_behind xs d some =
 
 -- a command is answered
 
-answered_course : (x : Lane) → IsRight x → is_idle x.stage ≡ false → course_of x.quota x.taken ≡ course_with x.quota (course_of x.quota (answered_commands x)) (lane_command x)
+answered_course : (x : Lane) → IsRight x → is_idle x.stage ≡ false → course_of x.row.quota x.taken ≡ course_with x.row.quota (course_of x.row.quota (answered_commands x)) (lane_command x)
 answered_course x right busy =
     let some = right.some busy in
     let all : x.taken ≡ answered_commands x ++ lane_command x ∷ []
     = last_behind x.taken command.Bad some ∙ ap (λ cs. cs ++ lane_command x ∷ []) (sym (answered_busy x busy)) in
-    ap (course_of x.quota) all ∙ course_snoc x.quota (answered_commands x) (lane_command x)
+    ap (course_of x.row.quota) all ∙ course_snoc x.row.quota (answered_commands x) (lane_command x)
 
 pub right_answered : (x : Lane) → IsRight x → is_idle x.stage ≡ false → IsRight (answered x)
 right_answered x right busy =
     let course = answered_course x right busy in
-    let game : (lane_outcome x).game ≡ (course_of x.quota x.taken).game
-    = ap (λ g. (answer_to x.quota g (lane_command x)).game) right.course.game ∙ sym (ap (λ c. c.game) course) in
-    let replies : x.replies ++ (lane_outcome x).reply ∷ [] ≡ (course_of x.quota x.taken).replies
-    = ap (λ g. x.replies ++ (answer_to x.quota g (lane_command x)).reply ∷ []) right.course.game
-    ∙ ap (λ rs. rs ++ (answer_to x.quota (course_of x.quota (answered_commands x)).game (lane_command x)).reply ∷ []) right.course.replies
+    let game : (lane_outcome x).game ≡ (course_of x.row.quota x.taken).game
+    = ap (λ g. (answer_to x.row.quota g (lane_command x)).game) right.course.game ∙ sym (ap (λ c. c.game) course) in
+    let replies : x.replies ++ (lane_outcome x).reply ∷ [] ≡ (course_of x.row.quota x.taken).replies
+    = ap (λ g. x.replies ++ (answer_to x.row.quota g (lane_command x)).reply ∷ []) right.course.game
+    ∙ ap (λ rs. rs ++ (answer_to x.row.quota (course_of x.row.quota (answered_commands x)).game (lane_command x)).reply ∷ []) right.course.replies
     ∙ sym (ap (λ c. c.replies) course) in
-    let whole = course_is_game x.quota x.taken right.taken in
+    let whole = course_is_game x.row.quota x.taken right.taken in
     record {
       small = right.small;
       taken = right.taken;
@@ -235,9 +235,9 @@ right_run workers lanes (e ∷ events) game fit right =
 
 -- a lane that was just opened
 
-right_empty : (quota : ℕ) → quota ≤ MOST_QUOTA → IsRight (empty_lane quota)
-right_empty quota small =
-    let course = course_is_game quota [] (All-nil Fits) in
+right_empty : (row : GameRow) → row.quota ≤ MOST_QUOTA → IsRight (empty_lane row)
+right_empty row small =
+    let course = course_is_game row.quota [] (All-nil Fits) in
     record {
       small = small;
       taken = All-nil Fits;
@@ -252,10 +252,10 @@ right_empty quota small =
 small_quota : (row : GameRow) → is_fit_row row ≡ true → row.quota ≤ MOST_QUOTA
 small_quota row fit = leb-true row.quota MOST_QUOTA (and_both _ _ fit).1
 
-pub opened_lane : (rows : List GameRow) (game : ℕ) → lane_of (opened_lanes rows) game ≡ empty_lane (row_at rows game).quota
-opened_lane rows game = get_or-map (λ (row : GameRow). empty_lane row.quota) rows game (row_of [] 0)
+pub opened_lane : (rows : List GameRow) (game : ℕ) → lane_of (opened_lanes rows) game ≡ empty_lane (row_at rows game)
+opened_lane rows game = get_or-map (λ (row : GameRow). empty_lane row) rows game (row_of [] 0)
 
 pub right_opened : (rows : List GameRow) (game : ℕ) → IsFitPlan rows → game < length rows → IsRight (lane_of (opened_lanes rows) game)
 right_opened rows game plan within =
     rw (opened_lane rows game)
-    (right_empty (row_at rows game).quota (small_quota (row_at rows game) (All-get_or (λ row. is_fit_row row ≡ true) rows game (row_of [] 0) within plan.rows_fit)))
+    (right_empty (row_at rows game) (small_quota (row_at rows game) (All-get_or (λ row. is_fit_row row ≡ true) rows game (row_of [] 0) within plan.rows_fit)))

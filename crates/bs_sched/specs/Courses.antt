@@ -13,8 +13,8 @@ abbrev pub answered_commands : Lane → List Command
 answered_commands x = if is_idle x.stage then x.taken else take (length x.taken - 1) x.taken
 
 pub record IsOnCourse (x : Lane) : Type 0 where
-  pub replies : x.replies ≡ (course_of x.quota (answered_commands x)).replies
-  pub game : x.game ≡ (course_of x.quota (answered_commands x)).game
+  pub replies : x.replies ≡ (course_of x.row.quota (answered_commands x)).replies
+  pub game : x.game ≡ (course_of x.row.quota (answered_commands x)).game
 
 -- a move in its parts goes, and has as many parts as its board needs
 pub record IsMove (x : Lane) : Type 0 where
@@ -22,11 +22,11 @@ pub record IsMove (x : Lane) : Type 0 where
   pub parts : length x.parts ≡ parts_of (length (snakes_in (last_board x.game)))
 
 pub record IsRight (x : Lane) : Type 0 where
-  pub small : x.quota ≤ MOST_QUOTA
+  pub small : x.row.quota ≤ MOST_QUOTA
   pub taken : All Fits x.taken
   pub waiting : All Fits x.waiting
   pub some : is_idle x.stage ≡ false → 0 < length x.taken
   pub course : IsOnCourse x
   pub right : IsGame x.game
-  pub within : game_charge x.game ≤ x.quota
+  pub within : game_charge x.game ≤ x.row.quota
   pub moves : is_playing x.stage ≡ true → IsMove x

@@ -1,5 +1,5 @@
 -- All games of a plan, with the blocks in which their records lie.
-use Rattle.std.specs.Prelude.{ℕ, Bool, false, if◌then◌else◌, List, map, replicate, [], slice_index_or, slice_set, None}
+use Rattle.std.specs.Prelude.{ℕ, Bool, false, if◌then◌else◌, List, length, map, replicate, [], slice_index_or, slice_set, None}
 use Rattle.bs_board.specs.plans.Plan.{GameRow, row_of}
 use Rattle.bs_pool.specs.Ledger.{ledger_of}
 use Rattle.bs_heap.specs.Packing.{no_packing}
@@ -11,10 +11,10 @@ use Rattle.bs_fiber.specs.declared.job.JobKind.TheVariants as kind
 use Rattle.bs_fiber.specs.declared.job.JobName.{JobName}
 use Rattle.bs_sched.specs.declared.event.Event.{Event}
 use Rattle.bs_sched.specs.declared.event.Event.TheVariants as event
-use Rattle.bs_sched.specs.Lane.{Lane, empty_lane, lane_view, lane_command, goes_on, with_put}
+use Rattle.bs_sched.specs.Lane.{Lane, empty_lane, lane_view, lane_command, forked, goes_on, with_put}
 use Rattle.bs_sched.specs.Machine.{game_of, lane_of, lane_effect}
 use Rattle.bs_sched.specs.PlanBlocks.{reservations_of}
-use Rattle.bs_sched.specs.Storage.{Storage, stored}
+use Rattle.bs_sched.specs.Storage.{Storage, stored, with_parts, with_frame, without_frames}
 
 pub record GamesView : Type 0 where
   -- the games of the plan
@@ -35,8 +35,8 @@ opened cap blocks workers rows =
       rows = rows;
       workers = workers;
       failed = false;
-      lanes = map (λ row. empty_lane row.quota) rows;
-      storage = record { packings = map (λ _. no_packing) rows; pool = ledger_of (replicate blocks None) (reservations_of cap rows) };
+      lanes = map (λ row. empty_lane row) rows;
+      storage = record { packings = map (λ _. no_packing) rows; frames = map (λ _. []) rows; pool = ledger_of (replicate blocks None) (reservations_of cap rows) };
     }
 
 -- what the answer to the lane's command does to the records of its game
@@ -49,10 +49,34 @@ put_effect kind.Begin x = if goes_on x then effect.Keep else answer_effect x
 put_effect kind.Part x = effect.Keep
 put_effect kind.Join x = answer_effect x
 
+-- a part is taken with a block
+abbrev pub storage_taken : JobKind → ℕ → ℕ → Storage → Storage
+storage_taken kind.Begin game p storage = storage
+storage_taken kind.Part game p storage = with_frame game p storage
+storage_taken kind.Join game p storage = storage
+
+abbrev pub taken_storage : JobName → Lane → Storage → Storage
+taken_storage job x storage = storage_taken job.kind job.game job.part storage
+
+-- the answer to a command is stored; the record of a Join before its blocks go back
+abbrev pub storage_answered : JobKind → ℕ → ℕ → Lane → Storage → Storage
+storage_answered kind.Begin cap game x storage = stored cap game (answer_effect x) storage
+storage_answered kind.Part cap game x storage = storage
+storage_answered kind.Join cap game x storage = without_frames game (stored cap game (answer_effect x) storage)
+
+-- a move that goes has its parts
+abbrev pub storage_put : JobKind → ℕ → ℕ → Lane → Storage → Storage
+storage_put kind.Begin cap game x storage = if goes_on x then with_parts game (length (forked x).parts) storage else storage_answered kind.Begin cap game x storage
+storage_put kind.Part cap game x storage = storage
+storage_put kind.Join cap game x storage = storage_answered kind.Join cap game x storage
+
+abbrev pub put_storage : ℕ → JobName → Lane → Storage → Storage
+put_storage cap job x storage = storage_put job.kind cap job.game x storage
+
 abbrev pub storage_after : ℕ → Event → Lane → Storage → Storage
 storage_after cap (event.Hand game command) x storage = storage
-storage_after cap (event.Take worker job) x storage = storage
-storage_after cap (event.Put worker job) x storage = stored cap job.game (put_effect job.kind x) storage
+storage_after cap (event.Take worker job) x storage = taken_storage job x storage
+storage_after cap (event.Put worker job) x storage = put_storage cap job x storage
 
 -- the games after an event that is enabled
 abbrev pub after : ℕ → GamesView → Event → GamesView
@@ -67,5 +91,5 @@ abbrev pub brought : ℕ → GamesView → JobName → GamesView
 brought cap games job =
     record games {
       lanes = slice_set games.lanes job.game (with_put job.kind job.part (lane_of games.lanes job.game));
-      storage = stored cap job.game (put_effect job.kind (lane_of games.lanes job.game)) games.storage;
+      storage = put_storage cap job (lane_of games.lanes job.game) games.storage;
     }

@@ -1,5 +1,6 @@
 -- How the games of a plan lie in their fields.
 use Rattle.std.specs.Prelude.{◌≡◌, ℕ, ◌+◌, ◌≤◌, ◌<◌, true, List, [], ◌∷◌, length, map, slice_index_or}
+use Rattle.std.specs.List.{range_with_len}
 use Rattle.bs_board.specs.plans.Plan.{GameRow, IsFitPlan}
 use Rattle.bs_board.specs.records.Record.{record_of}
 use Rattle.bs_pool.specs.Ledger.{Ledger, reserved}
@@ -12,10 +13,11 @@ use Rattle.bs_sched.specs.Games.{GamesView}
 use Rattle.bs_sched.specs.Insides.{may_answer}
 use Rattle.bs_sched.specs.Lane.{Lane}
 use Rattle.bs_sched.specs.Machine.{lane_of}
-use Rattle.bs_sched.specs.Storage.{Storage, record_tag}
+use Rattle.bs_sched.specs.Frames.{FramesView, AreFramesOf, no_frames}
+use Rattle.bs_sched.specs.Storage.{Storage, frame_tag, record_tag}
 
-abbrev pub storage_in : List Heap → Ledger → Storage
-storage_in heaps pool = record { packings = map (λ heap. heap.packing) heaps; pool = pool }
+abbrev pub storage_in : List Heap → List FramesView → Ledger → Storage
+storage_in heaps frames pool = record { packings = map (λ heap. heap.packing) heaps; frames = map (λ f. f.numbers) frames; pool = pool }
 
 abbrev pub games_in : {cap : ℕ} → Inside cap → GamesView
 games_in c =
@@ -24,7 +26,7 @@ games_in c =
       workers = c.workers;
       failed = c.failed;
       lanes = c.fibers.items;
-      storage = storage_in c.heaps.items c.pool;
+      storage = storage_in c.heaps.items c.frames.items c.pool;
     }
 
 abbrev pub heap_of : List Heap → ℕ → Heap
@@ -32,7 +34,7 @@ heap_of heaps game = slice_index_or heaps game (empty_heap 0 0)
 
 -- the heap keeps the records of the lane's boards
 pub record KeepsBoards (x : Lane) (heap : Heap) : Type 0 where
-  pub quota : heap.quota ≡ x.quota
+  pub quota : heap.quota ≡ x.row.quota
   pub records : heap.records ≡ map record_of x.game
 
 -- the heaps of games that were just opened, from that row on
@@ -46,7 +48,7 @@ opened_heaps = opened_heaps_from 0
 -- the heap keeps the records of the lane's boards, in blocks of the game's own tag, and has room for one more where one may come
 pub record IsHeapOf (cap own : ℕ) (x : Lane) (heap : Heap) (pool : Ledger) : Type 0 where
   pub tag : heap.tag ≡ own
-  pub quota : heap.quota ≡ x.quota
+  pub quota : heap.quota ≡ x.row.quota
   pub records : heap.records ≡ map record_of x.game
   pub held : IsKeptIn heap pool
   pub blocks : blocks_for cap heap.quota ≤ reserved heap.tag pool
@@ -55,10 +57,22 @@ pub record IsHeapOf (cap own : ℕ) (x : Lane) (heap : Heap) (pool : Ledger) : T
 abbrev pub AreHeapsOf : ℕ → List Lane → List Heap → Ledger → Type 0
 AreHeapsOf cap lanes heaps pool = (game : ℕ) → game < length lanes → IsHeapOf cap (record_tag game) (lane_of lanes game) (heap_of heaps game) pool
 
+-- the frame blocks of so many games that were just opened: none
+abbrev pub opened_frames : ℕ → List FramesView
+opened_frames games = map (λ game. no_frames (frame_tag game)) (range_with_len 0 games)
+
+abbrev pub frames_at : List FramesView → ℕ → FramesView
+frames_at frames game = slice_index_or frames game (no_frames 0)
+
+abbrev pub AreAllFramesOf : List Lane → List FramesView → Ledger → Type 0
+AreAllFramesOf lanes frames pool = (game : ℕ) → game < length lanes → AreFramesOf (frame_tag game) (lane_of lanes game) (frames_at frames game) pool
+
 pub record IsSound (cap : ℕ) {at : ℕ} (c : Inside at) : Type 0 where
   pub wide : LEAST_CAPACITY ≤ cap
   pub plan : IsFitPlan c.rows
   pub lanes : length c.fibers.items ≡ length c.rows
-  pub quotas : map (λ x. x.quota) c.fibers.items ≡ map (λ row. row.quota) c.rows
+  pub quotas : map (λ x. x.row.quota) c.fibers.items ≡ map (λ row. row.quota) c.rows
   pub many : length c.heaps.items ≡ length c.fibers.items
   pub heaps : AreHeapsOf cap c.fibers.items c.heaps.items c.pool
+  pub as_many : length c.frames.items ≡ length c.fibers.items
+  pub frames : AreAllFramesOf c.fibers.items c.frames.items c.pool

@@ -12,7 +12,7 @@ abbrev pub commands_of : Lane → List Command
 commands_of x = x.taken ++ x.waiting
 
 abbrev pub quota_of : Lane → ℕ
-quota_of x = x.quota
+quota_of x = x.row.quota
 
 -- what was handed to that game, of what was handed to each
 abbrev pub handed_to : List (List Command) → ℕ → List Command

@@ -1,5 +1,5 @@
 -- What a job reads: the input that its lane has for it.
-use Rattle.std.specs.Prelude.{ℕ, List, [], length, map, option_map, Option, Some, None}
+use Rattle.std.specs.Prelude.{ℕ, List, [], ◌∷◌, length, map, slice_index_or, option_map, Option, Some, None}
 use Rattle.std.specs.List.{range_with_len}
 use Rattle.bs_board.specs.declared.boards.snake.Snake.{Snake}
 use Rattle.bs_board.specs.declared.commands.command.Command.{Command}
@@ -12,6 +12,9 @@ use Rattle.bs_fiber.specs.declared.job.JobKind.{JobKind}
 use Rattle.bs_fiber.specs.declared.job.JobKind.TheVariants as kind
 use Rattle.bs_fiber.specs.declared.job.JobName.{JobName}
 use Rattle.bs_fiber.specs.Work.{moved_part}
+use Rattle.bs_fiber.specs.Tickets.{TicketView}
+use Rattle.bs_sched.specs.Frames.{known}
+use Rattle.bs_sched.specs.Storage.{Storage, frame_tag, frames_of}
 use Rattle.bs_sched.specs.Lane.{Lane, lane_command, lane_view}
 
 -- what the parts of the move come to, for the job that joins them
@@ -32,7 +35,7 @@ input_for x command seq worker job =
       job = job;
       worker = worker;
       seq = seq;
-      quota = x.quota;
+      quota = x.row.quota;
       charge = game_charge x.game;
       kept = length x.game;
       last = option_map record_of (last_board x.game);
@@ -44,3 +47,13 @@ input_for x command seq worker job =
 -- of a job that is out
 abbrev pub input_of : Lane → ℕ → JobName → Input
 input_of x worker job = record (input_for x (lane_command x) (length x.taken) worker job) { parts = moved_parts_for job.kind x }
+
+-- the frame blocks of a job that is out, by their numbers
+abbrev pub job_numbers : JobKind → ℕ → List (Option ℕ) → List ℕ
+job_numbers kind.Begin p numbers = []
+job_numbers kind.Part p numbers = known (slice_index_or numbers p None ∷ [])
+job_numbers kind.Join p numbers = known numbers
+
+-- and whose they are
+abbrev pub names_for : Storage → JobName → List (ℕ × ℕ)
+names_for storage job = map (λ n. (frame_tag job.game, n)) (job_numbers job.kind job.part (frames_of storage job.game))

@@ -12,7 +12,6 @@ use Rattle.bs_sched.specs.declared.fiber.Slot.{Slot}
 use Rattle.bs_sched.specs.declared.fiber.Slot.TheVariants as slot
 use Rattle.bs_sched.specs.declared.stage.Stage.{Stage}
 use Rattle.bs_sched.specs.declared.stage.Stage.TheVariants as stage
-use Rattle.bs_sched.specs.Keyed.{IsKeyed}
 use Rattle.bs_sched.specs.Slots.{state_of}
 use Rattle.bs_sched.specs.Lane.{Lane, is_idle, is_part_done, lane_view, lane_command}
 
@@ -21,12 +20,13 @@ abbrev pub answered_count : Stage → ℕ → ℕ
 answered_count stage begun = if is_idle stage then begun else begun - 1
 
 abbrev pub course_in : Inside → Course
-course_in f = course_of f.quota (take (answered_count f.stage f.begun) f.commands.items)
+course_in f = course_of f.row.quota (take (answered_count f.stage f.begun) f.commands.items)
 
 abbrev pub lane_in : Inside → Lane
 lane_in f =
     record {
-      quota = f.quota;
+      row = f.row;
+      is_open = true;
       taken = take f.begun f.commands.items;
       waiting = drop f.begun f.commands.items;
       replies = f.replies.items;
@@ -35,16 +35,16 @@ lane_in f =
       parts = map state_of f.slots.items;
     }
 
--- a part that is ready has its key; one that came back brought the moved snakes of its seats, until they are joined
+-- a part that came back brought the moved snakes of its seats, until they are joined
 abbrev pub IsSlot : Bool → ℕ → View → Command → Slot → Type 0
-IsSlot joined p view command (slot.Ready key) = key.part ≡ p
+IsSlot joined p view command slot.Ready = Unit {0}
 IsSlot joined p view command (slot.Out worker) = Unit {0}
 IsSlot false p view command (slot.Done None) = ⊥
 IsSlot false p view command (slot.Done (Some moved)) = moved ≡ moved_part p view command
 IsSlot true p view command (slot.Done moved) = Unit {0}
 
 abbrev pub AreSlots : Bool → View → Command → List Slot → Type 0
-AreSlots joined view command slots = (p : ℕ) → p < length slots → IsSlot joined p view command (slice_index_or slots p (slot.Out 0))
+AreSlots joined view command slots = (p : ℕ) → p < length slots → IsSlot joined p view command (slice_index_or slots p slot.Ready)
 
 -- a move is played
 pub record IsPlaying (joined : Bool) (view : View) (command : Command) (slots : List Slot) : Type 0 where
@@ -80,9 +80,8 @@ pub record HasRoom (f : Inside) : Type 0 where
 pub record IsFiber (f : Inside) : Type 0 where
   pub begun : f.begun ≤ length f.commands.items
   pub at : is_idle f.stage ≡ false → 0 < f.begun
-  pub small : f.quota ≤ MOST_QUOTA
+  pub small : f.row.quota ≤ MOST_QUOTA
   pub fits : All Fits f.commands.items
   pub replies : f.replies.items ≡ (course_in f).replies
   pub stage : IsAt f.stage (lane_view (lane_in f)) (lane_command (lane_in f)) f.slots.items
-  pub keys : IsKeyed f.stage (lane_view (lane_in f)) (lane_command (lane_in f)) f.keys.items
   pub room : HasRoom f

@@ -23,7 +23,7 @@ use Rattle.bs_sched.specs.Machine.{lane_of, game_of, is_enabled, step, run_of}
 
 -- the lanes of a core that was opened over these rows
 abbrev pub opened_lanes : List GameRow → List Lane
-opened_lanes = map (λ row. empty_lane row.quota)
+opened_lanes = map (λ row. empty_lane row)
 
 -- those of a core that was opened over that game's row alone
 abbrev pub lone_lanes : List GameRow → ℕ → List Lane
@@ -104,7 +104,7 @@ HandsFit (event.Put worker job) = Unit {0}
 -- Its commands are those that were handed to it, in their order. Its replies and its boards are those of the course that the answered
 -- ones take, from nothing and one after the other.
 pub record KeepsCourse (rows : List GameRow) (events : List Event) (game : ℕ) (x : Lane) : Type 0 where
-  pub quota : x.quota ≡ (row_at rows game).quota
+  pub quota : x.row.quota ≡ (row_at rows game).quota
   pub commands : commands_of x ≡ own_commands game events
   pub right : IsRight x
 

@@ -6,8 +6,6 @@ use Rattle.bs_game.specs.declared.view.View.{View}
 use Rattle.bs_fiber.specs.declared.job.JobKind.TheVariants as kind
 use Rattle.bs_fiber.specs.declared.job.JobName.{JobName}
 use Rattle.bs_fiber.specs.Work.{goes, parts_of, snakes_in}
-use Rattle.bs_sched.specs.declared.stage.Stage.{Stage}
-use Rattle.bs_sched.specs.declared.stage.Stage.TheVariants as stage
 use Rattle.bs_sched.specs.Lane.{Lane, lane_view, lane_command}
 
 -- there is one for each part, if the command is a move that goes
@@ -17,13 +15,6 @@ pub record AreKeysFor (view : View) (command : Command) (keys : List Key) : Type
 
 abbrev pub HasKeys : Lane → List Key → Type 0
 HasKeys x keys = AreKeysFor (lane_view x) (lane_command x) keys
-
--- they are kept until the move goes
-abbrev pub IsKeyed : Stage → View → Command → List Key → Type 0
-IsKeyed stage.Idle view command keys = Unit {0}
-IsKeyed (stage.Begin worker) view command keys = AreKeysFor view command keys
-IsKeyed stage.Parts view command keys = Unit {0}
-IsKeyed (stage.Join taker) view command keys = Unit {0}
 
 -- a part goes out with its key, no other job with any
 abbrev pub IsKeyOf : JobName → Option Key → Type 0

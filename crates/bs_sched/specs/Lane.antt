@@ -4,6 +4,7 @@ use Rattle.std.specs.List.{list_all}
 use Rattle.bs_board.specs.declared.commands.command.Command.{Command}
 use Rattle.bs_board.specs.declared.commands.command.Command.TheVariants as command
 use Rattle.bs_board.specs.declared.commands.reply.Reply.{Reply}
+use Rattle.bs_board.specs.plans.Plan.{GameRow, row_of}
 use Rattle.bs_game.specs.declared.view.View.{View}
 use Rattle.bs_game.specs.Answer.{Outcome, answer_to}
 use Rattle.bs_game.specs.Game.{Game, last_board}
@@ -17,7 +18,8 @@ use Rattle.bs_sched.specs.declared.stage.PartState.{PartState}
 use Rattle.bs_sched.specs.declared.stage.PartState.TheVariants as part
 
 pub record Lane : Type 0 where
-  pub quota : ℕ
+  pub row : GameRow
+  pub is_open : Bool
   -- the commands that were begun, the newest last, and those that wait for their turn
   pub taken : List Command
   pub waiting : List Command
@@ -28,19 +30,23 @@ pub record Lane : Type 0 where
   -- of the move that the lane is at, by the part's number
   pub parts : List PartState
 
-abbrev pub empty_lane : ℕ → Lane
-empty_lane quota = record { quota = quota; taken = []; waiting = []; replies = []; game = []; stage = stage.Idle; parts = [] }
+abbrev pub empty_lane : GameRow → Lane
+empty_lane row = record { row = row; is_open = true; taken = []; waiting = []; replies = []; game = []; stage = stage.Idle; parts = [] }
+
+-- a row in which no game was opened
+abbrev pub no_lane : Lane
+no_lane = empty_lane (row_of [] 0)
 
 -- the command that the lane is at, or was at last
 abbrev pub lane_command : Lane → Command
 lane_command x = slice_index_or x.taken (length x.taken - 1) command.Bad
 
 abbrev pub lane_outcome : Lane → Outcome
-lane_outcome x = answer_to x.quota x.game (lane_command x)
+lane_outcome x = answer_to x.row.quota x.game (lane_command x)
 
 -- what the game shows to a job of the command
 abbrev pub lane_view : Lane → View
-lane_view x = view_of_game x.quota x.game (lane_command x)
+lane_view x = view_of_game x.row.quota x.game (lane_command x)
 
 -- the command is a move that nothing speaks against
 abbrev pub goes_on : Lane → Bool

@@ -2,6 +2,9 @@ pub mod Busy
 pub mod Games
 pub mod GamesLayout
 pub mod Core
+pub mod FrameEffects
+pub mod FrameSlots
+pub mod Frames
 pub mod Courses
 pub mod Handed
 pub mod Insides

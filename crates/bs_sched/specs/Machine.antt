@@ -3,11 +3,11 @@ use Rattle.std.specs.Prelude.{ℕ, Bool, true, ◌&&◌, not, if◌then◌else�
 use Rattle.std.specs.List.{list_any}
 use Rattle.bs_sched.specs.declared.event.Event.{Event}
 use Rattle.bs_sched.specs.declared.event.Event.TheVariants as event
-use Rattle.bs_sched.specs.Lane.{Lane, empty_lane, occupies, is_ready, is_out, with_waiting, with_taken, with_put}
+use Rattle.bs_sched.specs.Lane.{Lane, no_lane, occupies, is_ready, is_out, with_waiting, with_taken, with_put}
 
 -- the lane of that row
 abbrev pub lane_of : List Lane → ℕ → Lane
-lane_of lanes game = slice_index_or lanes game (empty_lane 0)
+lane_of lanes game = slice_index_or lanes game no_lane
 
 -- the row that the event names
 abbrev pub game_of : Event → ℕ

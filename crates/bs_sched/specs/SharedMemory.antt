@@ -1,19 +1,24 @@
 -- The isolation law of the memory: all games keep their records in the blocks of one pool, and none notices the others there.
-use Rattle.std.specs.Prelude.{◌≡◌, ◌≢◌, ℕ, ◌+◌, ◌≤◌, ◌<◌, true, List, [], ◌∷◌, length, map, slice_get, sum_by, Some, None, All}
+use Rattle.std.specs.Prelude.{◌≡◌, ◌≢◌, ℕ, ◌+◌, ◌≤◌, ◌<◌, true, false, List, [], ◌∷◌, length, map, slice_get, sum_by, Option, Some, None, All}
 use Rattle.bs_board.specs.plans.Plan.{GameRow, IsFitPlan}
 use Rattle.bs_heap.specs.Charge.{blocks_for}
-use Rattle.bs_heap.specs.HeldBlocks.{Holds}
+use Rattle.bs_heap.specs.HeldBlocks.{Holds, next_number}
 use Rattle.bs_heap.specs.PackedPlaces.{AreApart}
 use Rattle.bs_heap.specs.Packing.{Packing, numbers_of}
-use Rattle.bs_pool.specs.Ledger.{size, free, held}
+use Rattle.bs_pool.specs.Ledger.{size, free, least_free}
 use Rattle.bs_sched.specs.declared.cores.TheConstants.{LEAST_CAPACITY}
+use Rattle.bs_fiber.specs.declared.job.JobKind.TheVariants as kind
 use Rattle.bs_sched.specs.declared.event.Event.{Event}
+use Rattle.bs_sched.specs.declared.event.Event.TheVariants as event
+use Rattle.bs_sched.specs.declared.plan_blocks.TheConstants.{FRAME_BLOCKS}
+use Rattle.bs_sched.specs.Frames.{known}
 use Rattle.bs_sched.specs.Games.{GamesView, row_at, opened}
 use Rattle.bs_sched.specs.Isolation.{HandsFit, own_events, records_of, shared_run}
+use Rattle.bs_sched.specs.Lane.{is_playing}
 use Rattle.bs_sched.specs.Machine.{lane_of, game_of, is_enabled}
 use Rattle.bs_sched.specs.Memory.{World, block_in, bytes_at, effect_at, CanDraw, world_step, world_run, opened_world, games_run}
 use Rattle.bs_sched.specs.PlanBlocks.{blocks_of_all}
-use Rattle.bs_sched.specs.Storage.{packing_of, record_tag, frame_tag}
+use Rattle.bs_sched.specs.Storage.{packing_of, frames_of, record_tag, frame_tag}
 
 -- the blocks are large enough, and so many that each game has those that are set aside for it
 pub record IsHosted (cap blocks : ℕ) (rows : List GameRow) : Type 0 where
@@ -45,22 +50,39 @@ numbers_in world game = numbers_of (packing_in world game)
 abbrev pub bytes_in : World → ℕ → List (List ℕ)
 bytes_in world game = map (bytes_at world.memory) (packing_in world game).places
 
--- how many blocks all games hold
+-- the numbers of the blocks of the move that a game is at
+abbrev pub frames_in : World → ℕ → List ℕ
+frames_in world game = known (frames_of world.storage game)
+
+-- how many blocks the moves of all games hold
+abbrev pub all_framed : List (List (Option ℕ)) → ℕ
+all_framed = sum_by (λ numbers. length (known numbers))
+
+-- how many blocks the records of all games hold
 abbrev pub all_held : List Packing → ℕ
 all_held = sum_by (λ packing. length (numbers_of packing))
 
--- The blocks of all games. Each of the pool's is free or holds records of a game, and none is in two packings, so no records of two games
--- share a byte. One that is free has no byte. The blocks for the parts of turns are set aside, and none of them is drawn. Where an event
--- needs a block there is a free one.
+-- The blocks of all games. Each of the pool's is free, holds records of a game, or is a part's of the move that a game is at, and none is
+-- in two of these lists, so no records of two games share a byte. One that is free has no byte. The blocks of a move's parts are its own
+-- tag's, four at most; a game that is at no move has none. Where an event needs a block there is a free one.
 pub record SharesBlocks (cap blocks workers : ℕ) (world : World) : Type 0 where
   pub size : size world.storage.pool ≡ blocks
-  pub counts : free world.storage.pool + all_held world.storage.packings ≡ blocks
+  pub counts : free world.storage.pool + (all_held world.storage.packings + all_framed world.storage.frames) ≡ blocks
   pub apart : (game other : ℕ) → game < length world.lanes → other < length world.lanes → game ≢ other
       → All (λ number. All (λ n. n ≢ number) (numbers_in world other)) (numbers_in world game)
   pub records_apart : (game other : ℕ) → game < length world.lanes → other < length world.lanes → game ≢ other
       → All (λ p. All (λ q. q.number ≢ p.number) (packing_in world other).places) (packing_in world game).places
   pub empty : (number : ℕ) → slice_get world.storage.pool.owners number ≡ Some None → block_in world.memory number ≡ []
-  pub frames : (game : ℕ) → held (frame_tag game) world.storage.pool ≡ 0
+  pub frames : (game : ℕ) → game < length world.lanes → Holds (frame_tag game) (frames_in world game) world.storage.pool
+  pub frames_apart : (game other : ℕ) → game < length world.lanes → other < length world.lanes → game ≢ other
+      → All (λ number. All (λ n. n ≢ number) (frames_in world other)) (frames_in world game)
+  -- a part's block holds no records, its own game's neither
+  pub frames_hold_none : (game other : ℕ) → game < length world.lanes → other < length world.lanes
+      → All (λ number. All (λ n. n ≢ number) (numbers_in world other)) (frames_in world game)
+  pub few_frames : (game : ℕ) → game < length world.lanes → length (frames_in world game) ≤ FRAME_BLOCKS
+  pub idle : (game : ℕ) → game < length world.lanes → is_playing (lane_of world.lanes game).stage ≡ false → frames_in world game ≡ []
+  pub drawn : (worker game p : ℕ) → is_enabled workers world.lanes (event.Take worker (record { game = game; kind = kind.Part; part = p })) ≡ true
+      → least_free world.storage.pool ≡ Some (next_number world.storage.pool)
   pub draws : (e : Event) → is_enabled workers world.lanes e ≡ true
       → CanDraw cap (effect_at e (lane_of world.lanes (game_of e))) (packing_in world (game_of e)) world.storage.pool
 
@@ -70,7 +92,7 @@ pub record KeepsBytes (cap : ℕ) (world : World) (game : ℕ) : Type 0 where
   pub bytes : bytes_in world game ≡ records_of (lane_of world.lanes game).game
   pub places : AreApart (packing_in world game)
   pub own : Holds (record_tag game) (numbers_in world game) world.storage.pool
-  pub few : length (numbers_in world game) ≤ blocks_for cap (lane_of world.lanes game).quota
+  pub few : length (numbers_in world game) ≤ blocks_for cap (lane_of world.lanes game).row.quota
 
 -- An event that names another game leaves its records where they are, and each of their bytes.
 pub record LeavesBytes (cap workers : ℕ) (world : World) (game : ℕ) (e : Event) : Type 0 where

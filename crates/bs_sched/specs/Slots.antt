@@ -7,17 +7,17 @@ use Rattle.bs_sched.specs.declared.stage.PartState.{PartState}
 use Rattle.bs_sched.specs.declared.stage.PartState.TheVariants as part
 
 abbrev pub state_of : Slot → PartState
-state_of (slot.Ready key) = part.Ready
+state_of slot.Ready = part.Ready
 state_of (slot.Out worker) = part.Out worker
 state_of (slot.Done moved) = part.Done
 
 -- what a part moved, where it came back and that was not joined yet
 abbrev pub moved_in : Slot → Option (List Snake)
-moved_in (slot.Ready key) = None
+moved_in slot.Ready = None
 moved_in (slot.Out worker) = None
 moved_in (slot.Done moved) = moved
 
 abbrev pub emptied : Slot → Slot
-emptied (slot.Ready key) = slot.Ready key
+emptied slot.Ready = slot.Ready
 emptied (slot.Out worker) = slot.Out worker
 emptied (slot.Done moved) = slot.Done None

@@ -1,15 +1,18 @@
 -- Where the records of all games lie, and what an answer does to that. No lane knows of it.
-use Rattle.std.specs.Prelude.{ℕ, ◌*◌, ◌+◌, if◌then◌else◌, List, length, slice_index_or, slice_set}
+use Rattle.std.specs.Prelude.{ℕ, ◌*◌, ◌+◌, if◌then◌else◌, List, [], length, replicate, slice_index_or, slice_set, Option, Some, None}
 use Rattle.bs_block.specs.Rounding.{rounded}
 use Rattle.bs_pool.specs.Ledger.{Ledger, drawn}
 use Rattle.bs_heap.specs.HeldBlocks.{all_given, next_number}
 use Rattle.bs_heap.specs.Packing.{Packing, no_packing, packed, packing_of_last, closed_numbers, numbers_of, fits}
+use Rattle.bs_sched.specs.Frames.{known}
 use Rattle.bs_game.specs.declared.reply.Effect.{Effect}
 use Rattle.bs_game.specs.declared.reply.Effect.TheVariants as effect
 
 -- the packing of each game's records, by its row, and the pool of all blocks
 pub record Storage : Type 0 where
   pub packings : List Packing
+  -- by its row too, the frame block of each part of the move that a game is at
+  pub frames : List (List (Option ℕ))
   pub pool : Ledger
 
 -- the tag of a game's records
@@ -41,6 +44,32 @@ pool_after cap tag effect.Drop packing pool = all_given (numbers_of packing) poo
 abbrev pub stored : ℕ → ℕ → Effect → Storage → Storage
 stored cap game effect storage =
     record {
+      frames = storage.frames;
       packings = slice_set storage.packings game (packing_after cap (next_number storage.pool) effect (packing_of storage game));
       pool = pool_after cap (record_tag game) effect (packing_of storage game) storage.pool;
+    }
+
+abbrev pub frames_of : Storage → ℕ → List (Option ℕ)
+frames_of storage game = slice_index_or storage.frames game []
+
+-- a move of that game goes in so many parts
+abbrev pub with_parts : ℕ → ℕ → Storage → Storage
+with_parts game parts storage = record storage { frames = slice_set storage.frames game (replicate parts None) }
+
+-- the next block is drawn for a part
+abbrev pub with_frame : ℕ → ℕ → Storage → Storage
+with_frame game p storage =
+    record {
+      packings = storage.packings;
+      frames = slice_set storage.frames game (slice_set (frames_of storage game) p (Some (next_number storage.pool)));
+      pool = drawn (frame_tag game) (next_number storage.pool) storage.pool;
+    }
+
+-- the move is answered: its frame blocks go back
+abbrev pub without_frames : ℕ → Storage → Storage
+without_frames game storage =
+    record {
+      packings = storage.packings;
+      frames = slice_set storage.frames game [];
+      pool = all_given (known (frames_of storage game)) storage.pool;
     }

@@ -1,6 +1,6 @@
 -- What a worker gets that asks for a job.
 use Rattle.std.specs.Prelude.{◌≡◌, ℕ, ◌≤◌, ◌<◌, true, false, List, length, Some, None}
-use Rattle.bs_fiber.specs.declared.input.Input.{Input}
+use Rattle.bs_fiber.specs.Tickets.{TicketView, IsFresh, names_of}
 use Rattle.bs_fiber.specs.declared.job.JobName.{JobName}
 use Rattle.bs_sched.specs.declared.event.Event.TheVariants as event
 use Rattle.bs_sched.specs.declared.taking.Found.{Found}
@@ -8,7 +8,7 @@ use Rattle.bs_sched.specs.declared.taking.Found.TheVariants as found
 use Rattle.bs_sched.specs.declared.taking.Taken.{Taken}
 use Rattle.bs_sched.specs.declared.taking.Taken.TheVariants as taken
 use Rattle.bs_sched.specs.Core.{CoreView, core_after}
-use Rattle.bs_sched.specs.Inputs.{input_of}
+use Rattle.bs_sched.specs.Inputs.{input_of, names_for}
 use Rattle.bs_sched.specs.Keyed.{IsKeyOf}
 use Rattle.bs_sched.specs.Lane.{Lane, HasNoneReady, is_ready}
 use Rattle.bs_sched.specs.Machine.{lane_of, is_busy, is_enabled}
@@ -48,16 +48,19 @@ pub record HasNothing (old : CoreView) (worker : ℕ) (new : CoreView) : Type 0 
   pub same : new ≡ old
 
 -- the worker may take the job, and its ticket holds the core's own input
-pub record TakesJob (cap : ℕ) (old : CoreView) (worker : ℕ) (ticket : Input) (new : CoreView) : Type 0 where
+pub record TakesJob (cap : ℕ) (old : CoreView) (worker : ℕ) (ticket : TicketView) (new : CoreView) : Type 0 where
   pub failed : old.games.failed ≡ false
-  pub enabled : is_enabled old.games.workers old.games.lanes (event.Take worker ticket.job) ≡ true
-  pub after : new ≡ core_after cap old (event.Take worker ticket.job)
-  pub input : ticket ≡ input_of (lane_of new.games.lanes ticket.job.game) worker ticket.job
+  pub enabled : is_enabled old.games.workers old.games.lanes (event.Take worker ticket.input.job) ≡ true
+  pub after : new ≡ core_after cap old (event.Take worker ticket.input.job)
+  pub input : ticket.input ≡ input_of (lane_of new.games.lanes ticket.input.job.game) worker ticket.input.job
+  -- its frame blocks are the game's own, and as their job is to find them
+  pub frames : names_of ticket.frames ≡ names_for new.games.storage ticket.input.job
+  pub fresh : IsFresh ticket
 
 -- the answers in the order in which they are judged
-abbrev pub TakesAs : ℕ → CoreView → ℕ → Taken → CoreView → Type 0
+abbrev pub TakesAs : (cap : ℕ) → CoreView → ℕ → Taken cap → CoreView → Type 0
 TakesAs cap old worker taken.Failed new = IsFailed old new
 TakesAs cap old worker taken.Busy new = IsBusyWorker old worker new
 TakesAs cap old worker taken.Nothing new = HasNothing old worker new
-TakesAs cap old worker (taken.Job ticket) new = TakesJob cap old worker ticket new × IsKeyOf ticket.job None
-TakesAs cap old worker (taken.Part ticket key) new = TakesJob cap old worker ticket new × IsKeyOf ticket.job (Some key)
+TakesAs cap old worker (taken.Job ticket) new = TakesJob cap old worker ticket new × IsKeyOf ticket.input.job None
+TakesAs cap old worker (taken.Part ticket key) new = TakesJob cap old worker ticket new × IsKeyOf ticket.input.job (Some key)

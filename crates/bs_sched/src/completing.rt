@@ -15,14 +15,14 @@ use thiserror::Error;
 /// is returned as it was.
 #[derive(Debug, Drop, Error)]
 #[error("these are not the parts of a move that is out")]
-pub struct Strays {
-    /// The list.
-    pub parts: ArrayVec<Option<Done>, 4>,
+pub struct Strays<const CAP: usize> {
+    /// What was completed.
+    pub parts: ArrayVec<Option<Done<CAP>>, 4>,
 }
 
 impl<const CAP: usize> Games<CAP> {
     /// Whether it is that part of that game's move, out with its worker and of the core's input.
-    fn is_own_part(&self, game: usize, part: usize, completed: &Option<Done>) -> bool
+    fn is_own_part(&self, game: usize, part: usize, completed: &Option<Done<CAP>>) -> bool
         ensures { IsTrue result ↔ IsOwnPart self.now game part completed.now }
     {
         let Some(done) = completed else {
@@ -44,7 +44,7 @@ impl<const CAP: usize> Games<CAP> {
     }
 
     /// Whether each is the part of its place in that game's move.
-    fn are_own_parts_of(&self, game: usize, completed: &[Option<Done>]) -> bool
+    fn are_own_parts_of(&self, game: usize, completed: &[Option<Done<CAP>>]) -> bool
         ensures { IsTrue result ↔ ((part : ℕ) → part < length completed.now → IsOwnPart self.now game part (slice_index_or completed.now part None)) }
     {
         for part in 0..completed.len() {
@@ -56,7 +56,7 @@ impl<const CAP: usize> Games<CAP> {
     }
 
     /// Whether these are all parts of one game's move, in part order.
-    fn are_own_parts(&self, completed: &[Option<Done>]) -> bool
+    fn are_own_parts(&self, completed: &[Option<Done<CAP>>]) -> bool
         ensures { IsTrue result ↔ AreOwnParts self.now completed.now }
     {
         let Some(Some(first)) = completed.first() else {
@@ -75,7 +75,7 @@ impl<const CAP: usize> Games<CAP> {
 
 impl<const CAP: usize> Core<CAP> {
     /// Completes one part of the core's own.
-    fn settle_part(&mut self, completed: Option<Done>)
+    fn settle_part(&mut self, completed: Option<Done<CAP>>)
         requires { (game part : ℕ) × IsOwnPart self.old.games game part completed }
         ensures { self.new ≡ core_run CAP self.old (puts_of (completed ∷ [])) }
     {
@@ -89,7 +89,7 @@ impl<const CAP: usize> Core<CAP> {
     }
 
     /// Completes all parts of one move of the core's own. The journal has room for each.
-    fn settle_parts(&mut self, completed: ArrayVec<Option<Done>, 4>)
+    fn settle_parts(&mut self, completed: ArrayVec<Option<Done<CAP>>, 4>)
         requires { AreOwnParts self.old.games completed.items }
         ensures { self.new ≡ core_run CAP self.old (puts_of completed.items) }
     {
@@ -103,7 +103,7 @@ impl<const CAP: usize> Core<CAP> {
     /// Completes all parts of one game's move, in part order, each for the worker that has it out.
     /// Takes no memory. `Strays` returns any other list, and then nothing has changed.
     #[tactic(auto, using(crate::proofs::OwnParts::all_enabled))]
-    pub fn put_parts(&mut self, parts: ArrayVec<Option<Done>, 4>) -> Result<(), Strays>
+    pub fn put_parts(&mut self, parts: ArrayVec<Option<Done<CAP>>, 4>) -> Result<(), Strays<CAP>>
         ensures own { OnOk result (AreOwnParts self.old.games parts.items) }
         ensures enabled { OnOk result (are_enabled self.old.games.workers self.old.games.lanes (puts_of parts.items) ≡ true) }
         ensures ok { OnOk result (self.new ≡ core_run CAP self.old (puts_of parts.items)) }

@@ -37,8 +37,8 @@ impl Draws {
 // A job that is worked, with its key if it is a part.
 #[derive(Drop)]
 struct Worked {
-    done: Done,
-    key: Option<PartKey<Done>>,
+    done: Done<CAP>,
+    key: Option<PartKey<Done<CAP>>>,
 }
 
 // A job that is out with that worker, done in both cores.

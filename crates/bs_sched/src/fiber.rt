@@ -1,31 +1,28 @@
 //! The fiber of one game: its commands, its replies and its stage. Contracts see its lane.
-ghost use Rattle.std.specs.Prelude.{◌≡◌, ◌+◌, ◌≤◌, ◌<◌, ℕ, true, false, [], length, map, vec_len, vec_capacity, option_to_list, slice_index_or, MatchOption, ◌++◌, IfOk, IfSome, OnOk, OnErr};
+ghost use Rattle.std.specs.Prelude.{◌≡◌, ◌+◌, ◌≤◌, ◌<◌, ℕ, true, false, [], length, replicate, map, vec_len, vec_capacity, option_to_list, slice_index_or, MatchOption, ◌++◌, IfOk, IfSome, OnOk, OnErr};
 ghost use Rattle.std.specs.List.{list_all, filter_map, position};
 ghost use Rattle.bs_game.specs.Answer.{Fits};
 ghost use Rattle.bs_sched.specs.declared.fiber.Slot.TheVariants as slot;
 ghost use Rattle.bs_sched.specs.declared.stage.PartState.TheVariants as state;
 ghost use Rattle.bs_sched.specs.Lane.{is_part_done, is_part_ready, has_part};
-ghost use Rattle.bs_sched.specs.Keyed.{HasKeys};
 ghost use Rattle.bs_sched.specs.Slots.{state_of, emptied, moved_in};
 
 use crate::stage::Stage;
 use bs_board::limits::MOST_QUOTA;
-use bs_board::{Command, Reply, Snakes};
-use bs_counter::PartKey;
-use bs_fiber::{Done, Handed, JobKind, Parts, SharedCommand};
+use bs_board::{Command, Reply, Row};
+use bs_fiber::{Handed, JobKind, Moved, Parts, SharedCommand};
 use std::alloc::{AllocError, Global};
 use std::marker::Model;
-use std::mem::replace;
 
 /// A part of the move that is played.
 #[derive(Debug, Drop)]
 pub(crate) enum Slot {
-    /// The part can be taken, with its key.
-    Ready(PartKey<Done>),
+    /// The part can be taken.
+    Ready,
     /// That worker has the part out.
     Out(usize),
     /// The part's moved snakes, until they are joined.
-    Done(Option<Snakes>),
+    Done(Option<Moved>),
 }
 
 /// The largest number of parts of a move.
@@ -33,15 +30,13 @@ const MOST_PARTS: usize = 4;
 
 #[derive(Debug, Drop)]
 pub(crate) struct Fiber {
-    quota: u32,
+    row: Row,
     /// All commands handed in. The first `begun` were taken.
     commands: Vec<Handed>,
     begun: usize,
     replies: Vec<Reply>,
     stage: Stage,
     slots: Vec<Slot>,
-    /// Between the take and the completion of a move's Begin, the keys of its parts.
-    keys: Vec<PartKey<Done>>,
 }
 
 impl Model for Fiber {
@@ -74,29 +69,16 @@ pub(crate) fn keeps_limits(command: &Command)
     }
 }
 
-/// Makes one ready slot for each key, in order.
-fn push_ready(slots: &mut Vec<Slot>, keys: &mut Vec<PartKey<Done>>)
+/// Makes that many ready slots.
+fn push_ready(slots: &mut Vec<Slot>, parts: usize)
     requires none { slots.old.items ≡ [] }
-    requires room { vec_len keys.old ≤ vec_capacity slots.old }
-    ensures slots { slots.new.items ≡ map (λ key. slot.Ready key) keys.old.items }
+    requires few { parts ≤ 4 }
+    requires room { 4 ≤ vec_capacity slots.old }
+    ensures slots { slots.new.items ≡ replicate parts (slot.Ready) }
     ensures room { vec_capacity slots.new ≡ vec_capacity slots.old }
 {
-    for _part in 0..keys.len() {
-        let key = keys.remove(0);
-        slots.push_reserved(Slot::Ready(key));
-    }
-}
-
-/// Takes the key out of the slot, and marks the slot as out with the worker.
-fn take_key(place: &mut Slot, worker: usize) -> PartKey<Done>
-    requires { is_part_ready (state_of place.old) ≡ true }
-    ensures place { place.new ≡ slot.Out worker }
-    ensures key { place.old ≡ slot.Ready result }
-{
-    match replace(place, Slot::Out(worker)) {
-        Slot::Ready(key) => key,
-        Slot::Out(_) => unreachable!(),
-        Slot::Done(_) => unreachable!(),
+    for _part in 0..parts {
+        slots.push_reserved(Slot::Ready);
     }
 }
 
@@ -104,7 +86,7 @@ fn is_done(slot: &Slot) -> bool
     ensures { result ≡ is_part_done (state_of slot.now) }
 {
     match slot {
-        Slot::Ready(_) => false,
+        Slot::Ready => false,
         Slot::Out(_) => false,
         Slot::Done(_) => true,
     }
@@ -122,7 +104,7 @@ fn has_part(slots: &[Slot], worker: usize, part: usize) -> bool
 {
     match slots.get(part) {
         Some(Slot::Out(holder)) => *holder == worker,
-        Some(Slot::Ready(_)) => false,
+        Some(Slot::Ready) => false,
         Some(Slot::Done(_)) => false,
         None => false,
     }
@@ -132,7 +114,7 @@ fn is_ready_slot(slot: &Slot) -> bool
     ensures { result ≡ is_part_ready (state_of slot.now) }
 {
     match slot {
-        Slot::Ready(_) => true,
+        Slot::Ready => true,
         Slot::Out(_) => false,
         Slot::Done(_) => false,
     }
@@ -154,18 +136,18 @@ fn first_ready(slots: &[Slot]) -> Option<u8>
 }
 
 /// What a part moved goes out of its slot.
-fn take_moved(slot: &mut Slot) -> Option<Snakes>
+fn take_moved(slot: &mut Slot) -> Option<Moved>
     ensures slot { slot.new ≡ emptied slot.old }
     ensures moved { result ≡ moved_in slot.old }
 {
     match slot {
-        Slot::Ready(_) => None,
+        Slot::Ready => None,
         Slot::Out(_) => None,
         Slot::Done(moved) => moved.take(),
     }
 }
 
-fn push_if_some(moved: &mut Vec<Snakes>, one: Option<Snakes>)
+fn push_if_some(moved: &mut Vec<Moved>, one: Option<Moved>)
     requires { vec_len moved.old < vec_capacity moved.old }
     ensures items { moved.new.items ≡ moved.old.items ++ option_to_list one }
     ensures room { vec_capacity moved.new ≡ vec_capacity moved.old }
@@ -176,7 +158,7 @@ fn push_if_some(moved: &mut Vec<Snakes>, one: Option<Snakes>)
 }
 
 /// What all parts moved, in their order, goes out of their slots.
-fn collect_moved(slots: &mut Vec<Slot>, moved: &mut Vec<Snakes>)
+fn collect_moved(slots: &mut Vec<Slot>, moved: &mut Vec<Moved>)
     requires none { moved.old.items ≡ [] }
     requires room { length slots.old.items ≤ vec_capacity moved.old }
     ensures slots { slots.new.items ≡ map emptied slots.old.items }
@@ -195,22 +177,21 @@ impl Fiber {
     ghost use Rattle.bs_fiber.specs.Work.{moved_part, parts_of, snakes_in};
     ghost use Rattle.bs_game.specs.Game.{last_board};
     ghost use Rattle.bs_sched.specs.Inputs.{moved_parts_for};
-    ghost use Rattle.bs_sched.specs.Lane.{empty_lane, with_waiting, with_taken, with_put, with_part_done, forked, answered, is_ready, is_out, occupies, lane_view, lane_command, lane_outcome, goes_on, is_idle, is_in_parts, is_quiet, HasNoneReady};
+    ghost use Rattle.bs_sched.specs.Lane.{empty_lane, no_lane, with_waiting, with_taken, with_put, with_part_done, forked, answered, is_ready, is_out, occupies, lane_view, lane_command, lane_outcome, goes_on, is_idle, is_in_parts, is_quiet, HasNoneReady};
     ghost use Rattle.bs_sched.specs.Courses.{IsRight};
 
     /// A game that was handed nothing yet.
-    pub(crate) fn new(alloc: Global, quota: u32) -> Result<Fiber, AllocError>
-        requires { quota ≤ MOST_QUOTA }
-        ensures { IfOk result (λ fiber. fiber ≡ empty_lane quota) }
+    pub(crate) fn new(alloc: Global, row: Row) -> Result<Fiber, AllocError>
+        requires { row.quota ≤ MOST_QUOTA }
+        ensures { IfOk result (λ fiber. fiber ≡ empty_lane row) }
     {
         Ok(Fiber {
-            quota,
+            row,
             commands: Vec::new(alloc),
             begun: 0,
             replies: Vec::new(alloc),
             stage: Stage::Idle,
             slots: Vec::with_capacity(alloc, MOST_PARTS)?,
-            keys: Vec::new(alloc),
         })
     }
 
@@ -224,32 +205,24 @@ impl Fiber {
         Ok(())
     }
 
-    /// Begins the first waiting command for the worker. The keys are those of its parts, where it
-    /// is a move that goes. Makes room for the reply first.
-    pub(crate) fn begin(
-        &mut self,
-        worker: usize,
-        keys: Vec<PartKey<Done>>,
-    ) -> Result<(), AllocError>
-        requires ready { is_ready self.old kind.Begin 0 ≡ true }
-        requires keys { HasKeys (with_taken worker kind.Begin 0 self.old) keys.items }
+    /// Begins the first waiting command for the worker. Makes room for the reply first.
+    pub(crate) fn begin(&mut self, worker: usize) -> Result<(), AllocError>
+        requires { is_ready self.old kind.Begin 0 ≡ true }
         ensures ok { OnOk result (self.new ≡ with_taken worker kind.Begin 0 self.old) }
         ensures err { OnErr result (self.new ≡ self.old) }
     {
         self.replies.reserve(1)?;
         self.begun += 1;
         self.stage = Stage::Begin(worker);
-        self.keys = keys;
         Ok(())
     }
 
-    /// Takes that part for the worker, with its key.
-    pub(crate) fn take_part(&mut self, worker: usize, part: usize) -> PartKey<Done>
+    /// Takes that part for the worker.
+    pub(crate) fn take_part(&mut self, worker: usize, part: usize)
         requires { is_ready self.old kind.Part part ≡ true }
-        ensures lane { self.new ≡ with_taken worker kind.Part part self.old }
-        ensures key { result.part ≡ part }
+        ensures { self.new ≡ with_taken worker kind.Part part self.old }
     {
-        take_key(&mut self.slots[part], worker)
+        self.slots[part] = Slot::Out(worker);
     }
 
     /// The worker takes the job that joins all parts, with what they moved. Room for the reply is
@@ -267,18 +240,20 @@ impl Fiber {
         Ok(Parts::from_vec(moved))
     }
 
-    /// Starts the move: one ready part for each key.
-    pub(crate) fn fork(&mut self)
+    /// Starts the move, in that many ready parts.
+    pub(crate) fn fork(&mut self, parts: usize)
         requires begun { (worker : ℕ) × (is_out worker self.old kind.Begin 0 ≡ true) }
         requires goes { goes_on self.old ≡ true }
+        requires parts { parts ≡ parts_of (length (snakes_in (last_board self.old.game))) }
+        requires few { parts ≤ 4 }
         ensures { self.new ≡ forked self.old }
     {
-        push_ready(&mut self.slots, &mut self.keys);
+        push_ready(&mut self.slots, parts);
         self.stage = Stage::Parts;
     }
 
     /// The part came back with what it moved.
-    pub(crate) fn put_part(&mut self, part: usize, moved: Snakes)
+    pub(crate) fn put_part(&mut self, part: usize, moved: Moved)
         requires out { (worker : ℕ) × (is_out worker self.old kind.Part part ≡ true) }
         requires moved { moved ≡ moved_part part (lane_view self.old) (lane_command self.old) }
         ensures { self.new ≡ with_part_done part self.old }
@@ -296,7 +271,6 @@ impl Fiber {
         ensures { self.new ≡ answered self.old }
     {
         self.slots.clear();
-        self.keys.clear();
         self.replies.push_reserved(reply);
         self.stage = Stage::Idle;
     }
@@ -305,7 +279,7 @@ impl Fiber {
     pub(crate) fn keeps(&self)
         ensures { IsRight self.now }
     {
-        let _quota = self.quota;
+        let _begun = self.begun;
     }
 
     /// The commands that were taken.
@@ -362,9 +336,9 @@ impl Fiber {
     }
 
     pub(crate) fn quota(&self) -> u32
-        ensures { result ≡ self.now.quota }
+        ensures { result ≡ self.now.row.quota }
     {
-        self.quota
+        self.row.quota
     }
 
     /// Whether nothing is to be done.

@@ -16,6 +16,7 @@ ghost use Rattle.bs_sched.specs.declared.event.Event.TheVariants as event;
 
 use crate::cores::Counts;
 use crate::fiber::Fiber;
+use crate::frames::Frames;
 use crate::game::are_quiet;
 use crate::records::decode_last;
 use bs_board::{Board, Reply, Row, Rows};
@@ -34,6 +35,7 @@ pub(crate) struct Games<const CAP: usize> {
     pub(crate) failed: bool,
     pub(crate) fibers: Vec<Fiber>,
     pub(crate) heaps: Vec<TagHeap<CAP>>,
+    pub(crate) frames: Vec<Frames<CAP>>,
     pub(crate) pool: Pool<CAP>,
 }
 

@@ -9,6 +9,7 @@ mod cores;
 mod drawn_tests;
 mod event;
 mod fiber;
+mod frames;
 mod game;
 mod games;
 mod last_games;

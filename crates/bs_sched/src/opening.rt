@@ -4,14 +4,15 @@ ghost use Rattle.bs_block.specs.Bytes.{IsCapacity};
 ghost use Rattle.bs_board.specs.plans.Plan.{IsFitPlan};
 ghost use Rattle.bs_sched.specs.Core.{opened_core};
 ghost use Rattle.bs_sched.specs.Games.{opened};
-ghost use Rattle.bs_sched.specs.GamesLayout.{opened_heaps};
-ghost use Rattle.bs_sched.specs.Lane.{empty_lane};
+ghost use Rattle.bs_sched.specs.GamesLayout.{opened_frames, opened_heaps};
+ghost use Rattle.bs_sched.specs.Lane.{empty_lane, no_lane};
 ghost use Rattle.bs_sched.specs.PlanBlocks.{blocks_of_all};
 ghost use Rattle.bs_sched.specs.declared.opening.Open.TheVariants as cause;
 
 use crate::busy::nobody_busy;
 use crate::cores::{Core, LEAST_CAPACITY, MOST_WORKERS};
 use crate::fiber::Fiber;
+use crate::frames::Frames;
 use crate::games::Games;
 use crate::last_games::spread_games;
 use crate::plan_blocks::{blocks_of_all, open_pool, record_tag};
@@ -40,11 +41,12 @@ impl From<AllocError> for Open {
 }
 
 fn open_fibers(alloc: Global, rows: &[Row]) -> Result<Vec<Fiber>, AllocError>
-    ensures { IfOk result (λ fibers. fibers.items ≡ map (λ row. empty_lane row.quota) rows.now) }
+    ensures { IfOk result (λ fibers. fibers.items ≡ map (λ row. empty_lane row) rows.now) }
 {
     let mut fibers = Vec::with_capacity(alloc, rows.len())?;
     for row in rows {
-        fibers.push(Fiber::new(alloc, row.quota)?)?;
+        let _quota = row.quota;
+        fibers.push(Fiber::new(alloc, row.copy(alloc)?)?)?;
     }
     Ok(fibers)
 }
@@ -65,9 +67,24 @@ fn open_heaps<const CAP: usize>(
     Ok(heaps)
 }
 
+/// The parts of each game's moves: none yet.
+fn open_frames<const CAP: usize>(
+    alloc: Global,
+    games: usize,
+) -> Result<Vec<Frames<CAP>>, AllocError>
+    requires { games ≤ MOST_ROWS }
+    ensures { IfOk result (λ frames. frames.items ≡ opened_frames games) }
+{
+    let mut frames = Vec::with_capacity(alloc, games)?;
+    for game in 0..games {
+        frames.push(Frames::new(alloc, record_tag(game) + 1)?)?;
+    }
+    Ok(frames)
+}
+
 impl<const CAP: usize> Games<CAP> {
     /// Opens games that were handed nothing yet.
-    #[tactic(auto, using(crate::proofs::OpenedGames::opened_packings))]
+    #[tactic(auto, using(crate::proofs::OpenedGames::opened_packings, crate::proofs::OpenedGames::opened_numbers))]
     fn open(alloc: Global, plan: Plan, blocks: usize, workers: usize) -> Result<Self, Open>
         requires capacity { IsCapacity CAP }
         requires wide { LEAST_CAPACITY ≤ CAP }
@@ -84,12 +101,14 @@ impl<const CAP: usize> Games<CAP> {
         let pool = open_pool(alloc, rows, blocks)?;
         let fibers = open_fibers(alloc, rows)?;
         let heaps = open_heaps(alloc, rows)?;
+        let frames = open_frames(alloc, rows.len())?;
         Ok(Games {
             rows: plan.rows,
             workers: workers as u32,
             failed: false,
             fibers,
             heaps,
+            frames,
             pool,
         })
     }

@@ -1,53 +1,73 @@
 //! Completing jobs: whether one is the core's own, and its effect on the game.
-ghost use Rattle.std.specs.Prelude.{◌≡◌, ◌≤◌, ◌<◌, ◌↔◌, IsTrue, true, ℕ, length, slice_set, IfOk, OnOk, IfErr};
+ghost use Rattle.std.specs.Prelude.{◌≡◌, ◌≢◌, ◌≤◌, ◌<◌, ◌↔◌, ◌∷◌, [], IsTrue, true, ℕ, length, slice_get, slice_set, Some, IfOk, OnOk, IfErr};
+ghost use Rattle.bs_fiber.specs.declared.input.Input.{Input as AnyInput};
 ghost use Rattle.bs_fiber.specs.declared.job.JobKind.TheVariants as kind;
+ghost use Rattle.bs_fiber.specs.Frames.{frame_of};
+ghost use Rattle.bs_fiber.specs.Tickets.{HoldsWork, frames_in, names_of};
 ghost use Rattle.bs_fiber.specs.Work.{moved_part, out_seen};
 ghost use Rattle.bs_game.specs.View.{answer_of};
 ghost use Rattle.bs_sched.specs.Core.{core_after};
-ghost use Rattle.bs_sched.specs.Games.{answer_effect, brought};
+ghost use Rattle.bs_sched.specs.Games.{brought, storage_answered};
+ghost use Rattle.bs_sched.specs.Inputs.{names_for};
 ghost use Rattle.bs_sched.specs.Courses.{IsRight};
-ghost use Rattle.bs_sched.specs.Lane.{occupies, answered, forked, with_part_done, is_out, goes_on, lane_view, lane_command};
+ghost use Rattle.bs_sched.specs.Lane.{answered, forked, with_part_done, is_out, goes_on, lane_view, lane_command};
 ghost use Rattle.bs_sched.specs.Machine.{lane_of};
-ghost use Rattle.bs_sched.specs.Putting.{IsOwn, IsOwnJob};
-ghost use Rattle.bs_sched.specs.Storage.{stored};
+ghost use Rattle.bs_sched.specs.Putting.{IsOwn, IsOwnInput, IsOwnJob};
+ghost use Rattle.bs_sched.specs.Storage.{frame_tag, frames_of, with_parts};
 ghost use Rattle.bs_sched.specs.declared.event.Event.TheVariants as event;
 
 use crate::busy::mark;
 use crate::cores::{Core, note};
 use crate::event::Event;
-use crate::game::{answer_game, is_own};
+use crate::game::{answer_job, fork_of, is_own, put_part_of};
 use crate::games::Games;
-use bs_board::Snakes;
-use bs_fiber::{Done, JobKind, JobName, Out, Ticket};
+use bs_fiber::{Contents, Done, JobKind, JobName, Moved, Out, Ticket};
 use bs_game::Answer;
+use bs_pool::Owned;
 use thiserror::Error;
 
 /// The worker has no such job of the core out, or its ticket is not the core's input, or it is a
 /// part. The done is returned as it was.
 #[derive(Debug, Drop, Error)]
 #[error("no such job is out with this worker")]
-pub struct Stray {
+pub struct Stray<const CAP: usize> {
     /// The done.
-    pub done: Done,
+    pub done: Done<CAP>,
+}
+
+/// Takes the only block of a part.
+fn only<const CAP: usize>(blocks: &mut Vec<Owned<CAP>>) -> Owned<CAP>
+    requires { length blocks.old.items ≡ 1 }
+    ensures one { blocks.old.items ≡ result ∷ [] }
+    ensures none { blocks.new.items ≡ [] }
+{
+    match blocks.pop() {
+        Some(owned) => owned,
+        None => unreachable!(),
+    }
 }
 
 impl<const CAP: usize> Games<CAP> {
-    /// Answers the command of that game.
-    #[inline(always)]
-    fn answer(&mut self, game: usize, answer: Answer)
-        requires game { game < length self.old.lanes }
-        requires out { (worker : ℕ) × (occupies worker (lane_of self.old.lanes game) ≡ true) }
-        requires answer { answer ≡ answer_of (lane_view (lane_of self.old.lanes game)) (lane_command (lane_of self.old.lanes game)) }
+    /// The command of that game has its answer, and its frame blocks go back.
+    fn answer(&mut self, job: JobName, answer: Answer, blocks: &mut Vec<Owned<CAP>>)
+        requires game { job.game < length self.old.lanes }
+        requires kind { job.kind ≢ kind.Part }
+        requires out { (worker : ℕ) × (is_out worker (lane_of self.old.lanes job.game) job.kind job.part ≡ true) }
+        requires answer { answer ≡ answer_of (lane_view (lane_of self.old.lanes job.game)) (lane_command (lane_of self.old.lanes job.game)) }
+        requires names { names_of (frames_in blocks.old.items) ≡ names_for self.old.storage job }
         ensures { self.new ≡ record self.old {
-          lanes = slice_set self.old.lanes game (answered (lane_of self.old.lanes game));
-          storage = stored CAP game (answer_effect (lane_of self.old.lanes game)) self.old.storage;
+          lanes = slice_set self.old.lanes job.game (answered (lane_of self.old.lanes job.game));
+          storage = storage_answered job.kind CAP job.game (lane_of self.old.lanes job.game) self.old.storage;
         } }
     {
-        answer_game(
+        let game = job.game as usize;
+        answer_job(
             &mut self.fibers[game],
             &mut self.heaps[game],
+            &mut self.frames[game],
             &mut self.pool,
             answer,
+            blocks,
         );
     }
 
@@ -56,34 +76,48 @@ impl<const CAP: usize> Games<CAP> {
         requires game { game < length self.old.lanes }
         requires begun { (worker : ℕ) × (is_out worker (lane_of self.old.lanes game) kind.Begin 0 ≡ true) }
         requires goes { goes_on (lane_of self.old.lanes game) ≡ true }
-        ensures { self.new ≡ record self.old { lanes = slice_set self.old.lanes game (forked (lane_of self.old.lanes game)) } }
+        ensures { self.new ≡ record self.old {
+          lanes = slice_set self.old.lanes game (forked (lane_of self.old.lanes game));
+          storage = with_parts game (length (forked (lane_of self.old.lanes game)).parts) self.old.storage;
+        } }
     {
-        self.fibers[game].fork();
+        fork_of(&mut self.fibers[game], &mut self.frames[game]);
     }
 
     /// Completes that part of the move with its moved snakes.
-    fn put_part(&mut self, game: usize, part: usize, moved: Snakes)
+    fn put_part(&mut self, game: usize, part: usize, moved: Moved, owned: Owned<CAP>)
         requires game { game < length self.old.lanes }
         requires out { (worker : ℕ) × (is_out worker (lane_of self.old.lanes game) kind.Part part ≡ true) }
         requires moved { moved ≡ moved_part part (lane_view (lane_of self.old.lanes game)) (lane_command (lane_of self.old.lanes game)) }
+        requires tag { owned.tag ≡ frame_tag game }
+        requires number { slice_get (frames_of self.old.storage game) part ≡ Some (Some owned.number) }
+        requires holds { owned.block ≡ frame_of moved }
         ensures { self.new ≡ record self.old { lanes = slice_set self.old.lanes game (with_part_done part (lane_of self.old.lanes game)) } }
     {
-        self.fibers[game].put_part(part, moved);
+        put_part_of(
+            &mut self.fibers[game],
+            &mut self.frames[game],
+            part,
+            moved,
+            owned,
+        );
     }
 
     /// Applies the result of a job that was out.
-    fn bring(&mut self, job: JobName, out: Out)
+    fn bring(&mut self, job: JobName, out: Out, blocks: &mut Vec<Owned<CAP>>)
         requires game { job.game < length self.old.lanes }
         requires out { (worker : ℕ) × (is_out worker (lane_of self.old.lanes job.game) job.kind job.part ≡ true) }
         requires worked { out ≡ out_seen job.kind job.part (lane_view (lane_of self.old.lanes job.game)) (lane_command (lane_of self.old.lanes job.game)) }
+        requires names { names_of (frames_in blocks.old.items) ≡ names_for self.old.storage job }
+        requires holds { (input : AnyInput) × HoldsWork (record { input = input; frames = frames_in blocks.old.items }) out }
         ensures { self.new ≡ brought CAP self.old job }
     {
         let game = job.game as usize;
         match out {
             Out::Goes => self.fork(game),
-            Out::Answered(answer) => self.answer(game, answer),
-            Out::Moved(moved) => self.put_part(game, job.part as usize, moved),
-            Out::Joined(answer) => self.answer(game, answer),
+            Out::Answered(answer) => self.answer(job, answer, blocks),
+            Out::Moved(moved) => self.put_part(game, job.part as usize, moved, only(blocks)),
+            Out::Joined(answer, _) => self.answer(job, answer, blocks),
         }
     }
 
@@ -96,68 +130,90 @@ impl<const CAP: usize> Games<CAP> {
     }
 
     /// Whether the worker has that job out and its ticket is the core's input.
-    pub(crate) fn is_own(&self, worker: usize, done: &Done) -> bool
-        ensures { IsTrue result ↔ IsOwn self.now worker done.now }
+    fn has_own_input(&self, worker: usize, ticket: &Ticket<CAP>) -> bool
+        ensures { IsTrue result ↔ IsOwnInput self.now worker ticket.now }
     {
-        let ticket = done.ticket();
         let game = ticket.job().game as usize;
         game < self.fibers.len() && is_own(&self.fibers[game], &self.heaps[game], worker, ticket)
     }
 
-    /// Whether it is no part, and the worker's own.
-    fn is_own_job(&self, worker: usize, done: &Done) -> bool
+    fn has_own_frames(&self, ticket: &Ticket<CAP>) -> bool
+        requires { ticket.now.input.job.game < length self.now.lanes }
+        ensures { IsTrue result ↔ names_of ticket.now.frames ≡ names_for self.now.storage ticket.now.input.job }
+    {
+        let job = ticket.job();
+        self.frames[job.game as usize].are_of(job, ticket.frames())
+    }
+
+    /// Whether the worker has that job out, its ticket is the core's input, and its blocks are those
+    /// that went out with it.
+    #[tactic(auto, using(crate::proofs::OwnJobs::input_there, crate::proofs::OwnJobs::own_both, crate::proofs::OwnJobs::own_neither))]
+    pub(crate) fn is_own(&self, worker: usize, done: &Done<CAP>) -> bool
+        ensures { IsTrue result ↔ IsOwn self.now worker done.now }
+    {
+        let ticket = done.ticket();
+        if !self.has_own_input(worker, ticket) {
+            return false;
+        }
+        self.has_own_frames(ticket)
+    }
+
+    /// The same of a job that is no part.
+    fn is_own_job(&self, worker: usize, done: &Done<CAP>) -> bool
         ensures { IsTrue result ↔ IsOwnJob self.now worker done.now }
     {
         done.ticket().job().kind != JobKind::Part && self.is_own(worker, done)
     }
 
-    /// Completes a job of the core's own. The result is its spent ticket.
-    fn settle(&mut self, done: Done) -> Ticket
+    /// Completes a job of the core's own. The result is what its spent ticket held.
+    fn settle(&mut self, done: Done<CAP>) -> Box<Contents<CAP>>
         requires { (worker : ℕ) × IsOwn self.old worker done }
-        ensures games { self.new ≡ brought CAP self.old done.job }
-        ensures spent { result ≡ done }
+        ensures { self.new ≡ brought CAP self.old done.entry.input.job }
     {
         let job = done.ticket().job();
         self.keeps(job.game as usize);
         let (ticket, out) = done.into_parts();
-        self.bring(job, out);
-        ticket
+        let mut contents = ticket.into_contents();
+        self.bring(job, out, &mut contents.frames);
+        contents
     }
 }
 
 impl<const CAP: usize> Core<CAP> {
     /// Completes a job of the worker. The journal has room for it.
-    pub(crate) fn settle(&mut self, worker: usize, done: Done) -> Ticket
+    pub(crate) fn settle(&mut self, worker: usize, done: Done<CAP>) -> Box<Contents<CAP>>
         requires { IsOwn self.old.games worker done }
-        ensures core { self.new ≡ core_after CAP self.old (event.Put worker done.job) }
-        ensures spent { result ≡ done }
+        ensures { self.new ≡ core_after CAP self.old (event.Put worker done.entry.input.job) }
     {
         let job = done.ticket().job();
         let number = done.ticket().worker();
-        let ticket = self.games.settle(done);
+        let contents = self.games.settle(done);
         note(&mut self.journal, Event::Put(number, job));
         self.out -= 1;
         mark(&mut self.busy, worker, job.kind, false);
-        ticket
+        contents
     }
 
     /// Completes a Begin or a Join of the worker. Takes no memory. `Stray` returns what is not the
     /// core's own, and each part; then nothing has changed.
-    pub fn put(&mut self, worker: usize, done: Done) -> Result<(), Stray>
-        ensures own { OnOk result (IsOwnJob self.old.games worker done) }
-        ensures ok { OnOk result (self.new ≡ core_after CAP self.old (event.Put worker done.job)) }
-        ensures stray { IfErr result (λ stray. (stray.done ≡ done) × (self.new ≡ self.old) × (IsOwnJob self.old.games worker done → ⊥)) }
+    pub fn put(&mut self, worker: usize, done: Done<CAP>) -> Result<(), Stray<CAP>>
+        ensures own { OnOk result (IsOwnJob self.old.games worker done.entry) }
+        ensures ok { OnOk result (self.new ≡ core_after CAP self.old (event.Put worker done.entry.input.job)) }
+        ensures stray { IfErr result (λ stray. (stray.done ≡ done.entry) × (self.new ≡ self.old) × (IsOwnJob self.old.games worker done.entry → ⊥)) }
     {
         let _spent = self.put_back(worker, done)?;
         Ok(())
     }
 
-    /// `put` that returns the job's spent ticket, whose memory `take_over` reuses.
-    pub fn put_back(&mut self, worker: usize, done: Done) -> Result<Ticket, Stray>
-        ensures own { OnOk result (IsOwnJob self.old.games worker done) }
-        ensures ok { OnOk result (self.new ≡ core_after CAP self.old (event.Put worker done.job)) }
-        ensures spent { IfOk result (λ ticket. ticket ≡ done) }
-        ensures stray { IfErr result (λ stray. (stray.done ≡ done) × (self.new ≡ self.old) × (IsOwnJob self.old.games worker done → ⊥)) }
+    /// `put` that returns what the job's spent ticket held, whose memory `take_over` reuses.
+    pub fn put_back(
+        &mut self,
+        worker: usize,
+        done: Done<CAP>,
+    ) -> Result<Box<Contents<CAP>>, Stray<CAP>>
+        ensures own { OnOk result (IsOwnJob self.old.games worker done.entry) }
+        ensures ok { OnOk result (self.new ≡ core_after CAP self.old (event.Put worker done.entry.input.job)) }
+        ensures stray { IfErr result (λ stray. (stray.done ≡ done.entry) × (self.new ≡ self.old) × (IsOwnJob self.old.games worker done.entry → ⊥)) }
     {
         if !self.games.is_own_job(worker, &done) {
             return Err(Stray { done });

@@ -1,11 +1,15 @@
 //! Taking jobs: which job a worker gets, and the copy of all that the job reads.
-ghost use Rattle.std.specs.Prelude.{◌≡◌, ℕ, ◌≤◌, ◌<◌, true, length, MatchOption, IfOk, OnOk, OnErr};
+ghost use Rattle.std.specs.Prelude.{◌≡◌, ℕ, ◌≤◌, ◌<◌, [], true, length, map, MatchOption, IfOk, OnOk, OnErr};
 ghost use Rattle.bs_heap.specs.Heap.{with_index_room};
+ghost use Rattle.bs_heap.specs.HeldBlocks.{LeavesOthers, next_number};
+ghost use Rattle.bs_pool.specs.Ledger.{Ledger, drawn};
+ghost use Rattle.bs_fiber.specs.Tickets.{IsFresh, frames_in, names_of, ticket_in};
 ghost use Rattle.bs_fiber.specs.declared.job.JobKind.TheVariants as kind;
 ghost use Rattle.bs_sched.specs.Core.{core_after};
+ghost use Rattle.bs_sched.specs.Frames.{AreFramesOf, frames_taken, joining_frames, pool_taken, with_keys, with_number};
 ghost use Rattle.bs_sched.specs.Games.{after};
 ghost use Rattle.bs_sched.specs.GamesLayout.{KeepsBoards};
-ghost use Rattle.bs_sched.specs.Inputs.{input_of};
+ghost use Rattle.bs_sched.specs.Inputs.{input_of, job_numbers, names_for};
 ghost use Rattle.bs_sched.specs.Keyed.{HasKeys, IsKeyOf};
 ghost use Rattle.bs_sched.specs.Lane.{HasNoneReady, is_ready, with_taken};
 ghost use Rattle.bs_sched.specs.Machine.{is_busy, is_enabled, lane_of};
@@ -13,21 +17,26 @@ ghost use Rattle.bs_sched.specs.Taking.{AreNoneReady, AreNoneReadyBetween, Finds
 ghost use Rattle.bs_sched.specs.declared.event.Event.TheVariants as event;
 
 use crate::busy::{is_marked, mark};
-use crate::cores::{Core, note, reserve_events};
+use crate::cores::{Core, LEAST_CAPACITY, note, reserve_events};
 use crate::event::Event;
 use crate::fiber::Fiber;
+use crate::frames::Frames;
 use crate::games::Games;
 use crate::last_games::{last_game, note_game};
 use crate::records::{expected, is_last_over, parts_of_last};
 use bs_board::limits::MOST_ROWS;
 use bs_counter::{PartKey, Tally};
-use bs_fiber::{Done, Input, JobKind, JobName, Ticket};
+use bs_fiber::{Contents, Done, JobKind, JobName, Ticket};
 use bs_heap::TagHeap;
+use bs_pool::Pool;
 use std::alloc::{AllocError, Global};
+
+/// The largest number of parts of a move.
+const MOST_PARTS: usize = 4;
 
 /// The answer to a worker that asks for a job.
 #[derive(Debug, Drop)]
-pub enum Taken {
+pub enum Taken<const CAP: usize> {
     /// No job: the core was told to fail.
     Failed,
     /// No job: the worker has a Begin or a Join out.
@@ -35,9 +44,9 @@ pub enum Taken {
     /// No job: none is ready in any game.
     Nothing,
     /// A Begin or a Join.
-    Job(Ticket),
+    Job(Ticket<CAP>),
     /// A part, with its key.
-    Part(Ticket, PartKey<Done>),
+    Part(Ticket<CAP>, PartKey<Done<CAP>>),
 }
 
 /// What the fibers have for a worker.
@@ -85,7 +94,7 @@ fn open_keys<const CAP: usize>(
     alloc: Global,
     fiber: &Fiber,
     heap: &TagHeap<CAP>,
-) -> Result<Vec<PartKey<Done>>, AllocError>
+) -> Result<Vec<PartKey<Done<CAP>>>, AllocError>
     requires waits { 0 < length fiber.now.waiting }
     requires heap { KeepsBoards fiber.now heap.now }
     ensures { IfOk result (λ keys. (worker : ℕ) → HasKeys (with_taken worker kind.Begin 0 fiber.now) keys.items) }
@@ -108,50 +117,71 @@ fn begin_input<const CAP: usize>(
     alloc: Global,
     fiber: &mut Fiber,
     heap: &TagHeap<CAP>,
+    frames: &mut Frames<CAP>,
     worker: u32,
     job: JobName,
-    spent: Option<Box<Input>>,
-) -> Result<Box<Input>, AllocError>
+    spent: Option<Box<Contents<CAP>>>,
+) -> Result<Box<Contents<CAP>>, AllocError>
     requires kind { job.kind ≡ kind.Begin }
     requires ready { is_ready fiber.old kind.Begin job.part ≡ true }
     requires heap { KeepsBoards fiber.old heap.now }
-    ensures input { IfOk result (λ input. input.value ≡ input_of fiber.new worker job) }
+    requires frames { (pool : Ledger) × AreFramesOf frames.old.tag fiber.old frames.old pool }
+    ensures input { IfOk result (λ contents. contents.value.input ≡ input_of fiber.new worker job) }
+    ensures none { IfOk result (λ contents. contents.value.frames.items ≡ []) }
     ensures ok { OnOk result (fiber.new ≡ with_taken worker kind.Begin job.part fiber.old) }
+    ensures keys { OnOk result (frames.new ≡ with_keys frames.new.keys frames.old) }
+    ensures frames { OnOk result ((pool : Ledger) → AreFramesOf frames.old.tag fiber.old frames.old pool → AreFramesOf frames.old.tag fiber.new frames.new pool) }
     ensures err { OnErr result (fiber.new ≡ fiber.old) }
+    ensures err_frames { OnErr result (frames.new ≡ frames.old) }
 {
     let seq = fiber.next_seq();
     let keys = open_keys(alloc, fiber, heap)?;
     let holder = fiber.take_holder();
-    let input = expected(fiber, heap, fiber.next(), seq, worker, job).to_input(
+    let contents = expected(fiber, heap, fiber.next(), seq, worker, job).to_contents(
         alloc, holder, spent,
     )?;
-    fiber.begin(worker as usize, keys)?;
-    Ok(input)
+    fiber.begin(worker as usize)?;
+    frames.begin(keys);
+    Ok(contents)
 }
 
-/// Takes a part, with its key.
+/// Takes a part, with a block and its key.
 fn part_input<const CAP: usize>(
     alloc: Global,
     fiber: &mut Fiber,
     heap: &TagHeap<CAP>,
+    frames: &mut Frames<CAP>,
+    pool: &mut Pool<CAP>,
     worker: u32,
     job: JobName,
-    spent: Option<Box<Input>>,
-) -> Result<(Box<Input>, PartKey<Done>), AllocError>
+    spent: Option<Box<Contents<CAP>>>,
+) -> Result<(Box<Contents<CAP>>, PartKey<Done<CAP>>), AllocError>
     requires kind { job.kind ≡ kind.Part }
     requires ready { is_ready fiber.old kind.Part job.part ≡ true }
     requires heap { KeepsBoards fiber.old heap.now }
-    ensures input { IfOk result (λ taken. taken.0.value ≡ input_of fiber.new worker job) }
+    requires frames { AreFramesOf frames.old.tag fiber.old frames.old pool.old }
+    ensures input { IfOk result (λ taken. taken.0.value.input ≡ input_of fiber.new worker job) }
+    ensures fresh { IfOk result (λ taken. IsFresh (ticket_in taken.0.value)) }
+    ensures names { IfOk result (λ taken. names_of (frames_in taken.0.value.frames.items) ≡ map (λ n. (frames.old.tag, n)) (job_numbers job.kind job.part frames.new.numbers)) }
     ensures key { IfOk result (λ taken. taken.1.part ≡ job.part) }
     ensures ok { OnOk result (fiber.new ≡ with_taken worker kind.Part job.part fiber.old) }
+    ensures numbers { OnOk result (frames.new ≡ with_number job.part (next_number pool.old) frames.old) }
+    ensures pool { OnOk result (pool.new ≡ drawn frames.old.tag (next_number pool.old) pool.old) }
+    ensures frames { OnOk result (AreFramesOf frames.old.tag fiber.new frames.new pool.new) }
+    ensures others { LeavesOthers frames.old.tag pool.old pool.new }
     ensures err { OnErr result (fiber.new ≡ fiber.old) }
+    ensures err_frames { OnErr result (frames.new ≡ frames.old) }
+    ensures err_pool { OnErr result (pool.new ≡ pool.old) }
 {
     let seq = fiber.seq();
-    let input = expected(fiber, heap, fiber.command(), seq, worker, job).to_input(
+    let mut contents = expected(fiber, heap, fiber.command(), seq, worker, job).to_contents(
         alloc, None, spent,
     )?;
-    let key = fiber.take_part(worker as usize, job.part as usize);
-    Ok((input, key))
+    contents.frames.reserve(1)?;
+    fiber.take_part(worker as usize, job.part as usize);
+    let (owned, key) = frames.draw(pool, job.part as usize);
+    contents.frames.push_reserved(owned);
+    Ok((contents, key))
 }
 
 /// Takes the Join, with the moved snakes of all parts.
@@ -159,47 +189,73 @@ fn join_input<const CAP: usize>(
     alloc: Global,
     fiber: &mut Fiber,
     heap: &TagHeap<CAP>,
+    frames: &mut Frames<CAP>,
     worker: u32,
     job: JobName,
-    spent: Option<Box<Input>>,
-) -> Result<Box<Input>, AllocError>
+    spent: Option<Box<Contents<CAP>>>,
+) -> Result<Box<Contents<CAP>>, AllocError>
     requires kind { job.kind ≡ kind.Join }
     requires ready { is_ready fiber.old kind.Join job.part ≡ true }
     requires heap { KeepsBoards fiber.old heap.now }
-    ensures input { IfOk result (λ input. input.value ≡ input_of fiber.new worker job) }
+    requires frames { (pool : Ledger) × AreFramesOf frames.old.tag fiber.old frames.old pool }
+    ensures input { IfOk result (λ contents. contents.value.input ≡ input_of fiber.new worker job) }
+    ensures fresh { IfOk result (λ contents. IsFresh (ticket_in contents.value)) }
+    ensures names { IfOk result (λ contents. names_of (frames_in contents.value.frames.items) ≡ map (λ n. (frames.old.tag, n)) (job_numbers job.kind job.part frames.new.numbers)) }
     ensures ok { OnOk result (fiber.new ≡ with_taken worker kind.Join job.part fiber.old) }
+    ensures joining { OnOk result (frames.new ≡ joining_frames frames.old) }
+    ensures frames { OnOk result ((pool : Ledger) → AreFramesOf frames.old.tag fiber.old frames.old pool → AreFramesOf frames.old.tag fiber.new frames.new pool) }
     ensures err { OnErr result (fiber.new ≡ fiber.old) }
+    ensures err_frames { OnErr result (frames.new ≡ frames.old) }
 {
     let seq = fiber.seq();
-    let mut input = expected(fiber, heap, fiber.command(), seq, worker, job).to_input(
+    let mut contents = expected(fiber, heap, fiber.command(), seq, worker, job).to_contents(
         alloc, None, spent,
     )?;
-    input.parts = fiber.join(alloc, worker as usize)?;
-    Ok(input)
+    contents.frames.reserve(MOST_PARTS)?;
+    contents.input.parts = fiber.join(alloc, worker as usize)?;
+    frames.join(&mut contents.frames);
+    Ok(contents)
 }
 
 fn take_input<const CAP: usize>(
     alloc: Global,
     fiber: &mut Fiber,
     heap: &TagHeap<CAP>,
+    frames: &mut Frames<CAP>,
+    pool: &mut Pool<CAP>,
     worker: u32,
     job: JobName,
-    spent: Option<Box<Input>>,
-) -> Result<(Box<Input>, Option<PartKey<Done>>), AllocError>
+    spent: Option<Box<Contents<CAP>>>,
+) -> Result<(Box<Contents<CAP>>, Option<PartKey<Done<CAP>>>), AllocError>
     requires ready { is_ready fiber.old job.kind job.part ≡ true }
     requires heap { KeepsBoards fiber.old heap.now }
-    ensures input { IfOk result (λ taken. taken.0.value ≡ input_of fiber.new worker job) }
+    requires frames { AreFramesOf frames.old.tag fiber.old frames.old pool.old }
+    ensures input { IfOk result (λ taken. taken.0.value.input ≡ input_of fiber.new worker job) }
+    ensures fresh { IfOk result (λ taken. IsFresh (ticket_in taken.0.value)) }
+    ensures names { IfOk result (λ taken. names_of (frames_in taken.0.value.frames.items) ≡ map (λ n. (frames.old.tag, n)) (job_numbers job.kind job.part frames.new.numbers)) }
     ensures key { IfOk result (λ taken. IsKeyOf job taken.1) }
     ensures ok { OnOk result (fiber.new ≡ with_taken worker job.kind job.part fiber.old) }
+    ensures numbers { OnOk result (frames.new ≡ frames_taken job.kind job.part (next_number pool.old) frames.new.keys frames.old) }
+    ensures pool { OnOk result (pool.new ≡ pool_taken job.kind frames.old.tag (next_number pool.old) pool.old) }
+    ensures frames { OnOk result (AreFramesOf frames.old.tag fiber.new frames.new pool.new) }
+    ensures others { LeavesOthers frames.old.tag pool.old pool.new }
     ensures err { OnErr result (fiber.new ≡ fiber.old) }
+    ensures err_frames { OnErr result (frames.new ≡ frames.old) }
+    ensures err_pool { OnErr result (pool.new ≡ pool.old) }
 {
     match job.kind {
-        JobKind::Begin => Ok((begin_input(alloc, fiber, heap, worker, job, spent)?, None)),
-        JobKind::Part => {
-            let (input, key) = part_input(alloc, fiber, heap, worker, job, spent)?;
-            Ok((input, Some(key)))
+        JobKind::Begin => {
+            let contents = begin_input(alloc, fiber, heap, frames, worker, job, spent)?;
+            Ok((contents, None))
         }
-        JobKind::Join => Ok((join_input(alloc, fiber, heap, worker, job, spent)?, None)),
+        JobKind::Part => {
+            let (contents, key) = part_input(alloc, fiber, heap, frames, pool, worker, job, spent)?;
+            Ok((contents, Some(key)))
+        }
+        JobKind::Join => {
+            let contents = join_input(alloc, fiber, heap, frames, worker, job, spent)?;
+            Ok((contents, None))
+        }
     }
 }
 
@@ -210,24 +266,36 @@ fn take_ticket<const CAP: usize>(
     alloc: Global,
     fiber: &mut Fiber,
     heap: &mut TagHeap<CAP>,
+    frames: &mut Frames<CAP>,
+    pool: &mut Pool<CAP>,
     worker: u32,
     job: JobName,
-    spent: Option<Box<Input>>,
-) -> Result<(Ticket, Option<PartKey<Done>>), AllocError>
+    spent: Option<Box<Contents<CAP>>>,
+) -> Result<(Ticket<CAP>, Option<PartKey<Done<CAP>>>), AllocError>
+    requires wide { LEAST_CAPACITY ≤ CAP }
     requires ready { is_ready fiber.old job.kind job.part ≡ true }
     requires heap { KeepsBoards fiber.old heap.old }
-    ensures ticket { IfOk result (λ taken. taken.0 ≡ input_of fiber.new worker job) }
+    requires frames { AreFramesOf frames.old.tag fiber.old frames.old pool.old }
+    ensures ticket { IfOk result (λ taken. taken.0.input ≡ input_of fiber.new worker job) }
+    ensures fresh { IfOk result (λ taken. IsFresh taken.0) }
+    ensures names { IfOk result (λ taken. names_of taken.0.frames ≡ map (λ n. (frames.old.tag, n)) (job_numbers job.kind job.part frames.new.numbers)) }
     ensures key { IfOk result (λ taken. IsKeyOf job taken.1) }
     ensures ok { OnOk result (fiber.new ≡ with_taken worker job.kind job.part fiber.old) }
+    ensures numbers { OnOk result (frames.new ≡ frames_taken job.kind job.part (next_number pool.old) frames.new.keys frames.old) }
+    ensures pool { OnOk result (pool.new ≡ pool_taken job.kind frames.old.tag (next_number pool.old) pool.old) }
+    ensures frames { OnOk result (AreFramesOf frames.old.tag fiber.new frames.new pool.new) }
+    ensures others { LeavesOthers frames.old.tag pool.old pool.new }
     ensures room { OnOk result (0 < heap.new.index_room) }
     ensures err { OnErr result (fiber.new ≡ fiber.old) }
+    ensures err_frames { OnErr result (frames.new ≡ frames.old) }
+    ensures err_pool { OnErr result (pool.new ≡ pool.old) }
     ensures heap { heap.new ≡ with_index_room heap.new.index_room heap.old }
     ensures more { heap.old.index_room ≤ heap.new.index_room }
 {
     heap.grow_index()?;
-    let (input, key) = take_input(alloc, fiber, heap, worker, job, spent)?;
+    let (contents, key) = take_input(alloc, fiber, heap, frames, pool, worker, job, spent)?;
     fiber.keeps();
-    Ok((Ticket::new(input), key))
+    Ok((Ticket::new(contents), key))
 }
 
 impl<const CAP: usize> Games<CAP> {
@@ -249,11 +317,13 @@ impl<const CAP: usize> Games<CAP> {
         alloc: Global,
         worker: u32,
         job: JobName,
-        spent: Option<Box<Input>>,
-    ) -> Result<(Ticket, Option<PartKey<Done>>), AllocError>
+        spent: Option<Box<Contents<CAP>>>,
+    ) -> Result<(Ticket<CAP>, Option<PartKey<Done<CAP>>>), AllocError>
         requires game { job.game < length self.old.lanes }
         requires ready { is_ready (lane_of self.old.lanes job.game) job.kind job.part ≡ true }
-        ensures ticket { IfOk result (λ taken. taken.0 ≡ input_of (lane_of self.new.lanes job.game) worker job) }
+        ensures ticket { IfOk result (λ taken. taken.0.input ≡ input_of (lane_of self.new.lanes job.game) worker job) }
+        ensures fresh { IfOk result (λ taken. IsFresh taken.0) }
+        ensures names { IfOk result (λ taken. names_of taken.0.frames ≡ names_for self.new.storage job) }
         ensures key { IfOk result (λ taken. IsKeyOf job taken.1) }
         ensures ok { OnOk result (self.new ≡ after CAP self.old (event.Take worker job)) }
         ensures err { OnErr result (self.new ≡ self.old) }
@@ -262,6 +332,8 @@ impl<const CAP: usize> Games<CAP> {
             alloc,
             &mut self.fibers[job.game as usize],
             &mut self.heaps[job.game as usize],
+            &mut self.frames[job.game as usize],
+            &mut self.pool,
             worker,
             job,
             spent,
@@ -302,10 +374,12 @@ impl<const CAP: usize> Core<CAP> {
         alloc: Global,
         worker: usize,
         job: JobName,
-        spent: Option<Box<Input>>,
-    ) -> Result<(Ticket, Option<PartKey<Done>>), AllocError>
+        spent: Option<Box<Contents<CAP>>>,
+    ) -> Result<(Ticket<CAP>, Option<PartKey<Done<CAP>>>), AllocError>
         requires enabled { is_enabled self.old.games.workers self.old.games.lanes (event.Take worker job) ≡ true }
-        ensures ticket { IfOk result (λ taken. taken.0 ≡ input_of (lane_of self.new.games.lanes job.game) worker job) }
+        ensures ticket { IfOk result (λ taken. taken.0.input ≡ input_of (lane_of self.new.games.lanes job.game) worker job) }
+        ensures fresh { IfOk result (λ taken. IsFresh taken.0) }
+        ensures names { IfOk result (λ taken. names_of taken.0.frames ≡ names_for self.new.games.storage job) }
         ensures key { IfOk result (λ taken. IsKeyOf job taken.1) }
         ensures ok { OnOk result (self.new ≡ core_after CAP self.old (event.Take worker job)) }
         ensures err { OnErr result (self.new ≡ self.old) }
@@ -322,7 +396,7 @@ impl<const CAP: usize> Core<CAP> {
 
     /// Takes a job for that worker, with a copy of all that it reads. Its completion takes no
     /// memory. After want of memory the core is unchanged.
-    pub fn take(&mut self, alloc: Global, worker: usize) -> Result<Taken, AllocError>
+    pub fn take(&mut self, alloc: Global, worker: usize) -> Result<Taken<CAP>, AllocError>
         requires { worker ≤ self.old.games.workers }
         ensures ok { IfOk result (λ taken. TakesAs CAP self.old worker taken self.new) }
         ensures err { OnErr result (self.new ≡ self.old) }
@@ -336,8 +410,8 @@ impl<const CAP: usize> Core<CAP> {
         &mut self,
         alloc: Global,
         worker: usize,
-        spent: Option<Box<Input>>,
-    ) -> Result<Taken, AllocError>
+        spent: Option<Box<Contents<CAP>>>,
+    ) -> Result<Taken<CAP>, AllocError>
         requires { worker ≤ self.old.games.workers }
         ensures ok { IfOk result (λ taken. TakesAs CAP self.old worker taken self.new) }
         ensures err { OnErr result (self.new ≡ self.old) }

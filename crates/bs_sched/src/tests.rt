@@ -86,7 +86,7 @@ fn take(
     alloc: Global,
     core: &mut Core<CAP>,
     worker: usize,
-) -> Result<Taken, Fail> {
+) -> Result<Taken<CAP>, Fail> {
     assert!(rt; worker <= core.workers());
     Ok(core.take(alloc, worker)?)
 }
@@ -96,7 +96,7 @@ fn take_done(
     alloc: Global,
     core: &mut Core<CAP>,
     worker: usize,
-) -> Result<Done, Fail> {
+) -> Result<Done<CAP>, Fail> {
     match take(rt, alloc, core, worker)? {
         Taken::Job(ticket) => Ok(work(alloc, ticket)?),
         Taken::Part(_, _) => Err(Fail::from("a part")),
@@ -112,7 +112,7 @@ fn take_part(
     alloc: Global,
     core: &mut Core<CAP>,
     worker: usize,
-) -> Result<(Done, PartKey<Done>), Fail> {
+) -> Result<(Done<CAP>, PartKey<Done<CAP>>), Fail> {
     match take(rt, alloc, core, worker)? {
         Taken::Part(ticket, key) => Ok((work(alloc, ticket)?, key)),
         _ => Err(Fail::from("no part")),
@@ -121,9 +121,9 @@ fn take_part(
 
 // All parts, if this was the last.
 pub(crate) fn finish(
-    key: PartKey<Done>,
-    done: Done,
-) -> Result<Option<ArrayVec<Option<Done>, 4>>, Fail> {
+    key: PartKey<Done<CAP>>,
+    done: Done<CAP>,
+) -> Result<Option<ArrayVec<Option<Done<CAP>>, 4>>, Fail> {
     if key.part() != done.part() {
         return Err(Fail::from("the key of another part"));
     }
@@ -136,12 +136,12 @@ pub(crate) fn finish(
     }
 }
 
-fn put_parts(core: &mut Core<CAP>, parts: ArrayVec<Option<Done>, 4>) -> Result<(), Fail> {
+fn put_parts(core: &mut Core<CAP>, parts: ArrayVec<Option<Done<CAP>>, 4>) -> Result<(), Fail> {
     core.put_parts(parts)
         .map_err(|_| Fail::from("strays of its own core"))
 }
 
-fn put(core: &mut Core<CAP>, worker: usize, done: Done) -> Result<(), Fail> {
+fn put(core: &mut Core<CAP>, worker: usize, done: Done<CAP>) -> Result<(), Fail> {
     core.put(worker, done)
         .map_err(|_| Fail::from("a stray of its own core"))
 }
@@ -176,10 +176,10 @@ fn a_ticket_takes_the_place_of_a_spent_one(rt: HostRuntime) -> Result<(), Fail> 
     hand(&rt, alloc, &mut core, Command::Show)?;
     let done = take_done(&rt, alloc, &mut core, 0)?;
     let spent = core.put_back(0, done).map_err(|_| Fail::from("a stray"))?;
-    assert_eq!(rt; (spent.seq(), spent.kept()), (1, 0));
-    assert!(rt; spent.last().is_none());
+    assert_eq!(rt; (spent.input.seq, spent.input.kept), (1, 0));
+    assert!(rt; spent.input.last.is_none());
     assert!(rt; core.workers() == 2);
-    let Taken::Job(ticket) = core.take_over(alloc, 0, Some(spent.into_input()))? else {
+    let Taken::Job(ticket) = core.take_over(alloc, 0, Some(spent))? else {
         return Err(Fail::from("no job"));
     };
     assert_eq!(rt; (ticket.seq(), ticket.kept(), ticket.worker()), (2, 1, 0));
@@ -192,7 +192,7 @@ fn a_ticket_takes_the_place_of_a_spent_one(rt: HostRuntime) -> Result<(), Fail> 
     Ok(())
 }
 
-fn assert_job(rt: &impl Abort, done: &Done, kind: JobKind, part: u8) {
+fn assert_job(rt: &impl Abort, done: &Done<CAP>, kind: JobKind, part: u8) {
     let job = done.ticket().job();
     assert_eq!(rt; job.kind, kind);
     assert_eq!(rt; job.game, 0);
@@ -236,7 +236,7 @@ fn assert_two_strays(
     rt: &impl Abort,
     alloc: Global,
     core: &mut Core<CAP>,
-    foreign: Done,
+    foreign: Done<CAP>,
 ) -> Result<(), Fail> {
     hand(rt, alloc, core, Command::Show)?;
     let done = take_done(rt, alloc, core, 0)?;
@@ -326,8 +326,8 @@ fn read_all(rt: &impl Abort, core: &Core<CAP>) -> Readings {
 fn assert_strays(
     rt: &impl Abort,
     core: &mut Core<CAP>,
-    parts: ArrayVec<Option<Done>, 4>,
-) -> Result<ArrayVec<Option<Done>, 4>, Fail> {
+    parts: ArrayVec<Option<Done<CAP>>, 4>,
+) -> Result<ArrayVec<Option<Done<CAP>>, 4>, Fail> {
     let before = read_all(rt, core);
     let Err(strays) = core.put_parts(parts) else {
         return Err(Fail::from("not all parts of the move"));
@@ -337,7 +337,11 @@ fn assert_strays(
 }
 
 // A part is a stray by itself, and so is a list of it alone where the move has two.
-fn assert_part_strays(rt: &impl Abort, core: &mut Core<CAP>, done: Done) -> Result<Done, Fail> {
+fn assert_part_strays(
+    rt: &impl Abort,
+    core: &mut Core<CAP>,
+    done: Done<CAP>,
+) -> Result<Done<CAP>, Fail> {
     let before = read_all(rt, core);
     let Err(stray) = core.put(0, done) else {
         return Err(Fail::from("a part that is put by itself"));
@@ -368,8 +372,8 @@ fn play_parts(rt: &impl Abort, alloc: Global, core: &mut Core<CAP>) -> Result<()
 
 fn assert_in_order(
     rt: &impl Abort,
-    parts: ArrayVec<Option<Done>, 4>,
-) -> Result<ArrayVec<Option<Done>, 4>, Fail> {
+    parts: ArrayVec<Option<Done<CAP>>, 4>,
+) -> Result<ArrayVec<Option<Done<CAP>>, 4>, Fail> {
     assert!(rt; parts.len() == 2);
     for (place, part) in parts.as_slice().iter().enumerate() {
         let done = part.as_ref().ok_or("a part")?;

@@ -14,7 +14,7 @@ use Rattle.bs_sched.specs.Games.{row_at}
 use Rattle.bs_sched.specs.Handed.{IsServed, hands_of}
 use Rattle.bs_sched.specs.Isolation.{KeepsCourse, own_commands}
 use Rattle.bs_sched.specs.Journal.{KeepsApart}
-use Rattle.bs_sched.specs.Lane.{Lane, empty_lane, is_quiet}
+use Rattle.bs_sched.specs.Lane.{Lane, no_lane, is_quiet}
 use Rattle.bs_sched.specs.Machine.{lane_of}
 use Rattle.bs_sched.proofs.HandedCommands.{served}
 use Rattle.bs_workers.specs.Given.{CannotHandIn, IsAsGiven, IsRunFrom}
@@ -75,8 +75,8 @@ own_hands game (event.Put worker job ∷ events) = own_hands game events
 quiet_at : (lanes : List Lane) (game : ℕ) → list_all is_quiet lanes ≡ true → is_quiet (lane_of lanes game) ≡ true
 quiet_at lanes game quiet =
     elim (cases_Bool (nat_lt game (length lanes))) [
-      | inl on ↦ AllPass-from_list_all is_quiet lanes quiet game (empty_lane 0) (ltb-true game (length lanes) on)
-      | inr off ↦ ap is_quiet (get_or_past lanes game (empty_lane 0) (ltb-false game (length lanes) off))
+      | inl on ↦ AllPass-from_list_all is_quiet lanes quiet game no_lane (ltb-true game (length lanes) on)
+      | inr off ↦ ap is_quiet (get_or_past lanes game no_lane (ltb-false game (length lanes) off))
     ]
 
 served_one : (cap : ℕ) (core : CoreView) (game : ℕ) → game < length core.games.rows → KeepsApart cap core → list_all is_quiet core.games.lanes ≡ true

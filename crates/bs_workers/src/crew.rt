@@ -4,8 +4,7 @@ use crate::gate::Gate;
 use crate::task::{Refused, Task, Worked, work_at};
 use arrayvec::ArrayVec;
 use bs_board::Command;
-use bs_counter::PartKey;
-use bs_fiber::{Done, Input, JobKind, Parts, Ticket};
+use bs_fiber::{Contents, Done, JobKind, Parts, Ticket};
 use std::alloc::{AllocError, Global};
 use std::sync::atomic::AtomicU64;
 use std::sync::atomic::Ordering::SeqCst;
@@ -18,7 +17,7 @@ pub(crate) const MOST_PARTS: usize = 4;
 /// of a move, so a thread that takes several jobs in one turn at the desk takes them for several
 /// workers.
 #[derive(Drop)]
-pub(crate) struct Crew {
+pub(crate) struct Crew<const CAP: usize> {
     /// The number of the thread, as a gate gets it.
     thread: usize,
     /// The number of the first worker; the others follow.
@@ -26,17 +25,17 @@ pub(crate) struct Crew {
     /// How many workers it has.
     size: usize,
     /// Jobs to be run.
-    tasks: Vec<Task>,
+    tasks: Vec<Task<CAP>>,
     /// Finished Begins and Joins, to be completed.
-    done: Vec<Done>,
+    done: Vec<Done<CAP>>,
     /// The parts of the moves whose last part this thread finished, to be completed.
-    parts: Vec<ArrayVec<Option<Done>, 4>>,
-    /// The key of a part that failed, until the core was told to fail.
-    refused: Option<PartKey<Done>>,
-    /// Tickets of completed jobs.
-    spent: Vec<Ticket>,
-    /// Inputs of such tickets, cleared outside the lock. New tickets reuse their memory.
-    cleared: Vec<Box<Input>>,
+    parts: Vec<ArrayVec<Option<Done<CAP>>, 4>>,
+    /// What is left of a job that failed, until the core was told to fail.
+    refused: Option<Refused<CAP>>,
+    /// What the tickets of completed jobs held.
+    spent: Vec<Box<Contents<CAP>>>,
+    /// The same, cleared outside the lock. New tickets reuse their memory.
+    cleared: Vec<Box<Contents<CAP>>>,
     /// Counts the bytes read ahead. It is never read: the counting keeps the compiler from removing
     /// the reads.
     read: AtomicU64,
@@ -46,7 +45,7 @@ pub(crate) struct Crew {
     fault: Option<Run>,
 }
 
-impl Crew {
+impl<const CAP: usize> Crew<CAP> {
     /// Makes a crew of `size` workers, at least one, for that thread. Each earlier thread has as
     /// many. All memory that the crew needs is taken here.
     pub(crate) fn new(alloc: Global, thread: usize, size: usize) -> Result<Self, AllocError> {
@@ -117,51 +116,50 @@ impl Crew {
     }
 
     /// Adds a job.
-    pub(crate) fn add(&mut self, task: Task) {
+    pub(crate) fn add(&mut self, task: Task<CAP>) {
         let added = self.tasks.push(task);
         self.note_fault(added);
     }
 
     /// A Begin or a Join to be completed.
-    pub(crate) fn take_done(&mut self) -> Option<Done> {
+    pub(crate) fn take_done(&mut self) -> Option<Done<CAP>> {
         self.done.pop()
     }
 
     /// All parts of a move to be completed.
-    pub(crate) fn take_parts(&mut self) -> Option<ArrayVec<Option<Done>, 4>> {
+    pub(crate) fn take_parts(&mut self) -> Option<ArrayVec<Option<Done<CAP>>, 4>> {
         self.parts.pop()
     }
 
-    /// Drops the key of a part that failed. The core was told to fail, so nobody waits for the
-    /// part.
+    /// Drops the key and the frame blocks of a job that failed. The core was told to fail, so nobody
+    /// waits for the job; the blocks stay counted as held.
     pub(crate) fn give_up_refused(&mut self) {
         self.refused = None;
     }
 
-    /// A cleared input, if there is one.
-    pub(crate) fn take_cleared(&mut self) -> Option<Box<Input>> {
+    /// The cleared contents of a ticket, if there are any.
+    pub(crate) fn take_cleared(&mut self) -> Option<Box<Contents<CAP>>> {
         self.cleared.pop()
     }
 
-    /// Keeps the ticket of a completed job.
-    pub(crate) fn keep_spent(&mut self, ticket: Ticket) {
-        let _kept = self.spent.push(ticket);
+    /// Keeps what the ticket of a completed job held.
+    pub(crate) fn keep_spent(&mut self, contents: Box<Contents<CAP>>) {
+        let _kept = self.spent.push(contents);
     }
 
-    /// Frees the moved snakes of the spent inputs, outside the lock.
+    /// Frees the moved snakes of the spent tickets, outside the lock.
     fn clear_spent(&mut self, alloc: Global) {
         for _ in 0..self.spent.len() {
-            if let Some(ticket) = self.spent.pop() {
-                let mut input = ticket.into_input();
-                input.parts = Parts::from_vec(Vec::new(alloc));
-                let _kept = self.cleared.push(input);
+            if let Some(mut contents) = self.spent.pop() {
+                contents.input.parts = Parts::from_vec(Vec::new(alloc));
+                let _kept = self.cleared.push(contents);
             }
         }
     }
 
     /// Reads the directions of a move that was begun. The desk compares them under the lock, and
     /// then finds them in the processor's cache.
-    fn read_ahead(&self, ticket: &Ticket) {
+    fn read_ahead(&self, ticket: &Ticket<CAP>) {
         if let (JobKind::Begin, Command::Move(orders)) = (ticket.job().kind, ticket.command()) {
             let mut bytes = 0u64;
             for (id, _) in orders.moves.as_slice() {
@@ -172,7 +170,7 @@ impl Crew {
     }
 
     /// Keeps what is to be completed.
-    fn keep_worked(&mut self, worked: Worked) {
+    fn keep_worked(&mut self, worked: Worked<CAP>) {
         match worked {
             Worked::Job(done) => {
                 self.read_ahead(done.ticket());
@@ -197,9 +195,8 @@ impl Crew {
             match work_at(alloc, self.thread, task, gate) {
                 Ok(worked) => self.keep_worked(worked),
                 Err(refused) => {
-                    let Refused { fault, key } = refused;
-                    self.fault = Some(fault);
-                    self.refused = key;
+                    self.fault = Some(refused.fault);
+                    self.refused = Some(refused);
                     break;
                 }
             }

@@ -1,18 +1,18 @@
 //! The desk: a core, with the state that its threads share.
 use crate::crew::{Crew, MOST_PARTS};
 use crate::fault::Run;
-use crate::task::{PartTask, Task};
+use crate::task::{JobTask, PartTask, Task};
 use arrayvec::ArrayVec;
 use bs_board::seats_of_record;
-use bs_fiber::{Done, Holders, Input, JobKind, Out, Ticket};
+use bs_fiber::{Contents, Done, Holders, JobKind, Out, Ticket};
 use bs_sched::{Core, Taken};
 use std::alloc::Global;
 
 /// The answer to a worker that asks for a job.
 #[derive(Drop)]
-pub(crate) enum Assignment {
+pub(crate) enum Assignment<const CAP: usize> {
     /// Run this job.
-    Work(Task),
+    Work(Task<CAP>),
     /// None is ready, and one may become so.
     Wait,
     /// There will be none.
@@ -34,7 +34,7 @@ pub(crate) enum Next {
 const LEAST_RECORD: usize = 9;
 
 /// Whether the job is a part of a move with later parts. Each part moves two seats of the board.
-fn has_parts_behind(ticket: &Ticket) -> bool {
+fn has_parts_behind<const CAP: usize>(ticket: &Ticket<CAP>) -> bool {
     let job = ticket.job();
     let Some(record) = ticket.last() else {
         return false;
@@ -115,7 +115,7 @@ impl<const CAP: usize> Desk<CAP> {
         self.closed = true;
     }
 
-    fn without_job(&self) -> Assignment {
+    fn without_job(&self) -> Assignment<CAP> {
         if self.closed && self.core.is_quiet() {
             Assignment::End
         } else {
@@ -123,20 +123,19 @@ impl<const CAP: usize> Desk<CAP> {
         }
     }
 
-    /// Takes a job for the worker. The new ticket reuses the memory of a spent input, if there is
-    /// one.
+    /// Takes a job for the worker. The new ticket reuses the memory of a spent one, if there is one.
     pub(crate) fn assign(
         &mut self,
         alloc: Global,
         worker: usize,
-        spent: Option<Box<Input>>,
-    ) -> Assignment {
+        spent: Option<Box<Contents<CAP>>>,
+    ) -> Assignment<CAP> {
         if worker > self.core.workers() {
             self.stop(Run::Broken);
             return Assignment::End;
         }
         match self.core.take_over(alloc, worker, spent) {
-            Ok(Taken::Job(ticket)) => Assignment::Work(Task::Job(ticket)),
+            Ok(Taken::Job(ticket)) => Assignment::Work(Task::Job(JobTask { ticket })),
             Ok(Taken::Part(ticket, key)) => {
                 Assignment::Work(Task::Part(PartTask { ticket, key }))
             }
@@ -153,11 +152,11 @@ impl<const CAP: usize> Desk<CAP> {
         }
     }
 
-    /// Completes a job of the worker. The result is its spent ticket.
+    /// Completes a job of the worker. The result is what its spent ticket held.
     #[inline(always)]
-    pub(crate) fn put(&mut self, worker: usize, done: Done) -> Option<Ticket> {
+    pub(crate) fn put(&mut self, worker: usize, done: Done<CAP>) -> Option<Box<Contents<CAP>>> {
         match self.core.put_back(worker, done) {
-            Ok(ticket) => Some(ticket),
+            Ok(contents) => Some(contents),
             Err(_) => {
                 self.stop(Run::Broken);
                 None
@@ -166,14 +165,14 @@ impl<const CAP: usize> Desk<CAP> {
     }
 
     /// Completes all parts of a move.
-    pub(crate) fn put_parts(&mut self, parts: ArrayVec<Option<Done>, 4>) {
+    pub(crate) fn put_parts(&mut self, parts: ArrayVec<Option<Done<CAP>>, 4>) {
         if self.core.put_parts(parts).is_err() {
             self.stop(Run::Broken);
         }
     }
 
     /// Completes all that the thread ran.
-    fn bring_all(&mut self, crew: &mut Crew) -> Brought {
+    fn bring_all(&mut self, crew: &mut Crew<CAP>) -> Brought {
         let mut brought = Brought {
             games: crew.count_parts(),
             spreads: crew.count_done().saturating_add(crew.count_parts()) > 1,
@@ -198,7 +197,7 @@ impl<const CAP: usize> Desk<CAP> {
 
     /// Takes a job for the worker; where that is a part of a move, the later parts too. Where there
     /// was none, the answer to a further request.
-    fn assign_parts(&mut self, alloc: Global, crew: &mut Crew, worker: usize) -> Option<Next> {
+    fn assign_parts(&mut self, alloc: Global, crew: &mut Crew<CAP>, worker: usize) -> Option<Next> {
         for _ in 0..MOST_PARTS {
             let spent = crew.take_cleared();
             match self.assign(alloc, worker, spent) {
@@ -218,7 +217,7 @@ impl<const CAP: usize> Desk<CAP> {
 
     /// Takes jobs for that many workers of the thread. Where there were fewer jobs, the answer to a
     /// further request.
-    fn assign_some(&mut self, alloc: Global, crew: &mut Crew, workers: usize) -> Option<Next> {
+    fn assign_some(&mut self, alloc: Global, crew: &mut Crew<CAP>, workers: usize) -> Option<Next> {
         for place in 0..workers {
             let fewer = self.assign_parts(alloc, crew, crew.worker(place));
             if fewer.is_some() {
@@ -243,7 +242,7 @@ impl<const CAP: usize> Desk<CAP> {
     }
 
     /// Takes one job for the thread.
-    fn assign_one(&mut self, alloc: Global, crew: &mut Crew) -> Option<Next> {
+    fn assign_one(&mut self, alloc: Global, crew: &mut Crew<CAP>) -> Option<Next> {
         let spent = crew.take_cleared();
         match self.assign(alloc, crew.worker(0), spent) {
             Assignment::Work(task) => {
@@ -257,7 +256,7 @@ impl<const CAP: usize> Desk<CAP> {
 
     /// Completes what the thread ran, and takes jobs for its workers: for fewer of them where other
     /// threads wait, which it then wakes where it may have left jobs for them.
-    pub(crate) fn exchange(&mut self, alloc: Global, crew: &mut Crew) -> Next {
+    pub(crate) fn exchange(&mut self, alloc: Global, crew: &mut Crew<CAP>) -> Next {
         if let Some(fault) = crew.fault() {
             self.stop(fault);
             crew.give_up_refused();

@@ -83,7 +83,7 @@ impl<const CAP: usize> Shop<CAP> {
 
     /// Completes what the thread ran and takes its next jobs. Where none is ready, waits for a
     /// change; the thread then asks again. A thread that ends wakes all, since they are to end too.
-    fn exchange<R: Wait>(&self, rt: &R, alloc: Global, crew: &mut Crew) -> Next {
+    fn exchange<R: Wait>(&self, rt: &R, alloc: Global, crew: &mut Crew<CAP>) -> Next {
         let mut desk = self.enter(rt);
         let next = desk.exchange(alloc, crew);
         match next {

@@ -4,8 +4,8 @@ use crate::desk::{Assignment, Desk};
 use crate::fault::Run;
 use crate::gate::Gate;
 use crate::shop::Shop;
-use crate::task::{Refused, Worked, work_at};
-use bs_fiber::{Holders, SharedCommand, Ticket};
+use crate::task::{Worked, work_at};
+use bs_fiber::{Holders, SharedCommand};
 use std::alloc::{AllocError, Global};
 use std::sync::Wait;
 use std::thread::{Threads, join};
@@ -21,8 +21,7 @@ pub(crate) fn finish<const CAP: usize, R: Wait, G: Gate>(
     let worker = desk.own_worker();
     let mut spent = None;
     for _ in rt.forever() {
-        let Assignment::Work(task) = desk.assign(alloc, worker, spent.map(Ticket::into_input))
-        else {
+        let Assignment::Work(task) = desk.assign(alloc, worker, spent) else {
             break;
         };
         spent = match work_at(alloc, thread, task, gate) {
@@ -33,9 +32,8 @@ pub(crate) fn finish<const CAP: usize, R: Wait, G: Gate>(
             }
             Ok(Worked::Part) => None,
             Err(refused) => {
-                let Refused { fault, key } = refused;
-                desk.stop(fault);
-                drop(key);
+                desk.stop(refused.fault);
+                drop(refused);
                 break;
             }
         };

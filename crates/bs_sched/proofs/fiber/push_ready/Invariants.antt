@@ -1,13 +1,8 @@
-use Rattle.std.proofs.Common.{◌≡◌, ◌+◌, ◌++◌, map, length}
-use Rattle.std.specs.Prelude.{vec_capacity}
+use Rattle.std.proofs.Common.{◌≡◌}
+use Rattle.std.specs.Prelude.{replicate, vec_capacity}
 use Rattle.bs_sched.specs.declared.fiber.Slot.TheVariants as slot
 use Rattle.bs_sched.proofs.fiber.push_ready.Given as goal
 
--- the parts pushed so far, and those that are left
+-- the parts pushed so far
 abbrev pub invariant-loop-part : goal.invariant-loop-part
-invariant-loop-part l = record {
-  slots : l.slots.items ++ map (λ key. slot.Ready key) l.keys.items ≡ map (λ key. slot.Ready key) l.fn.keys.items;
-  many : length l.keys.items + l._part ≡ length l.fn.keys.items;
-  pushed : length l.slots.items ≡ l._part;
-  room : vec_capacity l.slots ≡ vec_capacity l.fn.slots;
-}
+invariant-loop-part l = record { slots : l.slots.items ≡ replicate l._part slot.Ready; room : vec_capacity l.slots ≡ vec_capacity l.fn.slots }

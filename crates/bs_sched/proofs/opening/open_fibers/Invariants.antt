@@ -4,4 +4,4 @@ use Rattle.bs_sched.specs.Lane.{empty_lane}
 use Rattle.bs_sched.proofs.opening.open_fibers.Given as goal
 
 abbrev pub invariant-loop-row : goal.invariant-loop-row
-invariant-loop-row l = l.fibers.items ≡ map (λ row. empty_lane row.quota) (take l.row-index l.rows)
+invariant-loop-row l = l.fibers.items ≡ map (λ row. empty_lane row) (take l.row-index l.rows)

@@ -1,5 +1,5 @@
 use Rattle.std.proofs.Common.{◌≡◌, ◌+◌, ◌<◌, List, Option, length, refl, subst, sym, ap, ◌∙◌, arith}
-use Rattle.bs_fiber.specs.declared.input.Input.{Input}
+use Rattle.bs_fiber.specs.Tickets.{TicketView}
 use Rattle.bs_sched.specs.Parts.{core_run, puts_of}
 use Rattle.bs_sched.proofs.OwnParts.{AreOwnFrom, from_all, next_part, own_next}
 use Rattle.bs_sched.proofs.cores.Core.settle_parts.Goals as goal
@@ -29,7 +29,7 @@ loop-part-preserved g c =
     let less = c.remove-first.ensures.len in
     record {
       own = (own.0, subst (AreOwnFrom c.settle_part.new.self.games own.0 (c.loop-part._part + 1)) rest next.0);
-      run = subst (λ (xs : List (Option Input)). core_run g.row.CAP c.settle_part.new.self (puts_of xs) ≡ core_run g.row.CAP c.loop-part.self (puts_of c.loop-part.rest.items)) rest next.1
+      run = subst (λ (xs : List (Option TicketView)). core_run g.row.CAP c.settle_part.new.self (puts_of xs) ≡ core_run g.row.CAP c.loop-part.self (puts_of c.loop-part.rest.items)) rest next.1
           ∙ c.loop-part.invariant.run;
       many = omega arith;
     }

@@ -10,14 +10,14 @@ pub returns-then-game-count_rows : goal.returns-then-game-count_rows
 returns-then-game-count_rows g c =
     let first : slice_get c.args.completed.now 0 ≡ Some (Some c.in-Some-Some.first)
     = sym c.first.ensures.value ∙ ap option_copied c.in-Some-Some.is ∙ ap Some c.in-Some-Some.field-0-is in
-    let game : c.job-game.result.game ≡ c.in-Some-Some.first.job.game = ap (λ (j : JobName). j.game) c.job-game.ensures ∙ ap (λ i. i.job.game) c.ticket.ensures in
+    let game : c.job-game.result.game ≡ c.in-Some-Some.first.input.job.game = ap (λ (j : JobName). j.game) c.job-game.ensures ∙ ap (λ i. i.input.job.game) c.ticket.ensures in
     (λ wrong. let w : false ≡ true = wrong in absurd cc, λ are. let there = (first_part _ _ _ first are).1 in let rows = c.count_rows.ensures.value in absurd (omega arith))
 
 pub returns : goal.returns
 returns g c =
     let first : slice_get c.args.completed.now 0 ≡ Some (Some c.in-Some-Some.first)
     = sym c.first.ensures.value ∙ ap option_copied c.in-Some-Some.is ∙ ap Some c.in-Some-Some.field-0-is in
-    let game : c.job-game.result.game ≡ c.in-Some-Some.first.job.game = ap (λ (j : JobName). j.game) c.job-game.ensures ∙ ap (λ i. i.job.game) c.ticket.ensures in (
+    let game : c.job-game.result.game ≡ c.in-Some-Some.first.input.job.game = ap (λ (j : JobName). j.game) c.job-game.ensures ∙ ap (λ i. i.input.job.game) c.ticket.ensures in (
       (λ yes. record {
         game = c.job-game.result.game;
         some = slice_get_within c.args.completed.now 0 (Some c.in-Some-Some.first) first;

@@ -6,4 +6,4 @@ pub invariant_of-result : goal.invariant_of-result
 invariant_of-result g c =
     let rows = c.as_slice-rows.ensures.value in
     sound_opened g.row.CAP c.args.blocks _ c.requires.wide c.as_slice-rows.ensures.fits (rw rows at c.in_ok-fibers.ensures)
-    (rw rows at c.in_ok-heaps.ensures) (rw rows at c.in_ok-pool.ensures)
+    (rw rows at c.in_ok-heaps.ensures) (rw rows at c.in_ok-frames.ensures) (rw rows at c.in_ok-pool.ensures)

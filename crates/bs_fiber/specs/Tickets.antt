@@ -1,0 +1,78 @@
+-- A ticket as clauses see it: the input of its job, and its frame blocks.
+use Rattle.std.specs.Prelude.{◌≡◌, ℕ, ◌≤◌, List, [], ◌∷◌, ◌++◌, length, map, Option, Some, None, slice_index_or}
+use Rattle.bs_block.specs.Bytes.{padded}
+use Rattle.bs_board.specs.declared.boards.snake.Snake.{Snake}
+use Rattle.bs_pool.specs.declared.owned.Owned.{Owned}
+use Rattle.bs_game.specs.declared.reply.Effect.{Effect}
+use Rattle.bs_game.specs.declared.reply.Effect.TheVariants as effect
+use Rattle.bs_fiber.specs.declared.contents.Contents.{Contents}
+use Rattle.bs_fiber.specs.declared.contents.TheConstants.{LEAST_CAPACITY}
+use Rattle.bs_fiber.specs.declared.input.Input.{Input}
+use Rattle.bs_fiber.specs.declared.job.JobKind.{JobKind}
+use Rattle.bs_fiber.specs.declared.job.JobKind.TheVariants.{Begin, Part, Join}
+use Rattle.bs_fiber.specs.declared.out.Out.{Out}
+use Rattle.bs_fiber.specs.declared.out.Out.TheVariants.{Goes, Answered, Moved, Joined}
+use Rattle.bs_fiber.specs.Fit.{IsFitInput}
+use Rattle.bs_fiber.specs.Frames.{frame_of}
+
+-- a frame block: its owner and its number in the pool, and its bytes
+pub record Frame : Type 0 where
+  pub tag : ℕ
+  pub number : ℕ
+  pub bytes : List ℕ
+
+pub record TicketView : Type 0 where
+  pub input : Input
+  pub frames : List Frame
+
+abbrev pub frame_in : {most : ℕ} → Owned most → Frame
+frame_in owned = record { tag = owned.tag; number = owned.number; bytes = owned.block }
+
+abbrev pub frames_in : {most : ℕ} → List (Owned most) → List Frame
+frames_in = map frame_in
+
+abbrev pub ticket_in : {most : ℕ} → Contents most → TicketView
+ticket_in c = record { input = c.input; frames = frames_in c.frames.items }
+
+-- whose the blocks are, whatever they hold
+abbrev pub names_of : List Frame → List (ℕ × ℕ)
+names_of = map (λ f. (f.tag, f.number))
+
+abbrev pub bytes_of : List Frame → List (List ℕ)
+bytes_of = map (λ f. f.bytes)
+
+-- what is so of every ticket, worked or not
+pub record IsTicket (cap : ℕ) (c : Contents cap) : Type 0 where
+  pub wide : LEAST_CAPACITY ≤ cap
+  pub fit : IsFitInput c.input
+
+-- the bytes of the blocks that a job is given: a part one without any, a Join those that the parts wrote
+abbrev pub fresh_bytes : JobKind → List (List Snake) → List (List ℕ)
+fresh_bytes Begin parts = []
+fresh_bytes Part parts = [] ∷ []
+fresh_bytes Join parts = map frame_of parts
+
+-- nobody has worked it yet
+abbrev pub IsFresh : TicketView → Type 0
+IsFresh t = bytes_of t.frames ≡ fresh_bytes t.input.job.kind t.input.parts
+
+abbrev pub behind_first : List ℕ → List (List ℕ) → List (List ℕ)
+behind_first bytes [] = []
+behind_first bytes (first ∷ rest) = (first ++ bytes) ∷ rest
+
+-- a record that is added goes behind what part 0 wrote
+abbrev pub with_added : Effect → List (List ℕ) → List (List ℕ)
+with_added effect.Keep blocks = blocks
+with_added (effect.Add bytes) blocks = behind_first (padded bytes) blocks
+with_added effect.Trim blocks = blocks
+with_added effect.Drop blocks = blocks
+
+-- the bytes of the blocks of a job that is done
+abbrev pub worked_bytes : List (List Snake) → Out → List (List ℕ)
+worked_bytes parts Goes = []
+worked_bytes parts (Answered answer) = []
+worked_bytes parts (Moved moved) = frame_of moved ∷ []
+worked_bytes parts (Joined answer piece) = with_added answer.effect (map frame_of parts)
+
+abbrev pub HoldsWork : TicketView → Out → Type 0
+HoldsWork t out = bytes_of t.frames ≡ worked_bytes t.input.parts out

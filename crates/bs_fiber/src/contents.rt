@@ -1,0 +1,14 @@
+//! The contents of a ticket: the input of its job and the job's frame blocks.
+use crate::input::Input;
+use bs_pool::Owned;
+
+/// The least capacity of a block in bytes: room for the moved snakes of a part and a record behind them.
+pub const LEAST_CAPACITY: usize = 524_288;
+
+/// The input of a job, and its frame blocks.
+#[derive(Debug, Drop)]
+pub struct Contents<const CAP: usize> {
+    pub input: Input,
+    /// The block of a part; for a Join the blocks of all parts, from part 0; none for a Begin.
+    pub frames: Vec<Owned<CAP>>,
+}

@@ -1,0 +1,99 @@
+//! Frame blocks: a part writes its moved snakes into its own; a Join reads those of all parts, and
+//! writes the new record behind those of part 0.
+ghost use Rattle.std.specs.Prelude.{◌≡◌, ℕ, ◌+◌, ◌≤◌, [], ◌++◌, length, map, flat_map, IfOk, OnOk};
+ghost use Rattle.bs_block.specs.Bytes.{HasRoom, padded, range};
+ghost use Rattle.bs_board.specs.declared.boards.snake.Snake.{Snake as AnySnake};
+ghost use Rattle.bs_board.specs.records.FitSnake.{IsFitSnake};
+ghost use Rattle.bs_board.specs.records.Record.{snake_record};
+ghost use Rattle.bs_fiber.specs.Frames.{IsPieceOf, frame_of};
+ghost use Rattle.bs_fiber.specs.Tickets.{bytes_of, frames_in};
+
+use crate::contents::LEAST_CAPACITY;
+use crate::moved::Moved;
+use crate::piece::Piece;
+use bs_board::{Decode, Snake, Snakes, decode_snake, encode_snake_into, snake_size};
+use bs_pool::Owned;
+use std::alloc::{AllocError, Global};
+
+/// Writes the snake's bytes behind those of the block.
+#[tactic(auto, using(crate::proofs::Framed::fit_size, crate::proofs::Framed::filled))]
+fn write_snake<const CAP: usize>(owned: &mut Owned<CAP>, snake: &Snake)
+    requires fit { IsFitSnake snake.now }
+    requires room { HasRoom CAP owned.old.block (length (snake_record snake.now)) }
+    ensures { owned.new ≡ record owned.old { block = owned.old.block ++ padded (snake_record snake.now) } }
+{
+    let len = snake_size(snake);
+    let (_, piece) = owned.block_mut().fill(len);
+    encode_snake_into(snake, piece);
+}
+
+/// Writes the moved snakes of a part into its empty block.
+pub(crate) fn write_moved<const CAP: usize>(owned: &mut Owned<CAP>, moved: &Moved)
+    requires wide { LEAST_CAPACITY ≤ CAP }
+    requires empty { owned.old.block ≡ [] }
+    ensures { owned.new ≡ record owned.old { block = frame_of moved.now } }
+{
+    let snakes = moved.as_slice();
+    for snake in snakes {
+        write_snake(owned, snake);
+    }
+}
+
+/// Writes a record behind the bytes of the block.
+#[tactic(auto, using(crate::proofs::Framed::filled))]
+pub(crate) fn write_record<const CAP: usize>(owned: &mut Owned<CAP>, record: &[u8])
+    requires { HasRoom CAP owned.old.block (length record.now) }
+    ensures { owned.new ≡ record owned.old { block = owned.old.block ++ padded record.now } }
+{
+    let (_, piece) = owned.block_mut().fill(record.len());
+    piece.copy_from_slice(record);
+}
+
+/// Reads the snake whose bytes lie at that piece of the block.
+fn snake_at<const CAP: usize>(
+    alloc: Global,
+    owned: &Owned<CAP>,
+    piece: Piece,
+) -> Result<Snake, AllocError>
+    requires { (s : AnySnake) × IsFitSnake s × IsPieceOf owned.now.block piece s }
+    ensures { IfOk result (λ read. (s : AnySnake) → IsFitSnake s → IsPieceOf owned.now.block piece s → read ≡ s) }
+{
+    match decode_snake(alloc, owned.block().get(piece.at, piece.len)) {
+        Ok(snake) => Ok(snake),
+        Err(Decode::Memory) => Err(AllocError),
+        Err(Decode::NotARecord) => unreachable!(),
+    }
+}
+
+/// Reads the moved snakes of a part from its block, and adds them to the seats.
+fn read_moved<const CAP: usize>(
+    alloc: Global,
+    owned: &Owned<CAP>,
+    moved: &Moved,
+    seats: &mut Vec<Snake>,
+) -> Result<(), AllocError>
+    requires { owned.now.block ≡ frame_of moved.now }
+    ensures { OnOk result (seats.new.items ≡ seats.old.items ++ moved.now) }
+{
+    let pieces = moved.pieces();
+    for piece in pieces {
+        seats.push(snake_at(alloc, owned, *piece)?)?;
+    }
+    Ok(())
+}
+
+/// Reads the moved snakes of all parts from their blocks, in seat order.
+pub(crate) fn read_all<const CAP: usize>(
+    alloc: Global,
+    frames: &[Owned<CAP>],
+    parts: &[Moved],
+) -> Result<Snakes, AllocError>
+    requires { bytes_of (frames_in frames.now) ≡ map frame_of parts.now }
+    ensures { IfOk result (λ snakes. snakes ≡ flat_map (λ part. part) parts.now) }
+{
+    let mut seats = Vec::new(alloc);
+    for part in 0..parts.len() {
+        read_moved(alloc, &frames[part], &parts[part], &mut seats)?;
+    }
+    Ok(Snakes::from_vec(seats))
+}

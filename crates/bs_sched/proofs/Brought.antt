@@ -1,0 +1,107 @@
+-- The frame blocks of a job that is brought back.
+use Rattle.std.proofs.Common.{◌≡◌, ◌≢◌, ℕ, zero, suc, List, [], ◌∷◌, map, Option, Some, None, slice_get, refl, sym, ap, subst, ◌∙◌, inl, inr, true}
+use Rattle.std.specs.Prelude.{nat_eq, slice_index_or, slice_set}
+use Rattle.std.proofs.lemmas.Bool.{and_parts, cases_Bool}
+use Rattle.std.proofs.lemmas.List.{set-get_or}
+use Rattle.bs_board.specs.declared.commands.command.Command.{Command}
+use Rattle.bs_board.specs.declared.boards.snake.Snake.{Snake}
+use Rattle.bs_pool.specs.declared.owned.Owned.{Owned}
+use Rattle.bs_pool.specs.Ledger.{Ledger}
+use Rattle.bs_game.specs.declared.view.View.{View}
+use Rattle.bs_game.specs.View.{answer_of}
+use Rattle.bs_fiber.specs.declared.input.Input.{Input}
+use Rattle.bs_fiber.specs.declared.job.JobKind.{JobKind}
+use Rattle.bs_fiber.specs.declared.job.JobKind.TheVariants as kind
+use Rattle.bs_fiber.specs.declared.out.Out.{Out}
+use Rattle.bs_fiber.specs.declared.out.Out.TheVariants.{Goes, Answered, Moved}
+use Rattle.bs_fiber.specs.Frames.{frame_of}
+use Rattle.bs_fiber.specs.Tickets.{HoldsWork, bytes_of, frames_in, names_of}
+use Rattle.bs_fiber.specs.Work.{goes, moved_part, out_seen}
+use Rattle.bs_sched.specs.declared.stage.Stage.{Stage}
+use Rattle.bs_sched.specs.Frames.{FramesView, AreBegunFrames, AreFramesAt, AreFramesOf, known}
+use Rattle.bs_sched.specs.Games.{answer_effect, storage_answered}
+use Rattle.bs_sched.specs.Inputs.{job_numbers}
+use Rattle.bs_sched.specs.Lane.{Lane, has_begin, has_join, is_out, occupies}
+use Rattle.bs_sched.specs.Storage.{Storage, frames_of, stored, without_frames}
+use Rattle.bs_sched.proofs.PartFrames.{at_begin}
+
+-- ---- a job that answers
+
+-- while a command is begun no block is drawn
+pub none_begun : (x : Lane) (worker p own : ℕ) (f : FramesView) (pool : Ledger) → is_out worker x kind.Begin p ≡ true → AreFramesOf own x f pool → f.numbers ≡ []
+none_begun x worker p own f pool out are =
+    let at = at_begin worker x.stage (and_parts (nat_eq p 0) (has_begin worker x.stage) out).1 in
+    let none : AreBegunFrames x f = subst (λ (s : Stage). AreFramesAt s x f) at are.at in
+    ap (λ (v : FramesView). v.numbers) none.none
+
+-- it has all blocks of its game
+pub all_of_job : (k : JobKind) (x : Lane) (worker p own : ℕ) (f : FramesView) (pool : Ledger) → k ≢ kind.Part → is_out worker x k p ≡ true → AreFramesOf own x f pool
+    → job_numbers k p f.numbers ≡ known f.numbers
+all_of_job kind.Begin x worker p own f pool other out are = ap (λ (ns : List (Option ℕ)). known ns) (sym (none_begun x worker p own f pool out are))
+all_of_job kind.Part x worker p own f pool other out are = absurd (other refl)
+all_of_job kind.Join x worker p own f pool other out are = refl
+
+pub occupied : (k : JobKind) (x : Lane) (worker p : ℕ) → k ≢ kind.Part → is_out worker x k p ≡ true → occupies worker x ≡ true
+occupied kind.Begin x worker p other out = let has = (and_parts (nat_eq p 0) (has_begin worker x.stage) out).1 in rw has refl
+occupied kind.Part x worker p other out = absurd (other refl)
+occupied kind.Join x worker p other out =
+    let has = (and_parts (nat_eq p 0) (has_join worker x.stage) out).1 in
+    elim (cases_Bool (has_begin worker x.stage)) [
+      | inl on ↦ rw on refl
+      | inr off ↦ rw (off, has) refl
+    ]
+
+-- where no block is drawn there is none to give back
+pub answered_storage : (k : JobKind) (cap game : ℕ) (x : Lane) (storage : Storage) → k ≢ kind.Part → (k ≡ kind.Begin → frames_of storage game ≡ [])
+    → without_frames game (stored cap game (answer_effect x) storage) ≡ storage_answered k cap game x storage
+answered_storage kind.Begin cap game x storage other none =
+    let here : frames_of storage game ≡ [] = none refl in
+    let frames : slice_set storage.frames game [] ≡ storage.frames
+    = ap (λ (ns : List (Option ℕ)). slice_set storage.frames game ns) (sym here) ∙ set-get_or storage.frames game [] in
+    rw (here, frames) refl
+answered_storage kind.Part cap game x storage other none = absurd (other refl)
+answered_storage kind.Join cap game x storage other none = refl
+
+-- ---- a part
+
+known_one : (numbers : List (Option ℕ)) (p n : ℕ) → slice_index_or numbers p None ≡ Some n → slice_get numbers p ≡ Some (Some n)
+known_one [] p n is = absurd cc
+known_one (o ∷ numbers) zero n is = ap (λ (x : Option ℕ). Some x) is
+known_one (o ∷ numbers) (suc p) n is = known_one numbers p n is
+
+named_one : (own tag n : ℕ) (o : Option ℕ) → ◌≡◌ {A = List (ℕ × ℕ)} ((tag, n) ∷ []) (map (λ (m : ℕ). (own, m)) (known (o ∷ []))) → (tag ≡ own) × (o ≡ Some n)
+named_one own tag n None is = absurd cc
+named_one own tag n (Some m) is =
+    let pair : ◌≡◌ {A = ℕ × ℕ} (tag, n) (own, m) = cc in
+    (ap (λ (x : ℕ × ℕ). x.0) pair, ap (λ (x : ℕ × ℕ). Some x.1) (sym pair))
+
+-- its only block is the one that was drawn for it, and holds what it moved
+pub record IsPartBlock {most : ℕ} (own p : ℕ) (numbers : List (Option ℕ)) (moved : List Snake) (owned : Owned most) : Type 0 where
+  pub tag : owned.tag ≡ own
+  pub number : slice_get numbers p ≡ Some (Some owned.number)
+  pub holds : owned.block ≡ frame_of moved
+
+pub record IsPart (k : JobKind) (p : ℕ) (view : View) (command : Command) (moved : List Snake) : Type 0 where
+  pub kind : k ≡ kind.Part
+  pub moved_is : moved ≡ moved_part p view command
+
+pub part_of_moved : (k : JobKind) (p : ℕ) (view : View) (command : Command) (moved : List Snake) → Moved moved ≡ out_seen k p view command → IsPart k p view command moved
+part_of_moved kind.Begin p view command moved is =
+    elim (cases_Bool (goes view command)) [
+      | inl on ↦ let wrong : Moved moved ≡ Goes = rw on at is in absurd cc
+      | inr off ↦ let wrong : Moved moved ≡ Answered (answer_of view command) = rw off at is in absurd cc
+    ]
+part_of_moved kind.Part p view command moved is = record { kind = refl; moved_is = cc }
+part_of_moved kind.Join p view command moved is = absurd cc
+
+pub part_block : {most : ℕ} (k : JobKind) (own p : ℕ) (numbers : List (Option ℕ)) (moved : List Snake) (blocks : List (Owned most)) (owned : Owned most) (input : Input)
+    → k ≡ kind.Part → blocks ≡ owned ∷ [] → names_of (frames_in blocks) ≡ map (λ n. (own, n)) (job_numbers k p numbers)
+    → HoldsWork (record { input = input; frames = frames_in blocks }) (Moved moved) → IsPartBlock own p numbers moved owned
+part_block {most} kind.Begin own p numbers moved blocks owned input part only names holds = absurd cc
+part_block {most} kind.Part own p numbers moved blocks owned input part only names holds =
+    let here : ◌≡◌ {A = List (ℕ × ℕ)} ((owned.tag, owned.number) ∷ []) (map (λ (m : ℕ). (own, m)) (known (slice_index_or numbers p None ∷ [])))
+    = ap (λ (bs : List (Owned most)). names_of (frames_in bs)) (sym only) ∙ names in
+    let named = named_one own owned.tag owned.number (slice_index_or numbers p None) here in
+    let bytes : owned.block ∷ [] ≡ frame_of moved ∷ [] = ap (λ (bs : List (Owned most)). bytes_of (frames_in bs)) (sym only) ∙ holds in
+    record { tag = named.0; number = known_one numbers p owned.number named.1; holds = cc }
+part_block {most} kind.Join own p numbers moved blocks owned input part only names holds = absurd cc

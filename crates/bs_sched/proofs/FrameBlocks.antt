@@ -1,0 +1,113 @@
+-- The slots of a game's parts, filled and emptied.
+use Rattle.std.proofs.Common.{◌≡◌, ℕ, zero, suc, ◌+◌, ◌<◌, Bool, true, All, List, [], ◌∷◌, ◌++◌, length, map, drop, get_or, Option, Some, None, slice_get, set, replicate, refl, sym, ap, ◌∙◌, subst, arith, inl, inr}
+use Rattle.std.specs.Prelude.{slice_index_or}
+use Rattle.std.proofs.lemmas.Bool.{cases_eq}
+use Rattle.std.proofs.lemmas.Grind.{get_or-set_at}
+use Rattle.std.proofs.lemmas.List.{get_or-set_other, length-map, length-set}
+use Rattle.std.proofs.lemmas.List.Elements.{All-cons, All-nil}
+use Rattle.bs_counter.specs.Keys.{Key, AreKeys}
+use Rattle.bs_pool.specs.declared.owned.Owned.{Owned}
+use Rattle.bs_sched.specs.declared.frames.FrameSlot.{FrameSlot}
+use Rattle.bs_sched.specs.declared.frames.FrameSlot.TheVariants as slot
+use Rattle.bs_sched.specs.FrameSlots.{number_in, bytes_in, is_ready_slot, AreReadyAt, IsReadyAt, IsSlotOf}
+use Rattle.bs_sched.specs.Frames.{FramesView, known}
+
+pub within_slots : {most : ℕ} (slots : List (FrameSlot most)) (part : ℕ) (o : Option ℕ) → slice_get (map number_in slots) part ≡ Some o → part < length slots
+within_slots [] part o is = absurd cc
+within_slots (s ∷ slots) zero o is = omega arith
+within_slots (s ∷ slots) (suc part) o is = let rest = within_slots slots part o is in omega arith
+
+nothing_moved : {most : ℕ} (s : FrameSlot most) → number_in s ≡ None → bytes_in s ≡ None
+nothing_moved (slot.Ready key) is = refl
+nothing_moved (slot.Out number) is = refl
+nothing_moved (slot.Back owned) is = absurd cc
+
+-- a block goes out
+pub sent : {most : ℕ} (slots : List (FrameSlot most)) (part n : ℕ) → slice_get (map number_in slots) part ≡ Some None
+    → (map number_in (set slots part (slot.Out n)) ≡ set (map number_in slots) part (Some n)) × (map bytes_in (set slots part (slot.Out n)) ≡ map bytes_in slots)
+sent [] part n free = absurd cc
+sent (s ∷ slots) zero n free =
+    let none : number_in s ≡ None = let same : Some (number_in s) ≡ Some None = free in cc in
+    (refl, ap (λ (m : Option (List ℕ)). m ∷ map bytes_in slots) (sym (nothing_moved s none)))
+sent (s ∷ slots) (suc part) n free =
+    let rest = sent slots part n free in
+    (ap (λ (l : List (Option ℕ)). number_in s ∷ l) rest.0, ap (λ (l : List (Option (List ℕ))). bytes_in s ∷ l) rest.1)
+
+-- it is back
+pub brought : {most : ℕ} (slots : List (FrameSlot most)) (part : ℕ) (owned : Owned most) → slice_get (map number_in slots) part ≡ Some (Some owned.number)
+    → (map number_in (set slots part (slot.Back owned)) ≡ map number_in slots) × (map bytes_in (set slots part (slot.Back owned)) ≡ set (map bytes_in slots) part (Some owned.block))
+brought [] part owned out = absurd cc
+brought (s ∷ slots) zero owned out =
+    let number : number_in s ≡ Some owned.number = let same : Some (number_in s) ≡ Some (Some owned.number) = out in cc in
+    (ap (λ (n : Option ℕ). n ∷ map number_in slots) (sym number), refl)
+brought (s ∷ slots) (suc part) owned out =
+    let rest = brought slots part owned out in
+    (ap (λ (l : List (Option ℕ)). number_in s ∷ l) rest.0, ap (λ (l : List (Option (List ℕ))). bytes_in s ∷ l) rest.1)
+
+pub same_view : (tag : ℕ) (keys : List Key) (ns ks : List (Option ℕ)) (ms ls : List (Option (List ℕ))) → ns ≡ ks → ms ≡ ls
+    → ◌≡◌ {A = FramesView} (record { tag = tag; keys = keys; numbers = ns; bytes = ms }) (record { tag = tag; keys = keys; numbers = ks; bytes = ls })
+same_view tag keys ns ks ms ls n m = rw (n, m) refl
+
+-- ---- the keys
+
+pub ready_slots : (most : ℕ) (keys : List Key)
+    → (map (number_in {most = most}) (map (λ key. slot.Ready key) keys) ≡ replicate (length keys) None)
+    × (map (bytes_in {most = most}) (map (λ key. slot.Ready key) keys) ≡ replicate (length keys) None)
+ready_slots most [] = (refl, refl)
+ready_slots most (key ∷ keys) =
+    let rest = ready_slots most keys in
+    (ap (λ (l : List (Option ℕ)). None ∷ l) rest.0, ap (λ (l : List (Option (List ℕ))). None ∷ l) rest.1)
+
+pub no_slot_stands : {most : ℕ} (tag : ℕ) (keys : List Key) → All (IsSlotOf {most = most} tag) (map (λ key. slot.Ready key) keys)
+no_slot_stands tag [] = All-nil (IsSlotOf tag)
+no_slot_stands tag (key ∷ keys) = All-cons (IsSlotOf tag) (slot.Ready key) (map (λ k. slot.Ready k) keys) tt (no_slot_stands tag keys)
+
+key_at_part : {most : ℕ} (keys : List Key) (p : ℕ) (key : Key) → slice_get keys p ≡ Some key
+    → ◌≡◌ {A = FrameSlot most} (slice_index_or (map (λ k. slot.Ready k) keys) p (slot.Out 0)) (slot.Ready key)
+key_at_part [] p key is = let wrong : None ≡ Some key = is in absurd cc
+key_at_part (first ∷ keys) zero key is = let same : first ≡ key = let e : Some first ≡ Some key = is in cc in ap (λ (k : Key). slot.Ready k) same
+key_at_part (first ∷ keys) (suc p) key is = key_at_part keys p key is
+
+pub ready_with_keys : (most parts : ℕ) (keys : List Key) → AreKeys parts keys → AreReadyAt {most = most} (map (λ key. slot.Ready key) keys)
+ready_with_keys most parts keys are p within =
+    let ready : Key → FrameSlot most = λ k. slot.Ready k in
+    let many = length-map keys ready in
+    let all = are.1.all in
+    let here = are.1.each p (omega (arith, many, all, within)) in
+    subst (λ (s : FrameSlot most). IsReadyAt p s) (sym (key_at_part keys p here.0 here.1)) here.2
+
+-- a slot is written
+pub ready_set : {most : ℕ} (slots : List (FrameSlot most)) (i : ℕ) (new : FrameSlot most) → AreReadyAt slots → IsReadyAt i new → AreReadyAt (set slots i new)
+ready_set [] i new are here p within = absurd (omega arith)
+ready_set {most} (x ∷ slots) i new are here p within =
+    elim (cases_eq p i) [
+      | inl same ↦
+          let there : i < length (x ∷ slots) = let l = length-set (x ∷ slots) i new in omega (arith, l) in
+          subst (λ (y : FrameSlot most). IsReadyAt p y) (sym (get_or-set_at (x ∷ slots) i p new (slot.Out 0) same there))
+          (subst (λ (q : ℕ). IsReadyAt q new) (sym same) here)
+      | inr differ ↦
+          subst (λ (y : FrameSlot most). IsReadyAt p y) (sym (get_or-set_other (x ∷ slots) i p new (slot.Out 0) differ))
+          (are p (let l = length-set (x ∷ slots) i new in omega (arith, l)))
+    ]
+
+-- a slot of whose part no block was drawn has a key
+pub ready_none : {most : ℕ} (slots : List (FrameSlot most)) (part : ℕ) (s : FrameSlot most) → slice_get (map number_in slots) part ≡ Some None
+    → s ≡ get_or slots part s → is_ready_slot s ≡ true
+ready_none [] part s free is = absurd cc
+ready_none (slot.Ready key ∷ slots) zero s free is = rw is refl
+ready_none (slot.Out n ∷ slots) zero s free is = absurd (let wrong : Some (Some n) ≡ Some None = free in cc)
+ready_none (slot.Back owned ∷ slots) zero s free is = absurd (let wrong : Some (Some owned.number) ≡ Some None = free in cc)
+ready_none (x ∷ slots) (suc part) s free is = ready_none slots part s free is
+
+-- a slot without a number is passed over
+passed : {most : ℕ} (slots : List (FrameSlot most)) (i : ℕ) (s : FrameSlot most) → i < length slots → s ≡ get_or slots i s → number_in s ≡ None
+    → known (map number_in (drop i slots)) ≡ known (map number_in (drop (suc i) slots))
+passed [] i s within is none = absurd (omega arith)
+passed (x ∷ slots) zero s within is none =
+    let here : number_in x ≡ None = ap number_in (sym is) ∙ none in
+    ap (λ (o : Option ℕ). known (o ∷ map number_in slots)) here
+passed (x ∷ slots) (suc i) s within is none = passed slots i s (omega arith) is none
+
+pub known_passed : {most : ℕ} (slots : List (FrameSlot most)) (i : ℕ) (s : FrameSlot most) → i < length slots → s ≡ get_or slots i s → number_in s ≡ None
+    → known (map number_in (drop i slots)) ≡ known (map number_in (drop (i + 1) slots))
+known_passed slots i s within is none = let next : i + 1 ≡ suc i = omega arith in rw next (passed slots i s within is none)

@@ -1,0 +1,13 @@
+use Rattle.std.proofs.Common.{◌≡◌, ℕ, List, Option, Some, None, map, slice_get, sym, ap, ◌∙◌, subst}
+use Rattle.bs_sched.specs.FrameSlots.{number_in, bytes_in}
+use Rattle.bs_sched.specs.Frames.{FramesView, with_bytes}
+use Rattle.bs_sched.proofs.FrameBlocks.{brought, same_view}
+use Rattle.bs_sched.proofs.frames.Frames.bring.Goals as goal
+
+pub returns : goal.returns
+returns g c =
+    let inside = c.self.inside in
+    let out : slice_get (map number_in inside.slots.items) c.args.part ≡ Some (Some c.args.owned.number) =
+    subst (λ (f : FramesView). slice_get f.numbers c.args.part ≡ Some (Some c.args.owned.number)) (sym c.self.view_is) c.requires.out in
+    let both = brought inside.slots.items c.args.part c.args.owned out in
+    same_view inside.tag _ _ _ _ _ both.0 both.1 ∙ ap (with_bytes c.args.part c.args.owned.block) c.self.view_is

@@ -1,0 +1,28 @@
+use Rattle.std.proofs.Common.{◌≡◌, ◌≤◌, ℕ, [], List, Option, None, length, map, replicate, ap, sym, subst, ◌∙◌, All, arith, vec_capacity}
+use Rattle.bs_counter.specs.Keys.{Key, AreKeys}
+use Rattle.bs_sched.specs.declared.frames.FrameSlot.{FrameSlot}
+use Rattle.bs_sched.specs.FrameSlots.{number_in, bytes_in, AreReadyAt, IsSlotOf}
+use Rattle.bs_sched.specs.Frames.{FramesView, forked_frames}
+use Rattle.bs_sched.proofs.FrameBlocks.{ready_slots, no_slot_stands, ready_with_keys, same_view}
+use Rattle.bs_sched.proofs.frames.Frames.fork.Goals as goal
+
+pub invariant_of-self : goal.invariant_of-self
+invariant_of-self g c =
+    let inside = c.self.inside in
+    let room = c.self.invariant.room in
+    let keys : AreKeys c.requires.keys.0 inside.keys.items = subst (λ (f : FramesView). AreKeys c.requires.keys.0 f.keys) (sym c.self.view_is) c.requires.keys.1 in
+    record {
+      slots = subst (λ (l : List (FrameSlot g.row.CAP)). All (IsSlotOf inside.tag) l) (sym c.push_ready.ensures.slots) (no_slot_stands inside.tag inside.keys.items);
+      ready = subst (λ (l : List (FrameSlot g.row.CAP)). AreReadyAt l) (sym c.push_ready.ensures.slots) (ready_with_keys g.row.CAP c.requires.keys.0 inside.keys.items keys);
+      room = omega (arith, room, c.push_ready.ensures.room);
+    }
+
+pub returns : goal.returns
+returns g c =
+    let inside = c.self.inside in
+    let ready = ready_slots g.row.CAP inside.keys.items in
+    rw c.push_ready.ensures.keys
+    (same_view inside.tag [] _ _ _ _
+    (ap (λ (l : List (FrameSlot g.row.CAP)). map number_in l) c.push_ready.ensures.slots ∙ ready.0)
+    (ap (λ (l : List (FrameSlot g.row.CAP)). map bytes_in l) c.push_ready.ensures.slots ∙ ready.1))
+    ∙ ap (λ (f : FramesView). forked_frames f.tag (length f.keys)) c.self.view_is

@@ -1,0 +1,56 @@
+-- How the keys and the frame blocks of a game's parts lie in their fields.
+use Rattle.std.specs.Prelude.{◌≡◌, ℕ, ◌<◌, ◌≤◌, Bool, true, false, List, length, map, All, Option, Some, None, slice_index_or, vec_capacity}
+use Rattle.bs_pool.specs.declared.owned.Owned.{Owned}
+use Rattle.bs_sched.specs.declared.frames.Frames.TheInside.{Inside}
+use Rattle.bs_sched.specs.declared.frames.FrameSlot.{FrameSlot}
+use Rattle.bs_sched.specs.declared.frames.FrameSlot.TheVariants as slot
+use Rattle.bs_sched.specs.Frames.{FramesView}
+
+abbrev pub number_in : {most : ℕ} → FrameSlot most → Option ℕ
+number_in (slot.Ready key) = None
+number_in (slot.Out number) = Some number
+number_in (slot.Back owned) = Some owned.number
+
+abbrev pub bytes_in : {most : ℕ} → FrameSlot most → Option (List ℕ)
+bytes_in (slot.Ready key) = None
+bytes_in (slot.Out number) = None
+bytes_in (slot.Back owned) = Some owned.block
+
+abbrev pub back_in : {most : ℕ} → FrameSlot most → Option (Owned most)
+back_in (slot.Ready key) = None
+back_in (slot.Out number) = None
+back_in (slot.Back owned) = Some owned
+
+abbrev pub is_ready_slot : {most : ℕ} → FrameSlot most → Bool
+is_ready_slot (slot.Ready key) = true
+is_ready_slot (slot.Out number) = false
+is_ready_slot (slot.Back owned) = false
+
+-- the slot without what is back
+abbrev pub sent_off : {most : ℕ} → FrameSlot most → FrameSlot most
+sent_off (slot.Ready key) = slot.Ready key
+sent_off (slot.Out number) = slot.Out number
+sent_off (slot.Back owned) = slot.Out owned.number
+
+-- a block that is back is the tag's
+abbrev pub IsSlotOf : {most : ℕ} → ℕ → FrameSlot most → Type 0
+IsSlotOf tag (slot.Ready key) = Unit {0}
+IsSlotOf tag (slot.Out number) = Unit {0}
+IsSlotOf tag (slot.Back owned) = owned.tag ≡ tag
+
+abbrev pub view_in : {most : ℕ} → Inside most → FramesView
+view_in f = record { tag = f.tag; keys = f.keys.items; numbers = map number_in f.slots.items; bytes = map bytes_in f.slots.items }
+
+-- a part that is ready has its own key
+abbrev pub IsReadyAt : {most : ℕ} → ℕ → FrameSlot most → Type 0
+IsReadyAt p (slot.Ready key) = key.part ≡ p
+IsReadyAt p (slot.Out number) = Unit {0}
+IsReadyAt p (slot.Back owned) = Unit {0}
+
+abbrev pub AreReadyAt : {most : ℕ} → List (FrameSlot most) → Type 0
+AreReadyAt slots = (p : ℕ) → p < length slots → IsReadyAt p (slice_index_or slots p (slot.Out 0))
+
+pub record AreFrames {most : ℕ} (f : Inside most) : Type 0 where
+  pub slots : All (IsSlotOf f.tag) f.slots.items
+  pub ready : AreReadyAt f.slots.items
+  pub room : 4 ≤ vec_capacity f.slots

@@ -1,0 +1,149 @@
+// Counts what a program asks of the C library for memory and for threads, and refuses those
+// requests that it is told to refuse.
+// Before the program ends it waits for threads that are ending. To be loaded before the C library,
+// with three words in the environment:
+//   REFUSING_FIRST, REFUSING_LAST   the requests that are refused, counted from 1; none where the
+// first is 0
+//   REFUSING_REPORT                 a file of 24 bytes, which has the three numbers of `struct
+// report` as they change; without it nothing is counted
+// A thread's own requests inside the C library go with the thread: starting it is one request.
+#define _GNU_SOURCE
+#include <dlfcn.h>
+#include <errno.h>
+#include <fcntl.h>
+#include <pthread.h>
+#include <stddef.h>
+#include <stdint.h>
+#include <stdlib.h>
+#include <sys/mman.h>
+#include <sys/stat.h>
+#include <sys/syscall.h>
+#include <time.h>
+#include <unistd.h>
+
+struct report {
+    uint64_t made;    // requests so far
+    uint64_t refused; // of them refused
+    int64_t held;     // blocks of memory that were given and not given back
+};
+
+typedef int start_thread(pthread_t *, const pthread_attr_t *, void *(*)(void *), void *);
+
+static void *(*next_malloc)(size_t);
+static void *(*next_calloc)(size_t, size_t);
+static void *(*next_realloc)(void *, size_t);
+static void *(*next_memalign)(size_t, size_t);
+static void (*next_free)(void *);
+static start_thread *next_pthread_create;
+
+static struct report *report; // where it is null nothing is counted
+static uint64_t first, last;
+static __thread int starting; // the thread is inside pthread_create
+
+static uint64_t number(const char *name) {
+    const char *text = getenv(name);
+    return text ? strtoull(text, NULL, 10) : 0;
+}
+
+static struct report *opened(const char *path) {
+    int file = path ? open(path, O_RDWR | O_CLOEXEC) : -1;
+    if (file < 0) return NULL;
+    void *place = mmap(NULL, sizeof(struct report), PROT_READ | PROT_WRITE, MAP_SHARED, file, 0);
+    close(file);
+    return place == MAP_FAILED ? NULL : place;
+}
+
+static void find_next(void) {
+    next_malloc = dlsym(RTLD_NEXT, "malloc");
+    next_calloc = dlsym(RTLD_NEXT, "calloc");
+    next_realloc = dlsym(RTLD_NEXT, "realloc");
+    next_memalign = dlsym(RTLD_NEXT, "memalign");
+    next_free = dlsym(RTLD_NEXT, "free");
+    next_pthread_create = dlsym(RTLD_NEXT, "pthread_create");
+}
+
+__attribute__((constructor)) static void begin(void) {
+    find_next();
+    first = number("REFUSING_FIRST");
+    last = number("REFUSING_LAST");
+    report = opened(getenv("REFUSING_REPORT"));
+}
+
+// A thread that has done its work may not yet have given back what it was started with when the
+// program ends: it has a second for that.
+// The folder has a link for each thread, and two of its own.
+static void wait_for_threads(void) {
+    struct timespec pause = {0, 1000000};
+    struct stat threads;
+    for (int waits = 0; waits < 1000 && stat("/proc/self/task", &threads) == 0 && threads.st_nlink > 3; waits++) nanosleep(&pause, NULL);
+}
+
+// By this the program ends, also where its main returns.
+void _exit(int status) {
+    wait_for_threads();
+    for (;;) syscall(SYS_exit_group, status);
+}
+
+// Counts one request, and tells whether it is refused.
+static int is_refused(void) {
+    if (!report || starting) return 0;
+    uint64_t at = __atomic_add_fetch(&report->made, 1, __ATOMIC_SEQ_CST);
+    if (first == 0 || at < first || last < at) return 0;
+    __atomic_add_fetch(&report->refused, 1, __ATOMIC_SEQ_CST);
+    return 1;
+}
+
+static void *counted(void *block) {
+    if (block && report && !starting) __atomic_add_fetch(&report->held, 1, __ATOMIC_SEQ_CST);
+    return block;
+}
+
+static void *no_memory(void) {
+    errno = ENOMEM;
+    return NULL;
+}
+
+void *malloc(size_t size) {
+    if (!next_malloc) find_next();
+    return is_refused() ? no_memory() : counted(next_malloc(size));
+}
+
+void *calloc(size_t count, size_t size) {
+    if (!next_calloc) find_next();
+    return is_refused() ? no_memory() : counted(next_calloc(count, size));
+}
+
+void *realloc(void *block, size_t size) {
+    if (!next_realloc) find_next();
+    if (is_refused()) return no_memory();
+    void *moved = next_realloc(block, size);
+    return block ? moved : counted(moved);
+}
+
+void *memalign(size_t align, size_t size) {
+    if (!next_memalign) find_next();
+    return is_refused() ? no_memory() : counted(next_memalign(align, size));
+}
+
+void *aligned_alloc(size_t align, size_t size) { return memalign(align, size); }
+
+int posix_memalign(void **place, size_t align, size_t size) {
+    void *block = memalign(align, size);
+    if (!block) return ENOMEM;
+    *place = block;
+    return 0;
+}
+
+void free(void *block) {
+    if (!next_free) find_next();
+    if (block && report && !starting) __atomic_sub_fetch(&report->held, 1, __ATOMIC_SEQ_CST);
+    next_free(block);
+}
+
+int pthread_create(pthread_t *thread, const pthread_attr_t *how, void *(*body)(void *), void *of) {
+    if (is_refused()) return EAGAIN;
+    starting = 1;
+    int answer = next_pthread_create(thread, how, body, of);
+    starting = 0;
+    return answer;
+}
