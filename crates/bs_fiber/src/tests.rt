@@ -322,7 +322,14 @@ fn assert_part(rt: &impl Abort, last: &Board, part: u8)
     assert!(rt; last.snakes.len() == 3 && part < 2);
 }
 
-// What a part of the move moves.
+// What a part moved, and the block that it wrote that into.
+#[derive(Drop)]
+struct MovedPart {
+    moved: Moved,
+    owned: Owned<CAP>,
+}
+
+// The part of the move with that empty block, worked.
 fn part_moved(
     rt: &impl Abort,
     alloc: Global,
@@ -331,12 +338,12 @@ fn part_moved(
     orders: &Move,
     part: u8,
     owned: Owned<CAP>,
-) -> Result<(Moved, Owned<CAP>), Fail>
+) -> Result<MovedPart, Fail>
     requires legal { IsLegal last.now }
     requires view { view.now ≡ record { quota = 4096; charge = 64; kept = 1; last = Some last.now; asked = None } }
     requires empty { owned.block ≡ [] }
-    ensures moved { IfOk result (λ back. back.0 ≡ moved_part part view.now (command.Move orders.now)) }
-    ensures holds { IfOk result (λ back. back.1.block ≡ frame_of back.0) }
+    ensures moved { IfOk result (λ worked. worked.moved ≡ moved_part part view.now (command.Move orders.now)) }
+    ensures holds { IfOk result (λ worked. worked.owned.block ≡ frame_of worked.moved) }
 {
     let command = Command::Move(orders.copy(alloc)?);
     assert_goes(rt, view, &command);
@@ -353,13 +360,37 @@ fn part_moved(
     let mut contents = ticket.into_contents();
     match out {
         Out::Moved(moved) => match contents.frames.pop() {
-            Some(owned) => Ok((moved, owned)),
+            Some(owned) => Ok(MovedPart { moved, owned }),
             None => Err(Fail::from("no block")),
         },
         Out::Goes => Err(Fail::from("no part")),
         Out::Answered(_) => Err(Fail::from("no part")),
         Out::Joined(_, _) => Err(Fail::from("no part")),
     }
+}
+
+// Both parts of the move, with the first two blocks of a pool.
+fn both_parts(
+    rt: &impl Abort,
+    alloc: Global,
+    view: &View,
+    last: &Board,
+    orders: &Move,
+) -> Result<(MovedPart, MovedPart), Fail>
+    requires legal { IsLegal last.now }
+    requires view { view.now ≡ record { quota = 4096; charge = 64; kept = 1; last = Some last.now; asked = None } }
+    ensures first { IfOk result (λ both. both.0.moved ≡ moved_part 0 view.now (command.Move orders.now)) }
+    ensures second { IfOk result (λ both. both.1.moved ≡ moved_part 1 view.now (command.Move orders.now)) }
+    ensures first_holds { IfOk result (λ both. both.0.owned.block ≡ frame_of both.0.moved) }
+    ensures second_holds { IfOk result (λ both. both.1.owned.block ≡ frame_of both.1.moved) }
+{
+    let mut pool = Pool::<CAP>::open(alloc, 4)?;
+    assert_eq!(rt; pool.reserve(1, 4), Ok(()));
+    let one = pool.draw(1).ok_or("a first block")?;
+    let two = pool.draw(1).ok_or("a second block")?;
+    let first = part_moved(rt, alloc, view, last, orders, 0, one)?;
+    let second = part_moved(rt, alloc, view, last, orders, 1, two)?;
+    Ok((first, second))
 }
 
 // The Join of both parts.
@@ -369,21 +400,21 @@ fn join_done(
     view: &View,
     last: &Board,
     orders: &Move,
-    moved: (Moved, Moved),
-    blocks: (Owned<CAP>, Owned<CAP>),
+    both: (MovedPart, MovedPart),
 ) -> Result<Done<CAP>, Fail>
     requires legal { IsLegal last.now }
     requires three { length last.now.snakes ≡ 3 }
     requires view { view.now ≡ record { quota = 4096; charge = 64; kept = 1; last = Some last.now; asked = None } }
-    requires first { moved.0 ≡ moved_part 0 view.now (command.Move orders.now) }
-    requires second { moved.1 ≡ moved_part 1 view.now (command.Move orders.now) }
-    requires first_holds { blocks.0.block ≡ frame_of moved.0 }
-    requires second_holds { blocks.1.block ≡ frame_of moved.1 }
+    requires first { both.0.moved ≡ moved_part 0 view.now (command.Move orders.now) }
+    requires second { both.1.moved ≡ moved_part 1 view.now (command.Move orders.now) }
+    requires first_holds { both.0.owned.block ≡ frame_of both.0.moved }
+    requires second_holds { both.1.owned.block ≡ frame_of both.1.moved }
 {
     let command = Command::Move(orders.copy(alloc)?);
     assert_goes(rt, view, &command);
-    let parts = Parts::from_vec(vec![in alloc; moved.0, moved.1]?);
-    let frames = vec![in alloc; blocks.0, blocks.1]?;
+    let (first, second) = both;
+    let parts = Parts::from_vec(vec![in alloc; first.moved, second.moved]?);
+    let frames = vec![in alloc; first.owned, second.owned]?;
     let input = input(alloc, last, command, job(JobKind::Join, 0), parts, frames)?;
     let done = work(alloc, Ticket::new(input))?;
     Ok(done)
@@ -414,6 +445,41 @@ fn assert_joined(rt: &impl Abort, alloc: Global, out: &Out) -> Result<(), Fail> 
     Ok(())
 }
 
+// The first part moved two snakes, and the second one; each wrote them into its own block.
+fn assert_written(rt: &impl Abort, first: &MovedPart, second: &MovedPart) {
+    assert_eq!(rt; first.moved.pieces().len(), 2);
+    assert_eq!(rt; first.owned.block().len(), 32);
+    assert_eq!(rt;
+        first.owned.block().get(0, 15),
+        [1, 115, 99, 0, 0, 0, 0, 0, 3, 2, 3, 2, 2, 2, 2].as_slice()
+    );
+    assert_eq!(rt; second.owned.block().len(), 16);
+    match (first.moved.as_slice(), second.moved.as_slice()) {
+        ([s, t], [u]) => {
+            assert_snake(rt, s, 99, Point { x: 1, y: 2 }, 3);
+            assert_snake(rt, t, 99, Point { x: 5, y: 2 }, 3);
+            assert_snake(rt, u, 99, Point { x: 3, y: 4 }, 3);
+        }
+        _ => assert!(rt; false, "not two snakes and one"),
+    }
+}
+
+// The new record lies behind the snakes of part 0, and the block of part 1 is as it was.
+fn assert_added(rt: &impl Abort, alloc: Global, done: &Done<CAP>) -> Result<(), Fail> {
+    let next = after(alloc)?;
+    assert!(rt; is_legal(&next));
+    let added = done.added().ok_or("a record in part 0's block")?;
+    assert_eq!(rt; added, encode(alloc, &next)?.as_slice());
+    match done.ticket().frames() {
+        [first, second] => {
+            assert_eq!(rt; first.number(), 0);
+            assert_eq!(rt; second.block().len(), 16);
+        }
+        _ => assert!(rt; false, "not two blocks"),
+    }
+    Ok(())
+}
+
 #[test]
 fn two_parts_are_joined(rt: HostRuntime) -> Result<(), Fail> {
     let alloc = rt.alloc();
@@ -422,43 +488,10 @@ fn two_parts_are_joined(rt: HostRuntime) -> Result<(), Fail> {
     assert_eq!(rt; last.snakes.len(), 3);
     let view = view_on(alloc, &last)?;
     let orders = third_goes_down(alloc)?;
-    let mut pool = Pool::<CAP>::open(alloc, 4)?;
-    assert_eq!(rt; pool.reserve(1, 4), Ok(()));
-    let one = pool.draw(1).ok_or("a first block")?;
-    let two = pool.draw(1).ok_or("a second block")?;
-    let (first, one) = part_moved(&rt, alloc, &view, &last, &orders, 0, one)?;
-    let (second, two) = part_moved(&rt, alloc, &view, &last, &orders, 1, two)?;
-    assert_eq!(rt; first.pieces().len(), 2);
-    assert_eq!(rt; one.block().len(), 32);
-    assert_eq!(rt;
-        one.block().get(0, 15),
-        [1, 115, 99, 0, 0, 0, 0, 0, 3, 2, 3, 2, 2, 2, 2].as_slice()
-    );
-    assert_eq!(rt; two.block().len(), 16);
-    match (first.as_slice(), second.as_slice()) {
-        ([s, t], [u]) => {
-            assert_snake(&rt, s, 99, Point { x: 1, y: 2 }, 3);
-            assert_snake(&rt, t, 99, Point { x: 5, y: 2 }, 3);
-            assert_snake(&rt, u, 99, Point { x: 3, y: 4 }, 3);
-        }
-        _ => assert!(rt; false, "not two snakes and one"),
-    }
-    let done = join_done(
-        &rt,
-        alloc,
-        &view,
-        &last,
-        &orders,
-        (first, second),
-        (one, two),
-    )?;
+    let both = both_parts(&rt, alloc, &view, &last, &orders)?;
+    assert_written(&rt, &both.0, &both.1);
+    let done = join_done(&rt, alloc, &view, &last, &orders, both)?;
     assert_eq!(rt; done.ticket().parts().len(), 2);
     assert_joined(&rt, alloc, done.out())?;
-    let next = after(alloc)?;
-    assert!(rt; is_legal(&next));
-    let added = done.added().ok_or("a record in part 0's block")?;
-    assert_eq!(rt; added, encode(alloc, &next)?.as_slice());
-    assert_eq!(rt; done.ticket().frames()[0].number(), 0);
-    assert_eq!(rt; done.ticket().frames()[1].block().len(), 16);
-    Ok(())
+    assert_added(&rt, alloc, &done)
 }

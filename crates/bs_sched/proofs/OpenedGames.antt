@@ -1,5 +1,5 @@
 -- A core that was just opened: each game's lane and heap are empty, and its blocks are set aside.
-use Rattle.std.proofs.Common.{◌≡◌, ℕ, zero, suc, ◌+◌, ◌<◌, ◌≤◌, true, false, List, [], ◌∷◌, Option, length, map, refl, sym, ap, ◌∙◌, arith}
+use Rattle.std.proofs.Common.{◌≡◌, ℕ, zero, suc, ◌+◌, ◌<◌, ◌≤◌, true, false, List, [], ◌∷◌, ◌++◌, Option, length, map, refl, sym, ap, ◌∙◌, arith}
 use Rattle.std.proofs.Math.ListN.{get_or-map}
 use Rattle.std.proofs.lemmas.List.{length-map}
 use Rattle.bs_board.specs.plans.Plan.{GameRow, IsFitPlan, row_of}
@@ -12,7 +12,7 @@ use Rattle.bs_sched.specs.declared.games.Games.TheInside.{Inside}
 use Rattle.bs_sched.specs.declared.cores.TheConstants.{LEAST_CAPACITY}
 use Rattle.bs_sched.specs.Games.{row_at}
 use Rattle.std.specs.List.{range_with_len}
-use Rattle.std.proofs.lemmas.List.FromFn.{get_or-map-range_with_len, length-map-range_with_len}
+use Rattle.std.proofs.lemmas.List.FromFn.{get_or-map-range_with_len, length-map-range_with_len, map-range_with_len_more}
 use Rattle.bs_sched.specs.declared.plan_blocks.TheConstants.{FRAME_BLOCKS}
 use Rattle.bs_sched.specs.Frames.{FramesView, AreFramesOf, no_frames}
 use Rattle.bs_sched.specs.GamesLayout.{AreAllFramesOf, AreHeapsOf, IsHeapOf, IsSound, frames_at, heap_of, opened_frames, opened_heaps, opened_heaps_from}
@@ -72,6 +72,9 @@ heaps_opened cap blocks rows pool is game less =
     (empty_heap_of cap (record_tag game) (row_at rows game) blocks pool (ap (λ (p : Ledger). p.owners) is) (omega (arith, room)))
 
 -- no game has a frame block yet
+
+pub opened_more : (game : ℕ) → opened_frames (game + 1) ≡ opened_frames game ++ no_frames (frame_tag game) ∷ []
+opened_more game = map-range_with_len_more (λ g. no_frames (frame_tag g)) 0 game game (omega arith)
 
 numbers_from : (from : ℕ) (rows : List GameRow)
     → map (λ (f : FramesView). f.numbers) (map (λ game. no_frames (frame_tag game)) (range_with_len from (length rows))) ≡ map (λ _. []) rows

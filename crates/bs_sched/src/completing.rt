@@ -77,7 +77,7 @@ impl<const CAP: usize> Core<CAP> {
     /// Completes one part of the core's own.
     fn settle_part(&mut self, completed: Option<Done<CAP>>)
         requires { (game part : ℕ) × IsOwnPart self.old.games game part completed }
-        ensures { self.new ≡ core_run CAP self.old (puts_of (completed ∷ [])) }
+        ensures { self.new ≡ core_run CAP self.old (puts_of (completed.entry ∷ [])) }
     {
         match completed {
             Some(done) => {
@@ -91,7 +91,7 @@ impl<const CAP: usize> Core<CAP> {
     /// Completes all parts of one move of the core's own. The journal has room for each.
     fn settle_parts(&mut self, completed: ArrayVec<Option<Done<CAP>>, 4>)
         requires { AreOwnParts self.old.games completed.items }
-        ensures { self.new ≡ core_run CAP self.old (puts_of completed.items) }
+        ensures { self.new ≡ core_run CAP self.old (puts_of completed.entry.items) }
     {
         let mut rest = completed;
         for _part in 0..rest.len() {
@@ -104,10 +104,10 @@ impl<const CAP: usize> Core<CAP> {
     /// Takes no memory. `Strays` returns any other list, and then nothing has changed.
     #[tactic(auto, using(crate::proofs::OwnParts::all_enabled))]
     pub fn put_parts(&mut self, parts: ArrayVec<Option<Done<CAP>>, 4>) -> Result<(), Strays<CAP>>
-        ensures own { OnOk result (AreOwnParts self.old.games parts.items) }
-        ensures enabled { OnOk result (are_enabled self.old.games.workers self.old.games.lanes (puts_of parts.items) ≡ true) }
-        ensures ok { OnOk result (self.new ≡ core_run CAP self.old (puts_of parts.items)) }
-        ensures strays { IfErr result (λ strays. (strays.parts ≡ parts) × (self.new ≡ self.old) × (AreOwnParts self.old.games parts.items → ⊥)) }
+        ensures own { OnOk result (AreOwnParts self.old.games parts.entry.items) }
+        ensures enabled { OnOk result (are_enabled self.old.games.workers self.old.games.lanes (puts_of parts.entry.items) ≡ true) }
+        ensures ok { OnOk result (self.new ≡ core_run CAP self.old (puts_of parts.entry.items)) }
+        ensures strays { IfErr result (λ strays. (strays.parts ≡ parts.entry) × (self.new ≡ self.old) × (AreOwnParts self.old.games parts.entry.items → ⊥)) }
     {
         if !self.games.are_own_parts(parts.as_slice()) {
             return Err(Strays { parts });

@@ -68,6 +68,7 @@ fn open_heaps<const CAP: usize>(
 }
 
 /// The parts of each game's moves: none yet.
+#[tactic(auto, using(crate::proofs::OpenedGames::opened_more))]
 fn open_frames<const CAP: usize>(
     alloc: Global,
     games: usize,

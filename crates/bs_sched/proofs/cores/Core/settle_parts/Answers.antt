@@ -16,7 +16,7 @@ settle_part-requires g c =
     let own = c.loop-part.invariant.own in
     let many = c.loop-part.invariant.many in
     let some : 0 < length c.loop-part.rest.items = omega arith in
-    (omega arith, (own.0, c.loop-part._part, own_next _ own.0 c.loop-part._part c.loop-part.rest.items c.remove-first.result some own.1 c.remove-first.ensures.value))
+    (omega arith, (omega arith, (own.0, c.loop-part._part, own_next _ own.0 c.loop-part._part c.loop-part.rest.items c.remove-first.result some own.1 c.remove-first.ensures.value)))
 
 pub loop-part-preserved : goal.loop-part-preserved
 loop-part-preserved g c =
