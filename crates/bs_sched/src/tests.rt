@@ -413,6 +413,52 @@ fn a_move_goes_in_parts(rt: HostRuntime) -> Result<(), Fail> {
     Ok(())
 }
 
+fn assert_free(rt: &impl Abort, core: &Core<CAP>, free: usize) {
+    assert_eq!(rt; core.counts(), counts_of(free));
+}
+
+// Each part that is taken draws a block. They stay drawn while the parts come back.
+fn play_counted_parts(rt: &impl Abort, alloc: Global, core: &mut Core<CAP>) -> Result<(), Fail> {
+    let (one, first_key) = take_part(rt, alloc, core, 0)?;
+    assert_free(rt, core, 4);
+    let (two, second_key) = take_part(rt, alloc, core, 1)?;
+    assert_free(rt, core, 3);
+    assert!(rt; finish(second_key, two)?.is_none());
+    assert_free(rt, core, 3);
+    let parts = finish(first_key, one)?.ok_or("the last part")?;
+    assert_free(rt, core, 3);
+    put_parts(core, parts)?;
+    assert_free(rt, core, 3);
+    Ok(())
+}
+
+// The answer gives back the blocks of both parts.
+fn play_counted_join(rt: &impl Abort, alloc: Global, core: &mut Core<CAP>) -> Result<(), Fail> {
+    let join = take_done(rt, alloc, core, 0)?;
+    assert_job(rt, &join, JobKind::Join, 0);
+    assert_free(rt, core, 3);
+    put(core, 0, join)?;
+    assert_free(rt, core, 5);
+    assert!(rt; core.rows() == 1);
+    assert_eq!(rt; core.charge(0), 128);
+    Ok(())
+}
+
+#[test]
+fn each_part_holds_a_block_until_the_answer(rt: HostRuntime) -> Result<(), Fail> {
+    let alloc = rt.alloc();
+    let mut core = core_of(&rt, alloc, "b", 4096)?;
+    hand(&rt, alloc, &mut core, new_of_three(alloc)?)?;
+    play_job(&rt, alloc, &mut core, 0, JobKind::Begin)?;
+    assert_free(&rt, &core, 5);
+    hand(&rt, alloc, &mut core, third_goes_down(alloc)?)?;
+    assert_free(&rt, &core, 5);
+    play_job(&rt, alloc, &mut core, 0, JobKind::Begin)?;
+    assert_free(&rt, &core, 5);
+    play_counted_parts(&rt, alloc, &mut core)?;
+    play_counted_join(&rt, alloc, &mut core)
+}
+
 fn assert_shown(
     rt: &impl Abort,
     alloc: Global,
