@@ -1,4 +1,5 @@
--- The bytes of moved snakes in a frame block: each snake's piece behind the one before, and zeros up to its rounded size.
+-- The bytes of moved snakes in a frame block: each snake's piece behind the one before, and zeros
+-- up to its rounded size.
 use Rattle.std.specs.Prelude.{◌≡◌, ℕ, ◌+◌, ◌≤◌, List, [], ◌∷◌, ◌++◌, length, All}
 use Rattle.bs_block.specs.Bytes.{padded, range}
 use Rattle.bs_block.specs.Rounding.{rounded}

@@ -46,7 +46,8 @@ pub record IsTicket (cap : ℕ) (c : Contents cap) : Type 0 where
   pub wide : LEAST_CAPACITY ≤ cap
   pub fit : IsFitInput c.input
 
--- the bytes of the blocks that a job is given: a part one without any, a Join those that the parts wrote
+-- the bytes of the blocks that a job is given: a part one without any, a Join those that the parts
+-- wrote
 abbrev pub fresh_bytes : JobKind → List (List Snake) → List (List ℕ)
 fresh_bytes Begin parts = []
 fresh_bytes Part parts = [] ∷ []

@@ -70,7 +70,8 @@ fn begin_unrefused(alloc: Global, input: &Input) -> Result<Out, AllocError>
     }
 }
 
-/// The same from all that the job reads. What is refused with no board seen takes none out of its record.
+/// The same from all that the job reads. What is refused with no board seen takes none out of its
+/// record.
 pub(crate) fn begin(alloc: Global, input: &Input) -> Result<Out, AllocError>
     requires { IsFitGame input.now }
     ensures { IfOk result (λ out. (view : AnyView) → IsSeen view input.now → out ≡ begun view input.now.command) }

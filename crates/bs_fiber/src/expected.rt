@@ -109,7 +109,8 @@ impl Expected<'_> {
         Ok(Box::new(alloc, contents)?)
     }
 
-    /// Writes the input over a spent one, field by field, since an input has more than a hundred bytes.
+    /// Writes the input over a spent one, field by field, since an input has more than a hundred
+    /// bytes.
     fn write_over(
         &self,
         alloc: Global,
@@ -149,9 +150,9 @@ impl Expected<'_> {
         Ok(contents)
     }
 
-    /// All of it, the records copied and the command held: an input that has no parts yet, and no blocks. The command's holder
-    /// may be there already. It takes the place of a spent one, if there is one; then it asks for memory only where a record is
-    /// longer than that one's.
+    /// All of it, the records copied and the command held: an input that has no parts yet, and no
+    /// blocks. The command's holder may be there already. It takes the place of a spent one, if
+    /// there is one; then it asks for memory only where a record is longer than that one's.
     pub fn to_contents<const CAP: usize>(
         &self,
         alloc: Global,

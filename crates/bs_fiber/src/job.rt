@@ -10,7 +10,8 @@ pub enum JobKind {
     Join,
 }
 
-/// A job of one game. Its numbers are short since a core's journal keeps each job's name twice: it has 8 bytes.
+/// A job of one game. Its numbers are short since a core's journal keeps each job's name twice: it
+/// has 8 bytes.
 #[derive(Clone, Copy, Debug, PartialEq, Eq)]
 pub struct JobName {
     /// The game's row in the plan, from 0.

@@ -1,5 +1,6 @@
-//! The jobs that a command is carried out by, and what each of them comes to: the one that begins it, for a move the
-//! parts that move the snakes, and the one that joins them. A job reads its ticket alone.
+//! The jobs that a command is carried out by, and what each of them comes to: the one that begins
+//! it, for a move the parts that move the snakes, and the one that joins them. A job reads its
+//! ticket alone.
 #![tactic(auto)]
 
 mod beginning;

@@ -9,8 +9,8 @@ use bs_board::{Snake, Snakes, snake_size};
 use std::alloc::{AllocError, Global};
 use std::marker::Model;
 
-/// The moved snakes of a part, in seat order, and the piece of the part's frame block that holds the
-/// bytes of each: one behind the other, from the start of the block. Contracts see the snakes.
+/// The moved snakes of a part, in seat order, and the piece of the part's frame block that holds
+/// the bytes of each: one behind the other, from the start of the block. Contracts see the snakes.
 #[derive(Debug, Drop)]
 pub struct Moved {
     snakes: Snakes,

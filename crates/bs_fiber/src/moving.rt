@@ -22,7 +22,8 @@ use bs_pool::Owned;
 use bs_rules::move_snakes;
 use std::alloc::{AllocError, Global};
 
-/// The seats of a part of the newest board, none where there is no such part. The other seats are not read.
+/// The seats of a part of the newest board, none where there is no such part. The other seats are
+/// not read.
 fn seats_of(alloc: Global, last: &Option<Record>, part: usize) -> Result<Snakes, AllocError>
     requires { IfSome last.now IsLegalRecord }
     ensures value { IfOk result (λ seats. (board : Option AnyBoard) → IsBoardOf last.now board → seats ≡ seats_of part (snakes_in board)) }

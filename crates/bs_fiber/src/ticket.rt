@@ -42,8 +42,9 @@ fn has_contents_of(input: &Input, expected: &Expected) -> bool
         && input.command.get().is_same(expected.command.get())
 }
 
-/// A job to be worked, with a copy of all that it reads and with its frame blocks. These lie behind a pointer, since a ticket
-/// is moved from hand to hand and they have more than a hundred bytes. Clauses see its input and its blocks.
+/// A job to be worked, with a copy of all that it reads and with its frame blocks. These lie behind
+/// a pointer, since a ticket is moved from hand to hand and they have more than a hundred bytes.
+/// Clauses see its input and its blocks.
 #[derive(Debug, Drop)]
 pub struct Ticket<const CAP: usize> {
     contents: Box<Contents<CAP>>,
@@ -64,9 +65,9 @@ impl<const CAP: usize> Ticket<CAP> {
     ghost use Rattle.bs_fiber.specs.Fit.{IsFitInput};
     ghost use Rattle.bs_fiber.specs.Tickets.{IsFresh, IsTicket, ticket_in, frames_in};
 
-    /// The records are those of legal boards, one that is asked for comes with a `turn` alone, and the charge is within
-    /// the quota. A Part or a Join is of a move that goes. A Part has an empty block; a Join alone has parts, what each of
-    /// them moved, and their blocks as they wrote them.
+    /// The records are those of legal boards, one that is asked for comes with a `turn` alone, and
+    /// the charge is within the quota. A Part or a Join is of a move that goes. A Part has an empty
+    /// block; a Join alone has parts, what each of them moved, and their blocks as they wrote them.
     pub fn new(contents: Box<Contents<CAP>>) -> Ticket<CAP>
         requires wide { LEAST_CAPACITY ≤ CAP }
         requires fit { IsFitInput contents.value.input }

@@ -27,7 +27,8 @@ use Rattle.bs_sched.specs.Memory.{effect_at}
 use Rattle.bs_sched.specs.Storage.{Storage, frames_of, stored, with_parts}
 use Rattle.bs_sched.proofs.Answered.{told}
 
--- the boards after the event are those whose records the effect leaves, and one that is added fits into the quota
+-- the boards after the event are those whose records the effect leaves, and one that is added fits
+-- into the quota
 pub record IsTold (x y : Lane) (effect : Effect) : Type 0 where
   pub records : records_of y.game ≡ effected effect (records_of x.game)
   pub fits : IsFitEffect x.row.quota (charge_of (records_of x.game)) effect
@@ -76,7 +77,8 @@ told_at x (event.Hand game command) right allowed = record { records = refl; fit
 told_at x (event.Take worker job) right allowed = told_taken x worker job.kind job.part
 told_at x (event.Put worker job) right allowed = told_put x worker job.kind job.part right allowed
 
--- what an event does to the records leaves the frames, and what it does to the frames comes after that
+-- what an event does to the records leaves the frames, and what it does to the frames comes after
+-- that
 
 kept_frames : (game : ℕ) (storage : Storage) → slice_set storage.frames game (frames_of storage game) ≡ storage.frames
 kept_frames game storage = set-get_or storage.frames game []

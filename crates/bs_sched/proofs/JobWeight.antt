@@ -1,4 +1,5 @@
--- How much is left to do in a lane. Each job that is taken and each that is put lowers it, so taking and putting ends.
+-- How much is left to do in a lane. Each job that is taken and each that is put lowers it, so
+-- taking and putting ends.
 use Rattle.std.proofs.Common.{◌≡◌, ℕ, zero, suc, ◌+◌, ◌*◌, ◌-◌, ◌<◌, ◌≤◌, Bool, true, false, List, [], ◌∷◌, ◌++◌, length, drop, map, get_or, refl, arith, length-append, length-drop}
 use Rattle.std.specs.Prelude.{Option, Some, None, ◌&&◌, if◌then◌else◌, nat_eq, nat_lt, slice_set, replicate, sum_by}
 use Rattle.std.specs.List.{list_all}

@@ -1,4 +1,5 @@
--- The parts of a move come back one after the other: each is still the core's own when those before it are back.
+-- The parts of a move come back one after the other: each is still the core's own when those before
+-- it are back.
 use Rattle.std.proofs.Common.{◌≡◌, ◌≢◌, ℕ, zero, suc, ◌+◌, ◌<◌, Bool, true, false, ◌&&◌, List, [], ◌∷◌, length, Option, Some, None, refl, sym, ap, subst, ◌∙◌, arith, get_or, slice_index_or}
 use Rattle.std.specs.Prelude.{nat_lt, nat_eq, slice_set, slice_get, remove}
 use Rattle.std.specs.List.{list_all}

@@ -1,4 +1,5 @@
--- Where the bytes of a game's records lie in the memory, and that what is written elsewhere leaves them.
+-- Where the bytes of a game's records lie in the memory, and that what is written elsewhere leaves
+-- them.
 use Rattle.std.proofs.Common.{◌≡◌, ◌≢◌, ℕ, ◌+◌, ◌-◌, ◌<◌, ◌≤◌, Bool, true, false, if◌then◌else◌, List, [], ◌∷◌, ◌++◌, length, map, take, drop, replicate, Option, Some, None, IsSome, refl, sym, ap, subst, ◌∙◌, arith, inl, inr, length-append}
 use Rattle.std.specs.Prelude.{All, AllPairs, option_to_list, slice_index_or, slice_set}
 use Rattle.std.proofs.Math.ListN.{get_or-map}
@@ -15,7 +16,8 @@ use Rattle.bs_heap.proofs.Entries.{range_front, map_agree}
 use Rattle.bs_heap.proofs.PackedPlaces.{apart_last}
 use Rattle.bs_sched.specs.Memory.{Memory, block_in, bytes_at, with_bytes, current_number}
 
--- the records lie at the places of the packing, and each block has so many bytes as the packing uses
+-- the records lie at the places of the packing, and each block has so many bytes as the packing
+-- uses
 pub record IsLaid (records : List (List ℕ)) (packing : Packing) (memory : Memory) : Type 0 where
   pub used : All (λ u. length (block_in memory u.number) ≡ u.used) (uses packing)
   pub reads : map (bytes_at memory) packing.places ≡ records

@@ -1,4 +1,5 @@
--- Which workers have a job that begins or joins: a table by their numbers, so that nobody has to look through the lanes.
+-- Which workers have a job that begins or joins: a table by their numbers, so that nobody has to
+-- look through the lanes.
 use Rattle.std.specs.Prelude.{◌≡◌, ℕ, ◌+◌, ◌≤◌, Bool, false, if◌then◌else◌, List, length, sum_by, slice_index_or, slice_set}
 use Rattle.bs_fiber.specs.declared.job.JobKind.{JobKind}
 use Rattle.bs_fiber.specs.declared.job.JobKind.TheVariants as kind

@@ -1,4 +1,5 @@
--- What is so of each lane between two events: its replies and its boards are those of its commands' course.
+-- What is so of each lane between two events: its replies and its boards are those of its commands'
+-- course.
 use Rattle.std.specs.Prelude.{◌≡◌, ◌-◌, ◌≤◌, ◌<◌, true, false, if◌then◌else◌, List, length, take, All}
 use Rattle.bs_board.specs.declared.limits.TheConstants.{MOST_QUOTA}
 use Rattle.bs_board.specs.declared.commands.command.Command.{Command}

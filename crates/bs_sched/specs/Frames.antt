@@ -52,8 +52,8 @@ with_bytes p bytes f = record f { bytes = slice_set f.bytes p (Some bytes) }
 abbrev pub joining_frames : FramesView → FramesView
 joining_frames f = record f { bytes = map (λ _. None) f.bytes }
 
--- what the taking of a job makes of the frames and of the pool; the block that is drawn has that number, and the command that
--- is begun these keys
+-- what the taking of a job makes of the frames and of the pool; the block that is drawn has that
+-- number, and the command that is begun these keys
 abbrev pub frames_taken : JobKind → ℕ → ℕ → List Key → FramesView → FramesView
 frames_taken kind.Begin p number keys f = with_keys keys f
 frames_taken kind.Part p number keys f = with_number p number f
@@ -66,7 +66,8 @@ pool_taken kind.Join tag number pool = pool
 
 -- ---- against the lane
 
--- a part's block: none until it is taken; then its own, and once the part is done it holds the bytes of its moved snakes
+-- a part's block: none until it is taken; then its own, and once the part is done it holds the
+-- bytes of its moved snakes
 abbrev pub IsFrameOf : PartState → Lane → ℕ → Option ℕ → Option (List ℕ) → Type 0
 IsFrameOf part.Ready x p number bytes = (number ≡ None) × (bytes ≡ None)
 IsFrameOf (part.Out worker) x p number bytes = (n : ℕ) × (number ≡ Some n) × (bytes ≡ None)

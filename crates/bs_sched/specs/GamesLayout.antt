@@ -45,7 +45,8 @@ opened_heaps_from game (row ∷ rows) = empty_heap (record_tag game) row.quota �
 abbrev pub opened_heaps : List GameRow → List Heap
 opened_heaps = opened_heaps_from 0
 
--- the heap keeps the records of the lane's boards, in blocks of the game's own tag, and has room for one more where one may come
+-- the heap keeps the records of the lane's boards, in blocks of the game's own tag, and has room
+-- for one more where one may come
 pub record IsHeapOf (cap own : ℕ) (x : Lane) (heap : Heap) (pool : Ledger) : Type 0 where
   pub tag : heap.tag ≡ own
   pub quota : heap.quota ≡ x.row.quota

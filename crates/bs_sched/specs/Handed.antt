@@ -18,7 +18,8 @@ quota_of x = x.row.quota
 abbrev pub handed_to : List (List Command) → ℕ → List Command
 handed_to handed game = slice_index_or handed game []
 
--- what was handed to each game after the event: a command that is handed in comes last in its game, no job adds to it
+-- what was handed to each game after the event: a command that is handed in comes last in its game,
+-- no job adds to it
 abbrev pub handed_after : List (List Command) → Event → List (List Command)
 handed_after handed (event.Hand game command) = slice_set handed game (handed_to handed game ++ command ∷ [])
 handed_after handed (event.Take worker job) = handed

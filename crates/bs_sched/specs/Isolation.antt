@@ -1,5 +1,5 @@
--- The isolation law: among whatever other games, with however many workers and in whatever order jobs are taken and brought back, each
--- game comes to just what it comes to alone.
+-- The isolation law: among whatever other games, with however many workers and in whatever order
+-- jobs are taken and brought back, each game comes to just what it comes to alone.
 use Rattle.std.specs.Prelude.{◌≡◌, ◌≢◌, ℕ, ◌<◌, ◌≤◌, Bool, true, ◌&&◌, if◌then◌else◌, List, [], ◌∷◌, length, map, nat_eq, All}
 use Rattle.bs_board.specs.declared.commands.command.Command.{Command}
 use Rattle.bs_board.specs.declared.commands.command.Command.TheVariants as command
@@ -43,7 +43,8 @@ alone_event (event.Put worker job) = event.Put worker (alone_job job)
 abbrev pub is_accepted : ℕ → ℕ → List Lane → Event → Bool
 is_accepted workers game lanes e = nat_eq (game_of e) game && is_enabled workers lanes e
 
--- of these events those that name the game and are enabled where they come, as they are in the core of that game alone
+-- of these events those that name the game and are enabled where they come, as they are in the core
+-- of that game alone
 abbrev pub accepted : ℕ → ℕ → List Lane → List Event → List Event
 accepted workers game lanes [] = []
 accepted workers game lanes (e ∷ events) =
@@ -74,9 +75,10 @@ records_of game = map record_of game
 
 -- What holds of each game.
 
--- Its accepted events, run in a core of that game alone with as many workers, are all enabled where they come. They end in the very same
--- lane: the same replies, the same commands taken and waiting, the same boards, and the same stage, with the same worker having each
--- job that is out. So the records have the same bytes, and the same charge.
+-- Its accepted events, run in a core of that game alone with as many workers, are all enabled where
+-- they come. They end in the very same lane: the same replies, the same commands taken and waiting,
+-- the same boards, and the same stage, with the same worker having each job that is out. So the
+-- records have the same bytes, and the same charge.
 pub record RunsAlone (workers : ℕ) (rows : List GameRow) (events : List Event) (game : ℕ) : Type 0 where
   pub enabled : are_enabled workers (lone_lanes rows game) (own_events workers rows events game) ≡ true
   pub lane : lane_of (lone_run workers rows events game) 0 ≡ lane_of (shared_run workers rows events) game
@@ -101,8 +103,8 @@ HandsFit (event.Hand game command) = Fits command
 HandsFit (event.Take worker job) = Unit {0}
 HandsFit (event.Put worker job) = Unit {0}
 
--- Its commands are those that were handed to it, in their order. Its replies and its boards are those of the course that the answered
--- ones take, from nothing and one after the other.
+-- Its commands are those that were handed to it, in their order. Its replies and its boards are
+-- those of the course that the answered ones take, from nothing and one after the other.
 pub record KeepsCourse (rows : List GameRow) (events : List Event) (game : ℕ) (x : Lane) : Type 0 where
   pub quota : x.row.quota ≡ (row_at rows game).quota
   pub commands : commands_of x ≡ own_commands game events
@@ -115,13 +117,15 @@ pub record IsIsolated (workers : ℕ) (rows : List GameRow) (events : List Event
   pub others : OthersLeave workers (shared_run workers rows events) game
   pub course : KeepsCourse rows events game (lane_of (shared_run workers rows events) game)
 
--- For every plan within its limits, every number of workers, every list of events whose commands are within the limits, and every game.
+-- For every plan within its limits, every number of workers, every list of events whose commands
+-- are within the limits, and every game.
 abbrev pub IsolationLaw : Type 0
 IsolationLaw =
     (workers : ℕ) (rows : List GameRow) (events : List Event) (game : ℕ) → IsFitPlan rows → All HandsFit events → game < length rows
     → IsIsolated workers rows events game
 
--- Jobs can be taken: whoever of the workers asks, a command that was handed to a new game is begun and answered.
+-- Jobs can be taken: whoever of the workers asks, a command that was handed to a new game is begun
+-- and answered.
 
 abbrev pub begin_of_only : JobName
 begin_of_only = record { game = 0; kind = kind.Begin; part = 0 }

@@ -18,15 +18,17 @@ use Rattle.bs_sched.specs.SharedMemory.{IsHosted, SharesMemory}
 abbrev pub blocks_of : CoreView → ℕ
 blocks_of core = size core.games.storage.pool
 
--- Every event of the journal was enabled where it came, and the games are those that the events make of a core that was just opened over
--- the same plan, blocks and workers. Only that the core was told to fail is no event.
+-- Every event of the journal was enabled where it came, and the games are those that the events
+-- make of a core that was just opened over the same plan, blocks and workers. Only that the core
+-- was told to fail is no event.
 pub record IsItsJournal (cap : ℕ) (core : CoreView) : Type 0 where
   pub hosted : IsHosted cap (blocks_of core) core.games.rows
   pub fits : All HandsFit core.journal
   pub enabled : are_enabled core.games.workers (opened_lanes core.games.rows) core.journal ≡ true
   pub games : games_run cap (opened cap (blocks_of core) core.games.workers core.games.rows) core.journal ≡ record core.games { failed = false }
 
--- So its lanes are those of which the isolation law speaks: of each game, and of the memory that all of them share.
+-- So its lanes are those of which the isolation law speaks: of each game, and of the memory that
+-- all of them share.
 pub record KeepsApart (cap : ℕ) (core : CoreView) : Type 0 where
   pub lanes : shared_run core.games.workers core.games.rows core.journal ≡ core.games.lanes
   pub games : (game : ℕ) → game < length core.games.rows → IsIsolated core.games.workers core.games.rows core.journal game

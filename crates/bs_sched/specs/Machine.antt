@@ -1,4 +1,5 @@
--- The core as a machine over events: its lanes, which events are enabled, and what each makes of them.
+-- The core as a machine over events: its lanes, which events are enabled, and what each makes of
+-- them.
 use Rattle.std.specs.Prelude.{ℕ, Bool, true, ◌&&◌, not, if◌then◌else◌, List, length, fold, nat_lt, nat_le, slice_index_or, slice_set}
 use Rattle.std.specs.List.{list_any}
 use Rattle.bs_sched.specs.declared.event.Event.{Event}

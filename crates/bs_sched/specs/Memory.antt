@@ -43,8 +43,8 @@ wiped (number ∷ numbers) memory = wiped numbers (slice_set memory number [])
 abbrev pub current_number : Packing → ℕ
 current_number packing = unwrap_or (option_map (λ u. u.number) packing.current) 0
 
--- What an answer does to the bytes. A record that is added goes, with zeros up to its rounded size, behind what the block of its place has;
--- where a block is drawn for it, that has this number.
+-- What an answer does to the bytes. A record that is added goes, with zeros up to its rounded size,
+-- behind what the block of its place has; where a block is drawn for it, that has this number.
 abbrev pub memory_with : ℕ → ℕ → Effect → Packing → Memory → Memory
 memory_with cap number effect.Keep packing memory = memory
 memory_with cap number (effect.Add bytes) packing memory = with_bytes (current_number (packed cap number (length bytes) packing)) (padded bytes) memory

@@ -1,4 +1,5 @@
--- The isolation law of the memory: all games keep their records in the blocks of one pool, and none notices the others there.
+-- The isolation law of the memory: all games keep their records in the blocks of one pool, and none
+-- notices the others there.
 use Rattle.std.specs.Prelude.{◌≡◌, ◌≢◌, ℕ, ◌+◌, ◌≤◌, ◌<◌, true, false, List, [], ◌∷◌, length, map, slice_get, sum_by, Option, Some, None, All}
 use Rattle.bs_board.specs.plans.Plan.{GameRow, IsFitPlan}
 use Rattle.bs_heap.specs.Charge.{blocks_for}
@@ -62,9 +63,10 @@ all_framed = sum_by (λ numbers. length (known numbers))
 abbrev pub all_held : List Packing → ℕ
 all_held = sum_by (λ packing. length (numbers_of packing))
 
--- The blocks of all games. Each of the pool's is free, holds records of a game, or is a part's of the move that a game is at, and none is
--- in two of these lists, so no records of two games share a byte. One that is free has no byte. The blocks of a move's parts are its own
--- tag's, four at most; a game that is at no move has none. Where an event needs a block there is a free one.
+-- The blocks of all games. Each of the pool's is free, holds records of a game, or is a part's of
+-- the move that a game is at, and none is in two of these lists, so no records of two games share a
+-- byte. One that is free has no byte. The blocks of a move's parts are its own tag's, four at most;
+-- a game that is at no move has none. Where an event needs a block there is a free one.
 pub record SharesBlocks (cap blocks workers : ℕ) (world : World) : Type 0 where
   pub size : size world.storage.pool ≡ blocks
   pub counts : free world.storage.pool + (all_held world.storage.packings + all_framed world.storage.frames) ≡ blocks
@@ -86,8 +88,8 @@ pub record SharesBlocks (cap blocks workers : ℕ) (world : World) : Type 0 wher
   pub draws : (e : Event) → is_enabled workers world.lanes e ≡ true
       → CanDraw cap (effect_at e (lane_of world.lanes (game_of e))) (packing_in world (game_of e)) world.storage.pool
 
--- The records of one game. Their bytes stand at their places, which lie inside its blocks and one behind the other. The blocks are the
--- game's own, and no more than are set aside for it.
+-- The records of one game. Their bytes stand at their places, which lie inside its blocks and one
+-- behind the other. The blocks are the game's own, and no more than are set aside for it.
 pub record KeepsBytes (cap : ℕ) (world : World) (game : ℕ) : Type 0 where
   pub bytes : bytes_in world game ≡ records_of (lane_of world.lanes game).game
   pub places : AreApart (packing_in world game)
@@ -99,13 +101,15 @@ pub record LeavesBytes (cap workers : ℕ) (world : World) (game : ℕ) (e : Eve
   pub packing : packing_in (world_step cap workers world e) game ≡ packing_in world game
   pub bytes : bytes_in (world_step cap workers world e) game ≡ bytes_in world game
 
--- Run alone, its accepted events leave the very same bytes at the places that its records have there.
+-- Run alone, its accepted events leave the very same bytes at the places that its records have
+-- there.
 pub record IsIsolatedInMemory (cap blocks workers : ℕ) (rows : List GameRow) (events : List Event) (game : ℕ) : Type 0 where
   pub keeps : KeepsBytes cap (shared_world cap blocks workers rows events) game
   pub alone : bytes_in (lone_world cap blocks workers rows events game) 0 ≡ bytes_in (shared_world cap blocks workers rows events) game
   pub others : (e : Event) → game_of e ≢ game → LeavesBytes cap workers (shared_world cap blocks workers rows events) game e
 
--- The games as the core's calls see them go just this way, and its lanes are those of which the isolation law speaks.
+-- The games as the core's calls see them go just this way, and its lanes are those of which the
+-- isolation law speaks.
 pub record SharesMemory (cap blocks workers : ℕ) (rows : List GameRow) (events : List Event) : Type 0 where
   pub core : games_run cap (opened cap blocks workers rows) events
       ≡ games_with (opened cap blocks workers rows) (shared_world cap blocks workers rows events)
@@ -113,7 +117,8 @@ pub record SharesMemory (cap blocks workers : ℕ) (rows : List GameRow) (events
   pub blocks_shared : SharesBlocks cap blocks workers (shared_world cap blocks workers rows events)
   pub games : (game : ℕ) → game < length rows → IsIsolatedInMemory cap blocks workers rows events game
 
--- For every plan that is hosted, every number of workers, and every list of events whose commands are within the limits.
+-- For every plan that is hosted, every number of workers, and every list of events whose commands
+-- are within the limits.
 abbrev pub MemoryLaw : Type 0
 MemoryLaw =
     (cap blocks workers : ℕ) (rows : List GameRow) (events : List Event) → IsHosted cap blocks rows → All HandsFit events

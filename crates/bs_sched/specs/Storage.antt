@@ -26,7 +26,8 @@ frame_tag game = 2 * game + 1
 abbrev pub packing_of : Storage → ℕ → Packing
 packing_of storage game = slice_index_or storage.packings game no_packing
 
--- the packing of a game's records after what an answer does to them; a block that is opened has that number
+-- the packing of a game's records after what an answer does to them; a block that is opened has
+-- that number
 abbrev pub packing_after : ℕ → ℕ → Effect → Packing → Packing
 packing_after cap number effect.Keep packing = packing
 packing_after cap number (effect.Add bytes) packing = packed cap number (length bytes) packing

@@ -1,4 +1,5 @@
-//! Two games side by side in one core, by calls that are drawn from a fixed seed, against each of them in a core of its own.
+//! Two games side by side in one core, by calls that are drawn from a fixed seed, against each of
+//! them in a core of its own.
 use crate::tests::{CAP, finish, new_of_three, new_solo, plan_of, straight_on, third_goes_down};
 use crate::{Core, Taken};
 use bs_board::Command;

@@ -1,5 +1,5 @@
-//! All games of a plan: what their records lie in, and what is read of them. Clauses see them as lanes, and where their
-//! records lie.
+//! All games of a plan: what their records lie in, and what is read of them. Clauses see them as
+//! lanes, and where their records lie.
 ghost use Rattle.std.specs.Prelude.{◌≡◌, ◌+◌, ◌≤◌, ◌<◌, [], true, length, slice_index_or, map, IfOk, OnOk, OnErr};
 ghost use Rattle.std.specs.List.{list_all};
 ghost use Rattle.bs_board.specs.plans.Plan.{IsFitPlan};

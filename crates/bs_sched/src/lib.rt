@@ -1,5 +1,5 @@
-//! The core: all games of a plan, the jobs that carry out their commands, their records, and the journal of
-//! all events.
+//! The core: all games of a plan, the jobs that carry out their commands, their records, and the
+//! journal of all events.
 #![tactic(auto)]
 
 mod busy;

@@ -145,8 +145,8 @@ impl<const CAP: usize> Games<CAP> {
         self.frames[job.game as usize].are_of(job, ticket.frames())
     }
 
-    /// Whether the worker has that job out, its ticket is the core's input, and its blocks are those
-    /// that went out with it.
+    /// Whether the worker has that job out, its ticket is the core's input, and its blocks are
+    /// those that went out with it.
     #[tactic(auto, using(crate::proofs::OwnJobs::input_there, crate::proofs::OwnJobs::own_both, crate::proofs::OwnJobs::own_neither))]
     pub(crate) fn is_own(&self, worker: usize, done: &Done<CAP>) -> bool
         ensures { IsTrue result ↔ IsOwn self.now worker done.now }

@@ -230,8 +230,8 @@ fn opens_within_its_blocks(rt: HostRuntime) -> Result<(), Fail> {
     Ok(())
 }
 
-// While a second command is worked, what is brought back of another core is a stray, and so is the job from a worker that
-// has not taken it.
+// While a second command is worked, what is brought back of another core is a stray, and so is the
+// job from a worker that has not taken it.
 fn assert_two_strays(
     rt: &impl Abort,
     alloc: Global,
@@ -355,7 +355,8 @@ fn assert_part_strays(
     Ok(one.remove(0).ok_or("the part")?)
 }
 
-// Both parts are out with one worker. The second is finished first, and the parts come back at once.
+// Both parts are out with one worker. The second is finished first, and the parts come back at
+// once.
 fn play_parts(rt: &impl Abort, alloc: Global, core: &mut Core<CAP>) -> Result<(), Fail> {
     let (one, first_key) = take_part(rt, alloc, core, 0)?;
     assert_job(rt, &one, JobKind::Part, 0);
