@@ -97,7 +97,8 @@ fn take_done(
     core: &mut Core<CAP>,
     worker: usize,
 ) -> Result<Done<CAP>, Fail> {
-    match take(rt, alloc, core, worker)? {
+    assert!(rt; worker <= core.workers());
+    match core.take(alloc, worker)? {
         Taken::Job(ticket) => Ok(work(alloc, ticket)?),
         Taken::Part(_, _) => Err(Fail::from("a part")),
         Taken::Failed => Err(Fail::from("failed")),
@@ -113,7 +114,8 @@ fn take_part(
     core: &mut Core<CAP>,
     worker: usize,
 ) -> Result<(Done<CAP>, PartKey<Done<CAP>>), Fail> {
-    match take(rt, alloc, core, worker)? {
+    assert!(rt; worker <= core.workers());
+    match core.take(alloc, worker)? {
         Taken::Part(ticket, key) => Ok((work(alloc, ticket)?, key)),
         _ => Err(Fail::from("no part")),
     }
@@ -154,7 +156,8 @@ fn play<R: Abort + Wait>(
     worker: usize,
 ) -> Result<(), Fail> {
     for _ in rt.forever() {
-        match take(rt, alloc, core, worker)? {
+        assert!(rt; worker <= core.workers());
+        match core.take(alloc, worker)? {
             Taken::Job(ticket) => put(core, worker, work(alloc, ticket)?)?,
             Taken::Part(ticket, key) => {
                 if let Some(parts) = finish(key, work(alloc, ticket)?)? {
