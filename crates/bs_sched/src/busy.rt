@@ -14,7 +14,7 @@ pub(crate) fn nobody_busy(alloc: Global, workers: usize) -> Result<Vec<bool>, Al
     Vec::from_elem(alloc, false, workers + 1)
 }
 
-/// Whether the worker has one; a worker beyond the table has none.
+/// Whether the worker has a Begin or a Join out. A worker beyond the table has none.
 pub(crate) fn is_marked(busy: &[bool], worker: usize) -> bool
     ensures { result ≡ slice_index_or busy.now worker false }
 {

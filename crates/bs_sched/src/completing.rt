@@ -11,17 +11,16 @@ use arrayvec::ArrayVec;
 use bs_fiber::{Done, JobKind};
 use thiserror::Error;
 
-/// The list does not hold each part of one game's move, in part order, each out with its worker. It
-/// is returned as it was.
+/// The list is not all parts of one game's move, in part order, each out with its worker.
 #[derive(Debug, Drop, Error)]
 #[error("these are not the parts of a move that is out")]
 pub struct Strays<const CAP: usize> {
-    /// What was completed.
+    /// The list, unchanged.
     pub parts: ArrayVec<Option<Done<CAP>>, 4>,
 }
 
 impl<const CAP: usize> Games<CAP> {
-    /// Whether it is that part of that game's move, out with its worker and of the core's input.
+    /// Whether the done is of that part of that game's move, and `is_own` holds of it.
     fn is_own_part(&self, game: usize, part: usize, completed: &Option<Done<CAP>>) -> bool
         ensures { IsTrue result ↔ IsOwnPart self.now game part completed.now }
     {
@@ -43,7 +42,7 @@ impl<const CAP: usize> Games<CAP> {
         self.fibers[game].count_parts()
     }
 
-    /// Whether each is the part of its place in that game's move.
+    /// Whether each done in the list is of the part with its index, in that game's move.
     fn are_own_parts_of(&self, game: usize, completed: &[Option<Done<CAP>>]) -> bool
         ensures { IsTrue result ↔ ((part : ℕ) → part < length completed.now → IsOwnPart self.now game part (slice_index_or completed.now part None)) }
     {
@@ -74,7 +73,7 @@ impl<const CAP: usize> Games<CAP> {
 }
 
 impl<const CAP: usize> Core<CAP> {
-    /// Completes one part of the core's own.
+    /// Completes one part of a move of this core.
     fn settle_part(&mut self, completed: Option<Done<CAP>>)
         requires { (game part : ℕ) × IsOwnPart self.old.games game part completed }
         ensures { self.new ≡ core_run CAP self.old (puts_of (completed.entry ∷ [])) }
@@ -88,7 +87,7 @@ impl<const CAP: usize> Core<CAP> {
         }
     }
 
-    /// Completes all parts of one move of the core's own. The journal has room for each.
+    /// Completes all parts of one move of this core. The journal has room for their events.
     fn settle_parts(&mut self, completed: ArrayVec<Option<Done<CAP>>, 4>)
         requires { AreOwnParts self.old.games completed.items }
         ensures { self.new ≡ core_run CAP self.old (puts_of completed.entry.items) }
@@ -101,7 +100,7 @@ impl<const CAP: usize> Core<CAP> {
     }
 
     /// Completes all parts of one game's move, in part order, each for the worker that has it out.
-    /// Takes no memory. `Strays` returns any other list, and then nothing has changed.
+    /// Takes no memory. Any other list is returned in `Strays`, and the core is unchanged.
     #[tactic(auto, using(crate::proofs::OwnParts::all_enabled))]
     pub fn put_parts(&mut self, parts: ArrayVec<Option<Done<CAP>>, 4>) -> Result<(), Strays<CAP>>
         ensures own { OnOk result (AreOwnParts self.old.games parts.entry.items) }

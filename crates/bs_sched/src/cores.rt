@@ -1,4 +1,4 @@
-//! The core: all games of a plan, and the list of all that happened to them.
+//! The core: all games of a plan, and the journal of their events.
 ghost use Rattle.std.specs.Prelude.{◌≡◌, ◌+◌, ◌<◌, ◌≤◌, [], ◌∷◌, ◌++◌, true, length, vec_len, vec_capacity, slice_index_or, map, IfOk, OnOk, OnErr};
 ghost use Rattle.std.specs.List.{list_all};
 ghost use Rattle.bs_board.specs.plans.Plan.{IsFitPlan};
@@ -27,13 +27,13 @@ use std::marker::Model;
 pub struct Counts {
     /// Blocks that no game holds.
     pub free: usize,
-    /// Blocks in which games keep records.
+    /// Blocks that games hold, for records and for the parts of moves.
     pub held: usize,
     /// All blocks.
     pub size: usize,
 }
 
-/// The least size of a block: a record, or the parts of a turn, fit into one twice.
+/// The least size of a block, twice that of the largest record.
 pub const LEAST_CAPACITY: usize = 524_288;
 
 /// The largest worker number: an event has 32 bits for it.
@@ -140,8 +140,8 @@ impl<const CAP: usize> Core<CAP> {
     }
 
     /// All events in order: each command queued, each job taken and each job completed. Every event
-    /// was enabled where it came, and the core is what the events make of a core that was just
-    /// opened. So the isolation law holds of the core between any two calls.
+    /// was enabled when it happened, and applying them all to a newly opened core gives this core.
+    /// So the isolation law holds of the core between any two calls.
     pub fn journal(&self) -> &[Event]
         ensures value { result.now ≡ self.now.journal }
         ensures journal { IsItsJournal CAP self.now }
@@ -209,7 +209,7 @@ impl<const CAP: usize> Core<CAP> {
         self.games.records(game, place)
     }
 
-    /// The newest board.
+    /// The newest board, if a game runs.
     pub fn board(&self, alloc: Global, game: usize) -> Result<Option<Board>, AllocError>
         requires { game < length self.now.games.lanes }
         ensures { IfOk result (λ board. board ≡ last_board (lane_of self.now.games.lanes game).game) }
@@ -217,7 +217,7 @@ impl<const CAP: usize> Core<CAP> {
         self.games.board(alloc, game)
     }
 
-    /// What the kept records are charged, in bytes.
+    /// The charge of the kept records, in bytes.
     pub fn charge(&self, game: usize) -> u32
         requires { game < length self.now.games.lanes }
         ensures { result ≡ game_charge (lane_of self.now.games.lanes game).game }

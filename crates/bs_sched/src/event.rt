@@ -1,16 +1,16 @@
-//! What happens to a core.
+//! The events of a core.
 use bs_fiber::{JobName, SharedCommand};
 
-/// One critical section of the core. Each call that changes a game is one of these. A command
-/// leaves three or more of them in the journal, so a row and a worker have 32 bits here: an event
-/// has 16 bytes.
+/// A change of a game. Each call that changes a game is one event; `put_parts` is one for each
+/// part. A command leaves three or more events in the journal, so a row and a worker have 32 bits
+/// here: an event has 16 bytes.
 #[derive(Debug, Drop)]
 pub enum Event {
-    /// A command goes to the end of those that wait in the game of that row.
+    /// A command is queued for the game of that row.
     Hand(u32, SharedCommand),
     /// That worker takes a job.
     Take(u32, JobName),
-    /// That worker brings a job back, done.
+    /// A job that the worker had out is completed.
     Put(u32, JobName),
 }
 

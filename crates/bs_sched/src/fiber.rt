@@ -50,7 +50,7 @@ impl Model for Fiber {
     ghost invariant = { IsFiber };
 }
 
-/// What a command holds is within the limits, since its types keep them.
+/// Recalls for the prover that a command is within the limits, which its types keep.
 pub(crate) fn keeps_limits(command: &Command)
     ensures { Fits command.now }
 {
@@ -92,7 +92,7 @@ fn is_done(slot: &Slot) -> bool
     }
 }
 
-/// Whether all parts came back.
+/// Whether all parts are completed.
 fn are_done(slots: &[Slot]) -> bool
     ensures { result ≡ list_all (λ slot. is_part_done (state_of slot)) slots.now }
 {
@@ -120,7 +120,7 @@ fn is_ready_slot(slot: &Slot) -> bool
     }
 }
 
-/// The first part that nobody has taken.
+/// The first part that no worker has taken.
 fn first_ready(slots: &[Slot]) -> Option<u8>
     requires { length slots.now ≤ 4 }
     ensures { MatchOption result
@@ -135,7 +135,7 @@ fn first_ready(slots: &[Slot]) -> Option<u8>
     None
 }
 
-/// What a part moved goes out of its slot.
+/// Takes a part's moved snakes out of its slot.
 fn take_moved(slot: &mut Slot) -> Option<Moved>
     ensures slot { slot.new ≡ emptied slot.old }
     ensures moved { result ≡ moved_in slot.old }
@@ -157,7 +157,7 @@ fn push_if_some(moved: &mut Vec<Moved>, one: Option<Moved>)
     }
 }
 
-/// What all parts moved, in their order, goes out of their slots.
+/// Takes the moved snakes of all parts out of their slots, in part order.
 fn collect_moved(slots: &mut Vec<Slot>, moved: &mut Vec<Moved>)
     requires none { moved.old.items ≡ [] }
     requires room { length slots.old.items ≤ vec_capacity moved.old }
@@ -180,7 +180,7 @@ impl Fiber {
     ghost use Rattle.bs_sched.specs.Lane.{empty_lane, no_lane, with_waiting, with_taken, with_put, with_part_done, forked, answered, is_ready, is_out, occupies, lane_view, lane_command, lane_outcome, goes_on, is_idle, is_in_parts, is_quiet, HasNoneReady};
     ghost use Rattle.bs_sched.specs.Courses.{IsRight};
 
-    /// A game that was handed nothing yet.
+    /// The fiber of a game with no command.
     pub(crate) fn new(alloc: Global, row: Row) -> Result<Fiber, AllocError>
         requires { row.quota ≤ MOST_QUOTA }
         ensures { IfOk result (λ fiber. fiber ≡ empty_lane row) }
@@ -195,7 +195,7 @@ impl Fiber {
         })
     }
 
-    /// One more command waits.
+    /// Queues a command.
     pub(crate) fn hand(&mut self, command: Handed) -> Result<(), AllocError>
         ensures ok { OnOk result (self.new ≡ with_waiting command self.old) }
         ensures err { OnErr result (self.new ≡ self.old) }
@@ -225,8 +225,8 @@ impl Fiber {
         self.slots[part] = Slot::Out(worker);
     }
 
-    /// The worker takes the job that joins all parts, with what they moved. Room for the reply is
-    /// made first.
+    /// Takes the Join for the worker, and returns the moved snakes of all parts. Makes room for the
+    /// reply first.
     pub(crate) fn join(&mut self, alloc: Global, worker: usize) -> Result<Parts, AllocError>
         requires { is_ready self.old kind.Join 0 ≡ true }
         ensures ok { OnOk result (self.new ≡ with_taken worker kind.Join 0 self.old) }
@@ -240,7 +240,7 @@ impl Fiber {
         Ok(Parts::from_vec(moved))
     }
 
-    /// Starts the move, in that many ready parts.
+    /// Starts the move, with `parts` ready parts.
     pub(crate) fn fork(&mut self, parts: usize)
         requires begun { (worker : ℕ) × (is_out worker self.old kind.Begin 0 ≡ true) }
         requires goes { goes_on self.old ≡ true }
@@ -252,7 +252,7 @@ impl Fiber {
         self.stage = Stage::Parts;
     }
 
-    /// The part came back with what it moved.
+    /// Completes the part with its moved snakes.
     pub(crate) fn put_part(&mut self, part: usize, moved: Moved)
         requires out { (worker : ℕ) × (is_out worker self.old kind.Part part ≡ true) }
         requires moved { moved ≡ moved_part part (lane_view self.old) (lane_command self.old) }
@@ -275,7 +275,7 @@ impl Fiber {
         self.stage = Stage::Idle;
     }
 
-    /// What is so of each game between two events.
+    /// Recalls for the prover what holds of each game between two events.
     pub(crate) fn keeps(&self)
         ensures { IsRight self.now }
     {
@@ -297,7 +297,7 @@ impl Fiber {
         &self.commands[self.begun]
     }
 
-    /// A holder of that command, if one was made for the job that begins it.
+    /// Takes the handle of the next command that was made for its Begin, if there is one.
     pub(crate) fn take_holder(&mut self) -> Option<SharedCommand>
         requires { 0 < length self.old.waiting }
         ensures same { self.new ≡ self.old }
@@ -306,7 +306,7 @@ impl Fiber {
         self.commands[self.begun].take_holder()
     }
 
-    /// The command that the game is at.
+    /// The command that is being answered.
     pub(crate) fn command(&self) -> &Handed
         requires { is_idle self.now.stage ≡ false }
         ensures { result.now ≡ lane_command self.now }
@@ -314,7 +314,7 @@ impl Fiber {
         &self.commands[self.begun - 1]
     }
 
-    /// How many commands were taken: the number of the newest of them, from 1.
+    /// The number of commands taken, which is the number of the newest one, counted from 1.
     pub(crate) fn seq(&self) -> u64
         ensures { result ≡ length self.now.taken }
     {
@@ -341,7 +341,7 @@ impl Fiber {
         self.row.quota
     }
 
-    /// Whether nothing is to be done.
+    /// Whether all commands are answered.
     pub(crate) fn is_quiet(&self) -> bool
         ensures { result ≡ is_quiet self.now }
     {
@@ -355,7 +355,7 @@ impl Fiber {
         self.slots.len()
     }
 
-    /// Whether the worker has that job.
+    /// Whether the worker has that job out.
     pub(crate) fn has_out(&self, worker: usize, kind: JobKind, part: u8) -> bool
         ensures { result ≡ is_out worker self.now kind part }
     {
@@ -377,7 +377,7 @@ impl Fiber {
         }
     }
 
-    /// A job that is there to be taken, the parts from the first on.
+    /// A job that is ready, if there is one; of several parts the first.
     pub(crate) fn ready(&self) -> Option<(JobKind, u8)>
         ensures { MatchOption result (HasNoneReady self.now) (λ job. is_ready self.now job.0 job.1 ≡ true) }
     {

@@ -1,4 +1,5 @@
-//! The parts of a game's move: the key of each, and then its frame block.
+//! The slots of a move's parts: each has the part's key until the part is taken, then the number
+//! of its frame block or the block itself.
 ghost use Rattle.std.specs.Prelude.{◌≡◌, ◌<◌, ◌≤◌, [], ◌∷◌, ◌++◌, List, ℕ, Some, None, IfOk, true, slice_get, vec_len, vec_capacity, length, map, flat_map, option_to_list, slice_index_or, ◌↔◌, IsTrue};
 ghost use Rattle.bs_fiber.specs.Tickets.{bytes_of, frames_in, names_of};
 ghost use Rattle.bs_sched.specs.Inputs.{job_numbers};
@@ -20,12 +21,12 @@ use std::mem::replace;
 /// The most parts that a move has.
 const MOST_PARTS: usize = 4;
 
-/// The slot of a part: its key, and then its block.
+/// The slot of a part: its key, then the number of its block, then the block.
 #[derive(Debug, Drop)]
 pub(crate) enum FrameSlot<const CAP: usize> {
     /// The part can be taken, with its key.
     Ready(PartKey<Done<CAP>>),
-    /// The block with that number is out: with the part, or with the Join.
+    /// The block of that number is out, in the ticket of the part or of the Join.
     Out(usize),
     /// The part is completed; this is its block.
     Back(Owned<CAP>),
@@ -66,7 +67,7 @@ fn push_ready<const CAP: usize>(slots: &mut Vec<FrameSlot<CAP>>, keys: &mut Vec<
     }
 }
 
-/// Takes the key out of the slot, and notes the number of the block there.
+/// Takes the key out of the slot, and records the number of the block in its place.
 fn take_key<const CAP: usize>(place: &mut FrameSlot<CAP>, number: usize) -> PartKey<Done<CAP>>
     requires { is_ready_slot place.old ≡ true }
     ensures place { place.new ≡ slot.Out number }
@@ -79,7 +80,7 @@ fn take_key<const CAP: usize>(place: &mut FrameSlot<CAP>, number: usize) -> Part
     }
 }
 
-/// Draws a block for the tag, within what is set aside for it.
+/// Draws a block for the tag, whose reservation is not used up.
 fn draw_block<const CAP: usize>(pool: &mut Pool<CAP>, tag: u32) -> Owned<CAP>
     requires { held tag pool.old < reserved tag pool.old }
     ensures block { result.block ≡ [] }
@@ -95,7 +96,7 @@ fn draw_block<const CAP: usize>(pool: &mut Pool<CAP>, tag: u32) -> Owned<CAP>
     owned
 }
 
-/// Takes the block of a completed part out of its slot, which keeps its number.
+/// Takes the block of a completed part out of its slot, which keeps the block's number.
 fn take_back<const CAP: usize>(slot: &mut FrameSlot<CAP>) -> Option<Owned<CAP>>
     ensures slot { slot.new ≡ sent_off slot.old }
     ensures back { result ≡ back_in slot.old }
@@ -169,7 +170,7 @@ fn is_named<const CAP: usize>(owned: &Owned<CAP>, tag: u32, number: usize) -> bo
     owned.tag() == tag && owned.number() == number
 }
 
-/// Whether these are one block, of that tag and number.
+/// Whether there is just one block, of that tag and number.
 fn is_only<const CAP: usize>(blocks: &[Owned<CAP>], tag: u32, number: usize) -> bool
     ensures { IsTrue result ↔ names_of (frames_in blocks.now) ≡ (tag, number) ∷ [] }
 {
@@ -215,7 +216,7 @@ impl<const CAP: usize> Frames<CAP> {
         self.keys = keys;
     }
 
-    /// The number of keys: of parts, where the command is a move that goes.
+    /// The number of keys. If the command is a move that goes on, it is the number of its parts.
     pub(crate) fn count_keys(&self) -> usize
         ensures { result ≡ length self.now.keys }
     {
@@ -232,7 +233,7 @@ impl<const CAP: usize> Frames<CAP> {
         push_ready(&mut self.slots, &mut self.keys);
     }
 
-    /// Draws the block of a part that is taken, and takes its key.
+    /// Draws the block of a part that is being taken, and takes its key.
     pub(crate) fn draw(
         &mut self,
         pool: &mut Pool<CAP>,

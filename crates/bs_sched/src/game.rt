@@ -1,4 +1,4 @@
-//! One game of the core: its fiber, its heap, and what an answer makes of both.
+//! One game of the core: its fiber, its heap and its frame blocks, and how an answer changes them.
 ghost use Rattle.std.specs.Prelude.{◌≡◌, ◌<◌, ◌≤◌, ◌↔◌, IsTrue, ℕ, true, length, map, slice_get, Some, ◌≢◌};
 ghost use Rattle.std.specs.List.{list_all};
 ghost use Rattle.bs_game.specs.View.{answer_of};
@@ -24,14 +24,14 @@ use bs_game::Answer;
 use bs_heap::TagHeap;
 use bs_pool::{Owned, Pool};
 
-/// Whether nothing is to be done in any game.
+/// Whether all commands of all games are answered.
 pub(crate) fn are_quiet(fibers: &[Fiber]) -> bool
     ensures { result ≡ list_all is_quiet fibers.now }
 {
     fibers.iter().all(|fiber| fiber.is_quiet())
 }
 
-/// Whether the worker has the ticket's job, and the ticket holds what the game has for it.
+/// Whether the worker has the ticket's job out, and the ticket holds the game's input for it.
 pub(crate) fn is_own<const CAP: usize>(
     fiber: &Fiber,
     heap: &TagHeap<CAP>,
@@ -53,7 +53,7 @@ pub(crate) fn is_own<const CAP: usize>(
     ticket.is_of(&expected(fiber, heap, fiber.command(), fiber.seq(), number, job))
 }
 
-/// The command of the game has its answer.
+/// Stores the answer of the game's command: keeps its reply and changes the records.
 pub(crate) fn answer_game<const CAP: usize>(
     fiber: &mut Fiber,
     heap: &mut TagHeap<CAP>,
@@ -74,7 +74,7 @@ pub(crate) fn answer_game<const CAP: usize>(
     fiber.answer(answer.reply);
 }
 
-/// Completes a part: its moved snakes and its block.
+/// Completes a part: keeps its moved snakes and its block.
 pub(crate) fn put_part_of<const CAP: usize>(
     fiber: &mut Fiber,
     frames: &mut Frames<CAP>,

@@ -1,5 +1,5 @@
-//! All games of a plan: what their records lie in, and what is read of them. Clauses see them as
-//! lanes, and where their records lie.
+//! All games of a plan, with their fibers, their heaps and the pool. Clauses see them as lanes, and
+//! where their records lie.
 ghost use Rattle.std.specs.Prelude.{◌≡◌, ◌+◌, ◌≤◌, ◌<◌, [], true, length, slice_index_or, map, IfOk, OnOk, OnErr};
 ghost use Rattle.std.specs.List.{list_all};
 ghost use Rattle.bs_board.specs.plans.Plan.{IsFitPlan};
@@ -50,7 +50,7 @@ impl<const CAP: usize> Model for Games<CAP> {
     ghost invariant = { λ c. IsSound CAP c };
 }
 
-/// What the records of the fiber's game are charged.
+/// The charge of the records of the fiber's game.
 #[tactic(auto, using(crate::proofs::ReadGames::charge_of_boards))]
 fn kept_charge<const CAP: usize>(fiber: &Fiber, heap: &TagHeap<CAP>) -> u32
     requires { KeepsBoards fiber.now heap.now }
@@ -61,7 +61,7 @@ fn kept_charge<const CAP: usize>(fiber: &Fiber, heap: &TagHeap<CAP>) -> u32
 }
 
 impl<const CAP: usize> Games<CAP> {
-    /// A command goes to the end of those that wait in that game.
+    /// Queues a command for that game.
     pub(crate) fn hand(&mut self, game: usize, command: Handed) -> Result<(), AllocError>
         requires { game < length self.old.lanes }
         ensures ok { OnOk result (self.new ≡ after CAP self.old (event.Hand game command)) }
@@ -70,7 +70,7 @@ impl<const CAP: usize> Games<CAP> {
         self.fibers[game].hand(command)
     }
 
-    /// No job is taken any more.
+    /// Stops the games: no job is taken any more.
     pub(crate) fn fail(&mut self)
         ensures { self.new ≡ record self.old { failed = true } }
     {

@@ -67,7 +67,7 @@ fn open_heaps<const CAP: usize>(
     Ok(heaps)
 }
 
-/// The parts of each game's moves: none yet.
+/// Makes the empty frame slots of each game.
 #[tactic(auto, using(crate::proofs::OpenedGames::opened_more))]
 fn open_frames<const CAP: usize>(
     alloc: Global,
@@ -84,7 +84,7 @@ fn open_frames<const CAP: usize>(
 }
 
 impl<const CAP: usize> Games<CAP> {
-    /// Opens games that were handed nothing yet.
+    /// Opens the games of a plan, with no command yet.
     #[tactic(auto, using(crate::proofs::OpenedGames::opened_packings, crate::proofs::OpenedGames::opened_numbers))]
     fn open(alloc: Global, plan: Plan, blocks: usize, workers: usize) -> Result<Self, Open>
         requires capacity { IsCapacity CAP }
@@ -116,9 +116,9 @@ impl<const CAP: usize> Games<CAP> {
 }
 
 impl<const CAP: usize> Core<CAP> {
-    /// Opens a core with that many blocks and reserves each game's own. Workers are numbered from 0
-    /// to `workers`; the last is the caller's own. `Short` where the plan reserves more blocks than
-    /// there are.
+    /// Opens a core with `blocks` blocks, and makes each game's reservations. Workers are numbered
+    /// from 0 to `workers`; the last is the caller's own. `Short` if the plan reserves more blocks
+    /// than there are.
     pub fn open(alloc: Global, plan: Plan, blocks: usize, workers: usize) -> Result<Self, Open>
         requires capacity { IsCapacity CAP }
         requires wide { LEAST_CAPACITY ≤ CAP }

@@ -1,4 +1,4 @@
-//! The blocks that are set aside for the games of a plan before the first command.
+//! The blocks that are reserved for the games of a plan before the first command.
 ghost use Rattle.std.specs.Prelude.{◌≡◌, ◌+◌, ◌*◌, ◌<◌, ◌≤◌, None, [], All, length, IfOk, OnOk};
 ghost use Rattle.bs_block.specs.Bytes.{IsCapacity};
 ghost use Rattle.bs_heap.specs.Charge.{blocks_for};
@@ -13,7 +13,7 @@ use bs_heap::{MOST_RECORD_BYTES, blocks_for};
 use bs_pool::{Pool, Reserve};
 use std::alloc::{AllocError, Global};
 
-/// The blocks of a game for the parts of a turn, of which there are at most as many.
+/// The frame blocks that are reserved for a game: one for each part of a move.
 pub(crate) const FRAME_BLOCKS: usize = 4;
 
 fn record_blocks(cap: usize, row: &Row) -> usize
@@ -24,7 +24,7 @@ fn record_blocks(cap: usize, row: &Row) -> usize
     blocks_for(cap, row.quota)
 }
 
-/// How many blocks of `cap` bytes are set aside for all the games.
+/// The number of blocks of `cap` bytes that are reserved for all games.
 pub(crate) fn blocks_of_all(cap: usize, rows: &[Row]) -> usize
     requires wide { 2 * MOST_RECORD_BYTES ≤ cap }
     requires few { length rows.now ≤ MOST_ROWS }
@@ -93,7 +93,7 @@ fn reserve_rows<const CAP: usize>(pool: &mut Pool<CAP>, rows: &[Row]) -> Result<
     Ok(())
 }
 
-/// A pool of that many blocks, in which the blocks of each game are set aside.
+/// Opens a pool of `blocks` blocks, and makes the reservations of each game.
 pub(crate) fn open_pool<const CAP: usize>(
     alloc: Global,
     rows: &[Row],

@@ -1,4 +1,4 @@
-//! Completing jobs: whether one is the core's own, and its effect on the game.
+//! Completing jobs: whether a result is of a job of this core, and its effect on the game.
 ghost use Rattle.std.specs.Prelude.{◌≡◌, ◌≢◌, ◌≤◌, ◌<◌, ◌↔◌, ◌∷◌, [], IsTrue, true, ℕ, length, slice_get, slice_set, Some, IfOk, OnOk, IfErr};
 ghost use Rattle.bs_fiber.specs.declared.input.Input.{Input as AnyInput};
 ghost use Rattle.bs_fiber.specs.declared.job.JobKind.TheVariants as kind;
@@ -26,12 +26,12 @@ use bs_game::Answer;
 use bs_pool::Owned;
 use thiserror::Error;
 
-/// The worker has no such job of the core out, or its ticket is not the core's input, or it is a
-/// part. The done is returned as it was.
+/// The done is of no Begin or Join that the worker has out: the job is not out with that worker, or
+/// is a part, or its ticket does not hold the core's input and frame blocks for it.
 #[derive(Debug, Drop, Error)]
 #[error("no such job is out with this worker")]
 pub struct Stray<const CAP: usize> {
-    /// The done.
+    /// The done, unchanged.
     pub done: Done<CAP>,
 }
 
@@ -48,7 +48,7 @@ fn only<const CAP: usize>(blocks: &mut Vec<Owned<CAP>>) -> Owned<CAP>
 }
 
 impl<const CAP: usize> Games<CAP> {
-    /// The command of that game has its answer, and its frame blocks go back.
+    /// Stores the answer of that game's command, and gives its frame blocks back to the pool.
     fn answer(&mut self, job: JobName, answer: Answer, blocks: &mut Vec<Owned<CAP>>)
         requires game { job.game < length self.old.lanes }
         requires kind { job.kind ≢ kind.Part }
@@ -121,7 +121,7 @@ impl<const CAP: usize> Games<CAP> {
         }
     }
 
-    /// What holds of each game between two events.
+    /// Recalls the invariant of that game's fiber for the prover.
     fn keeps(&self, game: usize)
         requires { game < length self.now.lanes }
         ensures { IsRight (lane_of self.now.lanes game) }
@@ -129,7 +129,7 @@ impl<const CAP: usize> Games<CAP> {
         self.fibers[game].keeps();
     }
 
-    /// Whether the worker has that job out and its ticket is the core's input.
+    /// Whether the worker has the ticket's job out, and the ticket holds the core's input for it.
     fn has_own_input(&self, worker: usize, ticket: &Ticket<CAP>) -> bool
         ensures { IsTrue result ↔ IsOwnInput self.now worker ticket.now }
     {
@@ -137,6 +137,7 @@ impl<const CAP: usize> Games<CAP> {
         game < self.fibers.len() && is_own(&self.fibers[game], &self.heaps[game], worker, ticket)
     }
 
+    /// Whether the ticket's blocks are those that went out with its job.
     fn has_own_frames(&self, ticket: &Ticket<CAP>) -> bool
         requires { ticket.now.input.job.game < length self.now.lanes }
         ensures { IsTrue result ↔ names_of ticket.now.frames ≡ names_for self.now.storage ticket.now.input.job }
@@ -145,8 +146,8 @@ impl<const CAP: usize> Games<CAP> {
         self.frames[job.game as usize].are_of(job, ticket.frames())
     }
 
-    /// Whether the worker has that job out, its ticket is the core's input, and its blocks are
-    /// those that went out with it.
+    /// Whether the worker has the job out, and its ticket holds the core's input for it and the
+    /// blocks that went out with it.
     #[tactic(auto, using(crate::proofs::OwnJobs::input_there, crate::proofs::OwnJobs::own_both, crate::proofs::OwnJobs::own_neither))]
     pub(crate) fn is_own(&self, worker: usize, done: &Done<CAP>) -> bool
         ensures { IsTrue result ↔ IsOwn self.now worker done.now }
@@ -158,14 +159,14 @@ impl<const CAP: usize> Games<CAP> {
         self.has_own_frames(ticket)
     }
 
-    /// The same of a job that is no part.
+    /// Whether the done is of a Begin or a Join, and `is_own` holds of it.
     fn is_own_job(&self, worker: usize, done: &Done<CAP>) -> bool
         ensures { IsTrue result ↔ IsOwnJob self.now worker done.now }
     {
         done.ticket().job().kind != JobKind::Part && self.is_own(worker, done)
     }
 
-    /// Completes a job of the core's own. The result is what its spent ticket held.
+    /// Completes a job of this core, and returns the contents of its ticket.
     fn settle(&mut self, done: Done<CAP>) -> Box<Contents<CAP>>
         requires { (worker : ℕ) × IsOwn self.old worker done }
         ensures { self.new ≡ brought CAP self.old done.entry.input.job }
@@ -180,7 +181,8 @@ impl<const CAP: usize> Games<CAP> {
 }
 
 impl<const CAP: usize> Core<CAP> {
-    /// Completes a job of the worker. The journal has room for it.
+    /// Completes a job of the worker, and returns the contents of its ticket. The journal has room
+    /// for the event, which `take` reserved.
     pub(crate) fn settle(&mut self, worker: usize, done: Done<CAP>) -> Box<Contents<CAP>>
         requires { IsOwn self.old.games worker done }
         ensures { self.new ≡ core_after CAP self.old (event.Put worker done.entry.input.job) }
@@ -194,8 +196,8 @@ impl<const CAP: usize> Core<CAP> {
         contents
     }
 
-    /// Completes a Begin or a Join of the worker. Takes no memory. `Stray` returns what is not the
-    /// core's own, and each part; then nothing has changed.
+    /// Completes a Begin or a Join of the worker. Takes no memory. Any other done, each part
+    /// included, is returned in `Stray`, and the core is unchanged.
     pub fn put(&mut self, worker: usize, done: Done<CAP>) -> Result<(), Stray<CAP>>
         ensures own { OnOk result (IsOwnJob self.old.games worker done.entry) }
         ensures ok { OnOk result (self.new ≡ core_after CAP self.old (event.Put worker done.entry.input.job)) }
@@ -205,7 +207,7 @@ impl<const CAP: usize> Core<CAP> {
         Ok(())
     }
 
-    /// `put` that returns what the job's spent ticket held, whose memory `take_over` reuses.
+    /// Like `put`, but returns the contents of the spent ticket, whose memory `take_over` reuses.
     pub fn put_back(
         &mut self,
         worker: usize,

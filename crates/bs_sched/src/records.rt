@@ -35,7 +35,7 @@ fn last_record<const CAP: usize>(heap: &TagHeap<CAP>) -> Option<&[u8]>
     }
 }
 
-/// Where the record of that turn stands, if it is kept.
+/// The place of the record of that turn among the kept ones, if it is kept.
 fn place_of<const CAP: usize>(heap: &TagHeap<CAP>, at: TurnNumber) -> Option<usize>
     requires { (game : Game) × IsRecorded game heap.now.records }
     ensures { (game : Game) → IsRecorded game heap.now.records → FindsTurn game heap.now.records at result }
@@ -59,7 +59,7 @@ fn turn_record<const CAP: usize>(heap: &TagHeap<CAP>, at: TurnNumber) -> Option<
     }
 }
 
-/// The record of the turn that is asked for, if one is and it is kept.
+/// The record of the turn that a command asks for, if it asks for one and that is kept.
 fn asked_record<const CAP: usize>(heap: &TagHeap<CAP>, asks: Option<TurnNumber>) -> Option<&[u8]>
     requires { (game : Game) × IsRecorded game heap.now.records }
     ensures { (game : Game) → IsRecorded game heap.now.records → option_map (λ bytes. bytes.now) result ≡ option_map record_of (board_asked asks game) }
@@ -70,7 +70,7 @@ fn asked_record<const CAP: usize>(heap: &TagHeap<CAP>, asks: Option<TurnNumber>)
     }
 }
 
-/// What the game has for a job of that command.
+/// The input that the game has for a job of that command.
 pub(crate) fn expected<'a, const CAP: usize>(
     fiber: &Fiber,
     heap: &'a TagHeap<CAP>,
@@ -96,7 +96,7 @@ pub(crate) fn expected<'a, const CAP: usize>(
     }
 }
 
-/// The newest board.
+/// Decodes the newest board, if there is one.
 pub(crate) fn decode_last<const CAP: usize>(
     alloc: Global,
     heap: &TagHeap<CAP>,
@@ -114,7 +114,7 @@ pub(crate) fn decode_last<const CAP: usize>(
     }
 }
 
-/// How many parts a move of the newest board has: two seats a part.
+/// The number of parts of a move on the newest board: one for two seats.
 pub(crate) fn parts_of_last<const CAP: usize>(heap: &TagHeap<CAP>) -> usize
     requires kept { (game : Game) × IsRecorded game heap.now.records }
     requires some { 0 < length heap.now.records }
@@ -134,7 +134,7 @@ pub(crate) fn is_last_over<const CAP: usize>(heap: &TagHeap<CAP>) -> bool
     over_of_record(heap.record(heap.count() - 1))
 }
 
-/// What an answer does to the records.
+/// Applies an answer's effect to the records.
 #[tactic(auto, using(crate::proofs::KeptRecords::nothing_left, crate::proofs::KeptRecords::record_is_small))]
 pub(crate) fn change_records<const CAP: usize>(
     heap: &mut TagHeap<CAP>,

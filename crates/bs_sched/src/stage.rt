@@ -1,25 +1,25 @@
-//! Where the game of a lane is in the command that it is at.
+//! The stage of a game's current command, and the state of each part of its move.
 
 /// The stage of a lane. A worker is named by its number.
 #[derive(Clone, Copy, Debug, PartialEq, Eq)]
 pub enum Stage {
-    /// At no command.
+    /// No command is being answered.
     Idle,
-    /// That worker has the job that begins the command.
+    /// That worker has the Begin out.
     Begin(usize),
-    /// The parts of a move are to be taken, or out.
+    /// Some part of the move is not completed.
     Parts,
-    /// All parts are done; that worker, or nobody yet, has the job that joins them.
+    /// All parts are completed; that worker has the Join out, or none has taken it yet.
     Join(Option<usize>),
 }
 
-/// One part of the move that a lane is at.
+/// The state of one part of a move.
 #[derive(Clone, Copy, Debug, PartialEq, Eq)]
 pub enum PartState {
-    /// Nobody has taken it.
+    /// No worker has taken it.
     Ready,
-    /// That worker has it.
+    /// That worker has it out.
     Out(usize),
-    /// It came back.
+    /// It is completed.
     Done,
 }

@@ -1,4 +1,4 @@
-//! Taking jobs: which job a worker gets, and the copy of all that the job reads.
+//! Taking jobs: which job a worker gets, and the ticket with all that the job reads.
 ghost use Rattle.std.specs.Prelude.{◌≡◌, ℕ, ◌≤◌, ◌<◌, [], true, length, map, MatchOption, IfOk, OnOk, OnErr};
 ghost use Rattle.bs_heap.specs.Heap.{with_index_room};
 ghost use Rattle.bs_heap.specs.HeldBlocks.{LeavesOthers, next_number};
@@ -49,7 +49,7 @@ pub enum Taken<const CAP: usize> {
     Part(Ticket<CAP>, PartKey<Done<CAP>>),
 }
 
-/// What the fibers have for a worker.
+/// The result of a search for a worker's next job.
 #[derive(Clone, Copy, Debug)]
 pub(crate) enum Found {
     Busy,
@@ -57,7 +57,7 @@ pub(crate) enum Found {
     Job(JobName),
 }
 
-/// A job of that game that is ready.
+/// A ready job of that game, if there is one.
 fn ready_job(fiber: &Fiber, game: usize) -> Option<JobName>
     requires { game < MOST_ROWS }
     ensures { MatchOption result
@@ -74,7 +74,7 @@ fn ready_job(fiber: &Fiber, game: usize) -> Option<JobName>
     }
 }
 
-/// The first job that is ready in a game from that row on and before that one.
+/// The first ready job in the games from row `from` to row `to`, `to` excluded.
 fn find_job(fibers: &[Fiber], from: usize, to: usize) -> Option<JobName>
     requires few { length fibers.now ≤ MOST_ROWS }
     requires within { to ≤ length fibers.now }
@@ -88,8 +88,8 @@ fn find_job(fibers: &[Fiber], from: usize, to: usize) -> Option<JobName>
     None
 }
 
-/// Opens a tally where the next command is a move in a game that runs; else returns no keys. The
-/// command itself is not read.
+/// Opens a tally and returns its keys if the next command is a move and the game's last board is
+/// not over; else returns no keys. Reads what the fiber keeps beside the command, not the command.
 fn open_keys<const CAP: usize>(
     alloc: Global,
     fiber: &Fiber,
@@ -112,7 +112,7 @@ fn open_keys<const CAP: usize>(
     Tally::open(alloc, parts_of_last(heap))
 }
 
-/// Begins the next command.
+/// Takes the Begin of the next command, and keeps the keys of the parts that a move will have.
 fn begin_input<const CAP: usize>(
     alloc: Global,
     fiber: &mut Fiber,
@@ -145,7 +145,7 @@ fn begin_input<const CAP: usize>(
     Ok(contents)
 }
 
-/// Takes a part, with a block and its key.
+/// Takes a part, with an empty frame block and its key.
 fn part_input<const CAP: usize>(
     alloc: Global,
     fiber: &mut Fiber,
@@ -184,7 +184,7 @@ fn part_input<const CAP: usize>(
     Ok((contents, key))
 }
 
-/// Takes the Join, with the moved snakes of all parts.
+/// Takes the Join, with the moved snakes and the frame blocks of all parts.
 fn join_input<const CAP: usize>(
     alloc: Global,
     fiber: &mut Fiber,
@@ -259,8 +259,8 @@ fn take_input<const CAP: usize>(
     }
 }
 
-/// Takes that job of a game for the worker, and all memory that its completion needs. The new
-/// ticket reuses the memory of a spent one, if there is one.
+/// Takes that job of a game for the worker, and reserves the memory that its completion needs. The
+/// new ticket reuses the memory of `spent`, if there is one.
 #[tactic(auto, using(crate::proofs::FitInputs::taken_input))]
 fn take_ticket<const CAP: usize>(
     alloc: Global,
@@ -299,7 +299,7 @@ fn take_ticket<const CAP: usize>(
 }
 
 impl<const CAP: usize> Games<CAP> {
-    /// The first ready job in that game or a later one, else in an earlier one.
+    /// The first ready job at row `first` or later, else in an earlier row.
     #[tactic(auto, using(crate::proofs::FoundJobs::none_anywhere))]
     fn find(&self, first: usize) -> Option<JobName>
         ensures { MatchOption result (AreNoneReady self.now.lanes) (IsReadyJob self.now.lanes) }
@@ -350,8 +350,8 @@ impl<const CAP: usize> Core<CAP> {
         is_marked(self.busy.as_slice(), worker)
     }
 
-    /// What the games have for the worker. It stays at its last game while that has a ready job,
-    /// whose records then lie in the processor's cache, and goes on to the later games.
+    /// Finds a job for the worker: in its last game while that has a ready job, because that game's
+    /// records lie in the processor's cache; then in the later games, then in the earlier ones.
     fn find(&self, worker: usize) -> Found
         requires { worker ≤ self.now.games.workers }
         ensures { FindsJob worker self.now.games.lanes result }
@@ -368,7 +368,7 @@ impl<const CAP: usize> Core<CAP> {
         }
     }
 
-    /// Takes that job for the worker. The journal gets room for its completion too.
+    /// Takes that job for the worker. Reserves room in the journal for its completion too.
     fn take_job(
         &mut self,
         alloc: Global,
@@ -394,8 +394,8 @@ impl<const CAP: usize> Core<CAP> {
         Ok(taken)
     }
 
-    /// Takes a job for that worker, with a copy of all that it reads. Its completion takes no
-    /// memory. After want of memory the core is unchanged.
+    /// Takes a job for that worker, with a ticket that holds all that the job reads. The memory for
+    /// its completion is reserved here. After want of memory the core is unchanged.
     pub fn take(&mut self, alloc: Global, worker: usize) -> Result<Taken<CAP>, AllocError>
         requires { worker ≤ self.old.games.workers }
         ensures ok { IfOk result (λ taken. TakesAs CAP self.old worker taken self.new) }
@@ -404,8 +404,8 @@ impl<const CAP: usize> Core<CAP> {
         self.take_over(alloc, worker, None)
     }
 
-    /// `take` whose ticket reuses the memory of a spent input, if there is one. That input is lost
-    /// in any case.
+    /// Like `take`, but the ticket reuses the memory of `spent`, if there is one. If no job is
+    /// taken, `spent` is dropped.
     pub fn take_over(
         &mut self,
         alloc: Global,
