@@ -13,6 +13,7 @@ ROOT = Path(__file__).resolve().parent.parent
 FOLDER = ROOT / "examples"
 # Command lines that serve nothing.
 COMMAND_LINES = [["--help"], ["--version"], ["serve", "--help"], ["serve", "-", "--workers", "5"], ["play"], ["serve", "no such file"]]
+COMMAND_LINES += [["alone", "-"], ["serve", "-", "--blocks", "x"], ["alone", "-", "--game", "a", "--workers", "2"], ["serve", b"\xff"]]
 PURPOSE = re.compile(r"^- `([a-z0-9_./]+)`: (\S.*)$")
 
 

@@ -4,6 +4,8 @@
 // with three words in the environment:
 //   REFUSING_FIRST, REFUSING_LAST   the requests that are refused, counted from 1; none where the
 // first is 0
+//   REFUSING_MARKS                  where it is set, requests are counted only while a call is
+// tried: from a `[` alone that is written to the standard error, to a `]`; neither is written
 //   REFUSING_REPORT                 a file of 24 bytes, which has the three numbers of `struct
 // report` as they change; without it nothing is counted
 // A thread's own requests inside the C library go with the thread: starting it is one request.
@@ -18,6 +20,7 @@
 #include <sys/mman.h>
 #include <sys/stat.h>
 #include <sys/syscall.h>
+#include <sys/types.h>
 #include <time.h>
 #include <unistd.h>
 
@@ -35,9 +38,11 @@ static void *(*next_realloc)(void *, size_t);
 static void *(*next_memalign)(size_t, size_t);
 static void (*next_free)(void *);
 static start_thread *next_pthread_create;
+static ssize_t (*next_write)(int, const void *, size_t);
 
 static struct report *report; // where it is null nothing is counted
 static uint64_t first, last;
+static int marks, tried; // whether there are marks, and whether a call is tried
 static __thread int starting; // the thread is inside pthread_create
 
 static uint64_t number(const char *name) {
@@ -54,6 +59,7 @@ static struct report *opened(const char *path) {
 }
 
 static void find_next(void) {
+    next_write = dlsym(RTLD_NEXT, "write");
     next_malloc = dlsym(RTLD_NEXT, "malloc");
     next_calloc = dlsym(RTLD_NEXT, "calloc");
     next_realloc = dlsym(RTLD_NEXT, "realloc");
@@ -66,6 +72,7 @@ __attribute__((constructor)) static void begin(void) {
     find_next();
     first = number("REFUSING_FIRST");
     last = number("REFUSING_LAST");
+    marks = getenv("REFUSING_MARKS") != NULL;
     report = opened(getenv("REFUSING_REPORT"));
 }
 
@@ -86,7 +93,7 @@ void _exit(int status) {
 
 // Counts one request, and tells whether it is refused.
 static int is_refused(void) {
-    if (!report || starting) return 0;
+    if (!report || starting || (marks && !tried)) return 0;
     uint64_t at = __atomic_add_fetch(&report->made, 1, __ATOMIC_SEQ_CST);
     if (first == 0 || at < first || last < at) return 0;
     __atomic_add_fetch(&report->refused, 1, __ATOMIC_SEQ_CST);
@@ -138,6 +145,14 @@ void free(void *block) {
     if (!next_free) find_next();
     if (block && report && !starting) __atomic_sub_fetch(&report->held, 1, __ATOMIC_SEQ_CST);
     next_free(block);
+}
+
+ssize_t write(int file, const void *bytes, size_t size) {
+    if (!next_write) find_next();
+    char mark = size == 1 ? *(const char *)bytes : 0;
+    if (!marks || file != 2 || (mark != '[' && mark != ']')) return next_write(file, bytes, size);
+    tried = mark == '[';
+    return 1;
 }
 
 int pthread_create(pthread_t *thread, const pthread_attr_t *how, void *(*body)(void *), void *of) {
