@@ -1,4 +1,5 @@
-//! The places of a block, each unwritten or holding a byte. Here, and nowhere else, stand the pointers.
+//! The places of a block, each unwritten or holding a byte. Here, and nowhere else, stand the
+//! pointers.
 ghost use Rattle.std.specs.Prelude.{◌≡◌, ℕ, ◌+◌, ◌<◌, ◌≤◌, ◌^◌, List, [], ◌∷◌, Option, Some, None, map, length, take, drop, replicate, IfOk, ⊤};
 ghost use Rattle.std.specs.Borrow.{sem};
 ghost use base.Fml.{ftrue};

@@ -1,4 +1,5 @@
-//! The calls of a block on small blocks, and that many blocks take no memory before they are written.
+//! The calls of a block on small blocks, and that many blocks take no memory before they are
+//! written.
 use crate::{Block, round_up};
 use std::marker::{Send, Sync};
 use std::test::Fail;

@@ -6,8 +6,8 @@ use arrayvec::ArrayString;
 use std::alloc::{AllocError, Global};
 use std::marker::Model;
 
-/// The most bytes that lie in the value itself. A UUID has 36, an id that the game's own server gives 27; where room for 64
-/// was kept in each value, a file took more memory and more time.
+/// The most bytes that lie in the value itself. A UUID has 36, an id that the game's own server
+/// gives 27; where room for 64 was kept in each value, a file took more memory and more time.
 const LONGEST_INSIDE: usize = 40;
 
 /// Where the bytes of a text lie.
@@ -19,8 +19,8 @@ pub(crate) enum Text {
     Apart(String),
 }
 
-/// A text that names a snake or a game: in a setup, on a board and in a plan of 1 to 64 bytes, in a move of any length.
-/// Clauses see its bytes.
+/// A text that names a snake or a game: in a setup, on a board and in a plan of 1 to 64 bytes, in a
+/// move of any length. Clauses see its bytes.
 #[derive(Debug, Drop)]
 pub struct Id {
     text: Text,
@@ -58,7 +58,8 @@ impl Id {
         Id { text }
     }
 
-    /// The id that is a copy of this text. It asks for memory only where the text has more than 40 bytes.
+    /// The id that is a copy of this text. It asks for memory only where the text has more than 40
+    /// bytes.
     pub fn from_str(alloc: Global, text: &str) -> Result<Id, AllocError>
         ensures { IfOk result (λ id. id ≡ text.now) }
     {

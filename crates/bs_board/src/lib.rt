@@ -1,6 +1,6 @@
-//! A Battlesnake board, its snakes, and the plain values that the crates above pass to one another: what a command
-//! asks, what a reply tells, what a plan holds. Beside the types stand their copies, whether a board is legal, and
-//! its record: how long it is, and how it is written and read.
+//! A Battlesnake board, its snakes, and the plain values that the crates above pass to one another:
+//! what a command asks, what a reply tells, what a plan holds. Beside the types stand their copies,
+//! whether a board is legal, and its record: how long it is, and how it is written and read.
 #![tactic(auto)]
 
 pub mod boards;

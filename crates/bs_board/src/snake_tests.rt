@@ -1,4 +1,5 @@
-//! Tests of a snake's part of a record: the bytes of one snake, each of them changed, and what is no snake's part.
+//! Tests of a snake's part of a record: the bytes of one snake, each of them changed, and what is
+//! no snake's part.
 
 use crate::*;
 use std::alloc::{AllocError, Global};

@@ -13,7 +13,8 @@ fn cells(alloc: Global, parts: &[(i16, i16)]) -> Result<Cells, AllocError> {
     Ok(cells)
 }
 
-// The solo game on a board of three by three, after so many turns: it runs up into the wall in the second.
+// The solo game on a board of three by three, after so many turns: it runs up into the wall in the
+// second.
 fn solo(alloc: Global, turn: u16) -> Result<Board, AllocError> {
     let (body, health) = match turn {
         0 => (cells(alloc, &[(1, 1), (1, 1), (1, 1)])?, 100),
@@ -241,7 +242,8 @@ fn versions_by_number(rt: HostRuntime) -> Result<(), Fail> {
     Ok(())
 }
 
-// The records of the three by three game before its first turn, and after the snake has hit the wall.
+// The records of the three by three game before its first turn, and after the snake has hit the
+// wall.
 const FIRST: [u8; 26] = [
     1, 1, 3, 3, 0, 0, 0, 0, 1, 0, 0, 1, 0x73, 0x64, 0, 0, 0, 0, 0, 3, 2, 2, 2, 2, 2, 2,
 ];
@@ -350,7 +352,8 @@ fn versions_and_modes(rt: HostRuntime) -> Result<(), Fail> {
     Ok(())
 }
 
-// A wrapped board is legal only if each head is on it, that of a starved snake too, and no snake is out by the wall.
+// A wrapped board is legal only if each head is on it, that of a starved snake too, and no snake is
+// out by the wall.
 #[test]
 fn heads_of_a_wrapped_board(rt: HostRuntime) -> Result<(), Fail> {
     let alloc = rt.alloc();
@@ -374,7 +377,8 @@ fn heads_of_a_wrapped_board(rt: HostRuntime) -> Result<(), Fail> {
     Ok(())
 }
 
-// Whatever one byte is set to, a board that is read is written as those bytes again; and no record's front is a record.
+// Whatever one byte is set to, a board that is read is written as those bytes again; and no
+// record's front is a record.
 #[test]
 fn records_with_one_byte_changed(rt: HostRuntime) -> Result<(), Fail> {
     let alloc = rt.alloc();
@@ -411,7 +415,8 @@ fn seat(alloc: Global, id: &str, body: &[(i16, i16)], health: u8) -> Result<Snak
     })
 }
 
-// A board of seven by seven with three food and four snakes, the third of them out against the first.
+// A board of seven by seven with three food and four snakes, the third of them out against the
+// first.
 fn four_snakes(alloc: Global) -> Result<Board, AllocError> {
     let first = seat(alloc, "a", &[(3, 3), (3, 2), (3, 1), (2, 1), (1, 1)], 97)?;
     let second = seat(alloc, "second", &[(5, 5), (5, 4), (5, 4)], 100)?;
@@ -469,7 +474,8 @@ fn a_kept_ground_is_read(rt: HostRuntime) -> Result<(), Fail> {
     Ok(())
 }
 
-// From which seat each row asks, for how many, and the seats that it is given: from the one up to the other.
+// From which seat each row asks, for how many, and the seats that it is given: from the one up to
+// the other.
 #[test]
 #[tactic(auto, using(crate::proofs::records::Longest::legal_size_fits))]
 fn kept_snakes_are_read(rt: HostRuntime) -> Result<(), Fail> {

@@ -19,7 +19,8 @@ fn mark_taken(taken: &mut [bool], board: &Board)
     mark_snakes(taken, board.width, board.height, snakes);
 }
 
-/// The cells with no food and no part of a living snake, row by row from the bottom, each from the left.
+/// The cells with no food and no part of a living snake, row by row from the bottom, each from the
+/// left.
 pub fn free_cells(alloc: Global, board: &Board) -> Result<Vec<Point>, AllocError>
     ensures { IfOk result (λ cells. cells.items ≡ free_cells board.now) }
 {

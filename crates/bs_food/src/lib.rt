@@ -1,4 +1,5 @@
-//! Where food appears. It is a function of the board and of the words that a move brings, and of nothing else.
+//! Where food appears. It is a function of the board and of the words that a move brings, and of
+//! nothing else.
 #![tactic(auto)]
 
 mod free;

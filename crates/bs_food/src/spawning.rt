@@ -47,9 +47,9 @@ fn add_by_chance(alloc: Global, board: &mut Board, words: &[u32]) -> Result<(), 
     }
 }
 
-/// Food is made up to the board's minimum, a word for each. Where there is enough already, the first word decides by
-/// the chance whether one more appears, and the second where. With no word left, or no free cell, nothing more does.
-/// After want of memory the board is given up.
+/// Food is made up to the board's minimum, a word for each. Where there is enough already, the
+/// first word decides by the chance whether one more appears, and the second where. With no word
+/// left, or no free cell, nothing more does. After want of memory the board is given up.
 #[tactic(auto, unfolding(crate::specs::Spawning::spawned))]
 pub fn spawn(alloc: Global, board: &mut Board, words: &[u32]) -> Result<(), AllocError>
     ensures { OnOk result (board.new ≡ spawned words.now board.old) }

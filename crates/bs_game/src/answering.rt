@@ -141,8 +141,9 @@ fn answer_passed(alloc: Global, view: &View, command: &Command) -> Result<Answer
     }
 }
 
-/// The reply to the command, with the charge after it, and what becomes of the records. It is refused for the first
-/// reason that `check` finds, and then where the quota has no room for the record of its new board.
+/// The reply to the command, with the charge after it, and what becomes of the records. It is
+/// refused for the first reason that `check` finds, and then where the quota has no room for the
+/// record of its new board.
 #[tactic(auto, using(crate::proofs::Acceptance::early_reason))]
 pub fn answer(alloc: Global, view: &View, command: &Command) -> Result<Answer, AllocError>
     requires { IsFitView view.now }
@@ -155,7 +156,8 @@ pub fn answer(alloc: Global, view: &View, command: &Command) -> Result<Answer, A
     }
 }
 
-/// The same answer to a move that `check` lets pass, of the last board with all its seats moved already.
+/// The same answer to a move that `check` lets pass, of the last board with all its seats moved
+/// already.
 #[tactic(auto, using(crate::proofs::Joining::moved_from))]
 pub fn joined(alloc: Global, view: &View, orders: &Move, moved: Board) -> Result<Answer, AllocError>
     requires view { IsFitView view.now }
@@ -167,8 +169,8 @@ pub fn joined(alloc: Global, view: &View, orders: &Move, moved: Board) -> Result
     joined_within(alloc, view.quota, view.charge, orders, moved)
 }
 
-/// What `joined` answers, from no more of the view than is asked of it: the quota, and what the kept records are charged. No
-/// board but the moved one has to be there.
+/// What `joined` answers, from no more of the view than is asked of it: the quota, and what the
+/// kept records are charged. No board but the moved one has to be there.
 pub fn joined_within(
     alloc: Global,
     quota: u32,

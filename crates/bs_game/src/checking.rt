@@ -10,7 +10,8 @@ use bs_board::limits::LAST_TURN;
 use bs_board::{Command, Refusal};
 use bs_modes::over;
 
-/// The reason against a move in a game that runs, by whether that is over and the number of its newest turn.
+/// The reason against a move in a game that runs, by whether that is over and the number of its
+/// newest turn.
 pub fn check_move(is_over: bool, turn: u16) -> Option<Refusal>
     ensures { result ≡ (if is_over then Some Refusal.Over else (if nat_le LAST_TURN turn then Some Refusal.Limit else None)) }
 {
@@ -23,8 +24,9 @@ pub fn check_move(is_over: bool, turn: u16) -> Option<Refusal>
     }
 }
 
-/// The reason against a command that is told by whether a game runs, and whether the turn that the command asks for is kept.
-/// Of a move in a game that runs it tells none: that takes the last board.
+/// The reason against a command that is told by whether a game runs, and whether the turn that the
+/// command asks for is kept. Of a move in a game that runs it tells none: that takes the last
+/// board.
 #[tactic(auto, unfolding(crate::specs::Reasons::first_reason))]
 pub fn check_unseen(command: &Command, runs: bool, is_kept: bool) -> Option<Refusal>
     ensures told { (view : AnyView) → is_some view.last ≡ runs → is_some view.asked ≡ is_kept → (is_move command.now && runs) ≡ false → result ≡ first_reason view command.now }
@@ -44,8 +46,8 @@ pub fn check_unseen(command: &Command, runs: bool, is_kept: bool) -> Option<Refu
     }
 }
 
-/// The first reason against the command, in the order of `Refusal`. Its last one, `Quota`, is judged of a new board, by
-/// `answer` and `joined`.
+/// The first reason against the command, in the order of `Refusal`. Its last one, `Quota`, is
+/// judged of a new board, by `answer` and `joined`.
 #[tactic(auto, unfolding(crate::specs::Reasons::first_reason))]
 pub fn check(view: &View, command: &Command) -> Option<Refusal>
     ensures { result ≡ first_reason view.now command.now }

@@ -1,4 +1,5 @@
-//! One command of a game: whether it is accepted, what it is answered, and what becomes of the records that are kept.
+//! One command of a game: whether it is accepted, what it is answered, and what becomes of the
+//! records that are kept.
 #![tactic(auto)]
 
 mod answering;

@@ -4,8 +4,8 @@ ghost use Rattle.bs_game.specs.Turns.{place_of_turn, PlaceLaw};
 
 use bs_board::TurnNumber;
 
-/// Where the record of a turn stands among the kept ones, of which there are `kept`, the newest of turn `last`; None
-/// where it is not kept. A game keeps no more turns than it played, and turn 0.
+/// Where the record of a turn stands among the kept ones, of which there are `kept`, the newest of
+/// turn `last`; None where it is not kept. A game keeps no more turns than it played, and turn 0.
 pub fn place_of_turn(kept: usize, last: u16, at: TurnNumber) -> Option<usize>
     requires { kept ≤ last + 1 }
     ensures { result ≡ place_of_turn kept last at }

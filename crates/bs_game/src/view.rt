@@ -16,7 +16,8 @@ pub struct View {
     pub kept: usize,
     /// The newest board.
     pub last: Option<Board>,
-    /// The board of the turn that the command asks for: there exactly where the command is `Turn` and that turn is kept.
+    /// The board of the turn that the command asks for: there exactly where the command is `Turn`
+    /// and that turn is kept.
     pub asked: Option<Board>,
 }
 

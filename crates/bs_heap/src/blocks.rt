@@ -11,7 +11,8 @@ use bs_pool::{Owned, Pool};
 use std::alloc::{AllocError, Global};
 use std::marker::Model;
 
-/// Where a record lies: the position of its block among its tag's, its first byte in it, and its length.
+/// Where a record lies: the position of its block among its tag's, its first byte in it, and its
+/// length.
 #[derive(Clone, Copy, Debug, PartialEq, Eq)]
 pub struct Entry {
     pub(crate) position: usize,
@@ -143,7 +144,8 @@ impl<const CAP: usize> TagBlocks<CAP> {
         }
     }
 
-    /// Writes the bytes behind those of the current block where they fit there, else into a block that it draws.
+    /// Writes the bytes behind those of the current block where they fit there, else into a block
+    /// that it draws.
     pub(crate) fn put(&mut self, pool: &mut Pool<CAP>, bytes: &[u8]) -> Entry
         requires size { rounded (length bytes.now) ≤ CAP }
         requires reserved { fits_current CAP (length bytes.now) self.old ≡ false → held self.old.tag pool.old < reserved self.old.tag pool.old }

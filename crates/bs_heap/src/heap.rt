@@ -20,9 +20,10 @@ use thiserror::Error;
 /// The largest rounded size of a record.
 pub const MOST_RECORD_BYTES: usize = 262_144;
 
-/// How many blocks of `cap` bytes the records of one tag can come to need within the quota. A block is closed where the
-/// next record does not fit, so it has more than `cap - MOST_RECORD_BYTES` bytes in use; two more are the oldest, which
-/// may hold bytes of records that were given up, and the newest, which may have room left.
+/// How many blocks of `cap` bytes the records of one tag can come to need within the quota. A block
+/// is closed where the next record does not fit, so it has more than `cap - MOST_RECORD_BYTES`
+/// bytes in use; two more are the oldest, which may hold bytes of records that were given up, and
+/// the newest, which may have room left.
 pub fn blocks_for(cap: usize, quota: u32) -> usize
     requires { MOST_RECORD_BYTES < cap }
     ensures { result ≡ blocks_for cap quota }
@@ -35,7 +36,8 @@ pub fn blocks_for(cap: usize, quota: u32) -> usize
 #[error("quota exceeded")]
 pub struct Quota;
 
-/// The records of one tag. Each is charged its size rounded up to a multiple of 16, and all together no more than the quota.
+/// The records of one tag. Each is charged its size rounded up to a multiple of 16, and all
+/// together no more than the quota.
 #[derive(Drop)]
 pub struct TagHeap<const CAP: usize> {
     blocks: TagBlocks<CAP>,
@@ -137,7 +139,8 @@ impl<const CAP: usize> TagHeap<CAP> {
         Ok(())
     }
 
-    /// Gives up all records but the last, and gives their blocks back. The last record stays where it is.
+    /// Gives up all records but the last, and gives their blocks back. The last record stays where
+    /// it is.
     pub fn keep_last(&mut self, pool: &mut Pool<CAP>)
         requires { IsKeptIn self.old pool.old }
         ensures heap { self.new ≡ with_last self.old }

@@ -56,8 +56,9 @@ fn word_at(line: &Value) -> Option<Word>
     word_named(text_at(line, "do")?)
 }
 
-/// The command that a line asks for in a file of that version. `None` where `do` is missing or unknown, or a member is
-/// missing, of the wrong type or out of range. What becomes part of the command is taken out of the line.
+/// The command that a line asks for in a file of that version. `None` where `do` is missing or
+/// unknown, or a member is missing, of the wrong type or out of range. What becomes part of the
+/// command is taken out of the line.
 #[tactic(auto, unfolding(crate::specs::Commands::command_of))]
 pub fn command_of(
     alloc: Global,

@@ -1,4 +1,5 @@
-//! Lines in their compact form, as programs write most of them: they are read in one pass, and no JSON value is made.
+//! Lines in their compact form, as programs write most of them: they are read in one pass, and no
+//! JSON value is made.
 ghost use Rattle.std.specs.Prelude.{◌≡◌, ◌≤◌, ◌∷◌, ◌++◌, codes, decimal, length, slice_index, false, true, not, IsTrue, IfOk, IfSome};
 ghost use Rattle.std.specs.Char.{is_ascii_digit};
 ghost use Rattle.std.specs.List.{list_all, position};

@@ -1,5 +1,6 @@
-//! The lines of command files and of transcripts. A line is read to a plan or a command, and a reply is written to a
-//! line, each by itself; what the lines of a whole file are together is another crate's matter.
+//! The lines of command files and of transcripts. A line is read to a plan or a command, and a
+//! reply is written to a line, each by itself; what the lines of a whole file are together is
+//! another crate's matter.
 #![tactic(auto)]
 
 mod boards;

@@ -61,8 +61,9 @@ fn line_from(alloc: Global, version: Version, value: &mut Value) -> Result<Line,
     }
 }
 
-/// Reads one line of a file whose plan has that version. The line is given without its line feed. It is not checked that
-/// the plan has the game. A line in its compact form is read without making a JSON value.
+/// Reads one line of a file whose plan has that version. The line is given without its line feed.
+/// It is not checked that the plan has the game. A line in its compact form is read without making
+/// a JSON value.
 #[tactic(auto, unfolding(crate::specs::Line::line_of))]
 #[inline(always)]
 pub fn read_line(alloc: Global, line: &[u8], version: Version) -> Result<Line, AllocError>

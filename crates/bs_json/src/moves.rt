@@ -91,7 +91,8 @@ fn take_moves(alloc: Global, line: &mut Value) -> Option<Map<String, Value>>
     Some(mem::replace(members, Map::new(alloc)))
 }
 
-/// None where a member is missing, of another type or out of range. The moves are taken out of the line.
+/// None where a member is missing, of another type or out of range. The moves are taken out of the
+/// line.
 #[tactic(auto, unfolding(crate::specs::Moves::orders_from))]
 pub fn orders_from(alloc: Global, line: &mut Value) -> Result<Option<Move>, AllocError>
     ensures { IfOk result (λ orders. orders ≡ orders_from (view line.old)) }

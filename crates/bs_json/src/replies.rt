@@ -1,4 +1,5 @@
-//! The lines of a transcript. A line's type borrows what the line tells, and is sent straight into the line's text.
+//! The lines of a transcript. A line's type borrows what the line tells, and is sent straight into
+//! the line's text.
 ghost use Rattle.std.specs.Prelude.{◌≡◌, IfOk};
 ghost use Rattle.std.specs.Option.{option_copied};
 ghost use Rattle.serde_json.specs.Events.{SendsValue};

@@ -86,7 +86,8 @@ fn food_at(alloc: Global, line: &Value) -> Result<Option<Cells>, AllocError>
     }
 }
 
-/// `None` where a member is missing, of another type or out of range, or where the version does not have the mode.
+/// `None` where a member is missing, of another type or out of range, or where the version does not
+/// have the mode.
 #[tactic(auto, unfolding(crate::specs::Setups::setup_from))]
 pub fn setup_from(alloc: Global, version: Version, line: &Value) -> Result<Option<New>, AllocError>
     ensures { IfOk result (λ new. new ≡ setup_from version (view line.now)) }

@@ -1,4 +1,5 @@
-//! Lines of answers without a board, in a game whose name is plain: pieces one after the other, with no JSON between.
+//! Lines of answers without a board, in a game whose name is plain: pieces one after the other,
+//! with no JSON between.
 ghost use Rattle.std.specs.Prelude.{◌≡◌, ◌++◌, decimal, true, OnOk};
 ghost use Rattle.bs_json.specs.Compact.{are_plain};
 ghost use Rattle.bs_json.specs.Replies.{reply_line_of};
@@ -98,8 +99,8 @@ fn push_of_plain(
     }
 }
 
-/// What `reply_line` gives, behind the text. Where the answer shows no board and the game's name is plain it asks for no
-/// memory but room in the text.
+/// What `reply_line` gives, behind the text. Where the answer shows no board and the game's name is
+/// plain it asks for no memory but room in the text.
 pub fn push_reply_line(
     alloc: Global,
     game: &Id,

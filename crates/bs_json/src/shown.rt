@@ -1,6 +1,7 @@
-//! A board as replies show it, sent to a `Serializer` member by member. The types here only borrow what they show.
-//! Names and simple values are sent by one call each, whose result is tested at once. A helper that sends both would
-//! hand on a result of its own, and a profile showed half of the time of cells and snakes lost in copies of such results.
+//! A board as replies show it, sent to a `Serializer` member by member. The types here only borrow
+//! what they show. Names and simple values are sent by one call each, whose result is tested at
+//! once. A helper that sends both would hand on a result of its own, and a profile showed half of
+//! the time of cells and snakes lost in copies of such results.
 ghost use Rattle.std.specs.Prelude.{OnOk, pos, ◌≤ℤ◌};
 ghost use Rattle.serde_json.specs.Data.{number};
 ghost use Rattle.serde_json.specs.Events.{SendsValue};

@@ -40,8 +40,9 @@ fn grow_snakes(snakes: &mut Snakes) -> Result<(), AllocError>
     Ok(())
 }
 
-/// Constrictor's growth, after the eliminations of a turn: each living snake has full health, and its last part is
-/// repeated where its last two parts differ. After want of memory the board is given up.
+/// Constrictor's growth, after the eliminations of a turn: each living snake has full health, and
+/// its last part is repeated where its last two parts differ. After want of memory the board is
+/// given up.
 pub fn grow(_alloc: Global, board: &mut Board) -> Result<(), AllocError>
     ensures { OnOk result (board.new ≡ grown board.old) }
 {

@@ -41,7 +41,8 @@ fn assert_body(rt: &impl Abort, board: &Board, seat: usize, parts: &[(i16, i16)]
     }
 }
 
-// A game of constrictor between two snakes: food that was given is dropped, and a body grows where it is stretched.
+// A game of constrictor between two snakes: food that was given is dropped, and a body grows where
+// it is stretched.
 #[test]
 fn constrictor_starts_without_food_and_grows(rt: HostRuntime) -> Result<(), Fail> {
     let alloc = rt.alloc();

@@ -5,8 +5,9 @@ ghost use Rattle.std.specs.Borrow.{sem};
 use bs_block::Block;
 use std::fmt;
 
-/// One block of a pool, handed out to a tag. Only `Pool::draw` makes one, and it cannot be copied, so its holder alone
-/// reads and writes the block. It goes back by `Pool::give`; one that is dropped stays owned in its pool.
+/// One block of a pool, handed out to a tag. Only `Pool::draw` makes one, and it cannot be copied,
+/// so its holder alone reads and writes the block. It goes back by `Pool::give`; one that is
+/// dropped stays owned in its pool.
 #[derive(Drop)]
 pub struct Owned<const CAP: usize> {
     tag: u32,

@@ -1,4 +1,5 @@
-//! The pool and its calls. A clause sees a pool as its ledger: who owns each number, and who reserved how many.
+//! The pool and its calls. A clause sees a pool as its ledger: who owns each number, and who
+//! reserved how many.
 ghost use Rattle.std.specs.Prelude.{◌≡◌, ◌≤◌, IfOk, IsSome};
 ghost use Rattle.bs_block.specs.Bytes.{IsCapacity};
 ghost use Rattle.bs_pool.specs.Ledger.{IsSound, Owns, opened, free, size, held, reserved, unreserved, reservation_of, given, without_reservation};
@@ -15,8 +16,8 @@ use crate::words::{first_marked, mark, new_words, unmark};
 use std::alloc::{AllocError, Global};
 use std::marker::Model;
 
-/// A fixed number of blocks of `CAP` bytes, numbered from 0. Each is free, and then here and empty, or owned by one
-/// tag, and then in an `Owned` of that tag.
+/// A fixed number of blocks of `CAP` bytes, numbered from 0. Each is free, and then here and empty,
+/// or owned by one tag, and then in an `Owned` of that tag.
 #[derive(Drop)]
 pub struct Pool<const CAP: usize> {
     slots: Vec<Slot<CAP>>,
@@ -37,7 +38,8 @@ impl<const CAP: usize> Model for Pool<CAP> {
 }
 
 impl<const CAP: usize> Pool<CAP> {
-    /// A pool of `n` free blocks with no reservation. It takes the memory of all of them; an error is the allocator's.
+    /// A pool of `n` free blocks with no reservation. It takes the memory of all of them; an error
+    /// is the allocator's.
     #[tactic(auto, using(crate::proofs::Soundness::sound_opened))]
     pub fn open(alloc: Global, n: usize) -> Result<Self, AllocError>
         requires { IsCapacity CAP }
@@ -86,8 +88,9 @@ impl<const CAP: usize> Pool<CAP> {
         self.size() - all_reserved(self.reservations.as_slice())
     }
 
-    /// Reserves `n` blocks for the tag: from now on it may own up to so many. `TagTaken` where the tag has a
-    /// reservation, then `Short` where less than `n` blocks are left beside all reservations, whether owned or not.
+    /// Reserves `n` blocks for the tag: from now on it may own up to so many. `TagTaken` where the
+    /// tag has a reservation, then `Short` where less than `n` blocks are left beside all
+    /// reservations, whether owned or not.
     #[tactic(auto, using(crate::proofs::Accounts::none_in, crate::proofs::Accounts::some_in, crate::proofs::Accounts::pushed_in))]
     pub fn reserve(&mut self, tag: u32, n: usize) -> Result<(), Reserve>
         requires { 1 ≤ n }
@@ -111,7 +114,8 @@ impl<const CAP: usize> Pool<CAP> {
         Ok(())
     }
 
-    /// The free block of the least number, empty, now owned by the tag. None where the tag owns all that it reserved.
+    /// The free block of the least number, empty, now owned by the tag. None where the tag owns all
+    /// that it reserved.
     pub fn draw(&mut self, tag: u32) -> Option<Owned<CAP>>
         ensures { Draws tag self.old result self.new }
     {

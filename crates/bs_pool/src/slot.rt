@@ -1,4 +1,5 @@
-//! The slot of one block in a pool. A clause sees it as the tag that owns the block, or None where the block is free.
+//! The slot of one block in a pool. A clause sees it as the tag that owns the block, or None where
+//! the block is free.
 ghost use Rattle.std.specs.Prelude.{◌≡◌, IfOk, None, count_by, replicate};
 ghost use Rattle.bs_block.specs.Bytes.{IsCapacity};
 ghost use Rattle.bs_pool.specs.Ledger.{is_unowned};

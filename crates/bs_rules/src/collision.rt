@@ -154,8 +154,8 @@ fn judge_all(turn: u16, snakes: &mut Snakes)
     put_all_out(&verdicts, turn, snakes);
 }
 
-/// The collisions of the turn that is being played, among the snakes that live after the first eliminations: all are
-/// judged on the board as it stands, and then applied together.
+/// The collisions of the turn that is being played, among the snakes that live after the first
+/// eliminations: all are judged on the board as it stands, and then applied together.
 pub fn collide(board: &mut Board)
     requires turn { board.old.turn < LAST_TURN }
     requires few { length board.old.snakes ≤ MOST_SNAKES }

@@ -43,8 +43,9 @@ fn judge_all_first(wraps: bool, width: u8, height: u8, turn: u16, snakes: &mut S
     }
 }
 
-/// The first eliminations of the turn that is being played: each living snake that has starved is out, and each
-/// other one whose head has left the board. On a wrapped board no snake is out by the wall.
+/// The first eliminations of the turn that is being played: each living snake that has starved is
+/// out, and each other one whose head has left the board. On a wrapped board no snake is out by the
+/// wall.
 pub fn first_out(board: &mut Board)
     requires { board.old.turn < LAST_TURN }
     ensures { board.new ≡ starved_or_outside board.old }

@@ -66,8 +66,8 @@ fn feed_snakes(food: &[Point], snakes: &mut Snakes) -> Result<(), AllocError>
     Ok(())
 }
 
-/// Each living snake whose head is on food has full health and its last part once more, and the food under such a
-/// head is gone. After want of memory the board is given up.
+/// Each living snake whose head is on food has full health and its last part once more, and the
+/// food under such a head is gone. After want of memory the board is given up.
 pub fn feed(alloc: Global, board: &mut Board) -> Result<(), AllocError>
     ensures { OnOk result (board.new ≡ fed board.old) }
 {

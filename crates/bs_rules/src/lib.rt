@@ -1,4 +1,5 @@
-//! One turn of a game, step by step: snakes move, eat, starve or leave the board, and run into one another.
+//! One turn of a game, step by step: snakes move, eat, starve or leave the board, and run into one
+//! another.
 #![tactic(auto)]
 
 mod collision;

@@ -115,9 +115,9 @@ fn move_body(
     Ok(Cells::from_vec(parts))
 }
 
-/// A living snake one step on, in the given direction or else straight on: a new head in front, the last part taken
-/// away, a turn hungrier. One that is out stays as it is. `wrap` is the width and height of a wrapped board, which each
-/// step is taken modulo.
+/// A living snake one step on, in the given direction or else straight on: a new head in front, the
+/// last part taken away, a turn hungrier. One that is out stays as it is. `wrap` is the width and
+/// height of a wrapped board, which each step is taken modulo.
 pub fn move_snake(
     alloc: Global,
     snake: &Snake,
@@ -150,8 +150,8 @@ fn given_to(moves: &[(Id, Direction)], id: &Id) -> Option<Direction>
         .map(|order| order.1)
 }
 
-/// Any number of seats, each in the direction that is given to its id. A whole turn moves all of them so, and a part of
-/// a turn some.
+/// Any number of seats, each in the direction that is given to its id. A whole turn moves all of
+/// them so, and a part of a turn some.
 pub fn move_snakes(
     alloc: Global,
     snakes: &[Snake],

@@ -133,14 +133,16 @@ fn told(alloc: Global, board: &Board) -> Result<String, AllocError> {
     Ok(told)
 }
 
-// A board, so many turns of it, what each of them is told, and the board that they make. In order: the last health is
-// enough to reach food, and not enough without; two heads on one food are both fed, and equally long; the longer one
-// lives; of equally long killers the one of the first seat; a tail that moves away, and one that stays; who left the
-// board is in nobody's way; two that run into each other's bodies are both out; into its own body; food that nobody
-// reaches stays. Then, with nothing ordered: a snake that has just started goes up, and then straight on, into the wall;
-// the word chooses the last but one of seven free cells; straight on to each side; in constrictor bodies grow as soon as
-// they are stretched. Last, on wrapped boards: two snakes cross the right edge, first by an order and then straight on; two
-// heads meet on a cell beyond an edge; a snake starves on the far side; and straight on over three edges.
+// A board, so many turns of it, what each of them is told, and the board that they make. In order:
+// the last health is enough to reach food, and not enough without; two heads on one food are both
+// fed, and equally long; the longer one lives; of equally long killers the one of the first seat; a
+// tail that moves away, and one that stays; who left the board is in nobody's way; two that run
+// into each other's bodies are both out; into its own body; food that nobody reaches stays. Then,
+// with nothing ordered: a snake that has just started goes up, and then straight on, into the wall;
+// the word chooses the last but one of seven free cells; straight on to each side; in constrictor
+// bodies grow as soon as they are stretched. Last, on wrapped boards: two snakes cross the right
+// edge, first by an order and then straight on; two heads meet on a cell beyond an edge; a snake
+// starves on the far side; and straight on over three edges.
 const TURNS: &str = r"solo 5 10 0|2,3|s 1 2,2 2,1 2,0>1>s=up>11||s 100 2,3 2,2 2,1 2,1
 solo 5 10 0||s 1 2,2 2,1 2,0>1>s=up>11||s 0 2,3 2,2 2,1 OutOfHealth in 11
 standard 5 10 0|2,2|A 90 1,2 0,2 0,1|B 90 3,2 4,2 4,1>1>A=right B=left>11||A 100 2,2 1,2 0,2 0,2 HeadCollision by 1 in 11|B 100 2,2 3,2 4,2 4,2 HeadCollision by 0 in 11

@@ -45,8 +45,8 @@ fn replenish(alloc: Global, board: &mut Board, words: &[u32]) -> Result<(), Allo
     }
 }
 
-/// The rest of a turn, once all seats have moved: feeding, the first eliminations, collisions, growth or new food. The
-/// turn number rises last. Moving all seats and then this is `turn`.
+/// The rest of a turn, once all seats have moved: feeding, the first eliminations, collisions,
+/// growth or new food. The turn number rises last. Moving all seats and then this is `turn`.
 pub fn finish_turn(alloc: Global, board: Board, words: &[u32]) -> Result<Board, AllocError>
     requires turn { board.turn < LAST_TURN }
     requires few { length board.snakes ≤ MOST_SNAKES }
@@ -62,8 +62,8 @@ pub fn finish_turn(alloc: Global, board: Board, words: &[u32]) -> Result<Board, 
     Ok(next)
 }
 
-/// The board after one turn. A snake that no direction is given to goes straight on; directions for ids of no living
-/// snake are ignored, and so are words left over.
+/// The board after one turn. A snake that no direction is given to goes straight on; directions for
+/// ids of no living snake are ignored, and so are words left over.
 #[tactic(auto, using(crate::proofs::Movable::legal_is_movable))]
 pub fn turn(alloc: Global, board: &Board, order: &Move) -> Result<Board, AllocError>
     requires legal { IsLegal board.now }

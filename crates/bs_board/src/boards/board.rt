@@ -13,7 +13,8 @@ pub enum Mode {
     Standard,
     Solo,
     Constrictor,
-    /// As standard, on a board whose opposite edges are joined: a step across one enters at the other.
+    /// As standard, on a board whose opposite edges are joined: a step across one enters at the
+    /// other.
     Wrapped,
 }
 

@@ -31,8 +31,8 @@ use crate::boards::snake::{Cause, Snake};
 use crate::id::Id;
 use crate::limits::{FIRST_PARTS, FULL_HEALTH, LAST_TURN, MOST_CHANCE, MOST_SNAKES};
 
-/// Whether a game can have this board: its sides, turn, chance and number of snakes are within the limits, and each
-/// snake is as the turn, its health and its cause allow.
+/// Whether a game can have this board: its sides, turn, chance and number of snakes are within the
+/// limits, and each snake is as the turn, its health and its cause allow.
 pub fn is_legal(board: &Board) -> bool
     ensures { IsTrue result ↔ IsLegal board.now }
 {

@@ -3,8 +3,8 @@
 ghost use Rattle.std.specs.Prelude.{◌≡◌, ◌↔◌, IsTrue};
 ghost use Rattle.bs_board.specs.boards.Cell.{is_same_cell, is_on_board};
 
-/// A cell by column and row. `(0, 0)` is the bottom left of the board. A head that has left the board stands one cell
-/// beyond an edge, so both numbers are signed.
+/// A cell by column and row. `(0, 0)` is the bottom left of the board. A head that has left the
+/// board stands one cell beyond an edge, so both numbers are signed.
 #[derive(Clone, Copy, Debug, PartialEq, Eq)]
 pub struct Point {
     pub x: i16,

@@ -16,7 +16,8 @@ pub enum Cause {
     HeadCollision,
 }
 
-/// One snake. It lives as long as it has no cause; once it is out it keeps its last body and health.
+/// One snake. It lives as long as it has no cause; once it is out it keeps its last body and
+/// health.
 #[derive(Debug, Drop)]
 pub struct Snake {
     pub id: Id,

@@ -11,7 +11,8 @@ use crate::limits::MOST_WORDS;
 use std::alloc::{AllocError, Global};
 use std::marker::Model;
 
-/// What a `move` command asks for. A value of this type names no snake twice and brings at most 32 words.
+/// What a `move` command asks for. A value of this type names no snake twice and brings at most 32
+/// words.
 #[derive(Debug, Drop)]
 pub struct Move {
     pub moves: Moves,

@@ -25,8 +25,8 @@ pub enum Refusal {
     Quota,
 }
 
-/// What a command is answered. The number is the charge of the game after the command, in bytes. A board is kept as its
-/// record: a transcript holds as many as there are moves.
+/// What a command is answered. The number is the charge of the game after the command, in bytes. A
+/// board is kept as its record: a transcript holds as many as there are moves.
 #[derive(Debug, Drop)]
 pub enum Reply {
     Shown(Word, KeptBoard, u32),

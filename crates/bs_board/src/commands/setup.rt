@@ -10,7 +10,8 @@ use crate::limits::MOST_CHANCE;
 use std::alloc::{AllocError, Global};
 use std::marker::Model;
 
-/// What a `new` command asks for: the board of turn 0. A value of this type is within the limits of a game.
+/// What a `new` command asks for: the board of turn 0. A value of this type is within the limits of
+/// a game.
 #[derive(Debug, Drop)]
 pub struct New {
     pub mode: Mode,

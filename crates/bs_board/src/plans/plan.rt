@@ -53,7 +53,8 @@ fn row_fits(row: &Row)
 }
 
 #[tactic(auto, using(crate::proofs::Seen::all_and_next, crate::proofs::Seen::all_seen))]
-/// That each game is within its limits, as any `Row` is. It is said here of a whole list, and does nothing.
+/// That each game is within its limits, as any `Row` is. It is said here of a whole list, and does
+/// nothing.
 fn rows_fit(rows: &[Row])
     ensures { All (λ row. is_fit_row row ≡ true) rows.now }
 {

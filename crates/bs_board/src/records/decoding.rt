@@ -33,8 +33,8 @@ use crate::id::Id;
 use crate::records::decode_error::Decode;
 use std::alloc::Global;
 
-/// The board that the bytes are the record of. `NotARecord` where they are no legal board's, for one because anything
-/// follows the last snake; `Memory` for want of memory alone.
+/// The board that the bytes are the record of. `NotARecord` where they are no legal board's, for
+/// one because anything follows the last snake; `Memory` for want of memory alone.
 pub fn decode(alloc: Global, bytes: &[u8]) -> Result<Board, Decode>
     // What is read is a legal board, and the bytes are its record.
     ensures found { IfOk result (λ b. IsLegal b × (bytes.now ≡ record_of b)) }

@@ -1,4 +1,5 @@
-//! Reading a record that is known to be a legal board's: nothing is judged again, and no more is read than is asked for.
+//! Reading a record that is known to be a legal board's: nothing is judged again, and no more is
+//! read than is asked for.
 
 ghost use Rattle.std.specs.Prelude.{◌≡◌, [], take, drop, Ok, IfOk, IfErr};
 ghost use Rattle.std.specs.Str.{is_utf8};
@@ -45,8 +46,8 @@ pub fn kept_ground(alloc: Global, bytes: &[u8]) -> Result<Board, AllocError>
     found(read_ground(alloc, bytes))
 }
 
-/// The snakes of the record at `count` seats, from the seat `from` on; fewer where the board has no more. The others are
-/// skipped by their lengths.
+/// The snakes of the record at `count` seats, from the seat `from` on; fewer where the board has no
+/// more. The others are skipped by their lengths.
 #[tactic(auto, using(crate::proofs::records::KeptRecord::seats_fail_for_memory))]
 pub fn kept_snakes(
     alloc: Global,

@@ -6,7 +6,8 @@ use crate::records::kept::kept_board;
 use std::alloc::{AllocError, Global};
 use std::marker::Model;
 
-/// A legal board that lies in memory as its record, which is smaller than the board and one piece. Clauses see the board.
+/// A legal board that lies in memory as its record, which is smaller than the board and one piece.
+/// Clauses see the board.
 #[derive(Debug, Drop)]
 pub struct KeptBoard {
     /// Behind a pointer, so that a reply of any kind is two words.

@@ -7,8 +7,8 @@ use crate::boards::board::Board;
 use crate::boards::snake::Snake;
 use crate::records::snake::snake_size;
 
-/// How many bytes the board's record has. It is asked of boards whose record has a length at all; a legal board's
-/// has at most 161,885.
+/// How many bytes the board's record has. It is asked of boards whose record has a length at all; a
+/// legal board's has at most 161,885.
 #[tactic(auto, using(crate::proofs::records::Lengths::length_of_record))]
 pub fn size(board: &Board) -> usize
     requires { length (record_of board.now) < 2 ^ 64 }

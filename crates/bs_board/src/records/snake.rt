@@ -37,9 +37,9 @@ pub fn encode_snake_into(snake: &Snake, into: &mut [u8])
     put_snake(into, 0, snake);
 }
 
-/// Reads a snake from its part of a record. A snake that has just moved is read too: health 0, or its head off the board,
-/// with no cause yet. `NotARecord` where the bytes are not those of a fit snake, or where any byte follows them; `Memory`
-/// only if memory runs out.
+/// Reads a snake from its part of a record. A snake that has just moved is read too: health 0, or
+/// its head off the board, with no cause yet. `NotARecord` where the bytes are not those of a fit
+/// snake, or where any byte follows them; `Memory` only if memory runs out.
 pub fn decode_snake(alloc: Global, bytes: &[u8]) -> Result<Snake, Decode>
     // The snake that is read is fit, and the bytes are its part of a record.
     ensures found { IfOk result (λ s. IsFitSnake s × (bytes.now ≡ snake_record s)) }

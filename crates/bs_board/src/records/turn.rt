@@ -1,4 +1,5 @@
-//! Values read from a record with no board decoded: the turn, the number of seats, and the sides of a wrapped board.
+//! Values read from a record with no board decoded: the turn, the number of seats, and the sides of
+//! a wrapped board.
 
 ghost use Rattle.std.specs.Prelude.{◌≡◌, ◌≤◌, length, nat_eq, if◌then◌else◌, Some, None};
 ghost use Rattle.bs_board.specs.declared.boards.board.Board.{Board as AnyBoard};
@@ -36,8 +37,8 @@ fn wrap_from(mode: u8, width: u8, height: u8) -> Option<(u8, u8)>
     }
 }
 
-/// The width and height that a step is taken modulo on the board whose record the bytes are, `None` where it may lead
-/// off the board.
+/// The width and height that a step is taken modulo on the board whose record the bytes are, `None`
+/// where it may lead off the board.
 pub fn wrap_of_record(bytes: &[u8]) -> Option<(u8, u8)>
     requires { 4 ≤ length bytes.now }
     ensures { (b : AnyBoard) → bytes.now ≡ record_of b → result ≡ wrap_of b }
