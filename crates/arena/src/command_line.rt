@@ -95,7 +95,8 @@ fn alone_request<'a>(matches: &ArgMatches<'a>) -> Request<'a> {
     }
 }
 
-/// Reads the words of a command line, the program's name first. With no word behind it the standard input is served.
+/// Reads the words of a command line, the program's name first. With no word behind it the standard
+/// input is served.
 pub fn read_words<'a>(alloc: Global, words: &'a [&'a str]) -> Result<Request<'a>, Error> {
     if words.len() <= 1 {
         return Ok(Request {

@@ -1,4 +1,5 @@
-//! The program `arena`: reads a command file, serves it and writes its transcript to the standard output.
+//! The program `arena`: reads a command file, serves it and writes its transcript to the standard
+//! output.
 #![tactic(auto)]
 
 mod command_line;

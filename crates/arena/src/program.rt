@@ -1,7 +1,7 @@
 //! A run of the program, over any reader and writers.
 use crate::command_line::{Request, STANDARD_INPUT, is_memory, read_words};
 use crate::failure::Failure;
-use bs_host::{ReadFault, cut, read_input, serve_and_close};
+use bs_host::{ReadFault, cut, read_input, serve};
 use bs_workers::OpenGate;
 use std::alloc::Global;
 use std::fs;
@@ -50,7 +50,8 @@ fn run<H: Files + Threads + Wait + Sync, R: Read, W: Write>(
 ) -> Result<(), Failure> {
     let bytes = input_of(rt, alloc, request.file, input).map_err(Failure::Read)?;
     let bytes = asked_of(alloc, bytes, request.game)?;
-    serve_and_close(
+    // The core is freed after the flush.
+    let _core = serve(
         rt,
         alloc,
         &bytes,
@@ -70,8 +71,8 @@ pub fn reported<E: Write>(failure: &Failure, errors: &mut E) -> u8 {
     failure.status()
 }
 
-/// Tells why the words of the command line were not read: one of them is no UTF-8, so that the command line is refused, or
-/// memory ran out.
+/// Tells why the words of the command line were not read: one of them is no UTF-8, so that the
+/// command line is refused, or memory ran out.
 pub fn unread_words<E: Write>(error: &io::Error, errors: &mut E) -> u8 {
     if error.kind() != io::ErrorKind::InvalidData {
         return reported(&Failure::Memory, errors);
@@ -97,8 +98,8 @@ fn explained<W: Write, E: Write>(error: &clap::Error, output: &mut W, errors: &m
     }
 }
 
-/// Runs the program on these words, of which the first is its own name, and gives its exit status. The transcript goes
-/// to `output`, which is flushed at the end; a fault is one line on `errors`.
+/// Runs the program on these words, of which the first is its own name, and gives its exit status.
+/// The transcript goes to `output`, which is flushed at the end; a fault is one line on `errors`.
 pub fn arena_run<H: Files + Threads + Wait + Sync, R: Read, W: Write, E: Write>(
     rt: &H,
     alloc: Global,

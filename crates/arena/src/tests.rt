@@ -181,7 +181,8 @@ fn games_that_are_not_there(rt: HostRuntime) {
     }
 }
 
-// A refused command line is status 2, with clap's text on the errors; help is status 0, on the output.
+// A refused command line is status 2, with clap's text on the errors; help is status 0, on the
+// output.
 #[test]
 fn command_lines(rt: HostRuntime) -> Result<(), Fail> {
     let cases: [(&[&str], u8); 10] = [

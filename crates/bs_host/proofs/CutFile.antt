@@ -8,7 +8,7 @@ use Rattle.bs_board.specs.declared.plans.plan.Plan.{Plan}
 use Rattle.bs_json.specs.PlanLine.{plan_line_of}
 use Rattle.bs_host.specs.declared.cut_fault.Cut.TheVariants.{TooLong}
 use Rattle.bs_host.specs.declared.limits.TheConstants.{MOST_FILE_BYTES}
-use Rattle.bs_host.specs.declared.pieces.TheConstants.{LINE_FEED}
+use Rattle.bs_host.specs.declared.lines.TheConstants.{LINE_FEED}
 use Rattle.bs_host.specs.Cut.{behind_feeds, cut_of, cut_refusal_of, cut_refusal_of_plan, game_at, is_own_line, lone_plan_of, own_lines_in, own_lines_of}
 use Rattle.bs_host.specs.File.{pieces_of, first_piece, later_pieces, plan_in, plan_of, rows_in, rows_of, version_of}
 use Rattle.bs_host.specs.Routing.{row_named}

@@ -17,7 +17,7 @@ use Rattle.bs_json.specs.Line.{line_of}
 use Rattle.bs_json.specs.PlanLine.{plan_line_of}
 use Rattle.bs_sched.specs.PlanBlocks.{blocks_of, blocks_of_all}
 use Rattle.bs_host.specs.declared.limits.TheConstants.{BLOCK_BYTES}
-use Rattle.bs_host.specs.declared.routing.Route.{Route}
+use Rattle.bs_host.specs.declared.route.Route.{Route}
 use Rattle.bs_host.specs.Cut.{IsServedAlone, cut_of, game_at, is_own_line, lone_plan_of, own_lines_in, own_lines_of}
 use Rattle.bs_host.specs.File.{pieces_of, first_piece, later_pieces, plan_in, plan_of, rows_in, rows_of, version_of}
 use Rattle.bs_host.specs.Routing.{command_to, commands_to, route_of, route_to, row_named, routes_from, routes_of, stray_kind, strays_in}

@@ -1,4 +1,5 @@
--- Lines that are joined by line feeds are the lines of what they are joined to, and how long that is.
+-- Lines that are joined by line feeds are the lines of what they are joined to, and how long that
+-- is.
 use Rattle.std.proofs.Common.{◌≡◌, ℕ, zero, suc, ◌+◌, ◌≤◌, Bool, true, false, List, [], ◌∷◌, ◌++◌, length, All, inl, inr, refl, sym, ap, ◌∙◌, arith, append-nil, length-append}
 use Rattle.std.proofs.Math.Dec.{eqb}
 use Rattle.std.proofs.lemmas.Bool.{and_parts, cases_Bool}
@@ -7,7 +8,7 @@ use Rattle.std.proofs.lemmas.List.Filters.{sum_by-filter_both}
 use Rattle.std.proofs.lemmas.List.Splits.{slice_split_none, slice_split_at, join_with_byte-slice_split}
 use Rattle.std.specs.List.{filter, join_with_byte, list_all, onto_first, sum_by}
 use Rattle.std.specs.Prelude.{not}
-use Rattle.bs_host.specs.declared.pieces.TheConstants.{LINE_FEED}
+use Rattle.bs_host.specs.declared.lines.TheConstants.{LINE_FEED}
 use Rattle.bs_host.specs.Cut.{behind_feeds}
 use Rattle.bs_host.specs.File.{pieces_of, later_pieces}
 use Rattle.bs_host.proofs.CutPlan.{is_no_feed}

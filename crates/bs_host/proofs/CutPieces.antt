@@ -8,9 +8,8 @@ use Rattle.std.proofs.lemmas.List.Quantifiers.{position-Some}
 use Rattle.std.proofs.lemmas.List.Sums.{position_or_len_is}
 use Rattle.std.proofs.lemmas.List.Splits.{slice_split_none, slice_split_at, slice_split-cons_yes, slice_split-cons_no, length-slice_split}
 use Rattle.std.specs.List.{onto_first, position, position_or_len}
-use Rattle.memchr.proofs.lemmas.CallerLemmas.{length-places}
-use Rattle.memchr.specs.Find.{IsFirstByte, Passes, is_byte, places}
-use Rattle.bs_host.specs.declared.pieces.TheConstants.{LINE_FEED}
+use Rattle.memchr.specs.Find.{IsFirstByte, Passes, is_byte}
+use Rattle.bs_host.specs.declared.lines.TheConstants.{LINE_FEED}
 use Rattle.bs_host.specs.File.{pieces_of}
 
 module _ {X : Type 0} (p : X → Bool) where
@@ -87,7 +86,8 @@ pieces_between (byte ∷ front) feed back hit = elim (cases_Bool (is_feed byte))
       ∙ ap (λ parts. parts ++ pieces_of back) (sym (slice_split-cons_no is_feed byte front misses))
 ]
 
--- the bytes of `&text[..at]` and of `&text[at + 1..]`, where the feed at that place is the first from an earlier one on
+-- the bytes of `&text[..at]` and of `&text[at + 1..]`, where the feed at that place is the first
+-- from an earlier one on
 pub pieces_around : (text : List ℕ) (place found : ℕ) → place ≤ length text → position is_feed (take (length text - place) (drop place text)) ≡ Some found
     → pieces_of text ≡ pieces_of (take (place + found) text) ++ pieces_of (take (length text - (place + found + 1)) (drop (place + found + 1) text))
 pieces_around text place found within is =
@@ -97,9 +97,6 @@ pieces_around text place found within is =
     let feed : is_feed (get_or text at 0) ≡ true = ap is_feed (sym (get_or-drop place text found 0)) ∙ hit in
     let parts : text ≡ take at text ++ get_or text at 0 ∷ drop (suc at) text = sym (ap (λ t. take at text ++ t) (sym (drop-cons text at 0 short)) ∙ take-append-drop at text) in
     rw (take_rest text (at + 1), add-one) (ap pieces_of parts ∙ pieces_between (take at text) (get_or text at 0) (drop (suc at) text) feed)
-
-pub piece_count : (text : List ℕ) → length (pieces_of text) ≡ length (places (is_byte LINE_FEED) text) + 1
-piece_count text = length-slice_split is_feed text ∙ ap (λ feeds. feeds + 1) (sym (length-places (is_byte LINE_FEED) text))
 
 pub piece_without_feed : (text : List ℕ) → position is_feed text ≡ None → pieces_of text ≡ text ∷ []
 piece_without_feed text none = slice_split_none is_feed text (fails_everywhere is_feed text none)

@@ -31,7 +31,7 @@ use Rattle.bs_board.specs.Texts.{is_short_text}
 use Rattle.bs_json.specs.declared.limits.TheConstants.{MAX_LINE}
 use Rattle.bs_json.specs.PlanLine.{plan_from, plan_line_of}
 use Rattle.bs_json.specs.Values.{value_of}
-use Rattle.bs_host.specs.declared.pieces.TheConstants.{LINE_FEED}
+use Rattle.bs_host.specs.declared.lines.TheConstants.{LINE_FEED}
 use Rattle.bs_host.specs.Cut.{lone_plan_data, lone_plan_of}
 
 pub lone_plan_has_no_float : (version : Version) (row : GameRow) → has_float (lone_plan_data version row) ≡ false

@@ -1,20 +1,28 @@
--- A file's plan and its lines, from its first line and the others.
-use Rattle.std.proofs.Common.{◌≡◌, ℕ, ◌<◌, ◌≤◌, List, ◌∷◌, Some, Result, Ok, Err, length, sym, subst, ap, ◌∙◌}
-use Rattle.std.specs.Prelude.{IfOk}
+-- A file's plan and its lines, from its first line and the others, to the transcript.
+use Rattle.std.proofs.Common.{◌≡◌, ℕ, ◌<◌, ◌≤◌, List, ◌∷◌, Option, Some, Ok, length, refl, sym, subst, ap, ◌∙◌}
 use Rattle.std.proofs.lemmas.Bool.{lt-ltb, le-ltb, cond-true, cond-false}
+use Rattle.bs_board.specs.declared.commands.command.Command.{Command}
 use Rattle.bs_board.specs.declared.plans.plan.Plan.{Plan}
-use Rattle.bs_json.specs.declared.line.Stray.{Stray}
 use Rattle.bs_json.specs.declared.plan.PlanFault.{PlanFault}
-use Rattle.bs_json.specs.PlanLine.{plan_line_of}
-use Rattle.bs_sched.specs.Core.{CoreView}
-use Rattle.bs_host.specs.declared.fault.Fault.TheVariants.{TooLong}
-use Rattle.bs_host.specs.declared.limits.TheConstants.{MOST_FILE_BYTES}
-use Rattle.bs_host.specs.File.{pieces_of, first_piece, later_pieces, plan_in, plan_of, rows_in}
-use Rattle.bs_host.specs.Hosted.{Hosts, HostsLines}
-use Rattle.bs_host.specs.Routing.{routes_from, strays_in, strays_of}
-use Rattle.bs_host.specs.Faults.{refusal_of, refusal_of_plan}
+use Rattle.bs_json.specs.declared.plan.PlanFault.TheVariants as fault
+use Rattle.bs_json.specs.PlanLine.{IsPlanFault, plan_line_of}
+use Rattle.bs_json.specs.declared.line.Stray.{Stray}
+use Rattle.bs_pool.specs.Ledger.{size}
+use Rattle.bs_sched.specs.Core.{CoreView, opened_core}
+use Rattle.bs_sched.specs.PlanBlocks.{blocks_of_all}
+use Rattle.bs_sched.specs.declared.opening.Open.{Open}
+use Rattle.bs_sched.specs.declared.opening.Open.TheVariants as opening
+use Rattle.bs_workers.specs.Run.{IsRunOf}
+use Rattle.bs_host.specs.declared.fault.Fault.{Fault}
+use Rattle.bs_host.specs.declared.fault.Fault.TheVariants.{TooLong, Plan as OfPlan, Memory, Broken, Write}
+use Rattle.bs_host.specs.declared.limits.TheConstants.{BLOCK_BYTES, MOST_FILE_BYTES}
+use Rattle.bs_host.specs.declared.route.Requests.{Requests}
+use Rattle.bs_host.specs.File.{pieces_of, first_piece, later_pieces, plan_in, plan_of, rows_of}
+use Rattle.bs_host.specs.Hosted.{Hosts, HostsLines, IsOpened}
+use Rattle.bs_host.specs.Routing.{IsRouted, routes_from, routes_of, strays_in}
+use Rattle.bs_host.specs.Faults.{IsFault, IsRefusal, Leaves, fault_of, fault_of_opening, refusal_of, refusal_of_plan}
 use Rattle.bs_host.specs.Transcript.{core_text_of, transcript_of}
-use Rattle.bs_host.proofs.HostedCore.{transcript_of_core}
+use Rattle.bs_host.proofs.HostedCore.{hosts_lines, is_fresh, no_refusal, opening_refusal, transcript_of_core}
 
 pub refusal_of_long : (blocks : ℕ) (file : List ℕ) → MOST_FILE_BYTES < length file → refusal_of blocks file ≡ Some TooLong
 unfolding refusal_of
@@ -32,37 +40,74 @@ pub refusal_of_read : (blocks : ℕ) (file first : List ℕ) (rest : List (List 
 refusal_of_read blocks file first rest plan short pieces read =
     refusal_of_first blocks file first rest short pieces ∙ ap (refusal_of_plan blocks) read
 
--- from the plan and the pieces behind it
-abbrev HostsFrom : ℕ → Result Plan PlanFault → List (List ℕ) → CoreView → Type 0
-HostsFrom blocks plan pieces = HostsLines blocks (rows_in plan) (routes_from (plan_in plan) 2 pieces)
+-- of a plan of which a copy was opened
+pub opened : (blocks : ℕ) (file first : List ℕ) (rest : List (List ℕ)) (plan copied : Plan) (workers : ℕ) (core : CoreView) → length file ≤ MOST_FILE_BYTES
+    → pieces_of file ≡ first ∷ rest → plan_line_of first ≡ Ok plan → copied ≡ plan → core ≡ opened_core BLOCK_BYTES blocks workers copied.rows
+    → blocks_of_all BLOCK_BYTES copied.rows ≤ blocks → IsOpened blocks file core plan rest
+opened blocks file first rest plan copied workers core short pieces read same opens room =
+    let is : core ≡ opened_core BLOCK_BYTES blocks workers plan.rows = opens ∙ ap (λ (plan : Plan). opened_core BLOCK_BYTES blocks workers plan.rows) same in
+    let enough : blocks_of_all BLOCK_BYTES plan.rows ≤ blocks = subst (λ (plan : Plan). blocks_of_all BLOCK_BYTES plan.rows ≤ blocks) same room in
+    let hands : core.games.workers ≡ workers = ap (λ core. core.games.workers) is in
+    record {
+      served = refusal_of_read blocks file first rest plan short pieces read ∙ no_refusal blocks plan enough;
+      opened = is ∙ ap (λ workers. opened_core BLOCK_BYTES blocks workers plan.rows) (sym hands);
+      is_plan = sym (ap (λ all. plan_in (plan_line_of (first_piece all))) pieces ∙ ap plan_in read);
+      are_lines = sym (ap later_pieces pieces);
+    }
 
-pub hosts_first : (blocks : ℕ) (file first : List ℕ) (rest : List (List ℕ)) (plan : Plan) (core : CoreView) → pieces_of file ≡ first ∷ rest
-    → plan_line_of first ≡ Ok plan → HostsLines blocks plan.rows (routes_from plan 2 rest) core → Hosts blocks file core
-hosts_first blocks file first rest plan core pieces read hosts =
-    let one : HostsFrom blocks (plan_line_of first) rest core = subst (λ found. HostsFrom blocks found rest core) (sym read) hosts in
-    subst (λ all. HostsFrom blocks (plan_line_of (first_piece all)) (later_pieces all) core) (sym pieces) one
+-- why a file is not opened
 
-abbrev strays_from : Result Plan PlanFault → List (List ℕ) → List (ℕ × Stray)
-strays_from plan pieces = strays_in (routes_from (plan_in plan) 2 pieces)
+pub plan_refused : (blocks : ℕ) (file first : List ℕ) (rest : List (List ℕ)) (error : PlanFault) → length file ≤ MOST_FILE_BYTES → pieces_of file ≡ first ∷ rest
+    → IsPlanFault (plan_line_of first) error → IsRefusal (refusal_of blocks file) (fault_of error)
+plan_refused blocks file first rest fault.Malformed short pieces is = refusal_of_first blocks file first rest short pieces ∙ ap (refusal_of_plan blocks) is
+plan_refused blocks file first rest fault.BadRow short pieces is = refusal_of_first blocks file first rest short pieces ∙ ap (refusal_of_plan blocks) is
+plan_refused blocks file first rest fault.TooMany short pieces is = refusal_of_first blocks file first rest short pieces ∙ ap (refusal_of_plan blocks) is
+plan_refused blocks file first rest fault.Memory short pieces is = tt
 
-pub strays_of_first : (file first : List ℕ) (rest : List (List ℕ)) (plan : Plan) → pieces_of file ≡ first ∷ rest → plan_line_of first ≡ Ok plan
-    → strays_in (routes_from plan 2 rest) ≡ strays_of file
-strays_of_first file first rest plan pieces read =
-    ap (λ found. strays_from found rest) (sym read)
-    ∙ ap (λ all. strays_from (plan_line_of (first_piece all)) (later_pieces all)) (sym pieces)
+pub opening_refused : (blocks : ℕ) (file first : List ℕ) (rest : List (List ℕ)) (plan copied : Plan) (error : Open) → length file ≤ MOST_FILE_BYTES
+    → pieces_of file ≡ first ∷ rest → plan_line_of first ≡ Ok plan → copied ≡ plan
+    → (error ≡ opening.Short → blocks < blocks_of_all BLOCK_BYTES copied.rows) → IsRefusal (refusal_of blocks file) (fault_of_opening error)
+opening_refused blocks file first rest plan copied error short pieces read same few =
+    let less : error ≡ opening.Short → blocks < blocks_of_all BLOCK_BYTES plan.rows = λ is. subst (λ (plan : Plan). blocks < blocks_of_all BLOCK_BYTES plan.rows) same (few is) in
+    subst (λ found. IsRefusal found (fault_of_opening error)) (sym (refusal_of_read blocks file first rest plan short pieces read)) (opening_refusal blocks plan error less)
 
--- what a core tells that hosts the file's lines is the file's transcript
-pub text_of_first : (blocks : ℕ) (file first : List ℕ) (rest : List (List ℕ)) (plan : Plan) (core : CoreView) (text : List ℕ) → pieces_of file ≡ first ∷ rest
-    → plan_line_of first ≡ Ok plan → HostsLines blocks plan.rows (routes_from plan 2 rest) core → length core.games.lanes ≡ length core.games.rows
-    → text ≡ core_text_of core (strays_in (routes_from plan 2 rest)) → text ≡ transcript_of file
-text_of_first blocks file first rest plan core text pieces read hosts lanes is =
-    is ∙ transcript_of_core blocks file core (strays_in (routes_from plan 2 rest)) (hosts_first blocks file first rest plan core pieces read hosts) lanes
-    (strays_of_first file first rest plan pieces read)
+-- a fault that is found before anything is written
 
-pub text_if_ok : {X E : Type 0} (core_of : X → CoreView) (text_in : X → List ℕ) (hosted : Result X E) (blocks : ℕ) (file first : List ℕ) (rest : List (List ℕ)) (plan : Plan)
-    → pieces_of file ≡ first ∷ rest → plan_line_of first ≡ Ok plan → IfOk hosted (λ h. HostsLines blocks plan.rows (routes_from plan 2 rest) (core_of h))
-    → IfOk hosted (λ h. length (core_of h).games.lanes ≡ length (core_of h).games.rows)
-    → IfOk hosted (λ h. text_in h ≡ core_text_of (core_of h) (strays_in (routes_from plan 2 rest))) → IfOk hosted (λ h. text_in h ≡ transcript_of file)
-text_if_ok core_of text_in (Ok h) blocks file first rest plan pieces read hosts lanes is =
-    text_of_first blocks file first rest plan (core_of h) (text_in h) pieces read hosts lanes is
-text_if_ok core_of text_in (Err e) blocks file first rest plan pieces read hosts lanes is = tt
+pub refusal_is_fault : (found : Option Fault) (f : Fault) → IsRefusal found f → IsFault found f
+refusal_is_fault found TooLong is = is
+refusal_is_fault found (OfPlan reason) is = is
+refusal_is_fault found Memory is = tt
+refusal_is_fault found Broken is = is
+refusal_is_fault found (Write written) is = absurd is
+
+pub refusal_leaves : {W : Type 0} (contents : W → Option (List ℕ)) (text : List ℕ) (found : Option Fault) (f : Fault) (w : W) → IsRefusal found f
+    → Leaves contents text w w f
+refusal_leaves contents text found TooLong w is = refl
+refusal_leaves contents text found (OfPlan reason) w is = refl
+refusal_leaves contents text found Memory w is = refl
+refusal_leaves contents text found Broken w is = refl
+refusal_leaves contents text found (Write written) w is = absurd is
+
+-- from the opened file to its transcript
+
+pub hosts_of_run : (blocks : ℕ) (file : List ℕ) (lines : List (List ℕ)) (plan : Plan) (requests : Requests) (commands : List (ℕ × Command)) (old new : CoreView)
+    → IsOpened blocks file old plan lines → IsRouted (routes_from plan 2 lines) requests → commands ≡ requests.commands.items → IsRunOf old commands new
+    → Hosts blocks file new
+hosts_of_run blocks file lines plan requests commands old new opens goes asked ran =
+    let routes : routes_from plan 2 lines ≡ routes_of file =
+    ap (λ (plan : Plan). routes_from plan 2 lines) opens.is_plan ∙ ap (routes_from (plan_in (plan_of file)) 2) opens.are_lines in
+    let rows : plan.rows ≡ rows_of file = ap (λ (plan : Plan). plan.rows) opens.is_plan in
+    let hosts = hosts_lines BLOCK_BYTES blocks old.games.workers plan.rows (routes_from plan 2 lines) commands old new opens.opened (asked ∙ goes.commands) ran in
+    subst (λ rows. HostsLines blocks rows (routes_of file) new) rows (subst (λ routes. HostsLines blocks plan.rows routes new) routes hosts)
+
+pub text_of_run : (blocks : ℕ) (file : List ℕ) (lines : List (List ℕ)) (plan : Plan) (requests : Requests) (strays : List (ℕ × Stray)) (new : CoreView) (text : List ℕ)
+    → plan ≡ plan_in (plan_of file) → lines ≡ later_pieces (pieces_of file) → IsRouted (routes_from plan 2 lines) requests → Hosts blocks file new
+    → length new.games.lanes ≡ length new.games.rows → strays ≡ requests.strays.items → text ≡ core_text_of new strays → text ≡ transcript_of file
+text_of_run blocks file lines plan requests strays new text is_plan are_lines goes hosts lanes told is =
+    let routes : routes_from plan 2 lines ≡ routes_of file =
+    ap (λ (plan : Plan). routes_from plan 2 lines) is_plan ∙ ap (routes_from (plan_in (plan_of file)) 2) are_lines in
+    is ∙ transcript_of_core blocks file new strays hosts lanes (told ∙ goes.strays ∙ ap strays_in routes)
+
+pub fresh_core : (blocks : ℕ) (file : List ℕ) (lines : List (List ℕ)) (plan : Plan) (core : CoreView) → IsOpened blocks file core plan lines
+    → core ≡ opened_core BLOCK_BYTES (size core.games.storage.pool) core.games.workers core.games.rows
+fresh_core blocks file lines plan core opens = is_fresh BLOCK_BYTES blocks core.games.workers plan.rows core opens.opened

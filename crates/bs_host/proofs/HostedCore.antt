@@ -19,7 +19,6 @@ use Rattle.bs_sched.specs.Machine.{lane_of}
 use Rattle.bs_sched.specs.PlanBlocks.{blocks_of_all}
 use Rattle.bs_sched.specs.declared.opening.Open.{Open}
 use Rattle.bs_sched.specs.declared.opening.Open.TheVariants as opening
-use Rattle.bs_workers.specs.Given.{IsRunFrom}
 use Rattle.bs_workers.specs.Run.{IsRunOf, commands_for}
 use Rattle.bs_workers.specs.declared.fault.Run.{Run}
 use Rattle.bs_workers.specs.declared.fault.Run.TheVariants as run
@@ -27,12 +26,11 @@ use Rattle.bs_host.specs.declared.fault.Fault.{Fault}
 use Rattle.bs_host.specs.declared.fault.Fault.TheVariants.{Plan as OfPlan}
 use Rattle.bs_host.specs.declared.fault.PlanRefusal.TheVariants as refusal
 use Rattle.bs_host.specs.declared.limits.TheConstants.{BLOCK_BYTES}
-use Rattle.bs_host.specs.declared.routing.Route.{Route}
-use Rattle.bs_host.specs.declared.routing.Route.TheVariants as route
+use Rattle.bs_host.specs.declared.route.Route.{Route}
+use Rattle.bs_host.specs.declared.route.Route.TheVariants as route
 use Rattle.bs_host.specs.File.{rows_of}
 use Rattle.bs_host.specs.Hosted.{Hosts, HostsLines}
-use Rattle.bs_host.specs.Requests.{AreWithinPlan, commands_by_row}
-use Rattle.bs_host.specs.Routing.{commands_to, routes_of, strays_of}
+use Rattle.bs_host.specs.Routing.{commands_by_row, commands_to, routes_of, strays_of}
 use Rattle.bs_host.specs.Faults.{IsRefusal, fault_of_opening, fault_of_run, refusal_of_plan}
 use Rattle.bs_host.specs.Transcript.{section_of, transcript_of, sections_in, core_text_of, lane_lines_of}
 use Rattle.bs_transcript.specs.Lines.{stray_lines_of}
@@ -60,13 +58,6 @@ is_fresh capacity blocks workers rows core is =
     is ∙ ap (λ many. opened_core capacity many workers rows) (sym many) ∙ ap (λ hands. opened_core capacity (size core.games.storage.pool) hands rows) (sym hands)
     ∙ ap (λ games. opened_core capacity (size core.games.storage.pool) core.games.workers games) (sym games)
 
--- what is asked of its games is asked of games of the plan
-pub within_core : (capacity blocks workers : ℕ) (rows : List GameRow) (core : CoreView) (asked given : List (ℕ × Command)) → core ≡ opened_core capacity blocks workers rows
-    → given ≡ asked → AreWithinPlan (length rows) asked → AreWithinPlan (length core.games.rows) given
-within_core capacity blocks workers rows core asked given is same within =
-    let games : core.games.rows ≡ rows = ap (λ core. core.games.rows) is in
-    rw (games, same) within
-
 -- the commands of a game are those that its lines ask
 pub commands_of_row : (row : ℕ) (routes : List (ℕ × Route)) → commands_for row (commands_by_row routes) ≡ commands_to row routes
 commands_of_row row [] = refl
@@ -74,23 +65,9 @@ commands_of_row row ((number, route.Game to command) ∷ routes) = rw (commands_
 commands_of_row row ((number, route.Stray kind) ∷ routes) = commands_of_row row routes
 commands_of_row row ((number, route.Nowhere) ∷ routes) = commands_of_row row routes
 
--- the workers of all crews are few
-pub few_workers : (threads crew : ℕ) → threads ≤ 1024 → crew ≤ 16 → threads * crew ≤ 16384
-few_workers threads crew t c = mul-le-mul t c
-
--- what a core was before its run is what was given
-pub run_of_given : (rows : List GameRow) (blocks : ℕ) (commands : List (ℕ × Command)) (old new : CoreView) → rows ≡ old.games.rows
-    → blocks ≡ size old.games.storage.pool → IsRunFrom rows blocks commands new → IsRunOf old commands new
-run_of_given rows blocks commands old new plan many ran =
-    let from : IsRunFrom old.games.rows (size old.games.storage.pool) commands new = rw (plan, many) at ran in
-    record {
-      plan = from.plan;
-      blocks = from.as_many;
-      failed = from.failed;
-      quiet = from.quiet;
-      handed = from.handed;
-      served = from.served;
-    }
+-- the workers of all threads are few
+pub few_workers : (threads each : ℕ) → threads ≤ 1024 → each ≤ 16 → threads * each ≤ 16384
+few_workers threads each t e = mul-le-mul t e
 
 pub hosts_lines : (capacity blocks workers : ℕ) (rows : List GameRow) (routes : List (ℕ × Route)) (commands : List (ℕ × Command)) (old new : CoreView)
     → old ≡ opened_core capacity blocks workers rows → commands ≡ commands_by_row routes → IsRunOf old commands new → HostsLines blocks rows routes new

@@ -6,6 +6,5 @@ pub mod CutPlan
 pub mod CutRows
 pub mod FileTexts
 pub mod HostedCore
+pub mod ParsedLines
 pub mod RowNames
-pub mod SharedLines
-pub mod SortedLines

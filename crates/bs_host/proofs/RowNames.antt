@@ -10,7 +10,8 @@ use Rattle.bs_board.specs.Texts.{is_same_text}
 use Rattle.bs_board.proofs.Chains.{and_both}
 use Rattle.bs_host.specs.Routing.{HasName, row_named}
 
--- Among elements that differ from one another, what passes a test that no two of them pass is the first that passes.
+-- Among elements that differ from one another, what passes a test that no two of them pass is the
+-- first that passes.
 only_first : {X : Type 0} (same : X → X → Bool) (p : X → Bool) → ((x y : X) → p x ≡ true → p y ≡ true → same x y ≡ true)
     → (xs : List X) (i : ℕ) (d : X) → are_distinct same xs ≡ true → i < length xs → p (get_or xs i d) ≡ true → position_or_len p xs ≡ i
 only_first same p alike [] i d distinct within hit = absurd (omega arith)

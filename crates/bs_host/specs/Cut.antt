@@ -1,4 +1,5 @@
--- One game's own lines as a command file, and the law that in it the game is answered as it is among the others.
+-- One game's own lines as a command file, and the law that the game is answered there as it is
+-- among the others.
 use Rattle.std.specs.Prelude.{◌≡◌, ℕ, ◌+◌, ◌≤◌, ◌<◌, codes, List, [], ◌∷◌, length, nat_lt, slice_index_or, Bool, Option, Some, None, is_some, Result, Ok, Err, if◌then◌else◌}
 use Rattle.std.specs.List.{filter, flat_map, join_with_byte}
 use Rattle.serde_json.specs.Data.{Data, string, array}
@@ -17,7 +18,7 @@ use Rattle.bs_host.specs.declared.cut_fault.Cut.{Cut}
 use Rattle.bs_host.specs.declared.cut_fault.Cut.TheVariants.{TooLong, Plan as OfPlan, NoSuchGame, Memory}
 use Rattle.bs_host.specs.declared.fault.PlanRefusal.TheVariants as refusal
 use Rattle.bs_host.specs.declared.limits.TheConstants.{BLOCK_BYTES, MOST_FILE_BYTES}
-use Rattle.bs_host.specs.declared.pieces.TheConstants.{LINE_FEED}
+use Rattle.bs_host.specs.declared.lines.TheConstants.{LINE_FEED}
 use Rattle.bs_host.specs.File.{pieces_of, later_pieces, plan_in, plan_of, rows_of, version_of}
 use Rattle.bs_host.specs.Routing.{command_to, commands_of, route_of, row_named}
 use Rattle.bs_host.specs.Transcript.{section_of, transcript_of}
@@ -51,7 +52,7 @@ own_lines_of file row = own_lines_in (plan_in (plan_of file)) row (later_pieces 
 abbrev pub game_at : List GameRow → ℕ → GameRow
 game_at rows row = slice_index_or rows row (row_of [] 0)
 
--- The file of the game of that row alone: its plan and its lines, with a line feed between any two of them.
+-- The file of the game of that row alone: its plan and its lines, with a line feed between any two.
 unfoldable pub cut_of : List ℕ → ℕ → List ℕ
 cut_of file row = join_with_byte LINE_FEED (lone_plan_of (version_of file) (game_at (rows_of file) row) ∷ own_lines_of file row)
 
@@ -59,7 +60,7 @@ cut_of file row = join_with_byte LINE_FEED (lone_plan_of (version_of file) (game
 abbrev pub behind_feeds : List (List ℕ) → List ℕ
 behind_feeds = flat_map (λ line. LINE_FEED ∷ line)
 
--- What serving that file comes to.
+-- What is written for that file, and how large it is.
 pub record IsServedAlone (file : List ℕ) (row : ℕ) (game : GameRow) : Type 0 where
   -- its plan is that game's row, in the file's version
   pub plan : plan_of (cut_of file row) ≡ Ok (record { rows = game ∷ []; version = version_of file })
@@ -72,7 +73,7 @@ pub record IsServedAlone (file : List ℕ) (row : ℕ) (game : GameRow) : Type 0
 abbrev pub SectionLaw : Type 0
 SectionLaw = (file : List ℕ) (row : ℕ) → row < length (rows_of file) → IsServedAlone file row (game_at (rows_of file) row)
 
--- When there is no cut.
+-- When a file is not cut.
 
 abbrev pub cut_of_fault : PlanFault → Cut
 cut_of_fault plan.Malformed = OfPlan refusal.Malformed
@@ -92,7 +93,7 @@ cut_refusal_of_plan game (Ok plan) = refusal_of_name (row_named plan.rows game)
 unfoldable pub cut_refusal_of : List ℕ → List ℕ → Option Cut
 cut_refusal_of file game = if nat_lt MOST_FILE_BYTES (length file) then Some TooLong else cut_refusal_of_plan game (plan_of file)
 
--- that reason was found; of want of memory nothing is said
+-- the fault is that refusal; nothing is said of want of memory
 abbrev pub IsCutRefusal : Option Cut → Cut → Type 0
 IsCutRefusal refusal TooLong = refusal ≡ Some TooLong
 IsCutRefusal refusal (OfPlan reason) = refusal ≡ Some (OfPlan reason)

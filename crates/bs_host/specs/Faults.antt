@@ -37,7 +37,8 @@ refusal_of_plan blocks (Ok plan) = if nat_lt blocks (blocks_of_all BLOCK_BYTES p
 unfoldable pub refusal_of : ℕ → List ℕ → Option Fault
 refusal_of blocks file = if nat_lt MOST_FILE_BYTES (length file) then Some TooLong else refusal_of_plan blocks (plan_of file)
 
--- that reason was found; a run is broken off only where nothing was against the file; of want of memory nothing is said
+-- the fault is that refusal; `Broken` comes only where nothing refuses the file; nothing is said of
+-- want of memory
 abbrev pub IsRefusal : Option Fault → Fault → Type 0
 IsRefusal refusal TooLong = refusal ≡ Some TooLong
 IsRefusal refusal (OfPlan reason) = refusal ≡ Some (OfPlan reason)
@@ -45,7 +46,7 @@ IsRefusal refusal Memory = Unit {0}
 IsRefusal refusal Broken = refusal ≡ None
 IsRefusal refusal (Write written) = ⊥
 
--- so did the writer fail only where nothing was against the file
+-- as `IsRefusal`; and a writer fails only where nothing refuses the file
 abbrev pub IsFault : Option Fault → Fault → Type 0
 IsFault refusal TooLong = refusal ≡ Some TooLong
 IsFault refusal (OfPlan reason) = refusal ≡ Some (OfPlan reason)
@@ -53,7 +54,8 @@ IsFault refusal Memory = Unit {0}
 IsFault refusal Broken = refusal ≡ None
 IsFault refusal (Write written) = refusal ≡ None
 
--- what the writer then holds: as much of the text as the fault says, fewer bytes than all, or nothing new
+-- what the writer has after the fault: the first bytes of the text, as many as the fault says and
+-- fewer than all; or nothing new
 abbrev pub Leaves : {W : Type 0} → (W → Option (List ℕ)) → List ℕ → W → W → Fault → Type 0
 Leaves contents text old new TooLong = new ≡ old
 Leaves contents text old new (OfPlan reason) = new ≡ old

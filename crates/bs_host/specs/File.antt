@@ -7,10 +7,10 @@ use Rattle.bs_board.specs.declared.plans.version.Version.TheVariants.{One}
 use Rattle.bs_board.specs.plans.Plan.{GameRow}
 use Rattle.bs_json.specs.declared.plan.PlanFault.{PlanFault}
 use Rattle.bs_json.specs.PlanLine.{plan_line_of}
-use Rattle.bs_host.specs.declared.pieces.TheConstants.{LINE_FEED}
+use Rattle.bs_host.specs.declared.lines.TheConstants.{LINE_FEED}
 
--- What follows the last line feed is a piece too. In most files it is empty, and so no line; but it is read as a blank line,
--- which says nothing, and needs no rule of its own.
+-- What follows the last line feed is a piece too. In most files it is empty, and so no line; but it
+-- is read as a blank line, which says nothing, and needs no rule of its own.
 abbrev pub pieces_of : List ℕ → List (List ℕ)
 pieces_of file = slice_split (λ byte. byte == LINE_FEED) file
 

@@ -1,21 +1,23 @@
 -- What a core is once it has answered a file.
-use Rattle.std.specs.Prelude.{◌≡◌, ℕ, ◌<◌, true, false, List, length}
+use Rattle.std.specs.Prelude.{◌≡◌, ℕ, ◌<◌, true, false, None, List, length}
 use Rattle.std.specs.List.{list_all}
+use Rattle.bs_board.specs.declared.plans.plan.Plan.{Plan}
 use Rattle.bs_board.specs.plans.Plan.{GameRow}
 use Rattle.bs_pool.specs.Ledger.{size}
-use Rattle.bs_sched.specs.Core.{CoreView}
+use Rattle.bs_sched.specs.Core.{CoreView, opened_core}
 use Rattle.bs_sched.specs.Games.{row_at}
 use Rattle.bs_sched.specs.Handed.{IsServed, hands_of}
 use Rattle.bs_sched.specs.Lane.{is_quiet}
 use Rattle.bs_sched.specs.Machine.{lane_of}
-use Rattle.bs_host.specs.declared.routing.Route.{Route}
-use Rattle.bs_host.specs.File.{rows_of}
-use Rattle.bs_host.specs.Requests.{commands_by_row}
-use Rattle.bs_host.specs.Routing.{commands_to, routes_of}
+use Rattle.bs_host.specs.declared.route.Route.{Route}
+use Rattle.bs_host.specs.declared.limits.TheConstants.{BLOCK_BYTES}
+use Rattle.bs_host.specs.Faults.{refusal_of}
+use Rattle.bs_host.specs.File.{later_pieces, pieces_of, plan_in, plan_of, rows_of}
+use Rattle.bs_host.specs.Routing.{commands_by_row, commands_to, routes_of}
 
--- the core has these games and that many blocks, was not told to fail, and nothing is left to do; its
--- journal queues just the lines' commands, in the order of the lines, and each game is as its own lines
--- alone leave it
+-- the core has these games and that many blocks, was not told to fail, and nothing is left to do;
+-- its journal queues just the lines' commands, in the order of the lines, and each game is as its
+-- own lines alone leave it
 pub record HostsLines (blocks : ℕ) (games : List GameRow) (routes : List (ℕ × Route)) (core : CoreView) : Type 0 where
   pub rows : core.games.rows ≡ games
   pub pool : size core.games.storage.pool ≡ blocks
@@ -24,6 +26,15 @@ pub record HostsLines (blocks : ℕ) (games : List GameRow) (routes : List (ℕ 
   pub handed : hands_of core.journal ≡ commands_by_row routes
   pub served : (row : ℕ) → row < length games → IsServed (row_at games row) (commands_to row routes) (lane_of core.games.lanes row)
 
--- the same of the games of a file's plan and its lines: the game of each row is served the file's commands for it
+-- the same of the games of a file's plan and its lines: the game of each row is served the file's
+-- commands for it
 abbrev pub Hosts : ℕ → List ℕ → CoreView → Type 0
 Hosts blocks file = HostsLines blocks (rows_of file) (routes_of file)
+
+-- the core is opened with the file's plan and that many blocks, of which nothing refuses the file;
+-- the plan is the file's, and the lines are those that follow it
+pub record IsOpened (blocks : ℕ) (file : List ℕ) (core : CoreView) (plan : Plan) (lines : List (List ℕ)) : Type 0 where
+  pub served : refusal_of blocks file ≡ None
+  pub opened : core ≡ opened_core BLOCK_BYTES blocks core.games.workers plan.rows
+  pub is_plan : plan ≡ plan_in (plan_of file)
+  pub are_lines : lines ≡ later_pieces (pieces_of file)

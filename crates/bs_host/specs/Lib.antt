@@ -2,7 +2,6 @@ pub mod Cut
 pub mod Faults
 pub mod File
 pub mod Hosted
-pub mod Requests
+pub mod Parsed
 pub mod Routing
 pub mod Transcript
-pub mod UnderWay

@@ -11,8 +11,9 @@ use Rattle.bs_json.specs.declared.line.Line.TheVariants as line
 use Rattle.bs_json.specs.declared.line.Stray.{Stray}
 use Rattle.bs_json.specs.declared.line.Stray.TheVariants as stray
 use Rattle.bs_json.specs.Line.{line_of}
-use Rattle.bs_host.specs.declared.routing.Route.{Route}
-use Rattle.bs_host.specs.declared.routing.Route.TheVariants as route
+use Rattle.bs_host.specs.declared.route.Requests.{Requests}
+use Rattle.bs_host.specs.declared.route.Route.{Route}
+use Rattle.bs_host.specs.declared.route.Route.TheVariants as route
 use Rattle.bs_host.specs.File.{pieces_of, later_pieces, plan_in, plan_of}
 
 -- the row of the game of that name, if the plan has one
@@ -74,8 +75,17 @@ commands_of file row = commands_to row (routes_of file)
 abbrev pub strays_of : List ℕ → List (ℕ × Stray)
 strays_of file = strays_in (routes_of file)
 
--- to a game of a plan of so many rows, if to a game
-abbrev pub IsWithinPlan : ℕ → Route → Type 0
-IsWithinPlan many (route.Game row command) = row < many
-IsWithinPlan many (route.Stray kind) = Unit {0}
-IsWithinPlan many route.Nowhere = Unit {0}
+-- what a line asks of a game, with the row of that game
+abbrev pub command_by_row : Route → Option (ℕ × Command)
+command_by_row (route.Game row command) = Some (row, command)
+command_by_row (route.Stray kind) = None
+command_by_row route.Nowhere = None
+
+-- in the order of the file
+abbrev pub commands_by_row : List (ℕ × Route) → List (ℕ × Command)
+commands_by_row = filter_map (λ line. command_by_row line.1)
+
+-- the requests are what lines ask that go there
+pub record IsRouted (routes : List (ℕ × Route)) (requests : Requests) : Type 0 where
+  pub commands : requests.commands.items ≡ commands_by_row routes
+  pub strays : requests.strays.items ≡ strays_in routes

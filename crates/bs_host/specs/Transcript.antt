@@ -22,7 +22,7 @@ section_of row commands = course_lines_of row.game (alone row commands)
 unfoldable pub transcript_of : List ℕ → List ℕ
 transcript_of file = flat_map (λ row. section_of row.1 (commands_of file row.0)) (enumerate_from 0 (rows_of file)) ++ stray_lines_of (strays_of file)
 
--- What a core tells.
+-- What is written from a core.
 
 abbrev pub lane_lines_of : GameRow → Lane → List ℕ
 lane_lines_of row x = reply_lines_of row.game x.replies ++ last_line_of row.game x.game

@@ -23,8 +23,8 @@ const SECOND_GAME: &str = r#"{"games":[{"game":"b","quota":4096}]}
 {"game":"b","do":"move","moves":{"u":"down"}}
 {"game":"b","do":"show"}"#;
 
-// A plan whose text is not the shortest, a game without lines, and lines that stay as they stand: a bad one, one with
-// spaces, one whose name has an escape. Blank lines and strays are left out.
+// A plan whose text is not the shortest, a game without lines, and lines that stay as they stand: a
+// bad one, one with spaces, one whose name has an escape. Blank lines and strays are left out.
 const LOOSE: &str =
     r#" { "version" : 1, "games": [ {"quota": 16, "game": "\u0061\n", "more": 0}, {"game":"b","quota":17} ] }
 {"do":"jump","game":"a\n"}

@@ -1,18 +1,20 @@
-//! One game's own lines as a command file, and the law that in it the game is answered as it is among the others.
+//! Cuts a command file to one game's own lines, and states the law that the game is answered there
+//! as it is among the others.
 ghost use Rattle.std.specs.Prelude.{◌≡◌, ◌<◌, [], ◌∷◌, ◌++◌, None, Some, length, is_some, IfOk, IfErr, OnOk, option_copied, option_map};
 ghost use Rattle.serde_json.specs.Data.{array};
 ghost use Rattle.serde_json.specs.View.{items_of, view};
-ghost use Rattle.bs_host.specs.declared.pieces.TheConstants.{LINE_FEED};
+ghost use Rattle.bs_host.specs.declared.lines.TheConstants.{LINE_FEED};
 ghost use Rattle.bs_host.specs.Cut.{row_data, lone_plan_data, lone_plan_of, is_own_line, own_lines_in, game_at, behind_feeds, cut_of, cut_refusal_of, IsCutRefusal, SectionLaw};
 ghost use Rattle.bs_host.specs.File.{pieces_after, rows_of};
 ghost use Rattle.bs_host.specs.Routing.{command_to, row_named};
 
 use crate::cut_fault::Cut;
 use crate::limits::MOST_FILE_BYTES;
-use crate::pieces::cut_piece;
-use crate::routing::{FIRST_ROW, Route, route_of, row_named};
+use crate::lines::split_line;
+use crate::parse::parse_line;
+use crate::route::{FIRST_ROW, Route, route_line, row_named};
 use bs_board::{Id, Plan, Row, Version};
-use bs_json::{read_line, read_plan};
+use bs_json::read_plan;
 use serde_json::{Value, json};
 use std::alloc::{AllocError, Global};
 
@@ -22,7 +24,7 @@ fn lone_games(alloc: Global, row: &Row) -> Result<Value, AllocError>
     json!(in alloc; [{"game": row.game.as_str(), "quota": row.quota}])
 }
 
-/// The plan of that version with this row alone. Version 1 is left out of it.
+/// The plan of that version with this row alone. Version 1 is not written.
 #[tactic(auto, unfolding(crate::specs::Cut::lone_plan_data))]
 fn lone_plan(alloc: Global, version: Version, row: &Row) -> Result<Value, AllocError>
     ensures { IfOk result (λ plan. view plan ≡ lone_plan_data version row.now) }
@@ -52,10 +54,12 @@ fn goes_to(row: usize, route: &Route) -> bool
     }
 }
 
+#[tactic(auto, using(crate::proofs::ParsedLines::route_of_parsed))]
 fn is_own_line(alloc: Global, plan: &Plan, row: usize, line: &[u8]) -> Result<bool, AllocError>
     ensures { IfOk result (λ own. own ≡ is_own_line plan.now row line.now) }
 {
-    let route = route_of(&plan.rows, row, read_line(alloc, line, plan.version)?);
+    let parsed = parse_line(alloc, plan.version, line, None)?;
+    let route = route_line(&plan.rows, row, &parsed)?;
     Ok(goes_to(row, &route))
 }
 
@@ -67,7 +71,7 @@ fn push_line(line: &[u8], text: &mut Vec<u8>) -> Result<(), AllocError>
     Ok(())
 }
 
-/// Each line of the game of that row goes behind a line feed.
+/// Appends each line of the game of that row, with a line feed before it.
 fn push_own_lines(
     alloc: Global,
     plan: &Plan,
@@ -80,7 +84,7 @@ fn push_own_lines(
 {
     let mut left = rest;
     'lines: while let Some(lines) = left {
-        let (line, more) = cut_piece(lines);
+        let (line, more) = split_line(lines);
         if is_own_line(alloc, plan, row, line)? {
             push_line(line, text)?;
         }
@@ -104,9 +108,9 @@ fn cut_to(
     Ok(text)
 }
 
-/// The file of the game of that name alone: a plan of the same version with its row alone, and then its lines as they
-/// stand, with a line feed between any two of them. The fault is the first that is found: of the file's length, of its
-/// plan, of the name.
+/// Makes the file of the game of that name alone: a plan of the same version with its row alone,
+/// then its lines, unchanged, each after a line feed. Checks the file's length, its plan and the
+/// name, and returns the first fault.
 #[tactic(auto, using(crate::proofs::CutFile::refusal_of_long, crate::proofs::CutFile::refusal_of_first, crate::proofs::CutFile::cut_of_first, crate::proofs::CutFile::rows_of_first))]
 pub fn cut(alloc: Global, input: &[u8], game: &str) -> Result<Vec<u8>, Cut>
     ensures cut { OnOk result (cut_refusal_of input.now game.now ≡ None) }
@@ -117,7 +121,7 @@ pub fn cut(alloc: Global, input: &[u8], game: &str) -> Result<Vec<u8>, Cut>
     if input.len() > MOST_FILE_BYTES {
         return Err(Cut::TooLong);
     }
-    let (first, rest) = cut_piece(input);
+    let (first, rest) = split_line(input);
     let plan = read_plan(alloc, first)?;
     let name = Id::from_str(alloc, game)?;
     match row_named(&plan.rows, FIRST_ROW, &name) {
@@ -126,7 +130,8 @@ pub fn cut(alloc: Global, input: &[u8], game: &str) -> Result<Vec<u8>, Cut>
     }
 }
 
-/// That each game of each file is answered by its own lines alone as it is in the file. It does nothing.
+/// States that each game of each file is answered by its own lines alone as it is in the file. Does
+/// nothing.
 pub fn section_law()
     ensures { SectionLaw }
 {}

@@ -1,6 +1,6 @@
 //! Writers and readers that fail once, at each place, and then go on: nothing is tried again.
 use crate::tests::{SOLO, SOLO_TEXT, TWO_GAMES};
-use crate::{read_input, serve, serve_and_close};
+use crate::{read_input, serve};
 use bs_workers::OpenGate;
 use std::alloc::{AllocError, Global};
 use std::io;
@@ -48,7 +48,6 @@ fn stumbled<R: Threads + Wait + Sync>(
     alloc: Global,
     place: usize,
     failure: Option<ErrorKind>,
-    closes: bool,
 ) -> Result<(String, Vec<u8>), AllocError> {
     let mut output = Stumbling {
         taken: Vec::new(alloc),
@@ -57,13 +56,8 @@ fn stumbled<R: Threads + Wait + Sync>(
         failed: false,
     };
     let file = SOLO.as_bytes();
-    let answer = if closes {
-        serve_and_close(rt, alloc, file, 6, 1, &OpenGate, &mut output)
-    } else {
-        serve(rt, alloc, file, 6, 1, &OpenGate, &mut output).map(|core| drop(core))
-    };
-    let told = match answer {
-        Ok(()) => String::from_str(alloc, "served")?,
+    let told = match serve(rt, alloc, file, 6, 1, &OpenGate, &mut output) {
+        Ok(_core) => String::from_str(alloc, "served")?,
         Err(fault) => format!(in alloc; "{fault}")?,
     };
     Ok((told, output.taken))
@@ -83,11 +77,11 @@ fn writers_that_fail_once(rt: HostRuntime) -> Result<(), Fail> {
     for place in 0..text.len() {
         let wanted = format!(in alloc; "write failed after {place} bytes")?;
         let failure = failures[place % 4];
-        let (told, taken) = stumbled(&rt, alloc, place, failure, place % 3 == 0)?;
+        let (told, taken) = stumbled(&rt, alloc, place, failure)?;
         assert_eq!(rt; told.as_str(), wanted.as_str());
         assert_eq!(rt; taken.as_slice(), &text[..place]);
     }
-    let (told, taken) = stumbled(&rt, alloc, text.len(), None, true)?;
+    let (told, taken) = stumbled(&rt, alloc, text.len(), None)?;
     assert_eq!(rt; told.as_str(), "served");
     assert_eq!(rt; taken.as_slice(), text);
     Ok(())

@@ -35,7 +35,7 @@ pub enum Fault {
     Plan(PlanRefusal),
     #[error("out of memory")]
     Memory,
-    /// The run was broken off.
+    /// A gate refused a job, or the run did not end as it should (`bs_workers::Run::Broken`).
     #[error("broken")]
     Broken,
     /// The writer failed after it took this many bytes.

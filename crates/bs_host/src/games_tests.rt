@@ -1,6 +1,6 @@
 //! Files by several workers: strays, two games in turns, eight games, and two parts of one move.
+use crate::cut;
 use crate::tests::{SOLO, SOLO_TEXT, TWO_GAMES, worked};
-use crate::{cut, serve_and_close};
 use bs_fiber::{JobKind, JobName};
 use bs_workers::{Gate, OpenGate};
 use std::alloc::Global;
@@ -188,12 +188,6 @@ fn two_parts_of_one_move_at_once(rt: HostRuntime) -> Result<(), Fail> {
     let gate = new_meeting();
     let (told, written) = worked(&rt, alloc, own.as_slice(), 6, 2, &gate)?;
     assert_eq!(rt; told.as_str(), "served");
-    assert_eq!(rt; written.as_slice(), SECOND_TEXT.as_bytes());
-    assert!(rt; gate.first.load(SeqCst) && gate.second.load(SeqCst));
-    let gate = new_meeting();
-    let mut written = Vec::new(alloc);
-    let closed = serve_and_close(&rt, alloc, own.as_slice(), 6, 2, &gate, &mut written);
-    assert!(rt; closed.is_ok());
     assert_eq!(rt; written.as_slice(), SECOND_TEXT.as_bytes());
     assert!(rt; gate.first.load(SeqCst) && gate.second.load(SeqCst));
     Ok(())

@@ -1,5 +1,5 @@
 //! Whole files and what is written for them, and readers, writers and runs that fail.
-use crate::{read_input, serve, serve_and_close};
+use crate::{read_input, serve};
 use bs_fiber::JobName;
 use bs_workers::{Gate, OpenGate};
 use std::alloc::{AllocError, Global};
@@ -202,7 +202,8 @@ fn files_and_their_transcripts(rt: HostRuntime) -> Result<(), Fail> {
     Ok(())
 }
 
-// However many workers there are, the same is written, and the core that is given back has answered all.
+// However many workers there are, the same is written, and the core that is given back has answered
+// all.
 #[test]
 fn any_workers_write_the_same(rt: HostRuntime) -> Result<(), Fail> {
     let alloc = rt.alloc();
@@ -212,11 +213,7 @@ fn any_workers_write_the_same(rt: HostRuntime) -> Result<(), Fail> {
             assert_eq!(rt; told.as_str(), "served", "{workers}");
             assert_eq!(rt; written.as_slice(), text.as_bytes(), "{workers}");
         }
-        let mut written = Vec::new(alloc);
         let file = TWO_GAMES.as_bytes();
-        let closed = serve_and_close(&rt, alloc, file, 12, workers, &OpenGate, &mut written);
-        assert!(rt; closed.is_ok());
-        assert_eq!(rt; written.as_slice(), TWO_GAMES_TEXT.as_bytes(), "{workers}");
         let mut written = Vec::new(alloc);
         let served = serve(&rt, alloc, file, 12, workers, &OpenGate, &mut written);
         let core = served.ok().ok_or("served")?;
@@ -232,10 +229,12 @@ fn any_workers_write_the_same(rt: HostRuntime) -> Result<(), Fail> {
     Ok(())
 }
 
-/// So many that the file has some 90,000 bytes: it is read by several threads where there are several workers.
+/// So many that the file has some 90,000 bytes: it is read by several threads where there are
+/// several workers.
 const ROUNDS: u16 = 400;
 
-// Many lines of three games in turns, with lines between them that belong to no game or say nothing. It ends without a feed.
+// Many lines of three games in turns, with lines between them that belong to no game or say
+// nothing. It ends without a feed.
 fn many_lines(alloc: Global) -> Result<String, AllocError> {
     let mut file = String::from_str(
         alloc,
@@ -259,7 +258,8 @@ fn many_lines(alloc: Global) -> Result<String, AllocError> {
     Ok(file)
 }
 
-// However the lines are shared out for reading, and the text for writing, the same is written as by one worker alone.
+// However the lines are shared out for reading, and the text for writing, the same is written as by
+// one worker alone.
 #[test]
 fn any_workers_share_the_work(rt: HostRuntime) -> Result<(), Fail> {
     let alloc = rt.alloc();
@@ -309,7 +309,8 @@ fn runs_that_are_broken_off(rt: HostRuntime) -> Result<(), Fail> {
     Ok(())
 }
 
-// A file that ends anywhere: without its whole first line it has no plan, and a later line that is cut is a stray.
+// A file that ends anywhere: without its whole first line it has no plan, and a later line that is
+// cut is a stray.
 #[test]
 fn every_front_of_a_file_is_served(rt: HostRuntime) -> Result<(), Fail> {
     let alloc = rt.alloc();

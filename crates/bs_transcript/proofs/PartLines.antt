@@ -1,5 +1,5 @@
 -- Texts of lines that are cut from all lines.
-use Rattle.std.proofs.Common.{◌≡◌, ℕ, ◌+◌, ◌-◌, ◌<◌, ◌≤◌, min, drop, get_or, List, [], ◌∷◌, ◌++◌, length, map, refl, sym, ap, ◌∙◌, arith, append_assoc, append-nil, length-append}
+use Rattle.std.proofs.Common.{◌≡◌, ℕ, ◌+◌, ◌-◌, ◌*◌, ◌<◌, ◌≤◌, min, drop, get_or, List, [], ◌∷◌, ◌++◌, length, map, refl, sym, ap, ◌∙◌, arith, append_assoc, append-nil, length-append}
 use Rattle.std.specs.List.{between, enumerate_from, flat_map}
 use Rattle.std.proofs.lemmas.List.{length-map, drop_more, take_all}
 use Rattle.std.proofs.lemmas.Slice.{between_is}
@@ -67,6 +67,27 @@ whole_lines (section ∷ sections) strays =
 pub part_of_all : (count : ℕ) (sections : List Section) (strays : List (ℕ × Stray)) → count ≡ length (all_lines_of sections strays)
     → part_of 0 count (all_lines_of sections strays) ≡ text_of sections strays
 part_of_all count sections strays is = rw is (ap joined (between_all (all_lines_of sections strays)) ∙ whole_lines sections strays)
+
+-- a part that ends at the last line
+pub part_min : (from size lines : ℕ) (xs : List (List ℕ)) → lines ≡ length xs → from < lines
+    → part_of from (from + min size (lines - from)) xs ≡ part_of from (from + size) xs
+part_min from size lines xs many within =
+    let e : from + min size (lines - from) ≡ min (from + size) (length xs) = grind (arith, many) in
+    ap (λ u. part_of from u xs) e ∙ ap joined (between_min from (from + size) xs)
+
+-- a part that ends behind the last line
+pub part_past : (until lines : ℕ) (xs : List (List ℕ)) → lines ≡ length xs → lines ≤ until → part_of 0 until xs ≡ part_of 0 lines xs
+part_past until lines xs many past =
+    let e : min until (length xs) ≡ lines = grind (arith, many) in
+    sym (ap joined (between_min 0 until xs)) ∙ ap (λ u. part_of 0 u xs) e
+
+-- one share more
+pub one_more_share : (at size : ℕ) (xs : List (List ℕ)) (old new share : List ℕ) → old ≡ part_of 0 (at * size) xs
+    → share ≡ part_of (at * size) (at * size + size) xs → new ≡ old ++ share → new ≡ part_of 0 ((at + 1) * size) xs
+one_more_share at size xs old new share is_old is_share is_new =
+    let e : at * size + size ≡ (at + 1) * size = grind arith in
+    is_new ∙ ap (λ t. t ++ share) is_old ∙ ap (λ t. part_of 0 (at * size) xs ++ t) is_share
+    ∙ parts_meet 0 (at * size) (at * size + size) xs (omega arith) (omega arith) ∙ ap (λ u. part_of 0 u xs) e
 
 -- at a place of the list of games
 

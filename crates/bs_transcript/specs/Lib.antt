@@ -1,4 +1,2 @@
-pub mod Bytes
 pub mod Lines
 pub mod Parts
-pub mod Fragments

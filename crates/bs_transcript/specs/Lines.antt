@@ -15,14 +15,14 @@ reply_lines_from first name replies = flat_map (λ reply. reply_line_of name rep
 abbrev pub reply_lines_of : List ℕ → List Reply → List ℕ
 reply_lines_of = reply_lines_from 1
 
--- the line that shows how a game stands in the end
+-- the final line of a game: its last board and its charge
 abbrev pub last_line_of : List ℕ → Game → List ℕ
 last_line_of name game = final_line_of name (last_board game) (game_charge game)
 
 abbrev pub stray_lines_of : List (ℕ × Stray) → List ℕ
 stray_lines_of = flat_map (λ stray. stray_line_of stray.0 stray.1)
 
--- The same of what the calls are given.
+-- The same, of the values that the calls take.
 
 abbrev pub section_lines_of : Section → List ℕ
 section_lines_of section = reply_lines_of section.name.now section.replies.now ++ final_line_of section.name.now section.board section.charge

@@ -1,19 +1,13 @@
-//! The text of a transcript, made of what each game was answered and of the lines that belong to no game, and its way to a
-//! writer.
+//! Renders the text of a transcript, by one thread or several: each game's replies and final line,
+//! then the lines that belong to no game. Writes it to a writer.
 #![tactic(auto)]
 
-mod fragments;
 mod lines;
-mod parts;
-mod sharing;
-mod sheet;
-mod spare;
+mod render;
 #[cfg(test)]
 mod tests;
-mod writing;
+mod write;
 
 pub use lines::{Section, text};
-pub use parts::{Parts, write_parts};
-pub use sharing::text_by;
-pub use spare::SpareThreads;
-pub use writing::{WriteFault, write_all_of};
+pub use render::text_by;
+pub use write::{WriteFault, write_all_of};

@@ -7,7 +7,7 @@ use bs_board::{Board, Id, Reply};
 use bs_json::{Stray, final_line, push_reply_line, stray_line};
 use std::alloc::{AllocError, Global};
 
-/// What is told of one game.
+/// What the transcript shows of one game.
 #[derive(Debug, Drop)]
 pub struct Section<'t> {
     pub name: &'t Id,
@@ -17,7 +17,7 @@ pub struct Section<'t> {
     pub charge: u32,
 }
 
-/// Replies of a game one after the other, the first of which has that number.
+/// Appends the lines of these replies of a game, numbered from `first`.
 pub(crate) fn push_replies(
     alloc: Global,
     name: &Id,
@@ -34,7 +34,7 @@ pub(crate) fn push_replies(
     Ok(())
 }
 
-/// How a game stands in the end.
+/// Appends the final line of a game: its last board and its charge.
 pub(crate) fn push_final(
     alloc: Global,
     section: &Section<'_>,
@@ -48,7 +48,7 @@ pub(crate) fn push_final(
     Ok(())
 }
 
-/// What a game was answered, and how it stands in the end.
+/// Appends the reply lines of a game, and its final line.
 fn push_section(alloc: Global, section: &Section<'_>, text: &mut Vec<u8>) -> Result<(), AllocError>
     ensures { OnOk result (text.new.items ≡ text.old.items ++ section_lines_of section.now) }
 {
@@ -70,7 +70,8 @@ pub(crate) fn push_strays(
     Ok(())
 }
 
-/// The games' sections in their order, then the lines that belong to no game, each with its number in the file.
+/// Renders the games' sections in order, then the lines that belong to no game, each with its
+/// number in the file.
 pub fn text(
     alloc: Global,
     sections: &[Section<'_>],

@@ -1,5 +1,5 @@
 //! Transcripts of replies and strays, and writers that fail.
-use crate::{Section, SpareThreads, text, text_by, write_all_of, write_parts};
+use crate::{Section, text, text_by, write_all_of};
 use bs_board::{Id, Refusal, Reply, Word};
 use bs_json::Stray;
 use std::alloc::{AllocError, Global};
@@ -70,39 +70,24 @@ fn sections_and_strays(rt: HostRuntime) -> Result<(), Fail> {
     Ok(())
 }
 
-// As many workers as there are lines, fewer, and more: the same text, also for a writer that fails among its parts.
+// As many threads as there are lines, fewer, and more: the same text.
 #[test]
-fn any_workers_make_the_same_text(rt: HostRuntime) -> Result<(), Fail> {
+fn any_threads_make_the_same_text(rt: HostRuntime) -> Result<(), Fail> {
     let alloc = rt.alloc();
     let games = three_games(alloc)?;
     let sections = sections_of(alloc, games.as_slice())?;
     let strays = [(3, Stray::Json), (7, Stray::Long)];
-    for workers in 0..11 {
-        let parts = text_by(&rt, alloc, sections.as_slice(), &strays, workers)?;
-        assert_eq!(rt; parts.len(), TEXT.len(), "{workers}");
-        for room in 0..=TEXT.len() {
-            let mut narrow = Narrow {
-                taken: Vec::new(alloc),
-                room,
-                failure: None,
-            };
-            let fault = write_parts(&parts, &mut narrow).err();
-            let wanted = if room < TEXT.len() { Some(room) } else { None };
-            assert_eq!(rt; fault.map(|fault| fault.written), wanted, "{workers}");
-            assert_eq!(rt;
-                narrow.taken.as_slice(),
-                &TEXT.as_bytes()[..room],
-                "{workers}"
-            );
-        }
+    for threads in 0..11 {
+        let told = text_by(&rt, alloc, sections.as_slice(), &strays, threads)?;
+        assert_eq!(rt; told.as_slice(), TEXT.as_bytes(), "{threads}");
     }
     assert_eq!(rt; text_by(&rt, alloc, &[], &[], 4)?.len(), 0);
     Ok(())
 }
 
-// So many lines that each worker makes some of them: the same text as in one piece.
+// More lines than a thread renders alone: the same text as in one piece.
 #[test]
-fn any_workers_share_many_lines(rt: HostRuntime) -> Result<(), Fail> {
+fn any_threads_share_many_lines(rt: HostRuntime) -> Result<(), Fail> {
     let alloc = rt.alloc();
     let mut replies = Vec::new(alloc);
     for seq in 0..3000u32 {
@@ -112,33 +97,24 @@ fn any_workers_share_many_lines(rt: HostRuntime) -> Result<(), Fail> {
             Reply::Refused(Refusal::NoGame)
         })?;
     }
-    let name = Id::from_str(alloc, "a")?;
-    let sections = [Section {
-        name: &name,
-        replies: replies.as_slice(),
-        board: None,
-        charge: 0,
-    }];
-    let whole = text(alloc, &sections, &[])?;
-    for workers in 1..5 {
-        let parts = text_by(&rt, alloc, &sections, &[], workers)?;
-        let mut written = Vec::new(alloc);
-        assert!(rt; write_parts(&parts, &mut written).is_ok());
-        assert_eq!(rt; written.as_slice(), whole.as_slice(), "{workers}");
+    let names = [Id::from_str(alloc, "a")?, Id::from_str(alloc, "b")?];
+    let mut sections = Vec::new(alloc);
+    let all = replies.as_slice();
+    assert_eq!(rt; all.len(), 3000);
+    for (name, replies) in [(&names[0], &all[..1]), (&names[1], all)] {
+        sections.push(Section {
+            name,
+            replies,
+            board: None,
+            charge: 0,
+        })?;
     }
-    Ok(())
-}
-
-// Of three threads two are spare beside the caller's, and one more once one has ended.
-#[test]
-fn spare_threads_are_counted(rt: HostRuntime) -> Result<(), Fail> {
-    let spare = SpareThreads::beside(3);
-    assert!(rt; spare.take_one());
-    assert!(rt; spare.take_one());
-    assert!(rt; !spare.take_one());
-    spare.give_back();
-    assert!(rt; spare.take_one());
-    assert!(rt; !SpareThreads::beside(0).take_one());
+    let strays = [(3, Stray::Json), (7, Stray::Long)];
+    let whole = text(alloc, sections.as_slice(), &strays)?;
+    for threads in 1..8 {
+        let told = text_by(&rt, alloc, sections.as_slice(), &strays, threads)?;
+        assert_eq!(rt; told.as_slice(), whole.as_slice(), "{threads}");
+    }
     Ok(())
 }
 

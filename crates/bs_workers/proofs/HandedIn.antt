@@ -1,4 +1,4 @@
--- The commands that a journal hands in, looked at one by one, and what a quiet core is that was handed them.
+-- The commands that a journal queues, one by one, and what a quiet core is that queued them.
 use Rattle.std.proofs.Common.{◌≡◌, ℕ, ◌+◌, ◌<◌, true, List, [], ◌∷◌, ◌++◌, length, take, drop, get_or, refl, sym, ap, subst, ◌∙◌, inl, inr}
 use Rattle.std.specs.Prelude.{nat_eq, nat_lt}
 use Rattle.std.specs.List.{list_all}
@@ -7,6 +7,7 @@ use Rattle.std.proofs.lemmas.List.{append-nil, append_assoc, append_cancel_left,
 use Rattle.std.proofs.lemmas.List.Sums.{AllPass-from_list_all}
 use Rattle.bs_board.specs.declared.commands.command.Command.{Command}
 use Rattle.bs_board.specs.plans.Plan.{GameRow}
+use Rattle.bs_pool.specs.Ledger.{size}
 use Rattle.bs_sched.specs.declared.event.Event.{Event}
 use Rattle.bs_sched.specs.declared.event.Event.TheVariants as event
 use Rattle.bs_sched.specs.Core.{CoreView}
@@ -17,8 +18,7 @@ use Rattle.bs_sched.specs.Journal.{KeepsApart}
 use Rattle.bs_sched.specs.Lane.{Lane, no_lane, is_quiet}
 use Rattle.bs_sched.specs.Machine.{lane_of}
 use Rattle.bs_sched.proofs.HandedCommands.{served}
-use Rattle.bs_workers.specs.Given.{CannotHandIn, IsAsGiven, IsRunFrom}
-use Rattle.bs_workers.specs.Run.{commands_for}
+use Rattle.bs_workers.specs.Run.{CannotHandIn, HasEnded, IsRunOf, commands_for}
 
 -- one event more
 
@@ -86,24 +86,27 @@ served_one cap core game within apart quiet =
     served (lane_of core.games.lanes game) (row_at core.games.rows game) (commands_for game (hands_of core.journal)) course.right
     (quiet_at core.games.lanes game quiet) course.quota (course.commands ∙ own_hands game core.journal)
 
-pub run_from : (cap : ℕ) (rows : List GameRow) (blocks : ℕ) (commands : List (ℕ × Command)) (new : CoreView) → KeepsApart cap new
-    → IsAsGiven rows blocks new → hands_of new.journal ≡ commands → IsRunFrom rows blocks commands new
-run_from cap rows blocks commands new apart given handed =
+pub run_of : (cap : ℕ) (rows : List GameRow) (blocks : ℕ) (commands : List (ℕ × Command)) (old new : CoreView) → KeepsApart cap new
+    → HasEnded rows blocks new → hands_of new.journal ≡ commands → rows ≡ old.games.rows → blocks ≡ size old.games.storage.pool
+    → IsRunOf old commands new
+run_of cap rows blocks commands old new apart ended handed same many =
+    let plan : new.games.rows ≡ old.games.rows = ended.plan ∙ same in
     record {
-      plan = given.plan;
-      as_many = given.as_many;
-      failed = given.failed;
-      quiet = given.quiet;
+      plan = plan;
+      blocks = ended.as_many ∙ many;
+      failed = ended.failed;
+      quiet = ended.quiet;
       handed = handed;
       served =
           λ game within.
-          let there : game < length new.games.rows = rw given.plan within in
-          let all = served_one cap new game there apart given.quiet in
-          rw (given.plan, handed) at all;
+          let there : game < length new.games.rows = rw plan within in
+          let all = served_one cap new game there apart ended.quiet in
+          rw (plan, handed) at all;
     }
 
--- what a run left is as it was given
+-- a run has ended
 
-pub as_given : (rows : List GameRow) (blocks : ℕ) (commands : List (ℕ × Command)) (new : CoreView) → IsRunFrom rows blocks commands new
-    → IsAsGiven rows blocks new
-as_given rows blocks commands new run = record { plan = run.plan; as_many = run.as_many; failed = run.failed; quiet = run.quiet }
+pub run_ended : (rows : List GameRow) (blocks : ℕ) (commands : List (ℕ × Command)) (old new : CoreView) → IsRunOf old commands new
+    → rows ≡ old.games.rows → blocks ≡ size old.games.storage.pool → HasEnded rows blocks new
+run_ended rows blocks commands old new run same many =
+    record { plan = run.plan ∙ sym same; as_many = run.blocks ∙ sym many; failed = run.failed; quiet = run.quiet }

@@ -1,4 +1,7 @@
 //! Why a run was stopped.
+ghost use Rattle.std.specs.Prelude.{◌≡◌};
+ghost use Rattle.bs_workers.specs.declared.fault.Run.TheVariants as cause;
+
 use std::alloc::AllocError;
 use thiserror::Error;
 
@@ -7,13 +10,15 @@ use thiserror::Error;
 pub enum Run {
     #[error("out of memory")]
     Memory,
-    /// A gate answered false, a command's row is not in the plan, a job was never completed, or the core
-    /// is not the result of a run.
+    /// A gate answered false, a command's row is not in the plan, the core refused a call, or the
+    /// finished core is not that of a complete run.
     #[error("broken")]
     Broken,
 }
 
 impl From<AllocError> for Run {
+    ghost from_gives = { λ _ error. error ≡ cause.Memory };
+
     fn from(_error: AllocError) -> Run {
         Run::Memory
     }

@@ -1,4 +1,6 @@
 //! The gate, which is consulted before each job.
+ghost use Rattle.std.specs.Prelude.{◌≡◌, true};
+
 use bs_fiber::JobName;
 
 /// Consulted before each job, by the thread that runs it, with no lock held.
@@ -12,7 +14,9 @@ pub trait Gate: Sync {
 pub struct OpenGate;
 
 impl Gate for OpenGate {
-    fn at(&self, _worker: usize, _job: JobName) -> bool {
+    fn at(&self, _worker: usize, _job: JobName) -> bool
+        ensures { result ≡ true }
+    {
         true
     }
 }

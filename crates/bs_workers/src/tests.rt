@@ -1,9 +1,10 @@
-//! Games of three snakes, played by one worker and by several, by threads with crews, and what
+//! Games of three snakes, run by one thread and by several, in batches of several sizes, and what
 //! becomes of them where a gate is shut.
 ghost use Rattle.std.specs.Prelude.{◌≡◌, IfOk, length};
-ghost use Rattle.bs_sched.specs.Core.{opened_core};
 
-use crate::{Gate, Given, OpenGate, Run, Shop, run, run_in_crews};
+use crate::compare::{copy_rows, is_run_of};
+use crate::state::State;
+use crate::{Gate, OpenGate, Run, run};
 use bs_board::limits::MOST_ROWS;
 use bs_board::plans::plan::have_distinct_names;
 use bs_board::{
@@ -127,17 +128,17 @@ fn commands(alloc: Global) -> Result<Vec<(usize, SharedCommand)>, Fail> {
     Ok(commands)
 }
 
-/// A run of these commands over two games.
+/// A run of these commands over two games, by that many threads with one worker each.
 fn played<R: Threads + Wait + Abort + Sync, G: Gate>(
     rt: &R,
     alloc: Global,
     commands: &[(usize, SharedCommand)],
-    workers: usize,
+    threads: usize,
     gate: &G,
 ) -> Result<Result<Core<524_288>, Run>, Fail> {
-    assert!(rt; workers <= MOST_WORKERS);
-    let core = Core::<524_288>::open(alloc, games(rt, alloc, &["a", "b"])?, 12, workers)?;
-    Ok(run(rt, alloc, core, commands, workers, gate))
+    assert!(rt; threads <= MOST_WORKERS);
+    let core = Core::<524_288>::open(alloc, games(rt, alloc, &["a", "b"])?, 12, threads)?;
+    Ok(run(rt, alloc, core, commands, threads, gate))
 }
 
 /// The replies of that game and of the one behind it, as text.
@@ -154,10 +155,10 @@ fn told(rt: &impl Abort, alloc: Global, core: &Core<524_288>, game: usize) -> Re
 fn told_by<R: Threads + Wait + Abort + Sync>(
     rt: &R,
     alloc: Global,
-    workers: usize,
+    threads: usize,
 ) -> Result<String, Fail> {
     let commands = commands(alloc)?;
-    let core = played(rt, alloc, commands.as_slice(), workers, &OpenGate)??;
+    let core = played(rt, alloc, commands.as_slice(), threads, &OpenGate)??;
     told(rt, alloc, &core, 0)
 }
 
@@ -176,39 +177,50 @@ fn commands_of_pairs(alloc: Global) -> Result<Vec<(usize, SharedCommand)>, Fail>
     Ok(all)
 }
 
-/// A run of these commands over sixteen games, by so many threads with crews of that size.
-fn played_in_crews<R: Threads + Wait + Abort + Sync>(
+/// A run of these commands over sixteen games, by that many threads over a core of that many
+/// workers.
+fn played_in_batches<R: Threads + Wait + Abort + Sync>(
     rt: &R,
     alloc: Global,
     commands: &[(usize, SharedCommand)],
     threads: usize,
-    crew: usize,
+    workers: usize,
 ) -> Result<Core<524_288>, Fail> {
-    let workers = threads.checked_mul(crew).ok_or("a number of workers")?;
     assert!(rt; workers <= MOST_WORKERS);
     let core = Core::<524_288>::open(alloc, games(rt, alloc, &NAMES)?, 96, workers)?;
-    Ok(run_in_crews(rt, alloc, core, commands, threads, crew, &OpenGate)?)
+    Ok(run(rt, alloc, core, commands, threads, &OpenGate)?)
 }
 
 #[test]
-fn any_number_of_workers_gives_the_same_replies(rt: HostRuntime) -> Result<(), Fail> {
+fn any_number_of_threads_gives_the_same_replies(rt: HostRuntime) -> Result<(), Fail> {
     let alloc = rt.alloc();
     let alone = told_by(&rt, alloc, 1)?;
-    for workers in [0usize, 2, 4] {
-        let others = told_by(&rt, alloc, workers)?;
+    for threads in [0usize, 2, 4] {
+        let others = told_by(&rt, alloc, threads)?;
         assert!(rt; alone.as_str() == others.as_str());
     }
     Ok(())
 }
 
-/// Each pair of sixteen games is as it is alone.
+/// Each pair of sixteen games is as it is alone, also where the workers are fewer than the threads
+/// or no multiple of them.
 #[test]
-fn threads_with_crews_give_the_same_replies(rt: HostRuntime) -> Result<(), Fail> {
+fn threads_with_batches_give_the_same_replies(rt: HostRuntime) -> Result<(), Fail> {
     let alloc = rt.alloc();
     let alone = told_by(&rt, alloc, 1)?;
     let commands = commands_of_pairs(alloc)?;
-    for (threads, crew) in [(0usize, 3usize), (1, 8), (2, 4), (2, 8), (3, 1), (4, 2)] {
-        let core = played_in_crews(&rt, alloc, commands.as_slice(), threads, crew)?;
+    for (threads, workers) in [
+        (0usize, 3usize),
+        (1, 8),
+        (2, 8),
+        (2, 16),
+        (3, 3),
+        (3, 8),
+        (4, 8),
+        (4, 3),
+        (4, 0),
+    ] {
+        let core = played_in_batches(&rt, alloc, commands.as_slice(), threads, workers)?;
         for pair in 0..8usize {
             let others = told(&rt, alloc, &core, 2 * pair)?;
             assert!(rt; alone.as_str() == others.as_str());
@@ -217,36 +229,31 @@ fn threads_with_crews_give_the_same_replies(rt: HostRuntime) -> Result<(), Fail>
     Ok(())
 }
 
-/// What threads make of the commands is told from what they would make of fewer, or over more
-/// blocks.
+/// The result of a run is told from that of other commands, and of a core with other blocks or
+/// another plan.
 #[test]
 fn a_run_is_told_from_another(rt: HostRuntime) -> Result<(), Fail> {
     let alloc = rt.alloc();
     let commands = commands(alloc)?;
     let commands = commands.as_slice();
     let core = Core::<524_288>::open(alloc, games(&rt, alloc, &["a", "b"])?, 12, 4)?;
-    let given = Given::of(alloc, &core)?;
-    let larger = Core::<524_288>::open(alloc, games(&rt, alloc, &["a", "b"])?, 13, 4)?;
-    assert!(rt; !given.is_left(&core, commands));
-    assert!(rt; given.is_left(&core, &commands[..0]));
-    let shop = Shop::new(alloc, core, 2, 2)?;
-    for some in commands.chunks(5) {
-        assert!(rt; shop.hand(&rt, alloc, some));
-    }
-    shop.close(&rt);
-    shop.work_in_threads(&rt, alloc, 0..2, &OpenGate);
-    let core = shop.finish(&rt, alloc, &OpenGate)?;
-    assert!(rt; given.is_left(&core, commands));
-    assert!(rt; !given.is_left(&core, &commands[..0]));
-    assert!(rt; !Given::of(alloc, &larger)?.is_left(&core, commands));
+    let other = Core::<524_288>::open(alloc, games(&rt, alloc, &["a", "c"])?, 12, 4)?;
+    let rows = copy_rows(alloc, &core)?;
+    let others = copy_rows(alloc, &other)?;
+    assert!(rt; !is_run_of(&core, rows.as_slice(), 12, commands));
+    assert!(rt; is_run_of(&core, rows.as_slice(), 12, &commands[..0]));
+    let core = run(&rt, alloc, core, commands, 2, &OpenGate)?;
+    assert!(rt; is_run_of(&core, rows.as_slice(), 12, commands));
+    assert!(rt; !is_run_of(&core, rows.as_slice(), 12, &commands[..0]));
+    assert!(rt; !is_run_of(&core, rows.as_slice(), 13, commands));
+    assert!(rt; !is_run_of(&core, others.as_slice(), 12, commands));
     Ok(())
 }
 
 /// Of two faults want of memory is told, whichever came first.
 #[test]
-fn a_stopped_shop_has_no_core(rt: HostRuntime) -> Result<(), Fail> {
+fn a_stopped_run_has_no_core(rt: HostRuntime) -> Result<(), Fail> {
     let alloc = rt.alloc();
-    let commands = commands(alloc)?;
     for (first, second, told) in [
         (Run::Broken, Run::Broken, Run::Broken),
         (Run::Broken, Run::Memory, Run::Memory),
@@ -254,12 +261,10 @@ fn a_stopped_shop_has_no_core(rt: HostRuntime) -> Result<(), Fail> {
         (Run::Memory, Run::Memory, Run::Memory),
     ] {
         let core = Core::<524_288>::open(alloc, games(&rt, alloc, &["a", "b"])?, 12, 2)?;
-        let shop = Shop::new(alloc, core, 2, 1)?;
-        shop.stop(&rt, first);
-        assert!(rt; !shop.hand(&rt, alloc, commands.as_slice()));
-        shop.stop(&rt, second);
-        shop.work_in_threads(&rt, alloc, 0..2, &OpenGate);
-        assert_eq!(rt; shop.finish(&rt, alloc, &OpenGate).err(), Some(told));
+        let mut state = State::new(core);
+        state.fail(first);
+        state.fail(second);
+        assert_eq!(rt; state.into_core().err(), Some(told));
     }
     Ok(())
 }
@@ -268,8 +273,8 @@ fn a_stopped_shop_has_no_core(rt: HostRuntime) -> Result<(), Fail> {
 fn a_shut_gate_breaks_the_run(rt: HostRuntime) -> Result<(), Fail> {
     let alloc = rt.alloc();
     let commands = commands(alloc)?;
-    for workers in [1usize, 2, 4] {
-        let broken = played(&rt, alloc, commands.as_slice(), workers, &NoJoin)?;
+    for threads in [1usize, 2, 4] {
+        let broken = played(&rt, alloc, commands.as_slice(), threads, &NoJoin)?;
         assert_eq!(rt; broken.err(), Some(Run::Broken));
     }
     Ok(())
@@ -279,10 +284,10 @@ fn a_shut_gate_breaks_the_run(rt: HostRuntime) -> Result<(), Fail> {
 #[test]
 fn a_command_for_no_row_breaks_the_run(rt: HostRuntime) -> Result<(), Fail> {
     let alloc = rt.alloc();
-    for workers in [0usize, 1, 2, 4] {
+    for threads in [0usize, 1, 2, 4] {
         let mut commands = commands(alloc)?;
         push(alloc, &mut commands, 2, Command::Show)?;
-        let broken = played(&rt, alloc, commands.as_slice(), workers, &OpenGate)?;
+        let broken = played(&rt, alloc, commands.as_slice(), threads, &OpenGate)?;
         assert_eq!(rt; broken.err(), Some(Run::Broken));
     }
     let mut alone = Vec::new(alloc);
@@ -297,16 +302,16 @@ fn a_command_for_no_row_breaks_the_run(rt: HostRuntime) -> Result<(), Fail> {
 fn a_failed_core_is_no_result(rt: HostRuntime) -> Result<(), Fail> {
     let alloc = rt.alloc();
     let mut core = Core::<524_288>::open(alloc, games(&rt, alloc, &["a", "b"])?, 12, 2)?;
-    let given = Given::of(alloc, &core)?;
-    assert!(rt; given.is_left(&core, &[]));
+    let rows = copy_rows(alloc, &core)?;
+    assert!(rt; is_run_of(&core, rows.as_slice(), 12, &[]));
     core.fail();
     assert!(rt; core.is_quiet());
-    assert!(rt; !given.is_left(&core, &[]));
+    assert!(rt; !is_run_of(&core, rows.as_slice(), 12, &[]));
     Ok(())
 }
 
 #[test]
-fn two_workers_are_at_one_move(rt: HostRuntime) -> Result<(), Fail> {
+fn two_threads_are_at_one_move(rt: HostRuntime) -> Result<(), Fail> {
     let alloc = rt.alloc();
     let mut commands = Vec::new(alloc);
     push(alloc, &mut commands, 0, three_snakes(alloc)?)?;

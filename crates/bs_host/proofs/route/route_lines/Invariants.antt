@@ -1,0 +1,8 @@
+use Rattle.std.proofs.Common.{◌+◌, drop}
+use Rattle.bs_host.specs.Parsed.{routes_parsed}
+use Rattle.bs_host.proofs.ParsedLines.{AreLeft}
+use Rattle.bs_host.proofs.route.route_lines.Given as goal
+
+-- the lines so far, then those that are left
+abbrev pub invariant-loop-index : goal.invariant-loop-index
+invariant-loop-index l = AreLeft (routes_parsed l.rows 2 l.lines) (routes_parsed l.rows (2 + l.index) (drop l.index l.lines)) l.requests

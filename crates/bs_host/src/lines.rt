@@ -1,0 +1,39 @@
+//! The lines of a file, split off one after the other.
+ghost use Rattle.std.specs.Prelude.{◌≡◌, ◌==◌, ◌+◌, ◌<◌, ◌≤◌, ◌^◌, ◌∷◌, ◌++◌, length, option_copied, IfSome};
+ghost use Rattle.std.specs.List.{position};
+ghost use Rattle.bs_host.specs.File.{pieces_of, pieces_after};
+
+use memchr::memchr;
+
+/// The byte between two lines.
+const LINE_FEED: u8 = b'\n';
+
+#[tactic(auto, using(crate::proofs::CutPieces::first_byte_is_position))]
+fn first_feed(text: &[u8]) -> Option<usize>
+    ensures { result ≡ position (λ byte. byte == LINE_FEED) text.now }
+{
+    memchr(LINE_FEED, text)
+}
+
+/// The line before the first line feed, and what follows the line feed, if there is one.
+#[tactic(auto, using(crate::proofs::CutPieces::pieces_at_feed, crate::proofs::CutPieces::piece_without_feed))]
+pub(crate) fn split_line(text: &[u8]) -> (&[u8], Option<&[u8]>)
+    ensures pieces { pieces_of text.now ≡ result.0.now ∷ pieces_after (option_copied result.1) }
+    ensures shorter { IfSome result.1 (λ rest. length rest.now < length text.now) }
+{
+    match first_feed(text) {
+        None => (text, None),
+        Some(at) => (&text[..at], Some(&text[at + 1..])),
+    }
+}
+
+/// Splits a text at the first line feed from index `place` on, if there is one.
+#[tactic(auto, using(crate::proofs::CutPieces::pieces_around))]
+pub(crate) fn split_from(text: &[u8], place: usize) -> Option<(&[u8], &[u8])>
+    requires { place ≤ length text.now }
+    ensures pieces { IfSome result (λ cut. pieces_of text.now ≡ pieces_of cut.0.now ++ pieces_of cut.1.now) }
+    ensures bytes { IfSome result (λ cut. length cut.0.now + 1 + length cut.1.now ≡ length text.now) }
+{
+    let at = place + first_feed(&text[place..])?;
+    Some((&text[..at], &text[at + 1..]))
+}

@@ -1,0 +1,52 @@
+//! The bytes of a command file, read from any reader.
+ghost use Rattle.std.specs.Prelude.{◌≡◌, ◌<◌, ◌≤◌, length, IfOk, IfErr, OnOk, IfSome, IsErrOf};
+ghost use Rattle.std.specs.Io.KnownBytes.{Consumes, IsAtEnd};
+
+use crate::limits::MOST_FILE_BYTES;
+use std::alloc::{AllocError, Global};
+use std::io::Read;
+use thiserror::Error;
+
+const BLOCK: usize = 65_536;
+
+/// The capacity that is reserved at once: the most bytes that are ever read. Reserved memory costs
+/// nothing until it is written, and the bytes read are never moved.
+const ROOM: usize = MOST_FILE_BYTES + BLOCK;
+
+/// Why a command file was not read.
+#[derive(Debug, Drop, Error)]
+pub enum ReadFault {
+    /// The reader answered an error, an interruption among them.
+    #[error("cannot read the file")]
+    Device,
+    #[error("file too long")]
+    TooLong,
+    #[error("out of memory")]
+    Memory,
+}
+
+/// Reads all bytes that the reader has left, at most 16,777,216. After an error no contract says
+/// how many were taken.
+pub fn read_input<R: Read>(alloc: Global, input: &mut R) -> Result<Vec<u8>, ReadFault>
+    ensures all { IfOk result (λ bytes. IfSome (R.remaining input.old) (λ left. bytes.items ≡ left)) }
+    ensures end { OnOk result (IsAtEnd (R.remaining input.new)) }
+    ensures short { IfOk result (λ bytes. length bytes.items ≤ MOST_FILE_BYTES) }
+    ensures long { IsErrOf result ReadFault.TooLong → IfSome (R.remaining input.old) (λ left. MOST_FILE_BYTES < length left) }
+{
+    let Ok(mut bytes) = Vec::with_capacity(alloc, ROOM) else {
+        return Err(ReadFault::Memory);
+    };
+    let mut block = [0u8; BLOCK];
+    'reads: while bytes.len() <= MOST_FILE_BYTES {
+        let Ok(count) = input.read(&mut block) else {
+            return Err(ReadFault::Device);
+        };
+        if count == 0 {
+            return Ok(bytes);
+        }
+        if bytes.extend_from_slice(&block[..count]).is_err() {
+            return Err(ReadFault::Memory);
+        }
+    }
+    Err(ReadFault::TooLong)
+}

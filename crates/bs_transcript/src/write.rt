@@ -1,0 +1,31 @@
+//! Writes a text to any writer, and counts the bytes that the writer took.
+ghost use Rattle.std.specs.Prelude.{◌<◌, length, take, OnOk, IfErr};
+ghost use Rattle.std.specs.Io.KnownBytes.{Appends};
+
+use std::io::Write;
+
+/// The writer failed after it took this many bytes.
+#[derive(Debug, Drop)]
+pub struct WriteFault {
+    pub written: usize,
+}
+
+/// Writes the whole text. Every error of the writer is a fault, an interruption included, and so is
+/// a write of no byte.
+#[tactic(auto, using(crate::proofs::WrittenBytes::appends_more, crate::proofs::WrittenBytes::appends_nothing))]
+pub fn write_all_of<W: Write>(text: &[u8], output: &mut W) -> Result<(), WriteFault>
+    ensures ok { OnOk result (Appends (W.contents output.old) (W.contents output.new) text.now) }
+    ensures fewer { IfErr result (λ fault. fault.written < length text.now) }
+    ensures front { IfErr result
+        (λ fault. Appends (W.contents output.old) (W.contents output.new) (take fault.written text.now)) }
+{
+    let mut written = 0;
+    'writes: while written < text.len() {
+        match output.write(&text[written..]) {
+            Ok(0) => return Err(WriteFault { written }),
+            Ok(count) => written += count,
+            Err(_) => return Err(WriteFault { written }),
+        }
+    }
+    Ok(())
+}

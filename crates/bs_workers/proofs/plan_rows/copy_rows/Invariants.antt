@@ -1,6 +1,0 @@
--- The rows copied so far.
-use Rattle.std.proofs.Common.{◌≡◌, take}
-use Rattle.bs_workers.proofs.plan_rows.copy_rows.Given as goal
-
-abbrev pub invariant-loop-game : goal.invariant-loop-game
-invariant-loop-game g l = l.rows.items ≡ take l.game l.core.games.rows

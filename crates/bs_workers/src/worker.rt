@@ -1,0 +1,138 @@
+//! A worker: one thread and its batch of jobs.
+ghost use Rattle.std.proofs.Props.{props};
+ghost use Rattle.std.specs.Prelude.{◌≡◌, IfSome};
+ghost use Rattle.bs_fiber.specs.Tickets.{IsFresh};
+ghost use Rattle.bs_fiber.specs.declared.job.JobKind.TheVariants as kind;
+
+use crate::fault::Run;
+use crate::gate::Gate;
+use arrayvec::ArrayVec;
+use bs_counter::{Finish, PartKey};
+use bs_fiber::{Contents, Done, Out, Parts, Stopped, Ticket, work};
+use std::alloc::{AllocError, Global};
+
+/// The largest number of parts of a move, and of jobs that a worker number takes in one batch.
+pub(crate) const MOST_PARTS: usize = 4;
+
+/// A job that was taken from the core. A part has its key with it.
+#[derive(Drop)]
+pub(crate) struct Job<const CAP: usize> {
+    pub(crate) ticket: Ticket<CAP>,
+    pub(crate) key: Option<PartKey<Done<CAP>>>,
+    ghost fresh: { IsFresh ticket },
+    ghost its_key: { IfSome key (λ key. (ticket.input.job.kind ≡ kind.Part) × (key.part ≡ ticket.input.job.part)) } by { Prim.hlevel props },
+}
+
+/// A thread, and the jobs that it took while it last held the lock. It has one or more worker
+/// numbers of the core, since each number can have only one Begin or Join out.
+#[derive(Drop)]
+pub(crate) struct Worker<const CAP: usize> {
+    pub(crate) alloc: Global,
+    /// The number of the thread, which is passed to the gate.
+    thread: usize,
+    /// The first of its numbers in the core; the others follow.
+    pub(crate) first: usize,
+    /// The number of its worker numbers.
+    pub(crate) batch: usize,
+    /// Jobs to be run.
+    pub(crate) jobs: Vec<Job<CAP>>,
+    /// Begins and Joins to be completed.
+    pub(crate) done: Vec<Done<CAP>>,
+    /// The parts of the moves whose last part this thread finished, to be completed.
+    pub(crate) moves: Vec<ArrayVec<Option<Done<CAP>>, 4>>,
+    /// The contents of completed tickets. New tickets reuse their memory.
+    pub(crate) spent: Vec<Box<Contents<CAP>>>,
+    /// What is left of a job for which memory ran out.
+    failed: Option<(Option<PartKey<Done<CAP>>>, Stopped<CAP>)>,
+    /// Why a job was not run to its end. After that no further job is run.
+    pub(crate) fault: Option<Run>,
+}
+
+impl<const CAP: usize> Worker<CAP> {
+    /// Makes the worker of that thread with `batch` numbers from `first`. Allocates all lists at
+    /// their full capacity.
+    pub(crate) fn new(
+        alloc: Global,
+        thread: usize,
+        first: usize,
+        batch: usize,
+    ) -> Result<Self, AllocError> {
+        let room = batch.saturating_mul(MOST_PARTS);
+        Ok(Worker {
+            alloc,
+            thread,
+            first,
+            batch,
+            jobs: Vec::with_capacity(alloc, room)?,
+            done: Vec::with_capacity(alloc, room)?,
+            moves: Vec::with_capacity(alloc, room)?,
+            spent: Vec::with_capacity(alloc, room)?,
+            failed: None,
+            fault: None,
+        })
+    }
+
+    /// About how many jobs its results make ready: two parts for a Begin whose move goes on, one
+    /// job for any other result.
+    pub(crate) fn count_ready(&self) -> usize {
+        let mut ready = self.done.len().saturating_add(self.moves.len());
+        for done in self.done.as_slice() {
+            if matches!(done.out(), Out::Goes) {
+                ready = ready.saturating_add(1);
+            }
+        }
+        ready
+    }
+
+    /// Frees the moved snakes of the spent tickets, which would otherwise be freed under the lock.
+    fn clear_spent(&mut self) {
+        for contents in self.spent.iter_mut() {
+            contents.input.parts = Parts::from_vec(Vec::new(self.alloc));
+        }
+    }
+
+    /// Runs the job, and finishes a part by its key. Keeps a Begin's or Join's result, or all parts
+    /// of a move if this was the last, until they are completed.
+    #[inline(always)]
+    fn run_job(&mut self, job: Job<CAP>) -> Result<(), AllocError> {
+        let Job { ticket, key } = job;
+        let done = match work(self.alloc, ticket) {
+            Ok(done) => done,
+            Err(stopped) => {
+                self.failed = Some((key, stopped));
+                return Err(AllocError);
+            }
+        };
+        let Some(key) = key else {
+            return Ok(self.done.push(done)?);
+        };
+        match key.finish(done) {
+            Finish::More(spent) => drop(spent),
+            Finish::Last(parts) => self.moves.push(parts)?,
+        }
+        Ok(())
+    }
+
+    /// Runs the jobs, consulting the gate before each, up to the first that is refused or fails.
+    /// That job, its key and its frame blocks are kept until the worker is dropped, which is after
+    /// `Core::fail`.
+    fn run_until_fault<G: Gate>(&mut self, gate: &G) -> Result<(), Run> {
+        for _ in 0..self.jobs.len() {
+            let Some(job) = self.jobs.pop() else {
+                break;
+            };
+            if !gate.at(self.thread, job.ticket.job()) {
+                self.jobs.push_reserved(job);
+                return Err(Run::Broken);
+            }
+            self.run_job(job)?;
+        }
+        Ok(())
+    }
+
+    /// Runs the jobs, and records why one was not run to its end.
+    pub(crate) fn run_jobs<G: Gate>(&mut self, gate: &G) {
+        self.clear_spent();
+        self.fault = self.run_until_fault(gate).err();
+    }
+}
