@@ -1,9 +1,11 @@
 -- What the walks share. Assumes `Logic`.
 --     Fields      what the fields of `Region` own
 --     base_vals, base_tells      the machine value of a `Base`
---     run_out, run_in      a run of places is taken out of the row, and put back, with whatever it then holds
+--     run_out, run_in      a run of places is taken out of the row, and put back, with whatever it
+--                          then holds
 --     one_room      one place is room for a byte, whatever it holds
---     of_room, to_room      room for an array of bytes is a row of unwritten places, and a row of any places is room
+--     of_room, to_room      room for an array of bytes is a row of unwritten places, and a row of any
+--                           places is room
 --     to_cells, of_cells      a row of written places is the elements of a slice
 --     run_seen      the elements of a `&` to a run, of a `&` to the row
 use mathlib.Core.Path.{◌≡◌, refl, sym, ap, subst, ◌∙◌}

@@ -25,7 +25,8 @@ padded ws = ws ++ replicate (rounded (length ws) - length ws) 0
 abbrev pub range : ℕ → ℕ → List ℕ → List ℕ
 range at n xs = take n (drop at xs)
 
--- xs, with ws in place of the n bytes from at on; a list of another length than n is cut, or extended up with the old bytes
+-- xs, with ws in place of the n bytes from at on; a list of another length than n is cut, or
+-- extended up with the old bytes
 abbrev pub with_range : List ℕ → ℕ → ℕ → List ℕ → List ℕ
 with_range xs at n ws = take at xs ++ (refill n (range at n xs) ws ++ drop (at + n) xs)
 

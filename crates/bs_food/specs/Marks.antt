@@ -1,4 +1,5 @@
--- Marks of a board's cells by their index. Only the contracts of private functions cite these words.
+-- Marks of a board's cells by their index. Only the contracts of private functions cite these
+-- words.
 use Rattle.std.specs.Prelude.{◌≡◌, ℕ, ◌<◌, Bool, false, not, ◌||◌, if◌then◌else◌, List, [], ◌∷◌, slice_index_or, filter, flat_map}
 use Rattle.std.specs.List.{list_any, range_with_len}
 use Rattle.bs_board.specs.declared.boards.point.Point.{Point}

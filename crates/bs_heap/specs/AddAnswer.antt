@@ -19,7 +19,8 @@ heap_with cap pool bytes heap = with_record cap (next_number pool) bytes heap
 abbrev pub pool_with : ℕ → Heap → List ℕ → Ledger → Ledger
 pool_with cap heap bytes pool = if fits cap (rounded (length bytes)) heap.packing.current then pool else drawn heap.tag (next_number pool) pool
 
--- the record is added where the charge with it is within the quota; else heap and pool are as before
+-- the record is added where the charge with it is within the quota; else heap and pool are as
+-- before
 abbrev pub AddsRecord : {U E : Type 0} → ℕ → List ℕ → Heap → Ledger → Result U E → Heap → Ledger → Type 0
 AddsRecord cap bytes heap pool answer heap' pool' =
     MatchResult answer

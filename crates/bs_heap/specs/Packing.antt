@@ -50,7 +50,8 @@ with_place_in len packing (Some u) =
 abbrev pub with_place : ℕ → Packing → Packing
 with_place len packing = with_place_in len packing packing.current
 
--- a record of len bytes goes behind those of the current block where its rounded size fits there, else into a block of that number
+-- a record of len bytes goes behind those of the current block where its rounded size fits there,
+-- else into a block of that number
 abbrev pub packed : ℕ → ℕ → ℕ → Packing → Packing
 packed cap number len packing = with_place len (if fits cap (rounded len) packing.current then packing else with_block number packing)
 

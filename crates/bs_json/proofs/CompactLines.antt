@@ -1,4 +1,5 @@
--- What a command's compact text says is read back: the line of that text is the command for its game.
+-- What a command's compact text says is read back: the line of that text is the command for its
+-- game.
 use Rattle.std.proofs.Common.{◌≡◌, ◌≤◌, ◌<◌, ◌^◌, ◌==◌, ℕ, List, [], ◌∷◌, ◌++◌, All, Bool, true, false, not, nat_le, nat_lt, Some, option_and_then, IsUtf8}
 use Rattle.std.proofs.Common.{length, codes, refl, sym, ap, ap₂, ◌∙◌, subst, arith, append_assoc, append-nil, Less, Equal, Greater}
 use Rattle.std.proofs.lemmas.Bool.{le-leb, le-ltb, leb-true}

@@ -1,4 +1,5 @@
--- The compact text of a line: no space and no escape in it, its members in one order, the ids of a move ascending.
+-- The compact text of a line: no space and no escape in it, its members in one order, the ids of a
+-- move ascending.
 use Rattle.std.specs.Prelude.{◌≡◌, ◌≤◌, ℕ, codes, decimal, List, [], ◌∷◌, ◌++◌, Bool, true, false, not, ◌&&◌, ◌==◌, nat_le, nat_lt, ⊤}
 use Rattle.std.specs.List.{list_all}
 use Rattle.serde_json.specs.Written.{comma_if}

@@ -1,4 +1,5 @@
--- What a JSON value holds for a reader. Each reader gives None where a member is missing, of another type or out of range.
+-- What a JSON value holds for a reader. Each reader gives None where a member is missing, of
+-- another type or out of range.
 use Rattle.std.specs.Prelude.{ℕ, List, [], ◌∷◌, Option, Some, None, option_map, option_and_then, if◌then◌else◌, nat_le}
 use Rattle.std.specs.Str.{is_utf8}
 use Rattle.serde_json.specs.Data.{Data, Items, no_items, item}

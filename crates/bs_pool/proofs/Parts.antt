@@ -1,4 +1,5 @@
--- Each call keeps the parts of a pool as they have to be, and the first mark is the least free number.
+-- Each call keeps the parts of a pool as they have to be, and the first mark is the least free
+-- number.
 use Rattle.std.proofs.Common.{◌≡◌, ℕ, ◌+◌, ◌-◌, ◌*◌, ◌/◌, ◌<◌, ◌≤◌, ◌^◌, Bool, true, false, List, [], ◌∷◌, ◌++◌, length, take, drop, Option, Some, None, IsSome, slice_set, refl, sym, ap, ◌∙◌, arith, inl, inr, take_at, subst, not}
 use Rattle.std.specs.List.{position_or_len}
 use Rattle.std.specs.Prelude.{cond, nat_lt, count_by}

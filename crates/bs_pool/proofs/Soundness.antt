@@ -1,4 +1,5 @@
--- Each call of a pool keeps it sound, and a sound pool has a free number for each tag that may still draw.
+-- Each call of a pool keeps it sound, and a sound pool has a free number for each tag that may
+-- still draw.
 use Rattle.std.proofs.Common.{◌≡◌, ◌≢◌, ℕ, zero, suc, ◌-◌, ◌<◌, ◌≤◌, Bool, false, not, List, [], ◌∷◌, ◌++◌, length, replicate, Option, Some, None, IsSome, slice_set, refl, arith, inl, inr}
 use Rattle.std.specs.Prelude.{count_by, position}
 use Rattle.std.specs.List.{position_or_len}

@@ -10,7 +10,8 @@ Refuses tag n pool TagTaken = IsSome (reservation_of tag pool)
 Refuses tag n pool (Short free_to_reserve) = (reservation_of tag pool ≡ None) × (unreserved pool < n) × (free_to_reserve ≡ unreserved pool)
 Refuses tag n pool Memory = (reservation_of tag pool ≡ None) × (n ≤ unreserved pool)
 
--- the tag had no reservation, and has one of n blocks that were not reserved; or the pool is as before
+-- the tag had no reservation, and has one of n blocks that were not reserved; or the pool is as
+-- before
 abbrev pub Reserves : {U : Type 0} → ℕ → ℕ → Ledger → Result U Reserve → Ledger → Type 0
 Reserves tag n old answer new =
     MatchResult answer

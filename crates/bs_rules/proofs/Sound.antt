@@ -30,7 +30,8 @@ pub record IsSoundBody (b : Board) (parts : ℕ) (s : Snake) : Type 0 where
   pub short : length s.body ≤ parts
   pub inside : All (λ p. is_on_board b.width b.height p ≡ true) (drop 1 s.body)
 
--- moved and not judged: it may have starved or left the board, so its head is where that of a starved snake may be
+-- moved and not judged: it may have starved or left the board, so its head is where that of a
+-- starved snake may be
 pub record IsMovedLiving (b : Board) (s : Snake) : Type 0 where
   pub full : s.health ≤ 100
   pub near : is_head_of (is_wrapped b.mode) OutOfHealth b.width b.height (head_of s.body) ≡ true

@@ -1,4 +1,5 @@
--- Collisions of a turn. All are judged on the one board after the first eliminations, and applied together.
+-- Collisions of a turn. All are judged on the one board after the first eliminations, and applied
+-- together.
 use Rattle.std.specs.Prelude.{◌≡◌, ◌≢◌, ℕ, ◌+◌, ◌<◌, ◌≤◌, Bool, true, false, not, ◌&&◌, ◌⊎◌, if◌then◌else◌, List, [], ◌∷◌, length, map, filter, fold, find, drop, Contains, nat_eq, nat_lt, nat_le, Option, Some, None, is_some, option_map, slice_index_or}
 use Rattle.std.specs.List.{list_any, range_with_len, enumerate_from}
 use Rattle.bs_board.specs.declared.boards.board.Board.{Board}
@@ -27,8 +28,8 @@ length_at snakes seat = length (snake_at snakes seat).body
 abbrev pub IsOnLaterPart : Snake → Snake → Type 0
 IsOnLaterPart s t = Contains (drop 1 t.body) (head_of s.body)
 
--- s, at seat i, runs into t, at seat j: into itself, into the body of another, or head to head with another that is at
--- least as long
+-- s, at seat i, runs into t, at seat j: into itself, into the body of another, or head to head with
+-- another that is at least as long
 abbrev pub RunsInto : Cause → ℕ → Snake → ℕ → Snake → Type 0
 RunsInto OutOfHealth i s j t = ⊥
 RunsInto WallCollision i s j t = ⊥

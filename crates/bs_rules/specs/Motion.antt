@@ -60,8 +60,8 @@ moved_seats wrap moves = map (λ s. moved wrap (given_to moves s.id) s)
 abbrev pub moved_board : List (List ℕ × Direction) → Board → Board
 moved_board moves b = record b { snakes = moved_seats (wrap_of b) moves b.snakes }
 
--- a body whose parts have neighbors, as each snake's of a legal board: none is further out than one cell beyond the
--- largest board
+-- a body whose parts have neighbors, as each snake's of a legal board: none is further out than one
+-- cell beyond the largest board
 pub record IsMovable (s : Snake) : Type 0 where
   pub some : 1 ≤ length s.body
   pub near : All (λ p. is_near LONGEST_SIDE LONGEST_SIDE p ≡ true) s.body

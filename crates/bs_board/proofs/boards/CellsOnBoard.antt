@@ -1,4 +1,5 @@
--- The cells of a board and their places, counted row after row. A board holds no more cells than it has places.
+-- The cells of a board and their places, counted row after row. A board holds no more cells than it
+-- has places.
 use Rattle.std.proofs.Common.{◌≡◌, ℕ, zero, suc, ◌+◌, ◌*◌, ◌<◌, ◌≤◌, true, false, not, List, [], ◌∷◌, length, map, ℤ, pos, negsuc, nat_abs, refl, sym, ap, ◌∙◌, arith, inl, inr}
 use Rattle.std.specs.Prelude.{int_le, int_lt, nat_lt, nat_eq}
 use Rattle.std.specs.Ordering.{int_eq}

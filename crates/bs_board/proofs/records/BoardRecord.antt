@@ -1,4 +1,5 @@
--- A board: what is read is what is written so, and what is written is read again. So a record is of one board.
+-- A board: what is read is what is written so, and what is written is read again. So a record is of
+-- one board.
 use Rattle.std.proofs.Common.{◌≡◌, ℕ, zero, suc, Bool, true, cond, List, [], ◌∷◌, ◌++◌, length, Option, Some, None, refl, sym, ap, subst, ◌∙◌, append_assoc, arith}
 use Rattle.std.specs.Prelude.{nat_eq, Result, Ok, Err, IfOk, MatchResult}
 use Rattle.std.specs.List.{flat_map, list_all, AllByRecursion}

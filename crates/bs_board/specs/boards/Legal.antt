@@ -67,8 +67,8 @@ IsHealthOf SelfCollision health = (1 ≤ health) × (health ≤ FULL_HEALTH)
 IsHealthOf BodyCollision health = (1 ≤ health) × (health ≤ FULL_HEALTH)
 IsHealthOf HeadCollision health = (1 ≤ health) × (health ≤ FULL_HEALTH)
 
--- a starved snake's head may be anywhere near, one that hit the wall is off the board, the others are on it; on a
--- wrapped board each head is on it, and no snake is out by the wall
+-- a starved snake's head may be anywhere near, one that hit the wall is off the board, the others
+-- are on it; on a wrapped board each head is on it, and no snake is out by the wall
 abbrev pub is_head_of : Bool → Cause → ℕ → ℕ → Point → Bool
 is_head_of wraps OutOfHealth width height p = if wraps then is_on_board width height p else is_near width height p
 is_head_of wraps WallCollision width height p = not wraps && is_near width height p && not (is_on_board width height p)

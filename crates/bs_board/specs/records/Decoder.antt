@@ -1,6 +1,6 @@
--- The steps of the decoder, which only the contracts of its private functions cite. What bytes mean to a caller is said by
--- `decode`: they are the record of a legal board, or of none. A reader gives a value and the bytes behind it, or nothing
--- where no value stands.
+-- The steps of the decoder, which only the contracts of its private functions cite. What bytes mean
+-- to a caller is said by `decode`: they are the record of a legal board, or of none. A reader gives
+-- a value and the bytes behind it, or nothing where no value stands.
 use Rattle.std.specs.Prelude.{◌≡◌, ◌==◌, ℕ, zero, suc, ◌+◌, ◌*◌, ◌-◌, Bool, ◌&&◌, if◌then◌else◌, List, [], ◌∷◌, length, take, drop, min, find, Option, Some, None, Result, Ok, Err, nat_lt, pos, ◌-ℤ◌}
 use Rattle.bs_board.specs.declared.boards.board.Board.{Board}
 use Rattle.bs_board.specs.declared.boards.board.Mode.{Mode}

@@ -38,7 +38,8 @@ abbrev pub killer_byte : Option ℕ → ℕ
 killer_byte None = 0
 killer_byte (Some seat) = seat + 1
 
--- the column and the row, raised by so much: by 1 in a body, since its head may stand one cell beyond an edge
+-- the column and the row, raised by so much: by 1 in a body, since its head may stand one cell
+-- beyond an edge
 abbrev pub cell_bytes : ℕ → Point → List ℕ
 cell_bytes raised p = nat_abs (p.x +ℤ pos raised) ∷ nat_abs (p.y +ℤ pos raised) ∷ []
 

@@ -1,4 +1,5 @@
--- `allocate` cuts the new block into unwritten places, and keeps the right to free it. Assumes `Logic`.
+-- `allocate` cuts the new block into unwritten places, and keeps the right to free it. Assumes
+-- `Logic`.
 use mathlib.Core.Path.{◌≡◌, refl, sym, ap, subst, ◌∙◌}
 use mathlib.Core.Bool.{true, false}
 use Prim.Native.Nat.{◌<◌, ◌^◌}

@@ -1,4 +1,5 @@
--- `deallocate` makes one block of the places, whatever they hold, and hands it back with the allocator's token. Assumes `Logic`.
+-- `deallocate` makes one block of the places, whatever they hold, and hands it back with the
+-- allocator's token. Assumes `Logic`.
 use mathlib.Core.Path.{◌≡◌, refl, sym, ap, subst, ◌∙◌}
 use Prim.Native.Nat.{ℕ}
 use native.Mathlib.Omega.{arith}

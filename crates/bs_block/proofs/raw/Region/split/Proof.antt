@@ -1,4 +1,5 @@
--- `split` lends a run of bytes, which the places follow, and shares the bytes before it for as long. Assumes `Logic`.
+-- `split` lends a run of bytes, which the places follow, and shares the bytes before it for as
+-- long. Assumes `Logic`.
 use mathlib.Core.Path.{◌≡◌, refl, sym, ap, subst, ◌∙◌}
 use Prim.Native.Nat.{ℕ, ◌+◌, ◌*◌, ◌<◌, ◌^◌}
 use native.Mathlib.Omega.{arith}

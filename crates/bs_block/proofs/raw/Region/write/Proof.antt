@@ -73,7 +73,8 @@ write_spec 𝓤 𝓛 𝓜 𝓡 wired =
     first ! $ blocks ! $ sets ! (bin ! (get_in ! (fld ! refl (stop !)) (sub ! 0 refl (whole !))) (get ! refl) tt) refl (tt, tt) $
     use1 𝓛 (‵ (row b (at + o) run) ⊛ ‵ (Around 𝓛 b o d.slots at 1 le)) (run_out 𝓛 b o d.slots at 1 le) $ split ! $
     use1 𝓛 (‵ (froom (ty_int w8) b (at + o))) (one_room 𝓛 b (at + o) run one) $
-    -- [the room; the other places; the fields; self's cell; the open borrow, in three entries; self's first part]
+    -- [the room; the other places; the fields; self's cell; the open borrow, in three entries;
+    -- self's first part]
     assigns_last ! (of_opd ! (get ! refl)) (through ! refl (stop !)) (init ! 0 refl (tt, record { fits = fits_byte })) $
     exec ! 𝓣.C 𝓣.Λ En (after 1 (code.function).body) (at_ret En (W.post y)) $ sets ! (of_opd ! (unit_lit !)) refl (tt, tt) $
     use1 𝓛 (‵ (part_at u8 full_share byte b (at + o))) (uint_in 𝓛 full_share w8 byte b (at + o)) $ nothing ! $ move ! (1 ∷ 0 ∷ []) $ fjoin ! $
