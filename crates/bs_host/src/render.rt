@@ -9,7 +9,7 @@ ghost use Rattle.bs_host.specs.Transcript.{lane_lines_of, sections_in, core_text
 use crate::limits::BLOCK_BYTES;
 use bs_json::Stray;
 use bs_sched::Core;
-use bs_transcript::{Section, text_by};
+use bs_transcript::{Section, Shares, text_by};
 use std::alloc::{AllocError, Global};
 use std::thread::Threads;
 
@@ -54,8 +54,8 @@ pub(crate) fn render_core<R: Threads + Sync>(
     core: &Core<BLOCK_BYTES>,
     strays: &[(u64, Stray)],
     threads: usize,
-) -> Result<Vec<u8>, AllocError>
-    ensures text { IfOk result (λ text. text.items ≡ core_text_of core.now strays.now) }
+) -> Result<Shares, AllocError>
+    ensures text { IfOk result (λ text. text ≡ core_text_of core.now strays.now) }
     ensures lanes { OnOk result (length core.now.games.lanes ≡ length core.now.games.rows) }
 {
     let sections = sections_of_games(alloc, core)?;

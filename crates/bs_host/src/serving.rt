@@ -17,7 +17,7 @@ use crate::route::{Requests, route_lines};
 use bs_board::Plan;
 use bs_json::read_plan;
 use bs_sched::{Core, MOST_WORKERS};
-use bs_transcript::write_all_of;
+use bs_transcript::write_shares;
 use bs_workers::{Gate, run};
 use std::alloc::{AllocError, Global};
 use std::io::Write;
@@ -106,6 +106,6 @@ pub fn serve<R: Threads + Wait + Sync, G: Gate, W: Write>(
     let Requests { commands, strays } = read_requests(rt, alloc, &plan, text, threads)?;
     let core = run(rt, alloc, core, commands.as_slice(), threads, gate)?;
     let text = render_core(rt, alloc, &core, strays.as_slice(), threads)?;
-    write_all_of(&text, output)?;
+    write_shares(&text, output)?;
     Ok(core)
 }

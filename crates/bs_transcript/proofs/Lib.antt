@@ -1,3 +1,4 @@
 mod Cuts
 pub mod PartLines
+pub mod ShareBytes
 pub mod WrittenBytes

@@ -4,10 +4,12 @@
 
 mod lines;
 mod render;
+mod shares;
 #[cfg(test)]
 mod tests;
 mod write;
 
 pub use lines::{Section, text};
 pub use render::text_by;
+pub use shares::{Shares, write_shares};
 pub use write::{WriteFault, write_all_of};

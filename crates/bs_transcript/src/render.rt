@@ -4,6 +4,7 @@ ghost use Rattle.bs_transcript.specs.Lines.{text_of};
 ghost use Rattle.bs_transcript.specs.Parts.{lines_of_section, lines_of_strays, all_lines_of, part_of};
 
 use crate::lines::{Section, push_final, push_replies, push_strays, text};
+use crate::shares::Shares;
 use bs_json::Stray;
 use std::alloc::{AllocError, Global};
 use std::thread::{Threads, map_indices};
@@ -138,17 +139,16 @@ fn render_share(
     Ok(text)
 }
 
-/// Renders all lines in shares, one for each thread, and joins them in their order.
+/// Renders all lines in shares, one for each thread.
 fn render_shares<R: Threads + Sync>(
     rt: &R,
     alloc: Global,
     transcript: &Transcript<'_>,
     lines: usize,
     threads: usize,
-) -> Result<Vec<u8>, AllocError>
+) -> Result<Shares, AllocError>
     requires { lines ≡ length (all_lines_of transcript.now.sections.now transcript.now.strays.now) }
-    ensures { IfOk result
-        (λ text. text.items ≡ text_of transcript.now.sections.now transcript.now.strays.now) }
+    ensures { IfOk result (λ text. text ≡ text_of transcript.now.sections.now transcript.now.strays.now) }
 {
     let size = share_size(lines, threads);
     let share = |index: usize| -> Result<Vec<u8>, AllocError>
@@ -157,31 +157,41 @@ fn render_shares<R: Threads + Sync>(
             (λ text. text.items ≡ part_of (index * size) (index * size + size) (all_lines_of transcript.entry.now.sections.now transcript.entry.now.strays.now)) }
     { render_share(alloc, transcript, lines, index * size, size) };
     let shares = map_indices(rt, alloc, count_shares(lines, size), &share)?;
-    let mut text = Vec::new(alloc);
-    for share in shares.as_slice() {
-        match share {
-            Ok(share) => text.extend_from_slice(share)?,
-            Err(_) => return Err(AllocError),
-        }
+    let mut text = Shares::new(alloc);
+    for share in shares {
+        text.push(share?)?;
     }
     Ok(text)
 }
 
-/// Renders the same text as `text`, on at most `threads` threads. With one thread, or for at most
-/// 512 lines, no thread is started.
+/// Renders all lines on the calling thread.
+fn render_alone(
+    alloc: Global,
+    sections: &[Section<'_>],
+    strays: &[(u64, Stray)],
+) -> Result<Shares, AllocError>
+    ensures { IfOk result (λ text. text ≡ text_of sections.now strays.now) }
+{
+    let mut shares = Shares::new(alloc);
+    shares.push(text(alloc, sections, strays)?)?;
+    Ok(shares)
+}
+
+/// Renders the same text as `text`, on at most `threads` threads, of which each makes one share of
+/// it. With one thread, or for at most 512 lines, no thread is started.
 pub fn text_by<R: Threads + Sync>(
     rt: &R,
     alloc: Global,
     sections: &[Section<'_>],
     strays: &[(u64, Stray)],
     threads: usize,
-) -> Result<Vec<u8>, AllocError>
-    ensures { IfOk result (λ text. text.items ≡ text_of sections.now strays.now) }
+) -> Result<Shares, AllocError>
+    ensures { IfOk result (λ shares. shares ≡ text_of sections.now strays.now) }
 {
     match count_lines(sections, strays) {
         Some(lines) if threads > 1 && lines > FEWEST_LINES => {
             render_shares(rt, alloc, &Transcript { sections, strays }, lines, threads)
         }
-        _ => text(alloc, sections, strays),
+        _ => render_alone(alloc, sections, strays),
     }
 }

@@ -1,5 +1,5 @@
 //! Transcripts of replies and strays, and writers that fail.
-use crate::{Section, text, text_by, write_all_of};
+use crate::{Section, Shares, text, text_by, write_all_of, write_shares};
 use bs_board::{Id, Refusal, Reply, Word};
 use bs_json::Stray;
 use std::alloc::{AllocError, Global};
@@ -70,6 +70,15 @@ fn sections_and_strays(rt: HostRuntime) -> Result<(), Fail> {
     Ok(())
 }
 
+// What a writer that takes everything has of these shares.
+fn written(alloc: Global, shares: &Shares) -> Result<Vec<u8>, AllocError> {
+    let mut output = Vec::new(alloc);
+    match write_shares(shares, &mut output) {
+        Ok(()) => Ok(output),
+        Err(_) => Err(AllocError),
+    }
+}
+
 // As many threads as there are lines, fewer, and more: the same text.
 #[test]
 fn any_threads_make_the_same_text(rt: HostRuntime) -> Result<(), Fail> {
@@ -78,8 +87,13 @@ fn any_threads_make_the_same_text(rt: HostRuntime) -> Result<(), Fail> {
     let sections = sections_of(alloc, games.as_slice())?;
     let strays = [(3, Stray::Json), (7, Stray::Long)];
     for threads in 0..11 {
-        let told = text_by(&rt, alloc, sections.as_slice(), &strays, threads)?;
-        assert_eq!(rt; told.as_slice(), TEXT.as_bytes(), "{threads}");
+        let shares = text_by(&rt, alloc, sections.as_slice(), &strays, threads)?;
+        assert_eq!(rt; shares.len(), TEXT.len(), "{threads}");
+        assert_eq!(rt;
+            written(alloc, &shares)?.as_slice(),
+            TEXT.as_bytes(),
+            "{threads}"
+        );
     }
     assert_eq!(rt; text_by(&rt, alloc, &[], &[], 4)?.len(), 0);
     Ok(())
@@ -112,8 +126,12 @@ fn any_threads_share_many_lines(rt: HostRuntime) -> Result<(), Fail> {
     let strays = [(3, Stray::Json), (7, Stray::Long)];
     let whole = text(alloc, sections.as_slice(), &strays)?;
     for threads in 1..8 {
-        let told = text_by(&rt, alloc, sections.as_slice(), &strays, threads)?;
-        assert_eq!(rt; told.as_slice(), whole.as_slice(), "{threads}");
+        let shares = text_by(&rt, alloc, sections.as_slice(), &strays, threads)?;
+        assert_eq!(rt;
+            written(alloc, &shares)?.as_slice(),
+            whole.as_slice(),
+            "{threads}"
+        );
     }
     Ok(())
 }
@@ -145,9 +163,11 @@ impl Write for Narrow {
     }
 }
 
-// What the fault counts, if there is one, and what the writer took.
+// What the fault counts, if there is one, and what the writer took: of the text in one piece, or of
+// these shares.
 fn narrowed(
     alloc: Global,
+    shares: Option<&Shares>,
     room: usize,
     failure: Option<ErrorKind>,
 ) -> Result<(Option<usize>, Vec<u8>), AllocError> {
@@ -156,8 +176,22 @@ fn narrowed(
         room,
         failure,
     };
-    let fault = write_all_of(TEXT.as_bytes(), &mut narrow).err();
-    Ok((fault.map(|fault| fault.written), narrow.taken))
+    let told = match shares {
+        Some(shares) => write_shares(shares, &mut narrow),
+        None => write_all_of(TEXT.as_bytes(), &mut narrow),
+    };
+    Ok((told.err().map(|fault| fault.written), narrow.taken))
+}
+
+// The text in shares of 70 bytes.
+fn short_shares(alloc: Global) -> Result<Shares, AllocError> {
+    let mut shares = Shares::new(alloc);
+    for bytes in TEXT.as_bytes().chunks(70) {
+        let mut share = Vec::new(alloc);
+        share.extend_from_slice(bytes)?;
+        shares.push(share)?;
+    }
+    Ok(shares)
 }
 
 // A writer that fails anywhere is told how many bytes it took, and they are the first of the text.
@@ -165,19 +199,22 @@ fn narrowed(
 fn writers_that_fail_have_the_front(rt: HostRuntime) -> Result<(), Fail> {
     let alloc = rt.alloc();
     let text = TEXT.as_bytes();
-    for room in 0..text.len() {
-        for failure in [
-            Some(ErrorKind::BrokenPipe),
-            Some(ErrorKind::Interrupted),
-            None,
-        ] {
-            let (fault, taken) = narrowed(alloc, room, failure)?;
-            assert_eq!(rt; fault, Some(room));
-            assert_eq!(rt; taken.as_slice(), &text[..room]);
+    let shares = short_shares(alloc)?;
+    for shares in [None, Some(&shares)] {
+        for room in 0..text.len() {
+            for failure in [
+                Some(ErrorKind::BrokenPipe),
+                Some(ErrorKind::Interrupted),
+                None,
+            ] {
+                let (fault, taken) = narrowed(alloc, shares, room, failure)?;
+                assert_eq!(rt; fault, Some(room));
+                assert_eq!(rt; taken.as_slice(), &text[..room]);
+            }
         }
+        let (fault, taken) = narrowed(alloc, shares, text.len(), None)?;
+        assert_eq!(rt; fault, None);
+        assert_eq!(rt; taken.as_slice(), text);
     }
-    let (fault, taken) = narrowed(alloc, text.len(), None)?;
-    assert_eq!(rt; fault, None);
-    assert_eq!(rt; taken.as_slice(), text);
     Ok(())
 }

@@ -6,39 +6,38 @@ use Rattle.bs_host.specs.Hosted.{Hosts}
 use Rattle.bs_host.specs.Transcript.{transcript_of}
 use Rattle.bs_host.proofs.FileTexts.{hosts_of_run, text_of_run}
 use Rattle.bs_host.proofs.serving.serve.Goals as goal
-use Rattle.bs_host.proofs.serving.serve.Goals.{After-write_all_of}
+use Rattle.bs_host.proofs.serving.serve.Goals.{After-write_shares}
 
-hosts : (g : _) (c : After-write_all_of g) → Hosts c.args.blocks c.args.input.now c.in_ok-core-2.core
+hosts : (g : _) (c : After-write_shares g) → Hosts c.args.blocks c.args.input.now c.in_ok-core-2.core
 hosts g c =
     let asked : c.as_slice.result.now ≡ c.in_ok-commands.field-0.commands.items = search rules in
     hosts_of_run c.args.blocks c.args.input.now (pieces_after (option_copied c.in_ok-core.text)) c.in_ok-core.plan c.in_ok-commands.field-0 c.as_slice.result.now
     c.in_ok-core.core c.in_ok-core-2.core c.in_ok-core.ensures.opened c.in_ok-commands.ensures asked c.in_ok-core-2.ensures
 
-told : (g : _) (c : After-write_all_of g) → c.deref.result.now ≡ transcript_of c.args.input.now
+told : (g : _) (c : After-write_shares g) → c.in_ok-text.text ≡ transcript_of c.args.input.now
 told g c =
     let strays : c.as_slice-2.result.now ≡ c.in_ok-commands.field-0.strays.items = search rules in
     let opened = c.in_ok-core.ensures.opened in
-    c.deref.ensures.value
-    ∙ text_of_run c.args.blocks c.args.input.now (pieces_after (option_copied c.in_ok-core.text)) c.in_ok-core.plan c.in_ok-commands.field-0 c.as_slice-2.result.now
-    c.in_ok-core-2.core c.in_ok-text.text.items opened.is_plan opened.are_lines c.in_ok-commands.ensures (hosts g c) c.in_ok-text.ensures.lanes strays
+    text_of_run c.args.blocks c.args.input.now (pieces_after (option_copied c.in_ok-core.text)) c.in_ok-core.plan c.in_ok-commands.field-0 c.as_slice-2.result.now
+    c.in_ok-core-2.core c.in_ok-text.text opened.is_plan opened.are_lines c.in_ok-commands.ensures (hosts g c) c.in_ok-text.ensures.lanes strays
     c.in_ok-text.ensures.text
 
-pub returns-in_err-write_all_of-clause-fault : goal.returns-in_err-write_all_of-clause-fault
-returns-in_err-write_all_of-clause-fault g c =
+pub returns-in_err-write_shares-clause-fault : goal.returns-in_err-write_shares-clause-fault
+returns-in_err-write_shares-clause-fault g c =
     let none : refusal_of c.args.blocks c.args.input.now ≡ None = c.in_ok-core.ensures.opened.served in
     search rules
 
-pub returns-in_err-write_all_of-clause-left : goal.returns-in_err-write_all_of-clause-left
-returns-in_err-write_all_of-clause-left g c =
-    let is = told g (goal.at.returns-in_err-write_all_of-clause-left g c).After-write_all_of in
-    let few = rw is at c.in_err-write_all_of.ensures.fewer in
-    let front = rw is at c.in_err-write_all_of.ensures.front in
+pub returns-in_err-write_shares-clause-left : goal.returns-in_err-write_shares-clause-left
+returns-in_err-write_shares-clause-left g c =
+    let is = told g (goal.at.returns-in_err-write_shares-clause-left g c).After-write_shares in
+    let few = rw is at c.in_err-write_shares.ensures.fewer in
+    let front = rw is at c.in_err-write_shares.ensures.front in
     search rules
 
 pub returns-clause-core : goal.returns-clause-core
-returns-clause-core g c = hosts g (goal.at.returns-clause-core g c).After-write_all_of
+returns-clause-core g c = hosts g (goal.at.returns-clause-core g c).After-write_shares
 
 pub returns-clause-written : goal.returns-clause-written
 returns-clause-written g c =
-    let is = told g (goal.at.returns-clause-written g c).After-write_all_of in
-    rw is at c.in_ok-write_all_of.ensures.ok
+    let is = told g (goal.at.returns-clause-written g c).After-write_shares in
+    rw is at c.in_ok-write_shares.ensures.ok
