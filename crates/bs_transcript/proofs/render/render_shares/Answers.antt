@@ -24,10 +24,10 @@ loop-share-preserved g c =
     let left = c.next.new.self.rest.items in
     let start : c.into_iter-share-iterator.result.rest.items ≡ all.items = search rules in
     let front : all.items ≡ before ++ share ∷ left =
-        sym start ∙ taken_front c.into_iter-share-iterator.result before c.loop-share.share-iterator c.loop-share.yielded_by
-        ∙ ap (λ ys. before ++ ys) c.in-Some.ensures.steps.0 in
+    sym start ∙ taken_front c.into_iter-share-iterator.result before c.loop-share.share-iterator c.loop-share.yielded_by
+    ∙ ap (λ ys. before ++ ys) c.in-Some.ensures.steps.0 in
     let within : at < c.count_shares.result =
-        omega (arith, ap length front, length-append before (share ∷ left), all.ok.0, c.in_ok-shares.ensures.len) in
+    omega (arith, ap length front, length-append before (share ∷ left), all.ok.0, c.in_ok-shares.ensures.len) in
     let is : get_or all.items at share ≡ share = ap (λ ys. get_or ys at share) front ∙ get_or-append_seam before share left share in
     let given = rw is at (c.in_ok-shares.ensures.each at share within).1.met in
     let is_share : c.in_ok-share.field-0.items ≡ part_of (at * size) (at * size + size) xs = search rules in
@@ -46,10 +46,10 @@ returns g c =
     let rest = c.loop-share.share-iterator.rest in
     let start : c.into_iter-share-iterator.result.rest.items ≡ all.items = search rules in
     let front : all.items ≡ before ++ rest.items =
-        sym start ∙ taken_front c.into_iter-share-iterator.result before c.loop-share.share-iterator c.loop-share.yielded_by in
+    sym start ∙ taken_front c.into_iter-share-iterator.result before c.loop-share.share-iterator c.loop-share.yielded_by in
     let none : rest.len ≡ 0 = c.in-None.ensures.steps.0 in
     let over : c.count_shares.result ≤ length before =
-        omega (arith, ap length front, length-append before rest.items, rest.ok.0, none, all.ok.0, c.in_ok-shares.ensures.len) in
+    omega (arith, ap length front, length-append before rest.items, rest.ok.0, none, all.ok.0, c.in_ok-shares.ensures.len) in
     let same : size ≤ size = omega arith in
     let past : c.args.lines ≤ length before * size = le_trans c.count_shares.ensures.all (mul-le-mul over same) in
     c.loop-share.invariant ∙ part_past (length before * size) c.args.lines (all_lines_of sections strays) c.requires past
