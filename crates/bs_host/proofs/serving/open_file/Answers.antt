@@ -1,8 +1,13 @@
 use Rattle.std.proofs.Common.{arith, rules}
 use Rattle.std.specs.Prelude.{option_copied}
 use Rattle.bs_host.specs.File.{pieces_after}
-use Rattle.bs_host.proofs.FileTexts.{opened, opening_refused, plan_refused}
+use Rattle.bs_host.proofs.FileTexts.{opened, opening_refused, plan_refused, refusal_of_long}
 use Rattle.bs_host.proofs.serving.open_file.Goals as goal
+
+pub returns-then-input-gt-MOST_FILE_BYTES-clause-fault :
+    goal.returns-then-input-gt-MOST_FILE_BYTES-clause-fault
+returns-then-input-gt-MOST_FILE_BYTES-clause-fault c =
+    refusal_of_long c.args.blocks c.args.input.now c.if-input-gt-MOST_FILE_BYTES.true
 
 pub returns-in_err-plan-clause-fault : goal.returns-in_err-plan-clause-fault
 returns-in_err-plan-clause-fault c =
