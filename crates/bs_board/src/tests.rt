@@ -231,12 +231,17 @@ fn a_plan_is_copied(rt: HostRuntime) -> Result<(), Fail> {
 
 #[test]
 fn versions_by_number(rt: HostRuntime) -> Result<(), Fail> {
-    for (number, version, has_wrapped) in [(1, Version::One, false), (2, Version::Two, true)] {
+    for (number, version, has_wrapped, has_stays) in [
+        (1, Version::One, false, false),
+        (2, Version::Two, true, false),
+        (3, Version::Three, true, true),
+    ] {
         assert_eq!(rt; Version::from_number(number), Some(version));
         assert_eq!(rt; u64::from(version.number()), number);
         assert_eq!(rt; version.has_wrapped(), has_wrapped);
+        assert_eq!(rt; version.has_stays(), has_stays);
     }
-    for number in [0, 3, 257] {
+    for number in [0, 4, 257, 258, 259] {
         assert_eq!(rt; Version::from_number(number), None, "{number}");
     }
     Ok(())

@@ -45,11 +45,21 @@ abbrev pub stray_code : Stray → List ℕ
 stray_code stray.Json = codes "L1"
 stray_code stray.Game = codes "L2"
 stray_code stray.Long = codes "L3"
+stray_code stray.BadRow = codes "A1"
+stray_code stray.NameOpen = codes "A2"
+stray_code stray.Full = codes "A3"
+stray_code stray.Short = codes "A4"
+stray_code stray.NoStay = codes "A5"
 
 abbrev pub stray_text : Stray → List ℕ
 stray_text stray.Json = codes "json"
 stray_text stray.Game = codes "game"
 stray_text stray.Long = codes "long"
+stray_text stray.BadRow = codes "admit"
+stray_text stray.NameOpen = codes "open"
+stray_text stray.Full = codes "games"
+stray_text stray.Short = codes "pool"
+stray_text stray.NoStay = codes "none"
 
 unfoldable pub reply_data : List ℕ → ℕ → Reply → Data
 reply_data game seq (Shown word board charge) = object_of (

@@ -1,26 +1,39 @@
 //! What one line of a command file is, after the first.
-ghost use Rattle.std.specs.Prelude.{◌≡◌, IfOk};
+ghost use Rattle.std.specs.Prelude.{◌≡◌, codes, IfOk};
 ghost use Rattle.std.specs.List.{list_all};
 ghost use Rattle.serde_json.specs.View.{view};
-ghost use Rattle.bs_json.specs.Line.{is_space, line_from, line_of};
+ghost use Rattle.bs_json.specs.Line.{admit_line, command_line, does, is_space, line_from, line_in, line_of};
+ghost use Rattle.bs_json.specs.PlanLine.{row_from};
+ghost use Rattle.bs_json.specs.Values.{text_at};
 
 use crate::commands::command_of;
 use crate::compact::compact_line;
 use crate::limits::MAX_LINE;
-use crate::values::{id_at, parsed};
-use bs_board::{Command, Id, Version};
+use crate::plan::row_from;
+use crate::values::{id_at, parsed, text_at};
+use bs_board::{Command, Id, Row, Version};
 use serde_json::Value;
 use std::alloc::{AllocError, Global};
 
-/// Why a line belongs to no game.
+/// Why a line is refused before it reaches a game.
 #[derive(Clone, Copy, Debug, PartialEq, Eq)]
 pub enum Stray {
     /// L1: it is no JSON text, or no object.
     Json,
-    /// L2: it names no game, or none of the plan.
+    /// L2: it names no game, or none that is open.
     Game,
     /// L3: it is longer than a line may be.
     Long,
+    /// A1: it admits a game whose name or quota is missing or out of range.
+    BadRow,
+    /// A2: it admits a game whose name an open game has.
+    NameOpen,
+    /// A3: it admits a game while as many are open as a plan may have.
+    Full,
+    /// A4: it admits a game that needs more blocks than are left beside those of the open games.
+    Short,
+    /// A5: it dismisses no open game.
+    NoStay,
 }
 
 /// What a line of a command file is, after its first.
@@ -32,6 +45,13 @@ pub enum Line {
     /// It names its game, and no command that can be carried out.
     Bad { game: Id },
     Stray(Stray),
+    /// It admits a game, from version 3 on.
+    Admit(Row),
+    /// It admits a game, but its name or its quota is missing or out of range.
+    BadAdmit,
+    /// It dismisses the game of that name, from version 3 on. `None` where the name is missing or
+    /// no text.
+    Leave { game: Option<Id> },
 }
 
 fn is_space(byte: u8) -> bool
@@ -46,12 +66,21 @@ fn is_blank(line: &[u8]) -> bool
     line.iter().all(|byte| is_space(*byte))
 }
 
-fn line_from(alloc: Global, version: Version, value: &mut Value) -> Result<Line, AllocError>
-    ensures { IfOk result (λ line. line ≡ line_from version (Some (view value.old))) }
+/// Whether the member `do` is that word.
+fn does(value: &Value, word: &str) -> bool
+    ensures { result ≡ does word.now (view value.now) }
 {
-    if !value.is_object() {
-        return Ok(Line::Stray(Stray::Json));
+    match text_at(value, "do") {
+        Some(text) => text == word,
+        None => false,
     }
+}
+
+/// A line that neither admits nor dismisses a game.
+fn command_line(alloc: Global, version: Version, value: &mut Value) -> Result<Line, AllocError>
+    ensures { IfOk result
+        (λ line. line ≡ command_line version (view value.old) (text_at (codes "game") (view value.old))) }
+{
     let Some(game) = id_at(alloc, value, "game")? else {
         return Ok(Line::Stray(Stray::Game));
     };
@@ -59,6 +88,38 @@ fn line_from(alloc: Global, version: Version, value: &mut Value) -> Result<Line,
         Some(command) => Ok(Line::Command { game, command }),
         None => Ok(Line::Bad { game }),
     }
+}
+
+/// A line that admits a game.
+fn admit_line(alloc: Global, value: &Value) -> Result<Line, AllocError>
+    ensures { IfOk result (λ line. line ≡ admit_line (row_from (view value.now))) }
+{
+    match row_from(alloc, value)? {
+        Some(row) => Ok(Line::Admit(row)),
+        None => Ok(Line::BadAdmit),
+    }
+}
+
+fn line_in(alloc: Global, version: Version, value: &mut Value) -> Result<Line, AllocError>
+    ensures { IfOk result (λ line. line ≡ line_in version (view value.old)) }
+{
+    if version.has_stays() && does(value, "admit") {
+        return admit_line(alloc, value);
+    }
+    if version.has_stays() && does(value, "leave") {
+        let game = id_at(alloc, value, "game")?;
+        return Ok(Line::Leave { game });
+    }
+    command_line(alloc, version, value)
+}
+
+fn line_from(alloc: Global, version: Version, value: &mut Value) -> Result<Line, AllocError>
+    ensures { IfOk result (λ line. line ≡ line_from version (Some (view value.old))) }
+{
+    if !value.is_object() {
+        return Ok(Line::Stray(Stray::Json));
+    }
+    line_in(alloc, version, value)
 }
 
 /// Reads one line of a file whose plan has that version. The line is given without its line feed.

@@ -48,7 +48,8 @@ fn version_of(line: &Value) -> Option<Version>
     }
 }
 
-fn row_from(alloc: Global, value: &Value) -> Result<Option<Row>, AllocError>
+/// The row that an object gives, where its name and its quota are there and in their ranges.
+pub(crate) fn row_from(alloc: Global, value: &Value) -> Result<Option<Row>, AllocError>
     ensures { IfOk result (λ row. row ≡ row_from (view value.now)) }
 {
     let Some(game) = id_at(alloc, value, "game")? else {

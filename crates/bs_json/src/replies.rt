@@ -60,6 +60,11 @@ fn stray_code(stray: Stray) -> &'static str
         Stray::Json => "L1",
         Stray::Game => "L2",
         Stray::Long => "L3",
+        Stray::BadRow => "A1",
+        Stray::NameOpen => "A2",
+        Stray::Full => "A3",
+        Stray::Short => "A4",
+        Stray::NoStay => "A5",
     }
 }
 
@@ -70,6 +75,11 @@ fn stray_text(stray: Stray) -> &'static str
         Stray::Json => "json",
         Stray::Game => "game",
         Stray::Long => "long",
+        Stray::BadRow => "admit",
+        Stray::NameOpen => "open",
+        Stray::Full => "games",
+        Stray::Short => "pool",
+        Stray::NoStay => "none",
     }
 }
 

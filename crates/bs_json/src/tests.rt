@@ -42,6 +42,10 @@ fn told(alloc: Global, line: &Line) -> Result<String, AllocError> {
         Line::Blank => String::from_str(alloc, "blank"),
         Line::Bad { game } => format!(in alloc; "{}: bad", game.as_str()),
         Line::Stray(stray) => format!(in alloc; "stray {stray:?}"),
+        Line::Admit(row) => format!(in alloc; "admit {} {}", row.game.as_str(), row.quota),
+        Line::BadAdmit => String::from_str(alloc, "bad admit"),
+        Line::Leave { game: Some(game) } => format!(in alloc; "leave {}", game.as_str()),
+        Line::Leave { game: None } => String::from_str(alloc, "leave nothing"),
         Line::Command { game, command } => {
             let asked = match command {
                 Command::New(new) => told_new(alloc, new)?,
@@ -115,7 +119,7 @@ fn lines_are_read(rt: HostRuntime) -> Result<(), Fail> {
     let alloc = rt.alloc();
     for row in LINES.split('\n') {
         let (want, line) = row.split_once('|').ok_or("a bar in each row")?;
-        for version in [Version::One, Version::Two] {
+        for version in [Version::One, Version::Two, Version::Three] {
             let read = read_line(alloc, line.as_bytes(), version)?;
             assert_eq!(rt; told(alloc, &read)?.as_str(), want, "{version:?} at {line}");
         }
@@ -127,7 +131,7 @@ const NEW_WRAPPED: &str =
     r#"{"game":"w","do":"new","mode":"wrapped","width":5,"height":5,"snakes":[{"id":"s","x":3,"y":1},{"id":"t","x":3,"y":3}],"food":[],"min_food":0,"food_chance":0}"#;
 
 #[test]
-fn wrapped_is_a_mode_of_version_two_alone(rt: HostRuntime) -> Result<(), Fail> {
+fn wrapped_is_a_mode_from_version_two_on(rt: HostRuntime) -> Result<(), Fail> {
     let alloc = rt.alloc();
     for (version, want) in [
         (Version::One, "w: bad"),
@@ -135,9 +139,53 @@ fn wrapped_is_a_mode_of_version_two_alone(rt: HostRuntime) -> Result<(), Fail> {
             Version::Two,
             "w: new Wrapped 5x5 min 0 chance 0 s@3,1 t@3,3",
         ),
+        (
+            Version::Three,
+            "w: new Wrapped 5x5 min 0 chance 0 s@3,1 t@3,3",
+        ),
     ] {
         let read = read_line(alloc, NEW_WRAPPED.as_bytes(), version)?;
         assert_eq!(rt; told(alloc, &read)?.as_str(), want, "{version:?}");
+    }
+    Ok(())
+}
+
+// What is read in version 3, what in the versions before it, and behind the bars the line.
+const STAYS: &str = r#"admit c 64|c: bad|{"game":"c","do":"admit","quota":64}
+admit c 16|c: bad|{"do":"admit","quota":16,"more":[1],"game":"c"}
+admit c 16777216|c: bad| {"quota":16777216,"game":"c", "do":"admit"}
+bad admit|c: bad|{"game":"c","do":"admit","quota":15}
+bad admit|c: bad|{"game":"c","do":"admit","quota":16777217}
+bad admit|c: bad|{"game":"c","do":"admit","quota":"64"}
+bad admit|c: bad|{"game":"c","do":"admit"}
+bad admit|: bad|{"game":"","do":"admit","quota":64}
+bad admit|stray Game|{"game":1,"do":"admit","quota":64}
+bad admit|stray Game|{"do":"admit","quota":64}
+leave c|c: bad|{"game":"c","do":"leave"}
+leave c|c: bad|{"do":"leave","quota":1,"game":"c"}
+leave |: bad|{"game":"","do":"leave"}
+leave nothing|stray Game|{"game":null,"do":"leave"}
+leave nothing|stray Game|{"do":"leave"}
+c: bad|c: bad|{"game":"c","do":"Admit","quota":64}
+c: bad|c: bad|{"game":"c","do":["admit"],"quota":64}
+c: bad|c: bad|{"game":"c","do":"leave "}
+stray Json|stray Json|["admit"]
+stray Json|stray Json|{"game":"c","do":"leave""#;
+
+#[test]
+fn games_are_admitted_and_dismissed_in_version_three_alone(rt: HostRuntime) -> Result<(), Fail> {
+    let alloc = rt.alloc();
+    for row in STAYS.split('\n') {
+        let (third, rest) = row.split_once('|').ok_or("a bar in each row")?;
+        let (before, line) = rest.split_once('|').ok_or("two bars in each row")?;
+        for (version, want) in [
+            (Version::One, before),
+            (Version::Two, before),
+            (Version::Three, third),
+        ] {
+            let read = read_line(alloc, line.as_bytes(), version)?;
+            assert_eq!(rt; told(alloc, &read)?.as_str(), want, "{version:?} at {line}");
+        }
     }
     Ok(())
 }
@@ -217,7 +265,9 @@ Malformed|{}
 Malformed|[]
 version 2|{"games":[],"version":2}
 version 2 a 16|{"version":2,"games":[{"game":"a","quota":16}]}
-Malformed|{"games":[],"version":3}
+version 3|{"games":[],"version":3}
+version 3 a 16|{"version":3,"games":[{"game":"a","quota":16}]}
+Malformed|{"games":[],"version":4}
 Malformed|{"games":[],"version":0}
 Malformed|{"games":[],"version":2.0}
 Malformed|{"games":[],"version":"2"}
@@ -376,6 +426,11 @@ const WITHOUT_A_BOARD: &str = r#"{"charge":0,"do":"end","game":"a\"","seq":3}
 {"line":2,"no":"L1","why":"json"}
 {"line":4,"no":"L2","why":"game"}
 {"line":18446744073709551615,"no":"L3","why":"long"}
+{"line":3,"no":"A1","why":"admit"}
+{"line":5,"no":"A2","why":"open"}
+{"line":6,"no":"A3","why":"games"}
+{"line":7,"no":"A4","why":"pool"}
+{"line":8,"no":"A5","why":"none"}
 "#;
 
 #[test]
@@ -396,7 +451,16 @@ fn lines_without_a_board_are_written(rt: HostRuntime) -> Result<(), Fail> {
         written.extend_from_slice(&reply_line(alloc, &game, 3, &reply)?)?;
     }
     written.extend_from_slice(&final_line(alloc, &game, None, 0)?)?;
-    for (line, stray) in [(2, Stray::Json), (4, Stray::Game), (u64::MAX, Stray::Long)] {
+    for (line, stray) in [
+        (2, Stray::Json),
+        (4, Stray::Game),
+        (u64::MAX, Stray::Long),
+        (3, Stray::BadRow),
+        (5, Stray::NameOpen),
+        (6, Stray::Full),
+        (7, Stray::Short),
+        (8, Stray::NoStay),
+    ] {
         written.extend_from_slice(&stray_line(alloc, line, stray)?)?;
     }
     assert_eq!(rt; written.as_slice(), WITHOUT_A_BOARD.as_bytes());

@@ -81,8 +81,8 @@ impl<const CAP: usize> Pool<CAP> {
         self.slots.len()
     }
 
-    /// The size less all reservations.
-    fn unreserved(&self) -> usize
+    /// The size less all reservations: how many blocks a reservation can have at most.
+    pub fn unreserved(&self) -> usize
         ensures { result ≡ unreserved self.now }
     {
         self.size() - all_reserved(self.reservations.as_slice())

@@ -26,6 +26,7 @@ fn a_pool_of_three_blocks(rt: HostRuntime) -> Result<(), Fail> {
     assert_eq!(rt; pool.held(1), 2);
     assert_eq!(rt; pool.reserved(1), 2);
     assert_eq!(rt; pool.reserved(2), 0);
+    assert_eq!(rt; pool.unreserved(), 1);
     assert_eq!(rt; pool.size(), 3);
     Ok(())
 }

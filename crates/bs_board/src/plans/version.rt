@@ -1,7 +1,7 @@
 //! The versions of the format of command files.
 
 ghost use Rattle.std.specs.Prelude.{◌≡◌};
-ghost use Rattle.bs_board.specs.plans.Version.{has_wrapped, version_number, version_numbered};
+ghost use Rattle.bs_board.specs.plans.Version.{has_stays, has_wrapped, version_number, version_numbered};
 
 /// A version of the format of command files. Each has all that the versions before it have.
 #[derive(Clone, Copy, Debug, PartialEq, Eq)]
@@ -9,6 +9,8 @@ pub enum Version {
     One,
     /// Adds the mode `wrapped`.
     Two,
+    /// Adds lines that admit and dismiss games.
+    Three,
 }
 
 impl Version {
@@ -19,6 +21,7 @@ impl Version {
         match number {
             1 => Some(Version::One),
             2 => Some(Version::Two),
+            3 => Some(Version::Three),
             _ => None,
         }
     }
@@ -30,6 +33,7 @@ impl Version {
         match self {
             Version::One => 1,
             Version::Two => 2,
+            Version::Three => 3,
         }
     }
 
@@ -39,7 +43,17 @@ impl Version {
     {
         match self {
             Version::One => false,
-            Version::Two => true,
+            Version::Two | Version::Three => true,
+        }
+    }
+
+    /// Whether lines may admit and dismiss games.
+    pub fn has_stays(self) -> bool
+        ensures { result ≡ has_stays self }
+    {
+        match self {
+            Version::One | Version::Two => false,
+            Version::Three => true,
         }
     }
 }
