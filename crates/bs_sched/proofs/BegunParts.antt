@@ -21,7 +21,7 @@ use Rattle.bs_sched.specs.declared.stage.PartState.TheVariants as part
 use Rattle.bs_sched.specs.Courses.{IsRight}
 use Rattle.bs_sched.specs.FrameEffects.{Keeps, Forks, begun_parts, brought_effect, frame_effect, is_begun, numbers_after, taken_effect}
 use Rattle.bs_sched.specs.Frames.{known}
-use Rattle.bs_sched.specs.Lane.{Lane, answered, forked, goes_on, has_begin, has_part, is_idle, is_in_parts, is_out, is_part_done, is_part_ready, is_playing, is_ready, is_to_join, part_at, with_put, with_taken}
+use Rattle.bs_sched.specs.Lane.{Lane, answered, forked, goes_on, has_begin, has_part, is_idle, is_in_parts, is_out, is_part_done, is_part_ready, is_playing, is_quiet, is_ready, is_to_join, part_at, with_put, with_taken}
 use Rattle.bs_sched.specs.Machine.{is_allowed, lane_after}
 use Rattle.bs_sched.proofs.Lanes.{out_part, ready_part}
 use Rattle.bs_sched.proofs.PartFrames.{one_less}
@@ -126,6 +126,8 @@ pub shape_after : (x : Lane) (e : Event) (numbers : List (Option ℕ)) (pool : L
 shape_after x (event.Hand game command) numbers pool allowed are = record { are = are.are }
 shape_after x (event.Take worker job) numbers pool allowed are = record { are = shape_taken x worker job.part job.kind numbers pool allowed are.are }
 shape_after x (event.Put worker job) numbers pool allowed are = record { are = shape_put x worker job.part job.kind numbers pool allowed are.are }
+shape_after x (event.Admit row) numbers pool allowed are = record { are = are.are }
+shape_after x (event.Leave game) numbers pool allowed are = record { are = are.are }
 
 -- while a command is begun no block is drawn
 no_flags : (numbers : List (Option ℕ)) → flags numbers ≡ [] → known numbers ≡ []
@@ -191,3 +193,14 @@ one_left x p numbers right ready are =
     let few = few_numbers x numbers right are in
     let less = one_less numbers p (free_to_draw x p numbers ready are) in
     omega (arith, few, less)
+
+-- a stay that has nothing to do is at no move
+
+idle_still : (s : Stage) → is_idle s ≡ true → is_playing s ≡ false
+idle_still stage.Idle idle = refl
+idle_still (stage.Begin worker) idle = refl
+idle_still stage.Parts idle = let wrong : false ≡ true = idle in cc
+idle_still (stage.Join taker) idle = let wrong : false ≡ true = idle in cc
+
+pub none_quiet : (x : Lane) (numbers : List (Option ℕ)) → is_quiet x ≡ true → AreBegun x numbers → known numbers ≡ []
+none_quiet x numbers quiet begun = none_idle x numbers (idle_still x.stage (and_parts (is_idle x.stage) _ quiet).0) begun

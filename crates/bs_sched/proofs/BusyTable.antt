@@ -4,7 +4,7 @@ use Rattle.std.specs.Prelude.{Some, None, ◌&&◌, ◌||◌, if◌then◌else�
 use Rattle.std.specs.List.{list_all}
 use Rattle.std.proofs.lemmas.Bool.{cases_Bool, eqb-true, eqb-false, eq-eqb, lt-ltb, ltb-true, ltb-false}
 use Rattle.std.proofs.lemmas.List.{get_or-set_same, get_or-set_other, length-set, length-replicate}
-use Rattle.std.proofs.lemmas.List.Sums.{sum_by-set, sum_by-cons}
+use Rattle.std.proofs.lemmas.List.Sums.{sum_by-set, sum_by-cons, sum_by_push}
 use Rattle.bs_board.proofs.Chains.{and_both}
 use Rattle.bs_board.specs.declared.commands.command.Command.{Command}
 use Rattle.bs_board.specs.plans.Plan.{GameRow}
@@ -15,8 +15,8 @@ use Rattle.bs_sched.specs.declared.event.Event.TheVariants as event
 use Rattle.bs_sched.specs.declared.stage.Stage.{Stage}
 use Rattle.bs_sched.specs.declared.stage.Stage.TheVariants as stage
 use Rattle.bs_sched.specs.Busy.{IsBusyTable, held_by, lanes_held, marked, one_if}
-use Rattle.bs_sched.specs.Lane.{Lane, empty_lane, no_lane, goes_on, is_idle, is_in_parts, is_to_join, is_part_done, has_begin, has_join, is_ready, is_out, occupies, forked, answered, with_waiting, with_taken, with_put}
-use Rattle.bs_sched.specs.Machine.{lane_of, lane_effect, is_busy, is_enabled}
+use Rattle.bs_sched.specs.Lane.{Lane, empty_lane, closed_lane, no_lane, goes_on, is_idle, is_in_parts, is_to_join, is_part_done, has_begin, has_join, is_ready, is_out, occupies, forked, answered, with_waiting, with_taken, with_put}
+use Rattle.bs_sched.specs.Machine.{lane_of, lane_effect, is_busy, is_enabled_there}
 
 not_true : (b : Bool) → not b ≡ true → b ≡ false
 not_true true is = let wrong : false ≡ true = is in cc
@@ -203,7 +203,7 @@ mark_taken workers lanes new busy kind.Part worker free more table =
     }
 mark_taken workers lanes new busy kind.Join worker free more table = mark_one workers lanes new busy worker free more table
 
-pub take_marks : (workers : ℕ) (lanes : List Lane) (busy : List Bool) (worker : ℕ) (job : JobName) → is_enabled workers lanes (event.Take worker job) ≡ true
+pub take_marks : (workers : ℕ) (lanes : List Lane) (busy : List Bool) (worker : ℕ) (job : JobName) → is_enabled_there workers lanes (event.Take worker job) ≡ true
     → IsBusyTable workers lanes busy → IsBusyTable workers (lane_effect lanes (event.Take worker job)) (marked job.kind worker true busy)
 take_marks workers lanes busy worker job enabled table =
     let both = and_both _ _ enabled in
@@ -244,7 +244,7 @@ mark_put workers lanes new busy kind.Part worker less table =
     }
 mark_put workers lanes new busy kind.Join worker less table = unmark_one workers lanes new busy worker less table
 
-pub put_marks : (workers : ℕ) (lanes : List Lane) (busy : List Bool) (worker : ℕ) (job : JobName) → is_enabled workers lanes (event.Put worker job) ≡ true
+pub put_marks : (workers : ℕ) (lanes : List Lane) (busy : List Bool) (worker : ℕ) (job : JobName) → is_enabled_there workers lanes (event.Put worker job) ≡ true
     → IsBusyTable workers lanes busy → IsBusyTable workers (lane_effect lanes (event.Put worker job)) (marked job.kind worker false busy)
 put_marks workers lanes busy worker job enabled table =
     let both = and_both _ _ enabled in
@@ -267,4 +267,28 @@ none_marked workers rows =
     record {
       many = length-replicate (workers + 1) false;
       each = λ w bound. none_held w rows ∙ sym (ap one_if (none_there (workers + 1) w));
+    }
+
+-- who comes has no job, and who leaves had none
+
+pub admit_marks_none : (workers : ℕ) (lanes : List Lane) (busy : List Bool) (row : GameRow) → IsBusyTable workers lanes busy
+    → IsBusyTable workers (lane_effect lanes (event.Admit row)) busy
+admit_marks_none workers lanes busy row table =
+    record {
+      many = table.many;
+      each = λ w bound.
+          let sum = sum_by_push (held_by w) lanes (empty_lane row) in
+          let was = table.each w bound in
+          omega (arith, sum, was);
+    }
+
+pub leave_marks_none : (workers : ℕ) (lanes : List Lane) (busy : List Bool) (game : ℕ) → game < length lanes → IsBusyTable workers lanes busy
+    → IsBusyTable workers (lane_effect lanes (event.Leave game)) busy
+leave_marks_none workers lanes busy game within table =
+    record {
+      many = table.many;
+      each = λ w bound.
+          let sum = sum_by-set (held_by w) lanes game (closed_lane (lane_of lanes game)) no_lane within in
+          let was = table.each w bound in
+          omega (arith, sum, was);
     }

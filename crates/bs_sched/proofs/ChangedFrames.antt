@@ -1,5 +1,5 @@
 -- The frames of all games, after one of them changed.
-use Rattle.std.proofs.Common.{◌≡◌, ◌≢◌, ℕ, ◌+◌, ◌*◌, ◌<◌, List, length, map, refl, sym, ap, ◌∙◌, arith, inl, inr, get_or}
+use Rattle.std.proofs.Common.{◌≡◌, ◌≢◌, ℕ, ◌+◌, ◌*◌, ◌<◌, true, List, length, map, refl, sym, ap, ◌∙◌, arith, inl, inr, get_or}
 use Rattle.std.specs.Prelude.{slice_set}
 use Rattle.std.proofs.lemmas.Bool.{cases_eq}
 use Rattle.std.proofs.lemmas.Grind.{get_or-set_at}
@@ -12,6 +12,7 @@ use Rattle.bs_sched.specs.GamesLayout.{AreAllFramesOf, frames_at}
 use Rattle.bs_sched.specs.Lane.{Lane, no_lane}
 use Rattle.bs_sched.specs.Machine.{lane_of}
 use Rattle.bs_sched.specs.Storage.{frame_tag, record_tag}
+use Rattle.bs_sched.proofs.Heaps.{open_beside}
 
 -- what is left by one tag is left by two
 pub leaves_more : (tag other : ℕ) (old new : Ledger) → LeavesOthers other old new → LeavesBut tag other old new
@@ -43,14 +44,14 @@ left_frames own tag other x f pool pool' are a b leaves =
 pub changed_frames : (game : ℕ) (lanes : List Lane) (frames : List FramesView) (pool pool' : Ledger) (x : Lane) (f : FramesView)
     → AreAllFramesOf lanes frames pool → length frames ≡ length lanes → game < length lanes → AreFramesOf (frame_tag game) x f pool'
     → LeavesBut (record_tag game) (frame_tag game) pool pool' → AreAllFramesOf (slice_set lanes game x) (slice_set frames game f) pool'
-changed_frames game lanes frames pool pool' x f all many within here leaves other less =
+changed_frames game lanes frames pool pool' x f all many within here leaves other less stands =
     elim (cases_eq other game) [
       | inl same ↦
           rw (get_or-set_at lanes game other x no_lane same within, get_or-set_at frames game other f (no_frames 0) same (omega (arith, many)), same) here
       | inr differ ↦
           let before : other < length lanes = let l = length-set lanes game x in omega (arith, l) in
           rw (get_or-set_other lanes game other x no_lane differ, get_or-set_other frames game other f (no_frames 0) differ)
-          (left_frames (frame_tag other) (record_tag game) (frame_tag game) (lane_of lanes other) (frames_at frames other) pool pool' (all other before)
+          (left_frames (frame_tag other) (record_tag game) (frame_tag game) (lane_of lanes other) (frames_at frames other) pool pool' (all other before (open_beside lanes game other x differ stands))
           (λ same. let odd : 2 * other + 1 ≡ 2 * game = same in omega (arith, odd))
           (λ same. differ (let twice : 2 * other + 1 ≡ 2 * game + 1 = same in omega (arith, twice))) leaves)
     ]
@@ -59,18 +60,18 @@ changed_frames game lanes frames pool pool' x f all many within here leaves othe
 pub changed_lane_frames : (game : ℕ) (lanes : List Lane) (frames : List FramesView) (pool : Ledger) (x : Lane)
     → AreAllFramesOf lanes frames pool → game < length lanes → AreFramesOf (frame_tag game) x (frames_at frames game) pool
     → AreAllFramesOf (slice_set lanes game x) frames pool
-changed_lane_frames game lanes frames pool x all within here other less =
+changed_lane_frames game lanes frames pool x all within here other less stands =
     elim (cases_eq other game) [
       | inl same ↦ rw (get_or-set_at lanes game other x no_lane same within, same) here
       | inr differ ↦
           let before : other < length lanes = let l = length-set lanes game x in omega (arith, l) in
-          rw (get_or-set_other lanes game other x no_lane differ) (all other before)
+          rw (get_or-set_other lanes game other x no_lane differ) (all other before (open_beside lanes game other x differ stands))
     ]
 
 -- a game's frames, found at the game's place
 pub frames_there : (game : ℕ) (lanes : List Lane) (frames : List FramesView) (pool : Ledger) (x : Lane) (f : FramesView) → AreAllFramesOf lanes frames pool
-    → game < length lanes → x ≡ lane_of lanes game → f ≡ frames_at frames game → AreFramesOf (frame_tag game) x f pool
-frames_there game lanes frames pool x f all within lane is = rw (lane, is) (all game within)
+    → game < length lanes → (lane_of lanes game).is_open ≡ true → x ≡ lane_of lanes game → f ≡ frames_at frames game → AreFramesOf (frame_tag game) x f pool
+frames_there game lanes frames pool x f all within stands lane is = rw (lane, is) (all game within stands)
 
 pub own_frames : (own : ℕ) (x : Lane) (f : FramesView) (pool : Ledger) → AreFramesOf own x f pool → AreFramesOf f.tag x f pool
 own_frames own x f pool are = record { tag = refl; held = are.held; room = are.room; few = are.few; at = are.at }

@@ -1,8 +1,8 @@
 -- A core of which one game has changed.
-use Rattle.std.proofs.Common.{◌≡◌, ℕ, ◌<◌, ◌≤◌, true, List, length, map, refl, sym, ap, subst, ◌∙◌, get_or, Result, Ok, Err}
+use Rattle.std.proofs.Common.{◌≡◌, ℕ, ◌<◌, ◌≤◌, true, List, length, map, refl, sym, ap, subst, ◌∙◌, get_or, Result, Ok, Err, arith}
 use Rattle.std.specs.Prelude.{[], Option, None, Some, replicate, slice_index_or, slice_set, OnOk, OnErr}
 use Rattle.bs_board.specs.declared.commands.command.Command.{Command}
-use Rattle.std.proofs.lemmas.List.{map-set, length-set, set-get_or}
+use Rattle.std.proofs.lemmas.List.{map-set, length-set, set-get_or, get_or-set_other}
 use Rattle.std.proofs.Math.Seq.{map-set_same}
 use Rattle.std.proofs.Math.ListN.{get_or-map}
 use Rattle.std.proofs.lemmas.Option.{slice_get_read, get_or_from_slice_get}
@@ -10,6 +10,12 @@ use Rattle.bs_heap.specs.Heap.{Heap, empty_heap, with_index_room}
 use Rattle.bs_heap.specs.HeldBlocks.{IsKeptIn, all_given, next_number}
 use Rattle.bs_heap.specs.Charge.{blocks_for}
 use Rattle.bs_board.specs.records.Record.{record_of}
+use Rattle.bs_board.specs.plans.Plan.{GameRow}
+use Rattle.bs_pool.specs.declared.reservation.Reservation.{Reservation}
+use Rattle.bs_sched.specs.Reserved.{AreReserved}
+use Rattle.bs_sched.proofs.OpenRows.{open_same}
+use Rattle.bs_sched.proofs.Reserved.{reserved_changed, with_room}
+use Rattle.bs_sched.proofs.RightRuns.{busy_out, busy_ready, open_busy}
 use Rattle.bs_sched.specs.Insides.{may_answer}
 use Rattle.bs_heap.specs.Packing.{no_packing}
 use Rattle.bs_pool.specs.Ledger.{Ledger, reserved}
@@ -31,11 +37,11 @@ use Rattle.bs_sched.specs.declared.stage.Stage.TheVariants as stage
 use Rattle.bs_sched.specs.Frames.{FramesView, AreFramesAt, AreFramesOf, LeavesBut, frames_taken, known, no_frames, pool_taken}
 use Rattle.bs_sched.specs.Games.{storage_taken}
 use Rattle.bs_sched.proofs.ChangedFrames.{changed_frames, changed_lane_frames, leaves_all}
-use Rattle.bs_sched.proofs.Heaps.{changed_lane, changed_heaps}
+use Rattle.bs_sched.proofs.Heaps.{changed_gone, changed_lane, changed_heaps}
 use Rattle.bs_sched.proofs.PartFrames.{same_frame}
 use Rattle.std.specs.Vec.{with_item}
-use Rattle.bs_sched.specs.Lane.{Lane, no_lane, lane_command, lane_view, part_at, with_waiting}
-use Rattle.bs_sched.specs.Machine.{lane_of}
+use Rattle.bs_sched.specs.Lane.{Lane, is_out, is_ready, no_lane, lane_command, lane_view, part_at, with_waiting}
+use Rattle.bs_sched.specs.Machine.{lane_of, open_blocks}
 use Rattle.bs_sched.specs.Storage.{Storage, frame_tag, frames_of, packing_of, packing_after, pool_after, record_tag, stored, with_parts, without_frames}
 
 -- what is read at a place within a list is there whatever stands behind its end
@@ -90,74 +96,103 @@ taken_storage_is kind.Join game p heaps frames pool pool' keys f h is tag taken 
 -- a game's heap, found at the game's place
 
 pub heap_there : (cap game : ℕ) (lanes : List Lane) (heaps : List Heap) (pool : Ledger) (x : Lane) (heap : Heap) → AreHeapsOf cap lanes heaps pool
-    → game < length lanes → x ≡ lane_of lanes game → heap ≡ heap_of heaps game → IsHeapOf cap (record_tag game) x heap pool
-heap_there cap game lanes heaps pool x heap all within lane is = rw (lane, is) (all game within)
+    → game < length lanes → (lane_of lanes game).is_open ≡ true → x ≡ lane_of lanes game → heap ≡ heap_of heaps game → IsHeapOf cap (record_tag game) x heap pool
+heap_there cap game lanes heaps pool x heap all within stands lane is = rw (lane, is) (all game within stands)
 
 pub own_heap : (cap own : ℕ) (x : Lane) (heap : Heap) (pool : Ledger) → IsHeapOf cap own x heap pool → IsHeapOf cap heap.tag x heap pool
 own_heap cap own x heap pool kept =
     record { tag = refl; quota = kept.quota; records = kept.records; held = kept.held; blocks = kept.blocks; room = kept.room }
 
--- a lane keeps its quota
-pub same_quotas : (lanes : List Lane) (game : ℕ) (x : Lane) → x.row.quota ≡ (lane_of lanes game).row.quota
-    → map (λ (y : Lane). y.row.quota) (slice_set lanes game x) ≡ map (λ (y : Lane). y.row.quota) lanes
-same_quotas lanes game x same = map-set_same (λ (y : Lane). y.row.quota) lanes game x no_lane same
+-- a stay that a worker has a job of, or may have, is open
 
--- a core stays sound where one lane changes, and the game's heap and frames are still the lane's
-pub sound_lane : (cap : ℕ) {at : ℕ} (c : Inside at) (game : ℕ) (x : Lane) → IsSound cap c → game < length c.fibers.items
-    → x.row.quota ≡ (lane_of c.fibers.items game).row.quota → IsHeapOf cap (record_tag game) x (heap_of c.heaps.items game) c.pool
+pub open_out : (cap : ℕ) {at : ℕ} (c : Inside at) (game worker : ℕ) (k : JobKind) (p : ℕ) → IsSound cap c → game < length c.fibers.items
+    → is_out worker (lane_of c.fibers.items game) k p ≡ true → (lane_of c.fibers.items game).is_open ≡ true
+open_out cap c game worker k p sound within out = open_busy (lane_of c.fibers.items game) (λ shut. (sound.gone game within shut).quiet) (busy_out (lane_of c.fibers.items game) worker k p out)
+
+pub open_ready : (cap : ℕ) {at : ℕ} (c : Inside at) (game : ℕ) (k : JobKind) (p : ℕ) → IsSound cap c → game < length c.fibers.items
+    → is_ready (lane_of c.fibers.items game) k p ≡ true → (lane_of c.fibers.items game).is_open ≡ true
+open_ready cap c game k p sound within ready = open_busy (lane_of c.fibers.items game) (λ shut. (sound.gone game within shut).quiet) (busy_ready (lane_of c.fibers.items game) k p ready)
+
+-- what is set aside stays so where a lane changes that keeps its row
+kept_aside : (cap game : ℕ) (lanes : List Lane) (rs rs' : List Reservation) (x : Lane) → AreReserved cap (open_blocks cap lanes) lanes rs → rs' ≡ rs → game < length lanes
+    → x.row ≡ (lane_of lanes game).row → x.is_open ≡ (lane_of lanes game).is_open
+    → AreReserved cap (open_blocks cap (slice_set lanes game x)) (slice_set lanes game x) rs'
+kept_aside cap game lanes rs rs' x reserved same within row flag =
+    rw same (with_room cap (open_blocks cap lanes) (open_blocks cap (slice_set lanes game x)) (slice_set lanes game x) rs
+    (reserved_changed cap (open_blocks cap lanes) game lanes rs x reserved within row flag) (omega arith))
+
+-- a core stays sound where the lane of an open stay changes, and the stay's heap and frames are
+-- still the lane's
+pub sound_lane : (cap : ℕ) {at : ℕ} (c : Inside at) (game : ℕ) (x : Lane) → IsSound cap c → game < length c.fibers.items → (lane_of c.fibers.items game).is_open ≡ true
+    → x.row ≡ (lane_of c.fibers.items game).row → x.is_open ≡ (lane_of c.fibers.items game).is_open
+    → IsHeapOf cap (record_tag game) x (heap_of c.heaps.items game) c.pool
     → AreFramesOf (frame_tag game) x (frames_at c.frames.items game) c.pool
     → IsSound cap (record c { fibers = with_item c.fibers game x })
-sound_lane cap c game x sound within quota here frames =
+sound_lane cap c game x sound within stands row flag here frames =
     let long = length-set c.fibers.items game x in
+    let few = sound.few in
     record {
       wide = sound.wide;
       plan = sound.plan;
-      lanes = long ∙ sound.lanes;
-      quotas = same_quotas c.fibers.items game x quota ∙ sound.quotas;
+      few = omega (arith, long, few);
+      listed = sound.listed ∙ sym (open_same game c.fibers.items x flag);
       many = sound.many ∙ sym long;
       heaps = changed_lane cap game c.fibers.items c.heaps.items c.pool x sound.heaps within here;
       as_many = sound.as_many ∙ sym long;
       frames = changed_lane_frames game c.fibers.items c.frames.items c.pool x sound.frames within frames;
+      gone = changed_gone game c.fibers.items c.heaps.items c.heaps.items x sound.gone (flag ∙ stands) within (λ other differ. refl);
+      reserved = kept_aside cap game c.fibers.items c.pool.reservations c.pool.reservations x sound.reserved refl within row flag;
     }
 
 -- where its frames change too
 pub sound_turn : (cap : ℕ) {at : ℕ} (c : Inside at) (game : ℕ) (x : Lane) (f : FramesView) → IsSound cap c → game < length c.fibers.items
-    → x.row.quota ≡ (lane_of c.fibers.items game).row.quota → IsHeapOf cap (record_tag game) x (heap_of c.heaps.items game) c.pool
+    → (lane_of c.fibers.items game).is_open ≡ true
+    → x.row ≡ (lane_of c.fibers.items game).row → x.is_open ≡ (lane_of c.fibers.items game).is_open
+    → IsHeapOf cap (record_tag game) x (heap_of c.heaps.items game) c.pool
     → AreFramesOf (frame_tag game) x f c.pool
     → IsSound cap (record c { fibers = with_item c.fibers game x; frames = with_item c.frames game f })
-sound_turn cap c game x f sound within quota here frames =
+sound_turn cap c game x f sound within stands row flag here frames =
     let long = length-set c.fibers.items game x in
     let as_long = length-set c.frames.items game f in
+    let few = sound.few in
     record {
       wide = sound.wide;
       plan = sound.plan;
-      lanes = long ∙ sound.lanes;
-      quotas = same_quotas c.fibers.items game x quota ∙ sound.quotas;
+      few = omega (arith, long, few);
+      listed = sound.listed ∙ sym (open_same game c.fibers.items x flag);
       many = sound.many ∙ sym long;
       heaps = changed_lane cap game c.fibers.items c.heaps.items c.pool x sound.heaps within here;
       as_many = as_long ∙ sound.as_many ∙ sym long;
       frames =
           changed_frames game c.fibers.items c.frames.items c.pool c.pool x f sound.frames sound.as_many within frames (leaves_all (record_tag game) (frame_tag game) c.pool);
+      gone = changed_gone game c.fibers.items c.heaps.items c.heaps.items x sound.gone (flag ∙ stands) within (λ other differ. refl);
+      reserved = kept_aside cap game c.fibers.items c.pool.reservations c.pool.reservations x sound.reserved refl within row flag;
     }
 
 -- and where its heap and its blocks in the pool do
 pub sound_game : (cap : ℕ) {at : ℕ} (c : Inside at) (game : ℕ) (x : Lane) (heap : Heap) (f : FramesView) (pool : Ledger) → IsSound cap c → game < length c.fibers.items
-    → x.row.quota ≡ (lane_of c.fibers.items game).row.quota → IsHeapOf cap (record_tag game) x heap pool → AreFramesOf (frame_tag game) x f pool
+    → (lane_of c.fibers.items game).is_open ≡ true
+    → x.row ≡ (lane_of c.fibers.items game).row → x.is_open ≡ (lane_of c.fibers.items game).is_open
+    → IsHeapOf cap (record_tag game) x heap pool → AreFramesOf (frame_tag game) x f pool
     → LeavesBut (record_tag game) (frame_tag game) c.pool pool
     → IsSound cap (record c { fibers = with_item c.fibers game x; heaps = with_item c.heaps game heap; frames = with_item c.frames game f; pool = pool })
-sound_game cap c game x heap f pool sound within quota here frames leaves =
+sound_game cap c game x heap f pool sound within stands row flag here frames leaves =
     let long = length-set c.fibers.items game x in
     let heaps_long = length-set c.heaps.items game heap in
     let frames_long = length-set c.frames.items game f in
+    let few = sound.few in
     record {
       wide = sound.wide;
       plan = sound.plan;
-      lanes = long ∙ sound.lanes;
-      quotas = same_quotas c.fibers.items game x quota ∙ sound.quotas;
+      few = omega (arith, long, few);
+      listed = sound.listed ∙ sym (open_same game c.fibers.items x flag);
       many = heaps_long ∙ sound.many ∙ sym long;
       heaps = changed_heaps cap game c.fibers.items c.heaps.items c.pool pool x heap sound.heaps sound.many within here leaves;
       as_many = frames_long ∙ sound.as_many ∙ sym long;
       frames = changed_frames game c.fibers.items c.frames.items c.pool pool x f sound.frames sound.as_many within frames leaves;
+      gone = changed_gone game c.fibers.items c.heaps.items (slice_set c.heaps.items game heap) x sound.gone (flag ∙ stands) within
+          (λ other differ. get_or-set_other c.heaps.items game other heap (empty_heap 0 0) differ);
+      reserved = kept_aside cap game c.fibers.items c.pool.reservations pool.reservations x sound.reserved leaves.reservations within row flag;
     }
 
 -- a core of which a game's job was taken: its heap may have grown its index
@@ -187,7 +222,8 @@ kept_storage cap game storage = ap (λ packings. record storage { packings = pac
 -- a command was handed in, or was not for want of memory
 
 pub record SameStage (x y : Lane) : Type 0 where
-  pub quota : y.row.quota ≡ x.row.quota
+  pub row : y.row ≡ x.row
+  pub flag : y.is_open ≡ x.is_open
   pub game : y.game ≡ x.game
   pub stage : y.stage ≡ x.stage
   pub view : lane_view y ≡ lane_view x
@@ -197,15 +233,15 @@ pub record SameStage (x y : Lane) : Type 0 where
 pub same_stage : {A B : Type 0} (result : Result A B) (x y : Lane) (command : Command) → OnOk result (y ≡ with_waiting command x) → OnErr result (y ≡ x)
     → SameStage x y
 same_stage (Ok value) x y command handed same =
-    record { quota = ap (λ (z : Lane). z.row.quota) handed; game = ap (λ (z : Lane). z.game) handed; stage = ap (λ (z : Lane). z.stage) handed; view = ap lane_view handed; command = ap lane_command handed; parts = ap (λ (z : Lane). z.parts) handed }
+    record { row = ap (λ (z : Lane). z.row) handed; flag = ap (λ (z : Lane). z.is_open) handed; game = ap (λ (z : Lane). z.game) handed; stage = ap (λ (z : Lane). z.stage) handed; view = ap lane_view handed; command = ap lane_command handed; parts = ap (λ (z : Lane). z.parts) handed }
 same_stage (Err error) x y command handed same =
-    record { quota = ap (λ (z : Lane). z.row.quota) same; game = ap (λ (z : Lane). z.game) same; stage = ap (λ (z : Lane). z.stage) same; view = ap lane_view same; command = ap lane_command same; parts = ap (λ (z : Lane). z.parts) same }
+    record { row = ap (λ (z : Lane). z.row) same; flag = ap (λ (z : Lane). z.is_open) same; game = ap (λ (z : Lane). z.game) same; stage = ap (λ (z : Lane). z.stage) same; view = ap lane_view same; command = ap lane_command same; parts = ap (λ (z : Lane). z.parts) same }
 
 pub handed_heap : (cap own : ℕ) (x y : Lane) (heap : Heap) (pool : Ledger) → IsHeapOf cap own x heap pool → SameStage x y → IsHeapOf cap own y heap pool
 handed_heap cap own x y heap pool kept same =
     record {
       tag = kept.tag;
-      quota = kept.quota ∙ sym same.quota;
+      quota = kept.quota ∙ ap (λ (row : GameRow). row.quota) (sym same.row);
       records = kept.records ∙ ap (map record_of) (sym same.game);
       held = kept.held;
       blocks = kept.blocks;

@@ -1,23 +1,27 @@
 -- What a fiber keeps, after each event.
 use Rattle.std.proofs.Common.{◌≡◌, ℕ, ◌<◌, true, false, List, length, map, refl, sym, ap, subst, ◌∙◌, arith, Global, Vec, vec_len, vec_capacity}
-use Rattle.std.specs.Prelude.{Some, None, slice_set}
+use Rattle.std.specs.Prelude.{Option, Some, None, IfSome, MatchOption, drop, is_some, nat_eq, not, slice_set}
 use Rattle.std.specs.List.{list_all, filter_map}
-use Rattle.std.proofs.lemmas.List.{length-map, length-set}
+use Rattle.std.proofs.lemmas.Bool.{eqb-true}
+use Rattle.std.proofs.lemmas.List.{length-drop, length-map, length-set}
 use Rattle.std.proofs.lemmas.List.Folds.{list_all-map}
+use Rattle.bs_board.proofs.Chains.{and_both}
 use Rattle.bs_board.specs.declared.commands.command.Command.{Command}
 use Rattle.bs_board.specs.declared.commands.reply.Reply.{Reply}
 use Rattle.bs_board.specs.declared.boards.snake.Snake.{Snake}
+use Rattle.bs_game.specs.Game.{game_charge, last_board}
 use Rattle.bs_game.specs.declared.view.View.{View}
 use Rattle.bs_fiber.specs.declared.job.JobKind.TheVariants as kind
 use Rattle.bs_fiber.specs.Work.{moved_part}
 use Rattle.bs_sched.specs.declared.fiber.Fiber.TheInside.{Inside}
+use Rattle.bs_sched.specs.declared.fiber.Last.{Last}
 use Rattle.bs_sched.specs.declared.fiber.Slot.{Slot}
 use Rattle.bs_sched.specs.declared.fiber.Slot.TheVariants as slot
 use Rattle.bs_sched.specs.declared.stage.Stage.{Stage}
 use Rattle.bs_sched.specs.declared.stage.Stage.TheVariants as stage
 use Rattle.bs_sched.specs.Inputs.{moved_parts_for}
-use Rattle.bs_sched.specs.Insides.{lane_in, IsFiber, IsAt, IsPlaying, IsJoining}
-use Rattle.bs_sched.specs.Lane.{Lane, is_part_done, is_ready, is_out, lane_view, lane_command, with_taken, with_part_done}
+use Rattle.bs_sched.specs.Insides.{lane_in, IsFiber, IsAt, IsLastOf, IsPlaying, IsJoining}
+use Rattle.bs_sched.specs.Lane.{Lane, is_idle, is_quiet, is_part_done, is_ready, is_out, lane_view, lane_command, with_taken, with_part_done}
 use Rattle.bs_sched.specs.Slots.{state_of, emptied, moved_in}
 use Rattle.bs_sched.proofs.Lanes.{ready_join, out_part, joined_lane, done_lane}
 use Rattle.bs_sched.proofs.Parts.{collected, emptied_states, emptied_right, slots_set}
@@ -74,6 +78,7 @@ joined_fiber f x replies slots worker kept is ready same room empty cap =
     record {
       begun = kept.begun;
       at = λ idle. kept.at (rw at refl);
+      closed = λ shut. let wrong : false ≡ true = rw at at (kept.closed shut).0 in absurd cc;
       small = kept.small;
       fits = kept.fits;
       replies = same ∙ told;
@@ -116,9 +121,44 @@ done_fiber f x slots moved p worker kept is out brought same cap all =
     record {
       begun = kept.begun;
       at = λ idle. kept.at (rw at refl);
+      closed = λ shut. let wrong : false ≡ true = rw at at (kept.closed shut).0 in absurd cc;
       small = kept.small;
       fits = kept.fits;
       replies = told;
       stage = subst (λ (y : Lane). IsJoining false (lane_view y) (lane_command y) slots.items) (sym lane) whole;
       room = record { reply = λ answers. let wrong : false ≡ true = answers in absurd cc; parts = omega (arith, cap, parts) };
     }
+
+-- the stay leaves
+pub closed_fiber : (f : Inside) (last : Last) → IsFiber f → is_quiet (lane_in f) ≡ true → last.board ≡ last_board (lane_in f).game
+    → last.charge ≡ game_charge (lane_in f).game → IsFiber (record f { left = Some last })
+closed_fiber f last kept quiet board charge =
+    let both = and_both (is_idle f.stage) (nat_eq (length (drop f.begun f.commands.items)) 0) quiet in
+    let none : length (drop f.begun f.commands.items) ≡ 0 = eqb-true (length (drop f.begun f.commands.items)) 0 both.1 in
+    let new : Inside = record f { left = Some last } in
+    let ends : IsLastOf new last = record { board = board; charge = charge } in
+    let all : f.begun ≡ length f.commands.items = let long = length-drop f.begun f.commands.items in let begun = kept.begun in omega (arith, none, long, begun) in
+    record {
+      begun = kept.begun;
+      at = kept.at;
+      closed = λ _. (both.0, all, ends);
+      small = kept.small;
+      fits = kept.fits;
+      replies = kept.replies;
+      stage = kept.stage;
+      room = record { reply = kept.room.reply; parts = kept.room.parts };
+    }
+
+-- how it ended, if it has left
+abbrev pub IsEnd : Lane → Last → Type 0
+IsEnd x last = (last.board ≡ last_board x.game) × (last.charge ≡ game_charge x.game)
+
+ended_by : (f : Inside) (last : Option Last) → IsFiber f → f.left ≡ last → MatchOption last ((lane_in f).is_open ≡ true) (IsEnd (lane_in f))
+ended_by f None kept is = rw is refl
+ended_by f (Some last) kept is =
+    let closed = kept.closed (rw is refl) in
+    let ends : IfSome (Some last) (IsLastOf f) = subst (λ (l : Option Last). IfSome l (IsLastOf f)) is closed.2 in
+    (ends.board, ends.charge)
+
+pub ended : (f : Inside) → IsFiber f → MatchOption f.left ((lane_in f).is_open ≡ true) (IsEnd (lane_in f))
+ended f kept = ended_by f f.left kept refl

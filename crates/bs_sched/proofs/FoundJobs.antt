@@ -1,13 +1,32 @@
--- What was found in the lanes of a core.
-use Rattle.std.proofs.Common.{ℕ, List, length, inl, inr, arith}
+-- What was found in the open stays of a core.
+use Rattle.std.proofs.Common.{◌≡◌, ℕ, ◌<◌, true, List, length, inl, inr, sym, subst, arith}
+use Rattle.std.specs.Prelude.{slice_index_or, Option, None, Some, MatchOption}
+use Rattle.bs_fiber.specs.declared.job.JobName.{JobName}
 use Rattle.std.proofs.lemmas.Bool.{cases_lt}
-use Rattle.bs_sched.specs.Lane.{Lane}
-use Rattle.bs_sched.specs.Taking.{AreNoneReady, AreNoneReadyBetween}
+use Rattle.bs_sched.specs.GamesLayout.{open_rows}
+use Rattle.bs_sched.specs.Lane.{HasNoneReady, Lane}
+use Rattle.bs_sched.specs.Machine.{lane_of}
+use Rattle.bs_sched.specs.Taking.{AreNoneOpenReady, AreNoneReadyBetween, IsReadyJob}
+use Rattle.bs_sched.proofs.OpenRows.{open_listed}
 
--- what is so from a row on and before it is so of all
-pub none_anywhere : (first : ℕ) (lanes : List Lane) → AreNoneReadyBetween first (length lanes) lanes → AreNoneReadyBetween 0 first lanes → AreNoneReady lanes
-none_anywhere first lanes behind before game within =
-    elim (cases_lt game first) [
-      | inl ahead ↦ before game (omega (arith)) ahead
-      | inr from ↦ behind game from within
+-- what is so from a place on and before it is so of all
+none_listed : (from : ℕ) (rows : List ℕ) (lanes : List Lane) → AreNoneReadyBetween from (length rows) rows lanes → AreNoneReadyBetween 0 from rows lanes
+    → (place : ℕ) → place < length rows → HasNoneReady (lane_of lanes (slice_index_or rows place 0))
+none_listed from rows lanes behind before place within =
+    elim (cases_lt place from) [
+      | inl ahead ↦ before place (omega arith) ahead
+      | inr past ↦ behind place past within
     ]
+
+pub none_anywhere : (from : ℕ) (rows : List ℕ) (lanes : List Lane) → rows ≡ open_rows lanes → AreNoneReadyBetween from (length rows) rows lanes
+    → AreNoneReadyBetween 0 from rows lanes → AreNoneOpenReady lanes
+none_anywhere from rows lanes is behind before game within stands =
+    let listed = open_listed lanes game within stands in
+    let all = subst (λ (rs : List ℕ). (place : ℕ) → place < length rs → HasNoneReady (lane_of lanes (slice_index_or rs place 0))) is (none_listed from rows lanes behind before) in
+    subst (λ (g : ℕ). HasNoneReady (lane_of lanes g)) listed.is (all listed.place listed.within)
+
+-- the second search looks at the places before the first one's
+pub found_before : (from : ℕ) (rows : List ℕ) (lanes : List Lane) (found : Option JobName) → rows ≡ open_rows lanes → AreNoneReadyBetween from (length rows) rows lanes
+    → MatchOption found (AreNoneReadyBetween 0 from rows lanes) (IsReadyJob lanes) → MatchOption found (AreNoneOpenReady lanes) (IsReadyJob lanes)
+found_before from rows lanes None is behind before = none_anywhere from rows lanes is behind before
+found_before from rows lanes (Some job) is behind ready = ready

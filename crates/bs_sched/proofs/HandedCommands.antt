@@ -5,7 +5,7 @@ use Rattle.std.specs.List.{list_all}
 use Rattle.std.proofs.Math.ListN.{get_or-map}
 use Rattle.std.proofs.Math.Seq.{map-set_same}
 use Rattle.std.proofs.lemmas.Bool.{eqb-true}
-use Rattle.std.proofs.lemmas.List.{append_assoc, append-nil, take-append-drop, map-set, length-set, nil_from_length}
+use Rattle.std.proofs.lemmas.List.{append_assoc, append-nil, take-append-drop, map-set, map_push, nil_from_length}
 use Rattle.std.proofs.lemmas.List.Sums.{AllPass-from_list_all}
 use Rattle.bs_board.proofs.Chains.{and_both}
 use Rattle.bs_board.specs.declared.commands.command.Command.{Command}
@@ -19,7 +19,8 @@ use Rattle.bs_sched.specs.declared.event.Event.TheVariants as event
 use Rattle.bs_sched.specs.Games.{opened, row_at}
 use Rattle.bs_sched.specs.Courses.{IsRight, answered_commands}
 use Rattle.bs_sched.specs.Handed.{commands_of, quota_of, handed_to, handed_after, IsServed}
-use Rattle.bs_sched.specs.Lane.{Lane, empty_lane, no_lane, goes_on, is_idle, is_quiet, forked, answered, with_waiting, with_taken, with_put}
+use Rattle.bs_sched.specs.Isolation.{commands_in}
+use Rattle.bs_sched.specs.Lane.{Lane, empty_lane, closed_lane, no_lane, goes_on, is_idle, is_quiet, forked, answered, with_waiting, with_taken, with_put}
 use Rattle.bs_sched.specs.Machine.{lane_of, lane_after, lane_effect}
 
 -- of one lane
@@ -42,24 +43,47 @@ commands_put x kind.Begin p = commands_begun x (goes_on x)
 commands_put x kind.Part p = refl
 commands_put x kind.Join p = refl
 
-quota_taken : (x : Lane) (worker : ℕ) (k : JobKind) (p : ℕ) → quota_of (with_taken worker k p x) ≡ quota_of x
-quota_taken x worker kind.Begin p = refl
-quota_taken x worker kind.Part p = refl
-quota_taken x worker kind.Join p = refl
+-- the event adds what it hands in
+pub commands_after : (x : Lane) (e : Event) → commands_of (lane_after x e) ≡ commands_of x ++ commands_in (e ∷ [])
+commands_after x (event.Hand game command) = commands_handed x command
+commands_after x (event.Take worker job) = commands_taken x worker job.kind job.part ∙ sym (append-nil (commands_of x))
+commands_after x (event.Put worker job) = commands_put x job.kind job.part ∙ sym (append-nil (commands_of x))
+commands_after x (event.Admit row) = sym (append-nil (commands_of x))
+commands_after x (event.Leave game) = sym (append-nil (commands_of x))
 
-quota_begun : (x : Lane) (on : Bool) → quota_of (if on then forked x else answered x) ≡ quota_of x
-quota_begun x true = refl
-quota_begun x false = refl
+pub one_more_event : (e : Event) (events : List Event) → commands_in (e ∷ []) ++ commands_in events ≡ commands_in (e ∷ events)
+one_more_event (event.Hand game command) events = refl
+one_more_event (event.Take worker job) events = refl
+one_more_event (event.Put worker job) events = refl
+one_more_event (event.Admit row) events = refl
+one_more_event (event.Leave game) events = refl
 
-quota_put : (x : Lane) (k : JobKind) (p : ℕ) → quota_of (with_put k p x) ≡ quota_of x
-quota_put x kind.Begin p = quota_begun x (goes_on x)
-quota_put x kind.Part p = refl
-quota_put x kind.Join p = refl
+abbrev pub its_row : Lane → GameRow
+its_row x = x.row
+
+row_taken : (x : Lane) (worker : ℕ) (k : JobKind) (p : ℕ) → its_row (with_taken worker k p x) ≡ its_row x
+row_taken x worker kind.Begin p = refl
+row_taken x worker kind.Part p = refl
+row_taken x worker kind.Join p = refl
+
+row_begun : (x : Lane) (on : Bool) → its_row (if on then forked x else answered x) ≡ its_row x
+row_begun x true = refl
+row_begun x false = refl
+
+row_put : (x : Lane) (k : JobKind) (p : ℕ) → its_row (with_put k p x) ≡ its_row x
+row_put x kind.Begin p = row_begun x (goes_on x)
+row_put x kind.Part p = refl
+row_put x kind.Join p = refl
+
+pub row_kept : (x : Lane) (e : Event) → its_row (lane_after x e) ≡ its_row x
+row_kept x (event.Hand game command) = refl
+row_kept x (event.Take worker job) = row_taken x worker job.kind job.part
+row_kept x (event.Put worker job) = row_put x job.kind job.part
+row_kept x (event.Admit row) = refl
+row_kept x (event.Leave game) = refl
 
 pub quota_kept : (x : Lane) (e : Event) → quota_of (lane_after x e) ≡ quota_of x
-quota_kept x (event.Hand game command) = refl
-quota_kept x (event.Take worker job) = quota_taken x worker job.kind job.part
-quota_kept x (event.Put worker job) = quota_put x job.kind job.part
+quota_kept x e = ap (λ (row : GameRow). row.quota) (row_kept x e)
 
 -- of all lanes
 
@@ -86,22 +110,8 @@ pub all_handed_after : (lanes : List Lane) (e : Event) → map commands_of (lane
 all_handed_after lanes (event.Hand game command) = all_handed lanes game command
 all_handed_after lanes (event.Take worker job) = all_taken lanes worker job
 all_handed_after lanes (event.Put worker job) = all_put lanes worker job
-
-pub all_quotas_kept : (lanes : List Lane) (e : Event) → map quota_of (lane_effect lanes e) ≡ map quota_of lanes
-all_quotas_kept lanes (event.Hand game command) =
-    map-set_same quota_of lanes game (lane_after (lane_of lanes game) (event.Hand game command)) no_lane
-    (quota_kept (lane_of lanes game) (event.Hand game command))
-all_quotas_kept lanes (event.Take worker job) =
-    map-set_same quota_of lanes job.game (lane_after (lane_of lanes job.game) (event.Take worker job)) no_lane
-    (quota_kept (lane_of lanes job.game) (event.Take worker job))
-all_quotas_kept lanes (event.Put worker job) =
-    map-set_same quota_of lanes job.game (lane_after (lane_of lanes job.game) (event.Put worker job)) no_lane
-    (quota_kept (lane_of lanes job.game) (event.Put worker job))
-
-pub as_many_lanes : (lanes : List Lane) (e : Event) → length (lane_effect lanes e) ≡ length lanes
-as_many_lanes lanes (event.Hand game command) = length-set lanes game (lane_after (lane_of lanes game) (event.Hand game command))
-as_many_lanes lanes (event.Take worker job) = length-set lanes job.game (lane_after (lane_of lanes job.game) (event.Take worker job))
-as_many_lanes lanes (event.Put worker job) = length-set lanes job.game (lane_after (lane_of lanes job.game) (event.Put worker job))
+all_handed_after lanes (event.Admit row) = map_push commands_of lanes (empty_lane row)
+all_handed_after lanes (event.Leave game) = map-set_same commands_of lanes game (closed_lane (lane_of lanes game)) no_lane refl
 
 -- of a core that was just opened
 

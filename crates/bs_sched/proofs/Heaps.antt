@@ -1,5 +1,5 @@
 -- The heaps of all games, after one of them changed.
-use Rattle.std.proofs.Common.{◌≡◌, ◌≢◌, ℕ, ◌+◌, ◌*◌, ◌<◌, true, false, List, length, refl, sym, ◌∙◌, arith, inl, inr}
+use Rattle.std.proofs.Common.{◌≡◌, ◌≢◌, ℕ, ◌+◌, ◌*◌, ◌<◌, true, false, List, length, refl, sym, ap, ◌∙◌, arith, inl, inr}
 use Rattle.std.specs.Prelude.{slice_set}
 use Rattle.std.proofs.lemmas.Bool.{cases_eq}
 use Rattle.std.proofs.lemmas.Grind.{get_or-set_at}
@@ -7,7 +7,7 @@ use Rattle.std.proofs.lemmas.List.{get_or-set_other, length-set}
 use Rattle.bs_heap.specs.Heap.{Heap, empty_heap}
 use Rattle.bs_heap.specs.Packing.{numbers_of}
 use Rattle.bs_pool.specs.Ledger.{Ledger}
-use Rattle.bs_sched.specs.GamesLayout.{AreHeapsOf, IsHeapOf, heap_of}
+use Rattle.bs_sched.specs.GamesLayout.{AreGone, AreHeapsOf, IsHeapOf, heap_of}
 use Rattle.bs_sched.specs.Insides.{may_answer}
 use Rattle.std.specs.Prelude.{Bool, None, if◌then◌else◌}
 use Rattle.std.specs.List.{list_all}
@@ -33,17 +33,23 @@ left_heap cap own tag other x heap pool pool' kept a b leaves =
       room = kept.room;
     }
 
+-- another lane is open as before
+pub open_beside : (lanes : List Lane) (game other : ℕ) (x : Lane) → other ≢ game → (lane_of (slice_set lanes game x) other).is_open ≡ true
+    → (lane_of lanes other).is_open ≡ true
+open_beside lanes game other x differ stands = ap (λ (y : Lane). y.is_open) (sym (get_or-set_other lanes game other x no_lane differ)) ∙ stands
+
 pub changed_heaps : (cap game : ℕ) (lanes : List Lane) (heaps : List Heap) (pool pool' : Ledger) (x : Lane) (heap : Heap)
     → AreHeapsOf cap lanes heaps pool → length heaps ≡ length lanes → game < length lanes → IsHeapOf cap (record_tag game) x heap pool'
     → LeavesBut (record_tag game) (frame_tag game) pool pool' → AreHeapsOf cap (slice_set lanes game x) (slice_set heaps game heap) pool'
-changed_heaps cap game lanes heaps pool pool' x heap all many within here leaves other less =
+changed_heaps cap game lanes heaps pool pool' x heap all many within here leaves other less stands =
     elim (cases_eq other game) [
       | inl same ↦
           rw (get_or-set_at lanes game other x no_lane same within, get_or-set_at heaps game other heap (empty_heap 0 0) same (omega (arith, many)), same) here
       | inr differ ↦
           let before : other < length lanes = let l = length-set lanes game x in omega (arith, l) in
+          let was = open_beside lanes game other x differ stands in
           rw (get_or-set_other lanes game other x no_lane differ, get_or-set_other heaps game other heap (empty_heap 0 0) differ)
-          (left_heap cap (record_tag other) (record_tag game) (frame_tag game) (lane_of lanes other) (heap_of heaps other) pool pool' (all other before)
+          (left_heap cap (record_tag other) (record_tag game) (frame_tag game) (lane_of lanes other) (heap_of heaps other) pool pool' (all other before was)
           (λ same. differ (let twice : 2 * other ≡ 2 * game = same in omega (arith, twice)))
           (λ same. let odd : 2 * other ≡ 2 * game + 1 = same in omega (arith, odd)) leaves)
     ]
@@ -64,12 +70,27 @@ same_heap cap own x y heap pool kept quota boards none =
 pub changed_lane : (cap game : ℕ) (lanes : List Lane) (heaps : List Heap) (pool : Ledger) (x : Lane)
     → AreHeapsOf cap lanes heaps pool → game < length lanes → IsHeapOf cap (record_tag game) x (heap_of heaps game) pool
     → AreHeapsOf cap (slice_set lanes game x) heaps pool
-changed_lane cap game lanes heaps pool x all within here other less =
+changed_lane cap game lanes heaps pool x all within here other less stands =
     elim (cases_eq other game) [
       | inl same ↦ rw (get_or-set_at lanes game other x no_lane same within, same) here
       | inr differ ↦
           let before : other < length lanes = let l = length-set lanes game x in omega (arith, l) in
-          rw (get_or-set_other lanes game other x no_lane differ) (all other before)
+          rw (get_or-set_other lanes game other x no_lane differ) (all other before (open_beside lanes game other x differ stands))
+    ]
+
+-- a stay that is open is not gone, and those that are stay so
+pub changed_gone : (game : ℕ) (lanes : List Lane) (heaps heaps' : List Heap) (x : Lane) → AreGone lanes heaps → x.is_open ≡ true → game < length lanes
+    → ((other : ℕ) → other ≢ game → heap_of heaps' other ≡ heap_of heaps other) → AreGone (slice_set lanes game x) heaps'
+changed_gone game lanes heaps heaps' x gone stands within same other less shut =
+    elim (cases_eq other game) [
+      | inl here ↦
+          let now : (lane_of (slice_set lanes game x) other).is_open ≡ true = ap (λ (y : Lane). y.is_open) (get_or-set_at lanes game other x no_lane here within) ∙ stands in
+          let wrong : true ≡ false = sym now ∙ shut in
+          absurd cc
+      | inr differ ↦
+          let before : other < length lanes = let l = length-set lanes game x in omega (arith, l) in
+          let was : (lane_of lanes other).is_open ≡ false = ap (λ (y : Lane). y.is_open) (sym (get_or-set_other lanes game other x no_lane differ)) ∙ shut in
+          rw (get_or-set_other lanes game other x no_lane differ, same other differ) (gone other before was)
     ]
 
 may_answer_if : (done : Bool) → may_answer (if done then stage.Join None else stage.Parts) ≡ false

@@ -1,146 +1,203 @@
 -- The isolation law, of what the lanes are and of what the events make of them.
-use Rattle.std.proofs.Common.{◌≡◌, ℕ, ◌<◌, true, List, [], ◌∷◌, ◌++◌, length, refl, sym, ap, subst, ◌∙◌, arith, inl, inr}
-use Rattle.std.specs.Prelude.{nat_eq, nat_lt, nat_le, All}
-use Rattle.std.proofs.lemmas.Bool.{cases_Bool, eqb-true, eqb-false, eq-eqb, lt-ltb, le-leb}
-use Rattle.std.proofs.lemmas.List.{append_assoc, append-nil, length-map}
-use Rattle.bs_board.specs.declared.commands.reply.Reply.TheVariants.{Refused}
-use Rattle.bs_board.specs.declared.commands.reply.Refusal.TheVariants as refusal
-use Rattle.bs_board.specs.plans.Plan.{GameRow, IsFitPlan}
-use Rattle.bs_game.specs.Answer.{answer_to}
-use Rattle.bs_game.specs.Game.{game_charge}
-use Rattle.bs_game.specs.Reasons.{reason_against}
-use Rattle.bs_game.specs.View.{reply_to}
+use Rattle.std.proofs.Common.{◌≡◌, ℕ, ◌+◌, ◌-◌, ◌<◌, ◌≤◌, Bool, true, false, ◌&&◌, if◌then◌else◌, List, [], ◌∷◌, ◌++◌, length, map, refl, sym, ap, subst, ◌∙◌, arith, inl, inr}
+use Rattle.std.specs.List.{list_any}
+use Rattle.std.specs.Prelude.{not, nat_le, slice_set}
+use Rattle.std.proofs.lemmas.Bool.{cases_Bool, cases_lt, cond-true, cond-false, leb-true, and_left, and_right, and_from}
+use Rattle.std.proofs.lemmas.List.{append_assoc, append-nil, map_push, get_or_past}
+use Rattle.std.proofs.Math.Seq.{map-set_same}
+use Rattle.std.proofs.lemmas.List.Sums.{sum_by_push, sum_by-set}
+use Rattle.bs_board.proofs.Chains.{and_both}
+use Rattle.bs_board.specs.plans.Plan.{GameRow}
+use Rattle.bs_sched.specs.PlanBlocks.{blocks_of}
 use Rattle.bs_sched.specs.declared.event.Event.{Event}
 use Rattle.bs_sched.specs.declared.event.Event.TheVariants as event
-use Rattle.bs_sched.specs.Handed.{commands_of, quota_of}
-use Rattle.bs_sched.specs.Isolation.{opened_lanes, lone_lanes, own_events, shared_run, lone_run, records_of, RunsAlone, own_commands, HandsFit, KeepsCourse, IsolationLaw, ShowLaw}
-use Rattle.bs_sched.specs.Lane.{Lane, empty_lane}
-use Rattle.bs_sched.specs.Machine.{lane_of, game_of, is_enabled, lane_after, step, run_of}
-use Rattle.bs_sched.proofs.HandedCommands.{commands_handed, commands_taken, commands_put, quota_kept}
-use Rattle.bs_sched.proofs.LoneLanes.{lone, goes_alone, step_refused, named_lane, others_leave, as_many_after}
-use Rattle.bs_sched.proofs.RightRuns.{opened_lane, right_opened, right_run}
+use Rattle.bs_sched.specs.Handed.{commands_of}
+use Rattle.bs_sched.specs.Isolation.{alone_event, opened_lanes, row_made, lone_lanes, own_events, shared_run, lone_run, accepted, is_accepted, admitted, final_board, final_charge, RunsAlone, commands_in, IsolationLaw}
+use Rattle.bs_sched.specs.Lane.{Lane, empty_lane, no_lane, kept_of, goes_on, forked, answered, with_taken, with_put}
+use Rattle.bs_sched.specs.Machine.{Setting, lane_of, game_of, row_in, is_admit, is_named, is_enabled, has_name, is_full, blocks_in, open_blocks, lane_after, step, run_of}
+use Rattle.bs_sched.proofs.HandedCommands.{commands_after, one_more_event, its_row, row_kept}
+use Rattle.bs_sched.proofs.LoneLanes.{lane_or, lone, lane_there, comer, changed, cases_step, goes_alone, IsItsRow, its_row_before, unmoved, accepted_there, accepts, named_lane, others_leave}
+use Rattle.bs_sched.proofs.RightRuns.{well_run, well_opened, opened_lane}
+use Rattle.bs_fiber.specs.declared.job.JobKind.{JobKind}
+use Rattle.bs_fiber.specs.declared.job.JobKind.TheVariants as kind
 
--- a game runs alone
+-- a stay runs alone
 
-many_opened : (rows : List GameRow) → length (opened_lanes rows) ≡ length rows
-many_opened rows = length-map rows (λ (row : GameRow). empty_lane row)
-
-lone_opened : (rows : List GameRow) (game : ℕ) → lone_lanes rows game ≡ lone (opened_lanes rows) game
-lone_opened rows game = ap (λ x. x ∷ []) (sym (opened_lane rows game))
-
-pub runs_alone : (workers : ℕ) (rows : List GameRow) (events : List Event) (game : ℕ) → game < length rows → RunsAlone workers rows events game
-runs_alone workers rows events game within =
-    let many = many_opened rows in
-    let goes = goes_alone workers game (opened_lanes rows) events (omega arith) in
-    let start = lone_opened rows game in
-    let same : lane_of (lone_run workers rows events game) 0 ≡ lane_of (shared_run workers rows events) game
-    = ap (λ (ls : List Lane). lane_of (run_of workers ls (own_events workers rows events game)) 0) start ∙ ap (λ (ls : List Lane). lane_of ls 0) goes.1 in
-    record {
-      enabled = rw start goes.0;
-      lane = same;
-      records = ap (λ (x : Lane). records_of x.game) same;
-      charge = ap (λ (x : Lane). game_charge x.game) same;
-    }
-
--- its quota and its commands
-
-keeps_quota : (workers : ℕ) (lanes : List Lane) (e : Event) (game : ℕ) → quota_of (lane_of (step workers lanes e) game) ≡ quota_of (lane_of lanes game)
-keeps_quota workers lanes e game =
-    elim (cases_Bool (is_enabled workers lanes e)) [
-      | inl on ↦
-          elim (cases_Bool (nat_eq (game_of e) game)) [
-            | inl here ↦
-                let same : game_of e ≡ game = eqb-true _ _ here in
-                subst (λ row. quota_of (lane_of (step workers lanes e) row) ≡ quota_of (lane_of lanes row)) same
-                (ap quota_of (named_lane workers lanes e on) ∙ quota_kept (lane_of lanes (game_of e)) e)
-            | inr other ↦ ap quota_of (others_leave workers lanes game e (eqb-false (game_of e) game other))
-          ]
-      | inr off ↦ ap (λ (ls : List Lane). quota_of (lane_of ls game)) (step_refused workers lanes e off)
-    ]
-
-quota_of_run : (workers : ℕ) (lanes : List Lane) (events : List Event) (game : ℕ)
-    → quota_of (lane_of (run_of workers lanes events) game) ≡ quota_of (lane_of lanes game)
-quota_of_run workers lanes [] game = refl
-quota_of_run workers lanes (e ∷ events) game = quota_of_run workers (step workers lanes e) events game ∙ keeps_quota workers lanes e game
-
--- a job adds no command
-no_command : (workers : ℕ) (lanes : List Lane) (e : Event) (game : ℕ) → ((x : Lane) → commands_of (lane_after x e) ≡ commands_of x)
-    → commands_of (lane_of (step workers lanes e) game) ≡ commands_of (lane_of lanes game)
-no_command workers lanes e game keeps =
-    elim (cases_Bool (is_enabled workers lanes e)) [
-      | inl on ↦
-          elim (cases_Bool (nat_eq (game_of e) game)) [
-            | inl here ↦
-                let same : game_of e ≡ game = eqb-true _ _ here in
-                subst (λ row. commands_of (lane_of (step workers lanes e) row) ≡ commands_of (lane_of lanes row)) same
-                (ap commands_of (named_lane workers lanes e on) ∙ keeps (lane_of lanes (game_of e)))
-            | inr other ↦ ap commands_of (others_leave workers lanes game e (eqb-false (game_of e) game other))
-          ]
-      | inr off ↦ ap (λ (ls : List Lane). commands_of (lane_of ls game)) (step_refused workers lanes e off)
-    ]
-
-commands_step : (workers : ℕ) (lanes : List Lane) (e : Event) (game : ℕ) → game < length lanes
-    → commands_of (lane_of (step workers lanes e) game) ≡ commands_of (lane_of lanes game) ++ own_commands game (e ∷ [])
-commands_step workers lanes (event.Hand row command) game within =
-    let e = event.Hand row command in
-    elim (cases_Bool (nat_eq row game)) [
+-- the core of all stays begins with the stay's own first lane, whether it stands in the plan or is
+-- to come
+begins : (rows : List GameRow) (game : ℕ) (row : GameRow) → IsItsRow row (opened_lanes rows) game → lane_or row (opened_lanes rows) game ≡ empty_lane row
+begins rows game row its =
+    elim (cases_lt game (length (opened_lanes rows))) [
       | inl here ↦
-          let same : row ≡ game = eqb-true _ _ here in
-          let there : nat_lt row (length lanes) ≡ true = lt-ltb row (length lanes) (omega arith) in
-          let on : is_enabled workers lanes e ≡ true = rw there refl in
-          rw here
-          (subst (λ at. commands_of (lane_of (step workers lanes e) at) ≡ commands_of (lane_of lanes at) ++ command ∷ []) same
-          (ap commands_of (named_lane workers lanes e on) ∙ commands_handed (lane_of lanes row) command))
-      | inr other ↦
-          rw other (ap commands_of (others_leave workers lanes game e (eqb-false row game other)) ∙ sym (append-nil (commands_of (lane_of lanes game))))
+          let first = opened_lane rows game in
+          lane_there row (opened_lanes rows) game here ∙ first ∙ ap empty_lane (sym (ap its_row first) ∙ its here)
+      | inr later ↦ get_or_past (opened_lanes rows) game (empty_lane row) later
     ]
-commands_step workers lanes (event.Take worker job) game within =
-    no_command workers lanes (event.Take worker job) game (λ x. commands_taken x worker job.kind job.part) ∙ sym (append-nil (commands_of (lane_of lanes game)))
-commands_step workers lanes (event.Put worker job) game within =
-    no_command workers lanes (event.Put worker job) game (λ x. commands_put x job.kind job.part) ∙ sym (append-nil (commands_of (lane_of lanes game)))
 
-one_more_event : (game : ℕ) (e : Event) (events : List Event) → own_commands game (e ∷ []) ++ own_commands game events ≡ own_commands game (e ∷ events)
-one_more_event game (event.Hand row command) events =
-    elim (cases_Bool (nat_eq row game)) [
-      | inl here ↦ rw here refl
-      | inr other ↦ rw other refl
+module _ (setting : Setting) (rows : List GameRow) (events : List Event) (game : ℕ) where
+  its : IsItsRow (row_made setting rows events game) (shared_run setting rows events) game
+  its within = refl
+
+  begins_alone : lone (lane_or (row_made setting rows events game) (opened_lanes rows) game) ≡ lone_lanes setting rows events game
+  begins_alone =
+      ap lone (begins rows game (row_made setting rows events game)
+      (its_row_before setting game (row_made setting rows events game) (opened_lanes rows) events its))
+
+  pub runs_alone : game < length (shared_run setting rows events) → RunsAlone setting rows events game
+  runs_alone there =
+      let row = row_made setting rows events game in
+      let own = own_events setting rows events game in
+      let goes = goes_alone setting game row (opened_lanes rows) events its in
+      let same : lane_of (lone_run setting rows events game) 0 ≡ lane_of (shared_run setting rows events) game
+      = ap (λ (ls : List Lane). lane_of (run_of setting ls own) 0) (sym begins_alone)
+      ∙ ap (λ (ls : List Lane). lane_of ls 0) goes.1
+      ∙ lane_there row (shared_run setting rows events) game there in
+      record {
+        enabled = rw (← begins_alone) goes.0;
+        lane = same;
+        records = ap kept_of same;
+        board = ap final_board same;
+        charge = ap final_charge same;
+      }
+
+-- its commands
+
+commands_step : (setting : Setting) (lanes : List Lane) (e : Event) (game : ℕ) → is_accepted setting game lanes e ≡ true
+    → commands_of (lane_of (step setting lanes e) game) ≡ commands_of (lane_of lanes game) ++ commands_in (e ∷ [])
+commands_step setting lanes e game is =
+    let named = accepts setting game lanes e is in
+    subst (λ row. commands_of (lane_of (step setting lanes e) row) ≡ commands_of (lane_of lanes row) ++ commands_in (e ∷ [])) named.1
+    (ap commands_of (named_lane setting lanes e named.0 (and_both (is_named game e) (is_enabled setting lanes e) is).1) ∙ commands_after (lane_of lanes (game_of e)) e)
+
+commands_alone : (e : Event) → commands_in (alone_event e ∷ []) ≡ commands_in (e ∷ [])
+commands_alone (event.Hand game command) = refl
+commands_alone (event.Take worker job) = refl
+commands_alone (event.Put worker job) = refl
+commands_alone (event.Admit row) = refl
+commands_alone (event.Leave game) = refl
+
+commands_run : (setting : Setting) (game : ℕ) (row : GameRow) (lanes : List Lane) (events : List Event) → IsItsRow row (run_of setting lanes events) game
+    → commands_of (lane_or row (run_of setting lanes events) game) ≡ commands_of (lane_or row lanes game) ++ commands_in (accepted setting game lanes events)
+commands_run setting game row lanes [] at = sym (append-nil (commands_of (lane_or row lanes game)))
+commands_run setting game row lanes (e ∷ events) at =
+    let next = step setting lanes e in
+    let own = accepted setting game next events in
+    let before = commands_of (lane_or row lanes game) in
+    let rest = commands_run setting game row next events at in
+    let P : List Event → Type 0 = λ es. commands_of (lane_or row (run_of setting next events) game) ≡ before ++ commands_in es in
+    elim (cases_Bool (is_accepted setting game lanes e)) [
+      | inl on ↦
+          let there = accepted_there setting game row lanes e on in
+          let one : commands_of (lane_or row next game) ≡ before ++ commands_in (alone_event e ∷ [])
+          = ap commands_of there.1 ∙ commands_step setting lanes e game on
+          ∙ ap (λ (x : Lane). commands_of x ++ commands_in (e ∷ [])) (sym there.0) ∙ ap (λ cs. before ++ cs) (sym (commands_alone e)) in
+          subst P (sym (cond-true (is_accepted setting game lanes e) (alone_event e ∷ own) own on))
+          (rest ∙ ap (λ cs. cs ++ commands_in own) one ∙ append_assoc before (commands_in (alone_event e ∷ [])) (commands_in own)
+          ∙ ap (λ cs. before ++ cs) (one_more_event (alone_event e) own))
+      | inr off ↦
+          subst P (sym (cond-false (is_accepted setting game lanes e) (alone_event e ∷ own) own off))
+          (rest ∙ ap (λ (x : Lane). commands_of x ++ commands_in own) (unmoved setting game row lanes e (its_row_before setting game row next events at) off))
     ]
-one_more_event game (event.Take worker job) events = refl
-one_more_event game (event.Put worker job) events = refl
 
-commands_run : (workers : ℕ) (lanes : List Lane) (events : List Event) (game : ℕ) → game < length lanes
-    → commands_of (lane_of (run_of workers lanes events) game) ≡ commands_of (lane_of lanes game) ++ own_commands game events
-commands_run workers lanes [] game within = sym (append-nil (commands_of (lane_of lanes game)))
-commands_run workers lanes (e ∷ events) game within =
-    let many = as_many_after workers lanes e in
-    commands_run workers (step workers lanes e) events game (omega arith)
-    ∙ ap (λ cs. cs ++ own_commands game events) (commands_step workers lanes e game within)
-    ∙ append_assoc (commands_of (lane_of lanes game)) (own_commands game (e ∷ [])) (own_commands game events)
-    ∙ ap (λ cs. commands_of (lane_of lanes game) ++ cs) (one_more_event game e events)
+pub keeps_commands : (setting : Setting) (rows : List GameRow) (events : List Event) (game : ℕ) → game < length (shared_run setting rows events)
+    → commands_of (lane_of (shared_run setting rows events) game) ≡ commands_in (own_events setting rows events game)
+keeps_commands setting rows events game there =
+    let row = row_made setting rows events game in
+    let own = own_events setting rows events game in
+    let its : IsItsRow row (shared_run setting rows events) game = λ _. refl in
+    let first = begins rows game row (its_row_before setting game row (opened_lanes rows) events its) in
+    ap commands_of (sym (lane_there row (shared_run setting rows events) game there))
+    ∙ commands_run setting game row (opened_lanes rows) events its
+    ∙ ap (λ (x : Lane). commands_of x ++ commands_in own) first
 
-keeps_course : (workers : ℕ) (rows : List GameRow) (events : List Event) (game : ℕ) → IsFitPlan rows → All HandsFit events → game < length rows
-    → KeepsCourse rows events game (lane_of (shared_run workers rows events) game)
-keeps_course workers rows events game plan fit within =
-    let many = many_opened rows in
-    record {
-      quota = quota_of_run workers (opened_lanes rows) events game ∙ ap quota_of (opened_lane rows game);
-      commands = commands_run workers (opened_lanes rows) events game (omega arith)
-          ∙ ap (λ (x : Lane). commands_of x ++ own_commands game events) (opened_lane rows game);
-      right = right_run workers (opened_lanes rows) events game fit (right_opened rows game plan within);
-    }
+-- the rows that are made
+
+rows_changed : (lanes : List Lane) (e : Event) → map its_row (slice_set lanes (game_of e) (changed lanes e)) ≡ map its_row lanes
+rows_changed lanes e = map-set_same its_row lanes (game_of e) (changed lanes e) no_lane (row_kept (lane_of lanes (game_of e)) e)
+
+pub rows_run : (setting : Setting) (lanes : List Lane) (events : List Event) → map its_row (run_of setting lanes events) ≡ map its_row lanes ++ admitted setting lanes events
+rows_run setting lanes [] = sym (append-nil (map its_row lanes))
+rows_run setting lanes (e ∷ events) =
+    let next = step setting lanes e in
+    let later = admitted setting next events in
+    let rest = rows_run setting next events in
+    let P : List GameRow → Type 0 = λ rs. map its_row (run_of setting next events) ≡ map its_row lanes ++ rs in
+    let b = is_admit e && is_enabled setting lanes e in
+    elim (cases_step setting lanes e) [
+      | inl stays ↦
+          subst P (sym (cond-false b (row_in e ∷ later) later (and_right (is_admit e) (is_enabled setting lanes e) stays.off)))
+          (rest ∙ ap (λ (ls : List Lane). map its_row ls ++ later) stays.is)
+      | inr (inl comes) ↦
+          let one : map its_row next ≡ map its_row lanes ++ row_in e ∷ [] = ap (map its_row) comes.is ∙ map_push its_row lanes (comer e) in
+          subst P (sym (cond-true b (row_in e ∷ later) later (and_from (is_admit e) (is_enabled setting lanes e) comes.admits comes.on)))
+          (rest ∙ ap (λ rs. rs ++ later) one ∙ append_assoc (map its_row lanes) (row_in e ∷ []) later)
+      | inr (inr changes) ↦
+          subst P (sym (cond-false b (row_in e ∷ later) later (and_left (is_admit e) (is_enabled setting lanes e) changes.there)))
+          (rest ∙ ap (λ rs. rs ++ later) (ap (map its_row) changes.is ∙ rows_changed lanes e))
+    ]
+
+pub opened_rows : (rows : List GameRow) → map its_row (opened_lanes rows) ≡ rows
+opened_rows [] = refl
+opened_rows (row ∷ rows) = ap (λ rs. row ∷ rs) (opened_rows rows)
+
+-- the blocks that are set aside
+
+blocks_taken : (cap : ℕ) (x : Lane) (worker : ℕ) (k : JobKind) (p : ℕ) → blocks_in cap (with_taken worker k p x) ≡ blocks_in cap x
+blocks_taken cap x worker kind.Begin p = refl
+blocks_taken cap x worker kind.Part p = refl
+blocks_taken cap x worker kind.Join p = refl
+
+blocks_begun : (cap : ℕ) (x : Lane) (on : Bool) → blocks_in cap (if on then forked x else answered x) ≡ blocks_in cap x
+blocks_begun cap x true = refl
+blocks_begun cap x false = refl
+
+blocks_put : (cap : ℕ) (x : Lane) (k : JobKind) (p : ℕ) → blocks_in cap (with_put k p x) ≡ blocks_in cap x
+blocks_put cap x kind.Begin p = blocks_begun cap x (goes_on x)
+blocks_put cap x kind.Part p = refl
+blocks_put cap x kind.Join p = refl
+
+pub blocks_after : (cap : ℕ) (x : Lane) (e : Event) → blocks_in cap (lane_after x e) ≤ blocks_in cap x
+blocks_after cap x (event.Hand game command) = omega arith
+blocks_after cap x (event.Take worker job) = let same = blocks_taken cap x worker job.kind job.part in omega (arith, same)
+blocks_after cap x (event.Put worker job) = let same = blocks_put cap x job.kind job.part in omega (arith, same)
+blocks_after cap x (event.Admit row) = omega arith
+blocks_after cap x (event.Leave game) = omega arith
+
+pub room_step : (setting : Setting) (lanes : List Lane) (e : Event) → open_blocks setting.cap lanes ≤ setting.blocks → open_blocks setting.cap (step setting lanes e) ≤ setting.blocks
+room_step setting lanes e room =
+    elim (cases_step setting lanes e) [
+      | inl stays ↦ rw stays.is room
+      | inr (inl comes) ↦
+          let row = row_in e in
+          let more : open_blocks setting.cap (lanes ++ comer e ∷ []) ≡ open_blocks setting.cap lanes + blocks_of setting.cap row
+          = sum_by_push (blocks_in setting.cap) lanes (comer e) in
+          let tests = and_both (not (is_full lanes)) (nat_le (blocks_of setting.cap row) (setting.blocks - open_blocks setting.cap lanes))
+          (and_both (not (list_any (has_name row) lanes)) _ comes.may).1 in
+          let fits : blocks_of setting.cap row ≤ setting.blocks - open_blocks setting.cap lanes = leb-true _ _ tests.1 in
+          rw comes.is (omega (arith, more, fits, room))
+      | inr (inr changes) ↦
+          let sum = sum_by-set (blocks_in setting.cap) lanes (game_of e) (changed lanes e) no_lane changes.met.within in
+          let less = blocks_after setting.cap (lane_of lanes (game_of e)) e in
+          rw changes.is (omega (arith, sum, less, room))
+    ]
+
+pub room_run : (setting : Setting) (lanes : List Lane) (events : List Event) → open_blocks setting.cap lanes ≤ setting.blocks → open_blocks setting.cap (run_of setting lanes events) ≤ setting.blocks
+room_run setting lanes [] room = room
+room_run setting lanes (e ∷ events) room = room_run setting (step setting lanes e) events (room_step setting lanes e room)
+
+-- the law
 
 pub isolation_law : IsolationLaw
-isolation_law workers rows events game plan fit within =
+isolation_law setting rows events plan room fit =
     record {
-      alone = runs_alone workers rows events game within;
-      others = others_leave workers (shared_run workers rows events) game;
-      course = keeps_course workers rows events game plan fit within;
+      made = rows_run setting (opened_lanes rows) events ∙ ap (λ rs. rs ++ admitted setting (opened_lanes rows) events) (opened_rows rows);
+      room = room_run setting (opened_lanes rows) events room;
+      stays = λ game there. record {
+        alone = runs_alone setting rows events game there;
+        others = others_leave setting (shared_run setting rows events) game there;
+        course = record {
+          commands = keeps_commands setting rows events game there;
+          well = well_run setting (opened_lanes rows) events fit (well_opened rows plan) game there;
+        };
+      };
     }
-
--- a game that was just opened has nothing to show, and says so
-pub show_law : ShowLaw
-unfolding answer_to reply_to reason_against
-show_law workers worker row known =
-    let is : nat_le worker workers ≡ true = le-leb worker workers known in
-    let self : nat_eq worker worker ≡ true = eq-eqb worker worker refl in
-    record { enabled = rw (is, self) refl; reply = rw (is, self) (refl {a = Refused refusal.NoGame ∷ []}) }

@@ -24,7 +24,7 @@ use Rattle.bs_sched.specs.declared.stage.PartState.TheVariants as part
 use Rattle.bs_sched.specs.Games.{opened}
 use Rattle.bs_sched.specs.Courses.{IsRight}
 use Rattle.bs_sched.specs.Lane.{Lane, empty_lane, no_lane, goes_on, is_idle, is_in_parts, is_to_join, has_begin, has_join, has_part, is_part_ready, is_part_done, is_ready, is_out, is_quiet, forked, answered, stage_with, with_waiting, with_taken, with_put}
-use Rattle.bs_sched.specs.Machine.{lane_of, lane_effect, is_enabled}
+use Rattle.bs_sched.specs.Machine.{lane_of, lane_effect, is_enabled_there}
 
 -- a part is to be taken and to be put
 abbrev pub part_weight : PartState → ℕ
@@ -162,7 +162,7 @@ lighter_lane lanes game new within less =
     let sum = sum_by-set weight lanes game new no_lane within in
     omega (arith, sum, less)
 
-pub taken_is_lighter : (workers : ℕ) (lanes : List Lane) (worker : ℕ) (job : JobName) → is_enabled workers lanes (event.Take worker job) ≡ true
+pub taken_is_lighter : (workers : ℕ) (lanes : List Lane) (worker : ℕ) (job : JobName) → is_enabled_there workers lanes (event.Take worker job) ≡ true
     → core_weight (lane_effect lanes (event.Take worker job)) < core_weight lanes
 taken_is_lighter workers lanes worker job enabled =
     let both = and_both _ _ enabled in
@@ -172,7 +172,7 @@ taken_is_lighter workers lanes worker job enabled =
     (take_is_lighter (lane_of lanes job.game) worker job.kind job.part ready)
 
 pub brought_is_lighter : (workers : ℕ) (lanes : List Lane) (worker : ℕ) (job : JobName) → IsRight (lane_of lanes job.game)
-    → is_enabled workers lanes (event.Put worker job) ≡ true → core_weight (lane_effect lanes (event.Put worker job)) < core_weight lanes
+    → is_enabled_there workers lanes (event.Put worker job) ≡ true → core_weight (lane_effect lanes (event.Put worker job)) < core_weight lanes
 brought_is_lighter workers lanes worker job right enabled =
     let both = and_both _ _ enabled in
     let within : job.game < length lanes = ltb-true _ _ both.0 in

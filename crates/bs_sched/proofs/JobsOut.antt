@@ -5,7 +5,7 @@ use Rattle.std.specs.Prelude.{Some, None, ◌&&◌, if◌then◌else◌, nat_eq,
 use Rattle.std.specs.List.{list_all}
 use Rattle.std.proofs.lemmas.Bool.{ltb-true}
 use Rattle.std.proofs.lemmas.List.Folds.{sum_by-replicate}
-use Rattle.std.proofs.lemmas.List.Sums.{sum_by-set, sum_by-cons}
+use Rattle.std.proofs.lemmas.List.Sums.{sum_by-set, sum_by-cons, sum_by_push}
 use Rattle.bs_board.proofs.Chains.{and_both}
 use Rattle.bs_board.specs.declared.commands.command.Command.{Command}
 use Rattle.bs_board.specs.plans.Plan.{GameRow}
@@ -20,8 +20,8 @@ use Rattle.bs_sched.specs.declared.stage.Stage.TheVariants as stage
 use Rattle.bs_sched.specs.declared.stage.PartState.{PartState}
 use Rattle.bs_sched.specs.declared.stage.PartState.TheVariants as part
 use Rattle.bs_sched.specs.Journal.{out_of_part, out_of_stage, out_of_lane, jobs_out}
-use Rattle.bs_sched.specs.Lane.{Lane, empty_lane, no_lane, goes_on, is_idle, is_in_parts, is_to_join, has_begin, has_join, has_part, is_part_ready, is_part_done, is_ready, is_out, forked, answered, stage_with, with_waiting, with_taken, with_put}
-use Rattle.bs_sched.specs.Machine.{lane_of, lane_effect, is_enabled}
+use Rattle.bs_sched.specs.Lane.{Lane, empty_lane, closed_lane, no_lane, goes_on, is_idle, is_in_parts, is_to_join, has_begin, has_join, has_part, is_part_ready, is_part_done, is_ready, is_out, forked, answered, stage_with, with_waiting, with_taken, with_put}
+use Rattle.bs_sched.specs.Machine.{lane_of, lane_effect, is_enabled_there}
 
 -- of the parts
 
@@ -159,7 +159,7 @@ as_many_handed lanes game command within =
     let sum = sum_by-set out_of_lane lanes game (with_waiting command (lane_of lanes game)) no_lane within in
     omega (arith, sum)
 
-pub one_more_out : (workers : ℕ) (lanes : List Lane) (worker : ℕ) (job : JobName) → is_enabled workers lanes (event.Take worker job) ≡ true
+pub one_more_out : (workers : ℕ) (lanes : List Lane) (worker : ℕ) (job : JobName) → is_enabled_there workers lanes (event.Take worker job) ≡ true
     → jobs_out (lane_effect lanes (event.Take worker job)) ≡ jobs_out lanes + 1
 one_more_out workers lanes worker job enabled =
     let both = and_both _ _ enabled in
@@ -170,7 +170,7 @@ one_more_out workers lanes worker job enabled =
     let sum = sum_by-set out_of_lane lanes job.game (with_taken worker job.kind job.part x) no_lane within in
     omega (arith, sum, here)
 
-pub one_less_out : (workers : ℕ) (lanes : List Lane) (worker : ℕ) (job : JobName) → is_enabled workers lanes (event.Put worker job) ≡ true
+pub one_less_out : (workers : ℕ) (lanes : List Lane) (worker : ℕ) (job : JobName) → is_enabled_there workers lanes (event.Put worker job) ≡ true
     → jobs_out (lane_effect lanes (event.Put worker job)) + 1 ≡ jobs_out lanes
 one_less_out workers lanes worker job enabled =
     let both = and_both _ _ enabled in
@@ -180,3 +180,9 @@ one_less_out workers lanes worker job enabled =
     let here = put_out x worker job.kind job.part out in
     let sum = sum_by-set out_of_lane lanes job.game (with_put job.kind job.part x) no_lane within in
     omega (arith, sum, here)
+
+pub as_many_admitted : (lanes : List Lane) (row : GameRow) → jobs_out (lane_effect lanes (event.Admit row)) ≡ jobs_out lanes
+as_many_admitted lanes row = let sum = sum_by_push out_of_lane lanes (empty_lane row) in omega (arith, sum)
+
+pub as_many_left : (lanes : List Lane) (game : ℕ) → game < length lanes → jobs_out (lane_effect lanes (event.Leave game)) ≡ jobs_out lanes
+as_many_left lanes game within = let sum = sum_by-set out_of_lane lanes game (closed_lane (lane_of lanes game)) no_lane within in omega (arith, sum)

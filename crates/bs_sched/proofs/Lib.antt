@@ -4,10 +4,12 @@ pub mod FramesCollected
 pub mod FramesJoined
 pub mod Answered
 pub mod BegunParts
+pub mod Registry
 pub mod Brought
 pub mod BusyTable
 pub mod ChangedFrames
 pub mod ChangedGames
+pub mod ChangedStays
 pub mod EventEffects
 pub mod Fibers
 pub mod FitInputs
@@ -23,7 +25,9 @@ pub mod Lanes
 pub mod LoneLanes
 pub mod MemoryLaw
 pub mod MovingGames
+pub mod Names
 pub mod NewestRecords
+pub mod OpenRows
 pub mod OpenedGames
 pub mod OwnJobs
 pub mod OwnParts
@@ -32,6 +36,7 @@ pub mod PlacedRecords
 pub mod PlanBlocks
 pub mod ReadGames
 pub mod Reframed
+pub mod Reserved
 pub mod RightLanes
 pub mod RightRuns
 pub mod SharedMemory

@@ -7,7 +7,10 @@ use Rattle.bs_heap.specs.Charge.{blocks_for}
 use Rattle.bs_heap.specs.Heap.{Heap, empty_heap}
 use Rattle.bs_heap.specs.Packing.{no_packing}
 use Rattle.bs_pool.specs.Ledger.{Ledger, ledger_of, opened, reserved}
-use Rattle.bs_sched.proofs.HandedCommands.{quotas_of_rows}
+use Rattle.bs_sched.specs.Isolation.{opened_lanes}
+use Rattle.bs_sched.specs.Reserved.{AreReserved}
+use Rattle.bs_sched.proofs.OpenRows.{opened_open}
+use Rattle.bs_sched.proofs.Reserved.{reserved_opened, with_room}
 use Rattle.bs_sched.specs.declared.games.Games.TheInside.{Inside}
 use Rattle.bs_sched.specs.declared.cores.TheConstants.{LEAST_CAPACITY}
 use Rattle.bs_sched.specs.Games.{row_at}
@@ -15,10 +18,10 @@ use Rattle.std.specs.List.{range_with_len}
 use Rattle.std.proofs.lemmas.List.FromFn.{get_or-map-range_with_len, length-map-range_with_len, map-range_with_len_more}
 use Rattle.bs_sched.specs.declared.plan_blocks.TheConstants.{FRAME_BLOCKS}
 use Rattle.bs_sched.specs.Frames.{FramesView, AreFramesOf, no_frames}
-use Rattle.bs_sched.specs.GamesLayout.{AreAllFramesOf, AreHeapsOf, IsHeapOf, IsSound, frames_at, heap_of, opened_frames, opened_heaps, opened_heaps_from}
+use Rattle.bs_sched.specs.GamesLayout.{AreAllFramesOf, AreGone, AreHeapsOf, IsHeapOf, IsSound, frames_at, heap_of, opened_frames, open_rows, opened_heaps, opened_heaps_from}
 use Rattle.bs_sched.specs.Lane.{Lane, empty_lane}
-use Rattle.bs_sched.specs.Machine.{lane_of}
-use Rattle.bs_sched.specs.PlanBlocks.{reservations_of}
+use Rattle.bs_sched.specs.Machine.{lane_of, open_blocks}
+use Rattle.bs_sched.specs.PlanBlocks.{blocks_of_all, reservations_of}
 use Rattle.bs_sched.specs.Storage.{frame_tag, record_tag}
 use Rattle.bs_sched.proofs.PlanBlocks.{nothing_held, reserved_for_frames, reserved_for_row}
 
@@ -64,7 +67,7 @@ empty_heap_of cap own row blocks pool owners room =
 
 heaps_opened : (cap blocks : ℕ) (rows : List GameRow) (pool : Ledger) → pool ≡ ledger_of (opened blocks).owners (reservations_of cap rows)
     → AreHeapsOf cap (map (λ row. empty_lane row) rows) (opened_heaps rows) pool
-heaps_opened cap blocks rows pool is game less =
+heaps_opened cap blocks rows pool is game less stands =
     let within : game < length rows = let long = length-map rows (λ (row : GameRow). empty_lane row) in omega (arith, long) in
     let set_aside = reserved_for_row cap game rows (row_of [] 0) within in
     let room : reserved (record_tag game) pool ≡ blocks_for cap (row_at rows game).quota = rw is set_aside in
@@ -89,25 +92,39 @@ opened_frame game many within = get_or-map-range_with_len (λ g. no_frames (fram
 
 frames_opened : (cap blocks : ℕ) (rows : List GameRow) (pool : Ledger) → pool ≡ ledger_of (opened blocks).owners (reservations_of cap rows)
     → AreAllFramesOf (map (λ row. empty_lane row) rows) (opened_frames (length rows)) pool
-frames_opened cap blocks rows pool is game less =
+frames_opened cap blocks rows pool is game less stands =
     let within : game < length rows = let long = length-map rows (λ (row : GameRow). empty_lane row) in omega (arith, long) in
     let room : reserved (frame_tag game) pool ≡ FRAME_BLOCKS = rw is (reserved_for_frames cap game rows within) in
     let here : AreFramesOf (frame_tag game) (empty_lane (row_at rows game)) (no_frames (frame_tag game)) pool =
     record { tag = refl; held = nothing_held blocks (frame_tag game) pool (ap (λ (p : Ledger). p.owners) is); room = room; few = omega arith; at = refl } in
     rw (opened_frame game (length rows) within, opened_lane game rows) here
 
-pub sound_opened : (cap blocks : ℕ) {at : ℕ} (c : Inside at) → LEAST_CAPACITY ≤ cap → IsFitPlan c.rows
+none_gone : (rows : List GameRow) (heaps : List Heap) → AreGone (map (λ row. empty_lane row) rows) heaps
+none_gone rows heaps game less shut =
+    let wrong : true ≡ false = ap (λ (x : Lane). x.is_open) (sym (opened_lane game rows)) ∙ shut in
+    absurd cc
+
+set_aside : (cap blocks : ℕ) (rows : List GameRow) (pool : Ledger) → pool ≡ ledger_of (opened blocks).owners (reservations_of cap rows) → blocks_of_all cap rows ≤ blocks
+    → AreReserved cap (open_blocks cap (opened_lanes rows)) (opened_lanes rows) pool.reservations
+set_aside cap blocks rows pool is room =
+    rw is (with_room cap blocks (open_blocks cap (opened_lanes rows)) (opened_lanes rows) (reservations_of cap rows) (reserved_opened cap blocks rows room) (omega arith))
+
+pub sound_opened : (cap blocks : ℕ) {at : ℕ} (c : Inside at) → LEAST_CAPACITY ≤ cap → IsFitPlan c.rows → blocks_of_all cap c.rows ≤ blocks
     → c.fibers.items ≡ map (λ row. empty_lane row) c.rows → c.heaps.items ≡ opened_heaps c.rows
-    → c.frames.items ≡ opened_frames (length c.rows) → c.pool ≡ ledger_of (opened blocks).owners (reservations_of cap c.rows) → IsSound cap c
-sound_opened cap blocks c wide plan fibers heaps frames pool =
+    → c.frames.items ≡ opened_frames (length c.rows) → c.open_rows.items ≡ range_with_len 0 (length c.rows)
+    → c.pool ≡ ledger_of (opened blocks).owners (reservations_of cap c.rows) → IsSound cap c
+sound_opened cap blocks c wide plan room fibers heaps frames rows pool =
     let many : length c.fibers.items ≡ length c.rows = ap length fibers ∙ length-map c.rows (λ (row : GameRow). empty_lane row) in
+    let few = plan.few in
     record {
       wide = wide;
       plan = plan;
-      lanes = many;
-      quotas = ap (map (λ (x : Lane). x.row.quota)) fibers ∙ quotas_of_rows c.rows;
+      few = omega (arith, many, few);
+      listed = rows ∙ sym (opened_open c.rows) ∙ ap open_rows (sym fibers);
       many = ap length heaps ∙ many_heaps 0 c.rows ∙ sym many;
       heaps = rw (fibers, heaps) (heaps_opened cap blocks c.rows c.pool pool);
       as_many = ap length frames ∙ length-map-range_with_len (λ g. no_frames (frame_tag g)) 0 (length c.rows) ∙ sym many;
       frames = rw (fibers, frames) (frames_opened cap blocks c.rows c.pool pool);
+      gone = rw fibers (none_gone c.rows c.heaps.items);
+      reserved = rw fibers (set_aside cap blocks c.rows c.pool pool room);
     }

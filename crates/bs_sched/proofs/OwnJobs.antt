@@ -94,6 +94,12 @@ brings core worker brought job out own is right worked =
 pub input_there : (games : GamesView) (worker : ℕ) (brought : TicketView) → IsOwnInput games worker brought → brought.input.job.game < length games.lanes
 input_there games worker brought own = ltb-true _ _ (and_both (nat_lt brought.input.job.game (length games.lanes)) _ own.out).0
 
+pub input_out : (games : GamesView) (worker : ℕ) (brought : TicketView) → IsOwnInput games worker brought
+    → (w : ℕ) × (is_out w (lane_of games.lanes brought.input.job.game) brought.input.job.kind brought.input.job.part ≡ true)
+input_out games worker brought own =
+    let rest = (and_both (nat_lt brought.input.job.game (length games.lanes)) _ own.out).1 in
+    (worker, (and_both (is_out worker (lane_of games.lanes brought.input.job.game) brought.input.job.kind brought.input.job.part) true rest).0)
+
 pub own_both : (games : GamesView) (worker : ℕ) (brought : TicketView) (answer : Bool) → IsOwnInput games worker brought
     → (IsTrue answer ↔ names_of brought.frames ≡ names_for games.storage brought.input.job) → (IsTrue answer ↔ IsOwn games worker brought)
 own_both games worker brought answer own frames =

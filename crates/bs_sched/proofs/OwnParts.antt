@@ -3,7 +3,7 @@
 use Rattle.std.proofs.Common.{◌≡◌, ◌≢◌, ℕ, zero, suc, ◌+◌, ◌<◌, Bool, true, false, ◌&&◌, List, [], ◌∷◌, length, Option, Some, None, refl, sym, ap, subst, ◌∙◌, arith, get_or, slice_index_or}
 use Rattle.std.specs.Prelude.{nat_lt, nat_eq, slice_set, slice_get, remove}
 use Rattle.std.specs.List.{list_all}
-use Rattle.std.proofs.lemmas.Bool.{lt-ltb, ltb-true, cond-true}
+use Rattle.std.proofs.lemmas.Bool.{and_from, lt-ltb, ltb-true, cond-true}
 use Rattle.std.proofs.lemmas.List.{get_or-set_same, get_or-set_other, length-set}
 use Rattle.bs_board.proofs.Chains.{and_both}
 use Rattle.bs_fiber.specs.Tickets.{TicketView, names_of}
@@ -18,10 +18,10 @@ use Rattle.bs_sched.specs.Games.{GamesView, after}
 use Rattle.bs_sched.specs.Inputs.{input_of}
 use Rattle.bs_sched.specs.Lane.{Lane, no_lane, is_out, is_in_parts, is_part_done, has_part, part_at, with_part_done, stage_with}
 use Rattle.bs_sched.specs.Isolation.{are_enabled}
-use Rattle.bs_sched.specs.Machine.{lane_of, is_enabled, step, lane_effect}
+use Rattle.bs_sched.specs.Journal.{setting_in}
+use Rattle.bs_sched.specs.Machine.{Setting, lane_of, is_enabled, is_enabled_there, step, lane_effect}
 use Rattle.bs_sched.specs.Parts.{IsOwnPart, AreOwnParts, part_job, core_run, puts_of}
 use Rattle.bs_sched.specs.Putting.{IsOwn}
-use Rattle.bs_sched.proofs.LoneLanes.{both_true}
 use Rattle.bs_sched.proofs.OwnJobs.{own_there, own_out}
 
 -- a part that somebody has is not done, so not all are
@@ -76,7 +76,7 @@ own_still cap games game p q worker one other own =
     let many : length new.lanes ≡ length games.lanes = length-set games.lanes game (with_part_done p x) in
     let here : nat_lt game (length new.lanes) ≡ true = lt-ltb _ _ (omega (arith, many)) in
     let still : is_out done.input.worker (lane_of new.lanes game) kind.Part q ≡ true = rw lane (out_still x done.input.worker p q other out) in
-    let enabled : is_enabled new.workers new.lanes (event.Put done.input.worker (part_job game q)) ≡ true = rw (here, still) refl in
+    let enabled : is_enabled_there new.workers new.lanes (event.Put done.input.worker (part_job game q)) ≡ true = rw (here, still) refl in
     let input : input_of (lane_of new.lanes game) done.input.worker (part_job game q) ≡ input_of x done.input.worker (part_job game q)
     = ap (λ (y : Lane). input_of y done.input.worker (part_job game q)) lane in
     let before : done.input ≡ input_of x done.input.worker (part_job game q)
@@ -86,7 +86,7 @@ own_still cap games game p q worker one other own =
       is = own.is;
       job = is;
       own = record {
-        out = subst (λ (j : JobName). is_enabled new.workers new.lanes (event.Put done.input.worker j) ≡ true) (sym is) enabled;
+        out = subst (λ (j : JobName). is_enabled_there new.workers new.lanes (event.Put done.input.worker j) ≡ true) (sym is) enabled;
         input = subst (λ (j : JobName). done.input ≡ input_of (lane_of new.lanes j.game) done.input.worker j) (sym is) (before ∙ sym input);
         frames = own.own.frames;
       };
@@ -137,20 +137,23 @@ own_next games game p [] one some own is = absurd (omega arith)
 own_next games game p (x ∷ rest) one some own is = subst (IsOwnPart games game p) (sym is) own.0
 
 -- each is enabled where it comes
-enabled_from : (games : GamesView) (game p : ℕ) (completed : List (Option TicketView)) → AreOwnFrom games game p completed
-    → are_enabled games.workers games.lanes (puts_of completed) ≡ true
-enabled_from games game p [] own = refl
-enabled_from games game p (None ∷ rest) own = let wrong : None ≡ Some own.0.done = own.0.is in absurd cc
-enabled_from games game p (Some done ∷ rest) own =
+enabled_from : (setting : Setting) (games : GamesView) (game p : ℕ) (completed : List (Option TicketView)) → setting.workers ≡ games.workers → AreOwnFrom games game p completed
+    → are_enabled setting games.lanes (puts_of completed) ≡ true
+enabled_from setting games game p [] same own = refl
+enabled_from setting games game p (None ∷ rest) same own = let wrong : None ≡ Some own.0.done = own.0.is in absurd cc
+enabled_from setting games game p (Some done ∷ rest) same own =
     let e = event.Put done.input.worker done.input.job in
-    let same : own.0.done ≡ done = let e : Some done ≡ Some own.0.done = own.0.is in cc in
-    let job : done.input.job ≡ part_job game p = ap (λ (i : TicketView). i.input.job) (sym same) ∙ own.0.job in
-    let here : is_enabled games.workers games.lanes e ≡ true = subst (λ (i : TicketView). is_enabled games.workers games.lanes (event.Put i.input.worker i.input.job) ≡ true) same own.0.own.out in
+    let its : own.0.done ≡ done = let e : Some done ≡ Some own.0.done = own.0.is in cc in
+    let job : done.input.job ≡ part_job game p = ap (λ (i : TicketView). i.input.job) (sym its) ∙ own.0.job in
+    let there : is_enabled_there games.workers games.lanes e ≡ true
+    = subst (λ (i : TicketView). is_enabled_there games.workers games.lanes (event.Put i.input.worker i.input.job) ≡ true) its own.0.own.out in
+    let here : is_enabled setting games.lanes e ≡ true = subst (λ (w : ℕ). is_enabled_there w games.lanes e ≡ true) (sym same) there in
     let next = subst (λ (j : JobName). AreOwnFrom (after 0 games (event.Put done.input.worker j)) game (p + 1) rest) (sym job)
     (own_rest 0 games game p (p + 1) done.input.worker rest (omega arith) own.1) in
-    let goes : step games.workers games.lanes e ≡ lane_effect games.lanes e = cond-true _ (lane_effect games.lanes e) games.lanes here in
-    both_true (is_enabled games.workers games.lanes e) _ here
-    (subst (λ (lanes : List Lane). are_enabled games.workers lanes (puts_of rest) ≡ true) (sym goes) (enabled_from (after 0 games e) game (p + 1) rest next))
+    let goes : step setting games.lanes e ≡ lane_effect games.lanes e = cond-true _ (lane_effect games.lanes e) games.lanes here in
+    and_from (is_enabled setting games.lanes e) _ here
+    (subst (λ (lanes : List Lane). are_enabled setting lanes (puts_of rest) ≡ true) (sym goes) (enabled_from setting (after 0 games e) game (p + 1) rest same next))
 
-pub all_enabled : (games : GamesView) (completed : List (Option TicketView)) → AreOwnParts games completed → are_enabled games.workers games.lanes (puts_of completed) ≡ true
-all_enabled games completed are = enabled_from games are.game 0 completed (from_all games completed are)
+pub all_enabled : (cap : ℕ) (core : CoreView) (completed : List (Option TicketView)) → AreOwnParts core.games completed
+    → are_enabled (setting_in cap core) core.games.lanes (puts_of completed) ≡ true
+all_enabled cap core completed are = enabled_from (setting_in cap core) core.games are.game 0 completed refl (from_all core.games completed are)

@@ -2,14 +2,14 @@
 use Rattle.std.proofs.Common.{◌≡◌, ◌≢◌, ℕ, zero, suc, ◌+◌, ◌*◌, ◌<◌, ◌≤◌, true, false, List, [], ◌∷◌, ◌++◌, None, Some, length, slice_index_or, refl, ap, ◌∙◌, arith, inl, inr, All}
 use Rattle.std.proofs.lemmas.Bool.{cases_Bool, eqb-true, eq-eqb, ne_eqb}
 use Rattle.std.proofs.lemmas.List.Elements.{All-tail}
-use Rattle.std.specs.Prelude.{nat_eq, find, count_by}
+use Rattle.std.specs.Prelude.{IsSome, nat_eq, find, count_by}
 use Rattle.bs_board.specs.plans.Plan.{GameRow}
 use Rattle.bs_pool.specs.declared.reservation.Reservation.{Reservation}
 use Rattle.bs_pool.proofs.Soundness.{held_opened}
-use Rattle.bs_pool.proofs.Reservations.{unreserved_pushed}
+use Rattle.bs_pool.proofs.Reservations.{reserved_none, reserved_pushed, reserved_some, reserved_without_other, unreserved_pushed}
 use Rattle.bs_sched.specs.declared.plan_blocks.TheConstants.{FRAME_BLOCKS}
-use Rattle.bs_pool.specs.Ledger.{size, unreserved, Ledger, reservation_of, opened, is_owned_by, with_reservation}
-use Rattle.bs_pool.specs.Reservations.{is_of, reserved_by, all_reserved}
+use Rattle.bs_pool.specs.Ledger.{IsSound, held, ledger_of, reserved, size, unreserved, Ledger, reservation_of, opened, is_owned_by, with_reservation, without_reservation}
+use Rattle.bs_pool.specs.Reservations.{is_of, reserved_by, all_reserved, without}
 use Rattle.bs_heap.specs.HeldBlocks.{Holds}
 use Rattle.bs_sched.specs.PlanBlocks.{record_blocks, reservations_from, reservations_of}
 
@@ -27,6 +27,9 @@ none_above least tag (r ∷ rs) below above =
 
 pub none_from : (place : ℕ) (pool : Ledger) → All (λ r. r.tag < 2 * place) pool.reservations → reservation_of (2 * place) pool ≡ None
 none_from place pool below = none_above (2 * place) (2 * place) pool.reservations below (omega arith)
+
+pub none_next : (place : ℕ) (pool : Ledger) → All (λ r. r.tag < 2 * place) pool.reservations → reservation_of (2 * place + 1) pool ≡ None
+none_next place pool below = none_above (2 * place) (2 * place + 1) pool.reservations below (omega arith)
 
 more_above : (tag : ℕ) (rs : List Reservation) (r : Reservation) → find (is_of tag) rs ≡ None → r.tag ≢ tag → find (is_of tag) (rs ++ r ∷ []) ≡ None
 more_above tag [] r none other =
@@ -99,3 +102,45 @@ pub frames_fit : (game tag blocks : ℕ) (pool reserved_pool : Ledger) → reser
 frames_fit game tag blocks pool reserved_pool is below room same =
     let left = unreserved_pushed (2 * game) blocks pool in
     (rw (is, same) (none_beside game blocks pool below), rw is (omega (arith, left)))
+
+-- a reservation that was just made is taken back
+
+removed_pushed : (tag n : ℕ) (rs : List Reservation) → find (is_of tag) rs ≡ None → without tag (rs ++ record { tag = tag; blocks = n } ∷ []) ≡ rs
+removed_pushed tag n [] none = let same : nat_eq tag tag ≡ true = eq-eqb tag tag refl in rw same refl
+removed_pushed tag n (r ∷ rs) none =
+    elim (cases_Bool (nat_eq r.tag tag)) [
+      | inl same ↦
+          let wrong : Some r ≡ None = rw same at none in
+          cc
+      | inr differ ↦
+          let rest : find (is_of tag) rs ≡ None = rw differ at none in
+          rw (differ, removed_pushed tag n rs rest) refl
+    ]
+
+pub record IsTakenBack (tag : ℕ) (old new : Ledger) : Type 0 where
+  pub some : IsSome (reservation_of tag new)
+  pub idle : held tag new ≡ 0
+  pub same : without_reservation tag new ≡ old
+
+pub taken_back : (tag n : ℕ) (old new : Ledger) → IsSound old → reservation_of tag old ≡ None → 1 ≤ n → new ≡ with_reservation tag n old → IsTakenBack tag old new
+taken_back tag n old new sound none some is =
+    let kept = sound.kept tag in
+    let nothing = reserved_none tag old.reservations none in
+    let many = reserved_pushed tag n old.reservations none in
+    rw is (record {
+      some = reserved_some tag (old.reservations ++ record { tag = tag; blocks = n } ∷ []) (omega (arith, many, some));
+      idle = omega (arith, kept, nothing);
+      same = ap (ledger_of old.owners) (removed_pushed tag n old.reservations none);
+    })
+
+-- both reservations of a stay go
+
+pub first_released : (game tag : ℕ) (pool : Ledger) → tag ≡ 2 * game → 0 < reserved (2 * game) pool → held (2 * game) pool ≡ 0
+    → IsSome (reservation_of tag pool) × (held tag pool ≡ 0)
+first_released game tag pool is some none = rw is (reserved_some (2 * game) pool.reservations some, none)
+
+pub second_released : (game tag : ℕ) (pool mid : Ledger) → tag ≡ 2 * game → 0 < reserved (2 * game + 1) pool → held (2 * game + 1) pool ≡ 0
+    → mid ≡ without_reservation tag pool → IsSome (reservation_of (tag + 1) mid) × (held (tag + 1) mid ≡ 0)
+second_released game tag pool mid is some none gone =
+    let beside = reserved_without_other (2 * game) (2 * game + 1) pool.reservations (λ same. omega arith) in
+    rw (gone, is) (reserved_some (2 * game + 1) (without (2 * game) pool.reservations) (omega (arith, beside, some)), none)

@@ -3,15 +3,14 @@ use Rattle.std.proofs.Common.{◌≡◌, ◌≢◌, ℕ, ◌+◌, ◌<◌, List,
 use Rattle.std.specs.Prelude.{All, slice_set, replicate}
 use Rattle.std.proofs.lemmas.Bool.{cases_eq, cases_lt}
 use Rattle.std.proofs.lemmas.Grind.{get_or-set_at}
-use Rattle.std.proofs.lemmas.List.{length-append, length-set, append-nil, get_or-set_other}
+use Rattle.std.proofs.lemmas.List.{length-append, length-set, length_push, append-nil, get_or_append_left, get_or_push, get_or-set_other}
 use Rattle.std.proofs.lemmas.List.Elements.{All-nil, All-head, All-tail}
 use Rattle.std.proofs.lemmas.Option.{slice_get-get_or, slice_get_past}
 use Rattle.bs_heap.specs.HeldBlocks.{AreOwned, Holds, LeavesOthers, all_given, next_number}
 use Rattle.bs_heap.proofs.HeldBlocks.{owned_tail, holds_rest, leaves_rest, leaves_none, others_drawn}
-use Rattle.bs_pool.specs.Ledger.{Ledger, Owns, size, free, least_free, drawn, given, reserved}
-use Rattle.bs_pool.specs.Reservations.{reserved_by}
+use Rattle.bs_pool.specs.Ledger.{Ledger, ledger_of, Owns, size, free, least_free, drawn, given}
+use Rattle.bs_pool.specs.declared.reservation.Reservation.{Reservation}
 use Rattle.bs_pool.proofs.Owners.{free_at, free_drawn, size_drawn, free_given, size_given, owns_drawn}
-use Rattle.bs_sched.specs.declared.plan_blocks.TheConstants.{FRAME_BLOCKS}
 use Rattle.bs_sched.specs.FrameEffects.{FrameEffect, Keeps, Forks, Draws, Returns, numbers_after, pool_framed}
 use Rattle.bs_sched.specs.Frames.{known}
 use Rattle.bs_sched.specs.Lane.{Lane, no_lane}
@@ -133,11 +132,10 @@ reframed Returns tag numbers pool memory may was_wiped held bare =
       bare = All-nil (λ m. block_in memory m ≡ []);
     }
 
--- of all games: a block for each part that was taken
+-- of all stays: a block for each part that was taken
 
 pub record IsFramed (game : ℕ) (x : Lane) (numbers : List (Option ℕ)) (pool : Ledger) (memory : Memory) : Type 0 where
   pub held : Holds (frame_tag game) (known numbers) pool
-  pub room : reserved (frame_tag game) pool ≡ FRAME_BLOCKS
   pub begun : AreBegun x numbers
   pub bare : AreBare (known numbers) memory
 
@@ -160,7 +158,6 @@ framed_beside tag lanes frames pool pool' memory memory' apart leaves same frame
           let before = framed.each game less in
           record {
             held = leaves.holds (frame_tag game) (known (numbers_at frames game)) (apart game less) before.held;
-            room = ap (reserved_by (frame_tag game)) leaves.reservations ∙ before.room;
             begun = before.begun;
             bare = λ k d within. same (frame_tag game) _ (apart game less) (before.held.owned.each k d within) ∙ before.bare k d within;
           };
@@ -183,7 +180,6 @@ framed_changed game lanes frames pool pool' memory y numbers framed within new b
                 rw (get_or-set_at lanes game other y no_lane here within, get_or-set_at frames game other numbers [] here (omega (arith, many, within)), here)
                 (record {
                   held = new.held;
-                  room = ap (reserved_by (frame_tag game)) new.others.reservations ∙ (framed.each game within).room;
                   begun = begun;
                   bare = new.bare;
                 })
@@ -192,9 +188,45 @@ framed_changed game lanes frames pool pool' memory y numbers framed within new b
                 rw (get_or-set_other lanes game other y no_lane differ, get_or-set_other frames game other numbers [] differ)
                 (record {
                   held = new.others.holds (frame_tag other) (known (numbers_at frames other)) (λ twice. differ (omega (arith, twice))) before.held;
-                  room = ap (reserved_by (frame_tag other)) new.others.reservations ∙ before.room;
                   begun = before.begun;
                   bare = before.bare;
                 })
           ];
+    }
+
+-- a stay comes
+pub framed_comes : (lanes : List Lane) (frames : List (List (Option ℕ))) (pool : Ledger) (memory : Memory) (y : Lane) → AreFramed lanes frames pool memory
+    → Holds (frame_tag (length lanes)) [] pool → AreBegun y [] → AreFramed (lanes ++ y ∷ []) (frames ++ [] ∷ []) pool memory
+framed_comes lanes frames pool memory y framed nothing begun =
+    let many = framed.many in
+    let long = length_push lanes y in
+    let none : List (Option ℕ) = [] in
+    let long_frames : length (frames ++ none ∷ []) ≡ length frames + 1 = length_push frames none in
+    record {
+      many = omega (arith, many, long, long_frames);
+      each = λ game less.
+          elim (cases_lt game (length lanes)) [
+            | inl before ↦
+                rw (get_or_append_left lanes (y ∷ []) no_lane game before, get_or_append_left frames (none ∷ []) none game (omega (arith, before, many)))
+                (framed.each game before)
+            | inr past ↦
+                let last : length lanes ≡ game = omega (arith, long, less, past) in
+                rw (get_or_push lanes y no_lane game last, get_or_push frames none none game (omega (arith, many, last)), ← last)
+                (record { held = nothing; begun = begun; bare = All-nil (λ m. block_in memory m ≡ []) })
+          ];
+    }
+
+-- only the reservations change
+pub framed_reserved : (lanes : List Lane) (frames : List (List (Option ℕ))) (pool : Ledger) (memory : Memory) (rs : List Reservation)
+    → AreFramed lanes frames pool memory → AreFramed lanes frames (ledger_of pool.owners rs) memory
+framed_reserved lanes frames pool memory rs framed =
+    record {
+      many = framed.many;
+      each = λ game less.
+          let before = framed.each game less in
+          record {
+            held = record { owned = record { each = before.held.owned.each; once = before.held.owned.once }; all = before.held.all };
+            begun = before.begun;
+            bare = before.bare;
+          };
     }

@@ -1,8 +1,8 @@
 -- What a fiber keeps says that its lane is right.
 use Rattle.std.proofs.Common.{◌≡◌, ℕ, zero, suc, [], ◌∷◌, ◌-◌, ◌≤◌, true, false, List, length, take, refl, ap, ◌∙◌, arith, inl, inr}
-use Rattle.std.specs.Prelude.{All, Some, None}
-use Rattle.std.proofs.lemmas.Bool.{cases_Bool}
-use Rattle.std.proofs.lemmas.List.{length-map, length-take-le}
+use Rattle.std.specs.Prelude.{All, Some, None, drop, is_some, nat_eq}
+use Rattle.std.proofs.lemmas.Bool.{and_from, cases_Bool, eq-eqb, not-false}
+use Rattle.std.proofs.lemmas.List.{length-drop, length-map, length-take-le}
 use Rattle.std.proofs.lemmas.List.Elements.{All-take, All-drop}
 use Rattle.bs_game.specs.Answer.{Fits}
 use Rattle.bs_game.proofs.Courses.{course_is_game}
@@ -11,7 +11,7 @@ use Rattle.bs_sched.specs.declared.stage.Stage.{Stage}
 use Rattle.bs_sched.specs.declared.stage.Stage.TheVariants as stage
 use Rattle.bs_sched.specs.Courses.{answered_commands, IsMove, IsRight}
 use Rattle.bs_sched.specs.Insides.{lane_in, answered_count, IsFiber, IsAt}
-use Rattle.bs_sched.specs.Lane.{is_idle, is_playing, lane_view, lane_command}
+use Rattle.bs_sched.specs.Lane.{is_idle, is_playing, is_quiet, lane_view, lane_command}
 use Rattle.bs_sched.specs.Slots.{state_of}
 
 take_less : {X : Type 0} (n m : ℕ) (xs : List X) → n ≤ m → take n (take m xs) ≡ take n xs
@@ -54,3 +54,10 @@ right_lane f kept =
       within = game.1;
       moves = playing_of f.stage f kept.stage;
     }
+
+-- who has left has nothing to do
+pub quiet_lane : (f : Inside) → IsFiber f → (lane_in f).is_open ≡ false → is_quiet (lane_in f) ≡ true
+quiet_lane f kept shut =
+    let closed = kept.closed (not-false (is_some f.left) shut) in
+    let none : length (drop f.begun f.commands.items) ≡ 0 = let long = length-drop f.begun f.commands.items in let all = closed.1 in omega (arith, long, all) in
+    and_from (is_idle f.stage) (nat_eq (length (drop f.begun f.commands.items)) 0) closed.0 (eq-eqb _ _ none)

@@ -1,11 +1,12 @@
 -- Each lane stays right, whatever events come.
-use Rattle.std.proofs.Common.{◌≡◌, ℕ, ◌+◌, ◌-◌, ◌<◌, ◌≤◌, Bool, true, false, List, [], ◌∷◌, ◌++◌, length, take, refl, sym, ap, subst, ◌∙◌, arith, inl, inr}
-use Rattle.std.specs.Prelude.{Some, None, if◌then◌else◌, nat_eq, nat_lt, slice_set, slice_index_or, All}
+use Rattle.std.proofs.Common.{◌≡◌, ℕ, ◌+◌, ◌-◌, ◌<◌, ◌≤◌, Bool, true, false, List, [], ◌∷◌, ◌++◌, length, take, refl, sym, ap, ◌∙◌, arith, inl, inr}
+use Rattle.std.specs.Prelude.{Some, None, if◌then◌else◌, nat_eq, slice_set, slice_index_or, All}
 use Rattle.std.specs.List.{list_all}
 use Rattle.std.proofs.Math.Seq.{take-length, take-append_seam}
 use Rattle.std.proofs.Math.ListN.{get_or-map}
-use Rattle.std.proofs.lemmas.Bool.{cases_Bool, cond-true, cond-false, ltb-true, leb-true, eqb-true, eqb-false}
-use Rattle.std.proofs.lemmas.List.{length-set, length-append, length-take-le, length-replicate, take_more}
+use Rattle.std.proofs.lemmas.Bool.{cases_Bool, cases_eq, cases_lt, cond-true, cond-false, ltb-true, leb-true, ne_eqb, and_left, and_right}
+use Rattle.std.proofs.lemmas.List.{length-set, length_push, length-map, length-append, length-take-le, length-replicate, take_more, get_or_append_left, get_or_push, get_or-set_other}
+use Rattle.std.proofs.lemmas.Grind.{get_or-set_at}
 use Rattle.std.proofs.lemmas.List.Elements.{All-nil, All-push, All-append, All-take, All-drop, All-head, All-tail, All-get_or}
 use Rattle.bs_board.proofs.Chains.{and_both}
 use Rattle.bs_board.specs.declared.limits.TheConstants.{MOST_QUOTA}
@@ -23,13 +24,12 @@ use Rattle.bs_sched.specs.declared.stage.Stage.{Stage}
 use Rattle.bs_sched.specs.declared.stage.Stage.TheVariants as stage
 use Rattle.bs_sched.specs.declared.stage.PartState.{PartState}
 use Rattle.bs_sched.specs.declared.stage.PartState.TheVariants as part
-use Rattle.bs_sched.specs.Games.{row_at}
 use Rattle.bs_sched.specs.Courses.{answered_commands, IsMove, IsRight}
-use Rattle.bs_sched.specs.Isolation.{opened_lanes, HandsFit}
-use Rattle.bs_sched.specs.Lane.{Lane, empty_lane, lane_command, lane_outcome, goes_on, is_idle, is_in_parts, is_playing, is_to_join, has_begin, has_join, is_part_done, is_ready, is_out, with_waiting, with_taken, with_put, answered, forked, stage_with, with_part_done}
-use Rattle.bs_sched.specs.Machine.{lane_of, game_of, is_allowed, is_enabled, lane_after, step, run_of}
+use Rattle.bs_sched.specs.Isolation.{opened_lanes, HandsFit, IsWell}
+use Rattle.bs_sched.specs.Lane.{Lane, empty_lane, no_lane, is_quiet, lane_command, lane_outcome, goes_on, is_idle, is_in_parts, is_playing, is_to_join, has_begin, has_join, is_part_done, is_ready, is_out, with_waiting, with_taken, with_put, answered, forked, stage_with, with_part_done}
+use Rattle.bs_sched.specs.Machine.{Setting, lane_of, game_of, row_in, is_admit, is_allowed, lane_after, step, run_of}
 use Rattle.bs_sched.proofs.Lanes.{ready_part, out_part}
-use Rattle.bs_sched.proofs.LoneLanes.{step_refused, named_lane, others_leave}
+use Rattle.bs_sched.proofs.LoneLanes.{comer, changed, cases_step}
 
 -- what an event that is allowed says of the stage
 
@@ -203,35 +203,91 @@ right_put x worker kind.Begin p right out =
 right_put x worker kind.Part p right out = right_part_done x p right (out_part x worker p out)
 right_put x worker kind.Join p right out = right_answered x right (join_busy worker x.stage (and_both (nat_eq p 0) (has_join worker x.stage) out).1)
 
+right_with_flag : (x : Lane) (flag : Bool) → IsRight x → IsRight (record x { is_open = flag })
+right_with_flag x flag right =
+    record {
+      small = right.small;
+      taken = right.taken;
+      waiting = right.waiting;
+      some = right.some;
+      course = record { replies = right.course.replies; game = right.course.game };
+      right = right.right;
+      within = right.within;
+      moves = λ plays. record { goes = (right.moves plays).goes; parts = (right.moves plays).parts };
+    }
+
 pub right_after : (x : Lane) (e : Event) → IsRight x → HandsFit e → is_allowed x e ≡ true → IsRight (lane_after x e)
 right_after x (event.Hand game command) right fits allowed = right_handed x command right fits
 right_after x (event.Take worker job) right fits allowed = right_taken x worker job.kind job.part right allowed
 right_after x (event.Put worker job) right fits allowed = right_put x worker job.kind job.part right allowed
+right_after x (event.Admit row) right fits allowed = right
+right_after x (event.Leave game) right fits allowed =
+    right_with_flag x false right
 
--- all events
+-- who has left has nothing to do, so what is allowed is so while it is open
 
-pub right_step : (workers : ℕ) (lanes : List Lane) (e : Event) (game : ℕ) → HandsFit e → IsRight (lane_of lanes game) → IsRight (lane_of (step workers lanes e) game)
-right_step workers lanes e game fits right =
-    elim (cases_Bool (is_enabled workers lanes e)) [
-      | inl on ↦
-          elim (cases_Bool (nat_eq (game_of e) game)) [
-            | inl here ↦
-                let allowed : is_allowed (lane_of lanes (game_of e)) e ≡ true = (and_both _ _ (and_both (nat_lt (game_of e) (length lanes)) _ on).1).0 in
-                let same : game_of e ≡ game = eqb-true _ _ here in
-                let before : IsRight (lane_of lanes (game_of e)) = subst (λ row. IsRight (lane_of lanes row)) (sym same) right in
-                subst (λ row. IsRight (lane_of (step workers lanes e) row)) same
-                (rw (named_lane workers lanes e on) (right_after (lane_of lanes (game_of e)) e before fits allowed))
-            | inr other ↦ rw (others_leave workers lanes game e (eqb-false (game_of e) game other)) right
-          ]
-      | inr off ↦ rw (step_refused workers lanes e off) right
+pub open_busy : (x : Lane) → (x.is_open ≡ false → is_quiet x ≡ true) → is_quiet x ≡ false → x.is_open ≡ true
+open_busy x closed busy =
+    elim (cases_Bool x.is_open) [
+      | inl stands ↦ stands
+      | inr shut ↦ let wrong : true ≡ false = sym (closed shut) ∙ busy in cc
     ]
 
-pub right_run : (workers : ℕ) (lanes : List Lane) (events : List Event) (game : ℕ) → All HandsFit events → IsRight (lane_of lanes game)
-    → IsRight (lane_of (run_of workers lanes events) game)
-right_run workers lanes [] game fit right = right
-right_run workers lanes (e ∷ events) game fit right =
-    right_run workers (step workers lanes e) events game (All-tail HandsFit e events fit)
-    (right_step workers lanes e game (All-head HandsFit e events fit) right)
+open_of : (x : Lane) → IsWell x → is_quiet x ≡ false → x.is_open ≡ true
+open_of x well busy = open_busy x well.closed busy
+
+not_quiet : (x : Lane) → is_idle x.stage ≡ false → is_quiet x ≡ false
+not_quiet x busy = and_left (is_idle x.stage) (nat_eq (length x.waiting) 0) busy
+
+some_waits : (x : Lane) → 0 < length x.waiting → is_quiet x ≡ false
+some_waits x some = and_right (is_idle x.stage) (nat_eq (length x.waiting) 0) (ne_eqb (length x.waiting) 0 (λ none. omega (arith, some, none)))
+
+pub busy_ready : (x : Lane) (k : JobKind) (p : ℕ) → is_ready x k p ≡ true → is_quiet x ≡ false
+busy_ready x kind.Begin p ready = some_waits x (ltb-true _ _ (and_both _ _ (and_both (nat_eq p 0) _ ready).1).1)
+busy_ready x kind.Part p ready = not_quiet x (busy_of_parts x.stage (ready_part x p ready)).0
+busy_ready x kind.Join p ready = not_quiet x (to_join x.stage (and_both (nat_eq p 0) (is_to_join x.stage) ready).1).0
+
+pub busy_out : (x : Lane) (worker : ℕ) (k : JobKind) (p : ℕ) → is_out worker x k p ≡ true → is_quiet x ≡ false
+busy_out x worker kind.Begin p out = not_quiet x (begin_busy worker x.stage (and_both (nat_eq p 0) (has_begin worker x.stage) out).1).0
+busy_out x worker kind.Part p out = not_quiet x (busy_of_parts x.stage (out_part x worker p out)).0
+busy_out x worker kind.Join p out = not_quiet x (join_busy worker x.stage (and_both (nat_eq p 0) (has_join worker x.stage) out).1)
+
+pub open_when : (x : Lane) (e : Event) → IsWell x → is_allowed x e ≡ true → x.is_open ≡ true
+open_when x (event.Hand game command) well allowed = allowed
+open_when x (event.Take worker job) well allowed = open_of x well (busy_ready x job.kind job.part allowed)
+open_when x (event.Put worker job) well allowed = open_of x well (busy_out x worker job.kind job.part allowed)
+open_when x (event.Admit row) well allowed = let wrong : false ≡ true = allowed in absurd cc
+open_when x (event.Leave game) well allowed = (and_both x.is_open (is_quiet x) allowed).0
+
+-- only leaving closes a stay
+
+pub open_taken : (x : Lane) (worker : ℕ) (k : JobKind) (p : ℕ) → (with_taken worker k p x).is_open ≡ x.is_open
+open_taken x worker kind.Begin p = refl
+open_taken x worker kind.Part p = refl
+open_taken x worker kind.Join p = refl
+
+open_begun : (x : Lane) (on : Bool) → (if on then forked x else answered x).is_open ≡ x.is_open
+open_begun x true = refl
+open_begun x false = refl
+
+pub open_put : (x : Lane) (k : JobKind) (p : ℕ) → (with_put k p x).is_open ≡ x.is_open
+open_put x kind.Begin p = open_begun x (goes_on x)
+open_put x kind.Part p = refl
+open_put x kind.Join p = refl
+
+still_open : (x y : Lane) → y.is_open ≡ x.is_open → x.is_open ≡ true → y.is_open ≡ false → is_quiet y ≡ true
+still_open x y same stands shut = let wrong : true ≡ false = sym stands ∙ sym same ∙ shut in cc
+
+closed_after : (x : Lane) (e : Event) → x.is_open ≡ true → is_allowed x e ≡ true → (lane_after x e).is_open ≡ false → is_quiet (lane_after x e) ≡ true
+closed_after x (event.Hand game command) stands allowed = still_open x (with_waiting command x) refl stands
+closed_after x (event.Take worker job) stands allowed = still_open x (with_taken worker job.kind job.part x) (open_taken x worker job.kind job.part) stands
+closed_after x (event.Put worker job) stands allowed = still_open x (with_put job.kind job.part x) (open_put x job.kind job.part) stands
+closed_after x (event.Admit row) stands allowed = still_open x x refl stands
+closed_after x (event.Leave game) stands allowed = λ _. (and_both x.is_open (is_quiet x) allowed).1
+
+pub well_after : (x : Lane) (e : Event) → IsWell x → HandsFit e → is_allowed x e ≡ true → IsWell (lane_after x e)
+well_after x e well fits allowed =
+    record { right = right_after x e well.right fits allowed; closed = closed_after x e (open_when x e well allowed) allowed }
 
 -- a lane that was just opened
 
@@ -252,10 +308,55 @@ right_empty row small =
 small_quota : (row : GameRow) → is_fit_row row ≡ true → row.quota ≤ MOST_QUOTA
 small_quota row fit = leb-true row.quota MOST_QUOTA (and_both _ _ fit).1
 
-pub opened_lane : (rows : List GameRow) (game : ℕ) → lane_of (opened_lanes rows) game ≡ empty_lane (row_at rows game)
-opened_lane rows game = get_or-map (λ (row : GameRow). empty_lane row) rows game (row_of [] 0)
+pub well_empty : (row : GameRow) → is_fit_row row ≡ true → IsWell (empty_lane row)
+well_empty row fit = record { right = right_empty row (small_quota row fit); closed = λ shut. let wrong : true ≡ false = shut in absurd cc }
 
-pub right_opened : (rows : List GameRow) (game : ℕ) → IsFitPlan rows → game < length rows → IsRight (lane_of (opened_lanes rows) game)
-right_opened rows game plan within =
+-- all events
+
+abbrev pub AreWell : List Lane → Type 0
+AreWell lanes = (game : ℕ) → game < length lanes → IsWell (lane_of lanes game)
+
+-- the row that an event admits is within the limits
+pub fit_comer : (e : Event) → HandsFit e → is_admit e ≡ true → is_fit_row (row_in e) ≡ true
+fit_comer (event.Hand game command) fits comes = let wrong : false ≡ true = comes in absurd cc
+fit_comer (event.Take worker job) fits comes = let wrong : false ≡ true = comes in absurd cc
+fit_comer (event.Put worker job) fits comes = let wrong : false ≡ true = comes in absurd cc
+fit_comer (event.Admit row) fits comes = fits
+fit_comer (event.Leave game) fits comes = let wrong : false ≡ true = comes in absurd cc
+
+pub well_step : (setting : Setting) (lanes : List Lane) (e : Event) → HandsFit e → AreWell lanes → AreWell (step setting lanes e)
+well_step setting lanes e fits well game within =
+    elim (cases_step setting lanes e) [
+      | inl stays ↦
+          let same = ap length stays.is in
+          rw stays.is (well game (omega (arith, same, within)))
+      | inr (inl comes) ↦
+          let more = ap length comes.is ∙ length_push lanes (comer e) in
+          rw comes.is (elim (cases_lt game (length lanes)) [
+            | inl less ↦ rw (get_or_append_left lanes (comer e ∷ []) no_lane game less) (well game less)
+            | inr past ↦ rw (get_or_push lanes (comer e) no_lane game (omega (arith, more, past, within))) (well_empty (row_in e) (fit_comer e fits comes.admits))
+          ])
+      | inr (inr changes) ↦
+          let same = ap length changes.is ∙ length-set lanes (game_of e) (changed lanes e) in
+          rw changes.is (elim (cases_eq game (game_of e)) [
+            | inl here ↦
+                rw (get_or-set_at lanes (game_of e) game (changed lanes e) no_lane here changes.met.within)
+                (well_after (lane_of lanes (game_of e)) e (well (game_of e) changes.met.within) fits changes.met.allowed)
+            | inr other ↦
+                rw (get_or-set_other lanes (game_of e) game (changed lanes e) no_lane other) (well game (omega (arith, same, within)))
+          ])
+    ]
+
+pub well_run : (setting : Setting) (lanes : List Lane) (events : List Event) → All HandsFit events → AreWell lanes → AreWell (run_of setting lanes events)
+well_run setting lanes [] fit well = well
+well_run setting lanes (e ∷ events) fit well =
+    well_run setting (step setting lanes e) events (All-tail HandsFit e events fit) (well_step setting lanes e (All-head HandsFit e events fit) well)
+
+pub opened_lane : (rows : List GameRow) (game : ℕ) → lane_of (opened_lanes rows) game ≡ empty_lane (slice_index_or rows game (row_of [] 0))
+opened_lane rows game = get_or-map empty_lane rows game (row_of [] 0)
+
+pub well_opened : (rows : List GameRow) → IsFitPlan rows → AreWell (opened_lanes rows)
+well_opened rows plan game within =
+    let many : length (opened_lanes rows) ≡ length rows = length-map rows empty_lane in
     rw (opened_lane rows game)
-    (right_empty (row_at rows game) (small_quota (row_at rows game) (All-get_or (λ row. is_fit_row row ≡ true) rows game (row_of [] 0) within plan.rows_fit)))
+    (well_empty (slice_index_or rows game (row_of [] 0)) (All-get_or (λ row. is_fit_row row ≡ true) rows game (row_of [] 0) (omega (arith, many, within)) plan.rows_fit))

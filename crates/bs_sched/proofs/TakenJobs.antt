@@ -17,20 +17,21 @@ on_err (Ok value) next is = is
 on_err (Err error) next is = next is
 
 pub record SameBoards (x y : Lane) : Type 0 where
-  pub quota : y.row.quota ≡ x.row.quota
+  pub row : y.row ≡ x.row
+  pub flag : y.is_open ≡ x.is_open
   pub game : y.game ≡ x.game
 
 taken_boards : (x : Lane) (worker : ℕ) (k : JobKind) (p : ℕ) → SameBoards x (with_taken worker k p x)
-taken_boards x worker kind.Begin p = record { quota = refl; game = refl }
-taken_boards x worker kind.Part p = record { quota = refl; game = refl }
-taken_boards x worker kind.Join p = record { quota = refl; game = refl }
+taken_boards x worker kind.Begin p = record { row = refl; flag = refl; game = refl }
+taken_boards x worker kind.Part p = record { row = refl; flag = refl; game = refl }
+taken_boards x worker kind.Join p = record { row = refl; flag = refl; game = refl }
 
 pub same_boards : {A B : Type 0} (result : Result A B) (x y : Lane) (worker : ℕ) (k : JobKind) (p : ℕ) → OnOk result (y ≡ with_taken worker k p x)
     → OnErr result (y ≡ x) → SameBoards x y
 same_boards (Ok value) x y worker k p taken same =
     let boards = taken_boards x worker k p in
-    record { quota = ap (λ (z : Lane). z.row.quota) taken ∙ boards.quota; game = ap (λ (z : Lane). z.game) taken ∙ boards.game }
-same_boards (Err error) x y worker k p taken same = record { quota = ap (λ (z : Lane). z.row.quota) same; game = ap (λ (z : Lane). z.game) same }
+    record { row = ap (λ (z : Lane). z.row) taken ∙ boards.row; flag = ap (λ (z : Lane). z.is_open) taken ∙ boards.flag; game = ap (λ (z : Lane). z.game) taken ∙ boards.game }
+same_boards (Err error) x y worker k p taken same = record { row = ap (λ (z : Lane). z.row) same; flag = ap (λ (z : Lane). z.is_open) same; game = ap (λ (z : Lane). z.game) same }
 
 -- there is room for a record where one may come
 pub taken_room : {A B : Type 0} (result : Result A B) (x y : Lane) (before after : ℕ) → OnOk result (0 < after) → OnErr result (y ≡ x)

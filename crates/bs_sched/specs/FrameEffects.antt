@@ -33,6 +33,8 @@ abbrev pub frame_effect : Event → Lane → FrameEffect
 frame_effect (event.Hand game command) x = Keeps
 frame_effect (event.Take worker job) x = taken_effect job.kind job.part
 frame_effect (event.Put worker job) x = brought_effect job.kind x
+frame_effect (event.Admit row) x = Keeps
+frame_effect (event.Leave game) x = Keeps
 
 -- by the parts of the game's move; a block that is drawn has the pool's next number
 abbrev pub numbers_after : FrameEffect → List (Option ℕ) → Ledger → List (Option ℕ)

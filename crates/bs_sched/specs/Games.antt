@@ -1,7 +1,7 @@
--- All games of a plan, with the blocks in which their records lie.
-use Rattle.std.specs.Prelude.{ℕ, Bool, false, if◌then◌else◌, List, length, map, replicate, [], slice_index_or, slice_set, None}
+-- All stays of a core, with the blocks in which their records lie.
+use Rattle.std.specs.Prelude.{ℕ, Bool, false, if◌then◌else◌, List, length, map, replicate, [], ◌∷◌, ◌++◌, slice_index_or, slice_set, None}
 use Rattle.bs_board.specs.plans.Plan.{GameRow, row_of}
-use Rattle.bs_pool.specs.Ledger.{ledger_of}
+use Rattle.bs_pool.specs.Ledger.{Ledger, ledger_of, size, without_reservation}
 use Rattle.bs_heap.specs.Packing.{no_packing}
 use Rattle.bs_game.specs.declared.reply.Effect.{Effect}
 use Rattle.bs_game.specs.declared.reply.Effect.TheVariants as effect
@@ -12,12 +12,12 @@ use Rattle.bs_fiber.specs.declared.job.JobName.{JobName}
 use Rattle.bs_sched.specs.declared.event.Event.{Event}
 use Rattle.bs_sched.specs.declared.event.Event.TheVariants as event
 use Rattle.bs_sched.specs.Lane.{Lane, empty_lane, lane_view, lane_command, forked, goes_on, with_put}
-use Rattle.bs_sched.specs.Machine.{game_of, lane_of, lane_effect}
-use Rattle.bs_sched.specs.PlanBlocks.{reservations_of}
-use Rattle.bs_sched.specs.Storage.{Storage, stored, with_parts, with_frame, without_frames}
+use Rattle.bs_sched.specs.Machine.{Setting, lane_of, lane_effect}
+use Rattle.bs_sched.specs.PlanBlocks.{reservations_of, with_row}
+use Rattle.bs_sched.specs.Storage.{Storage, frame_tag, record_tag, stored, with_parts, with_frame, without_frames}
 
 pub record GamesView : Type 0 where
-  -- the games of the plan
+  -- the rows of the plan, the first stays
   pub rows : List GameRow
   -- workers are numbered from 0 to this; the last is the caller's own
   pub workers : ℕ
@@ -38,6 +38,10 @@ opened cap blocks workers rows =
       lanes = map (λ row. empty_lane row) rows;
       storage = record { packings = map (λ _. no_packing) rows; frames = map (λ _. []) rows; pool = ledger_of (replicate blocks None) (reservations_of cap rows) };
     }
+
+-- what the core was opened with
+abbrev pub setting_of : ℕ → GamesView → Setting
+setting_of cap games = record { cap = cap; blocks = size games.storage.pool; workers = games.workers }
 
 -- what the answer to the lane's command does to the records of its game
 abbrev pub answer_effect : Lane → Effect
@@ -73,17 +77,39 @@ storage_put kind.Join cap game x storage = storage_answered kind.Join cap game x
 abbrev pub put_storage : ℕ → JobName → Lane → Storage → Storage
 put_storage cap job x storage = storage_put job.kind cap job.game x storage
 
-abbrev pub storage_after : ℕ → Event → Lane → Storage → Storage
-storage_after cap (event.Hand game command) x storage = storage
-storage_after cap (event.Take worker job) x storage = taken_storage job x storage
-storage_after cap (event.Put worker job) x storage = put_storage cap job x storage
+-- who comes has no record, and its blocks are set aside
+abbrev pub with_stay : ℕ → ℕ → GameRow → Storage → Storage
+with_stay cap game row storage =
+    record {
+      packings = storage.packings ++ no_packing ∷ [];
+      frames = storage.frames ++ [] ∷ [];
+      pool = with_row cap game row storage.pool;
+    }
+
+-- who leaves gives back what was set aside under both its tags
+abbrev pub pool_left : ℕ → Ledger → Ledger
+pool_left game pool = without_reservation (frame_tag game) (without_reservation (record_tag game) pool)
+
+abbrev pub unreserved_storage : ℕ → Storage → Storage
+unreserved_storage game storage = record { packings = storage.packings; frames = storage.frames; pool = pool_left game storage.pool }
+
+-- its records go first
+abbrev pub without_stay : ℕ → ℕ → Storage → Storage
+without_stay cap game storage = unreserved_storage game (stored cap game effect.Drop storage)
+
+abbrev pub storage_after : ℕ → Event → List Lane → Storage → Storage
+storage_after cap (event.Hand game command) lanes storage = storage
+storage_after cap (event.Take worker job) lanes storage = taken_storage job (lane_of lanes job.game) storage
+storage_after cap (event.Put worker job) lanes storage = put_storage cap job (lane_of lanes job.game) storage
+storage_after cap (event.Admit row) lanes storage = with_stay cap (length lanes) row storage
+storage_after cap (event.Leave game) lanes storage = without_stay cap game storage
 
 -- the games after an event that is enabled
 abbrev pub after : ℕ → GamesView → Event → GamesView
 after cap games e =
     record games {
       lanes = lane_effect games.lanes e;
-      storage = storage_after cap e (lane_of games.lanes (game_of e)) games.storage;
+      storage = storage_after cap e games.lanes games.storage;
     }
 
 -- the games after a job was brought back; by whom does not matter

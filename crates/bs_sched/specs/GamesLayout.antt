@@ -1,5 +1,5 @@
--- How the games of a plan lie in their fields.
-use Rattle.std.specs.Prelude.{◌≡◌, ℕ, ◌+◌, ◌≤◌, ◌<◌, true, List, [], ◌∷◌, length, map, slice_index_or}
+-- How the stays of a core lie in their fields.
+use Rattle.std.specs.Prelude.{◌≡◌, ℕ, ◌+◌, ◌≤◌, ◌<◌, true, false, if◌then◌else◌, List, [], ◌∷◌, length, map, slice_index_or}
 use Rattle.std.specs.List.{range_with_len}
 use Rattle.bs_board.specs.plans.Plan.{GameRow, IsFitPlan}
 use Rattle.bs_board.specs.records.Record.{record_of}
@@ -9,10 +9,12 @@ use Rattle.bs_heap.specs.Heap.{Heap, empty_heap}
 use Rattle.bs_heap.specs.HeldBlocks.{IsKeptIn}
 use Rattle.bs_sched.specs.declared.games.Games.TheInside.{Inside}
 use Rattle.bs_sched.specs.declared.cores.TheConstants.{LEAST_CAPACITY}
+use Rattle.bs_sched.specs.declared.plan_blocks.TheConstants.{MOST_STAYS}
+use Rattle.bs_sched.specs.Reserved.{AreReserved}
 use Rattle.bs_sched.specs.Games.{GamesView}
 use Rattle.bs_sched.specs.Insides.{may_answer}
-use Rattle.bs_sched.specs.Lane.{Lane}
-use Rattle.bs_sched.specs.Machine.{lane_of}
+use Rattle.bs_sched.specs.Lane.{Lane, is_quiet}
+use Rattle.bs_sched.specs.Machine.{lane_of, open_blocks}
 use Rattle.bs_sched.specs.Frames.{FramesView, AreFramesOf, no_frames}
 use Rattle.bs_sched.specs.Storage.{Storage, frame_tag, record_tag}
 
@@ -56,7 +58,7 @@ pub record IsHeapOf (cap own : ℕ) (x : Lane) (heap : Heap) (pool : Ledger) : T
   pub room : may_answer x.stage ≡ true → 0 < heap.index_room
 
 abbrev pub AreHeapsOf : ℕ → List Lane → List Heap → Ledger → Type 0
-AreHeapsOf cap lanes heaps pool = (game : ℕ) → game < length lanes → IsHeapOf cap (record_tag game) (lane_of lanes game) (heap_of heaps game) pool
+AreHeapsOf cap lanes heaps pool = (game : ℕ) → game < length lanes → (lane_of lanes game).is_open ≡ true → IsHeapOf cap (record_tag game) (lane_of lanes game) (heap_of heaps game) pool
 
 -- the frame blocks of so many games that were just opened: none
 abbrev pub opened_frames : ℕ → List FramesView
@@ -66,14 +68,32 @@ abbrev pub frames_at : List FramesView → ℕ → FramesView
 frames_at frames game = slice_index_or frames game (no_frames 0)
 
 abbrev pub AreAllFramesOf : List Lane → List FramesView → Ledger → Type 0
-AreAllFramesOf lanes frames pool = (game : ℕ) → game < length lanes → AreFramesOf (frame_tag game) (lane_of lanes game) (frames_at frames game) pool
+AreAllFramesOf lanes frames pool = (game : ℕ) → game < length lanes → (lane_of lanes game).is_open ≡ true → AreFramesOf (frame_tag game) (lane_of lanes game) (frames_at frames game) pool
+
+-- of a stay that has left no record is kept, and it has nothing to do
+pub record IsGoneAt (x : Lane) (heap : Heap) : Type 0 where
+  pub none : heap.records ≡ []
+  pub quiet : is_quiet x ≡ true
+
+abbrev pub AreGone : List Lane → List Heap → Type 0
+AreGone lanes heaps = (game : ℕ) → game < length lanes → (lane_of lanes game).is_open ≡ false → IsGoneAt (lane_of lanes game) (heap_of heaps game)
+
+-- the rows of the stays that are open, from that row on
+abbrev pub open_rows_from : ℕ → List Lane → List ℕ
+open_rows_from game [] = []
+open_rows_from game (x ∷ lanes) = if x.is_open then game ∷ open_rows_from (game + 1) lanes else open_rows_from (game + 1) lanes
+
+abbrev pub open_rows : List Lane → List ℕ
+open_rows = open_rows_from 0
 
 pub record IsSound (cap : ℕ) {at : ℕ} (c : Inside at) : Type 0 where
   pub wide : LEAST_CAPACITY ≤ cap
   pub plan : IsFitPlan c.rows
-  pub lanes : length c.fibers.items ≡ length c.rows
-  pub quotas : map (λ x. x.row.quota) c.fibers.items ≡ map (λ row. row.quota) c.rows
+  pub few : length c.fibers.items ≤ MOST_STAYS
+  pub listed : c.open_rows.items ≡ open_rows c.fibers.items
   pub many : length c.heaps.items ≡ length c.fibers.items
   pub heaps : AreHeapsOf cap c.fibers.items c.heaps.items c.pool
   pub as_many : length c.frames.items ≡ length c.fibers.items
   pub frames : AreAllFramesOf c.fibers.items c.frames.items c.pool
+  pub gone : AreGone c.fibers.items c.heaps.items
+  pub reserved : AreReserved cap (open_blocks cap c.fibers.items) c.fibers.items c.pool.reservations

@@ -24,6 +24,8 @@ abbrev pub handed_after : List (List Command) → Event → List (List Command)
 handed_after handed (event.Hand game command) = slice_set handed game (handed_to handed game ++ command ∷ [])
 handed_after handed (event.Take worker job) = handed
 handed_after handed (event.Put worker job) = handed
+handed_after handed (event.Admit row) = handed ++ [] ∷ []
+handed_after handed (event.Leave game) = handed
 
 -- the commands that these events hand in, each with its game's row, in their order
 abbrev pub hands_of : List Event → List (ℕ × Command)
@@ -31,6 +33,8 @@ hands_of [] = []
 hands_of (event.Hand game command ∷ events) = (game, command) ∷ hands_of events
 hands_of (event.Take worker job ∷ events) = hands_of events
 hands_of (event.Put worker job ∷ events) = hands_of events
+hands_of (event.Admit row ∷ events) = hands_of events
+hands_of (event.Leave game ∷ events) = hands_of events
 
 -- the lane has the replies and the boards of these commands in a game by itself
 pub record IsServed (row : GameRow) (commands : List Command) (x : Lane) : Type 0 where

@@ -1,13 +1,15 @@
 -- How a lane lies in the fields of its fiber.
-use Rattle.std.specs.Prelude.{◌≡◌, ℕ, ◌-◌, ◌≤◌, ◌<◌, Bool, true, false, if◌then◌else◌, List, [], length, map, take, drop, slice_index_or, All, Some, None, vec_len, vec_capacity}
+use Rattle.std.specs.Prelude.{◌≡◌, ℕ, ◌-◌, ◌≤◌, ◌<◌, Bool, true, false, if◌then◌else◌, List, [], length, map, take, drop, slice_index_or, All, Some, None, IfSome, is_some, not, vec_len, vec_capacity}
 use Rattle.std.specs.List.{list_all}
 use Rattle.bs_board.specs.declared.limits.TheConstants.{MOST_QUOTA}
 use Rattle.bs_board.specs.declared.commands.command.Command.{Command}
 use Rattle.bs_game.specs.Alone.{Course, course_of}
 use Rattle.bs_game.specs.Answer.{Fits}
+use Rattle.bs_game.specs.Game.{game_charge, last_board}
 use Rattle.bs_game.specs.declared.view.View.{View}
 use Rattle.bs_fiber.specs.Work.{goes, moved_part, parts_of, snakes_in}
 use Rattle.bs_sched.specs.declared.fiber.Fiber.TheInside.{Inside}
+use Rattle.bs_sched.specs.declared.fiber.Last.{Last}
 use Rattle.bs_sched.specs.declared.fiber.Slot.{Slot}
 use Rattle.bs_sched.specs.declared.fiber.Slot.TheVariants as slot
 use Rattle.bs_sched.specs.declared.stage.Stage.{Stage}
@@ -26,7 +28,7 @@ abbrev pub lane_in : Inside → Lane
 lane_in f =
     record {
       row = f.row;
-      is_open = true;
+      is_open = not (is_some f.left);
       taken = take f.begun f.commands.items;
       waiting = drop f.begun f.commands.items;
       replies = f.replies.items;
@@ -77,9 +79,16 @@ pub record HasRoom (f : Inside) : Type 0 where
   pub reply : may_answer f.stage ≡ true → vec_len f.replies < vec_capacity f.replies
   pub parts : 4 ≤ vec_capacity f.slots
 
+-- how the stay ended
+pub record IsLastOf (f : Inside) (last : Last) : Type 0 where
+  pub board : last.board ≡ last_board (course_in f).game
+  pub charge : last.charge ≡ game_charge (course_in f).game
+
 pub record IsFiber (f : Inside) : Type 0 where
   pub begun : f.begun ≤ length f.commands.items
   pub at : is_idle f.stage ≡ false → 0 < f.begun
+  -- who has left has nothing to do; its last board and its charge are kept
+  pub closed : is_some f.left ≡ true → (is_idle f.stage ≡ true) × (f.begun ≡ length f.commands.items) × IfSome f.left (IsLastOf f)
   pub small : f.row.quota ≤ MOST_QUOTA
   pub fits : All Fits f.commands.items
   pub replies : f.replies.items ≡ (course_in f).replies

@@ -1,141 +1,157 @@
--- The isolation law: among whatever other games, with however many workers and in whatever order
--- jobs are taken and brought back, each game comes to just what it comes to alone.
-use Rattle.std.specs.Prelude.{◌≡◌, ◌≢◌, ℕ, ◌<◌, ◌≤◌, Bool, true, ◌&&◌, if◌then◌else◌, List, [], ◌∷◌, length, map, nat_eq, All}
+-- The isolation law: among whatever other stays that come and go, with however many workers and in
+-- whatever order jobs are taken and brought back, each stay comes to just what it comes to alone.
+use Rattle.std.specs.Prelude.{◌≡◌, ℕ, ◌<◌, ◌≤◌, Bool, true, false, ◌&&◌, if◌then◌else◌, List, [], ◌∷◌, ◌++◌, length, map, All}
+use Rattle.bs_board.specs.declared.boards.board.Board.{Board}
 use Rattle.bs_board.specs.declared.commands.command.Command.{Command}
-use Rattle.bs_board.specs.declared.commands.command.Command.TheVariants as command
-use Rattle.bs_board.specs.declared.commands.reply.Reply.TheVariants.{Refused}
-use Rattle.bs_board.specs.declared.commands.reply.Refusal.TheVariants as refusal
-use Rattle.bs_board.specs.plans.Plan.{GameRow, IsFitPlan}
-use Rattle.bs_board.specs.records.Record.{record_of}
+use Rattle.bs_board.specs.plans.Plan.{GameRow, IsFitPlan, is_fit_row}
 use Rattle.bs_game.specs.Answer.{Fits}
-use Rattle.bs_game.specs.Game.{Game, game_charge}
-use Rattle.bs_fiber.specs.declared.job.JobKind.TheVariants as kind
+use Rattle.bs_game.specs.Game.{game_charge, last_board}
 use Rattle.bs_fiber.specs.declared.job.JobName.{JobName}
+use Rattle.std.specs.Prelude.{Option}
 use Rattle.bs_sched.specs.declared.event.Event.{Event}
 use Rattle.bs_sched.specs.declared.event.Event.TheVariants as event
-use Rattle.bs_sched.specs.Games.{row_at}
 use Rattle.bs_sched.specs.Courses.{IsRight}
 use Rattle.bs_sched.specs.Handed.{commands_of}
-use Rattle.bs_sched.specs.Lane.{Lane, empty_lane}
-use Rattle.bs_sched.specs.Machine.{lane_of, game_of, is_enabled, step, run_of}
+use Rattle.bs_sched.specs.Lane.{Lane, empty_lane, is_quiet, kept_of}
+use Rattle.bs_sched.specs.Machine.{Setting, lane_of, is_admit, row_in, is_named, is_enabled, step, run_of, open_blocks}
 
--- The core of all games, and the core of one game alone.
+-- The core of all stays, and the core of one stay alone.
 
 -- the lanes of a core that was opened over these rows
 abbrev pub opened_lanes : List GameRow → List Lane
-opened_lanes = map (λ row. empty_lane row)
+opened_lanes = map empty_lane
 
--- those of a core that was opened over that game's row alone
-abbrev pub lone_lanes : List GameRow → ℕ → List Lane
-lone_lanes rows game = opened_lanes (row_at rows game ∷ [])
-
--- the job in a core whose only row is its game's
+-- the job in a core whose only row is its stay's
 abbrev pub alone_job : JobName → JobName
 alone_job job = record job { game = 0 }
 
--- the event there: the game that it names is row 0
+-- the event there: the stay that it names is row 0
 abbrev pub alone_event : Event → Event
 alone_event (event.Hand game command) = event.Hand 0 command
 alone_event (event.Take worker job) = event.Take worker (alone_job job)
 alone_event (event.Put worker job) = event.Put worker (alone_job job)
+alone_event (event.Admit row) = event.Admit row
+alone_event (event.Leave game) = event.Leave 0
 
--- the event names that game, and is enabled
-abbrev pub is_accepted : ℕ → ℕ → List Lane → Event → Bool
-is_accepted workers game lanes e = nat_eq (game_of e) game && is_enabled workers lanes e
+-- the event names that stay, and is enabled; who is admitted is not named by that
+abbrev pub is_accepted : Setting → ℕ → List Lane → Event → Bool
+is_accepted setting game lanes e = is_named game e && is_enabled setting lanes e
 
--- of these events those that name the game and are enabled where they come, as they are in the core
--- of that game alone
-abbrev pub accepted : ℕ → ℕ → List Lane → List Event → List Event
-accepted workers game lanes [] = []
-accepted workers game lanes (e ∷ events) =
-    if is_accepted workers game lanes e
-    then alone_event e ∷ accepted workers game (step workers lanes e) events
-    else accepted workers game (step workers lanes e) events
+-- of these events those that name the stay and are enabled where they come, as they are in the core
+-- of that stay alone
+abbrev pub accepted : Setting → ℕ → List Lane → List Event → List Event
+accepted setting game lanes [] = []
+accepted setting game lanes (e ∷ events) =
+    if is_accepted setting game lanes e
+    then alone_event e ∷ accepted setting game (step setting lanes e) events
+    else accepted setting game (step setting lanes e) events
+
+-- the rows of the stays that these events open, in their order
+abbrev pub admitted : Setting → List Lane → List Event → List GameRow
+admitted setting lanes [] = []
+admitted setting lanes (e ∷ events) =
+    if is_admit e && is_enabled setting lanes e
+    then row_in e ∷ admitted setting (step setting lanes e) events
+    else admitted setting (step setting lanes e) events
 
 -- each event is enabled where it comes
-abbrev pub are_enabled : ℕ → List Lane → List Event → Bool
-are_enabled workers lanes [] = true
-are_enabled workers lanes (e ∷ events) = is_enabled workers lanes e && are_enabled workers (step workers lanes e) events
+abbrev pub are_enabled : Setting → List Lane → List Event → Bool
+are_enabled setting lanes [] = true
+are_enabled setting lanes (e ∷ events) = is_enabled setting lanes e && are_enabled setting (step setting lanes e) events
 
--- what all events make of the core of all games
-abbrev pub shared_run : ℕ → List GameRow → List Event → List Lane
-shared_run workers rows events = run_of workers (opened_lanes rows) events
+-- what all events make of the core of all stays
+abbrev pub shared_run : Setting → List GameRow → List Event → List Lane
+shared_run setting rows events = run_of setting (opened_lanes rows) events
 
--- the events that the core of that game alone gets
-abbrev pub own_events : ℕ → List GameRow → List Event → ℕ → List Event
-own_events workers rows events game = accepted workers game (opened_lanes rows) events
+-- the row of a stay, of the plan or admitted in the events
+abbrev pub row_made : Setting → List GameRow → List Event → ℕ → GameRow
+row_made setting rows events game = (lane_of (shared_run setting rows events) game).row
+
+-- a core that was opened over that stay's row alone
+abbrev pub lone_lanes : Setting → List GameRow → List Event → ℕ → List Lane
+lone_lanes setting rows events game = opened_lanes (row_made setting rows events game ∷ [])
+
+-- the events that it gets
+abbrev pub own_events : Setting → List GameRow → List Event → ℕ → List Event
+own_events setting rows events game = accepted setting game (opened_lanes rows) events
 
 -- and what they make of it
-abbrev pub lone_run : ℕ → List GameRow → List Event → ℕ → List Lane
-lone_run workers rows events game = run_of workers (lone_lanes rows game) (own_events workers rows events game)
+abbrev pub lone_run : Setting → List GameRow → List Event → ℕ → List Lane
+lone_run setting rows events game = run_of setting (lone_lanes setting rows events game) (own_events setting rows events game)
 
--- the bytes of the records that are kept of a game
-abbrev pub records_of : Game → List (List ℕ)
-records_of game = map record_of game
+-- What holds of each stay.
 
--- What holds of each game.
+-- the last board and the charge, which can be told also of a stay that has left
+abbrev pub final_board : Lane → Option Board
+final_board x = last_board x.game
 
--- Its accepted events, run in a core of that game alone with as many workers, are all enabled where
--- they come. They end in the very same lane: the same replies, the same commands taken and waiting,
--- the same boards, and the same stage, with the same worker having each job that is out. So the
--- records have the same bytes, and the same charge.
-pub record RunsAlone (workers : ℕ) (rows : List GameRow) (events : List Event) (game : ℕ) : Type 0 where
-  pub enabled : are_enabled workers (lone_lanes rows game) (own_events workers rows events game) ≡ true
-  pub lane : lane_of (lone_run workers rows events game) 0 ≡ lane_of (shared_run workers rows events) game
-  pub records : records_of (lane_of (lone_run workers rows events game) 0).game ≡ records_of (lane_of (shared_run workers rows events) game).game
-  pub charge : game_charge (lane_of (lone_run workers rows events game) 0).game ≡ game_charge (lane_of (shared_run workers rows events) game).game
+abbrev pub final_charge : Lane → ℕ
+final_charge x = game_charge x.game
 
--- An event that names another game leaves its lane as it is, enabled or not.
-abbrev pub OthersLeave : ℕ → List Lane → ℕ → Type 0
-OthersLeave workers lanes game = (e : Event) → game_of e ≢ game → lane_of (step workers lanes e) game ≡ lane_of lanes game
+-- Its accepted events, run in a core of that stay alone with as many blocks and workers, are all
+-- enabled where they come. They end in the very same lane: the same row, open or not, the same
+-- replies, the same commands taken and waiting, the same boards, and the same stage, with the same
+-- worker having each job that is out. So the records that are kept have the same bytes, and the
+-- final board and charge are the same.
+pub record RunsAlone (setting : Setting) (rows : List GameRow) (events : List Event) (game : ℕ) : Type 0 where
+  pub enabled : are_enabled setting (lone_lanes setting rows events game) (own_events setting rows events game) ≡ true
+  pub lane : lane_of (lone_run setting rows events game) 0 ≡ lane_of (shared_run setting rows events) game
+  pub records : kept_of (lane_of (lone_run setting rows events game) 0) ≡ kept_of (lane_of (shared_run setting rows events) game)
+  pub board : final_board (lane_of (lone_run setting rows events game) 0) ≡ final_board (lane_of (shared_run setting rows events) game)
+  pub charge : final_charge (lane_of (lone_run setting rows events game) 0) ≡ final_charge (lane_of (shared_run setting rows events) game)
 
--- the commands that these events hand to the game
-abbrev pub own_commands : ℕ → List Event → List Command
-own_commands game [] = []
-own_commands game (event.Hand row command ∷ events) =
-    if nat_eq row game then command ∷ own_commands game events else own_commands game events
-own_commands game (event.Take worker job ∷ events) = own_commands game events
-own_commands game (event.Put worker job ∷ events) = own_commands game events
+-- An event that does not name a stay leaves its lane as it is, enabled or not; so does the coming
+-- of another.
+abbrev pub OthersLeave : Setting → List Lane → ℕ → Type 0
+OthersLeave setting lanes game = (e : Event) → is_named game e ≡ false → lane_of (step setting lanes e) game ≡ lane_of lanes game
 
--- a command that is handed in is within the limits
+-- the commands that these events hand in, in their order
+abbrev pub commands_in : List Event → List Command
+commands_in [] = []
+commands_in (event.Hand game command ∷ events) = command ∷ commands_in events
+commands_in (event.Take worker job ∷ events) = commands_in events
+commands_in (event.Put worker job ∷ events) = commands_in events
+commands_in (event.Admit row ∷ events) = commands_in events
+commands_in (event.Leave game ∷ events) = commands_in events
+
+-- a command that is handed in and a row that is admitted are within the limits
 abbrev pub HandsFit : Event → Type 0
 HandsFit (event.Hand game command) = Fits command
 HandsFit (event.Take worker job) = Unit {0}
 HandsFit (event.Put worker job) = Unit {0}
+HandsFit (event.Admit row) = is_fit_row row ≡ true
+HandsFit (event.Leave game) = Unit {0}
 
--- Its commands are those that were handed to it, in their order. Its replies and its boards are
--- those of the course that the answered ones take, from nothing and one after the other.
-pub record KeepsCourse (rows : List GameRow) (events : List Event) (game : ℕ) (x : Lane) : Type 0 where
-  pub quota : x.row.quota ≡ (row_at rows game).quota
-  pub commands : commands_of x ≡ own_commands game events
+-- a stay that has left has nothing to do; what it has answered is on the course of its commands
+pub record IsWell (x : Lane) : Type 0 where
   pub right : IsRight x
+  pub closed : x.is_open ≡ false → is_quiet x ≡ true
+
+-- Its commands are those that were handed to it while it was open, in their order. Its replies and
+-- its boards are those of the course that the answered ones take, from nothing and one after the
+-- other.
+pub record KeepsCourse (setting : Setting) (rows : List GameRow) (events : List Event) (game : ℕ) : Type 0 where
+  pub commands : commands_of (lane_of (shared_run setting rows events) game) ≡ commands_in (own_events setting rows events game)
+  pub well : IsWell (lane_of (shared_run setting rows events) game)
 
 -- The law.
 
-pub record IsIsolated (workers : ℕ) (rows : List GameRow) (events : List Event) (game : ℕ) : Type 0 where
-  pub alone : RunsAlone workers rows events game
-  pub others : OthersLeave workers (shared_run workers rows events) game
-  pub course : KeepsCourse rows events game (lane_of (shared_run workers rows events) game)
+pub record IsIsolated (setting : Setting) (rows : List GameRow) (events : List Event) (game : ℕ) : Type 0 where
+  pub alone : RunsAlone setting rows events game
+  pub others : OthersLeave setting (shared_run setting rows events) game
+  pub course : KeepsCourse setting rows events game
 
--- For every plan within its limits, every number of workers, every list of events whose commands
--- are within the limits, and every game.
+-- the rows are those of the plan, and then those admitted; the blocks that are set aside for the
+-- open stays are there
+pub record AreHosted (setting : Setting) (rows : List GameRow) (events : List Event) : Type 0 where
+  pub made : map (λ x. x.row) (shared_run setting rows events) ≡ rows ++ admitted setting (opened_lanes rows) events
+  pub room : open_blocks setting.cap (shared_run setting rows events) ≤ setting.blocks
+  pub stays : (game : ℕ) → game < length (shared_run setting rows events) → IsIsolated setting rows events game
+
+-- For every plan within its limits whose reservations fit, every number of workers, every list of
+-- events whose commands and rows are within the limits, and every stay of the plan or admitted in
+-- the events.
 abbrev pub IsolationLaw : Type 0
 IsolationLaw =
-    (workers : ℕ) (rows : List GameRow) (events : List Event) (game : ℕ) → IsFitPlan rows → All HandsFit events → game < length rows
-    → IsIsolated workers rows events game
-
--- Jobs can be taken: whoever of the workers asks, a command that was handed to a new game is begun
--- and answered.
-
-abbrev pub begin_of_only : JobName
-begin_of_only = record { game = 0; kind = kind.Begin; part = 0 }
-
-abbrev pub showing : ℕ → List Event
-showing worker = event.Hand 0 command.Show ∷ event.Take worker begin_of_only ∷ event.Put worker begin_of_only ∷ []
-
-pub record AnswersShow (workers worker : ℕ) (row : GameRow) : Type 0 where
-  pub enabled : are_enabled workers (opened_lanes (row ∷ [])) (showing worker) ≡ true
-  pub reply : (lane_of (shared_run workers (row ∷ []) (showing worker)) 0).replies ≡ Refused refusal.NoGame ∷ []
-
-abbrev pub ShowLaw : Type 0
-ShowLaw = (workers worker : ℕ) (row : GameRow) → worker ≤ workers → AnswersShow workers worker row
+    (setting : Setting) (rows : List GameRow) (events : List Event) → IsFitPlan rows → open_blocks setting.cap (opened_lanes rows) ≤ setting.blocks
+    → All HandsFit events → AreHosted setting rows events

@@ -1,38 +1,43 @@
 -- The core is its journal: what the list of its events says of its games.
 use Rattle.std.specs.Prelude.{◌≡◌, ℕ, ◌+◌, ◌≤◌, ◌<◌, false, true, List, length, sum_by, All, Some, None, vec_len, vec_capacity}
-use Rattle.bs_pool.specs.Ledger.{size}
 use Rattle.bs_sched.specs.declared.cores.Core.TheInside.{Inside}
 use Rattle.bs_sched.specs.declared.stage.Stage.{Stage}
 use Rattle.bs_sched.specs.declared.stage.Stage.TheVariants as stage
 use Rattle.bs_sched.specs.declared.stage.PartState.{PartState}
 use Rattle.bs_sched.specs.declared.stage.PartState.TheVariants as part
+use Rattle.bs_sched.specs.Registry.{AreKnownApart, TellsStays}
 use Rattle.bs_sched.specs.Busy.{IsBusyTable}
 use Rattle.bs_sched.specs.Core.{CoreView}
-use Rattle.bs_sched.specs.Games.{opened}
-use Rattle.bs_sched.specs.Isolation.{HandsFit, IsIsolated, are_enabled, opened_lanes, shared_run}
+use Rattle.bs_sched.specs.Games.{setting_of, opened}
+use Rattle.bs_sched.specs.Isolation.{AreHosted, HandsFit, are_enabled, opened_lanes, shared_run}
 use Rattle.bs_sched.specs.Lane.{Lane}
+use Rattle.bs_sched.specs.Machine.{Setting}
 use Rattle.bs_sched.specs.Memory.{games_run}
 use Rattle.bs_sched.specs.SharedMemory.{IsHosted, SharesMemory}
 
--- how many blocks there are
-abbrev pub blocks_of : CoreView → ℕ
-blocks_of core = size core.games.storage.pool
+-- what the core was opened with
+abbrev pub setting_in : ℕ → CoreView → Setting
+setting_in cap core = setting_of cap core.games
 
 -- Every event of the journal was enabled where it came, and the games are those that the events
 -- make of a core that was just opened over the same plan, blocks and workers. Only that the core
 -- was told to fail is no event.
 pub record IsItsJournal (cap : ℕ) (core : CoreView) : Type 0 where
-  pub hosted : IsHosted cap (blocks_of core) core.games.rows
+  pub hosted : IsHosted (setting_in cap core) core.games.rows
   pub fits : All HandsFit core.journal
-  pub enabled : are_enabled core.games.workers (opened_lanes core.games.rows) core.journal ≡ true
-  pub games : games_run cap (opened cap (blocks_of core) core.games.workers core.games.rows) core.journal ≡ record core.games { failed = false }
+  pub enabled : are_enabled (setting_in cap core) (opened_lanes core.games.rows) core.journal ≡ true
+  pub games : games_run (setting_in cap core) (opened cap (setting_in cap core).blocks core.games.workers core.games.rows) core.journal ≡ record core.games { failed = false }
 
--- So its lanes are those of which the isolation law speaks: of each game, and of the memory that
+-- So its lanes are those of which the isolation law speaks: of each stay, and of the memory that
 -- all of them share.
 pub record KeepsApart (cap : ℕ) (core : CoreView) : Type 0 where
-  pub lanes : shared_run core.games.workers core.games.rows core.journal ≡ core.games.lanes
-  pub games : (game : ℕ) → game < length core.games.rows → IsIsolated core.games.workers core.games.rows core.journal game
-  pub memory : SharesMemory cap (blocks_of core) core.games.workers core.games.rows core.journal
+  pub lanes : shared_run (setting_in cap core) core.games.rows core.journal ≡ core.games.lanes
+  pub stays : AreHosted (setting_in cap core) core.games.rows core.journal
+  pub memory : SharesMemory (setting_in cap core) core.games.rows core.journal
+  -- the rows are those of the plan and of the admissions; a stay was handed the commands that name
+  -- it
+  pub told : TellsStays (setting_in cap core) core.games.rows core.journal
+  pub names : AreKnownApart core.games.lanes
 
 -- The jobs that are out. Each of them comes back at most once.
 

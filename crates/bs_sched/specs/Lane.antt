@@ -1,10 +1,11 @@
--- One game of the machine: its lane, and what taking a job and bringing one back make of it.
-use Rattle.std.specs.Prelude.{◌≡◌, ℕ, ◌-◌, Bool, true, false, ◌&&◌, ◌||◌, if◌then◌else◌, List, [], ◌∷◌, ◌++◌, length, take, drop, replicate, nat_eq, nat_lt, slice_index_or, slice_set, Some, None}
+-- One stay of the machine: its lane, and what taking a job and bringing one back make of it.
+use Rattle.std.specs.Prelude.{◌≡◌, ℕ, ◌-◌, Bool, true, false, ◌&&◌, ◌||◌, if◌then◌else◌, List, [], ◌∷◌, ◌++◌, length, take, drop, replicate, nat_eq, nat_lt, slice_index_or, slice_set, map, Some, None}
 use Rattle.std.specs.List.{list_all}
 use Rattle.bs_board.specs.declared.commands.command.Command.{Command}
 use Rattle.bs_board.specs.declared.commands.command.Command.TheVariants as command
 use Rattle.bs_board.specs.declared.commands.reply.Reply.{Reply}
 use Rattle.bs_board.specs.plans.Plan.{GameRow, row_of}
+use Rattle.bs_board.specs.records.Record.{record_of}
 use Rattle.bs_game.specs.declared.view.View.{View}
 use Rattle.bs_game.specs.Answer.{Outcome, answer_to}
 use Rattle.bs_game.specs.Game.{Game, last_board}
@@ -33,7 +34,7 @@ pub record Lane : Type 0 where
 abbrev pub empty_lane : GameRow → Lane
 empty_lane row = record { row = row; is_open = true; taken = []; waiting = []; replies = []; game = []; stage = stage.Idle; parts = [] }
 
--- a row in which no game was opened
+-- a row in which no stay was opened
 abbrev pub no_lane : Lane
 no_lane = empty_lane (row_of [] 0)
 
@@ -165,3 +166,22 @@ is_quiet x = is_idle x.stage && nat_eq (length x.waiting) 0
 
 abbrev pub HasNoneReady : Lane → Type 0
 HasNoneReady x = (job : JobKind) (p : ℕ) → is_ready x job p ≡ false
+
+-- Coming and going.
+
+-- nothing is left to do, and it has not left before
+abbrev pub may_leave : Lane → Bool
+may_leave x = x.is_open && is_quiet x
+
+-- The stay is closed. Its boards stand as they were, so its last board and its charge can still be
+-- read; no record of them is kept.
+abbrev pub closed_lane : Lane → Lane
+closed_lane x = record x { is_open = false }
+
+-- the bytes of the records that are kept of a game
+abbrev pub records_of : Game → List (List ℕ)
+records_of game = map record_of game
+
+-- those of a stay: none once it has left
+abbrev pub kept_of : Lane → List (List ℕ)
+kept_of x = if x.is_open then records_of x.game else []

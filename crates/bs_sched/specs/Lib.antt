@@ -1,4 +1,6 @@
+pub mod Registry
 pub mod Busy
+pub mod Coming
 pub mod Games
 pub mod GamesLayout
 pub mod Core
@@ -18,6 +20,7 @@ pub mod Memory
 pub mod Parts
 pub mod PlanBlocks
 pub mod Putting
+pub mod Reserved
 pub mod SharedMemory
 pub mod Slots
 pub mod Storage

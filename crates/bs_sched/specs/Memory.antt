@@ -1,4 +1,4 @@
--- The bytes of the records of all games, in the blocks of one pool. No lane knows of them.
+-- The bytes of the records of all stays, in the blocks of one pool. No lane knows of them.
 use Rattle.std.specs.Prelude.{◌≡◌, ℕ, false, Some, if◌then◌else◌, List, [], ◌∷◌, ◌++◌, length, fold, replicate, option_map, unwrap_or, slice_index_or, slice_set}
 use Rattle.bs_block.specs.Bytes.{range, padded}
 use Rattle.bs_block.specs.Rounding.{rounded}
@@ -12,7 +12,7 @@ use Rattle.bs_sched.specs.declared.event.Event.{Event}
 use Rattle.bs_sched.specs.declared.event.Event.TheVariants as event
 use Rattle.bs_sched.specs.Games.{GamesView, opened, after, put_effect, storage_after}
 use Rattle.bs_sched.specs.Lane.{Lane}
-use Rattle.bs_sched.specs.Machine.{lane_of, game_of, lane_effect, is_enabled}
+use Rattle.bs_sched.specs.Machine.{Setting, lane_of, game_of, lane_effect, is_enabled}
 use Rattle.bs_sched.specs.Storage.{Storage, packing_of}
 
 -- the bytes of each block, by its number
@@ -58,40 +58,42 @@ CanDraw cap (effect.Add bytes) packing pool = fits cap (rounded (length bytes)) 
 CanDraw cap effect.Trim packing pool = Unit {0}
 CanDraw cap effect.Drop packing pool = Unit {0}
 
--- what an event that is enabled does to the records of the game that it names
+-- what an event that is enabled does to the records of the stay that it names: who leaves keeps
+-- none, as at the end of a game
 abbrev pub effect_at : Event → Lane → Effect
 effect_at (event.Hand game command) x = effect.Keep
 effect_at (event.Take worker job) x = effect.Keep
 effect_at (event.Put worker job) x = put_effect job.kind x
+effect_at (event.Admit row) x = effect.Keep
+effect_at (event.Leave game) x = effect.Drop
 
 -- The machine with its memory.
 
 abbrev pub world_after : ℕ → World → Event → World
 world_after cap world e =
-    let x = lane_of world.lanes (game_of e) in
     record {
       lanes = lane_effect world.lanes e;
-      storage = storage_after cap e x world.storage;
-      memory = memory_with cap (next_number world.storage.pool) (effect_at e x) (packing_of world.storage (game_of e)) world.memory;
+      storage = storage_after cap e world.lanes world.storage;
+      memory = memory_with cap (next_number world.storage.pool) (effect_at e (lane_of world.lanes (game_of e))) (packing_of world.storage (game_of e)) world.memory;
     }
 
 -- an event that is not enabled changes nothing
-abbrev pub world_step : ℕ → ℕ → World → Event → World
-world_step cap workers world e = if is_enabled workers world.lanes e then world_after cap world e else world
+abbrev pub world_step : Setting → World → Event → World
+world_step setting world e = if is_enabled setting world.lanes e then world_after setting.cap world e else world
 
-abbrev pub world_run : ℕ → ℕ → World → List Event → World
-world_run cap workers = fold (world_step cap workers)
+abbrev pub world_run : Setting → World → List Event → World
+world_run setting = fold (world_step setting)
 
 -- no block has a byte at first
-abbrev pub opened_world : ℕ → ℕ → ℕ → List GameRow → World
-opened_world cap blocks workers rows =
-    let games = opened cap blocks workers rows in
-    record { lanes = games.lanes; storage = games.storage; memory = replicate blocks [] }
+abbrev pub opened_world : Setting → List GameRow → World
+opened_world setting rows =
+    let games = opened setting.cap setting.blocks setting.workers rows in
+    record { lanes = games.lanes; storage = games.storage; memory = replicate setting.blocks [] }
 
 -- The same events in the games as the core's calls see them, of which no clause tells the bytes.
 
-abbrev pub games_step : ℕ → GamesView → Event → GamesView
-games_step cap games e = if is_enabled games.workers games.lanes e then after cap games e else games
+abbrev pub games_step : Setting → GamesView → Event → GamesView
+games_step setting games e = if is_enabled setting games.lanes e then after setting.cap games e else games
 
-abbrev pub games_run : ℕ → GamesView → List Event → GamesView
-games_run cap = fold (games_step cap)
+abbrev pub games_run : Setting → GamesView → List Event → GamesView
+games_run setting = fold (games_step setting)

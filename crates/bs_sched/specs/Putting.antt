@@ -6,7 +6,7 @@ use Rattle.bs_sched.specs.declared.event.Event.TheVariants as event
 use Rattle.bs_sched.specs.Games.{GamesView}
 use Rattle.bs_sched.specs.Inputs.{input_of, names_for}
 use Rattle.bs_sched.specs.Lane.{Lane, is_out}
-use Rattle.bs_sched.specs.Machine.{lane_of, is_enabled}
+use Rattle.bs_sched.specs.Machine.{lane_of, is_enabled_there}
 
 -- the worker has the job, and it read what the lane has for it
 pub record IsOwnOf (x : Lane) (worker : ℕ) (brought : TicketView) : Type 0 where
@@ -15,12 +15,12 @@ pub record IsOwnOf (x : Lane) (worker : ℕ) (brought : TicketView) : Type 0 whe
 
 -- the worker has the job out, and it read what the core has for it
 pub record IsOwnInput (games : GamesView) (worker : ℕ) (brought : TicketView) : Type 0 where
-  pub out : is_enabled games.workers games.lanes (event.Put worker brought.input.job) ≡ true
+  pub out : is_enabled_there games.workers games.lanes (event.Put worker brought.input.job) ≡ true
   pub input : brought.input ≡ input_of (lane_of games.lanes brought.input.job.game) worker brought.input.job
 
 -- and its frame blocks are those that went out with it
 pub record IsOwn (games : GamesView) (worker : ℕ) (brought : TicketView) : Type 0 where
-  pub out : is_enabled games.workers games.lanes (event.Put worker brought.input.job) ≡ true
+  pub out : is_enabled_there games.workers games.lanes (event.Put worker brought.input.job) ≡ true
   pub input : brought.input ≡ input_of (lane_of games.lanes brought.input.job.game) worker brought.input.job
   pub frames : names_of brought.frames ≡ names_for games.storage brought.input.job
 

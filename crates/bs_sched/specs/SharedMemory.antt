@@ -1,40 +1,41 @@
--- The isolation law of the memory: all games keep their records in the blocks of one pool, and none
+-- The isolation law of the memory: all stays keep their records in the blocks of one pool, and none
 -- notices the others there.
 use Rattle.std.specs.Prelude.{◌≡◌, ◌≢◌, ℕ, ◌+◌, ◌≤◌, ◌<◌, true, false, List, [], ◌∷◌, length, map, slice_get, sum_by, Option, Some, None, All}
 use Rattle.bs_board.specs.plans.Plan.{GameRow, IsFitPlan}
 use Rattle.bs_heap.specs.Charge.{blocks_for}
 use Rattle.bs_heap.specs.HeldBlocks.{Holds, next_number}
 use Rattle.bs_heap.specs.PackedPlaces.{AreApart}
-use Rattle.bs_heap.specs.Packing.{Packing, numbers_of}
+use Rattle.bs_heap.specs.Packing.{Packing, numbers_of, no_packing}
 use Rattle.bs_pool.specs.Ledger.{size, free, least_free}
+use Rattle.bs_pool.specs.Reservations.{all_reserved}
 use Rattle.bs_sched.specs.declared.cores.TheConstants.{LEAST_CAPACITY}
 use Rattle.bs_fiber.specs.declared.job.JobKind.TheVariants as kind
 use Rattle.bs_sched.specs.declared.event.Event.{Event}
 use Rattle.bs_sched.specs.declared.event.Event.TheVariants as event
 use Rattle.bs_sched.specs.declared.plan_blocks.TheConstants.{FRAME_BLOCKS}
 use Rattle.bs_sched.specs.Frames.{known}
-use Rattle.bs_sched.specs.Games.{GamesView, row_at, opened}
-use Rattle.bs_sched.specs.Isolation.{HandsFit, own_events, records_of, shared_run}
-use Rattle.bs_sched.specs.Lane.{is_playing}
-use Rattle.bs_sched.specs.Machine.{lane_of, game_of, is_enabled}
+use Rattle.bs_sched.specs.Games.{GamesView, opened}
+use Rattle.bs_sched.specs.Isolation.{HandsFit, own_events, row_made, shared_run}
+use Rattle.bs_sched.specs.Lane.{is_playing, kept_of}
+use Rattle.bs_sched.specs.Machine.{Setting, lane_of, game_of, is_admit, is_named, is_enabled, open_blocks}
 use Rattle.bs_sched.specs.Memory.{World, block_in, bytes_at, effect_at, CanDraw, world_step, world_run, opened_world, games_run}
 use Rattle.bs_sched.specs.PlanBlocks.{blocks_of_all}
 use Rattle.bs_sched.specs.Storage.{packing_of, frames_of, record_tag, frame_tag}
 
--- the blocks are large enough, and so many that each game has those that are set aside for it
-pub record IsHosted (cap blocks : ℕ) (rows : List GameRow) : Type 0 where
-  pub wide : LEAST_CAPACITY ≤ cap
+-- the blocks are large enough, and so many that each game of the plan has those that are set aside
+-- for it
+pub record IsHosted (setting : Setting) (rows : List GameRow) : Type 0 where
+  pub wide : LEAST_CAPACITY ≤ setting.cap
   pub plan : IsFitPlan rows
-  pub room : blocks_of_all cap rows ≤ blocks
+  pub room : blocks_of_all setting.cap rows ≤ setting.blocks
 
--- what all events make of the core of all games
-abbrev pub shared_world : ℕ → ℕ → ℕ → List GameRow → List Event → World
-shared_world cap blocks workers rows events = world_run cap workers (opened_world cap blocks workers rows) events
+-- what all events make of the core of all stays
+abbrev pub shared_world : Setting → List GameRow → List Event → World
+shared_world setting rows events = world_run setting (opened_world setting rows) events
 
--- what a game's accepted events make of a core of that game alone, with as many blocks
-abbrev pub lone_world : ℕ → ℕ → ℕ → List GameRow → List Event → ℕ → World
-lone_world cap blocks workers rows events game =
-    world_run cap workers (opened_world cap blocks workers (row_at rows game ∷ [])) (own_events workers rows events game)
+-- what a stay's accepted events make of a core of that stay alone, with as many blocks
+abbrev pub lone_world : Setting → List GameRow → List Event → ℕ → World
+lone_world setting rows events game = world_run setting (opened_world setting (row_made setting rows events game ∷ [])) (own_events setting rows events game)
 
 -- those games, with the lanes and the storage of the world
 abbrev pub games_with : GamesView → World → GamesView
@@ -43,33 +44,36 @@ games_with games world = record games { lanes = world.lanes; storage = world.sto
 abbrev pub packing_in : World → ℕ → Packing
 packing_in world game = packing_of world.storage game
 
--- the numbers of the blocks in which a game's records lie
+-- the numbers of the blocks in which a stay's records lie
 abbrev pub numbers_in : World → ℕ → List ℕ
 numbers_in world game = numbers_of (packing_in world game)
 
--- the bytes that the memory has at the places of a game's records
+-- the bytes that the memory has at the places of a stay's records
 abbrev pub bytes_in : World → ℕ → List (List ℕ)
 bytes_in world game = map (bytes_at world.memory) (packing_in world game).places
 
--- the numbers of the blocks of the move that a game is at
+-- the numbers of the blocks of the move that a stay is at
 abbrev pub frames_in : World → ℕ → List ℕ
 frames_in world game = known (frames_of world.storage game)
 
--- how many blocks the moves of all games hold
+-- how many blocks the moves of all stays hold
 abbrev pub all_framed : List (List (Option ℕ)) → ℕ
 all_framed = sum_by (λ numbers. length (known numbers))
 
--- how many blocks the records of all games hold
+-- how many blocks the records of all stays hold
 abbrev pub all_held : List Packing → ℕ
 all_held = sum_by (λ packing. length (numbers_of packing))
 
--- The blocks of all games. Each of the pool's is free, holds records of a game, or is a part's of
--- the move that a game is at, and none is in two of these lists, so no records of two games share a
--- byte. One that is free has no byte. The blocks of a move's parts are its own tag's, four at most;
--- a game that is at no move has none. Where an event needs a block there is a free one.
-pub record SharesBlocks (cap blocks workers : ℕ) (world : World) : Type 0 where
-  pub size : size world.storage.pool ≡ blocks
-  pub counts : free world.storage.pool + (all_held world.storage.packings + all_framed world.storage.frames) ≡ blocks
+-- The blocks of all stays. Each of the pool's is free, holds records of a stay that is open, or is
+-- a part's of the move that a stay is at, and none is in two of these lists, so no records of two
+-- stays share a byte. One that is free has no byte. The blocks of a move's parts are its own tag's,
+-- four at most; a stay that is at no move has none. Where an event needs a block there is a free
+-- one. What is reserved is what the open stays are to have, and that fits.
+pub record SharesBlocks (setting : Setting) (world : World) : Type 0 where
+  pub size : size world.storage.pool ≡ setting.blocks
+  pub counts : free world.storage.pool + (all_held world.storage.packings + all_framed world.storage.frames) ≡ setting.blocks
+  pub closed : (game : ℕ) → game < length world.lanes → (lane_of world.lanes game).is_open ≡ false
+      → (packing_in world game ≡ no_packing) × (frames_in world game ≡ [])
   pub apart : (game other : ℕ) → game < length world.lanes → other < length world.lanes → game ≢ other
       → All (λ number. All (λ n. n ≢ number) (numbers_in world other)) (numbers_in world game)
   pub records_apart : (game other : ℕ) → game < length world.lanes → other < length world.lanes → game ≢ other
@@ -78,48 +82,49 @@ pub record SharesBlocks (cap blocks workers : ℕ) (world : World) : Type 0 wher
   pub frames : (game : ℕ) → game < length world.lanes → Holds (frame_tag game) (frames_in world game) world.storage.pool
   pub frames_apart : (game other : ℕ) → game < length world.lanes → other < length world.lanes → game ≢ other
       → All (λ number. All (λ n. n ≢ number) (frames_in world other)) (frames_in world game)
-  -- a part's block holds no records, its own game's neither
+  -- a part's block holds no records, its own stay's neither
   pub frames_hold_none : (game other : ℕ) → game < length world.lanes → other < length world.lanes
       → All (λ number. All (λ n. n ≢ number) (numbers_in world other)) (frames_in world game)
   pub few_frames : (game : ℕ) → game < length world.lanes → length (frames_in world game) ≤ FRAME_BLOCKS
   pub idle : (game : ℕ) → game < length world.lanes → is_playing (lane_of world.lanes game).stage ≡ false → frames_in world game ≡ []
-  pub drawn : (worker game p : ℕ) → is_enabled workers world.lanes (event.Take worker (record { game = game; kind = kind.Part; part = p })) ≡ true
+  pub reserved : all_reserved world.storage.pool.reservations ≡ open_blocks setting.cap world.lanes
+  pub room : open_blocks setting.cap world.lanes ≤ setting.blocks
+  pub drawn : (worker game p : ℕ) → is_enabled setting world.lanes (event.Take worker (record { game = game; kind = kind.Part; part = p })) ≡ true
       → least_free world.storage.pool ≡ Some (next_number world.storage.pool)
-  pub draws : (e : Event) → is_enabled workers world.lanes e ≡ true
-      → CanDraw cap (effect_at e (lane_of world.lanes (game_of e))) (packing_in world (game_of e)) world.storage.pool
+  pub draws : (e : Event) → is_admit e ≡ false → is_enabled setting world.lanes e ≡ true
+      → CanDraw setting.cap (effect_at e (lane_of world.lanes (game_of e))) (packing_in world (game_of e)) world.storage.pool
 
--- The records of one game. Their bytes stand at their places, which lie inside its blocks and one
--- behind the other. The blocks are the game's own, and no more than are set aside for it.
+-- The records of one stay. Their bytes stand at their places, which lie inside its blocks and one
+-- behind the other. The blocks are the stay's own, and no more than are set aside for it.
 pub record KeepsBytes (cap : ℕ) (world : World) (game : ℕ) : Type 0 where
-  pub bytes : bytes_in world game ≡ records_of (lane_of world.lanes game).game
+  pub bytes : bytes_in world game ≡ kept_of (lane_of world.lanes game)
   pub places : AreApart (packing_in world game)
   pub own : Holds (record_tag game) (numbers_in world game) world.storage.pool
   pub few : length (numbers_in world game) ≤ blocks_for cap (lane_of world.lanes game).row.quota
 
--- An event that names another game leaves its records where they are, and each of their bytes.
-pub record LeavesBytes (cap workers : ℕ) (world : World) (game : ℕ) (e : Event) : Type 0 where
-  pub packing : packing_in (world_step cap workers world e) game ≡ packing_in world game
-  pub bytes : bytes_in (world_step cap workers world e) game ≡ bytes_in world game
+-- An event that does not name a stay leaves its records where they are, and each of their bytes.
+pub record LeavesBytes (setting : Setting) (world : World) (game : ℕ) (e : Event) : Type 0 where
+  pub packing : packing_in (world_step setting world e) game ≡ packing_in world game
+  pub bytes : bytes_in (world_step setting world e) game ≡ bytes_in world game
 
 -- Run alone, its accepted events leave the very same bytes at the places that its records have
 -- there.
-pub record IsIsolatedInMemory (cap blocks workers : ℕ) (rows : List GameRow) (events : List Event) (game : ℕ) : Type 0 where
-  pub keeps : KeepsBytes cap (shared_world cap blocks workers rows events) game
-  pub alone : bytes_in (lone_world cap blocks workers rows events game) 0 ≡ bytes_in (shared_world cap blocks workers rows events) game
-  pub others : (e : Event) → game_of e ≢ game → LeavesBytes cap workers (shared_world cap blocks workers rows events) game e
+pub record IsIsolatedInMemory (setting : Setting) (rows : List GameRow) (events : List Event) (game : ℕ) : Type 0 where
+  pub keeps : KeepsBytes setting.cap (shared_world setting rows events) game
+  pub alone : bytes_in (lone_world setting rows events game) 0 ≡ bytes_in (shared_world setting rows events) game
+  pub others : (e : Event) → is_named game e ≡ false → LeavesBytes setting (shared_world setting rows events) game e
 
 -- The games as the core's calls see them go just this way, and its lanes are those of which the
 -- isolation law speaks.
-pub record SharesMemory (cap blocks workers : ℕ) (rows : List GameRow) (events : List Event) : Type 0 where
-  pub core : games_run cap (opened cap blocks workers rows) events
-      ≡ games_with (opened cap blocks workers rows) (shared_world cap blocks workers rows events)
-  pub lanes : (shared_world cap blocks workers rows events).lanes ≡ shared_run workers rows events
-  pub blocks_shared : SharesBlocks cap blocks workers (shared_world cap blocks workers rows events)
-  pub games : (game : ℕ) → game < length rows → IsIsolatedInMemory cap blocks workers rows events game
+pub record SharesMemory (setting : Setting) (rows : List GameRow) (events : List Event) : Type 0 where
+  pub core : games_run setting (opened setting.cap setting.blocks setting.workers rows) events
+      ≡ games_with (opened setting.cap setting.blocks setting.workers rows) (shared_world setting rows events)
+  pub lanes : (shared_world setting rows events).lanes ≡ shared_run setting rows events
+  pub blocks_shared : SharesBlocks setting (shared_world setting rows events)
+  pub games : (game : ℕ) → game < length (shared_run setting rows events) → IsIsolatedInMemory setting rows events game
 
 -- For every plan that is hosted, every number of workers, and every list of events whose commands
--- are within the limits.
+-- and rows are within the limits.
 abbrev pub MemoryLaw : Type 0
 MemoryLaw =
-    (cap blocks workers : ℕ) (rows : List GameRow) (events : List Event) → IsHosted cap blocks rows → All HandsFit events
-    → SharesMemory cap blocks workers rows events
+    (setting : Setting) (rows : List GameRow) (events : List Event) → IsHosted setting rows → All HandsFit events → SharesMemory setting rows events

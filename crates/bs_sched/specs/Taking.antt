@@ -1,5 +1,5 @@
 -- What a worker gets that asks for a job.
-use Rattle.std.specs.Prelude.{◌≡◌, ℕ, ◌≤◌, ◌<◌, true, false, List, length, Some, None}
+use Rattle.std.specs.Prelude.{◌≡◌, ℕ, ◌≤◌, ◌<◌, true, false, List, length, slice_index_or, Some, None}
 use Rattle.bs_fiber.specs.Tickets.{TicketView, IsFresh, names_of}
 use Rattle.bs_fiber.specs.declared.job.JobName.{JobName}
 use Rattle.bs_sched.specs.declared.event.Event.TheVariants as event
@@ -11,7 +11,7 @@ use Rattle.bs_sched.specs.Core.{CoreView, core_after}
 use Rattle.bs_sched.specs.Inputs.{input_of, names_for}
 use Rattle.bs_sched.specs.Keyed.{IsKeyOf}
 use Rattle.bs_sched.specs.Lane.{Lane, HasNoneReady, is_ready}
-use Rattle.bs_sched.specs.Machine.{lane_of, is_busy, is_enabled}
+use Rattle.bs_sched.specs.Machine.{lane_of, is_busy, is_enabled_there}
 
 -- a job that some lane has for anybody
 pub record IsReadyJob (lanes : List Lane) (job : JobName) : Type 0 where
@@ -22,9 +22,13 @@ pub record IsReadyJob (lanes : List Lane) (job : JobName) : Type 0 where
 abbrev pub AreNoneReady : List Lane → Type 0
 AreNoneReady lanes = (game : ℕ) → game < length lanes → HasNoneReady (lane_of lanes game)
 
--- nobody can take anything in the games from that row on and before that one
-abbrev pub AreNoneReadyBetween : ℕ → ℕ → List Lane → Type 0
-AreNoneReadyBetween from to lanes = (game : ℕ) → from ≤ game → game < to → HasNoneReady (lane_of lanes game)
+-- nobody can take anything in the stays that are open
+abbrev pub AreNoneOpenReady : List Lane → Type 0
+AreNoneOpenReady lanes = (game : ℕ) → game < length lanes → (lane_of lanes game).is_open ≡ true → HasNoneReady (lane_of lanes game)
+
+-- nobody can take anything in the stays that are listed from that place on and before that one
+abbrev pub AreNoneReadyBetween : ℕ → ℕ → List ℕ → List Lane → Type 0
+AreNoneReadyBetween from to rows lanes = (place : ℕ) → from ≤ place → place < to → HasNoneReady (lane_of lanes (slice_index_or rows place 0))
 
 abbrev pub FindsJob : ℕ → List Lane → Found → Type 0
 FindsJob worker lanes found.Busy = is_busy worker lanes ≡ true
@@ -44,13 +48,13 @@ pub record IsBusyWorker (old : CoreView) (worker : ℕ) (new : CoreView) : Type 
 pub record HasNothing (old : CoreView) (worker : ℕ) (new : CoreView) : Type 0 where
   pub failed : old.games.failed ≡ false
   pub free : is_busy worker old.games.lanes ≡ false
-  pub none : (job : JobName) → is_enabled old.games.workers old.games.lanes (event.Take worker job) ≡ false
+  pub none : (job : JobName) → is_enabled_there old.games.workers old.games.lanes (event.Take worker job) ≡ false
   pub same : new ≡ old
 
 -- the worker may take the job, and its ticket holds the core's own input
 pub record TakesJob (cap : ℕ) (old : CoreView) (worker : ℕ) (ticket : TicketView) (new : CoreView) : Type 0 where
   pub failed : old.games.failed ≡ false
-  pub enabled : is_enabled old.games.workers old.games.lanes (event.Take worker ticket.input.job) ≡ true
+  pub enabled : is_enabled_there old.games.workers old.games.lanes (event.Take worker ticket.input.job) ≡ true
   pub after : new ≡ core_after cap old (event.Take worker ticket.input.job)
   pub input : ticket.input ≡ input_of (lane_of new.games.lanes ticket.input.job.game) worker ticket.input.job
   -- its frame blocks are the game's own, and as their job is to find them

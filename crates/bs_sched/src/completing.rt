@@ -2,6 +2,7 @@
 ghost use Rattle.std.specs.Prelude.{◌≡◌, ℕ, ◌<◌, ◌↔◌, IsTrue, true, None, [], ◌∷◌, length, slice_index_or, IfErr, OnOk};
 ghost use Rattle.bs_fiber.specs.declared.job.JobKind.TheVariants as kind;
 ghost use Rattle.bs_sched.specs.Isolation.{are_enabled};
+ghost use Rattle.bs_sched.specs.Journal.{setting_in};
 ghost use Rattle.bs_sched.specs.Machine.{lane_of};
 ghost use Rattle.bs_sched.specs.Parts.{AreOwnParts, IsOwnPart, core_run, puts_of};
 
@@ -104,7 +105,7 @@ impl<const CAP: usize> Core<CAP> {
     #[tactic(auto, using(crate::proofs::OwnParts::all_enabled))]
     pub fn put_parts(&mut self, parts: ArrayVec<Option<Done<CAP>>, 4>) -> Result<(), Strays<CAP>>
         ensures own { OnOk result (AreOwnParts self.old.games parts.entry.items) }
-        ensures enabled { OnOk result (are_enabled self.old.games.workers self.old.games.lanes (puts_of parts.entry.items) ≡ true) }
+        ensures enabled { OnOk result (are_enabled (setting_in CAP self.old) self.old.games.lanes (puts_of parts.entry.items) ≡ true) }
         ensures ok { OnOk result (self.new ≡ core_run CAP self.old (puts_of parts.entry.items)) }
         ensures strays { IfErr result (λ strays. (strays.parts ≡ parts.entry) × (self.new ≡ self.old) × (AreOwnParts self.old.games parts.entry.items → ⊥)) }
     {

@@ -1,16 +1,14 @@
-//! The core: all games of a plan, and the journal of their events.
+//! The core: all stays, and the journal of their events.
 ghost use Rattle.std.specs.Prelude.{◌≡◌, ◌+◌, ◌<◌, ◌≤◌, [], ◌∷◌, ◌++◌, true, length, vec_len, vec_capacity, slice_index_or, map, IfOk, OnOk, OnErr};
 ghost use Rattle.std.specs.List.{list_all};
 ghost use Rattle.bs_board.specs.plans.Plan.{IsFitPlan};
-ghost use Rattle.bs_board.specs.records.Record.{record_of};
 ghost use Rattle.bs_game.specs.Game.{game_charge, last_board};
 ghost use Rattle.bs_pool.specs.Ledger.{free, size};
 ghost use Rattle.bs_sched.specs.Core.{core_after};
 ghost use Rattle.bs_sched.specs.Courses.{IsRight};
-ghost use Rattle.bs_sched.specs.Games.{row_at};
-ghost use Rattle.bs_sched.specs.Handed.{quota_of};
+ghost use Rattle.bs_sched.specs.Registry.{rows_in};
 ghost use Rattle.bs_sched.specs.Journal.{IsItsJournal, KeepsApart};
-ghost use Rattle.bs_sched.specs.Lane.{is_quiet};
+ghost use Rattle.bs_sched.specs.Lane.{is_quiet, kept_of};
 ghost use Rattle.bs_sched.specs.Machine.{lane_of};
 ghost use Rattle.bs_sched.specs.declared.event.Event.TheVariants as event;
 
@@ -39,7 +37,7 @@ pub const LEAST_CAPACITY: usize = 524_288;
 /// The largest worker number: an event has 32 bits for it.
 pub const MOST_WORKERS: usize = 4_294_967_295;
 
-/// All games of a plan, with the blocks of their records and the journal of their events.
+/// All stays, with the blocks of their records and the journal of their events.
 #[derive(Drop)]
 pub struct Core<const CAP: usize> {
     pub(crate) games: Games<CAP>,
@@ -65,8 +63,8 @@ impl<const CAP: usize> Model for Core<CAP> {
 }
 
 /// Makes room for `more` events beside the completions of the jobs that are out. The sum can't
-/// overflow, since each of the 64 games has four jobs out at most; an overflow would be answered as
-/// want of memory.
+/// overflow, since each of the 64 open stays has four jobs out at most; an overflow would be
+/// answered as want of memory.
 pub(crate) fn reserve_events(
     journal: &mut Vec<Event>,
     out: usize,
@@ -92,9 +90,10 @@ pub(crate) fn note(journal: &mut Vec<Event>, event: Event)
 }
 
 impl<const CAP: usize> Core<CAP> {
-    /// Queues a command for the game of that row. After want of memory the core is unchanged.
+    /// Queues a command for the open stay of that row. After want of memory the core is unchanged.
     pub fn hand(&mut self, alloc: Global, game: usize, command: Command) -> Result<(), AllocError>
-        requires { game < length self.old.games.lanes }
+        requires game { game < length self.old.games.lanes }
+        requires open { (lane_of self.old.games.lanes game).is_open ≡ true }
         ensures ok { OnOk result (self.new ≡ core_after CAP self.old (event.Hand game command)) }
         ensures err { OnErr result (self.new ≡ self.old) }
     {
@@ -103,7 +102,8 @@ impl<const CAP: usize> Core<CAP> {
 
     /// Queues a shared command without copying it: the core and its journal each keep a handle.
     pub fn hand_shared(&mut self, game: usize, command: &SharedCommand) -> Result<(), AllocError>
-        requires { game < length self.old.games.lanes }
+        requires game { game < length self.old.games.lanes }
+        requires open { (lane_of self.old.games.lanes game).is_open ≡ true }
         ensures ok { OnOk result (self.new ≡ core_after CAP self.old (event.Hand game command.now)) }
         ensures err { OnErr result (self.new ≡ self.old) }
     {
@@ -112,7 +112,8 @@ impl<const CAP: usize> Core<CAP> {
 
     /// Queues a command by handles that were made before, so that the command itself is not read.
     pub fn hand_held(&mut self, game: usize, holders: Holders) -> Result<(), AllocError>
-        requires { game < length self.old.games.lanes }
+        requires game { game < length self.old.games.lanes }
+        requires open { (lane_of self.old.games.lanes game).is_open ≡ true }
         ensures ok { OnOk result (self.new ≡ core_after CAP self.old (event.Hand game holders)) }
         ensures err { OnErr result (self.new ≡ self.old) }
     {
@@ -139,9 +140,9 @@ impl<const CAP: usize> Core<CAP> {
         self.games.has_failed()
     }
 
-    /// All events in order: each command queued, each job taken and each job completed. Every event
-    /// was enabled when it happened, and applying them all to a newly opened core gives this core.
-    /// So the isolation law holds of the core between any two calls.
+    /// All events in order: each command queued, each job taken and completed, each stay opened and
+    /// closed. Every event was enabled when it happened, and applying them all to a newly opened
+    /// core gives this core. So the isolation law holds of the core between any two calls.
     pub fn journal(&self) -> &[Event]
         ensures value { result.now ≡ self.now.journal }
         ensures journal { IsItsJournal CAP self.now }
@@ -150,12 +151,11 @@ impl<const CAP: usize> Core<CAP> {
         self.journal.as_slice()
     }
 
-    /// The number of games in the plan.
+    /// The number of stays: those of the plan, and then those that were admitted.
     pub fn rows(&self) -> usize
         ensures value { result ≡ length self.now.games.lanes }
         ensures plan { IsFitPlan self.now.games.rows }
-        ensures lanes { length self.now.games.lanes ≡ length self.now.games.rows }
-        ensures quotas { map quota_of self.now.games.lanes ≡ map (λ row. row.quota) self.now.games.rows }
+        ensures made { map (λ x. x.row) self.now.games.lanes ≡ self.now.games.rows ++ rows_in self.now.journal }
     {
         self.games.count_rows()
     }
@@ -167,12 +167,20 @@ impl<const CAP: usize> Core<CAP> {
         self.games.workers()
     }
 
-    /// The game of that row.
+    /// The name and the quota of the stay of that row.
     pub fn row(&self, game: usize) -> &Row
         requires { game < length self.now.games.lanes }
-        ensures { result.now ≡ row_at self.now.games.rows game }
+        ensures { result.now ≡ (lane_of self.now.games.lanes game).row }
     {
         self.games.row(game)
+    }
+
+    /// Whether the stay of that row has not left.
+    pub fn is_open(&self, game: usize) -> bool
+        requires { game < length self.now.games.lanes }
+        ensures { result ≡ (lane_of self.now.games.lanes game).is_open }
+    {
+        self.games.is_open(game)
     }
 
     /// The commands that were taken, in their order.
@@ -192,10 +200,10 @@ impl<const CAP: usize> Core<CAP> {
         self.games.replies(game)
     }
 
-    /// How many records are kept.
+    /// How many records are kept: none of a stay that has left.
     pub fn count(&self, game: usize) -> usize
         requires { game < length self.now.games.lanes }
-        ensures { result ≡ length (lane_of self.now.games.lanes game).game }
+        ensures { result ≡ length (kept_of (lane_of self.now.games.lanes game)) }
     {
         self.games.count(game)
     }
@@ -203,13 +211,13 @@ impl<const CAP: usize> Core<CAP> {
     /// The record at that place among the kept ones, the oldest first.
     pub fn records(&self, game: usize, place: usize) -> &[u8]
         requires game { game < length self.now.games.lanes }
-        requires place { place < length (lane_of self.now.games.lanes game).game }
-        ensures { result.now ≡ slice_index_or (map record_of (lane_of self.now.games.lanes game).game) place [] }
+        requires place { place < length (kept_of (lane_of self.now.games.lanes game)) }
+        ensures { result.now ≡ slice_index_or (kept_of (lane_of self.now.games.lanes game)) place [] }
     {
         self.games.records(game, place)
     }
 
-    /// The newest board, if a game runs.
+    /// The newest board, if a game runs; of a stay that has left, its last board.
     pub fn board(&self, alloc: Global, game: usize) -> Result<Option<Board>, AllocError>
         requires { game < length self.now.games.lanes }
         ensures { IfOk result (λ board. board ≡ last_board (lane_of self.now.games.lanes game).game) }
@@ -217,7 +225,7 @@ impl<const CAP: usize> Core<CAP> {
         self.games.board(alloc, game)
     }
 
-    /// The charge of the kept records, in bytes.
+    /// The charge of the kept records, in bytes; of a stay that has left, its last charge.
     pub fn charge(&self, game: usize) -> u32
         requires { game < length self.now.games.lanes }
         ensures { result ≡ game_charge (lane_of self.now.games.lanes game).game }

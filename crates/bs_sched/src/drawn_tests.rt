@@ -93,6 +93,7 @@ fn hand(
     command: Command,
 ) -> Result<(), AllocError> {
     assert!(rt; game < core.rows());
+    assert!(rt; core.is_open(game));
     core.hand(alloc, game, command)
 }
 

@@ -9,7 +9,7 @@ ghost use Rattle.bs_sched.specs.Slots.{state_of, emptied, moved_in};
 
 use crate::stage::Stage;
 use bs_board::limits::MOST_QUOTA;
-use bs_board::{Command, Reply, Row};
+use bs_board::{Board, Command, Reply, Row};
 use bs_fiber::{Handed, JobKind, Moved, Parts, SharedCommand};
 use std::alloc::{AllocError, Global};
 use std::marker::Model;
@@ -28,9 +28,30 @@ pub(crate) enum Slot {
 /// The largest number of parts of a move.
 const MOST_PARTS: usize = 4;
 
+/// The final state of a stay: its last board, and the charge of its records.
+#[derive(Debug, Drop)]
+pub(crate) struct Last {
+    pub(crate) board: Option<Board>,
+    pub(crate) charge: u32,
+}
+
+impl Last {
+    /// Copies the last board.
+    pub(crate) fn copy_board(&self, alloc: Global) -> Result<Option<Board>, AllocError>
+        ensures { IfOk result (λ board. board ≡ self.now.board) }
+    {
+        match &self.board {
+            None => Ok(None),
+            Some(board) => Ok(Some(board.copy(alloc)?)),
+        }
+    }
+}
+
 #[derive(Debug, Drop)]
 pub(crate) struct Fiber {
     row: Row,
+    /// The final state of the stay, if it has left.
+    left: Option<Last>,
     /// All commands handed in. The first `begun` were taken.
     commands: Vec<Handed>,
     begun: usize,
@@ -175,9 +196,9 @@ impl Fiber {
     ghost use Rattle.std.specs.Prelude.{[], ◌++◌, ◌∷◌, nat_eq, take, drop, map, Option, slice_get};
     ghost use Rattle.bs_fiber.specs.declared.job.JobKind.TheVariants as kind;
     ghost use Rattle.bs_fiber.specs.Work.{moved_part, parts_of, snakes_in};
-    ghost use Rattle.bs_game.specs.Game.{last_board};
+    ghost use Rattle.bs_game.specs.Game.{game_charge, last_board};
     ghost use Rattle.bs_sched.specs.Inputs.{moved_parts_for};
-    ghost use Rattle.bs_sched.specs.Lane.{empty_lane, no_lane, with_waiting, with_taken, with_put, with_part_done, forked, answered, is_ready, is_out, occupies, lane_view, lane_command, lane_outcome, goes_on, is_idle, is_in_parts, is_quiet, HasNoneReady};
+    ghost use Rattle.bs_sched.specs.Lane.{empty_lane, closed_lane, no_lane, with_waiting, with_taken, with_put, with_part_done, forked, answered, is_ready, is_out, occupies, lane_view, lane_command, lane_outcome, goes_on, is_idle, is_in_parts, is_quiet, HasNoneReady};
     ghost use Rattle.bs_sched.specs.Courses.{IsRight};
 
     /// The fiber of a game with no command.
@@ -187,6 +208,7 @@ impl Fiber {
     {
         Ok(Fiber {
             row,
+            left: None,
             commands: Vec::new(alloc),
             begun: 0,
             replies: Vec::new(alloc),
@@ -195,8 +217,52 @@ impl Fiber {
         })
     }
 
+    /// Closes the stay. It takes no more commands.
+    pub(crate) fn close(&mut self, last: Last)
+        requires quiet { is_quiet self.old ≡ true }
+        requires board { last.board ≡ last_board self.old.game }
+        requires charge { last.charge ≡ game_charge self.old.game }
+        ensures { self.new ≡ closed_lane self.old }
+    {
+        self.left = Some(last);
+    }
+
+    /// Whether the stay has not left.
+    pub(crate) fn is_open(&self) -> bool
+        ensures { result ≡ self.now.is_open }
+    {
+        self.left.is_none()
+    }
+
+    /// The final state of the stay, if it has left.
+    pub(crate) fn last(&self) -> Option<&Last>
+        ensures { MatchOption result
+            (self.now.is_open ≡ true)
+            (λ last. (last.now.board ≡ last_board self.now.game) × (last.now.charge ≡ game_charge self.now.game)) }
+    {
+        match &self.left {
+            None => None,
+            Some(last) => Some(last),
+        }
+    }
+
+    /// Recalls for the prover that a stay that has left has nothing to do.
+    pub(crate) fn rests(&self)
+        ensures { self.now.is_open ≡ false → is_quiet self.now ≡ true }
+    {
+        let _begun = self.begun;
+    }
+
+    /// The name and the quota.
+    pub(crate) fn row(&self) -> &Row
+        ensures { result.now ≡ self.now.row }
+    {
+        &self.row
+    }
+
     /// Queues a command.
     pub(crate) fn hand(&mut self, command: Handed) -> Result<(), AllocError>
+        requires { self.old.is_open ≡ true }
         ensures ok { OnOk result (self.new ≡ with_waiting command self.old) }
         ensures err { OnErr result (self.new ≡ self.old) }
     {

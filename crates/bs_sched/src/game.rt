@@ -1,11 +1,12 @@
-//! One game of the core: its fiber, its heap and its frame blocks, and how an answer changes them.
-ghost use Rattle.std.specs.Prelude.{◌≡◌, ◌<◌, ◌≤◌, ◌↔◌, IsTrue, ℕ, true, length, map, slice_get, Some, ◌≢◌};
+//! One stay of the core: its fiber, its heap and its frame blocks, and how an answer changes them.
+ghost use Rattle.std.specs.Prelude.{◌≡◌, ◌<◌, ◌≤◌, ◌↔◌, IsTrue, ℕ, true, All, length, map, slice_get, Some, ◌≢◌};
 ghost use Rattle.std.specs.List.{list_all};
 ghost use Rattle.bs_game.specs.View.{answer_of};
 ghost use Rattle.bs_heap.specs.HeldBlocks.{LeavesOthers, all_given, next_number};
 ghost use Rattle.bs_sched.specs.Games.{answer_effect};
 ghost use Rattle.bs_sched.specs.GamesLayout.{IsHeapOf, KeepsBoards};
 ghost use Rattle.bs_sched.specs.Lane.{occupies, answered, forked, goes_on, is_out, with_part_done, is_quiet, lane_view, lane_command};
+ghost use Rattle.bs_sched.specs.Machine.{lane_of};
 ghost use Rattle.bs_sched.specs.Putting.{IsOwnOf};
 ghost use Rattle.bs_fiber.specs.declared.job.JobKind.TheVariants as kind;
 ghost use Rattle.bs_fiber.specs.Frames.{frame_of};
@@ -24,11 +25,18 @@ use bs_game::Answer;
 use bs_heap::TagHeap;
 use bs_pool::{Owned, Pool};
 
-/// Whether all commands of all games are answered.
-pub(crate) fn are_quiet(fibers: &[Fiber]) -> bool
-    ensures { result ≡ list_all is_quiet fibers.now }
+/// Whether all commands of the stays in those rows are answered.
+#[tactic(auto, using(crate::proofs::OpenRows::some_busy, crate::proofs::OpenRows::all_quiet))]
+pub(crate) fn are_quiet(fibers: &[Fiber], rows: &[u32]) -> bool
+    requires { All (λ game. game < length fibers.now) rows.now }
+    ensures { result ≡ list_all (λ game. is_quiet (lane_of fibers.now game)) rows.now }
 {
-    fibers.iter().all(|fiber| fiber.is_quiet())
+    for place in 0..rows.len() {
+        if !fibers[rows[place] as usize].is_quiet() {
+            return false;
+        }
+    }
+    true
 }
 
 /// Whether the worker has the ticket's job out, and the ticket holds the game's input for it.
@@ -38,7 +46,7 @@ pub(crate) fn is_own<const CAP: usize>(
     worker: usize,
     ticket: &Ticket<CAP>,
 ) -> bool
-    requires { KeepsBoards fiber.now heap.now }
+    requires { fiber.now.is_open ≡ true → KeepsBoards fiber.now heap.now }
     ensures { IsTrue result ↔ IsOwnOf fiber.now worker ticket.now }
 {
     let job = ticket.job();
@@ -50,6 +58,7 @@ pub(crate) fn is_own<const CAP: usize>(
         return false;
     }
     fiber.keeps();
+    fiber.rests();
     ticket.is_of(&expected(fiber, heap, fiber.command(), fiber.seq(), number, job))
 }
 

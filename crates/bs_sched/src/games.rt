@@ -1,16 +1,14 @@
-//! All games of a plan, with their fibers, their heaps and the pool. Clauses see them as lanes, and
+//! All stays of a core, with their fibers, their heaps and the pool. Clauses see them as lanes, and
 //! where their records lie.
 ghost use Rattle.std.specs.Prelude.{◌≡◌, ◌+◌, ◌≤◌, ◌<◌, [], true, length, slice_index_or, map, IfOk, OnOk, OnErr};
 ghost use Rattle.std.specs.List.{list_all};
 ghost use Rattle.bs_board.specs.plans.Plan.{IsFitPlan};
-ghost use Rattle.bs_board.specs.records.Record.{record_of};
 ghost use Rattle.bs_game.specs.Game.{game_charge, last_board};
 ghost use Rattle.bs_pool.specs.Ledger.{free, size};
 ghost use Rattle.bs_sched.specs.Courses.{IsRight};
-ghost use Rattle.bs_sched.specs.Games.{after, row_at};
+ghost use Rattle.bs_sched.specs.Games.{after};
 ghost use Rattle.bs_sched.specs.GamesLayout.{KeepsBoards};
-ghost use Rattle.bs_sched.specs.Handed.{quota_of};
-ghost use Rattle.bs_sched.specs.Lane.{is_quiet};
+ghost use Rattle.bs_sched.specs.Lane.{is_quiet, kept_of};
 ghost use Rattle.bs_sched.specs.Machine.{lane_of};
 ghost use Rattle.bs_sched.specs.declared.event.Event.TheVariants as event;
 
@@ -18,6 +16,7 @@ use crate::cores::Counts;
 use crate::fiber::Fiber;
 use crate::frames::Frames;
 use crate::game::are_quiet;
+use crate::plan_blocks::MOST_STAYS;
 use crate::records::decode_last;
 use bs_board::{Board, Reply, Row, Rows};
 use bs_fiber::Handed;
@@ -26,9 +25,10 @@ use bs_pool::Pool;
 use std::alloc::{AllocError, Global};
 use std::marker::Model;
 
-/// All games of a plan, with the blocks that their records are kept in.
+/// All stays of a core, with the blocks that their records are kept in.
 #[derive(Drop)]
 pub(crate) struct Games<const CAP: usize> {
+    /// The rows of the plan, the first stays.
     pub(crate) rows: Rows,
     /// The last worker's number, with as many bits as an event has for it.
     pub(crate) workers: u32,
@@ -36,6 +36,8 @@ pub(crate) struct Games<const CAP: usize> {
     pub(crate) fibers: Vec<Fiber>,
     pub(crate) heaps: Vec<TagHeap<CAP>>,
     pub(crate) frames: Vec<Frames<CAP>>,
+    /// The rows of the open stays, in ascending order. Only these are searched for jobs.
+    pub(crate) open_rows: Vec<u32>,
     pub(crate) pool: Pool<CAP>,
 }
 
@@ -50,9 +52,9 @@ impl<const CAP: usize> Model for Games<CAP> {
     ghost invariant = { λ c. IsSound CAP c };
 }
 
-/// The charge of the records of the fiber's game.
+/// The charge of the records of an open stay.
 #[tactic(auto, using(crate::proofs::ReadGames::charge_of_boards))]
-fn kept_charge<const CAP: usize>(fiber: &Fiber, heap: &TagHeap<CAP>) -> u32
+fn open_charge<const CAP: usize>(fiber: &Fiber, heap: &TagHeap<CAP>) -> u32
     requires { KeepsBoards fiber.now heap.now }
     ensures { result ≡ game_charge fiber.now.game }
 {
@@ -60,10 +62,50 @@ fn kept_charge<const CAP: usize>(fiber: &Fiber, heap: &TagHeap<CAP>) -> u32
     heap.charge()
 }
 
+/// The charge of the records of a stay; of one that has left, its last charge.
+fn kept_charge<const CAP: usize>(fiber: &Fiber, heap: &TagHeap<CAP>) -> u32
+    requires { fiber.now.is_open ≡ true → KeepsBoards fiber.now heap.now }
+    ensures { result ≡ game_charge fiber.now.game }
+{
+    match fiber.last() {
+        Some(last) => last.charge,
+        None => open_charge(fiber, heap),
+    }
+}
+
+/// The newest board of an open stay.
+fn open_board<const CAP: usize>(
+    alloc: Global,
+    fiber: &Fiber,
+    heap: &TagHeap<CAP>,
+) -> Result<Option<Board>, AllocError>
+    requires { KeepsBoards fiber.now heap.now }
+    ensures { IfOk result (λ board. board ≡ last_board fiber.now.game) }
+{
+    fiber.keeps();
+    decode_last(alloc, heap)
+}
+
+/// The newest board of a stay; of one that has left, its last board.
+fn kept_board<const CAP: usize>(
+    alloc: Global,
+    fiber: &Fiber,
+    heap: &TagHeap<CAP>,
+) -> Result<Option<Board>, AllocError>
+    requires { fiber.now.is_open ≡ true → KeepsBoards fiber.now heap.now }
+    ensures { IfOk result (λ board. board ≡ last_board fiber.now.game) }
+{
+    match fiber.last() {
+        Some(last) => last.copy_board(alloc),
+        None => open_board(alloc, fiber, heap),
+    }
+}
+
 impl<const CAP: usize> Games<CAP> {
-    /// Queues a command for that game.
+    /// Queues a command for that stay.
     pub(crate) fn hand(&mut self, game: usize, command: Handed) -> Result<(), AllocError>
-        requires { game < length self.old.lanes }
+        requires game { game < length self.old.lanes }
+        requires open { (lane_of self.old.lanes game).is_open ≡ true }
         ensures ok { OnOk result (self.new ≡ after CAP self.old (event.Hand game command)) }
         ensures err { OnErr result (self.new ≡ self.old) }
     {
@@ -86,8 +128,7 @@ impl<const CAP: usize> Games<CAP> {
     pub(crate) fn count_rows(&self) -> usize
         ensures value { result ≡ length self.now.lanes }
         ensures plan { IsFitPlan self.now.rows }
-        ensures lanes { length self.now.lanes ≡ length self.now.rows }
-        ensures quotas { map quota_of self.now.lanes ≡ map (λ row. row.quota) self.now.rows }
+        ensures few { result ≤ MOST_STAYS }
     {
         self.fibers.len()
     }
@@ -118,9 +159,17 @@ impl<const CAP: usize> Games<CAP> {
 
     pub(crate) fn row(&self, game: usize) -> &Row
         requires { game < length self.now.lanes }
-        ensures { result.now ≡ row_at self.now.rows game }
+        ensures { result.now ≡ (lane_of self.now.lanes game).row }
     {
-        &self.rows.as_slice()[game]
+        self.fibers[game].row()
+    }
+
+    /// Whether the stay of that row has not left.
+    pub(crate) fn is_open(&self, game: usize) -> bool
+        requires { game < length self.now.lanes }
+        ensures { result ≡ (lane_of self.now.lanes game).is_open }
+    {
+        self.fibers[game].is_open()
     }
 
     pub(crate) fn taken(&self, game: usize) -> &[Handed]
@@ -141,15 +190,15 @@ impl<const CAP: usize> Games<CAP> {
 
     pub(crate) fn count(&self, game: usize) -> usize
         requires { game < length self.now.lanes }
-        ensures { result ≡ length (lane_of self.now.lanes game).game }
+        ensures { result ≡ length (kept_of (lane_of self.now.lanes game)) }
     {
         self.heaps[game].count()
     }
 
     pub(crate) fn records(&self, game: usize, place: usize) -> &[u8]
         requires game { game < length self.now.lanes }
-        requires place { place < length (lane_of self.now.lanes game).game }
-        ensures { result.now ≡ slice_index_or (map record_of (lane_of self.now.lanes game).game) place [] }
+        requires place { place < length (kept_of (lane_of self.now.lanes game)) }
+        ensures { result.now ≡ slice_index_or (kept_of (lane_of self.now.lanes game)) place [] }
     {
         self.heaps[game].record(place)
     }
@@ -158,8 +207,7 @@ impl<const CAP: usize> Games<CAP> {
         requires { game < length self.now.lanes }
         ensures { IfOk result (λ board. board ≡ last_board (lane_of self.now.lanes game).game) }
     {
-        self.fibers[game].keeps();
-        decode_last(alloc, &self.heaps[game])
+        kept_board(alloc, &self.fibers[game], &self.heaps[game])
     }
 
     pub(crate) fn charge(&self, game: usize) -> u32
@@ -169,10 +217,11 @@ impl<const CAP: usize> Games<CAP> {
         kept_charge(&self.fibers[game], &self.heaps[game])
     }
 
+    #[tactic(auto, using(crate::proofs::OpenRows::listed_within))]
     pub(crate) fn is_quiet(&self) -> bool
         ensures { result ≡ list_all is_quiet self.now.lanes }
     {
-        are_quiet(&self.fibers)
+        are_quiet(&self.fibers, self.open_rows.as_slice())
     }
 
     pub(crate) fn counts(&self) -> Counts

@@ -1,5 +1,5 @@
-//! The core: all games of a plan, the jobs that carry out their commands, their records, and the
-//! journal of all events.
+//! The core: all stays, those of the plan and those admitted later, the jobs that carry out their
+//! commands, their records, and the journal of all events.
 #![tactic(auto)]
 
 mod busy;
@@ -18,7 +18,11 @@ mod opening;
 mod plan_blocks;
 mod putting;
 mod records;
+mod shared_row;
 mod stage;
+#[cfg(test)]
+mod stay_tests;
+mod stays;
 mod taking;
 #[cfg(test)]
 mod tests;
@@ -29,5 +33,7 @@ pub use event::Event;
 pub use law::isolation_law;
 pub use opening::Open;
 pub use putting::Stray;
+pub use shared_row::SharedRow;
 pub use stage::{PartState, Stage};
+pub use stays::{Admit, Leave};
 pub use taking::Taken;

@@ -1,5 +1,6 @@
 //! Opening a core: a fiber and a heap for each game, and the reserved blocks.
 ghost use Rattle.std.specs.Prelude.{◌≡◌, ◌*◌, ◌≤◌, ◌<◌, map, length, IfOk, IfErr, OnOk};
+ghost use Rattle.std.specs.List.{range_with_len};
 ghost use Rattle.bs_block.specs.Bytes.{IsCapacity};
 ghost use Rattle.bs_board.specs.plans.Plan.{IsFitPlan};
 ghost use Rattle.bs_sched.specs.Core.{opened_core};
@@ -83,6 +84,19 @@ fn open_frames<const CAP: usize>(
     Ok(frames)
 }
 
+/// Lists the rows of the plan, all of them open.
+#[tactic(auto, using(crate::proofs::OpenRows::rows_more))]
+fn open_rows(alloc: Global, games: usize) -> Result<Vec<u32>, AllocError>
+    requires { games ≤ MOST_ROWS }
+    ensures { IfOk result (λ rows. rows.items ≡ range_with_len 0 games) }
+{
+    let mut rows = Vec::with_capacity(alloc, games)?;
+    for game in 0..games {
+        rows.push(game as u32)?;
+    }
+    Ok(rows)
+}
+
 impl<const CAP: usize> Games<CAP> {
     /// Opens the games of a plan, with no command yet.
     #[tactic(auto, using(crate::proofs::OpenedGames::opened_packings, crate::proofs::OpenedGames::opened_numbers))]
@@ -103,6 +117,7 @@ impl<const CAP: usize> Games<CAP> {
         let fibers = open_fibers(alloc, rows)?;
         let heaps = open_heaps(alloc, rows)?;
         let frames = open_frames(alloc, rows.len())?;
+        let open_rows = open_rows(alloc, rows.len())?;
         Ok(Games {
             rows: plan.rows,
             workers: workers as u32,
@@ -110,6 +125,7 @@ impl<const CAP: usize> Games<CAP> {
             fibers,
             heaps,
             frames,
+            open_rows,
             pool,
         })
     }

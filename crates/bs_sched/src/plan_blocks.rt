@@ -1,9 +1,10 @@
-//! The blocks that are reserved for the games of a plan before the first command.
-ghost use Rattle.std.specs.Prelude.{◌≡◌, ◌+◌, ◌*◌, ◌<◌, ◌≤◌, None, [], All, length, IfOk, OnOk};
+//! The blocks that are reserved for the stays of a core.
+ghost use Rattle.std.specs.Prelude.{◌≡◌, ◌+◌, ◌*◌, ◌<◌, ◌≤◌, None, [], All, length, IfOk, OnOk, OnErr};
 ghost use Rattle.bs_block.specs.Bytes.{IsCapacity};
 ghost use Rattle.bs_heap.specs.Charge.{blocks_for};
-ghost use Rattle.bs_pool.specs.Ledger.{size, reservation_of, unreserved, with_reservation, ledger_of, opened};
+ghost use Rattle.bs_pool.specs.Ledger.{size, held, reserved, reservation_of, unreserved, with_reservation, ledger_of, opened};
 ghost use Rattle.bs_pool.specs.Reservations.{all_reserved};
+ghost use Rattle.bs_sched.specs.Games.{pool_left};
 ghost use Rattle.bs_sched.specs.PlanBlocks.{blocks_of, blocks_of_all, reservations_of, reservations_from, with_row};
 ghost use Rattle.bs_sched.specs.Storage.{record_tag, frame_tag};
 
@@ -13,8 +14,11 @@ use bs_heap::{MOST_RECORD_BYTES, blocks_for};
 use bs_pool::{Pool, Reserve};
 use std::alloc::{AllocError, Global};
 
-/// The frame blocks that are reserved for a game: one for each part of a move.
+/// The frame blocks that are reserved for a stay: one for each part of a move.
 pub(crate) const FRAME_BLOCKS: usize = 4;
+
+/// The most rows that a core ever makes: a tag has 32 bits, and a stay has two tags.
+pub(crate) const MOST_STAYS: usize = 2_147_483_648;
 
 fn record_blocks(cap: usize, row: &Row) -> usize
     requires { 2 * MOST_RECORD_BYTES ≤ cap }
@@ -24,7 +28,16 @@ fn record_blocks(cap: usize, row: &Row) -> usize
     blocks_for(cap, row.quota)
 }
 
-/// The number of blocks of `cap` bytes that are reserved for all games.
+/// The number of blocks of `cap` bytes that are reserved for one stay.
+pub(crate) fn blocks_of(cap: usize, row: &Row) -> usize
+    requires { 2 * MOST_RECORD_BYTES ≤ cap }
+    ensures value { result ≡ blocks_of cap row.now }
+    ensures few { result ≤ 70 }
+{
+    record_blocks(cap, row) + FRAME_BLOCKS
+}
+
+/// The number of blocks of `cap` bytes that are reserved for all games of a plan.
 pub(crate) fn blocks_of_all(cap: usize, rows: &[Row]) -> usize
     requires wide { 2 * MOST_RECORD_BYTES ≤ cap }
     requires few { length rows.now ≤ MOST_ROWS }
@@ -37,9 +50,9 @@ pub(crate) fn blocks_of_all(cap: usize, rows: &[Row]) -> usize
     total
 }
 
-/// The tag of a game's records.
+/// The tag of a stay's records.
 pub(crate) fn record_tag(game: usize) -> u32
-    requires { game < MOST_ROWS }
+    requires { game < MOST_STAYS }
     ensures { result ≡ record_tag game }
 {
     2 * game as u32
@@ -53,7 +66,8 @@ fn set_aside<const CAP: usize>(
     requires some { 1 ≤ blocks }
     requires fresh { reservation_of tag pool.old ≡ None }
     requires room { blocks ≤ unreserved pool.old }
-    ensures { OnOk result (pool.new ≡ with_reservation tag blocks pool.old) }
+    ensures ok { OnOk result (pool.new ≡ with_reservation tag blocks pool.old) }
+    ensures err { OnErr result (pool.new ≡ pool.old) }
 {
     match pool.reserve(tag, blocks) {
         Ok(()) => Ok(()),
@@ -63,20 +77,44 @@ fn set_aside<const CAP: usize>(
     }
 }
 
+/// Reserves the blocks of a stay under both its tags, or leaves the pool as it was.
 #[tactic(auto, using(crate::proofs::PlanBlocks::none_from, crate::proofs::PlanBlocks::none_beside))]
-fn reserve_row<const CAP: usize>(
+pub(crate) fn reserve_row<const CAP: usize>(
     pool: &mut Pool<CAP>,
     game: usize,
     row: &Row,
 ) -> Result<(), AllocError>
     requires wide { 2 * MOST_RECORD_BYTES ≤ CAP }
-    requires game { game < MOST_ROWS }
+    requires game { game < MOST_STAYS }
     requires fresh { All (λ r. r.tag < record_tag game) pool.old.reservations }
     requires room { all_reserved pool.old.reservations + blocks_of CAP row.now ≤ size pool.old }
-    ensures { OnOk result (pool.new ≡ with_row CAP game row.now pool.old) }
+    ensures ok { OnOk result (pool.new ≡ with_row CAP game row.now pool.old) }
+    ensures err { OnErr result (pool.new ≡ pool.old) }
 {
-    set_aside(pool, record_tag(game), record_blocks(CAP, row))?;
-    set_aside(pool, record_tag(game) + 1, FRAME_BLOCKS)
+    let tag = record_tag(game);
+    let _blocks = pool.size();
+    set_aside(pool, tag, record_blocks(CAP, row))?;
+    match set_aside(pool, tag + 1, FRAME_BLOCKS) {
+        Ok(()) => Ok(()),
+        Err(error) => {
+            pool.unreserve(tag);
+            Err(error)
+        }
+    }
+}
+
+/// Ends the reservations of a stay that owns no block.
+pub(crate) fn release_row<const CAP: usize>(pool: &mut Pool<CAP>, game: usize)
+    requires game { game < MOST_STAYS }
+    requires records { 0 < reserved (record_tag game) pool.old }
+    requires frames { 0 < reserved (frame_tag game) pool.old }
+    requires no_records { held (record_tag game) pool.old ≡ 0 }
+    requires no_frames { held (frame_tag game) pool.old ≡ 0 }
+    ensures { pool.new ≡ pool_left game pool.old }
+{
+    let tag = record_tag(game);
+    pool.unreserve(tag);
+    pool.unreserve(tag + 1);
 }
 
 fn reserve_rows<const CAP: usize>(pool: &mut Pool<CAP>, rows: &[Row]) -> Result<(), AllocError>

@@ -139,7 +139,8 @@ impl<const CAP: usize> Games<CAP> {
 
     /// Whether the ticket's blocks are those that went out with its job.
     fn has_own_frames(&self, ticket: &Ticket<CAP>) -> bool
-        requires { ticket.now.input.job.game < length self.now.lanes }
+        requires game { ticket.now.input.job.game < length self.now.lanes }
+        requires out { (worker : ℕ) × (is_out worker (lane_of self.now.lanes ticket.now.input.job.game) ticket.now.input.job.kind ticket.now.input.job.part ≡ true) }
         ensures { IsTrue result ↔ names_of ticket.now.frames ≡ names_for self.now.storage ticket.now.input.job }
     {
         let job = ticket.job();
@@ -148,7 +149,7 @@ impl<const CAP: usize> Games<CAP> {
 
     /// Whether the worker has the job out, and its ticket holds the core's input for it and the
     /// blocks that went out with it.
-    #[tactic(auto, using(crate::proofs::OwnJobs::input_there, crate::proofs::OwnJobs::own_both, crate::proofs::OwnJobs::own_neither))]
+    #[tactic(auto, using(crate::proofs::OwnJobs::input_there, crate::proofs::OwnJobs::input_out, crate::proofs::OwnJobs::own_both, crate::proofs::OwnJobs::own_neither))]
     pub(crate) fn is_own(&self, worker: usize, done: &Done<CAP>) -> bool
         ensures { IsTrue result ↔ IsOwn self.now worker done.now }
     {

@@ -1,5 +1,5 @@
 //! Taking jobs: which job a worker gets, and the ticket with all that the job reads.
-ghost use Rattle.std.specs.Prelude.{◌≡◌, ℕ, ◌≤◌, ◌<◌, [], true, length, map, MatchOption, IfOk, OnOk, OnErr};
+ghost use Rattle.std.specs.Prelude.{◌≡◌, ℕ, ◌≤◌, ◌<◌, [], true, All, length, map, MatchOption, IfOk, OnOk, OnErr};
 ghost use Rattle.bs_heap.specs.Heap.{with_index_room};
 ghost use Rattle.bs_heap.specs.HeldBlocks.{LeavesOthers, next_number};
 ghost use Rattle.bs_pool.specs.Ledger.{Ledger, drawn};
@@ -12,8 +12,8 @@ ghost use Rattle.bs_sched.specs.GamesLayout.{KeepsBoards};
 ghost use Rattle.bs_sched.specs.Inputs.{input_of, job_numbers, names_for};
 ghost use Rattle.bs_sched.specs.Keyed.{HasKeys, IsKeyOf};
 ghost use Rattle.bs_sched.specs.Lane.{HasNoneReady, is_ready, with_taken};
-ghost use Rattle.bs_sched.specs.Machine.{is_busy, is_enabled, lane_of};
-ghost use Rattle.bs_sched.specs.Taking.{AreNoneReady, AreNoneReadyBetween, FindsJob, IsReadyJob, TakesAs};
+ghost use Rattle.bs_sched.specs.Machine.{is_busy, is_enabled_there, lane_of};
+ghost use Rattle.bs_sched.specs.Taking.{AreNoneOpenReady, AreNoneReady, AreNoneReadyBetween, FindsJob, IsReadyJob, TakesAs};
 ghost use Rattle.bs_sched.specs.declared.event.Event.TheVariants as event;
 
 use crate::busy::{is_marked, mark};
@@ -23,8 +23,8 @@ use crate::fiber::Fiber;
 use crate::frames::Frames;
 use crate::games::Games;
 use crate::last_games::{last_game, note_game};
+use crate::plan_blocks::MOST_STAYS;
 use crate::records::{expected, is_last_over, parts_of_last};
-use bs_board::limits::MOST_ROWS;
 use bs_counter::{PartKey, Tally};
 use bs_fiber::{Contents, Done, JobKind, JobName, Ticket};
 use bs_heap::TagHeap;
@@ -59,7 +59,7 @@ pub(crate) enum Found {
 
 /// A ready job of that game, if there is one.
 fn ready_job(fiber: &Fiber, game: usize) -> Option<JobName>
-    requires { game < MOST_ROWS }
+    requires { game < MOST_STAYS }
     ensures { MatchOption result
         (HasNoneReady fiber.now)
         (λ job. (job.game ≡ game) × (is_ready fiber.now job.kind job.part ≡ true)) }
@@ -74,18 +74,31 @@ fn ready_job(fiber: &Fiber, game: usize) -> Option<JobName>
     }
 }
 
-/// The first ready job in the games from row `from` to row `to`, `to` excluded.
-fn find_job(fibers: &[Fiber], from: usize, to: usize) -> Option<JobName>
-    requires few { length fibers.now ≤ MOST_ROWS }
-    requires within { to ≤ length fibers.now }
-    ensures { MatchOption result (AreNoneReadyBetween from to fibers.now) (IsReadyJob fibers.now) }
+/// The first ready job of the open stays from place `from` to place `to`, `to` excluded.
+fn find_job(fibers: &[Fiber], rows: &[u32], from: usize, to: usize) -> Option<JobName>
+    requires few { length fibers.now ≤ MOST_STAYS }
+    requires rows { All (λ game. game < length fibers.now) rows.now }
+    requires within { to ≤ length rows.now }
+    ensures { MatchOption result (AreNoneReadyBetween from to rows.now fibers.now) (IsReadyJob fibers.now) }
 {
-    for game in from..to {
+    for place in from..to {
+        let game = rows[place] as usize;
         if let Some(job) = ready_job(&fibers[game], game) {
             return Some(job);
         }
     }
     None
+}
+
+/// The place of the first open stay of that row or a later one; the number of open stays if there
+/// is none.
+fn place_from(rows: &[u32], first: usize) -> usize
+    ensures { result ≤ length rows.now }
+{
+    match rows.iter().position(|row| *row as usize >= first) {
+        Some(place) => place,
+        None => rows.len(),
+    }
 }
 
 /// Opens a tally and returns its keys if the next command is a move and the game's last board is
@@ -299,16 +312,16 @@ fn take_ticket<const CAP: usize>(
 }
 
 impl<const CAP: usize> Games<CAP> {
-    /// The first ready job at row `first` or later, else in an earlier row.
-    #[tactic(auto, using(crate::proofs::FoundJobs::none_anywhere))]
+    /// The first ready job of the open stays at row `first` or later, else of an earlier one.
+    #[tactic(auto, using(crate::proofs::FoundJobs::none_anywhere, crate::proofs::OpenRows::listed_within))]
     fn find(&self, first: usize) -> Option<JobName>
-        ensures { MatchOption result (AreNoneReady self.now.lanes) (IsReadyJob self.now.lanes) }
+        ensures { MatchOption result (AreNoneOpenReady self.now.lanes) (IsReadyJob self.now.lanes) }
     {
-        let games = self.count_rows();
-        let first = first.min(games);
-        match find_job(&self.fibers, first, games) {
+        let rows = self.open_rows.as_slice();
+        let from = place_from(rows, first);
+        match find_job(&self.fibers, rows, from, rows.len()) {
             Some(job) => Some(job),
-            None => find_job(&self.fibers, 0, first),
+            None => find_job(&self.fibers, rows, 0, from),
         }
     }
 
@@ -350,6 +363,15 @@ impl<const CAP: usize> Core<CAP> {
         is_marked(self.busy.as_slice(), worker)
     }
 
+    /// Recalls for the prover that a stay that has left has no job: where no open one has one, none
+    /// has.
+    fn has_none(&self)
+        requires { AreNoneOpenReady self.now.games.lanes }
+        ensures { AreNoneReady self.now.games.lanes }
+    {
+        let _out = self.out;
+    }
+
     /// Finds a job for the worker: in its last game while that has a ready job, because that game's
     /// records lie in the processor's cache; then in the later games, then in the earlier ones.
     fn find(&self, worker: usize) -> Found
@@ -363,7 +385,10 @@ impl<const CAP: usize> Core<CAP> {
             .games
             .find(last_game(self.last_games.as_slice(), worker))
         {
-            None => Found::Nothing,
+            None => {
+                self.has_none();
+                Found::Nothing
+            }
             Some(job) => Found::Job(job),
         }
     }
@@ -376,7 +401,7 @@ impl<const CAP: usize> Core<CAP> {
         job: JobName,
         spent: Option<Box<Contents<CAP>>>,
     ) -> Result<(Ticket<CAP>, Option<PartKey<Done<CAP>>>), AllocError>
-        requires enabled { is_enabled self.old.games.workers self.old.games.lanes (event.Take worker job) ≡ true }
+        requires enabled { is_enabled_there self.old.games.workers self.old.games.lanes (event.Take worker job) ≡ true }
         ensures ticket { IfOk result (λ taken. taken.0.input ≡ input_of (lane_of self.new.games.lanes job.game) worker job) }
         ensures fresh { IfOk result (λ taken. IsFresh taken.0) }
         ensures names { IfOk result (λ taken. names_of taken.0.frames ≡ names_for self.new.games.storage job) }

@@ -78,6 +78,7 @@ fn hand(
     command: Command,
 ) -> Result<(), Fail> {
     assert!(rt; core.rows() == 1);
+    assert!(rt; core.is_open(0));
     Ok(core.hand(alloc, 0, command)?)
 }
 
@@ -91,7 +92,7 @@ fn take(
     Ok(core.take(alloc, worker)?)
 }
 
-fn take_done(
+pub(crate) fn take_done(
     rt: &impl Abort,
     alloc: Global,
     core: &mut Core<CAP>,
@@ -143,7 +144,7 @@ fn put_parts(core: &mut Core<CAP>, parts: ArrayVec<Option<Done<CAP>>, 4>) -> Res
         .map_err(|_| Fail::from("strays of its own core"))
 }
 
-fn put(core: &mut Core<CAP>, worker: usize, done: Done<CAP>) -> Result<(), Fail> {
+pub(crate) fn put(core: &mut Core<CAP>, worker: usize, done: Done<CAP>) -> Result<(), Fail> {
     core.put(worker, done)
         .map_err(|_| Fail::from("a stray of its own core"))
 }
@@ -530,8 +531,10 @@ fn two_cores_hold_one_command(rt: HostRuntime) -> Result<(), Fail> {
     for name in ["a", "b"] {
         let mut core = core_of(&rt, alloc, name, 4096)?;
         assert!(rt; core.rows() == 1);
+        assert!(rt; core.is_open(0));
         core.hand_shared(0, &shared)?;
         assert!(rt; core.rows() == 1);
+        assert!(rt; core.is_open(0));
         core.hand_held(0, Holders::new(&shared)?)?;
         play(&rt, alloc, &mut core, 0)?;
         assert!(rt; core.rows() == 1);

@@ -3,11 +3,10 @@ use Rattle.std.specs.Prelude.{nat_lt}
 use Rattle.std.proofs.lemmas.Bool.{lt-ltb}
 use Rattle.bs_sched.specs.declared.event.Event.TheVariants as event
 use Rattle.bs_sched.specs.Core.{CoreView}
-use Rattle.bs_sched.specs.Machine.{is_enabled}
+use Rattle.bs_sched.specs.Machine.{is_enabled_there, lane_of}
 use Rattle.bs_sched.proofs.BusyTable.{hand_marks_none}
 use Rattle.bs_sched.proofs.JobsOut.{as_many_handed}
 use Rattle.bs_sched.proofs.Journal.{journaled_after}
-use Rattle.bs_sched.proofs.LoneLanes.{both_true}
 use Rattle.bs_sched.proofs.cores.Core.hand_held.Goals as goal
 
 pub invariant_of-self-2 : goal.invariant_of-self-2
@@ -15,8 +14,10 @@ invariant_of-self-2 g c =
     let inside = c.self.inside in
     let command = c.args.holders in
     let e = event.Hand c.args.game command in
-    let within : c.args.game < length inside.games.lanes = subst (λ (v : CoreView). c.args.game < length v.games.lanes) (sym c.self.view_is) c.requires in
-    let enabled : is_enabled inside.games.workers inside.games.lanes e ≡ true = both_true (nat_lt c.args.game (length inside.games.lanes)) true (lt-ltb _ _ within) refl in
+    let within : c.args.game < length inside.games.lanes = subst (λ (v : CoreView). c.args.game < length v.games.lanes) (sym c.self.view_is) c.requires.game in
+    let stands : (lane_of inside.games.lanes c.args.game).is_open ≡ true = subst (λ (v : CoreView). (lane_of v.games.lanes c.args.game).is_open ≡ true) (sym c.self.view_is) c.requires.«open» in
+    let there : nat_lt c.args.game (length inside.games.lanes) ≡ true = lt-ltb _ _ within in
+    let enabled : is_enabled_there inside.games.workers inside.games.lanes e ≡ true = rw (there, stands) refl in
     let items : c.note.new.journal.items ≡ inside.journal.items ++ e ∷ []
     = rw (c.note.ensures.items, c.into_parts-handed.ensures.noted, c.row_number-row.ensures, c.reserve_events.ensures.items) refl in
     let len = c.note.ensures.len in

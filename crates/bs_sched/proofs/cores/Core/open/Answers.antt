@@ -18,7 +18,7 @@ invariant_of-result g c =
     let cap = g.row.CAP in
     let rows = c.args.plan.rows in
     let is = c.in_ok-open.ensures.games in
-    let hosted : IsHosted cap c.args.blocks rows = record { wide = c.requires.wide; plan = c.open.ensures.plan; room = c.in_ok-open.ensures.room } in
+    let hosted : IsHosted (record { cap = cap; blocks = c.args.blocks; workers = c.args.workers }) rows = record { wide = c.requires.wide; plan = c.open.ensures.plan; room = c.in_ok-open.ensures.room } in
     let core : record { games = c.in_ok-open.field-0; journal = c.new.result.items } ≡ opened_core cap c.args.blocks c.args.workers rows
     = ap (λ (games : GamesView). record { games = games; journal = c.new.result.items }) is
     ∙ ap (λ (events : List Event). record (opened_core cap c.args.blocks c.args.workers rows) { journal = events }) c.new.ensures.items in

@@ -3,7 +3,7 @@ use Rattle.bs_fiber.specs.declared.input.Input.{Input}
 use Rattle.bs_fiber.specs.Tickets.{TicketView}
 use Rattle.bs_sched.specs.declared.event.Event.TheVariants as event
 use Rattle.bs_sched.specs.Core.{CoreView}
-use Rattle.bs_sched.specs.Machine.{is_enabled, lane_effect}
+use Rattle.bs_sched.specs.Machine.{is_enabled_there, lane_effect}
 use Rattle.bs_sched.specs.Journal.{jobs_out}
 use Rattle.bs_sched.specs.Busy.{IsBusyTable, marked}
 use Rattle.bs_sched.proofs.BusyTable.{put_marks}
@@ -16,8 +16,8 @@ invariant_of-self g c =
     let inside = c.self.inside in
     let e = event.Put c.args.worker c.args.done.input.job in
     let job = c.job-job.ensures ∙ ap (λ (i : TicketView). i.input.job) c.ticket.ensures in
-    let enabled : is_enabled inside.games.workers inside.games.lanes e ≡ true
-    = subst (λ (v : CoreView). is_enabled v.games.workers v.games.lanes e ≡ true) (sym c.self.view_is) c.requires.out in
+    let enabled : is_enabled_there inside.games.workers inside.games.lanes e ≡ true
+    = subst (λ (v : CoreView). is_enabled_there v.games.workers v.games.lanes e ≡ true) (sym c.self.view_is) c.requires.out in
     let worker = c.worker-number.ensures ∙ ap (λ (i : TicketView). i.input.worker) c.ticket-2.ensures ∙ ap (λ (i : Input). i.worker) c.requires.input in
     let items : c.note.new.journal.items ≡ inside.journal.items ++ e ∷ [] = rw (c.note.ensures.items, job, worker) refl in
     let less = one_less_out inside.games.workers inside.games.lanes c.args.worker c.args.done.input.job enabled in

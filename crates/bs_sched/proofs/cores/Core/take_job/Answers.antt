@@ -1,7 +1,7 @@
 use Rattle.std.proofs.Common.{◌≡◌, ◌+◌, true, ◌∷◌, ◌++◌, [], refl, sym, ap, subst, ◌∙◌, arith}
 use Rattle.bs_sched.specs.declared.event.Event.TheVariants as event
 use Rattle.bs_sched.specs.Core.{CoreView}
-use Rattle.bs_sched.specs.Machine.{is_enabled, lane_effect}
+use Rattle.bs_sched.specs.Machine.{is_enabled_there, lane_effect}
 use Rattle.bs_sched.specs.Busy.{IsBusyTable}
 use Rattle.bs_sched.proofs.BusyTable.{take_marks}
 use Rattle.bs_sched.proofs.JobsOut.{one_more_out}
@@ -12,8 +12,8 @@ pub invariant_of-self-2 : goal.invariant_of-self-2
 invariant_of-self-2 g c =
     let inside = c.self.inside in
     let e = event.Take c.args.worker c.args.job in
-    let enabled : is_enabled inside.games.workers inside.games.lanes e ≡ true
-    = subst (λ (v : CoreView). is_enabled v.games.workers v.games.lanes e ≡ true) (sym c.self.view_is) c.requires.enabled in
+    let enabled : is_enabled_there inside.games.workers inside.games.lanes e ≡ true
+    = subst (λ (v : CoreView). is_enabled_there v.games.workers v.games.lanes e ≡ true) (sym c.self.view_is) c.requires.enabled in
     let items : c.note.new.journal.items ≡ inside.journal.items ++ e ∷ [] = rw (c.note.ensures.items, c.worker_number-number.ensures, c.reserve_events.ensures.items) refl in
     let more = one_more_out inside.games.workers inside.games.lanes c.args.worker c.args.job enabled in
     let len = c.note.ensures.len in

@@ -13,7 +13,7 @@ use Rattle.bs_sched.specs.Lane.{Lane, no_lane, answered, is_out, occupies, lane_
 use Rattle.bs_sched.specs.Machine.{lane_of}
 use Rattle.bs_sched.specs.Storage.{frame_tag, frames_of, record_tag}
 use Rattle.bs_sched.proofs.ChangedFrames.{frames_there, own_frames}
-use Rattle.bs_sched.proofs.ChangedGames.{read_at, changed_storage, heap_there, numbers_there, own_heap, sound_game}
+use Rattle.bs_sched.proofs.ChangedGames.{open_out, read_at, changed_storage, heap_there, numbers_there, own_heap, sound_game}
 use Rattle.bs_sched.proofs.games.Games.answer.Goals as goal
 
 -- a record's tag is no frame's
@@ -28,13 +28,14 @@ answer_job-requires g c =
     let game = c.args.job.game in
     let pool = c.self.inside.pool in
     let within : game < length fibers = subst (λ (v : GamesView). game < length v.lanes) (sym c.self.view_is) c.requires.game in
+    let stands : (lane_of fibers game).is_open ≡ true = let is = subst (λ (v : GamesView). (w : ℕ) × (is_out w (lane_of v.lanes game) c.args.job.kind c.args.job.part ≡ true)) (sym c.self.view_is) c.requires.out in open_out g.row.CAP c.self.inside game is.0 c.args.job.kind c.args.job.part c.self.invariant within is.1 in
     let lane : c.index_mut.result.now ≡ lane_of fibers game = read_at fibers game _ no_lane within c.index_mut.ensures.value in
     let many = c.self.invariant.many in
     let as_many = c.self.invariant.as_many in
     let heap : c.index_mut-2.result.now ≡ heap_of heaps game = read_at heaps game _ (empty_heap 0 0) (omega (arith, many)) c.index_mut-2.ensures.value in
     let frames_is : c.index_mut-3.result.now ≡ frames_at all_frames game = read_at all_frames game _ (no_frames 0) (omega (arith, as_many)) c.index_mut-3.ensures.value in
-    let kept = heap_there g.row.CAP game fibers heaps pool _ _ c.self.invariant.heaps within lane heap in
-    let are = frames_there game fibers all_frames pool _ _ c.self.invariant.frames within lane frames_is in
+    let kept = heap_there g.row.CAP game fibers heaps pool _ _ c.self.invariant.heaps within stands lane heap in
+    let are = frames_there game fibers all_frames pool _ _ c.self.invariant.frames within stands lane frames_is in
     let same : lane_of c.args.self.now.lanes game ≡ c.index_mut.result.now = ap (λ (v : GamesView). lane_of v.lanes game) (sym c.self.view_is) ∙ sym lane in
     let job = c.args.job in
     let out : is_out c.requires.out.0 c.index_mut.result.now job.kind job.part ≡ true
@@ -62,19 +63,20 @@ invariant_of-self g c =
     let game = c.args.job.game in
     let pool = c.self.inside.pool in
     let within : game < length fibers = subst (λ (v : GamesView). game < length v.lanes) (sym c.self.view_is) c.requires.game in
+    let stands : (lane_of fibers game).is_open ≡ true = let is = subst (λ (v : GamesView). (w : ℕ) × (is_out w (lane_of v.lanes game) c.args.job.kind c.args.job.part ≡ true)) (sym c.self.view_is) c.requires.out in open_out g.row.CAP c.self.inside game is.0 c.args.job.kind c.args.job.part c.self.invariant within is.1 in
     let lane : c.index_mut.result.now ≡ lane_of fibers game = read_at fibers game _ no_lane within c.index_mut.ensures.value in
     let many = c.self.invariant.many in
     let as_many = c.self.invariant.as_many in
     let heap : c.index_mut-2.result.now ≡ heap_of heaps game = read_at heaps game _ (empty_heap 0 0) (omega (arith, many)) c.index_mut-2.ensures.value in
     let frames_is : c.index_mut-3.result.now ≡ frames_at all_frames game = read_at all_frames game _ (no_frames 0) (omega (arith, as_many)) c.index_mut-3.ensures.value in
-    let kept = heap_there g.row.CAP game fibers heaps pool _ _ c.self.invariant.heaps within lane heap in
-    let are = frames_there game fibers all_frames pool _ _ c.self.invariant.frames within lane frames_is in
+    let kept = heap_there g.row.CAP game fibers heaps pool _ _ c.self.invariant.heaps within stands lane heap in
+    let are = frames_there game fibers all_frames pool _ _ c.self.invariant.frames within stands lane frames_is in
     let here = subst (λ (own : ℕ). IsHeapOf g.row.CAP own c.answer_job.new.fiber c.answer_job.new.heap c.answer_job.new.pool) kept.tag c.answer_job.ensures.heap in
     let framed = subst (λ (own : ℕ). AreFramesOf own c.answer_job.new.fiber c.answer_job.new.frames c.answer_job.new.pool) are.tag c.answer_job.ensures.frames in
     let leaves = subst (λ (own : ℕ). LeavesBut own (frame_tag game) pool c.answer_job.new.pool) kept.tag
     (subst (λ (own : ℕ). LeavesBut c.index_mut-2.result.now.tag own pool c.answer_job.new.pool) are.tag c.answer_job.ensures.others) in
-    sound_game g.row.CAP c.self.inside game c.answer_job.new.fiber c.answer_job.new.heap c.answer_job.new.frames c.answer_job.new.pool c.self.invariant within
-    (ap (λ (x : Lane). x.row.quota) (c.answer_job.ensures.lane ∙ ap answered lane)) here framed leaves
+    sound_game g.row.CAP c.self.inside game c.answer_job.new.fiber c.answer_job.new.heap c.answer_job.new.frames c.answer_job.new.pool c.self.invariant within stands
+    (ap (λ (x : Lane). x.row) (c.answer_job.ensures.lane ∙ ap answered lane)) (ap (λ (x : Lane). x.is_open) (c.answer_job.ensures.lane ∙ ap answered lane)) here framed leaves
 
 pub returns : goal.returns
 returns g c =
@@ -84,13 +86,14 @@ returns g c =
     let game = c.args.job.game in
     let pool = c.self.inside.pool in
     let within : game < length fibers = subst (λ (v : GamesView). game < length v.lanes) (sym c.self.view_is) c.requires.game in
+    let stands : (lane_of fibers game).is_open ≡ true = let is = subst (λ (v : GamesView). (w : ℕ) × (is_out w (lane_of v.lanes game) c.args.job.kind c.args.job.part ≡ true)) (sym c.self.view_is) c.requires.out in open_out g.row.CAP c.self.inside game is.0 c.args.job.kind c.args.job.part c.self.invariant within is.1 in
     let lane : c.index_mut.result.now ≡ lane_of fibers game = read_at fibers game _ no_lane within c.index_mut.ensures.value in
     let many = c.self.invariant.many in
     let as_many = c.self.invariant.as_many in
     let heap : c.index_mut-2.result.now ≡ heap_of heaps game = read_at heaps game _ (empty_heap 0 0) (omega (arith, many)) c.index_mut-2.ensures.value in
     let frames_is : c.index_mut-3.result.now ≡ frames_at all_frames game = read_at all_frames game _ (no_frames 0) (omega (arith, as_many)) c.index_mut-3.ensures.value in
-    let kept = heap_there g.row.CAP game fibers heaps pool _ _ c.self.invariant.heaps within lane heap in
-    let are = frames_there game fibers all_frames pool _ _ c.self.invariant.frames within lane frames_is in
+    let kept = heap_there g.row.CAP game fibers heaps pool _ _ c.self.invariant.heaps within stands lane heap in
+    let are = frames_there game fibers all_frames pool _ _ c.self.invariant.frames within stands lane frames_is in
     let pool_is = rw kept.tag at c.answer_job.ensures.pool in
     let storage = changed_storage g.row.CAP game heaps all_frames pool c.answer_job.new.pool c.index_mut-2.result.now c.answer_job.new.heap c.index_mut-3.result.now
     c.answer_job.new.frames (answer_effect c.index_mut.result.now) heap frames_is c.answer_job.ensures.packing (ap (λ (f : FramesView). f.numbers) c.answer_job.ensures.given) pool_is in

@@ -1,4 +1,4 @@
-use Rattle.std.proofs.Common.{◌≡◌, ℕ, ◌<◌, length, List, Option, map, sym, ap, subst, ◌∙◌, arith}
+use Rattle.std.proofs.Common.{◌≡◌, ℕ, ◌<◌, true, length, List, Option, map, sym, ap, subst, ◌∙◌, arith}
 use Rattle.bs_fiber.specs.declared.job.JobName.{JobName}
 use Rattle.bs_fiber.specs.Tickets.{frames_in, names_of}
 use Rattle.bs_sched.specs.Frames.{FramesView, no_frames}
@@ -6,7 +6,9 @@ use Rattle.bs_sched.specs.Games.{GamesView}
 use Rattle.bs_sched.specs.GamesLayout.{frames_at}
 use Rattle.bs_sched.specs.Inputs.{job_numbers, names_for}
 use Rattle.bs_sched.specs.Storage.{frame_tag, frames_of}
-use Rattle.bs_sched.proofs.ChangedGames.{read_at, numbers_there}
+use Rattle.bs_sched.specs.Lane.{is_out}
+use Rattle.bs_sched.specs.Machine.{lane_of}
+use Rattle.bs_sched.proofs.ChangedGames.{open_out, read_at, numbers_there}
 use Rattle.bs_sched.proofs.games.Games.has_own_frames.Goals as goal
 
 pub returns : goal.returns
@@ -16,10 +18,13 @@ returns g c =
     let f : FramesView = c.index.result.now in
     let named : ℕ → List ℕ → List (ℕ × ℕ) = λ own ns. map (λ n. (own, n)) ns in
     let within : job.game < length inside.fibers.items =
-    subst (λ (v : GamesView). job.game < length v.lanes) (sym c.self.view_is) (subst (λ (j : JobName). j.game < length c.args.self.now.lanes) (sym c.job-job.ensures) c.requires) in
+    subst (λ (v : GamesView). job.game < length v.lanes) (sym c.self.view_is) (subst (λ (j : JobName). j.game < length c.args.self.now.lanes) (sym c.job-job.ensures) c.requires.game) in
+    let is = subst (λ (v : GamesView). (w : ℕ) × (is_out w (lane_of v.lanes job.game) job.kind job.part ≡ true)) (sym c.self.view_is)
+    (subst (λ (j : JobName). (w : ℕ) × (is_out w (lane_of c.args.self.now.lanes j.game) j.kind j.part ≡ true)) (sym c.job-job.ensures) c.requires.out) in
+    let stands = open_out g.row.CAP inside job.game is.0 job.kind job.part c.self.invariant within is.1 in
     let as_many = c.self.invariant.as_many in
     let frames_is : f ≡ frames_at inside.frames.items job.game = read_at inside.frames.items job.game f (no_frames 0) (omega (arith, as_many, within)) c.index.ensures in
-    let tag : f.tag ≡ frame_tag job.game = ap (λ (v : FramesView). v.tag) frames_is ∙ (c.self.invariant.frames job.game within).tag in
+    let tag : f.tag ≡ frame_tag job.game = ap (λ (v : FramesView). v.tag) frames_is ∙ (c.self.invariant.frames job.game within stands).tag in
     let there = numbers_there job.game inside.heaps.items inside.frames.items inside.pool f frames_is in
     let names : named f.tag (job_numbers job.kind job.part f.numbers) ≡ names_for c.args.self.now.storage c.args.ticket.now.input.job =
     ap (λ (own : ℕ). named own (job_numbers job.kind job.part f.numbers)) tag

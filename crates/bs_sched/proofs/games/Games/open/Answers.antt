@@ -1,9 +1,17 @@
 -- A core that was just opened is sound.
+use Rattle.std.proofs.Common.{◌≤◌, arith}
+use Rattle.bs_sched.specs.PlanBlocks.{blocks_of_all}
 use Rattle.bs_sched.proofs.OpenedGames.{sound_opened}
 use Rattle.bs_sched.proofs.games.Games.open.Goals as goal
 
 pub invariant_of-result : goal.invariant_of-result
 invariant_of-result g c =
     let rows = c.as_slice-rows.ensures.value in
-    sound_opened g.row.CAP c.args.blocks _ c.requires.wide c.as_slice-rows.ensures.fits (rw rows at c.in_ok-fibers.ensures)
-    (rw rows at c.in_ok-heaps.ensures) (rw rows at c.in_ok-frames.ensures) (rw rows at c.in_ok-pool.ensures)
+    let room = c.if-blocks_of_all-blocks.false in
+    let all = c.blocks_of_all.ensures in
+    let fits : blocks_of_all g.row.CAP c.as_slice-rows.result.now ≤ c.args.blocks = omega (arith, room, all) in
+    sound_opened g.row.CAP c.args.blocks _ c.requires.wide c.as_slice-rows.ensures.fits
+    (rw rows at fits)
+    (rw rows at c.in_ok-fibers.ensures)
+    (rw rows at c.in_ok-heaps.ensures) (rw rows at c.in_ok-frames.ensures)
+    (rw rows at c.in_ok-open_rows.ensures) (rw rows at c.in_ok-pool.ensures)

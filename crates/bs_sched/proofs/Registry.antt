@@ -1,0 +1,317 @@
+-- Who is in the setting.
+use Rattle.std.proofs.Common.{◌≡◌, ℕ, ◌-◌, Bool, true, false, ◌&&◌, if◌then◌else◌, List, [], ◌∷◌, ◌++◌, length, refl, sym, ap, ◌∙◌, arith, inl, inr}
+use Rattle.std.specs.Prelude.{nat_eq, nat_le, nat_lt, fold, count_by, slice_set, slice_index_or}
+use Rattle.std.specs.List.{list_any}
+use Rattle.std.proofs.Math.ListN.{get_or-map}
+use Rattle.std.proofs.Math.Seq.{map-set_same}
+use Rattle.std.proofs.lemmas.Bool.{cases_Bool, cond-true, cond-false, and_from, and_left, eq-eqb, eqb-true}
+use Rattle.std.proofs.lemmas.List.{length-map, map_push, map-set, append-nil, nil_from_length}
+use Rattle.std.proofs.lemmas.List.Sums.{sum_by-cons}
+use Rattle.bs_board.proofs.Chains.{and_both}
+use Rattle.bs_board.specs.declared.commands.command.Command.{Command}
+use Rattle.bs_board.specs.declared.commands.command.Command.TheVariants as command
+use Rattle.bs_board.specs.declared.commands.reply.Reply.TheVariants.{Refused}
+use Rattle.bs_board.specs.declared.commands.reply.Refusal.TheVariants as refusal
+use Rattle.bs_board.specs.plans.Plan.{GameRow}
+use Rattle.bs_board.specs.Texts.{is_same_text}
+use Rattle.bs_fiber.specs.declared.job.JobKind.{JobKind}
+use Rattle.bs_fiber.specs.declared.job.JobKind.TheVariants as kind
+use Rattle.bs_game.specs.Alone.{course_of, alone}
+use Rattle.bs_game.specs.Answer.{answer_to}
+use Rattle.bs_game.specs.Game.{last_board, game_charge}
+use Rattle.bs_game.specs.Reasons.{reason_against}
+use Rattle.bs_game.specs.View.{reply_to}
+use Rattle.bs_sched.specs.PlanBlocks.{blocks_of}
+use Rattle.bs_sched.specs.declared.event.Event.{Event}
+use Rattle.bs_sched.specs.declared.event.Event.TheVariants as event
+use Rattle.bs_sched.specs.Registry.{Stay, stay_of, registry_of, no_stay, blocks_in_registry, may_admit_in, is_in, registry_after, RegistryLaw, ServedLaw, IsServedAlone, ProgressExample, JournalLaw, rows_in, commands_to, begin_of_only, coming_and_going}
+use Rattle.bs_sched.specs.Courses.{IsRight, answered_commands}
+use Rattle.bs_sched.specs.Handed.{commands_of}
+use Rattle.bs_sched.specs.Isolation.{alone_event, accepted, is_accepted, admitted, are_enabled, opened_lanes, own_events, commands_in, shared_run}
+use Rattle.bs_sched.specs.Lane.{Lane, empty_lane, no_lane, is_quiet, is_idle, records_of, goes_on, forked, answered, with_taken, with_put, with_waiting, closed_lane}
+use Rattle.bs_sched.specs.Machine.{Setting, lane_of, is_named, is_enabled, may_admit, has_name, blocks_in, open_blocks, lane_effect, step, run_of}
+use Rattle.bs_sched.proofs.HandedCommands.{one_more_event}
+use Rattle.bs_sched.proofs.Isolation.{keeps_commands, rows_run, opened_rows}
+use Rattle.bs_sched.proofs.LoneLanes.{step_enabled, step_refused}
+use Rattle.bs_sched.proofs.RightRuns.{well_run, well_opened}
+
+-- the registry tells who may come
+
+named_in : (row : GameRow) (lanes : List Lane)
+    → list_any (has_name row) lanes ≡ list_any (λ (entry : Stay). entry.is_open && is_same_text row.game entry.row.game) (registry_of lanes)
+named_in row [] = refl
+named_in row (x ∷ lanes) = rw (named_in row lanes) refl
+
+counted_in : (lanes : List Lane) → count_by (λ (x : Lane). x.is_open) lanes ≡ count_by (λ (entry : Stay). entry.is_open) (registry_of lanes)
+counted_in [] = refl
+counted_in (x ∷ lanes) =
+    let one = sum_by-cons (λ (y : Lane). if y.is_open then 1 else 0) x lanes in
+    let other = sum_by-cons (λ (entry : Stay). if entry.is_open then 1 else 0) (stay_of x) (registry_of lanes) in
+    let rest = counted_in lanes in
+    omega (arith, one, other, rest)
+
+blocks_told : (cap : ℕ) (lanes : List Lane) → open_blocks cap lanes ≡ blocks_in_registry cap (registry_of lanes)
+blocks_told cap [] = refl
+blocks_told cap (x ∷ lanes) =
+    let one = sum_by-cons (blocks_in cap) x lanes in
+    let other = sum_by-cons (λ (entry : Stay). if entry.is_open then blocks_of cap entry.row else 0) (stay_of x) (registry_of lanes) in
+    let rest = blocks_told cap lanes in
+    omega (arith, one, other, rest)
+
+pub admits_by_registry : (setting : Setting) (lanes : List Lane) (row : GameRow) → may_admit setting lanes row ≡ may_admit_in setting (registry_of lanes) row
+admits_by_registry setting lanes row = rw (named_in row lanes, counted_in lanes, blocks_told setting.cap lanes, length-map lanes stay_of) refl
+
+-- a job and a command leave it
+
+stay_taken : (x : Lane) (worker : ℕ) (k : JobKind) (p : ℕ) → stay_of (with_taken worker k p x) ≡ stay_of x
+stay_taken x worker kind.Begin p = refl
+stay_taken x worker kind.Part p = refl
+stay_taken x worker kind.Join p = refl
+
+stay_begun : (x : Lane) (on : Bool) → stay_of (if on then forked x else answered x) ≡ stay_of x
+stay_begun x true = refl
+stay_begun x false = refl
+
+stay_put : (x : Lane) (k : JobKind) (p : ℕ) → stay_of (with_put k p x) ≡ stay_of x
+stay_put x kind.Begin p = stay_begun x (goes_on x)
+stay_put x kind.Part p = refl
+stay_put x kind.Join p = refl
+
+registry_changed : (lanes : List Lane) (e : Event) → registry_of (lane_effect lanes e) ≡ registry_after (registry_of lanes) e
+registry_changed lanes (event.Hand game command) = map-set_same stay_of lanes game (with_waiting command (lane_of lanes game)) no_lane refl
+registry_changed lanes (event.Take worker job) =
+    map-set_same stay_of lanes job.game (with_taken worker job.kind job.part (lane_of lanes job.game)) no_lane (stay_taken (lane_of lanes job.game) worker job.kind job.part)
+registry_changed lanes (event.Put worker job) =
+    map-set_same stay_of lanes job.game (with_put job.kind job.part (lane_of lanes job.game)) no_lane (stay_put (lane_of lanes job.game) job.kind job.part)
+registry_changed lanes (event.Admit row) = map_push stay_of lanes (empty_lane row)
+registry_changed lanes (event.Leave game) =
+    map-set stay_of lanes game (closed_lane (lane_of lanes game))
+    ∙ ap (λ (entry : Stay). slice_set (registry_of lanes) game (record { row = entry.row; is_open = false })) (sym (get_or-map stay_of lanes game no_lane))
+
+registry_run : (setting : Setting) (lanes : List Lane) (events : List Event) → are_enabled setting lanes events ≡ true
+    → registry_of (run_of setting lanes events) ≡ fold registry_after (registry_of lanes) events
+registry_run setting lanes [] enabled = refl
+registry_run setting lanes (e ∷ events) enabled =
+    let both = and_both (is_enabled setting lanes e) (are_enabled setting (step setting lanes e) events) enabled in
+    let one : registry_of (step setting lanes e) ≡ registry_after (registry_of lanes) e = ap registry_of (step_enabled setting lanes e both.0) ∙ registry_changed lanes e in
+    registry_run setting (step setting lanes e) events both.1 ∙ ap (λ (registry : List Stay). fold registry_after registry events) one
+
+and_true : (b : Bool) → (b && true) ≡ b
+and_true true = refl
+and_true false = refl
+
+open_in_registry : (lanes : List Lane) (game : ℕ) → (slice_index_or (registry_of lanes) game no_stay).is_open ≡ (lane_of lanes game).is_open
+open_in_registry lanes game = ap (λ (entry : Stay). entry.is_open) (get_or-map stay_of lanes game no_lane)
+
+hands_by_registry : (setting : Setting) (lanes : List Lane) (game : ℕ) (command : Command) → is_enabled setting lanes (event.Hand game command) ≡ is_in (registry_of lanes) game
+hands_by_registry setting lanes game command = rw (open_in_registry lanes game, length-map lanes stay_of, and_true (lane_of lanes game).is_open) refl
+
+all_three : (a b c : Bool) → (a && ((b && c) && true)) ≡ ((a && b) && c)
+all_three true b c = and_true (b && c)
+all_three false b c = refl
+
+leaves_by_registry : (setting : Setting) (lanes : List Lane) (game : ℕ)
+    → is_enabled setting lanes (event.Leave game) ≡ (is_in (registry_of lanes) game && is_quiet (lane_of lanes game))
+leaves_by_registry setting lanes game =
+    rw (open_in_registry lanes game, length-map lanes stay_of)
+    (all_three (nat_lt game (length lanes)) (lane_of lanes game).is_open (is_quiet (lane_of lanes game)))
+
+same_registry : (setting : Setting) (lanes : List Lane) (e : Event) → registry_of (lane_effect lanes e) ≡ registry_of lanes → registry_of (step setting lanes e) ≡ registry_of lanes
+same_registry setting lanes e same =
+    elim (cases_Bool (is_enabled setting lanes e)) [
+      | inl on ↦ ap registry_of (step_enabled setting lanes e on) ∙ same
+      | inr off ↦ ap registry_of (step_refused setting lanes e off)
+    ]
+
+pub registry_law : RegistryLaw
+registry_law setting lanes events =
+    record {
+      admits = admits_by_registry setting lanes;
+      hands = hands_by_registry setting lanes;
+      leaves = leaves_by_registry setting lanes;
+      takes = λ worker job. same_registry setting lanes (event.Take worker job) (registry_changed lanes (event.Take worker job));
+      puts = λ worker job. same_registry setting lanes (event.Put worker job) (registry_changed lanes (event.Put worker job));
+      registry = registry_run setting lanes events;
+    }
+
+-- events that were all enabled
+
+admitted_all : (setting : Setting) (lanes : List Lane) (events : List Event) → are_enabled setting lanes events ≡ true → admitted setting lanes events ≡ rows_in events
+admitted_all setting lanes [] enabled = refl
+admitted_all setting lanes (event.Hand game command ∷ events) enabled =
+    let e = event.Hand game command in
+    admitted_all setting (step setting lanes e) events (and_both (is_enabled setting lanes e) (are_enabled setting (step setting lanes e) events) enabled).1
+admitted_all setting lanes (event.Take worker job ∷ events) enabled =
+    let e = event.Take worker job in
+    admitted_all setting (step setting lanes e) events (and_both (is_enabled setting lanes e) (are_enabled setting (step setting lanes e) events) enabled).1
+admitted_all setting lanes (event.Put worker job ∷ events) enabled =
+    let e = event.Put worker job in
+    admitted_all setting (step setting lanes e) events (and_both (is_enabled setting lanes e) (are_enabled setting (step setting lanes e) events) enabled).1
+admitted_all setting lanes (event.Admit row ∷ events) enabled =
+    let e = event.Admit row in
+    let next = step setting lanes e in
+    let both = and_both (is_enabled setting lanes e) (are_enabled setting next events) enabled in
+    cond-true (is_enabled setting lanes e) (row ∷ admitted setting next events) (admitted setting next events) both.0
+    ∙ ap (λ rows. row ∷ rows) (admitted_all setting next events both.1)
+admitted_all setting lanes (event.Leave game ∷ events) enabled =
+    let e = event.Leave game in
+    admitted_all setting (step setting lanes e) events (and_both (is_enabled setting lanes e) (are_enabled setting (step setting lanes e) events) enabled).1
+
+none_if : (b : Bool) → (let none : List Command = [] in if b then none else none) ≡ []
+none_if true = refl
+none_if false = refl
+
+-- what one event hands to the stay, where it is enabled
+handed_once : (game : ℕ) (e : Event) → (if is_named game e then commands_in (alone_event e ∷ []) else []) ≡ commands_to game (e ∷ [])
+handed_once game (event.Hand row command) = refl
+handed_once game (event.Take worker job) = none_if (nat_eq job.game game)
+handed_once game (event.Put worker job) = none_if (nat_eq job.game game)
+handed_once game (event.Admit row) = refl
+handed_once game (event.Leave row) = none_if (nat_eq row game)
+
+handed_more : (game : ℕ) (e : Event) (events : List Event) → commands_to game (e ∷ []) ++ commands_to game events ≡ commands_to game (e ∷ events)
+handed_more game (event.Hand row command) events =
+    elim (cases_Bool (nat_eq row game)) [
+      | inl here ↦ rw here refl
+      | inr other ↦ rw other refl
+    ]
+handed_more game (event.Take worker job) events = refl
+handed_more game (event.Put worker job) events = refl
+handed_more game (event.Admit row) events = refl
+handed_more game (event.Leave row) events = refl
+
+handed_all : (setting : Setting) (game : ℕ) (lanes : List Lane) (events : List Event) → are_enabled setting lanes events ≡ true
+    → commands_in (accepted setting game lanes events) ≡ commands_to game events
+handed_all setting game lanes [] enabled = refl
+handed_all setting game lanes (e ∷ events) enabled =
+    let next = step setting lanes e in
+    let own = accepted setting game next events in
+    let both = and_both (is_enabled setting lanes e) (are_enabled setting next events) enabled in
+    let rest = handed_all setting game next events both.1 in
+    elim (cases_Bool (is_named game e)) [
+      | inl named ↦
+          let on : is_accepted setting game lanes e ≡ true = and_from (is_named game e) (is_enabled setting lanes e) named both.0 in
+          let one : commands_in (alone_event e ∷ []) ≡ commands_to game (e ∷ [])
+          = sym (cond-true (is_named game e) (commands_in (alone_event e ∷ [])) [] named) ∙ handed_once game e in
+          ap commands_in (cond-true (is_accepted setting game lanes e) (alone_event e ∷ own) own on)
+          ∙ sym (one_more_event (alone_event e) own)
+          ∙ ap (λ cs. cs ++ commands_in own) one ∙ ap (λ cs. commands_to game (e ∷ []) ++ cs) rest ∙ handed_more game e events
+      | inr other ↦
+          let off : is_accepted setting game lanes e ≡ false = and_left (is_named game e) (is_enabled setting lanes e) other in
+          let none : [] ≡ commands_to game (e ∷ [])
+          = sym (cond-false (is_named game e) (commands_in (alone_event e ∷ [])) [] other) ∙ handed_once game e in
+          ap commands_in (cond-false (is_accepted setting game lanes e) (alone_event e ∷ own) own off)
+          ∙ rest ∙ ap (λ cs. cs ++ commands_to game events) none ∙ handed_more game e events
+    ]
+
+pub journal_law : JournalLaw
+journal_law setting plan events enabled =
+    record {
+      rows = rows_run setting (opened_lanes plan) events ∙ ap (λ rs. rs ++ admitted setting (opened_lanes plan) events) (opened_rows plan)
+          ∙ ap (λ rs. plan ++ rs) (admitted_all setting (opened_lanes plan) events enabled);
+      commands = λ game there. keeps_commands setting plan events game there ∙ handed_all setting game (opened_lanes plan) events enabled;
+    }
+
+-- a stay that has nothing to do has answered all
+
+quiet_commands : (x : Lane) → is_quiet x ≡ true → answered_commands x ≡ commands_of x
+quiet_commands x quiet =
+    let both = and_both _ _ quiet in
+    let idle : is_idle x.stage ≡ true = both.0 in
+    let none : x.waiting ≡ [] = nil_from_length x.waiting (eqb-true _ _ both.1) in
+    let all : x.taken ++ [] ≡ x.taken = append-nil x.taken in
+    rw (idle, none, all) refl
+
+served : (x : Lane) (commands : List Command) → IsRight x → is_quiet x ≡ true → commands_of x ≡ commands → IsServedAlone x.row commands x
+served x commands right quiet handed =
+    let same = quiet_commands x quiet ∙ handed in
+    let replies : x.replies ≡ (alone x.row commands).replies = right.course.replies ∙ ap (λ cs. (course_of x.row.quota cs).replies) same in
+    let game : x.game ≡ (alone x.row commands).game = right.course.game ∙ ap (λ cs. (course_of x.row.quota cs).game) same in
+    record {
+      replies = replies;
+      board = ap last_board game;
+      charge = ap game_charge game;
+      records = ap (λ g. if x.is_open then records_of g else []) game;
+    }
+
+pub served_law : ServedLaw
+served_law setting rows events game plan fit there quiet =
+    served (lane_of (shared_run setting rows events) game) (commands_in (own_events setting rows events game))
+    (well_run setting (opened_lanes rows) events fit (well_opened rows plan) game there).right quiet (keeps_commands setting rows events game there)
+
+-- stays do come and go
+
+abbrev Goes : Setting → List Lane → List Event → List Lane → Type 0
+Goes setting lanes events last = (are_enabled setting lanes events ≡ true) × (run_of setting lanes events ≡ last)
+
+one_more : (setting : Setting) (lanes next last : List Lane) (e : Event) (events : List Event) → is_enabled setting lanes e ≡ true → lane_effect lanes e ≡ next
+    → Goes setting next events last → Goes setting lanes (e ∷ events) last
+one_more setting lanes next last e events on effect rest =
+    let is : step setting lanes e ≡ next = step_enabled setting lanes e on ∙ effect in
+    let later : are_enabled setting (step setting lanes e) events ≡ true = ap (λ (ls : List Lane). are_enabled setting ls events) is ∙ rest.0 in
+    (and_from _ _ on later, ap (λ (ls : List Lane). run_of setting ls events) is ∙ rest.1)
+
+module _ (setting : Setting) (worker : ℕ) (row : GameRow) (known : nat_le worker setting.workers ≡ true) (room : nat_le (blocks_of setting.cap row) setting.blocks ≡ true) where
+  abbrev come : Lane
+  come = empty_lane row
+
+  abbrev handed : Lane
+  handed = with_waiting command.Show come
+
+  abbrev begun : Lane
+  begun = with_taken worker kind.Begin 0 handed
+
+  abbrev done : Lane
+  done = answered begun
+
+  abbrev gone : Lane
+  gone = closed_lane done
+
+  all_left : setting.blocks - 0 ≡ setting.blocks
+  all_left = omega arith
+
+  first_comes : is_enabled setting [] (event.Admit row) ≡ true
+  first_comes = rw (all_left, room) refl
+
+  takes : is_enabled setting (handed ∷ []) (event.Take worker begin_of_only) ≡ true
+  takes = rw known refl
+
+  puts : is_enabled setting (begun ∷ []) (event.Put worker begin_of_only) ≡ true
+  puts = let self : nat_eq worker worker ≡ true = eq-eqb worker worker refl in rw self refl
+
+  put_is : with_put kind.Begin 0 begun ≡ done
+  unfolding reason_against
+  put_is = refl
+
+  leaves : is_enabled setting (done ∷ []) (event.Leave 0) ≡ true
+  leaves = refl
+
+  next_comes : is_enabled setting (gone ∷ []) (event.Admit row) ≡ true
+  next_comes = rw (all_left, room) refl
+
+  goes : Goes setting [] (coming_and_going worker row) (gone ∷ empty_lane row ∷ [])
+  goes =
+      let last = gone ∷ empty_lane row ∷ [] in
+      let after_admit = event.Hand 0 command.Show ∷ event.Take worker begin_of_only ∷ event.Put worker begin_of_only ∷ event.Leave 0 ∷ event.Admit row ∷ [] in
+      let after_hand = event.Take worker begin_of_only ∷ event.Put worker begin_of_only ∷ event.Leave 0 ∷ event.Admit row ∷ [] in
+      let after_take = event.Put worker begin_of_only ∷ event.Leave 0 ∷ event.Admit row ∷ [] in
+      let after_put = event.Leave 0 ∷ event.Admit row ∷ [] in
+      one_more setting [] (come ∷ []) last (event.Admit row) after_admit first_comes refl
+      (one_more setting (come ∷ []) (handed ∷ []) last (event.Hand 0 command.Show) after_hand refl refl
+      (one_more setting (handed ∷ []) (begun ∷ []) last (event.Take worker begin_of_only) after_take takes refl
+      (one_more setting (begun ∷ []) (done ∷ []) last (event.Put worker begin_of_only) after_put puts (ap (λ (y : Lane). y ∷ []) put_is)
+      (one_more setting (done ∷ []) (gone ∷ []) last (event.Leave 0) (event.Admit row ∷ []) leaves refl
+      (one_more setting (gone ∷ []) last last (event.Admit row) [] next_comes refl (refl, refl))))))
+
+  answer : gone.replies ≡ Refused refusal.NoGame ∷ []
+  unfolding answer_to reply_to reason_against
+  answer = refl
+
+pub progress_example : ProgressExample
+progress_example setting worker row known room =
+    let is = goes setting worker row known room in
+    record {
+      enabled = is.0;
+      replies = ap (λ (ls : List Lane). (lane_of ls 0).replies) is.1 ∙ answer setting worker row known room;
+      stays = ap length is.1;
+    }

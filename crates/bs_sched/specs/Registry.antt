@@ -1,0 +1,143 @@
+-- Who is in the setting, and what of a list of events decides that: who comes and who leaves, and
+-- no job.
+use Rattle.std.specs.Prelude.{◌≡◌, ◌≢◌, ℕ, ◌<◌, ◌≤◌, ◌-◌, Bool, true, false, ◌&&◌, not, if◌then◌else◌, List, [], ◌∷◌, ◌++◌, length, map, fold, count_by, sum_by, nat_eq, nat_lt, nat_le, slice_index_or, slice_set, All}
+use Rattle.std.specs.List.{list_any}
+use Rattle.bs_board.specs.declared.limits.TheConstants.{MOST_ROWS}
+use Rattle.bs_board.specs.declared.commands.command.Command.{Command}
+use Rattle.bs_board.specs.declared.commands.reply.Reply.TheVariants.{Refused}
+use Rattle.bs_board.specs.declared.commands.reply.Refusal.TheVariants as refusal
+use Rattle.bs_board.specs.declared.commands.command.Command.TheVariants as command
+use Rattle.bs_board.specs.plans.Plan.{GameRow, row_of, IsFitPlan}
+use Rattle.bs_board.specs.Texts.{is_same_text}
+use Rattle.bs_fiber.specs.declared.job.JobKind.TheVariants as kind
+use Rattle.bs_fiber.specs.declared.job.JobName.{JobName}
+use Rattle.bs_game.specs.Alone.{alone}
+use Rattle.bs_game.specs.Game.{last_board, game_charge}
+use Rattle.bs_sched.specs.PlanBlocks.{blocks_of}
+use Rattle.bs_sched.specs.declared.event.Event.{Event}
+use Rattle.bs_sched.specs.declared.event.Event.TheVariants as event
+use Rattle.bs_sched.specs.Handed.{commands_of}
+use Rattle.bs_sched.specs.Isolation.{HandsFit, are_enabled, opened_lanes, own_events, row_made, commands_in, shared_run, final_board, final_charge}
+use Rattle.bs_sched.specs.Lane.{Lane, is_quiet, kept_of, records_of}
+use Rattle.bs_sched.specs.Machine.{Setting, lane_of, is_enabled, step, run_of}
+use Rattle.bs_sched.specs.declared.plan_blocks.TheConstants.{MOST_STAYS}
+
+-- the row of a stay, and whether it is open
+pub record Stay : Type 0 where
+  pub row : GameRow
+  pub is_open : Bool
+
+abbrev pub stay_of : Lane → Stay
+stay_of x = record { row = x.row; is_open = x.is_open }
+
+abbrev pub registry_of : List Lane → List Stay
+registry_of = map stay_of
+
+abbrev pub no_stay : Stay
+no_stay = record { row = row_of [] 0; is_open = true }
+
+abbrev pub blocks_in_registry : ℕ → List Stay → ℕ
+blocks_in_registry cap = sum_by (λ entry. if entry.is_open then blocks_of cap entry.row else 0)
+
+-- whether a row may come, of the registry alone
+abbrev pub may_admit_in : Setting → List Stay → GameRow → Bool
+may_admit_in setting registry row =
+    not (list_any (λ entry. entry.is_open && is_same_text row.game entry.row.game) registry)
+    && (not (not (nat_lt (count_by (λ entry. entry.is_open) registry) MOST_ROWS && nat_lt (length registry) MOST_STAYS))
+    && nat_le (blocks_of setting.cap row) (setting.blocks - blocks_in_registry setting.cap registry))
+
+-- what an event that is enabled makes of the registry
+abbrev pub registry_after : List Stay → Event → List Stay
+registry_after registry (event.Hand game command) = registry
+registry_after registry (event.Take worker job) = registry
+registry_after registry (event.Put worker job) = registry
+registry_after registry (event.Admit row) = registry ++ record { row = row; is_open = true } ∷ []
+registry_after registry (event.Leave game) = slice_set registry game (record { row = (slice_index_or registry game no_stay).row; is_open = false })
+
+abbrev pub is_in : List Stay → ℕ → Bool
+is_in registry game = nat_lt game (length registry) && (slice_index_or registry game no_stay).is_open
+
+-- By the registry alone a row may come or not and a command may be handed in or not; who leaves
+-- must besides have nothing to do. A job leaves the registry. The registry after events that were
+-- all enabled is what those make of it that come and leave.
+pub record DecidedByRegistry (setting : Setting) (lanes : List Lane) (events : List Event) : Type 0 where
+  pub admits : (row : GameRow) → is_enabled setting lanes (event.Admit row) ≡ may_admit_in setting (registry_of lanes) row
+  pub hands : (game : ℕ) (command : Command) → is_enabled setting lanes (event.Hand game command) ≡ is_in (registry_of lanes) game
+  pub leaves : (game : ℕ) → is_enabled setting lanes (event.Leave game) ≡ (is_in (registry_of lanes) game && is_quiet (lane_of lanes game))
+  pub takes : (worker : ℕ) (job : JobName) → registry_of (step setting lanes (event.Take worker job)) ≡ registry_of lanes
+  pub puts : (worker : ℕ) (job : JobName) → registry_of (step setting lanes (event.Put worker job)) ≡ registry_of lanes
+  pub registry : are_enabled setting lanes events ≡ true → registry_of (run_of setting lanes events) ≡ fold registry_after (registry_of lanes) events
+
+abbrev pub RegistryLaw : Type 0
+RegistryLaw = (setting : Setting) (lanes : List Lane) (events : List Event) → DecidedByRegistry setting lanes events
+
+-- Of events that were all enabled, as those of a journal: the rows are those that were admitted
+-- behind those of the plan, and what a stay was handed are the commands that name it.
+
+abbrev pub rows_in : List Event → List GameRow
+rows_in [] = []
+rows_in (event.Hand game command ∷ events) = rows_in events
+rows_in (event.Take worker job ∷ events) = rows_in events
+rows_in (event.Put worker job ∷ events) = rows_in events
+rows_in (event.Admit row ∷ events) = row ∷ rows_in events
+rows_in (event.Leave game ∷ events) = rows_in events
+
+abbrev pub commands_to : ℕ → List Event → List Command
+commands_to game [] = []
+commands_to game (event.Hand row command ∷ events) = if nat_eq row game then command ∷ commands_to game events else commands_to game events
+commands_to game (event.Take worker job ∷ events) = commands_to game events
+commands_to game (event.Put worker job ∷ events) = commands_to game events
+commands_to game (event.Admit row ∷ events) = commands_to game events
+commands_to game (event.Leave left ∷ events) = commands_to game events
+
+pub record TellsStays (setting : Setting) (plan : List GameRow) (events : List Event) : Type 0 where
+  pub rows : map (λ x. x.row) (shared_run setting plan events) ≡ plan ++ rows_in events
+  pub commands : (game : ℕ) → game < length (shared_run setting plan events)
+      → commands_of (lane_of (shared_run setting plan events) game) ≡ commands_to game events
+
+abbrev pub JournalLaw : Type 0
+JournalLaw = (setting : Setting) (plan : List GameRow) (events : List Event) → are_enabled setting (opened_lanes plan) events ≡ true → TellsStays setting plan events
+
+-- A stay that has nothing to do has answered all that was handed to it, as in a game by itself. So
+-- it is with each stay that has left, of which no record is kept.
+pub record IsServedAlone (row : GameRow) (commands : List Command) (x : Lane) : Type 0 where
+  pub replies : x.replies ≡ (alone row commands).replies
+  pub board : final_board x ≡ last_board (alone row commands).game
+  pub charge : final_charge x ≡ game_charge (alone row commands).game
+  pub records : kept_of x ≡ (if x.is_open then records_of (alone row commands).game else [])
+
+abbrev pub ServedLaw : Type 0
+ServedLaw =
+    (setting : Setting) (rows : List GameRow) (events : List Event) (game : ℕ) → IsFitPlan rows → All HandsFit events
+    → game < length (shared_run setting rows events) → is_quiet (lane_of (shared_run setting rows events) game) ≡ true
+    → IsServedAlone (row_made setting rows events game) (commands_in (own_events setting rows events game)) (lane_of (shared_run setting rows events) game)
+
+-- Stays do come and go: one is admitted into an empty setting, handed a command, answered, and
+-- leaves; then one of the same name comes.
+
+abbrev pub begin_of_only : JobName
+begin_of_only = record { game = 0; kind = kind.Begin; part = 0 }
+
+abbrev pub coming_and_going : ℕ → GameRow → List Event
+coming_and_going worker row =
+    event.Admit row ∷ event.Hand 0 command.Show ∷ event.Take worker begin_of_only ∷ event.Put worker begin_of_only ∷ event.Leave 0 ∷ event.Admit row ∷ []
+
+pub record ComesAndGoes (setting : Setting) (worker : ℕ) (row : GameRow) : Type 0 where
+  pub enabled : are_enabled setting [] (coming_and_going worker row) ≡ true
+  pub replies : (lane_of (run_of setting [] (coming_and_going worker row)) 0).replies ≡ Refused refusal.NoGame ∷ []
+  pub stays : length (run_of setting [] (coming_and_going worker row)) ≡ 2
+
+abbrev pub ProgressExample : Type 0
+ProgressExample = (setting : Setting) (worker : ℕ) (row : GameRow) → nat_le worker setting.workers ≡ true → nat_le (blocks_of setting.cap row) setting.blocks ≡ true → ComesAndGoes setting worker row
+
+-- No two open stays have one name, no more are open than a plan may have games, and no more rows
+-- are made than a number has room for.
+
+pub record AreKnownApart (lanes : List Lane) : Type 0 where
+  pub names : (game other : ℕ) → game < length lanes → other < length lanes → game ≢ other → (lane_of lanes game).is_open ≡ true
+      → (lane_of lanes other).is_open ≡ true → (lane_of lanes game).row.game ≢ (lane_of lanes other).row.game
+  pub few : count_by (λ x. x.is_open) lanes ≤ MOST_ROWS
+  pub made : length lanes ≤ MOST_STAYS
+
+abbrev pub NamesLaw : Type 0
+NamesLaw = (setting : Setting) (plan : List GameRow) (events : List Event) → IsFitPlan plan → AreKnownApart (shared_run setting plan events)
