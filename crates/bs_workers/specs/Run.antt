@@ -1,45 +1,63 @@
--- The result of a run: every command was queued in order and answered, each game by its own
--- commands alone.
-use Rattle.std.specs.Prelude.{◌≡◌, ℕ, ◌<◌, true, false, List, ◌++◌, length, Option, Some, None, nat_eq, if◌then◌else◌}
+-- The result of a run: every act was made in order, and every command answered, each stay by its
+-- own commands alone.
+use Rattle.std.specs.Prelude.{◌≡◌, ℕ, ◌+◌, ◌<◌, true, false, List, ◌∷◌, ◌++◌, length, map, take, Option, Some, None}
 use Rattle.std.specs.List.{filter_map, list_all}
-use Rattle.bs_board.specs.declared.commands.command.Command.{Command}
 use Rattle.bs_board.specs.plans.Plan.{GameRow}
 use Rattle.bs_pool.specs.Ledger.{size}
 use Rattle.bs_sched.specs.declared.event.Event.{Event}
+use Rattle.bs_sched.specs.declared.event.Event.TheVariants as event
+use Rattle.bs_sched.specs.Registry.{IsServedAlone}
 use Rattle.bs_sched.specs.Core.{CoreView}
 use Rattle.bs_sched.specs.Games.{row_at}
-use Rattle.bs_sched.specs.Handed.{IsServed, hands_of}
-use Rattle.bs_sched.specs.Lane.{is_quiet}
+use Rattle.bs_sched.specs.Lane.{Lane, is_quiet}
 use Rattle.bs_sched.specs.Machine.{lane_of}
+use Rattle.bs_workers.specs.declared.act.Act.{Act}
+use Rattle.bs_workers.specs.declared.act.Act.TheVariants as act
+use Rattle.bs_workers.specs.Acts.{command_in, rows_admitted}
 
--- the command, where it is the game's of that row
-abbrev pub command_for : ℕ → ℕ × Command → Option Command
-command_for game command = if nat_eq command.0 game then Some command.1 else None
+-- the act that an event is, if it is no job's
+abbrev pub act_of : Event → Option Act
+act_of (event.Hand game command) = Some (act.Hand game command)
+act_of (event.Take worker job) = None
+act_of (event.Put worker job) = None
+act_of (event.Admit row) = Some (act.Admit row)
+act_of (event.Leave game) = Some (act.Leave game)
 
--- the commands of the game of that row, in their order
-abbrev pub commands_for : ℕ → List (ℕ × Command) → List Command
-commands_for game = filter_map (command_for game)
+abbrev pub acts_of : List Event → List Act
+acts_of = filter_map act_of
+
+-- the rows of the stays, in their order
+abbrev pub rows_made : List Lane → List GameRow
+rows_made = map (λ x. x.row)
 
 -- the core has the same plan and as many blocks, was not told to fail, and nothing is left to do;
--- its journal queues just these commands, in their order, and each game is as its own commands
--- leave it
-pub record IsRunOf (old : CoreView) (commands : List (ℕ × Command)) (new : CoreView) : Type 0 where
+-- its stays are those of the plan, and then those that were admitted; its journal makes just these
+-- acts, in their order, and each stay is as its own commands leave it: one that has left keeps its
+-- last board and its charge
+pub record IsRunOf (old : CoreView) (acts : List Act) (new : CoreView) : Type 0 where
   pub plan : new.games.rows ≡ old.games.rows
+  pub stays : rows_made new.games.lanes ≡ old.games.rows ++ rows_admitted acts
   pub blocks : size new.games.storage.pool ≡ size old.games.storage.pool
   pub failed : new.games.failed ≡ false
   pub quiet : list_all is_quiet new.games.lanes ≡ true
-  pub handed : hands_of new.journal ≡ commands
-  pub served : (game : ℕ) → game < length old.games.rows → IsServed (row_at old.games.rows game) (commands_for game commands) (lane_of new.games.lanes game)
+  pub acted : acts_of new.journal ≡ acts
+  pub served : (stay : ℕ) → stay < length (old.games.rows ++ rows_admitted acts)
+      → IsServedAlone (row_at (old.games.rows ++ rows_admitted acts) stay) (filter_map (command_in stay) acts) (lane_of new.games.lanes stay)
 
 -- what the comparison of a core with a run looks at
 
--- the core has that plan and that many blocks, was not told to fail, and nothing is left to do
-pub record HasEnded (rows : List GameRow) (blocks : ℕ) (new : CoreView) : Type 0 where
-  pub plan : new.games.rows ≡ rows
+-- the first stays have these rows, and so many come after them
+pub record HasRows (rows : List GameRow) (admitted : ℕ) (lanes : List Lane) : Type 0 where
+  pub first : take (length rows) (rows_made lanes) ≡ rows
+  pub made : length lanes ≡ length rows + admitted
+
+-- the core has these stays and that many blocks, was not told to fail, and nothing is left to do
+pub record HasEnded (rows : List GameRow) (admitted blocks : ℕ) (new : CoreView) : Type 0 where
+  pub stays : HasRows rows admitted new.games.lanes
   pub as_many : size new.games.storage.pool ≡ blocks
   pub failed : new.games.failed ≡ false
   pub quiet : list_all is_quiet new.games.lanes ≡ true
 
--- the commands do not begin with those that these events queue
-abbrev pub CannotHandIn : List Event → List (ℕ × Command) → Type 0
-CannotHandIn events commands = (rest : List (ℕ × Command)) → commands ≡ hands_of events ++ rest → ⊥
+-- the acts do not begin with those that these events make
+abbrev pub CannotMake : List Event → List Act → Type 0
+CannotMake events acts = (rest : List Act) → acts ≡ acts_of events ++ rest → ⊥

@@ -1,21 +1,22 @@
 //! Whether a core is the result of a run.
-ghost use Rattle.std.specs.Prelude.{◌≡◌, ◌↔◌, [], ◌∷◌, ◌++◌, IsTrue, IfOk, MatchOption};
+ghost use Rattle.std.specs.Prelude.{◌≡◌, ◌↔◌, ◌≤◌, [], ◌∷◌, ◌++◌, Some, None, IsTrue, IfOk, MatchOption, length, take, count_by};
 ghost use Rattle.bs_pool.specs.Ledger.{size};
 ghost use Rattle.bs_sched.specs.Core.{CoreView};
-ghost use Rattle.bs_sched.specs.Handed.{hands_of};
-ghost use Rattle.bs_workers.specs.Run.{CannotHandIn, HasEnded, IsRunOf};
+ghost use Rattle.bs_workers.specs.Acts.{is_admission};
+ghost use Rattle.bs_workers.specs.Run.{CannotMake, HasEnded, HasRows, IsRunOf, act_of, acts_of, rows_made};
 
-use bs_board::{Command, Row};
-use bs_fiber::SharedCommand;
+use crate::act::Act;
+use bs_board::Row;
 use bs_sched::{Core, Event};
 use std::alloc::{AllocError, Global};
 
-/// A copy of the plan's rows.
+/// A copy of the rows of all stays.
+#[tactic(auto, using(crate::proofs::Compared::one_more_row, crate::proofs::Compared::all_rows))]
 pub(crate) fn copy_rows<const CAP: usize>(
     alloc: Global,
     core: &Core<CAP>,
 ) -> Result<Vec<Row>, AllocError>
-    ensures { IfOk result (λ rows. rows.items ≡ core.now.games.rows) }
+    ensures { IfOk result (λ rows. rows.items ≡ rows_made core.now.games.lanes) }
 {
     let count = core.rows();
     let mut rows = Vec::with_capacity(alloc, count)?;
@@ -31,13 +32,12 @@ fn is_same_row(row: &Row, other: &Row) -> bool
     row.game == other.game && row.quota == other.quota
 }
 
-/// Whether the core has these rows.
-fn has_rows<const CAP: usize>(core: &Core<CAP>, rows: &[Row]) -> bool
-    ensures { IsTrue result ↔ core.now.games.rows ≡ rows.now }
+/// Whether the first stays have these rows.
+#[tactic(auto, using(crate::proofs::Compared::one_more_row, crate::proofs::Compared::row_among_first))]
+fn has_first_rows<const CAP: usize>(core: &Core<CAP>, rows: &[Row]) -> bool
+    requires { length rows.now ≤ length core.now.games.lanes }
+    ensures { IsTrue result ↔ take (length rows.now) (rows_made core.now.games.lanes) ≡ rows.now }
 {
-    if core.rows() != rows.len() {
-        return false;
-    }
     for game in 0..rows.len() {
         if !is_same_row(core.row(game), &rows[game]) {
             return false;
@@ -46,41 +46,72 @@ fn has_rows<const CAP: usize>(core: &Core<CAP>, rows: &[Row]) -> bool
     true
 }
 
-/// Whether the next command to be queued is that command, for the game of that row.
-fn is_next(next: &(usize, SharedCommand), game: usize, command: &Command) -> bool
-    ensures { IsTrue result ↔ next.now ≡ (game, command.now) }
+/// Whether the first stays have these rows, and so many stays come after them.
+fn has_rows<const CAP: usize>(core: &Core<CAP>, rows: &[Row], admitted: usize) -> bool
+    ensures { IsTrue result ↔ HasRows rows.now admitted core.now.games.lanes }
 {
-    next.0 == game && next.1.get().is_same(command)
+    core.rows() >= rows.len() && core.rows() - rows.len() == admitted && has_first_rows(core, rows)
 }
 
-/// The commands that remain after the event; none where it queues a command that isn't the first.
-fn after_event<'c>(
-    commands: &'c [(usize, SharedCommand)],
-    event: &Event,
-) -> Option<&'c [(usize, SharedCommand)]>
-    ensures { MatchOption result
-        (CannotHandIn (event.now ∷ []) commands.now)
-        (λ rest. commands.now ≡ hands_of (event.now ∷ []) ++ rest.now) }
+/// Whether the event makes that act.
+fn makes(event: &Event, act: &Act) -> bool
+    ensures { IsTrue result ↔ act_of event.now ≡ Some act.now }
 {
     match event {
-        Event::Hand(game, command) => {
-            let (next, rest) = commands.split_first()?;
-            if is_next(next, *game as usize, command.get()) {
-                Some(rest)
-            } else {
-                None
+        Event::Hand(game, command) => match act {
+            Act::Hand(stay, given) => {
+                *stay == *game as usize && given.get().is_same(command.get())
             }
-        }
-        Event::Take(_, _) => Some(commands),
-        Event::Put(_, _) => Some(commands),
+            Act::Admit(_) => false,
+            Act::Leave(_) => false,
+        },
+        Event::Take(_, _) => false,
+        Event::Put(_, _) => false,
+        Event::Admit(row) => match act {
+            Act::Hand(_, _) => false,
+            Act::Admit(given) => is_same_row(row.get(), given),
+            Act::Leave(_) => false,
+        },
+        Event::Leave(game) => match act {
+            Act::Hand(_, _) => false,
+            Act::Admit(_) => false,
+            Act::Leave(stay) => *stay == *game as usize,
+        },
     }
 }
 
-/// Whether these events queue just these commands, in this order.
-fn are_handed(events: &[Event], commands: &[(usize, SharedCommand)]) -> bool
-    ensures { IsTrue result ↔ hands_of events.now ≡ commands.now }
+/// Whether the event is that of a job.
+fn is_job(event: &Event) -> bool
+    ensures { IsTrue result ↔ act_of event.now ≡ None }
 {
-    let mut left = commands;
+    match event {
+        Event::Hand(_, _) => false,
+        Event::Take(_, _) => true,
+        Event::Put(_, _) => true,
+        Event::Admit(_) => false,
+        Event::Leave(_) => false,
+    }
+}
+
+/// The acts that remain after the event; none where it makes an act that isn't the first.
+#[tactic(auto, using(crate::proofs::Acted::job_makes_nothing, crate::proofs::Acted::first_is_made, crate::proofs::Acted::another_is_made, crate::proofs::Acted::none_is_left))]
+fn after_event<'c>(acts: &'c [Act], event: &Event) -> Option<&'c [Act]>
+    ensures { MatchOption result
+        (CannotMake (event.now ∷ []) acts.now)
+        (λ rest. acts.now ≡ acts_of (event.now ∷ []) ++ rest.now) }
+{
+    if is_job(event) {
+        return Some(acts);
+    }
+    let (next, rest) = acts.split_first()?;
+    if makes(event, next) { Some(rest) } else { None }
+}
+
+/// Whether these events make just these acts, in this order.
+fn are_made(events: &[Event], acts: &[Act]) -> bool
+    ensures { IsTrue result ↔ acts_of events.now ≡ acts.now }
+{
+    let mut left = acts;
     for event in events {
         match after_event(left, event) {
             Some(rest) => left = rest,
@@ -90,25 +121,56 @@ fn are_handed(events: &[Event], commands: &[(usize, SharedCommand)]) -> bool
     left.is_empty()
 }
 
-/// Whether the core has that plan and that many blocks, was not told to fail, and nothing is left
-/// to do.
-fn has_ended<const CAP: usize>(core: &Core<CAP>, rows: &[Row], blocks: usize) -> bool
-    ensures { IsTrue result ↔ HasEnded rows.now blocks core.now }
+fn admits(act: &Act) -> bool
+    ensures { result ≡ is_admission act.now }
 {
-    has_rows(core, rows) && core.counts().size == blocks && !core.has_failed() && core.is_quiet()
+    match act {
+        Act::Hand(_, _) => false,
+        Act::Admit(_) => true,
+        Act::Leave(_) => false,
+    }
 }
 
-/// Whether the core is the result of a run of these commands in a core of that plan with that many
+/// How many games the acts admit.
+fn count_admitted(acts: &[Act]) -> usize
+    ensures { result ≡ count_by is_admission acts.now }
+{
+    acts.iter()
+        .filter(
+            |act| -> bool
+                ensures { result ≡ is_admission act.now.now }
+            { admits(act) },
+        )
+        .count()
+}
+
+/// Whether the core has these stays and that many blocks, was not told to fail, and nothing is left
+/// to do.
+fn has_ended<const CAP: usize>(
+    core: &Core<CAP>,
+    rows: &[Row],
+    admitted: usize,
+    blocks: usize,
+) -> bool
+    ensures { IsTrue result ↔ HasEnded rows.now admitted blocks core.now }
+{
+    has_rows(core, rows, admitted)
+        && core.counts().size == blocks
+        && !core.has_failed()
+        && core.is_quiet()
+}
+
+/// Whether the core is the result of a run of these acts in a core of that plan with that many
 /// blocks.
-#[tactic(auto, using(crate::proofs::HandedIn::run_of, crate::proofs::HandedIn::run_ended))]
+#[tactic(auto, using(crate::proofs::Compared::run_of, crate::proofs::Compared::run_ended))]
 pub(crate) fn is_run_of<const CAP: usize>(
     core: &Core<CAP>,
     rows: &[Row],
     blocks: usize,
-    commands: &[(usize, SharedCommand)],
+    acts: &[Act],
 ) -> bool
     ensures { (old : CoreView) → rows.now ≡ old.games.rows → blocks ≡ size old.games.storage.pool
-        → (IsTrue result ↔ IsRunOf old commands.now core.now) }
+        → (IsTrue result ↔ IsRunOf old acts.now core.now) }
 {
-    has_ended(core, rows, blocks) && are_handed(core.journal(), commands)
+    has_ended(core, rows, count_admitted(acts), blocks) && are_made(core.journal(), acts)
 }

@@ -1,9 +1,9 @@
 //! The executor: the state of a run behind a lock, and the threads that run its jobs.
+use crate::act::{Act, HeldAct, hold_all};
 use crate::fault::Run;
 use crate::gate::Gate;
-use crate::state::{Next, State};
+use crate::state::{Next, State, Submitted};
 use crate::worker::Worker;
-use bs_fiber::{Holders, SharedCommand};
 use bs_sched::Core;
 use std::alloc::{AllocError, Global};
 use std::hint::spin_loop;
@@ -33,22 +33,10 @@ const SPIN_LIMIT: u32 = 4_000;
 /// The number of spin-loop hints between two polls.
 const SPINS_PER_TRY: u32 = 4;
 
-/// The number of commands queued in one critical section. It is large because each section moves
-/// the cache lines of all games to the caller's processor and back. Between two sections other
-/// threads get the lock.
-const COMMANDS_AT_ONCE: usize = 1024;
-
-/// Makes the handles that a core keeps of these commands, each with the row of its game.
-fn hold_all(
-    alloc: Global,
-    commands: &[(usize, SharedCommand)],
-) -> Result<Vec<(usize, Holders)>, AllocError> {
-    let mut held = Vec::with_capacity(alloc, commands.len())?;
-    for (game, command) in commands {
-        held.push((*game, Holders::new(command)?))?;
-    }
-    Ok(held)
-}
+/// The number of acts made in one critical section. It is large because each section moves the
+/// cache lines of all games to the caller's processor and back. Between two sections other threads
+/// get the lock.
+const ACTS_AT_ONCE: usize = 1024;
 
 impl<const CAP: usize> Executor<CAP> {
     /// Makes an executor for a newly opened core. Each thread has `batch` of the core's workers.
@@ -90,24 +78,66 @@ impl<const CAP: usize> Executor<CAP> {
         self.unlock(state, true);
     }
 
-    /// Queues all commands in order, each with the row of its game, until the run is stopped. Their
-    /// handles are made before the lock is taken.
-    pub(crate) fn submit<R: Wait>(&self, rt: &R, commands: &[(usize, SharedCommand)]) {
-        for some in commands.chunks(COMMANDS_AT_ONCE) {
-            let Ok(held) = hold_all(self.alloc, some) else {
+    /// Makes all acts in order, until the run is stopped. Their handles are made before the lock is
+    /// taken. Where a game cannot leave yet, the calling thread runs jobs as that worker meanwhile.
+    pub(crate) fn submit<R: Wait, G: Gate>(
+        &self,
+        rt: &R,
+        acts: &[Act],
+        worker: &mut Worker<CAP>,
+        gate: &G,
+    ) {
+        for some in acts.chunks(ACTS_AT_ONCE) {
+            let Ok(mut held) = hold_all(self.alloc, some) else {
                 self.fail(rt, Run::Memory);
                 return;
             };
-            let mut state = self.lock(rt);
-            let goes_on = state.submit(held);
-            self.unlock(state, true);
-            if !goes_on {
+            if !self.submit_held(rt, &mut held, worker, gate) {
                 return;
             }
         }
         let mut state = self.lock(rt);
         state.is_closed = true;
         self.unlock(state, true);
+    }
+
+    /// Makes the acts, the last of the list first. Returns false if the run is stopped.
+    fn submit_held<R: Wait, G: Gate>(
+        &self,
+        rt: &R,
+        held: &mut Vec<HeldAct>,
+        worker: &mut Worker<CAP>,
+        gate: &G,
+    ) -> bool {
+        let mut state = self.lock(rt);
+        for _ in rt.forever() {
+            // The results are completed first: they may be what the game waits for.
+            state.complete(worker);
+            let made = state.submit(self.alloc, held);
+            if made != Submitted::Busy {
+                self.unlock(state, true);
+                return made == Submitted::All;
+            }
+            match state.complete_and_take(worker) {
+                Next::Work { wakes: _ } => {
+                    self.unlock(state, true);
+                    worker.run_jobs(gate);
+                    state = self.lock(rt);
+                }
+                Next::Wait { wakes: _ } => {
+                    // Others may run jobs of what was just made.
+                    self.changed.notify_all();
+                    state.waiting = state.waiting.saturating_add(1);
+                    state = self.changed.wait(rt, state);
+                    state.waiting = state.waiting.saturating_sub(1);
+                }
+                Next::End => {
+                    self.unlock(state, true);
+                    return false;
+                }
+            }
+        }
+        false
     }
 
     /// Completes the results of the worker and takes its next batch of jobs, waiting until there is
@@ -124,7 +154,10 @@ impl<const CAP: usize> Executor<CAP> {
                     self.unlock(state, true);
                     return false;
                 }
-                Next::Wait => {
+                Next::Wait { wakes } => {
+                    if wakes {
+                        self.changed.notify_all();
+                    }
                     state.waiting = state.waiting.saturating_add(1);
                     state = self.changed.wait(rt, state);
                     state.waiting = state.waiting.saturating_sub(1);
@@ -134,37 +167,53 @@ impl<const CAP: usize> Executor<CAP> {
         false
     }
 
-    /// Runs jobs on the calling thread, as thread number `thread`, until the end of the run.
-    fn work<R: Wait, G: Gate>(&self, rt: &R, thread: usize, gate: &G) {
+    /// The worker of that thread; none where memory ran out, which stops the run.
+    fn worker_of<R: Wait>(&self, rt: &R, thread: usize) -> Option<Worker<CAP>> {
         let first = thread.saturating_mul(self.batch);
-        let Ok(mut worker) = Worker::new(self.alloc, thread, first, self.batch) else {
-            self.fail(rt, Run::Memory);
-            return;
-        };
+        match Worker::new(self.alloc, thread, first, self.batch) {
+            Ok(worker) => Some(worker),
+            Err(_) => {
+                self.fail(rt, Run::Memory);
+                None
+            }
+        }
+    }
+
+    /// Runs jobs as that worker until the end of the run.
+    fn work<R: Wait, G: Gate>(&self, rt: &R, worker: &mut Worker<CAP>, gate: &G) {
         for _ in rt.forever() {
-            if !self.complete_and_take(rt, &mut worker) {
+            if !self.complete_and_take(rt, worker) {
                 break;
             }
             worker.run_jobs(gate);
         }
     }
 
-    /// Queues the commands and runs their jobs on `threads` threads. The calling thread is number
-    /// 0: it queues all commands, then runs jobs. If the system does not start one of the others,
-    /// the rest run its jobs.
+    /// Runs jobs on a thread of that number until the end of the run.
+    fn work_as<R: Wait, G: Gate>(&self, rt: &R, thread: usize, gate: &G) {
+        if let Some(mut worker) = self.worker_of(rt, thread) {
+            self.work(rt, &mut worker, gate);
+        }
+    }
+
+    /// Makes the acts and runs their jobs on `threads` threads. The calling thread is number 0: it
+    /// makes all acts, then runs jobs. If the system does not start one of the others, the rest run
+    /// its jobs.
     pub(crate) fn work_in_threads<R: Threads + Wait + Sync, G: Gate>(
         &self,
         rt: &R,
-        commands: &[(usize, SharedCommand)],
+        acts: &[Act],
         threads: usize,
         gate: &G,
     ) {
         thread::scope(thread::scope_env(), rt, |scope| {
             for thread in 1..threads {
-                let _thread = scope.spawn(move || self.work(rt, thread, gate));
+                let _thread = scope.spawn(move || self.work_as(rt, thread, gate));
             }
-            self.submit(rt, commands);
-            self.work(rt, 0, gate);
+            if let Some(mut worker) = self.worker_of(rt, 0) {
+                self.submit(rt, acts, &mut worker, gate);
+                self.work(rt, &mut worker, gate);
+            }
         });
     }
 
@@ -180,7 +229,7 @@ impl<const CAP: usize> Executor<CAP> {
         for _ in rt.forever() {
             match state.complete_and_take(&mut worker) {
                 Next::Work { wakes: _ } => worker.run_jobs(gate),
-                Next::Wait => break,
+                Next::Wait { wakes: _ } => break,
                 Next::End => break,
             }
         }

@@ -10,7 +10,7 @@ use thiserror::Error;
 pub enum Run {
     #[error("out of memory")]
     Memory,
-    /// A gate answered false, a command's row is not in the plan, the core refused a call, or the
+    /// A gate answered false, an act names a stay that is not open, the core refused a call, or the
     /// finished core is not that of a complete run.
     #[error("broken")]
     Broken,

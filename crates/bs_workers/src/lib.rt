@@ -2,6 +2,7 @@
 //! answered.
 #![tactic(auto)]
 
+mod act;
 mod compare;
 mod executor;
 mod fault;
@@ -12,6 +13,7 @@ mod state;
 mod tests;
 mod worker;
 
+pub use act::{Act, MOST_STAYS};
 pub use fault::Run;
 pub use gate::{Gate, OpenGate};
 pub use runs::run;

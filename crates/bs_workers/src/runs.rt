@@ -1,51 +1,73 @@
-//! A run: every command is queued and answered.
-ghost use Rattle.std.specs.Prelude.{◌≡◌, IfOk};
+//! A run: every act is made, and every command answered.
+ghost use Rattle.std.specs.Prelude.{◌≡◌, true, IfOk};
 ghost use Rattle.bs_pool.specs.Ledger.{size};
 ghost use Rattle.bs_sched.specs.Core.{opened_core};
+ghost use Rattle.bs_workers.specs.Acts.{are_acceptable, setting_of_core, opened};
 ghost use Rattle.bs_workers.specs.Run.{IsRunOf};
 
+use crate::act::Act;
 use crate::compare::{copy_rows, is_run_of};
 use crate::executor::Executor;
 use crate::fault::Run;
 use crate::gate::Gate;
 use crate::worker::Worker;
-use bs_fiber::SharedCommand;
 use bs_sched::Core;
 use std::alloc::Global;
 use std::sync::Wait;
 use std::thread::Threads;
 
-/// Queues the commands in order, each with the row of its game, in a newly opened core, and answers
-/// all of them on at most `threads` threads, the caller's included. There are never more threads
-/// than the core has workers, and the workers are divided among the threads. The gate is passed the
-/// thread's number. A command for a row that the plan does not have stops the run with `Broken`.
-pub fn run<const CAP: usize, R: Threads + Wait + Sync, G: Gate>(
+/// Like `run`, for any acts. An act that the core refuses for another reason than want of memory
+/// stops the run with `Broken`.
+pub(crate) fn run_any<const CAP: usize, R: Threads + Wait + Sync, G: Gate>(
     rt: &R,
     alloc: Global,
     core: Core<CAP>,
-    commands: &[(usize, SharedCommand)],
+    acts: &[Act],
     threads: usize,
     gate: &G,
 ) -> Result<Core<CAP>, Run>
-    requires fresh { core
+    requires { core
         ≡ opened_core CAP (size core.games.storage.pool) core.games.workers core.games.rows }
-    ensures { IfOk result (λ done. IsRunOf core.entry commands.now done) }
+    ensures { IfOk result (λ done. IsRunOf core.entry acts.now done) }
 {
     let rows = copy_rows(alloc, &core)?;
     let blocks = core.counts().size;
     let workers = core.workers();
     let threads = threads.min(workers);
-    let own = Worker::new(alloc, threads, workers, 1)?;
+    let mut own = Worker::new(alloc, threads, workers, 1)?;
     let executor = Executor::new(alloc, core, workers / threads.max(1))?;
     if threads > 1 {
-        executor.work_in_threads(rt, commands, threads, gate);
+        executor.work_in_threads(rt, acts, threads, gate);
     } else {
-        executor.submit(rt, commands);
+        executor.submit(rt, acts, &mut own, gate);
     }
     let core = executor.finish(rt, own, gate)?;
-    if is_run_of(&core, rows.as_slice(), blocks, commands) {
+    if is_run_of(&core, rows.as_slice(), blocks, acts) {
         Ok(core)
     } else {
         Err(Run::Broken)
     }
+}
+
+/// Makes the acts in order in a newly opened core, and answers all commands on at most `threads`
+/// threads, the caller's included. There are never more threads than the core has workers, and the
+/// workers are divided among the threads. The gate is passed the thread's number. The caller's
+/// thread makes the acts; while a game cannot leave yet, it runs jobs itself, and may wait for
+/// another thread. Each act has to be acceptable where it comes, by the open stays alone: a command
+/// and a leave name an open stay, and an admitted row's name, place and blocks are free.
+pub fn run<const CAP: usize, R: Threads + Wait + Sync, G: Gate>(
+    rt: &R,
+    alloc: Global,
+    core: Core<CAP>,
+    acts: &[Act],
+    threads: usize,
+    gate: &G,
+) -> Result<Core<CAP>, Run>
+    requires fresh { core
+        ≡ opened_core CAP (size core.games.storage.pool) core.games.workers core.games.rows }
+    requires acts { are_acceptable (setting_of_core CAP core) (opened core.games.rows) acts.now
+        ≡ true }
+    ensures { IfOk result (λ done. IsRunOf core.entry acts.now done) }
+{
+    run_any(rt, alloc, core, acts, threads, gate)
 }

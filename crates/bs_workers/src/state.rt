@@ -1,8 +1,11 @@
 //! What the threads of a run share: the core, and how far the run is.
+use crate::act::HeldAct;
 use crate::fault::Run;
 use crate::worker::{Job, MOST_PARTS, Worker};
+use bs_board::Row;
 use bs_fiber::Holders;
-use bs_sched::{Core, Taken};
+use bs_sched::{Core, Leave, Taken};
+use std::alloc::Global;
 
 /// What a thread does next, once it has released the lock.
 #[derive(Clone, Copy, PartialEq, Eq)]
@@ -10,10 +13,21 @@ pub(crate) enum Next {
     /// Runs the jobs that it took. If `wakes`, it first wakes the waiting threads, because it may
     /// have left jobs for them.
     Work { wakes: bool },
-    /// Waits: no job is ready, but one may become ready.
-    Wait,
+    /// Waits: no job is ready, but one may become ready. If `wakes`, it first wakes the waiting
+    /// threads, because a game may be able to leave now.
+    Wait { wakes: bool },
     /// Ends: there will be no further job.
     End,
+}
+
+/// How far a list of acts was made.
+#[derive(Clone, Copy, PartialEq, Eq)]
+pub(crate) enum Submitted {
+    All,
+    /// The next act is that of a game that cannot leave yet: something is to be done in it.
+    Busy,
+    /// The run is stopped.
+    Stopped,
 }
 
 /// The core of a run, and how far the run is.
@@ -22,8 +36,10 @@ pub(crate) struct State<const CAP: usize> {
     core: Core<CAP>,
     /// The number of threads that wait for a job.
     pub(crate) waiting: usize,
-    /// Whether all commands are queued.
+    /// Whether all acts are made.
     pub(crate) is_closed: bool,
+    /// Whether the caller's thread waits for a game that is to leave.
+    is_leaving: bool,
     /// Why the run was stopped.
     fault: Option<Run>,
 }
@@ -34,6 +50,7 @@ impl<const CAP: usize> State<CAP> {
             core,
             waiting: 0,
             is_closed: false,
+            is_leaving: false,
             fault: None,
         }
     }
@@ -47,17 +64,73 @@ impl<const CAP: usize> State<CAP> {
         Next::End
     }
 
-    /// Queues the commands in order, each for the game of its row. Returns false if the run is
-    /// stopped.
-    pub(crate) fn submit(&mut self, commands: Vec<(usize, Holders)>) -> bool {
-        for (game, command) in commands {
-            if game >= self.core.rows() {
+    /// Queues the command for the game of that row, which is open.
+    fn hand(&mut self, stay: usize, command: Holders) {
+        if stay >= self.core.rows() || !self.core.is_open(stay) {
+            self.fail(Run::Broken);
+        } else if self.core.hand_held(stay, command).is_err() {
+            self.fail(Run::Memory);
+        }
+    }
+
+    /// Admits a game. Where the acts are acceptable, the core refuses it for want of memory alone.
+    fn admit(&mut self, alloc: Global, row: Row) {
+        match self.core.admit(alloc, row) {
+            Ok(_) => {}
+            Err(bs_sched::Admit::Memory) => {
+                self.fail(Run::Memory);
+            }
+            Err(_) => {
                 self.fail(Run::Broken);
-            } else if self.core.hand_held(game, command).is_err() {
+            }
+        }
+    }
+
+    /// Dismisses the game of that row. Returns false where it cannot leave yet.
+    fn leave(&mut self, alloc: Global, stay: usize) -> bool {
+        if stay >= self.core.rows() {
+            self.fail(Run::Broken);
+            return true;
+        }
+        match self.core.leave(alloc, stay) {
+            Ok(()) => {}
+            Err(Leave::Busy) => return self.fault.is_some(),
+            Err(Leave::Closed) => {
+                self.fail(Run::Broken);
+            }
+            Err(Leave::Memory) => {
                 self.fail(Run::Memory);
             }
         }
-        self.fault.is_none()
+        true
+    }
+
+    /// Makes the acts, the last of the list first, up to the `leave` of a game in which something
+    /// is still to be done.
+    pub(crate) fn submit(&mut self, alloc: Global, acts: &mut Vec<HeldAct>) -> Submitted {
+        self.is_leaving = false;
+        for _ in 0..acts.len() {
+            match acts.pop() {
+                Some(HeldAct::Hand(stay, command)) => self.hand(stay, command),
+                Some(HeldAct::Admit(row)) => self.admit(alloc, row),
+                Some(HeldAct::Leave(stay)) => {
+                    if !self.leave(alloc, stay) {
+                        acts.push_reserved(HeldAct::Leave(stay));
+                        self.is_leaving = true;
+                        return Submitted::Busy;
+                    }
+                }
+                None => break,
+            }
+            if self.fault.is_some() {
+                return Submitted::Stopped;
+            }
+        }
+        if self.fault.is_some() {
+            Submitted::Stopped
+        } else {
+            Submitted::All
+        }
     }
 
     /// Completes all results of the worker.
@@ -85,7 +158,7 @@ impl<const CAP: usize> State<CAP> {
         if self.is_closed && self.core.is_quiet() {
             Next::End
         } else {
-            Next::Wait
+            Next::Wait { wakes: false }
         }
     }
 
@@ -138,21 +211,29 @@ impl<const CAP: usize> State<CAP> {
         Ok(())
     }
 
-    /// Records the worker's fault, completes its results, and takes its next batch of jobs.
-    pub(crate) fn complete_and_take(&mut self, worker: &mut Worker<CAP>) -> Next {
+    /// Records the worker's fault and completes its results.
+    pub(crate) fn complete(&mut self, worker: &mut Worker<CAP>) {
         if let Some(fault) = worker.fault {
             self.fail(fault);
         }
-        let ready = worker.count_ready();
         self.complete_all(worker);
+    }
+
+    /// Records the worker's fault, completes its results, and takes its next batch of jobs. Where
+    /// the caller's thread waits for a game to leave, a thread that completes something wakes it.
+    pub(crate) fn complete_and_take(&mut self, worker: &mut Worker<CAP>) -> Next {
+        let ready = worker.count_ready();
+        let wakes = self.is_leaving && ready > 0;
+        self.complete(worker);
         if self.fault.is_some() {
             return Next::End;
         }
         match self.take_batch(worker, ready) {
             Ok(()) => Next::Work {
-                wakes: self.waiting > 0 && ready > 1,
+                wakes: wakes || (self.waiting > 0 && ready > 1),
             },
-            Err(_) if !worker.jobs.is_empty() => Next::Work { wakes: false },
+            Err(_) if !worker.jobs.is_empty() => Next::Work { wakes },
+            Err(Next::Wait { wakes: _ }) => Next::Wait { wakes },
             Err(next) => next,
         }
     }

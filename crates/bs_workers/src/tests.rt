@@ -1,10 +1,11 @@
 //! Games of three snakes, run by one thread and by several, in batches of several sizes, and what
-//! becomes of them where a gate is shut.
+//! becomes of them where a gate is shut or an act is refused. Games that come and go.
 ghost use Rattle.std.specs.Prelude.{◌≡◌, IfOk, length};
 
 use crate::compare::{copy_rows, is_run_of};
+use crate::runs::run_any;
 use crate::state::State;
-use crate::{Gate, OpenGate, Run, run};
+use crate::{Act, Gate, OpenGate, Run};
 use bs_board::limits::MOST_ROWS;
 use bs_board::plans::plan::have_distinct_names;
 use bs_board::{
@@ -95,16 +96,16 @@ fn third_goes(alloc: Global, direction: Direction) -> Result<Command, AllocError
 
 fn push(
     alloc: Global,
-    commands: &mut Vec<(usize, SharedCommand)>,
+    commands: &mut Vec<Act>,
     game: usize,
     command: Command,
 ) -> Result<(), AllocError> {
-    commands.push((game, SharedCommand::new(alloc, command)?))?;
+    commands.push(Act::Hand(game, SharedCommand::new(alloc, command)?))?;
     Ok(())
 }
 
 /// The commands of both games in turn.
-fn commands(alloc: Global) -> Result<Vec<(usize, SharedCommand)>, Fail> {
+fn commands(alloc: Global) -> Result<Vec<Act>, Fail> {
     let mut commands = Vec::new(alloc);
     for game in 0..2usize {
         push(alloc, &mut commands, game, three_snakes(alloc)?)?;
@@ -132,13 +133,13 @@ fn commands(alloc: Global) -> Result<Vec<(usize, SharedCommand)>, Fail> {
 fn played<R: Threads + Wait + Abort + Sync, G: Gate>(
     rt: &R,
     alloc: Global,
-    commands: &[(usize, SharedCommand)],
+    commands: &[Act],
     threads: usize,
     gate: &G,
 ) -> Result<Result<Core<524_288>, Run>, Fail> {
     assert!(rt; threads <= MOST_WORKERS);
     let core = Core::<524_288>::open(alloc, games(rt, alloc, &["a", "b"])?, 12, threads)?;
-    Ok(run(rt, alloc, core, commands, threads, gate))
+    Ok(run_any(rt, alloc, core, commands, threads, gate))
 }
 
 /// The replies of that game and of the one behind it, as text.
@@ -167,11 +168,13 @@ const NAMES: [&str; 16] = [
 ];
 
 /// The commands of both games, for each pair of sixteen games in turn.
-fn commands_of_pairs(alloc: Global) -> Result<Vec<(usize, SharedCommand)>, Fail> {
+fn commands_of_pairs(alloc: Global) -> Result<Vec<Act>, Fail> {
     let mut all = Vec::new(alloc);
-    for (game, command) in commands(alloc)?.as_slice() {
-        for pair in 0..8usize {
-            all.push((2 * pair + (*game).min(1), command.share()?))?;
+    for act in commands(alloc)?.as_slice() {
+        if let Act::Hand(game, command) = act {
+            for pair in 0..8usize {
+                all.push(Act::Hand(2 * pair + (*game).min(1), command.share()?))?;
+            }
         }
     }
     Ok(all)
@@ -182,13 +185,13 @@ fn commands_of_pairs(alloc: Global) -> Result<Vec<(usize, SharedCommand)>, Fail>
 fn played_in_batches<R: Threads + Wait + Abort + Sync>(
     rt: &R,
     alloc: Global,
-    commands: &[(usize, SharedCommand)],
+    commands: &[Act],
     threads: usize,
     workers: usize,
 ) -> Result<Core<524_288>, Fail> {
     assert!(rt; workers <= MOST_WORKERS);
     let core = Core::<524_288>::open(alloc, games(rt, alloc, &NAMES)?, 96, workers)?;
-    Ok(run(rt, alloc, core, commands, threads, &OpenGate)?)
+    Ok(run_any(rt, alloc, core, commands, threads, &OpenGate)?)
 }
 
 #[test]
@@ -242,7 +245,7 @@ fn a_run_is_told_from_another(rt: HostRuntime) -> Result<(), Fail> {
     let others = copy_rows(alloc, &other)?;
     assert!(rt; !is_run_of(&core, rows.as_slice(), 12, commands));
     assert!(rt; is_run_of(&core, rows.as_slice(), 12, &commands[..0]));
-    let core = run(&rt, alloc, core, commands, 2, &OpenGate)?;
+    let core = run_any(&rt, alloc, core, commands, 2, &OpenGate)?;
     assert!(rt; is_run_of(&core, rows.as_slice(), 12, commands));
     assert!(rt; !is_run_of(&core, rows.as_slice(), 12, &commands[..0]));
     assert!(rt; !is_run_of(&core, rows.as_slice(), 13, commands));
@@ -323,5 +326,84 @@ fn two_threads_are_at_one_move(rt: HostRuntime) -> Result<(), Fail> {
     let core = played(&rt, alloc, commands.as_slice(), 2, &gate)??;
     assert!(rt; core.is_quiet());
     assert!(rt; gate.first.load(SeqCst) && gate.second.load(SeqCst));
+    Ok(())
+}
+
+fn row(alloc: Global, name: &str) -> Result<Row, Fail> {
+    Ok(Row::new(Id::from_str(alloc, name)?, 64).ok_or("a quota")?)
+}
+
+/// A game that is admitted, plays and leaves while another plays, and one of its name after it.
+/// There are blocks for either only once another has left.
+fn coming_and_going(alloc: Global) -> Result<Vec<Act>, Fail> {
+    let mut acts = Vec::new(alloc);
+    push(alloc, &mut acts, 0, three_snakes(alloc)?)?;
+    acts.push(Act::Leave(1))?;
+    acts.push(Act::Admit(row(alloc, "c")?))?;
+    push(alloc, &mut acts, 2, three_snakes(alloc)?)?;
+    push(alloc, &mut acts, 2, third_goes(alloc, Direction::Down)?)?;
+    acts.push(Act::Leave(2))?;
+    acts.push(Act::Admit(row(alloc, "c")?))?;
+    push(alloc, &mut acts, 3, Command::Show)?;
+    push(alloc, &mut acts, 0, Command::Show)?;
+    Ok(acts)
+}
+
+/// Each game leaves once it has answered, however many threads there are, and its answers stay.
+#[test]
+fn games_come_and_go(rt: HostRuntime) -> Result<(), Fail> {
+    let alloc = rt.alloc();
+    let acts = coming_and_going(alloc)?;
+    for threads in [1usize, 2, 4] {
+        let core = played(&rt, alloc, acts.as_slice(), threads, &OpenGate)??;
+        assert_eq!(rt; core.rows(), 4);
+        assert!(rt; core.is_open(0) && core.is_open(3));
+        assert!(rt; !core.is_open(1) && !core.is_open(2));
+        assert_eq!(rt; core.replies(2).len(), 2);
+        assert_eq!(rt; core.replies(3).len(), 1);
+        assert!(rt; core.board(alloc, 2)?.is_some());
+        assert!(rt; core.board(alloc, 3)?.is_none());
+    }
+    Ok(())
+}
+
+/// A run ends though the game that is to leave is never done.
+#[test]
+fn a_shut_gate_breaks_the_run_at_a_leave(rt: HostRuntime) -> Result<(), Fail> {
+    let alloc = rt.alloc();
+    let acts = coming_and_going(alloc)?;
+    for threads in [1usize, 2, 4] {
+        let broken = played(&rt, alloc, acts.as_slice(), threads, &NoJoin)?;
+        assert_eq!(rt; broken.err(), Some(Run::Broken));
+    }
+    Ok(())
+}
+
+/// Lists of acts, the last of which is refused: an admission of a name that is taken and one whose
+/// blocks are not left; a leave and a command of a game that has left; a leave of a game that never
+/// came.
+fn refused(alloc: Global) -> Result<Vec<Vec<Act>>, Fail> {
+    let named = vec![in alloc; Act::Leave(0), Act::Admit(row(alloc, "b")?)]?;
+    let short = vec![in alloc; Act::Admit(row(alloc, "c")?)]?;
+    let closed = vec![in alloc; Act::Leave(1), Act::Leave(1)]?;
+    let mut handed = vec![in alloc; Act::Leave(1)]?;
+    push(alloc, &mut handed, 1, Command::Show)?;
+    let absent = vec![in alloc; Act::Leave(2)]?;
+    Ok(vec![in alloc; named, short, closed, handed, absent]?)
+}
+
+/// A refused act stops the run, as the last one and before others.
+#[test]
+fn a_refused_act_breaks_the_run(rt: HostRuntime) -> Result<(), Fail> {
+    let alloc = rt.alloc();
+    for threads in [1usize, 2, 4] {
+        for mut acts in refused(alloc)? {
+            let broken = played(&rt, alloc, acts.as_slice(), threads, &OpenGate)?;
+            assert_eq!(rt; broken.err(), Some(Run::Broken));
+            push(alloc, &mut acts, 0, Command::Show)?;
+            let broken = played(&rt, alloc, acts.as_slice(), threads, &OpenGate)?;
+            assert_eq!(rt; broken.err(), Some(Run::Broken));
+        }
+    }
     Ok(())
 }

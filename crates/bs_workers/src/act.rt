@@ -1,0 +1,46 @@
+//! What a run is asked to do, one act after the other.
+use bs_board::Row;
+use bs_fiber::{Holders, SharedCommand};
+use std::alloc::{AllocError, Global};
+
+/// The most rows that are ever made: twice the number of a row is the tag of its records.
+pub const MOST_STAYS: usize = 2_147_483_648;
+
+/// One act of a run. The rows of the plan are numbered first, then those that are admitted.
+#[derive(Debug, Drop)]
+pub enum Act {
+    /// Queues the command for the game of that row.
+    Hand(usize, SharedCommand),
+    /// Admits a game, in the next row.
+    Admit(Row),
+    /// Dismisses the game of that row.
+    Leave(usize),
+}
+
+/// An act with the handles that the core keeps of it.
+#[derive(Drop)]
+pub(crate) enum HeldAct {
+    Hand(usize, Holders),
+    Admit(Row),
+    Leave(usize),
+}
+
+impl Act {
+    /// Makes the handles that a core keeps of the act.
+    fn hold(&self, alloc: Global) -> Result<HeldAct, AllocError> {
+        match self {
+            Act::Hand(stay, command) => Ok(HeldAct::Hand(*stay, Holders::new(command)?)),
+            Act::Admit(row) => Ok(HeldAct::Admit(row.copy(alloc)?)),
+            Act::Leave(stay) => Ok(HeldAct::Leave(*stay)),
+        }
+    }
+}
+
+/// Makes the handles of all acts. The first act is the last of the list.
+pub(crate) fn hold_all(alloc: Global, acts: &[Act]) -> Result<Vec<HeldAct>, AllocError> {
+    let mut held = Vec::with_capacity(alloc, acts.len())?;
+    for act in acts.iter().rev() {
+        held.push(act.hold(alloc)?)?;
+    }
+    Ok(held)
+}
