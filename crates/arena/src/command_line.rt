@@ -10,7 +10,9 @@ const DEFAULT_BLOCKS: u16 = 64;
 
 const DEFAULT_WORKERS: u16 = 2;
 
-const VERSION: &str = "0.1.0";
+const FIRST_STAY: u32 = 1;
+
+const VERSION: &str = "1.0.0";
 
 /// What a command line asks for.
 #[derive(Clone, Copy, Debug)]
@@ -18,6 +20,8 @@ pub struct Request<'a> {
     pub file: &'a str,
     /// The game whose own lines alone are served.
     pub game: Option<&'a str>,
+    /// Which stay of that game, from 1 on.
+    pub stay: u32,
     pub blocks: u16,
     pub workers: u16,
 }
@@ -61,10 +65,18 @@ fn alone_command<'a>(alloc: Global) -> Result<Command<'a>, AllocError> {
         .required(true)
         .action(ArgAction::Set)
         .help("The game to play");
+    let stay = Arg::new(alloc, "stay")
+        .long("stay")
+        .value_name("N")
+        .action(ArgAction::Set)
+        .value_parser(value_parser!(u32).range(1..))
+        .default_value("1")
+        .help("Which stay of that game to play, from 1 on");
     Command::new(alloc, "alone")
         .about("Plays one game of a command file by its own lines alone, on one worker")
         .arg(file_word(alloc))?
         .arg(game)?
+        .arg(stay)?
         .arg(blocks_option(alloc))
 }
 
@@ -81,6 +93,7 @@ fn serve_request<'a>(matches: &ArgMatches<'a>) -> Request<'a> {
     Request {
         file: matches.get_str("FILE").unwrap_or(STANDARD_INPUT),
         game: None,
+        stay: FIRST_STAY,
         blocks: matches.get_one::<u16>("blocks").unwrap_or(DEFAULT_BLOCKS),
         workers: matches.get_one::<u16>("workers").unwrap_or(DEFAULT_WORKERS),
     }
@@ -90,6 +103,7 @@ fn alone_request<'a>(matches: &ArgMatches<'a>) -> Request<'a> {
     Request {
         file: matches.get_str("FILE").unwrap_or(STANDARD_INPUT),
         game: matches.get_str("game"),
+        stay: matches.get_one::<u32>("stay").unwrap_or(FIRST_STAY),
         blocks: matches.get_one::<u16>("blocks").unwrap_or(DEFAULT_BLOCKS),
         workers: 1,
     }
@@ -102,6 +116,7 @@ pub fn read_words<'a>(alloc: Global, words: &'a [&'a str]) -> Result<Request<'a>
         return Ok(Request {
             file: STANDARD_INPUT,
             game: None,
+            stay: FIRST_STAY,
             blocks: DEFAULT_BLOCKS,
             workers: DEFAULT_WORKERS,
         });

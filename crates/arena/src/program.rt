@@ -33,12 +33,13 @@ fn input_of<F: Files, R: Read>(
     }
 }
 
-/// The file to be served: all of it, or the lines of one of its games.
-fn asked_of(alloc: Global, bytes: Vec<u8>, game: Option<&str>) -> Result<Vec<u8>, Failure> {
-    match game {
-        Some(name) => cut(alloc, &bytes, name).map_err(Failure::Cut),
-        None => Ok(bytes),
-    }
+/// The file to be served: all of it, or the lines of one stay of one of its games.
+fn asked_of(alloc: Global, bytes: Vec<u8>, request: Request<'_>) -> Result<Vec<u8>, Failure> {
+    let Some(game) = request.game else {
+        return Ok(bytes);
+    };
+    let blocks = usize::from(request.blocks);
+    cut(alloc, &bytes, blocks, game, request.stay as usize).map_err(Failure::Cut)
 }
 
 fn run<H: Files + Threads + Wait + Sync, R: Read, W: Write>(
@@ -49,7 +50,7 @@ fn run<H: Files + Threads + Wait + Sync, R: Read, W: Write>(
     output: &mut W,
 ) -> Result<(), Failure> {
     let bytes = input_of(rt, alloc, request.file, input).map_err(Failure::Read)?;
-    let bytes = asked_of(alloc, bytes, request.game)?;
+    let bytes = asked_of(alloc, bytes, request)?;
     // The core is freed after the flush.
     let _core = serve(
         rt,

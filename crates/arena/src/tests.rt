@@ -181,11 +181,41 @@ fn games_that_are_not_there(rt: HostRuntime) {
     }
 }
 
+const STAYS: &str = r#"{"games":[],"version":3}
+{"game":"a","do":"admit","quota":64}
+{"game":"a","do":"show"}
+{"game":"a","do":"leave"}
+{"game":"a","do":"admit","quota":64}
+{"game":"a","do":"end"}
+{"game":"a","do":"show"}
+"#;
+
+// Each stay of a game is played alone by its number.
+#[test]
+fn stays_alone(rt: HostRuntime) {
+    let cases: [(&[&str], u8, usize); 4] = [
+        (&["arena", "alone", "-", "--game", "a"], 0, 2),
+        (&["arena", "alone", "-", "--game", "a", "--stay", "1"], 0, 2),
+        (&["arena", "alone", "-", "--game", "a", "--stay", "2"], 0, 3),
+        (&["arena", "alone", "-", "--game", "a", "--stay", "3"], 4, 0),
+    ];
+    for (words, status, lines) in cases {
+        let (answer, output, _) = ran(&rt, rt.alloc(), words, STAYS);
+        assert_eq!(rt; answer, status, "{words:?}");
+        let feeds = output
+            .as_slice()
+            .iter()
+            .filter(|byte| **byte == b'\n')
+            .count();
+        assert_eq!(rt; feeds, lines, "{words:?}");
+    }
+}
+
 // A refused command line is status 2, with clap's text on the errors; help is status 0, on the
 // output.
 #[test]
 fn command_lines(rt: HostRuntime) -> Result<(), Fail> {
-    let cases: [(&[&str], u8); 10] = [
+    let cases: [(&[&str], u8); 12] = [
         (&["arena", "serve", "-", "--blocks", "0"], 2),
         (&["arena", "serve", "-", "--blocks", "4097"], 2),
         (&["arena", "serve", "-", "--workers", "0"], 2),
@@ -193,6 +223,8 @@ fn command_lines(rt: HostRuntime) -> Result<(), Fail> {
         (&["arena", "serve"], 2),
         (&["arena", "alone", "-"], 2),
         (&["arena", "alone", "-", "--game", "a", "--workers", "2"], 2),
+        (&["arena", "alone", "-", "--game", "a", "--stay", "0"], 2),
+        (&["arena", "serve", "-", "--stay", "1"], 2),
         (&["arena", "play"], 2),
         (&["arena", "serve", "--help"], 0),
         (&["arena", "--version"], 0),
@@ -204,7 +236,7 @@ fn command_lines(rt: HostRuntime) -> Result<(), Fail> {
         assert_eq!(rt; errors.is_empty(), status == 0, "{words:?}");
     }
     let (_, output, _) = ran(&rt, rt.alloc(), &["arena", "--version"], "");
-    assert_eq!(rt; output.as_slice(), b"arena 0.1.0\n".as_slice());
+    assert_eq!(rt; output.as_slice(), b"arena 1.0.0\n".as_slice());
     for (kind, status, line) in [
         (
             ErrorKind::InvalidData,

@@ -4,13 +4,16 @@ use Rattle.std.proofs.Common.{◌≡◌, ℕ, zero, suc, ◌+◌, ◌≤◌, Boo
 use Rattle.std.proofs.Math.Dec.{eqb}
 use Rattle.std.proofs.lemmas.Bool.{and_parts, cases_Bool}
 use Rattle.std.proofs.lemmas.List.Concat.{flat_map-cons, length-flat_map}
-use Rattle.std.proofs.lemmas.List.Filters.{sum_by-filter_both}
+use Rattle.std.proofs.lemmas.List.Sums.{sum_by-cons}
 use Rattle.std.proofs.lemmas.List.Splits.{slice_split_none, slice_split_at, join_with_byte-slice_split}
-use Rattle.std.specs.List.{filter, join_with_byte, list_all, onto_first, sum_by}
+use Rattle.std.specs.List.{join_with_byte, list_all, onto_first, sum_by}
 use Rattle.std.specs.Prelude.{not}
+use Rattle.bs_board.specs.declared.plans.version.Version.{Version}
+use Rattle.bs_workers.specs.Acts.{Setting, Stay}
 use Rattle.bs_host.specs.declared.lines.TheConstants.{LINE_FEED}
-use Rattle.bs_host.specs.Cut.{behind_feeds}
+use Rattle.bs_host.specs.Cut.{behind_feeds, is_own_line, own_lines_in}
 use Rattle.bs_host.specs.File.{pieces_of, later_pieces}
+use Rattle.bs_host.specs.Routing.{next_registry}
 use Rattle.bs_host.proofs.CutPlan.{is_no_feed}
 
 -- bytes without a line feed
@@ -65,15 +68,6 @@ pub later_are_lines : (lines : List (List ℕ)) → are_lines lines ≡ true →
 later_are_lines [] all = refl
 later_are_lines (line ∷ lines) all = (and_parts (is_line line) (are_lines lines) all).1
 
-pub filtered_are_lines : (p : List ℕ → Bool) (lines : List (List ℕ)) → are_lines lines ≡ true → are_lines (filter p lines) ≡ true
-filtered_are_lines p [] all = refl
-filtered_are_lines p (line ∷ lines) all =
-    let parts = and_parts (is_line line) (are_lines lines) all in
-    elim (cases_Bool (p line)) [
-      | inl kept ↦ rw (kept, parts.0) (filtered_are_lines p lines parts.1)
-      | inr left ↦ rw left (filtered_are_lines p lines parts.1)
-    ]
-
 -- with a line feed for each
 abbrev bytes_of : List (List ℕ) → ℕ
 bytes_of = sum_by (λ line. suc (length line))
@@ -87,13 +81,38 @@ later_fit : (lines : List (List ℕ)) → bytes_of (later_pieces lines) ≤ leng
 later_fit [] = omega arith
 later_fit (first ∷ lines) = let all = length_of_joined first lines in omega (arith, all)
 
--- some of the lines behind a short one
-pub joined_is_short : (most : ℕ) (first : List ℕ) (p : List ℕ → Bool) (file : List ℕ) → length first ≤ most
-    → length (join_with_byte LINE_FEED (first ∷ filter p (later_pieces (pieces_of file)))) ≤ length file + most
-joined_is_short most first p file short =
-    let later = later_pieces (pieces_of file) in
-    let all = length_of_joined first (filter p later) in
-    let some = sum_by-filter_both p (λ line. not (p line)) (λ line. refl) (λ line. suc (length line)) later in
-    let fit = later_fit (pieces_of file) in
-    let whole = ap length (join_with_byte-slice_split LINE_FEED file) in
-    omega (arith, all, some, fit, whole, short)
+-- a stay's own lines
+module _ (setting : Setting) (version : Version) (stay : ℕ) where
+  pub own_are_lines : (registry : List Stay) (lines : List (List ℕ)) → are_lines lines ≡ true → are_lines (own_lines_in setting version registry stay lines) ≡ true
+  own_are_lines registry [] all = refl
+  own_are_lines registry (text ∷ lines) all =
+      let parts = and_parts (is_line text) (are_lines lines) all in
+      let rest = own_are_lines (next_registry setting version registry text) lines parts.1 in
+      elim (cases_Bool (is_own_line setting version registry stay text)) [
+        | inl own ↦ rw (own, parts.0) rest
+        | inr other ↦ rw other rest
+      ]
+
+  own_are_fewer : (registry : List Stay) (lines : List (List ℕ)) → bytes_of (own_lines_in setting version registry stay lines) ≤ bytes_of lines
+  own_are_fewer registry [] = omega arith
+  own_are_fewer registry (text ∷ lines) =
+      let next = next_registry setting version registry text in
+      let rest = own_are_fewer next lines in
+      let all = sum_by-cons (λ (line : List ℕ). suc (length line)) text lines in
+      elim (cases_Bool (is_own_line setting version registry stay text)) [
+        | inl own ↦
+            let some = sum_by-cons (λ (line : List ℕ). suc (length line)) text (own_lines_in setting version next stay lines) in
+            rw own (omega (arith, rest, all, some))
+        | inr other ↦ rw other (omega (arith, rest, all))
+      ]
+
+  -- behind a short line
+  pub joined_is_short : (most : ℕ) (first : List ℕ) (registry : List Stay) (file : List ℕ) → length first ≤ most
+      → length (join_with_byte LINE_FEED (first ∷ own_lines_in setting version registry stay (later_pieces (pieces_of file)))) ≤ length file + most
+  joined_is_short most first registry file short =
+      let later = later_pieces (pieces_of file) in
+      let all = length_of_joined first (own_lines_in setting version registry stay later) in
+      let some = own_are_fewer registry later in
+      let fit = later_fit (pieces_of file) in
+      let whole = ap length (join_with_byte-slice_split LINE_FEED file) in
+      omega (arith, all, some, fit, whole, short)

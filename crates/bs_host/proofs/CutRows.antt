@@ -1,12 +1,12 @@
--- Each row of a plan that was read is within its limits.
-use Rattle.std.proofs.Common.{◌≡◌, ℕ, true, nat_le, nat_lt, List, ◌∷◌, Option, Some, None, Result, Ok, Err, length, option_map, codes, zero, suc, All, inl, inr, arith}
-use Rattle.std.proofs.lemmas.Bool.{cases_Bool}
+-- A plan that was read is within its limits, and so is each row that was read.
+use Rattle.std.proofs.Common.{◌≡◌, ℕ, true, refl, nat_le, nat_lt, List, ◌∷◌, Option, Some, None, Result, Ok, Err, length, option_map, codes, zero, suc, All, inl, inr, arith}
+use Rattle.std.proofs.lemmas.Bool.{cases_Bool, leb-true}
 use Rattle.serde_json.specs.Data.{Data, Items, no_items, item}
 use Rattle.serde_json.specs.Find.{get, as_array}
 use Rattle.bs_board.specs.declared.limits.TheConstants.{MOST_QUOTA, MOST_ROWS}
 use Rattle.bs_board.specs.declared.plans.plan.Plan.{Plan}
 use Rattle.bs_board.specs.declared.plans.version.Version.{Version}
-use Rattle.bs_board.specs.plans.Plan.{GameRow, row_of, is_fit_row, have_distinct_names}
+use Rattle.bs_board.specs.plans.Plan.{GameRow, row_of, is_fit_row, have_distinct_names, IsFitPlan}
 use Rattle.bs_json.specs.declared.limits.TheConstants.{MAX_LINE}
 use Rattle.bs_json.specs.declared.plan.PlanFault.{PlanFault}
 use Rattle.bs_json.specs.PlanLine.{fit_row, row_from, plan_of_rows, plan_of_games, plan_from, plan_line_of, version_of}
@@ -17,7 +17,7 @@ abbrev AreFit : List GameRow → Type 0
 AreFit rows = All (λ row. is_fit_row row ≡ true) rows
 
 -- of a row that may not have been read
-abbrev IsFitIfRead : Option GameRow → Type 0
+abbrev pub IsFitIfRead : Option GameRow → Type 0
 IsFitIfRead None = Unit {0}
 IsFitIfRead (Some row) = is_fit_row row ≡ true
 
@@ -26,7 +26,7 @@ AreFitIfRead None = Unit {0}
 AreFitIfRead (Some rows) = AreFit rows
 
 abbrev IsFitPlanIfRead : Result Plan PlanFault → Type 0
-IsFitPlanIfRead (Ok plan) = AreFit plan.rows
+IsFitPlanIfRead (Ok plan) = IsFitPlan plan.rows
 IsFitPlanIfRead (Err fault) = Unit {0}
 
 bound_is_fit : {A : Type 0} (o : Option A) (f : A → Option GameRow) → ((a : A) → IsFitIfRead (f a)) → IsFitIfRead (o >>= f)
@@ -39,7 +39,7 @@ fit_row_is_fit row = elim (cases_Bool (is_fit_row row)) [
   | inr bad ↦ rw bad tt
 ]
 
-row_from_is_fit : (d : Data) → IsFitIfRead (row_from d)
+pub row_from_is_fit : (d : Data) → IsFitIfRead (row_from d)
 row_from_is_fit d =
     bound_is_fit (text_at (codes "game") d) (λ game. number_at (codes "quota") MOST_QUOTA d >>= λ quota. fit_row (row_of game quota)) (λ game.
     bound_is_fit (number_at (codes "quota") MOST_QUOTA d) (λ quota. fit_row (row_of game quota)) (λ quota. fit_row_is_fit (row_of game quota)))
@@ -62,7 +62,7 @@ plan_of_rows_is_fit : (version : Version) (rows : Option (List GameRow)) → Are
 plan_of_rows_is_fit version None fit = tt
 plan_of_rows_is_fit version (Some rows) fit = elim (cases_Bool (have_distinct_names rows)) [
   | inl distinct ↦ elim (cases_Bool (nat_le (length rows) MOST_ROWS)) [
-    | inl few ↦ rw (distinct, few) fit
+    | inl few ↦ rw (distinct, few) (record { rows_fit = fit; distinct = distinct; few = leb-true (length rows) MOST_ROWS few })
     | inr many ↦ rw (distinct, many) tt
   ]
   | inr twice ↦ rw twice tt
@@ -84,9 +84,9 @@ plan_line_is_fit line = elim (cases_Bool (nat_lt MAX_LINE (length line))) [
   | inr short ↦ rw short (plan_from_is_fit (value_of line))
 ]
 
-rows_in_are_fit : (plan : Result Plan PlanFault) → IsFitPlanIfRead plan → AreFit (rows_in plan)
+rows_in_are_fit : (plan : Result Plan PlanFault) → IsFitPlanIfRead plan → IsFitPlan (rows_in plan)
 rows_in_are_fit (Ok plan) fit = fit
-rows_in_are_fit (Err fault) fit = λ k d within. absurd (omega arith)
+rows_in_are_fit (Err fault) fit = record { rows_fit = λ k d within. absurd (omega arith); distinct = refl; few = omega arith }
 
-pub rows_are_fit : (file : List ℕ) → AreFit (rows_of file)
-rows_are_fit file = rows_in_are_fit (plan_of file) (plan_line_is_fit _)
+pub file_is_fit : (file : List ℕ) → IsFitPlan (rows_of file)
+file_is_fit file = rows_in_are_fit (plan_of file) (plan_line_is_fit _)

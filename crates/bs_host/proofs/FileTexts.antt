@@ -1,8 +1,9 @@
 -- A file's plan and its lines, from its first line and the others, to the transcript.
-use Rattle.std.proofs.Common.{◌≡◌, ℕ, ◌<◌, ◌≤◌, List, ◌∷◌, Option, Some, Ok, length, refl, sym, subst, ap, ◌∙◌}
+use Rattle.std.proofs.Common.{◌≡◌, ℕ, ◌<◌, ◌≤◌, true, List, [], ◌∷◌, ◌++◌, Option, Some, None, Result, Ok, Err, length, refl, sym, subst, ap, ◌∙◌}
 use Rattle.std.proofs.lemmas.Bool.{lt-ltb, le-ltb, cond-true, cond-false}
-use Rattle.bs_board.specs.declared.commands.command.Command.{Command}
+use Rattle.std.proofs.lemmas.List.{length-replicate}
 use Rattle.bs_board.specs.declared.plans.plan.Plan.{Plan}
+use Rattle.bs_board.specs.plans.Plan.{GameRow}
 use Rattle.bs_json.specs.declared.plan.PlanFault.{PlanFault}
 use Rattle.bs_json.specs.declared.plan.PlanFault.TheVariants as fault
 use Rattle.bs_json.specs.PlanLine.{IsPlanFault, plan_line_of}
@@ -12,16 +13,20 @@ use Rattle.bs_sched.specs.Core.{CoreView, opened_core}
 use Rattle.bs_sched.specs.PlanBlocks.{blocks_of_all}
 use Rattle.bs_sched.specs.declared.opening.Open.{Open}
 use Rattle.bs_sched.specs.declared.opening.Open.TheVariants as opening
+use Rattle.bs_workers.specs.declared.act.Act.{Act}
+use Rattle.bs_workers.specs.Acts.{are_acceptable, setting_of_core, opened as opened_registry, rows_admitted}
 use Rattle.bs_workers.specs.Run.{IsRunOf}
 use Rattle.bs_host.specs.declared.fault.Fault.{Fault}
 use Rattle.bs_host.specs.declared.fault.Fault.TheVariants.{TooLong, Plan as OfPlan, Memory, Broken, Write}
 use Rattle.bs_host.specs.declared.limits.TheConstants.{BLOCK_BYTES, MOST_FILE_BYTES}
 use Rattle.bs_host.specs.declared.route.Requests.{Requests}
 use Rattle.bs_host.specs.File.{pieces_of, first_piece, later_pieces, plan_in, plan_of, rows_of}
-use Rattle.bs_host.specs.Hosted.{Hosts, HostsLines, IsOpened}
-use Rattle.bs_host.specs.Routing.{IsRouted, routes_from, routes_of, strays_in}
+use Rattle.bs_host.specs.Hosted.{Hosts, IsOpened}
+use Rattle.bs_host.specs.declared.route.Route.{Route}
+use Rattle.bs_host.specs.Routing.{IsRouted, acts_in, acts_of, setting_of, routes_from, routes_of, stays_of, strays_in}
 use Rattle.bs_host.specs.Faults.{IsFault, IsRefusal, Leaves, fault_of, fault_of_opening, refusal_of, refusal_of_plan}
 use Rattle.bs_host.specs.Transcript.{core_text_of, transcript_of}
+use Rattle.bs_host.proofs.ActsLaw.{acts_law}
 use Rattle.bs_host.proofs.HostedCore.{hosts_lines, is_fresh, no_refusal, opening_refusal, transcript_of_core}
 
 pub refusal_of_long : (blocks : ℕ) (file : List ℕ) → MOST_FILE_BYTES < length file → refusal_of blocks file ≡ Some TooLong
@@ -90,23 +95,39 @@ refusal_leaves contents text found (Write written) w is = absurd is
 
 -- from the opened file to its transcript
 
-pub hosts_of_run : (blocks : ℕ) (file : List ℕ) (lines : List (List ℕ)) (plan : Plan) (requests : Requests) (commands : List (ℕ × Command)) (old new : CoreView)
-    → IsOpened blocks file old plan lines → IsRouted (routes_from plan 2 lines) requests → commands ≡ requests.commands.items → IsRunOf old commands new
-    → Hosts blocks file new
-hosts_of_run blocks file lines plan requests commands old new opens goes asked ran =
-    let routes : routes_from plan 2 lines ≡ routes_of file =
-    ap (λ (plan : Plan). routes_from plan 2 lines) opens.is_plan ∙ ap (routes_from (plan_in (plan_of file)) 2) opens.are_lines in
-    let rows : plan.rows ≡ rows_of file = ap (λ (plan : Plan). plan.rows) opens.is_plan in
-    let hosts = hosts_lines BLOCK_BYTES blocks old.games.workers plan.rows (routes_from plan 2 lines) commands old new opens.opened (asked ∙ goes.commands) ran in
-    subst (λ rows. HostsLines blocks rows (routes_of file) new) rows (subst (λ routes. HostsLines blocks plan.rows routes new) routes hosts)
+abbrev routes_behind : ℕ → Plan → List (List ℕ) → List (ℕ × Route)
+routes_behind blocks plan lines = routes_from (setting_of blocks) plan.version (opened_registry plan.rows) 2 lines
 
-pub text_of_run : (blocks : ℕ) (file : List ℕ) (lines : List (List ℕ)) (plan : Plan) (requests : Requests) (strays : List (ℕ × Stray)) (new : CoreView) (text : List ℕ)
-    → plan ≡ plan_in (plan_of file) → lines ≡ later_pieces (pieces_of file) → IsRouted (routes_from plan 2 lines) requests → Hosts blocks file new
-    → length new.games.lanes ≡ length new.games.rows → strays ≡ requests.strays.items → text ≡ core_text_of new strays → text ≡ transcript_of file
-text_of_run blocks file lines plan requests strays new text is_plan are_lines goes hosts lanes told is =
-    let routes : routes_from plan 2 lines ≡ routes_of file =
-    ap (λ (plan : Plan). routes_from plan 2 lines) is_plan ∙ ap (routes_from (plan_in (plan_of file)) 2) are_lines in
-    is ∙ transcript_of_core blocks file new strays hosts lanes (told ∙ goes.strays ∙ ap strays_in routes)
+same_routes : (blocks : ℕ) (file : List ℕ) (lines : List (List ℕ)) (plan : Plan) (old : CoreView) → IsOpened blocks file old plan lines
+    → routes_behind blocks plan lines ≡ routes_of blocks file
+same_routes blocks file lines plan old opens =
+    ap (λ plan. routes_behind blocks plan lines) opens.is_plan ∙ ap (routes_behind blocks (plan_in (plan_of file))) opens.are_lines
+
+module _ (blocks : ℕ) (file : List ℕ) (lines : List (List ℕ)) (plan : Plan) (requests : Requests) (acts : List Act) (old : CoreView) (opens : IsOpened blocks file old plan lines) (goes : IsRouted (routes_behind blocks plan lines) requests) (given : acts ≡ requests.acts.items) where
+  asked : acts ≡ acts_of blocks file
+  asked = given ∙ goes.acts ∙ ap acts_in (same_routes blocks file lines plan old opens)
+
+  opened_with : old ≡ opened_core BLOCK_BYTES blocks old.games.workers (rows_of file)
+  opened_with = opens.opened ∙ ap (λ (plan : Plan). opened_core BLOCK_BYTES blocks old.games.workers plan.rows) opens.is_plan
+
+  -- the core accepts the acts in their order
+  pub acts_accepted : are_acceptable (setting_of_core BLOCK_BYTES old) (opened_registry old.games.rows) acts ≡ true
+  acts_accepted =
+      let many : size old.games.storage.pool ≡ blocks = ap (λ (core : CoreView). size core.games.storage.pool) opened_with ∙ length-replicate blocks None in
+      let rows : old.games.rows ≡ rows_of file = ap (λ (core : CoreView). core.games.rows) opened_with in
+      ap (λ n. are_acceptable (setting_of n) (opened_registry old.games.rows) acts) many
+      ∙ ap (λ (rows : List GameRow). are_acceptable (setting_of blocks) (opened_registry rows) acts) rows
+      ∙ ap (λ all. are_acceptable (setting_of blocks) (opened_registry (rows_of file)) all) asked ∙ (acts_law blocks file).acceptable
+
+  pub hosts_of_run : (new : CoreView) → IsRunOf old acts new → Hosts blocks file new
+  hosts_of_run new ran =
+      hosts_lines BLOCK_BYTES blocks old.games.workers (rows_of file) (stays_of blocks file) (routes_of blocks file) acts old new opened_with
+      ((acts_law blocks file).stays ∙ ap (λ all. rows_of file ++ rows_admitted all) (sym asked)) asked (acts_law blocks file).commands ran
+
+  pub text_of_run : (new : CoreView) (strays : List (ℕ × Stray)) (text : List ℕ) → IsRunOf old acts new → strays ≡ requests.strays.items
+      → text ≡ core_text_of new strays → text ≡ transcript_of blocks file
+  text_of_run new strays text ran told is =
+      is ∙ transcript_of_core blocks file new strays (hosts_of_run new ran) (told ∙ goes.strays ∙ ap strays_in (same_routes blocks file lines plan old opens))
 
 pub fresh_core : (blocks : ℕ) (file : List ℕ) (lines : List (List ℕ)) (plan : Plan) (core : CoreView) → IsOpened blocks file core plan lines
     → core ≡ opened_core BLOCK_BYTES (size core.games.storage.pool) core.games.workers core.games.rows

@@ -1,20 +1,23 @@
 -- Parsed lines, and where they go.
-use Rattle.std.proofs.Common.{◌≡◌, ℕ, ◌+◌, ◌<◌, List, [], ◌∷◌, ◌++◌, Option, Some, None, length, drop, get_or, refl, sym, ap, subst, ◌∙◌, arith, append_assoc}
-use Rattle.std.specs.Prelude.{option_map, option_to_list, unwrap_or, IfOk, IfSome, Result, Ok, Err}
+use Rattle.std.proofs.Common.{◌≡◌, ℕ, ◌+◌, ◌<◌, List, [], ◌∷◌, ◌++◌, Option, Some, None, length, drop, get_or, refl, sym, ap, subst, ◌∙◌, arith, append-nil, append_assoc}
+use Rattle.std.specs.Prelude.{Result, Ok, Err, option_map, option_to_list, unwrap_or, IfOk, IfSome}
 use Rattle.std.specs.Borrow.{Bor}
 use Rattle.std.specs.List.{cons_option}
-use Rattle.std.proofs.lemmas.List.{drop_more, map-append}
+use Rattle.std.proofs.lemmas.List.{drop_all, drop_more, map-append}
 use Rattle.bs_board.specs.declared.plans.plan.Plan.{Plan}
 use Rattle.bs_board.specs.declared.plans.version.Version.{Version}
 use Rattle.bs_board.specs.plans.Plan.{GameRow}
 use Rattle.bs_json.specs.declared.line.Line.{Line}
 use Rattle.bs_json.specs.declared.line.Line.TheVariants as line
 use Rattle.bs_json.specs.Line.{line_of}
+use Rattle.bs_workers.specs.Acts.{Setting, opened}
 use Rattle.bs_host.specs.declared.parse.ParsedLine.{ParsedLine}
 use Rattle.bs_host.specs.declared.route.Requests.{Requests}
 use Rattle.bs_host.specs.declared.route.Route.{Route}
+use Rattle.bs_host.specs.Guests.{GuestList, guests_of, guests_then, route_by, routes_by_guests}
 use Rattle.bs_host.specs.Parsed.{parsed_line, parsed_lines, route_parsed, routes_parsed}
-use Rattle.bs_host.specs.Routing.{IsRouted, command_by_row, commands_by_row, numbered_stray, route_of, routes_from, strays_in}
+use Rattle.bs_host.specs.Routing.{IsRouted, act_in, acts_in, numbered_stray, routes_from, strays_in}
+use Rattle.bs_host.proofs.GuestRoutes.{guests_law}
 
 -- parsing
 
@@ -34,28 +37,37 @@ one_more_parsed version left piece rest old new total parsed is read pushed befo
 
 -- routing
 
-pub route_of_parsed : (rows : List GameRow) (l : Line) → route_parsed rows (parsed_line l) ≡ route_of rows l
-route_of_parsed rows line.Blank = refl
-route_of_parsed rows (line.Command game command) = refl
-route_of_parsed rows (line.Bad game) = refl
-route_of_parsed rows (line.Stray kind) = refl
+pub route_of_parsed : (setting : Setting) (guests : GuestList) (l : Line) → route_parsed setting guests (parsed_line l) ≡ route_by setting guests l
+route_of_parsed setting guests line.Blank = refl
+route_of_parsed setting guests (line.Command game command) = refl
+route_of_parsed setting guests (line.Bad game) = refl
+route_of_parsed setting guests (line.Stray kind) = refl
+route_of_parsed setting guests (line.Admit row) = refl
+route_of_parsed setting guests line.BadAdmit = refl
+route_of_parsed setting guests (line.Leave None) = refl
+route_of_parsed setting guests (line.Leave (Some game)) = refl
 
-routes_from_parsed : (plan : Plan) (number : ℕ) (pieces : List (List ℕ))
-    → routes_parsed plan.rows number (parsed_lines plan.version pieces) ≡ routes_from plan number pieces
-routes_from_parsed plan number [] = refl
-routes_from_parsed plan number (piece ∷ pieces) =
-    ap (λ goes. (number, goes) ∷ routes_parsed plan.rows (number + 1) (parsed_lines plan.version pieces)) (route_of_parsed plan.rows (line_of plan.version piece))
-    ∙ ap (λ rest. (number, route_of plan.rows (line_of plan.version piece)) ∷ rest) (routes_from_parsed plan (number + 1) pieces)
+routes_by_parsed : (setting : Setting) (version : Version) (guests : GuestList) (number : ℕ) (pieces : List (List ℕ))
+    → routes_parsed setting guests number (parsed_lines version pieces) ≡ routes_by_guests setting version guests number pieces
+routes_by_parsed setting version guests number [] = refl
+routes_by_parsed setting version guests number (piece ∷ pieces) =
+    let same = route_of_parsed setting guests (line_of version piece) in
+    let goes = route_by setting guests (line_of version piece) in
+    ap (λ r. (number, r) ∷ routes_parsed setting (guests_then guests r) (number + 1) (parsed_lines version pieces)) same
+    ∙ ap (λ rest. (number, goes) ∷ rest) (routes_by_parsed setting version (guests_then guests goes) (number + 1) pieces)
 
-routed : (plan : Plan) (pieces : List (List ℕ)) (lines : List ParsedLine) (requests : Requests) → lines ≡ parsed_lines plan.version pieces
-    → IsRouted (routes_parsed plan.rows 2 lines) requests → IsRouted (routes_from plan 2 pieces) requests
-routed plan pieces lines requests is goes =
-    subst (λ routes. IsRouted routes requests) (ap (routes_parsed plan.rows 2) is ∙ routes_from_parsed plan 2 pieces) goes
+pub routed : (setting : Setting) (plan : Plan) (pieces : List (List ℕ)) (lines : List ParsedLine) (requests : Requests) → lines ≡ parsed_lines plan.version pieces
+    → IsRouted (routes_parsed setting (guests_of (opened plan.rows)) 2 lines) requests → IsRouted (routes_from setting plan.version (opened plan.rows) 2 pieces) requests
+routed setting plan pieces lines requests is goes =
+    subst (λ routes. IsRouted routes requests) (
+    ap (routes_parsed setting (guests_of (opened plan.rows)) 2) is ∙ routes_by_parsed setting plan.version (guests_of (opened plan.rows)) 2 pieces
+    ∙ sym (guests_law setting plan.version 2 (opened plan.rows) pieces)) goes
 
-pub routed_if_ok : {E : Type 0} (plan : Plan) (pieces : List (List ℕ)) (lines : List ParsedLine) (result : Result Requests E) → lines ≡ parsed_lines plan.version pieces
-    → IfOk result (IsRouted (routes_parsed plan.rows 2 lines)) → IfOk result (IsRouted (routes_from plan 2 pieces))
-routed_if_ok plan pieces lines (Ok requests) is goes = routed plan pieces lines requests is goes
-routed_if_ok plan pieces lines (Err error) is goes = tt
+pub routed_if_ok : {E : Type 0} (setting : Setting) (plan : Plan) (pieces : List (List ℕ)) (lines : List ParsedLine) (result : Result Requests E)
+    → lines ≡ parsed_lines plan.version pieces → IfOk result (IsRouted (routes_parsed setting (guests_of (opened plan.rows)) 2 lines))
+    → IfOk result (IsRouted (routes_from setting plan.version (opened plan.rows) 2 pieces))
+routed_if_ok setting plan pieces lines (Ok requests) is goes = routed setting plan pieces lines requests is goes
+routed_if_ok setting plan pieces lines (Err error) is goes = tt
 
 cons_is_append : {X : Type 0} (first : Option X) (rest : List X) → cons_option first rest ≡ option_to_list first ++ rest
 cons_is_append None rest = refl
@@ -68,35 +80,62 @@ moves_on before after first rest is = rw (is, cons_is_append first rest) (append
 
 -- with what the lines that are left bring, the requests are what all lines bring
 pub record AreLeft (all : List (ℕ × Route)) (left : List (ℕ × Route)) (requests : Requests) : Type 0 where
-  pub commands : requests.commands.items ++ commands_by_row left ≡ commands_by_row all
+  pub acts : requests.acts.items ++ acts_in left ≡ acts_in all
   pub strays : requests.strays.items ++ strays_in left ≡ strays_in all
 
-next_routes : (rows : List GameRow) (lines : List ParsedLine) (index : ℕ) (line : ParsedLine) → index < length lines → line ≡ get_or lines index line
-    → routes_parsed rows (2 + index) (drop index lines) ≡ (2 + index, route_parsed rows line) ∷ routes_parsed rows (2 + (index + 1)) (drop (index + 1) lines)
-next_routes rows lines index line within is =
-    let e : 2 + index + 1 ≡ 2 + (index + 1) = omega arith in
-    ap (routes_parsed rows (2 + index)) (drop_more lines index line within ∙ ap (λ l. l ∷ drop (index + 1) lines) (sym is))
-    ∙ ap (λ n. (2 + index, route_parsed rows line) ∷ routes_parsed rows n (drop (index + 1) lines)) e
+module _ (setting : Setting) where
+  next_routes : (guests : GuestList) (lines : List ParsedLine) (index : ℕ) (line : ParsedLine) → index < length lines → line ≡ get_or lines index line
+      → routes_parsed setting guests (2 + index) (drop index lines)
+      ≡ (2 + index, route_parsed setting guests line) ∷ routes_parsed setting (guests_then guests (route_parsed setting guests line)) (2 + (index + 1)) (drop (index + 1) lines)
+  next_routes guests lines index line within is =
+      let e : 2 + index + 1 ≡ 2 + (index + 1) = omega arith in
+      ap (routes_parsed setting guests (2 + index)) (drop_more lines index line within ∙ ap (λ l. l ∷ drop (index + 1) lines) (sym is))
+      ∙ ap (λ n. (2 + index, route_parsed setting guests line) ∷ routes_parsed setting (guests_then guests (route_parsed setting guests line)) n (drop (index + 1) lines)) e
 
-pub goes_on : (rows : List GameRow) (lines : List ParsedLine) (index number : ℕ) (line : ParsedLine) (goes : Route) (old new : Requests) → index < length lines
-    → line ≡ get_or lines index line → goes ≡ route_parsed rows line → number ≡ 2 + index
-    → new.commands.items ≡ old.commands.items ++ option_to_list (command_by_row goes)
-    → new.strays.items ≡ old.strays.items ++ option_to_list (numbered_stray (number, goes))
-    → AreLeft (routes_parsed rows 2 lines) (routes_parsed rows (2 + index) (drop index lines)) old
-    → AreLeft (routes_parsed rows 2 lines) (routes_parsed rows (2 + (index + 1)) (drop (index + 1) lines)) new
-goes_on rows lines index number line goes old new within is to at commands strays left =
-    let rest = routes_parsed rows (2 + (index + 1)) (drop (index + 1) lines) in
-    let next = next_routes rows lines index line within is in
-    let asked = rw to at commands in
-    let told = rw (to, at) at strays in
-    record {
-      commands =
-          moves_on old.commands.items new.commands.items (command_by_row (route_parsed rows line)) (commands_by_row rest) asked
-          ∙ ap (λ routes. old.commands.items ++ commands_by_row routes) (sym next) ∙ left.commands;
-      strays =
-          moves_on old.strays.items new.strays.items (numbered_stray (2 + index, route_parsed rows line)) (strays_in rest) told
-          ∙ ap (λ routes. old.strays.items ++ strays_in routes) (sym next) ∙ left.strays;
-    }
+  pub goes_on : (all : List (ℕ × Route)) (before after : GuestList) (lines : List ParsedLine) (index number : ℕ) (line : ParsedLine) (goes : Route) (old new : Requests)
+      → index < length lines → line ≡ get_or lines index line → goes ≡ route_parsed setting before line → after ≡ guests_then before goes → number ≡ 2 + index
+      → new.acts.items ≡ old.acts.items ++ option_to_list (act_in goes)
+      → new.strays.items ≡ old.strays.items ++ option_to_list (numbered_stray (number, goes))
+      → AreLeft all (routes_parsed setting before (2 + index) (drop index lines)) old
+      → AreLeft all (routes_parsed setting after (2 + (index + 1)) (drop (index + 1) lines)) new
+  goes_on all before after lines index number line goes old new within is to moved at acts strays left =
+      let to_route = route_parsed setting before line in
+      let rest = routes_parsed setting (guests_then before to_route) (2 + (index + 1)) (drop (index + 1) lines) in
+      let next = next_routes before lines index line within is in
+      let state : after ≡ guests_then before to_route = moved ∙ ap (guests_then before) to in
+      let asked = rw to at acts in
+      let told = rw (to, at) at strays in
+      record {
+        acts =
+            ap (λ g. new.acts.items ++ acts_in (routes_parsed setting g (2 + (index + 1)) (drop (index + 1) lines))) state
+            ∙ moves_on old.acts.items new.acts.items (act_in to_route) (acts_in rest) asked
+            ∙ ap (λ routes. old.acts.items ++ acts_in routes) (sym next) ∙ left.acts;
+        strays =
+            ap (λ g. new.strays.items ++ strays_in (routes_parsed setting g (2 + (index + 1)) (drop (index + 1) lines))) state
+            ∙ moves_on old.strays.items new.strays.items (numbered_stray (2 + index, to_route)) (strays_in rest) told
+            ∙ ap (λ routes. old.strays.items ++ strays_in routes) (sym next) ∙ left.strays;
+      }
+
+  pub none_read : (guests : GuestList) (rows : List GameRow) (lines : List ParsedLine) (requests : Requests) → guests ≡ guests_of (opened rows) → requests.acts.items ≡ []
+      → requests.strays.items ≡ []
+      → AreLeft (routes_parsed setting (guests_of (opened rows)) 2 lines) (routes_parsed setting guests (2 + 0) (drop 0 lines)) requests
+  none_read guests rows lines requests is no_act no_stray =
+      let same : routes_parsed setting guests (2 + 0) (drop 0 lines) ≡ routes_parsed setting (guests_of (opened rows)) 2 lines
+      = ap (λ (g : GuestList). routes_parsed setting g 2 lines) is in
+      record {
+        acts = ap (λ acts. acts ++ acts_in (routes_parsed setting guests (2 + 0) (drop 0 lines))) no_act ∙ ap acts_in same;
+        strays = ap (λ strays. strays ++ strays_in (routes_parsed setting guests (2 + 0) (drop 0 lines))) no_stray ∙ ap strays_in same;
+      }
+
+  pub all_read : (guests : GuestList) (number : ℕ) (lines : List ParsedLine) (all : List (ℕ × Route)) (requests : Requests)
+      → AreLeft all (routes_parsed setting guests number (drop (length lines) lines)) requests → IsRouted all requests
+  all_read guests number lines all requests left =
+      let none : [] ≡ routes_parsed setting guests number (drop (length lines) lines)
+      = sym (ap (routes_parsed setting guests number) (drop_all (length lines) lines (omega arith))) in
+      record {
+        acts = sym (append-nil requests.acts.items) ∙ ap (λ rest. requests.acts.items ++ acts_in rest) none ∙ left.acts;
+        strays = sym (append-nil requests.strays.items) ∙ ap (λ rest. requests.strays.items ++ strays_in rest) none ∙ left.strays;
+      }
 
 -- what is left of the text, in bytes and line feeds
 abbrev pub bytes_left : Option (Bor (List ℕ)) → ℕ

@@ -1,6 +1,7 @@
 -- The row of a name in a plan that has no name twice.
 use Rattle.std.proofs.Common.{◌≡◌, ℕ, ◌<◌, suc, zero, true, false, not, Bool, List, [], ◌∷◌, Some, length, get_or, refl, inl, inr, arith}
-use Rattle.std.specs.List.{list_any, position_or_len}
+use Rattle.std.specs.Prelude.{Option, slice_index_or}
+use Rattle.std.specs.List.{list_any, position, position_or_len}
 use Rattle.std.proofs.lemmas.Bool.{cases_Bool, lt-ltb}
 use Rattle.std.proofs.lemmas.List.Folds.{list_any_at}
 use Rattle.std.proofs.lemmas.Slice.Eq.{bytes_eq-Decides}
@@ -8,7 +9,15 @@ use Rattle.bs_board.specs.Distinct.{are_distinct}
 use Rattle.bs_board.specs.plans.Plan.{GameRow, IsFitPlan, row_of}
 use Rattle.bs_board.specs.Texts.{is_same_text}
 use Rattle.bs_board.proofs.Chains.{and_both}
-use Rattle.bs_host.specs.Routing.{HasName, row_named}
+
+-- the row of that name, if there is one
+abbrev pub row_named : List GameRow → List ℕ → Option ℕ
+row_named rows game = position (λ row. is_same_text game row.game) rows
+
+-- that row has that name
+pub record HasName (rows : List GameRow) (row : ℕ) (game : List ℕ) : Type 0 where
+  pub within : row < length rows
+  pub same : is_same_text game (slice_index_or rows row (row_of [] 0)).game ≡ true
 
 -- Among elements that differ from one another, what passes a test that no two of them pass is the
 -- first that passes.

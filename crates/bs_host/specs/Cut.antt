@@ -1,26 +1,28 @@
--- One game's own lines as a command file, and the law that the game is answered there as it is
+-- One stay's own lines as a command file, and the law that the stay is answered there as it is
 -- among the others.
-use Rattle.std.specs.Prelude.{◌≡◌, ℕ, ◌+◌, ◌≤◌, ◌<◌, codes, List, [], ◌∷◌, length, nat_lt, slice_index_or, Bool, Option, Some, None, is_some, Result, Ok, Err, if◌then◌else◌}
-use Rattle.std.specs.List.{filter, flat_map, join_with_byte}
+use Rattle.std.specs.Prelude.{◌≡◌, ℕ, ◌+◌, ◌-◌, ◌≤◌, ◌<◌, codes, List, [], ◌∷◌, length, nat_eq, nat_lt, slice_index_or, Bool, ◌&&◌, Option, Some, None, is_some, option_map, Result, Ok, Err, if◌then◌else◌}
+use Rattle.std.specs.List.{flat_map, join_with_byte}
 use Rattle.serde_json.specs.Data.{Data, string, array}
 use Rattle.serde_json.specs.View.{items_of}
 use Rattle.serde_json.specs.Written.{compact_text}
 use Rattle.bs_board.specs.declared.plans.plan.Plan.{Plan}
 use Rattle.bs_board.specs.declared.plans.version.Version.{Version}
-use Rattle.bs_board.specs.declared.plans.version.Version.TheVariants.{One, Two}
+use Rattle.bs_board.specs.declared.plans.version.Version.TheVariants.{One, Two, Three}
 use Rattle.bs_board.specs.plans.Plan.{GameRow, row_of}
+use Rattle.bs_board.specs.plans.Version.{has_stays}
+use Rattle.bs_board.specs.Texts.{is_same_text}
 use Rattle.bs_json.specs.declared.plan.PlanFault.{PlanFault}
 use Rattle.bs_json.specs.declared.plan.PlanFault.TheVariants as plan
 use Rattle.bs_json.specs.Boards.{object_of, whole_data}
-use Rattle.bs_json.specs.Line.{line_of}
 use Rattle.bs_sched.specs.PlanBlocks.{blocks_of_all}
+use Rattle.bs_workers.specs.Acts.{Setting, Stay, opened}
 use Rattle.bs_host.specs.declared.cut_fault.Cut.{Cut}
 use Rattle.bs_host.specs.declared.cut_fault.Cut.TheVariants.{TooLong, Plan as OfPlan, NoSuchGame, Memory}
 use Rattle.bs_host.specs.declared.fault.PlanRefusal.TheVariants as refusal
 use Rattle.bs_host.specs.declared.limits.TheConstants.{BLOCK_BYTES, MOST_FILE_BYTES}
 use Rattle.bs_host.specs.declared.lines.TheConstants.{LINE_FEED}
-use Rattle.bs_host.specs.File.{pieces_of, later_pieces, plan_in, plan_of, rows_of, version_of}
-use Rattle.bs_host.specs.Routing.{command_to, commands_of, route_of, row_named}
+use Rattle.bs_host.specs.File.{pieces_of, later_pieces, plan_of, rows_of, version_of}
+use Rattle.bs_host.specs.Routing.{command_to, commands_of, setting_of, next_registry, route_at, stays_of}
 use Rattle.bs_host.specs.Transcript.{section_of, transcript_of}
 
 abbrev pub row_data : GameRow → Data
@@ -30,50 +32,70 @@ row_data row = object_of ((codes "game", string row.game) ∷ (codes "quota", wh
 abbrev pub version_members : Version → List (List ℕ × Data)
 version_members One = []
 version_members Two = (codes "version", whole_data 2) ∷ []
+version_members Three = (codes "version", whole_data 3) ∷ []
 
--- the plan of that version that has this game alone
+-- the plan of that version that has this row alone
 unfoldable pub lone_plan_data : Version → GameRow → Data
 lone_plan_data version row = object_of ((codes "games", array (items_of (row_data row ∷ []))) ∷ version_members version)
 
 abbrev pub lone_plan_of : Version → GameRow → List ℕ
 lone_plan_of version row = compact_text (lone_plan_data version row)
 
-abbrev pub is_own_line : Plan → ℕ → List ℕ → Bool
-is_own_line plan row line = is_some (command_to row (route_of plan.rows (line_of plan.version line)))
+abbrev pub is_own_line : Setting → Version → List Stay → ℕ → List ℕ → Bool
+is_own_line setting version registry stay text = is_some (command_to stay (route_at setting version registry text))
 
--- the lines that go to the game of that row, as they stand
-abbrev pub own_lines_in : Plan → ℕ → List (List ℕ) → List (List ℕ)
-own_lines_in plan row = filter (is_own_line plan row)
+-- the lines that go to that stay, as they stand
+abbrev pub own_lines_in : Setting → Version → List Stay → ℕ → List (List ℕ) → List (List ℕ)
+own_lines_in setting version registry stay [] = []
+own_lines_in setting version registry stay (text ∷ lines) =
+    if is_own_line setting version registry stay text
+    then text ∷ own_lines_in setting version (next_registry setting version registry text) stay lines
+    else own_lines_in setting version (next_registry setting version registry text) stay lines
 
-abbrev pub own_lines_of : List ℕ → ℕ → List (List ℕ)
-own_lines_of file row = own_lines_in (plan_in (plan_of file)) row (later_pieces (pieces_of file))
+abbrev pub own_lines_of : ℕ → List ℕ → ℕ → List (List ℕ)
+own_lines_of blocks file stay =
+    own_lines_in (setting_of blocks) (version_of file) (opened (rows_of file)) stay (later_pieces (pieces_of file))
 
--- of a row that the plan has
-abbrev pub game_at : List GameRow → ℕ → GameRow
-game_at rows row = slice_index_or rows row (row_of [] 0)
+abbrev pub row_at : List GameRow → ℕ → GameRow
+row_at rows stay = slice_index_or rows stay (row_of [] 0)
 
--- The file of the game of that row alone: its plan and its lines, with a line feed between any two.
-unfoldable pub cut_of : List ℕ → ℕ → List ℕ
-cut_of file row = join_with_byte LINE_FEED (lone_plan_of (version_of file) (game_at (rows_of file) row) ∷ own_lines_of file row)
+-- The file of that stay alone: its plan and its lines, with a line feed between any two.
+unfoldable pub cut_of : ℕ → List ℕ → ℕ → List ℕ
+cut_of blocks file stay =
+    join_with_byte LINE_FEED (lone_plan_of (version_of file) (row_at (stays_of blocks file) stay) ∷ own_lines_of blocks file stay)
 
 -- the same, one line after the other
 abbrev pub behind_feeds : List (List ℕ) → List ℕ
 behind_feeds = flat_map (λ line. LINE_FEED ∷ line)
 
--- What is written for that file, and how large it is.
-pub record IsServedAlone (file : List ℕ) (row : ℕ) (game : GameRow) : Type 0 where
-  -- its plan is that game's row, in the file's version
-  pub plan : plan_of (cut_of file row) ≡ Ok (record { rows = game ∷ []; version = version_of file })
-  -- its transcript is the game's section of the whole file's transcript, and nothing else
-  pub text : transcript_of (cut_of file row) ≡ section_of game (commands_of file row)
-  pub size : length (cut_of file row) ≤ length file + 512
-  pub blocks : blocks_of_all BLOCK_BYTES (rows_of (cut_of file row)) ≤ blocks_of_all BLOCK_BYTES (rows_of file)
+-- What is written for that file from as many blocks, and how large it is.
+pub record IsServedAlone (blocks : ℕ) (file : List ℕ) (stay : ℕ) (row : GameRow) : Type 0 where
+  -- its plan is that stay's row, in the file's version
+  pub plan : plan_of (cut_of blocks file stay) ≡ Ok (record { rows = row ∷ []; version = version_of file })
+  -- its transcript is the stay's section of the whole file's transcript, and nothing else
+  pub text : transcript_of blocks (cut_of blocks file stay) ≡ section_of row (commands_of blocks file stay)
+  pub size : length (cut_of blocks file stay) ≤ length file + 512
+  -- where the plan's reservations fit the pool, this file's reservation fits it too
+  pub fits : blocks_of_all BLOCK_BYTES (rows_of file) ≤ blocks → blocks_of_all BLOCK_BYTES (rows_of (cut_of blocks file stay)) ≤ blocks
 
--- each game of each file is answered by its own lines alone as it is in the file
+-- each stay of each file is answered by its own lines alone as it is in the file
 abbrev pub SectionLaw : Type 0
-SectionLaw = (file : List ℕ) (row : ℕ) → row < length (rows_of file) → IsServedAlone file row (game_at (rows_of file) row)
+SectionLaw =
+    (blocks : ℕ) (file : List ℕ) (stay : ℕ) → stay < length (stays_of blocks file)
+    → IsServedAlone blocks file stay (row_at (stays_of blocks file) stay)
 
--- When a file is not cut.
+-- Which stay a cut is of, and when there is none.
+
+-- the n-th row of that name, from 1 on, and its number, among rows of which the first has that
+-- number
+abbrev pub nth_from : ℕ → List GameRow → List ℕ → ℕ → Option (ℕ × GameRow)
+nth_from first [] name n = None
+nth_from first (row ∷ rows) name n =
+    if is_same_text name row.game then (if nat_eq n 1 then Some (first, row) else nth_from (first + 1) rows name (n - 1))
+    else nth_from (first + 1) rows name n
+
+abbrev pub nth_stay : ℕ → List ℕ → List ℕ → ℕ → Option ℕ
+nth_stay blocks file name n = option_map (λ found. found.0) (nth_from 0 (stays_of blocks file) name n)
 
 abbrev pub cut_of_fault : PlanFault → Cut
 cut_of_fault plan.Malformed = OfPlan refusal.Malformed
@@ -81,17 +103,23 @@ cut_of_fault plan.BadRow = OfPlan refusal.BadRow
 cut_of_fault plan.TooMany = OfPlan refusal.TooMany
 cut_of_fault plan.Memory = Memory
 
-abbrev pub refusal_of_name : Option ℕ → Option Cut
-refusal_of_name None = Some NoSuchGame
-refusal_of_name (Some row) = None
+abbrev pub refusal_of_stay : Option ℕ → Option Cut
+refusal_of_stay None = Some NoSuchGame
+refusal_of_stay (Some stay) = None
 
-abbrev pub cut_refusal_of_plan : List ℕ → Result Plan PlanFault → Option Cut
-cut_refusal_of_plan game (Err fault) = Some (cut_of_fault fault)
-cut_refusal_of_plan game (Ok plan) = refusal_of_name (row_named plan.rows game)
+-- the number of blocks decides which games are admitted, so in files without stays it is not judged
+abbrev pub is_too_small : ℕ → Plan → Bool
+is_too_small blocks plan = has_stays plan.version && nat_lt blocks (blocks_of_all BLOCK_BYTES plan.rows)
 
--- the first reason against cutting the file to the game of that name
-unfoldable pub cut_refusal_of : List ℕ → List ℕ → Option Cut
-cut_refusal_of file game = if nat_lt MOST_FILE_BYTES (length file) then Some TooLong else cut_refusal_of_plan game (plan_of file)
+abbrev pub cut_refusal_of_plan : ℕ → List ℕ → List ℕ → ℕ → Result Plan PlanFault → Option Cut
+cut_refusal_of_plan blocks file name n (Err fault) = Some (cut_of_fault fault)
+cut_refusal_of_plan blocks file name n (Ok plan) =
+    if is_too_small blocks plan then Some (OfPlan refusal.Short) else refusal_of_stay (nth_stay blocks file name n)
+
+-- the first reason against cutting the file to that stay
+unfoldable pub cut_refusal_of : ℕ → List ℕ → List ℕ → ℕ → Option Cut
+cut_refusal_of blocks file name n =
+    if nat_lt MOST_FILE_BYTES (length file) then Some TooLong else cut_refusal_of_plan blocks file name n (plan_of file)
 
 -- the fault is that refusal; nothing is said of want of memory
 abbrev pub IsCutRefusal : Option Cut → Cut → Type 0

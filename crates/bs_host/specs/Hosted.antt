@@ -6,30 +6,33 @@ use Rattle.bs_board.specs.plans.Plan.{GameRow}
 use Rattle.bs_pool.specs.Ledger.{size}
 use Rattle.bs_sched.specs.Core.{CoreView, opened_core}
 use Rattle.bs_sched.specs.Games.{row_at}
-use Rattle.bs_sched.specs.Handed.{IsServed, hands_of}
+use Rattle.bs_sched.specs.Registry.{IsServedAlone}
 use Rattle.bs_sched.specs.Lane.{is_quiet}
 use Rattle.bs_sched.specs.Machine.{lane_of}
+use Rattle.bs_workers.specs.Run.{acts_of, rows_made}
 use Rattle.bs_host.specs.declared.route.Route.{Route}
 use Rattle.bs_host.specs.declared.limits.TheConstants.{BLOCK_BYTES}
 use Rattle.bs_host.specs.Faults.{refusal_of}
 use Rattle.bs_host.specs.File.{later_pieces, pieces_of, plan_in, plan_of, rows_of}
-use Rattle.bs_host.specs.Routing.{commands_by_row, commands_to, routes_of}
+use Rattle.bs_host.specs.Routing.{acts_in, commands_to, routes_of, stays_of}
 
--- the core has these games and that many blocks, was not told to fail, and nothing is left to do;
--- its journal queues just the lines' commands, in the order of the lines, and each game is as its
--- own lines alone leave it
-pub record HostsLines (blocks : ℕ) (games : List GameRow) (routes : List (ℕ × Route)) (core : CoreView) : Type 0 where
-  pub rows : core.games.rows ≡ games
+-- The core has the file's plan and that many blocks, was not told to fail, and nothing is left to
+-- do. Its stays have these rows. Its journal makes just the lines' acts, in the order of the lines,
+-- and each stay is as its own lines alone leave it: one that has left keeps its last board and its
+-- charge.
+pub record HostsLines (blocks : ℕ) (plan stays : List GameRow) (routes : List (ℕ × Route)) (core : CoreView) : Type 0 where
+  pub rows : core.games.rows ≡ plan
+  pub made : rows_made core.games.lanes ≡ stays
   pub pool : size core.games.storage.pool ≡ blocks
   pub failed : core.games.failed ≡ false
   pub quiet : list_all is_quiet core.games.lanes ≡ true
-  pub handed : hands_of core.journal ≡ commands_by_row routes
-  pub served : (row : ℕ) → row < length games → IsServed (row_at games row) (commands_to row routes) (lane_of core.games.lanes row)
+  pub acted : acts_of core.journal ≡ acts_in routes
+  pub served : (stay : ℕ) → stay < length stays → IsServedAlone (row_at stays stay) (commands_to stay routes) (lane_of core.games.lanes stay)
 
--- the same of the games of a file's plan and its lines: the game of each row is served the file's
--- commands for it
+-- the same of a file's plan, its stays and its lines: each stay is served the file's commands for
+-- it
 abbrev pub Hosts : ℕ → List ℕ → CoreView → Type 0
-Hosts blocks file = HostsLines blocks (rows_of file) (routes_of file)
+Hosts blocks file = HostsLines blocks (rows_of file) (stays_of blocks file) (routes_of blocks file)
 
 -- the core is opened with the file's plan and that many blocks, of which nothing refuses the file;
 -- the plan is the file's, and the lines are those that follow it

@@ -1,7 +1,9 @@
 pub mod Cut
 pub mod Faults
 pub mod File
+pub mod Guests
 pub mod Hosted
+pub mod Laws
 pub mod Parsed
 pub mod Routing
 pub mod Transcript

@@ -1,91 +1,166 @@
--- Where each line of a command file goes: to a game of the plan, to the strays, or nowhere.
-use Rattle.std.specs.Prelude.{◌≡◌, ℕ, ◌<◌, true, List, [], length, Option, Some, None, map, nat_eq, option_map, slice_index_or, if◌then◌else◌}
-use Rattle.std.specs.List.{enumerate_from, filter_map, position}
+-- Where each line of a command file goes: to the core as an act, to the strays, or nowhere. The
+-- registry of stays goes along.
+use Rattle.std.specs.Prelude.{◌≡◌, ℕ, ◌+◌, nat_lt, Bool, List, [], ◌∷◌, ◌++◌, length, fold, Option, Some, None, option_map, if◌then◌else◌}
+use Rattle.std.specs.List.{filter_map, list_any}
 use Rattle.bs_board.specs.declared.commands.command.Command.{Command}
 use Rattle.bs_board.specs.declared.commands.command.Command.TheVariants as command
-use Rattle.bs_board.specs.declared.plans.plan.Plan.{Plan}
-use Rattle.bs_board.specs.plans.Plan.{GameRow, row_of}
+use Rattle.bs_board.specs.declared.plans.version.Version.{Version}
+use Rattle.bs_board.specs.plans.Plan.{GameRow}
 use Rattle.bs_board.specs.Texts.{is_same_text}
 use Rattle.bs_json.specs.declared.line.Line.{Line}
 use Rattle.bs_json.specs.declared.line.Line.TheVariants as line
 use Rattle.bs_json.specs.declared.line.Stray.{Stray}
 use Rattle.bs_json.specs.declared.line.Stray.TheVariants as stray
 use Rattle.bs_json.specs.Line.{line_of}
+use Rattle.bs_workers.specs.declared.act.Act.{Act}
+use Rattle.bs_workers.specs.declared.act.Act.TheVariants as act
+use Rattle.bs_workers.specs.Acts.{Setting, Stay, has_name, has_room, is_full, stay_named, registry_after, command_in, opened, rows_in_registry}
+use Rattle.bs_host.specs.declared.limits.TheConstants.{BLOCK_BYTES}
 use Rattle.bs_host.specs.declared.route.Requests.{Requests}
 use Rattle.bs_host.specs.declared.route.Route.{Route}
 use Rattle.bs_host.specs.declared.route.Route.TheVariants as route
-use Rattle.bs_host.specs.File.{pieces_of, later_pieces, plan_in, plan_of}
+use Rattle.bs_host.specs.File.{pieces_of, later_pieces, rows_of, version_of}
 
--- the row of the game of that name, if the plan has one
-abbrev pub row_named : List GameRow → List ℕ → Option ℕ
-row_named rows game = position (λ row. is_same_text game row.game) rows
+-- One line.
 
--- the game of that row has that name
-pub record HasName (rows : List GameRow) (row : ℕ) (game : List ℕ) : Type 0 where
-  pub within : row < length rows
-  pub same : is_same_text game (slice_index_or rows row (row_of [] 0)).game ≡ true
+-- the first reason against admitting a row
+abbrev pub admit_refusal : Setting → List Stay → GameRow → Option Stray
+admit_refusal setting registry row =
+    if list_any (has_name row.game) registry then Some stray.NameOpen
+    else (if is_full registry then Some stray.Full
+    else (if has_room setting registry row then None else Some stray.Short))
 
--- a line that names no game of the plan is a stray
-abbrev pub route_to : Option ℕ → Command → Route
-route_to None command = route.Stray stray.Game
-route_to (Some row) command = route.Game row command
+abbrev pub hand_route : Option ℕ → Command → Route
+hand_route None command = route.Stray stray.Game
+hand_route (Some stay) command = route.Act (act.Hand stay command)
 
-abbrev pub route_of : List GameRow → Line → Route
-route_of rows line.Blank = route.Nowhere
-route_of rows (line.Command game command) = route_to (row_named rows game) command
-route_of rows (line.Bad game) = route_to (row_named rows game) command.Bad
-route_of rows (line.Stray kind) = route.Stray kind
+abbrev pub admit_route : Option Stray → GameRow → Route
+admit_route None row = route.Act (act.Admit row)
+admit_route (Some kind) row = route.Stray kind
 
--- the lines of a file from that number on, with their numbers
-abbrev pub routes_from : Plan → ℕ → List (List ℕ) → List (ℕ × Route)
-routes_from plan number pieces =
-    map (λ piece. (piece.0, route_of plan.rows (line_of plan.version piece.1))) (enumerate_from number pieces)
+abbrev pub leave_route : Option ℕ → Route
+leave_route None = route.Stray stray.NoStay
+leave_route (Some stay) = route.Act (act.Leave stay)
+
+abbrev pub route_of : Setting → List Stay → Line → Route
+route_of setting registry line.Blank = route.Nowhere
+route_of setting registry (line.Command game command) = hand_route (stay_named registry game) command
+route_of setting registry (line.Bad game) = hand_route (stay_named registry game) command.Bad
+route_of setting registry (line.Stray kind) = route.Stray kind
+route_of setting registry (line.Admit row) = admit_route (admit_refusal setting registry row) row
+route_of setting registry line.BadAdmit = route.Stray stray.BadRow
+route_of setting registry (line.Leave None) = route.Stray stray.NoStay
+route_of setting registry (line.Leave (Some game)) = leave_route (stay_named registry game)
+
+abbrev pub registry_then : List Stay → Route → List Stay
+registry_then registry (route.Act a) = registry_after registry a
+registry_then registry (route.Stray kind) = registry
+registry_then registry route.Nowhere = registry
+
+-- All lines, in the order of the file.
+
+abbrev pub route_at : Setting → Version → List Stay → List ℕ → Route
+route_at setting version registry text = route_of setting registry (line_of version text)
+
+abbrev pub next_registry : Setting → Version → List Stay → List ℕ → List Stay
+next_registry setting version registry text = registry_then registry (route_at setting version registry text)
+
+-- the registry that these lines leave
+abbrev pub registry_behind : Setting → Version → List Stay → List (List ℕ) → List Stay
+registry_behind setting version = fold (next_registry setting version)
+
+-- the lines that stand in a file from that number on, with their numbers
+abbrev pub routes_from : Setting → Version → List Stay → ℕ → List (List ℕ) → List (ℕ × Route)
+routes_from setting version registry number [] = []
+routes_from setting version registry number (text ∷ lines) =
+    (number, route_at setting version registry text) ∷ routes_from setting version (next_registry setting version registry text) (number + 1) lines
+
+abbrev pub setting_of : ℕ → Setting
+setting_of blocks = record { cap = BLOCK_BYTES; blocks = blocks }
 
 -- lines are counted from 1, and the first is the plan
-abbrev pub routes_of : List ℕ → List (ℕ × Route)
-routes_of file = routes_from (plan_in (plan_of file)) 2 (later_pieces (pieces_of file))
+abbrev pub routes_of : ℕ → List ℕ → List (ℕ × Route)
+routes_of blocks file = routes_from (setting_of blocks) (version_of file) (opened (rows_of file)) 2 (later_pieces (pieces_of file))
 
--- what a line asks of the game of that row
+-- the stays in the order of their rows: the plan's, and then those that these lines admit
+abbrev pub stays_behind : Setting → Version → List GameRow → List (List ℕ) → List GameRow
+stays_behind setting version rows lines = rows_in_registry (registry_behind setting version (opened rows) lines)
+
+abbrev pub stays_of : ℕ → List ℕ → List GameRow
+stays_of blocks file = stays_behind (setting_of blocks) (version_of file) (rows_of file) (later_pieces (pieces_of file))
+
+-- What is taken from the routes.
+
+abbrev pub act_in : Route → Option Act
+act_in (route.Act a) = Some a
+act_in (route.Stray kind) = None
+act_in route.Nowhere = None
+
+abbrev pub acts_in : List (ℕ × Route) → List Act
+acts_in = filter_map (λ line. act_in line.1)
+
+-- what a line asks of that stay
 abbrev pub command_to : ℕ → Route → Option Command
-command_to row (route.Game to command) = if nat_eq to row then Some command else None
-command_to row (route.Stray kind) = None
-command_to row route.Nowhere = None
+command_to stay (route.Act a) = command_in stay a
+command_to stay (route.Stray kind) = None
+command_to stay route.Nowhere = None
 
--- what the lines ask of it, in their order
 abbrev pub commands_to : ℕ → List (ℕ × Route) → List Command
-commands_to row = filter_map (λ line. command_to row line.1)
+commands_to stay = filter_map (λ line. command_to stay line.1)
 
--- why a line goes to the strays, where it does
 abbrev pub stray_kind : Route → Option Stray
-stray_kind (route.Game row command) = None
+stray_kind (route.Act a) = None
 stray_kind (route.Stray kind) = Some kind
 stray_kind route.Nowhere = None
 
--- with the number of the line
 abbrev pub numbered_stray : ℕ × Route → Option (ℕ × Stray)
 numbered_stray line = option_map (λ kind. (line.0, kind)) (stray_kind line.1)
 
 abbrev pub strays_in : List (ℕ × Route) → List (ℕ × Stray)
 strays_in = filter_map numbered_stray
 
--- what a file asks of the game of that row, and its lines that belong to no game
-abbrev pub commands_of : List ℕ → ℕ → List Command
-commands_of file row = commands_to row (routes_of file)
+abbrev pub acts_of : ℕ → List ℕ → List Act
+acts_of blocks file = acts_in (routes_of blocks file)
 
-abbrev pub strays_of : List ℕ → List (ℕ × Stray)
-strays_of file = strays_in (routes_of file)
+abbrev pub commands_of : ℕ → List ℕ → ℕ → List Command
+commands_of blocks file stay = commands_to stay (routes_of blocks file)
 
--- what a line asks of a game, with the row of that game
-abbrev pub command_by_row : Route → Option (ℕ × Command)
-command_by_row (route.Game row command) = Some (row, command)
-command_by_row (route.Stray kind) = None
-command_by_row route.Nowhere = None
+abbrev pub strays_of : ℕ → List ℕ → List (ℕ × Stray)
+strays_of blocks file = strays_in (routes_of blocks file)
 
--- in the order of the file
-abbrev pub commands_by_row : List (ℕ × Route) → List (ℕ × Command)
-commands_by_row = filter_map (λ line. command_by_row line.1)
+-- The lines of a stay, told by its name and not by the registry.
 
--- the requests are what lines ask that go there
+abbrev pub is_leave_of : List ℕ → Line → Bool
+is_leave_of name line.Blank = Bool.false
+is_leave_of name (line.Command game command) = Bool.false
+is_leave_of name (line.Bad game) = Bool.false
+is_leave_of name (line.Stray kind) = Bool.false
+is_leave_of name (line.Admit row) = Bool.false
+is_leave_of name line.BadAdmit = Bool.false
+is_leave_of name (line.Leave None) = Bool.false
+is_leave_of name (line.Leave (Some game)) = is_same_text game name
+
+abbrev pub is_command_for : List ℕ → Line → Bool
+is_command_for name line.Blank = Bool.false
+is_command_for name (line.Command game command) = is_same_text game name
+is_command_for name (line.Bad game) = is_same_text game name
+is_command_for name (line.Stray kind) = Bool.false
+is_command_for name (line.Admit row) = Bool.false
+is_command_for name line.BadAdmit = Bool.false
+is_command_for name (line.Leave game) = Bool.false
+
+-- the lines up to the one by which the game of that name leaves, or to the end
+abbrev pub until_leave : Version → List ℕ → List (List ℕ) → List (List ℕ)
+until_leave version name [] = []
+until_leave version name (text ∷ lines) = if is_leave_of name (line_of version text) then [] else text ∷ until_leave version name lines
+
+-- the lines behind the one that opens that stay; all, where it is there before
+abbrev pub behind_admit : Setting → Version → List Stay → ℕ → List (List ℕ) → List (List ℕ)
+behind_admit setting version registry stay [] = []
+behind_admit setting version registry stay (text ∷ lines) =
+    if nat_lt stay (length registry) then text ∷ lines else behind_admit setting version (next_registry setting version registry text) stay lines
+
+-- the requests are what the lines ask for
 pub record IsRouted (routes : List (ℕ × Route)) (requests : Requests) : Type 0 where
-  pub commands : requests.commands.items ≡ commands_by_row routes
+  pub acts : requests.acts.items ≡ acts_in routes
   pub strays : requests.strays.items ≡ strays_in routes

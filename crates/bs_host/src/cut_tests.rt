@@ -54,7 +54,7 @@ const VERSION_TWO_SECOND: &str = r#"{"games":[{"game":"b","quota":4096}],"versio
 
 // The cut, or the fault.
 fn outcome(alloc: Global, file: &[u8], game: &str) -> Result<Vec<u8>, AllocError> {
-    match cut(alloc, file, game) {
+    match cut(alloc, file, 64, game, 1) {
         Ok(text) => Ok(text),
         Err(fault) => Ok(format!(in alloc; "{fault}")?.into_bytes()),
     }

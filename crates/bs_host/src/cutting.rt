@@ -1,20 +1,30 @@
-//! Cuts a command file to one game's own lines, and states the law that the game is answered there
+//! Cuts a command file to one stay's own lines, and states the law that the stay is answered there
 //! as it is among the others.
-ghost use Rattle.std.specs.Prelude.{◌≡◌, ◌<◌, [], ◌∷◌, ◌++◌, None, Some, length, is_some, IfOk, IfErr, OnOk, option_copied, option_map};
+ghost use Rattle.std.specs.Prelude.{◌≡◌, ◌-◌, ◌&&◌, nat_eq, if◌then◌else◌, length, [], ◌∷◌, ◌++◌, None, Some, is_some, IfOk, IfErr, OnOk, MatchOption, option_copied, option_map};
 ghost use Rattle.serde_json.specs.Data.{array};
 ghost use Rattle.serde_json.specs.View.{items_of, view};
 ghost use Rattle.bs_host.specs.declared.lines.TheConstants.{LINE_FEED};
-ghost use Rattle.bs_host.specs.Cut.{row_data, lone_plan_data, lone_plan_of, is_own_line, own_lines_in, game_at, behind_feeds, cut_of, cut_refusal_of, IsCutRefusal, SectionLaw};
-ghost use Rattle.bs_host.specs.File.{pieces_after, rows_of};
-ghost use Rattle.bs_host.specs.Routing.{command_to, row_named};
+ghost use Rattle.bs_board.specs.Texts.{is_same_text};
+ghost use Rattle.bs_json.specs.Line.{line_of};
+ghost use Rattle.bs_workers.specs.Acts.{opened};
+ghost use Rattle.bs_host.specs.Cut.{row_data, lone_plan_data, lone_plan_of, is_too_small, nth_from, nth_stay, own_lines_in, behind_feeds, cut_of, cut_refusal_of, IsCutRefusal, SectionLaw};
+ghost use Rattle.bs_host.specs.File.{pieces_after};
+ghost use Rattle.bs_host.specs.Guests.{guests_of, guests_then, route_by, rows_by_guests, rows_in_route};
+ghost use Rattle.bs_host.specs.Laws.{EarlyLaw, FoundLaw, OwnLinesLaw};
+ghost use Rattle.bs_host.specs.Routing.{command_to, setting_of, stays_behind};
 
+use crate::blocks::blocks_of_all;
 use crate::cut_fault::Cut;
+use crate::fault::PlanRefusal;
+use crate::file::CommandFile;
+use crate::guests::Guests;
 use crate::limits::MOST_FILE_BYTES;
 use crate::lines::split_line;
 use crate::parse::parse_line;
-use crate::route::{FIRST_ROW, Route, route_line, row_named};
+use crate::route::Route;
 use bs_board::{Id, Plan, Row, Version};
 use bs_json::read_plan;
+use bs_workers::Act;
 use serde_json::{Value, json};
 use std::alloc::{AllocError, Global};
 
@@ -32,7 +42,9 @@ fn lone_plan(alloc: Global, version: Version, row: &Row) -> Result<Value, AllocE
     let games = lone_games(alloc, row)?;
     match version {
         Version::One => json!(in alloc; {"games": games}),
-        Version::Two => json!(in alloc; {"games": games, "version": version.number()}),
+        Version::Two | Version::Three => {
+            json!(in alloc; {"games": games, "version": version.number()})
+        }
     }
 }
 
@@ -44,23 +56,31 @@ fn lone_plan_text(alloc: Global, version: Version, row: &Row) -> Result<Vec<u8>,
     plan.to_vec(alloc)
 }
 
-fn goes_to(row: usize, route: &Route) -> bool
-    ensures { result ≡ is_some (command_to row route.now) }
+fn goes_to(stay: usize, route: &Route) -> bool
+    ensures { result ≡ is_some (command_to stay route.now) }
 {
     match route {
-        Route::Game(to, _) => *to == row,
+        Route::Act(Act::Hand(to, _)) => *to == stay,
+        Route::Act(Act::Admit(_)) => false,
+        Route::Act(Act::Leave(_)) => false,
         Route::Stray(_) => false,
         Route::Nowhere => false,
     }
 }
 
+/// Parses a line of the file and routes it.
 #[tactic(auto, using(crate::proofs::ParsedLines::route_of_parsed))]
-fn is_own_line(alloc: Global, plan: &Plan, row: usize, line: &[u8]) -> Result<bool, AllocError>
-    ensures { IfOk result (λ own. own ≡ is_own_line plan.now row line.now) }
+fn route_text(
+    alloc: Global,
+    guests: &mut Guests,
+    file: CommandFile<'_>,
+    line: &[u8],
+) -> Result<Route, AllocError>
+    ensures route { IfOk result (λ route. route ≡ route_by (setting_of file.entry.blocks) guests.old (line_of file.entry.plan.now.version line.now)) }
+    ensures after { IfOk result (λ route. guests.new ≡ guests_then guests.old route) }
 {
-    let parsed = parse_line(alloc, plan.version, line, None)?;
-    let route = route_line(&plan.rows, row, &parsed)?;
-    Ok(goes_to(row, &route))
+    let parsed = parse_line(alloc, file.plan.version, line, None)?;
+    guests.route(alloc, file.blocks, &parsed)
 }
 
 fn push_line(line: &[u8], text: &mut Vec<u8>) -> Result<(), AllocError>
@@ -71,21 +91,23 @@ fn push_line(line: &[u8], text: &mut Vec<u8>) -> Result<(), AllocError>
     Ok(())
 }
 
-/// Appends each line of the game of that row, with a line feed before it.
+/// Appends each line of that stay, with a line feed before it.
+#[tactic(auto, using(crate::proofs::CutFile::none_left, crate::proofs::CutFile::own_line_goes, crate::proofs::CutFile::other_line_goes))]
 fn push_own_lines(
     alloc: Global,
-    plan: &Plan,
-    row: usize,
-    rest: Option<&[u8]>,
+    file: CommandFile<'_>,
+    stay: usize,
     text: &mut Vec<u8>,
 ) -> Result<(), AllocError>
     ensures { OnOk result
-        (text.new.items ≡ text.old.items ++ behind_feeds (own_lines_in plan.now row (pieces_after (option_copied rest.entry)))) }
+        (text.new.items ≡ text.old.items ++ behind_feeds (own_lines_in (setting_of file.entry.blocks) file.entry.plan.now.version (opened file.entry.plan.now.rows) stay (pieces_after (option_copied file.entry.rest)))) }
 {
-    let mut left = rest;
+    let mut guests = Guests::of_plan(alloc, &file.plan.rows)?;
+    let mut left = file.rest;
     'lines: while let Some(lines) = left {
         let (line, more) = split_line(lines);
-        if is_own_line(alloc, plan, row, line)? {
+        let route = route_text(alloc, &mut guests, file, line)?;
+        if goes_to(stay, &route) {
             push_line(line, text)?;
         }
         left = more;
@@ -95,43 +117,159 @@ fn push_own_lines(
 
 fn cut_to(
     alloc: Global,
-    plan: &Plan,
-    row: usize,
-    rest: Option<&[u8]>,
+    file: CommandFile<'_>,
+    stay: usize,
+    row: &Row,
 ) -> Result<Vec<u8>, AllocError>
-    requires { row < length plan.now.rows }
     ensures { IfOk result (λ text. text.items
-        ≡ lone_plan_of plan.now.version (game_at plan.now.rows row) ++ behind_feeds (own_lines_in plan.now row (pieces_after (option_copied rest.entry)))) }
+        ≡ lone_plan_of file.entry.plan.now.version row.now
+        ++ behind_feeds (own_lines_in (setting_of file.entry.blocks) file.entry.plan.now.version (opened file.entry.plan.now.rows) stay (pieces_after (option_copied file.entry.rest)))) }
 {
-    let mut text = lone_plan_text(alloc, plan.version, &plan.rows.as_slice()[row])?;
-    push_own_lines(alloc, plan, row, rest, &mut text)?;
+    let mut text = lone_plan_text(alloc, file.plan.version, row)?;
+    push_own_lines(alloc, file, stay, &mut text)?;
     Ok(text)
 }
 
-/// Makes the file of the game of that name alone: a plan of the same version with its row alone,
-/// then its lines, unchanged, each after a line feed. Checks the file's length, its plan and the
-/// name, and returns the first fault.
-#[tactic(auto, using(crate::proofs::CutFile::refusal_of_long, crate::proofs::CutFile::refusal_of_first, crate::proofs::CutFile::cut_of_first, crate::proofs::CutFile::rows_of_first))]
-pub fn cut(alloc: Global, input: &[u8], game: &str) -> Result<Vec<u8>, Cut>
-    ensures cut { OnOk result (cut_refusal_of input.now game.now ≡ None) }
+/// Looks for a stay by its game's name, and by how many stays of that name are still to be passed,
+/// itself included.
+#[derive(Drop)]
+struct Search<'n> {
+    name: &'n Id,
+    left: usize,
+}
+
+impl Search<'_> {
+    /// Whether the next row is that of the stay.
+    fn is_found_in(&mut self, row: &Row) -> bool
+        ensures found { result ≡ (is_same_text self.old.name.now row.now.game && nat_eq self.old.left 1) }
+        ensures left { self.new.left ≡ (if is_same_text self.old.name.now row.now.game then self.old.left - 1 else self.old.left) }
+        ensures name { self.new.name ≡ self.old.name }
+    {
+        if !self.name.is_same(&row.game) {
+            return false;
+        }
+        let is_last = self.left == 1;
+        self.left = self.left.saturating_sub(1);
+        is_last
+    }
+}
+
+/// The row that a line admits.
+fn admitted(route: Route) -> Option<Row>
+    ensures { MatchOption result (rows_in_route route ≡ []) (λ row. rows_in_route route ≡ row ∷ []) }
+{
+    match route {
+        Route::Act(Act::Hand(_, _)) => None,
+        Route::Act(Act::Admit(row)) => Some(row),
+        Route::Act(Act::Leave(_)) => None,
+        Route::Stray(_) => None,
+        Route::Nowhere => None,
+    }
+}
+
+/// Looks among the stays that lines admit, which follow those of the plan.
+#[tactic(auto, using(crate::proofs::FoundLines::found_admitted, crate::proofs::FoundLines::passed_admitted, crate::proofs::FoundLines::passed_others))]
+fn find_admitted(
+    alloc: Global,
+    file: CommandFile<'_>,
+    mut search: Search<'_>,
+) -> Result<Option<(usize, Row)>, AllocError>
+    ensures { IfOk result (λ found. found
+        ≡ nth_from (length file.entry.plan.now.rows) (rows_by_guests (setting_of file.entry.blocks) file.entry.plan.now.version (guests_of (opened file.entry.plan.now.rows)) (pieces_after (option_copied file.entry.rest))) search.entry.name.now search.entry.left) }
+{
+    let mut guests = Guests::of_plan(alloc, &file.plan.rows)?;
+    let mut left = file.rest;
+    'lines: while let Some(lines) = left {
+        let (line, more) = split_line(lines);
+        let stay = guests.made();
+        let route = route_text(alloc, &mut guests, file, line)?;
+        if let Some(row) = admitted(route) {
+            if search.is_found_in(&row) {
+                return Ok(Some((stay, row)));
+            }
+        }
+        left = more;
+    }
+    Ok(None)
+}
+
+/// The number of the stay of that name that is the `nth`, from 1 on, and its row.
+#[tactic(auto, using(crate::proofs::FoundLines::passed_planned))]
+fn find_stay(
+    alloc: Global,
+    file: CommandFile<'_>,
+    name: &Id,
+    nth: usize,
+) -> Result<Option<(usize, Row)>, AllocError>
+    ensures { IfOk result (λ found. found
+        ≡ nth_from 0 (stays_behind (setting_of file.entry.blocks) file.entry.plan.now.version file.entry.plan.now.rows (pieces_after (option_copied file.entry.rest))) name.now nth) }
+{
+    let mut search = Search { name, left: nth };
+    let rows = file.plan.rows.as_slice();
+    for stay in 0..rows.len() {
+        if search.is_found_in(&rows[stay]) {
+            return Ok(Some((stay, rows[stay].copy(alloc)?)));
+        }
+    }
+    if file.plan.version.has_stays() {
+        find_admitted(alloc, file, search)
+    } else {
+        Ok(None)
+    }
+}
+
+/// Whether the plan's reservations exceed that many blocks. The blocks decide which games are
+/// admitted, so they are not judged in a version without stays.
+fn is_too_small(plan: &Plan, blocks: usize) -> bool
+    ensures { result ≡ is_too_small blocks plan.now }
+{
+    plan.version.has_stays() && blocks_of_all(plan.rows.as_slice()) > blocks
+}
+
+/// Makes the file of one stay alone: a plan of the same version with its row alone, then its lines,
+/// unchanged, each after a line feed. `stay` counts from 1 among the stays of that name of the
+/// file, which is served from that many blocks. Checks the file's length, its plan, in version 3
+/// the number of blocks, and the stay, and returns the first fault.
+#[tactic(auto, using(crate::proofs::CutFile::refusal_of_long, crate::proofs::CutFile::refusal_of_first, crate::proofs::CutRefusals::none_against, crate::proofs::CutRefusals::too_small, crate::proofs::CutRefusals::not_there))]
+pub fn cut(
+    alloc: Global,
+    input: &[u8],
+    blocks: usize,
+    game: &str,
+    stay: usize,
+) -> Result<Vec<u8>, Cut>
+    ensures cut { OnOk result (cut_refusal_of blocks input.now game.now stay ≡ None) }
     ensures text { IfOk result
-        (λ text. option_map (cut_of input.now) (row_named (rows_of input.now) game.now) ≡ Some text.items) }
-    ensures fault { IfErr result (IsCutRefusal (cut_refusal_of input.now game.now)) }
+        (λ text. option_map (cut_of blocks input.now) (nth_stay blocks input.now game.now stay) ≡ Some text.items) }
+    ensures fault { IfErr result (IsCutRefusal (cut_refusal_of blocks input.now game.now stay)) }
 {
     if input.len() > MOST_FILE_BYTES {
         return Err(Cut::TooLong);
     }
     let (first, rest) = split_line(input);
     let plan = read_plan(alloc, first)?;
+    if is_too_small(&plan, blocks) {
+        return Err(Cut::Plan(PlanRefusal::Short));
+    }
     let name = Id::from_str(alloc, game)?;
-    match row_named(&plan.rows, FIRST_ROW, &name) {
-        Some(row) => Ok(cut_to(alloc, &plan, row, rest)?),
+    let file = CommandFile {
+        blocks,
+        plan: &plan,
+        rest,
+    };
+    match find_stay(alloc, file, &name, stay)? {
+        Some((stay, row)) => Ok(cut_to(alloc, file, stay, &row)?),
         None => Err(Cut::NoSuchGame),
     }
 }
 
-/// States that each game of each file is answered by its own lines alone as it is in the file. Does
-/// nothing.
+/// States that each stay of each file is answered by its own lines alone as it is in the file; that
+/// its own lines are those between its `admit` and its `leave` that name its game; that a stay that
+/// is found by name and number is one of the file's; and that in versions 1 and 2 the number of
+/// blocks changes nothing. Does nothing.
 pub fn section_law()
-    ensures { SectionLaw }
+    ensures cut { SectionLaw }
+    ensures own { OwnLinesLaw }
+    ensures found { FoundLaw }
+    ensures early { EarlyLaw }
 {}

@@ -69,7 +69,9 @@ fn two_games_interleaved(rt: HostRuntime) -> Result<(), Fail> {
         assert_eq!(rt; written.as_slice(), both.as_bytes(), "{workers}");
     }
     for (game, text) in [("a", FIRST_TEXT), ("b", SECOND_TEXT)] {
-        let own = cut(alloc, TWO_GAMES.as_bytes(), game).ok().ok_or("a cut")?;
+        let own = cut(alloc, TWO_GAMES.as_bytes(), 12, game, 1)
+            .ok()
+            .ok_or("a cut")?;
         let (told, written) = worked(&rt, alloc, own.as_slice(), 6, 1, &OpenGate)?;
         assert_eq!(rt; told.as_str(), "served");
         assert_eq!(rt; written.as_slice(), text.as_bytes(), "{game}");
@@ -184,7 +186,9 @@ impl Gate for Meeting {
 #[test]
 fn two_parts_of_one_move_at_once(rt: HostRuntime) -> Result<(), Fail> {
     let alloc = rt.alloc();
-    let own = cut(alloc, TWO_GAMES.as_bytes(), "b").ok().ok_or("a cut")?;
+    let own = cut(alloc, TWO_GAMES.as_bytes(), 12, "b", 1)
+        .ok()
+        .ok_or("a cut")?;
     let gate = new_meeting();
     let (told, written) = worked(&rt, alloc, own.as_slice(), 6, 2, &gate)?;
     assert_eq!(rt; told.as_str(), "served");

@@ -1,7 +1,8 @@
 //! Serves a command file: reads its bytes, has a core answer the commands of each game of its plan,
-//! and writes the transcript. Also cuts a file to one game: the game's own lines as a file.
+//! and writes the transcript. Also cuts a file to one stay of a game: its own lines as a file.
 #![tactic(auto)]
 
+mod blocks;
 mod cut_fault;
 #[cfg(test)]
 mod cut_tests;
@@ -9,8 +10,10 @@ mod cutting;
 #[cfg(test)]
 mod devices_tests;
 mod fault;
+mod file;
 #[cfg(test)]
 mod games_tests;
+mod guests;
 mod limits;
 #[cfg(test)]
 mod limits_tests;
@@ -20,6 +23,8 @@ mod read;
 mod render;
 mod route;
 mod serving;
+#[cfg(test)]
+mod stays_tests;
 #[cfg(test)]
 mod tests;
 

@@ -6,7 +6,7 @@ ghost use Rattle.bs_host.specs.File.{pieces_of, pieces_after};
 ghost use Rattle.bs_host.specs.Parsed.{parsed_line, parsed_lines};
 
 use crate::lines::{split_from, split_line};
-use bs_board::{Command, Id, Version};
+use bs_board::{Command, Id, Row, Version};
 use bs_fiber::SharedCommand;
 use bs_json::{Line, Stray, read_line};
 use std::alloc::{AllocError, Global};
@@ -17,6 +17,10 @@ use std::thread::{Threads, join};
 pub enum ParsedLine {
     /// A command for the game of that name.
     Command(Id, SharedCommand),
+    /// It admits a game.
+    Admit(Row),
+    /// It dismisses the game of that name.
+    Leave(Id),
     /// A line of no game, for that reason.
     Stray(Stray),
     /// Nothing but white space.
@@ -61,6 +65,10 @@ pub(crate) fn parse_line(
             Ok(ParsedLine::Command(game, command))
         }
         Line::Stray(kind) => Ok(ParsedLine::Stray(kind)),
+        Line::Admit(row) => Ok(ParsedLine::Admit(row)),
+        Line::BadAdmit => Ok(ParsedLine::Stray(Stray::BadRow)),
+        Line::Leave { game: Some(game) } => Ok(ParsedLine::Leave(game)),
+        Line::Leave { game: None } => Ok(ParsedLine::Stray(Stray::NoStay)),
     }
 }
 

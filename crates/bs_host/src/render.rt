@@ -1,10 +1,9 @@
 //! Renders the transcript of a finished core.
-ghost use Rattle.std.specs.Prelude.{◌≡◌, ◌<◌, length, OnOk, IfOk};
+ghost use Rattle.std.specs.Prelude.{◌≡◌, ◌<◌, length, IfOk};
 ghost use Rattle.std.specs.List.{flat_map};
-ghost use Rattle.bs_sched.specs.Games.{row_at};
 ghost use Rattle.bs_sched.specs.Machine.{lane_of};
 ghost use Rattle.bs_transcript.specs.Lines.{section_lines_of};
-ghost use Rattle.bs_host.specs.Transcript.{lane_lines_of, sections_in, core_text_of};
+ghost use Rattle.bs_host.specs.Transcript.{lane_lines_of, core_text_of};
 
 use crate::limits::BLOCK_BYTES;
 use bs_json::Stray;
@@ -13,7 +12,7 @@ use bs_transcript::{Section, Shares, text_by};
 use std::alloc::{AllocError, Global};
 use std::thread::Threads;
 
-/// The section of one game: its name, its replies, its last board and its charge.
+/// The section of one stay: its name, its replies, its last board and its charge.
 fn section_of_game<'c>(
     alloc: Global,
     core: &'c Core<BLOCK_BYTES>,
@@ -21,7 +20,7 @@ fn section_of_game<'c>(
 ) -> Result<Section<'c>, AllocError>
     requires { game < length core.now.games.lanes }
     ensures { IfOk result
-        (λ section. section_lines_of section ≡ lane_lines_of (row_at core.now.games.rows game) (lane_of core.now.games.lanes game)) }
+        (λ section. section_lines_of section ≡ lane_lines_of (lane_of core.now.games.lanes game)) }
 {
     Ok(Section {
         name: &core.row(game).game,
@@ -31,13 +30,13 @@ fn section_of_game<'c>(
     })
 }
 
+#[tactic(auto, using(crate::proofs::HostedCore::one_more_section))]
 fn sections_of_games<'c>(
     alloc: Global,
     core: &'c Core<BLOCK_BYTES>,
 ) -> Result<Vec<Section<'c>>, AllocError>
-    ensures told { IfOk result
-        (λ sections. flat_map section_lines_of sections.items ≡ sections_in core.now.games.rows core.now.games.lanes) }
-    ensures lanes { length core.now.games.lanes ≡ length core.now.games.rows }
+    ensures { IfOk result
+        (λ sections. flat_map section_lines_of sections.items ≡ flat_map lane_lines_of core.now.games.lanes) }
 {
     let mut sections = Vec::with_capacity(alloc, core.rows())?;
     for game in 0..core.rows() {
@@ -46,8 +45,8 @@ fn sections_of_games<'c>(
     Ok(sections)
 }
 
-/// Renders the games' sections in the order of the plan, then the stray lines, on at most `threads`
-/// threads.
+/// Renders the sections of all stays in the order of their rows, then the stray lines, on at most
+/// `threads` threads.
 pub(crate) fn render_core<R: Threads + Sync>(
     rt: &R,
     alloc: Global,
@@ -55,8 +54,7 @@ pub(crate) fn render_core<R: Threads + Sync>(
     strays: &[(u64, Stray)],
     threads: usize,
 ) -> Result<Shares, AllocError>
-    ensures text { IfOk result (λ text. text ≡ core_text_of core.now strays.now) }
-    ensures lanes { OnOk result (length core.now.games.lanes ≡ length core.now.games.rows) }
+    ensures { IfOk result (λ text. text ≡ core_text_of core.now strays.now) }
 {
     let sections = sections_of_games(alloc, core)?;
     text_by(rt, alloc, sections.as_slice(), strays, threads)

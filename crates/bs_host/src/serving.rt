@@ -4,11 +4,13 @@ ghost use Rattle.std.specs.Prelude.{◌≡◌, ◌≤◌, None, IfOk, IfErr, OnO
 ghost use Rattle.std.specs.Io.KnownBytes.{Appends};
 ghost use Rattle.bs_host.specs.File.{pieces_after};
 ghost use Rattle.bs_host.specs.Hosted.{Hosts, IsOpened};
-ghost use Rattle.bs_host.specs.Routing.{IsRouted, routes_from};
+ghost use Rattle.bs_workers.specs.Acts.{opened};
+ghost use Rattle.bs_host.specs.Routing.{IsRouted, setting_of, routes_from};
 ghost use Rattle.bs_host.specs.Faults.{refusal_of, IsRefusal, IsFault, Leaves};
 ghost use Rattle.bs_host.specs.Transcript.{transcript_of};
 
 use crate::fault::Fault;
+use crate::file::CommandFile;
 use crate::limits::{BLOCK_BYTES, MOST_FILE_BYTES};
 use crate::lines::split_line;
 use crate::parse::parse_lines;
@@ -72,14 +74,14 @@ fn open_file(
 fn read_requests<R: Threads + Sync>(
     rt: &R,
     alloc: Global,
-    plan: &Plan,
-    text: Option<&[u8]>,
+    file: CommandFile<'_>,
     threads: usize,
 ) -> Result<Requests, AllocError>
-    ensures { IfOk result (IsRouted (routes_from plan.now 2 (pieces_after (option_copied text.entry)))) }
+    ensures { IfOk result
+        (IsRouted (routes_from (setting_of file.entry.blocks) file.entry.plan.now.version (opened file.entry.plan.now.rows) 2 (pieces_after (option_copied file.entry.rest)))) }
 {
-    let lines = parse_lines(rt, alloc, plan.version, text, threads)?;
-    route_lines(alloc, &plan.rows, lines.as_slice())
+    let lines = parse_lines(rt, alloc, file.plan.version, file.rest, threads)?;
+    route_lines(alloc, file.blocks, &file.plan.rows, lines.as_slice())
 }
 
 /// Serves a command file with `blocks` blocks of memory and `workers` threads, the caller's
@@ -97,14 +99,19 @@ pub fn serve<R: Threads + Wait + Sync, G: Gate, W: Write>(
 ) -> Result<Core<BLOCK_BYTES>, Fault>
     ensures served { OnOk result (refusal_of blocks input.now ≡ None) }
     ensures core { IfOk result (Hosts blocks input.now) }
-    ensures written { OnOk result (Appends (W.contents output.old) (W.contents output.new) (transcript_of input.now)) }
+    ensures written { OnOk result (Appends (W.contents output.old) (W.contents output.new) (transcript_of blocks input.now)) }
     ensures fault { IfErr result (IsFault (refusal_of blocks input.now)) }
-    ensures left { IfErr result (Leaves W.contents (transcript_of input.now) output.old output.new) }
+    ensures left { IfErr result (Leaves W.contents (transcript_of blocks input.now) output.old output.new) }
 {
     let threads = workers.min(MOST_THREADS);
     let (core, plan, text) = open_file(alloc, input, blocks, threads)?;
-    let Requests { commands, strays } = read_requests(rt, alloc, &plan, text, threads)?;
-    let core = run(rt, alloc, core, commands.as_slice(), threads, gate)?;
+    let file = CommandFile {
+        blocks,
+        plan: &plan,
+        rest: text,
+    };
+    let Requests { acts, strays } = read_requests(rt, alloc, file, threads)?;
+    let core = run(rt, alloc, core, acts.as_slice(), threads, gate)?;
     let text = render_core(rt, alloc, &core, strays.as_slice(), threads)?;
     write_shares(&text, output)?;
     Ok(core)

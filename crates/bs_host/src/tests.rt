@@ -360,7 +360,8 @@ fn plans_are_refused(rt: HostRuntime) -> Result<(), Fail> {
     let two = r#"{"games":[{"game":"a","quota":64},{"game":"b","quota":64}]}"#;
     let large = r#"{"games":[{"game":"a","quota":16777216}]}"#;
     for (file, blocks, wanted) in [
-        (r#"{"games":[],"version":3}"#, 64, "plan P1"),
+        (r#"{"games":[],"version":4}"#, 64, "plan P1"),
+        (r#"{"games":[],"version":3}"#, 64, "served"),
         (twice, 64, "plan P2"),
         (many.as_str(), 4096, "plan P3"),
         (two, 11, "plan P4"),

@@ -1,26 +1,34 @@
-use Rattle.std.proofs.Common.{◌≡◌, ◌∙◌, None, rules}
+use Rattle.std.proofs.Common.{◌≡◌, ◌∙◌, None, arith, rules}
 use Rattle.std.specs.Prelude.{option_copied}
 use Rattle.bs_host.specs.Faults.{refusal_of}
 use Rattle.bs_host.specs.File.{pieces_after}
 use Rattle.bs_host.specs.Hosted.{Hosts}
 use Rattle.bs_host.specs.Transcript.{transcript_of}
-use Rattle.bs_host.proofs.FileTexts.{hosts_of_run, text_of_run}
+use Rattle.bs_host.proofs.FileTexts.{acts_accepted, fresh_core, hosts_of_run, text_of_run}
 use Rattle.bs_host.proofs.serving.serve.Goals as goal
 use Rattle.bs_host.proofs.serving.serve.Goals.{After-write_shares}
 
+pub run-requires-after_bounds : goal.run-requires-after_bounds
+run-requires-after_bounds g c κs bounds =
+    let given : c.as_slice.result.now ≡ c.in_ok-acts.field-0.acts.items = search rules in
+    let fresh = fresh_core c.args.blocks c.args.input.now (pieces_after (option_copied c.in_ok-core.text)) c.in_ok-core.plan c.in_ok-core.core c.in_ok-core.ensures.opened in
+    let accepted = acts_accepted c.args.blocks c.args.input.now (pieces_after (option_copied c.in_ok-core.text)) c.in_ok-core.plan c.in_ok-acts.field-0 c.as_slice.result.now
+    c.in_ok-core.core c.in_ok-core.ensures.opened c.in_ok-acts.ensures given in
+    (omega arith, (fresh, accepted))
+
 hosts : (g : _) (c : After-write_shares g) → Hosts c.args.blocks c.args.input.now c.in_ok-core-2.core
 hosts g c =
-    let asked : c.as_slice.result.now ≡ c.in_ok-commands.field-0.commands.items = search rules in
-    hosts_of_run c.args.blocks c.args.input.now (pieces_after (option_copied c.in_ok-core.text)) c.in_ok-core.plan c.in_ok-commands.field-0 c.as_slice.result.now
-    c.in_ok-core.core c.in_ok-core-2.core c.in_ok-core.ensures.opened c.in_ok-commands.ensures asked c.in_ok-core-2.ensures
+    let given : c.as_slice.result.now ≡ c.in_ok-acts.field-0.acts.items = search rules in
+    hosts_of_run c.args.blocks c.args.input.now (pieces_after (option_copied c.in_ok-core.text)) c.in_ok-core.plan c.in_ok-acts.field-0 c.as_slice.result.now
+    c.in_ok-core.core c.in_ok-core.ensures.opened c.in_ok-acts.ensures given c.in_ok-core-2.core c.in_ok-core-2.ensures
 
-told : (g : _) (c : After-write_shares g) → c.in_ok-text.text ≡ transcript_of c.args.input.now
+told : (g : _) (c : After-write_shares g) → c.in_ok-text.text ≡ transcript_of c.args.blocks c.args.input.now
 told g c =
-    let strays : c.as_slice-2.result.now ≡ c.in_ok-commands.field-0.strays.items = search rules in
-    let opened = c.in_ok-core.ensures.opened in
-    text_of_run c.args.blocks c.args.input.now (pieces_after (option_copied c.in_ok-core.text)) c.in_ok-core.plan c.in_ok-commands.field-0 c.as_slice-2.result.now
-    c.in_ok-core-2.core c.in_ok-text.text opened.is_plan opened.are_lines c.in_ok-commands.ensures (hosts g c) c.in_ok-text.ensures.lanes strays
-    c.in_ok-text.ensures.text
+    let given : c.as_slice.result.now ≡ c.in_ok-acts.field-0.acts.items = search rules in
+    let strays : c.as_slice-2.result.now ≡ c.in_ok-acts.field-0.strays.items = search rules in
+    text_of_run c.args.blocks c.args.input.now (pieces_after (option_copied c.in_ok-core.text)) c.in_ok-core.plan c.in_ok-acts.field-0 c.as_slice.result.now
+    c.in_ok-core.core c.in_ok-core.ensures.opened c.in_ok-acts.ensures given c.in_ok-core-2.core c.as_slice-2.result.now c.in_ok-text.text
+    c.in_ok-core-2.ensures strays c.in_ok-text.ensures
 
 pub returns-in_err-write_shares-clause-fault : goal.returns-in_err-write_shares-clause-fault
 returns-in_err-write_shares-clause-fault g c =

@@ -1,0 +1,158 @@
+-- The open stays alone decide the routing.
+use Rattle.std.proofs.Common.{◌≡◌, Bool, is_some, ℕ, suc, ◌+◌, ◌-◌, ◌<◌, ◌&&◌, nat_lt, if◌then◌else◌, List, [], ◌∷◌, ◌++◌, Option, Some, None, drop, get_or, length, option_map, inl, inr, refl, sym, ap, ◌∙◌, arith, append-nil, append_assoc, length-append}
+use Rattle.std.specs.List.{enumerate_from, list_any, position}
+use Rattle.std.proofs.lemmas.Bool.{and_parts, cases_Bool, lt-ltb, ltb-true}
+use Rattle.std.proofs.lemmas.List.{drop_all, drop_more, length-map, length-set}
+use Rattle.std.proofs.lemmas.List.Sums.{sum_by-cons}
+use Rattle.bs_board.specs.declared.limits.TheConstants.{MOST_ROWS}
+use Rattle.bs_board.specs.plans.Plan.{GameRow, row_of}
+use Rattle.bs_board.specs.declared.commands.command.Command.TheVariants as command
+use Rattle.bs_json.specs.declared.line.Line.{Line}
+use Rattle.bs_json.specs.Line.{line_of}
+use Rattle.bs_json.specs.declared.line.Line.TheVariants as line
+use Rattle.bs_json.specs.declared.line.Stray.TheVariants as stray
+use Rattle.bs_sched.specs.PlanBlocks.{blocks_of}
+use Rattle.bs_workers.specs.declared.act.TheConstants.{MOST_STAYS}
+use Rattle.bs_workers.specs.Acts.{Stay, Setting, closed_stay, stay_at, open_stay, opened}
+use Rattle.bs_workers.specs.declared.act.Act.TheVariants as act
+use Rattle.bs_host.specs.declared.route.Route.{Route}
+use Rattle.bs_host.specs.Guests.{bears, blocks_in, found_in, open_from, open_of, GuestList, own_by_guests, guests_of, guests_then, refusal_by, route_by, routes_by_guests}
+use Rattle.bs_host.specs.Cut.{is_own_line, own_lines_in}
+use Rattle.bs_host.specs.Laws.{GuestLinesLaw, GuestsLaw}
+use Rattle.bs_host.specs.Routing.{command_to, admit_refusal, admit_route, registry_then, hand_route, leave_route, next_registry, route_at, route_of, routes_from}
+use Rattle.bs_host.specs.declared.route.Route.TheVariants as route
+use Rattle.bs_host.proofs.OpenStays.{open_law, position_behind}
+
+same_refusal : (setting : Setting) (registry : List Stay) (row : GameRow) → admit_refusal setting registry row ≡ refusal_by setting (guests_of registry) row
+same_refusal setting registry row =
+    let told = open_law setting.cap registry in
+    let any = told.any row.game in
+    rw (any, told.many, told.blocks) refl
+
+same_route : (setting : Setting) (registry : List Stay) (l : Line) → route_of setting registry l ≡ route_by setting (guests_of registry) l
+same_route setting registry line.Blank = refl
+same_route setting registry (line.Command game command) = ap (λ o. hand_route o command) ((open_law setting.cap registry).named game)
+same_route setting registry (line.Bad game) = ap (λ o. hand_route o command.Bad) ((open_law setting.cap registry).named game)
+same_route setting registry (line.Stray kind) = refl
+same_route setting registry (line.Admit row) = ap (λ o. admit_route o row) (same_refusal setting registry row)
+same_route setting registry line.BadAdmit = refl
+same_route setting registry (line.Leave None) = refl
+same_route setting registry (line.Leave (Some game)) = ap leave_route ((open_law setting.cap registry).named game)
+
+abbrev pub guests_with : ℕ → List (ℕ × GameRow) → GuestList
+guests_with made stays = record { made = made; stays = stays }
+
+same_next : (setting : Setting) (registry : List Stay) (r : Route) → guests_of (registry_then registry r) ≡ guests_then (guests_of registry) r
+same_next setting registry (route.Act (act.Hand stay command)) = refl
+same_next setting registry (route.Act (act.Admit row)) =
+    let many : length (registry ++ open_stay row ∷ []) ≡ length registry + 1 = omega (arith, length-append registry (open_stay row ∷ [])) in
+    ap (λ n. guests_with n (open_of (registry ++ open_stay row ∷ []))) many ∙ ap (guests_with (length registry + 1)) ((open_law setting.cap registry).admits row)
+same_next setting registry (route.Act (act.Leave stay)) =
+    ap (λ n. guests_with n (open_of (registry_then registry (route.Act (act.Leave stay))))) (length-set registry stay (closed_stay (stay_at registry stay)))
+    ∙ ap (guests_with (length registry)) ((open_law setting.cap registry).leaves stay)
+same_next setting registry (route.Stray kind) = refl
+same_next setting registry route.Nowhere = refl
+
+pub guests_law : GuestsLaw
+guests_law setting version number registry [] = refl
+guests_law setting version number registry (text ∷ lines) =
+    let r = route_by setting (guests_of registry) (line_of version text) in
+    let same = same_route setting registry (line_of version text) in
+    let next : guests_of (next_registry setting version registry text) ≡ guests_then (guests_of registry) r =
+    same_next setting registry (route_at setting version registry text) ∙ ap (guests_then (guests_of registry)) same in
+    ap (λ q. (number, q) ∷ routes_from setting version (next_registry setting version registry text) (number + 1) lines) same
+    ∙ ap (λ rest. (number, r) ∷ rest) (guests_law setting version (number + 1) (next_registry setting version registry text) lines
+    ∙ ap (λ g. routes_by_guests setting version g (number + 1) lines) next)
+
+if_own : Bool → List ℕ → List (List ℕ) → List (List ℕ)
+if_own own text rest = if own then text ∷ rest else rest
+
+same_if : (own : Bool) (text : List ℕ) (rest : List (List ℕ)) → (if own then text ∷ rest else rest) ≡ if_own own text rest
+unfolding if_own
+same_if own text rest = refl
+
+pub guest_lines_law : GuestLinesLaw
+guest_lines_law setting version stay registry [] = refl
+guest_lines_law setting version stay registry (text ∷ lines) =
+    let r = route_by setting (guests_of registry) (line_of version text) in
+    let same = same_route setting registry (line_of version text) in
+    let next : guests_of (next_registry setting version registry text) ≡ guests_then (guests_of registry) r =
+    same_next setting registry (route_at setting version registry text) ∙ ap (guests_then (guests_of registry)) same in
+    let rest = guest_lines_law setting version stay (next_registry setting version registry text) lines ∙ ap (λ g. own_by_guests setting version g stay lines) next in
+    same_if (is_own_line setting version registry stay text) text (own_lines_in setting version (next_registry setting version registry text) stay lines)
+    ∙ ap (λ q. if_own (is_some (command_to stay q)) text (own_lines_in setting version (next_registry setting version registry text) stay lines)) same
+    ∙ ap (if_own (is_some (command_to stay r)) text) rest
+    ∙ sym (same_if (is_some (command_to stay r)) text (own_by_guests setting version (guests_then (guests_of registry) r) stay lines))
+
+-- the stay of a name is the first of the open ones that bears it
+
+abbrev number_at : List (ℕ × GameRow) → ℕ × GameRow → ℕ → ℕ
+number_at stays d i = (get_or stays i d).0
+
+shifted : (stay : ℕ × GameRow) (stays : List (ℕ × GameRow)) (d : ℕ × GameRow) (o : Option ℕ)
+    → option_map (number_at stays d) o ≡ option_map (number_at (stay ∷ stays) d) (option_map (λ i. 1 + i) o)
+shifted stay stays d None = refl
+shifted stay stays d (Some i) = let e : suc i ≡ 1 + i = omega arith in ap (λ n. Some (number_at (stay ∷ stays) d n)) e
+
+found_by_position : (name : List ℕ) (stays : List (ℕ × GameRow)) (d : ℕ × GameRow) → found_in name stays ≡ option_map (number_at stays d) (position (bears name) stays)
+found_by_position name [] d = refl
+found_by_position name (stay ∷ stays) d = elim (cases_Bool (bears name stay)) [
+  | inl hit ↦
+      let first : found_in name (stay ∷ stays) ≡ Some stay.0 = rw hit refl in
+      let at : position (bears name) (stay ∷ stays) ≡ Some 0 = (let more = lt-ltb 0 (suc (length stays)) (omega arith) in rw (hit, more) refl) in
+      first ∙ sym (ap (option_map (number_at (stay ∷ stays) d)) at)
+  | inr miss ↦
+      let skipped : found_in name (stay ∷ stays) ≡ found_in name stays = rw miss refl in
+      skipped ∙ found_by_position name stays d ∙ shifted stay stays d (position (bears name) stays)
+      ∙ sym (ap (option_map (number_at (stay ∷ stays) d)) (position_behind (bears name) stay stays miss))
+]
+
+pub found_at : (name : List ℕ) (stays : List (ℕ × GameRow)) (place : ℕ) (d : ℕ × GameRow) → Some place ≡ position (bears name) stays
+    → Some (get_or stays place d).0 ≡ found_in name stays
+found_at name stays place d is = ap (option_map (number_at stays d)) is ∙ sym (found_by_position name stays d)
+
+pub found_nowhere : (name : List ℕ) (stays : List (ℕ × GameRow)) → None ≡ position (bears name) stays → None ≡ found_in name stays
+found_nowhere name stays none = ap (option_map (number_at stays (0, row_of [] 0))) none ∙ sym (found_by_position name stays (0, row_of [] 0))
+
+-- the plan's rows are open at first
+
+pub rows_are_open : (first : ℕ) (rows : List GameRow) → open_from first (opened rows) ≡ enumerate_from first rows
+rows_are_open first [] = refl
+rows_are_open first (row ∷ rows) = ap (λ rest. (first, row) ∷ rest) (rows_are_open (first + 1) rows)
+
+pub one_more_open : (rows : List GameRow) (stay : ℕ) (row : GameRow) (old new : List (ℕ × GameRow)) → stay < length rows → row ≡ get_or rows stay (row_of [] 0)
+    → new ≡ old ++ (stay, row) ∷ [] → old ++ enumerate_from stay (drop stay rows) ≡ enumerate_from 0 rows
+    → new ++ enumerate_from (stay + 1) (drop (stay + 1) rows) ≡ enumerate_from 0 rows
+one_more_open rows stay row old new within is pushed before =
+    let next = ap (enumerate_from stay) (drop_more rows stay (row_of [] 0) within) in
+    ap (λ stays. stays ++ enumerate_from (stay + 1) (drop (stay + 1) rows)) pushed
+    ∙ append_assoc old ((stay, row) ∷ []) (enumerate_from (stay + 1) (drop (stay + 1) rows))
+    ∙ ap (λ first. old ++ (stay, first) ∷ enumerate_from (stay + 1) (drop (stay + 1) rows)) is
+    ∙ ap (λ stays. old ++ stays) (sym next) ∙ before
+
+pub all_open : (rows all : List GameRow) (stays : List (ℕ × GameRow)) → all ≡ rows
+    → stays ++ enumerate_from (length all) (drop (length all) all) ≡ enumerate_from 0 all → guests_with (length all) stays ≡ guests_of (opened rows)
+all_open rows all stays same before =
+    let none : [] ≡ drop (length all) all = sym (drop_all (length all) all (omega arith)) in
+    let told : stays ≡ enumerate_from 0 all =
+    sym (append-nil stays) ∙ ap (λ left. stays ++ enumerate_from (length all) left) none ∙ before in
+    ap (λ list. guests_with (length all) list) (told ∙ ap (enumerate_from 0) same ∙ sym (rows_are_open 0 rows))
+    ∙ ap (λ n. guests_with n (open_of (opened rows))) (ap length same ∙ sym (length-map rows open_stay))
+
+-- where nothing is against a row, there is a number for it
+pub room_for_one : (setting : Setting) (guests : GuestList) (row : GameRow) → refusal_by setting guests row ≡ None → guests.made < MOST_STAYS
+room_for_one setting guests row none = elim (cases_Bool (list_any (bears row.game) guests.stays)) [
+  | inl same ↦ let wrong : Some stray.NameOpen ≡ None = rw same at none in absurd cc
+  | inr new ↦ elim (cases_Bool (nat_lt (length guests.stays) MOST_ROWS && nat_lt guests.made MOST_STAYS)) [
+    | inl fits ↦ ltb-true guests.made MOST_STAYS (and_parts (nat_lt (length guests.stays) MOST_ROWS) (nat_lt guests.made MOST_STAYS) fits).1
+    | inr full ↦ let wrong : Some stray.Full ≡ None = rw (new, full) at none in absurd cc
+  ]
+]
+
+-- the blocks that are left, once one more of the open stays is counted
+pub one_less_left : (cap : ℕ) (stays : List (ℕ × GameRow)) (index : ℕ) (d : ℕ × GameRow) (old new total : ℕ) → index < length stays
+    → new ≡ old - blocks_of cap (get_or stays index d).1 → old - blocks_in cap (drop index stays) ≡ total → new - blocks_in cap (drop (index + 1) stays) ≡ total
+one_less_left cap stays index d old new total within is before =
+    let next = ap (blocks_in cap) (drop_more stays index d within) in
+    let one = sum_by-cons (λ (stay : ℕ × GameRow). blocks_of cap stay.1) (get_or stays index d) (drop (index + 1) stays) in
+    omega (arith, is, before, next, one)

@@ -1,0 +1,118 @@
+-- The open stays as the code keeps them: each with the number of its row, and how many rows were
+-- made. They tell all that the routing asks of the registry.
+use Rattle.std.specs.Prelude.{◌≡◌, ℕ, ◌+◌, ◌-◌, Bool, ◌&&◌, not, if◌then◌else◌, List, [], ◌∷◌, ◌++◌, length, count_by, sum_by, nat_eq, nat_lt, nat_le, Option, Some, None, is_some}
+use Rattle.std.specs.List.{filter, list_any}
+use Rattle.bs_board.specs.declared.commands.command.Command.TheVariants as command
+use Rattle.bs_board.specs.declared.limits.TheConstants.{MOST_ROWS}
+use Rattle.bs_board.specs.declared.plans.version.Version.{Version}
+use Rattle.bs_board.specs.plans.Plan.{GameRow}
+use Rattle.bs_board.specs.Texts.{is_same_text}
+use Rattle.bs_json.specs.declared.line.Line.{Line}
+use Rattle.bs_json.specs.declared.line.Line.TheVariants as line
+use Rattle.bs_json.specs.declared.line.Stray.{Stray}
+use Rattle.bs_json.specs.declared.line.Stray.TheVariants as stray
+use Rattle.bs_json.specs.Line.{line_of}
+use Rattle.bs_sched.specs.PlanBlocks.{blocks_of}
+use Rattle.bs_workers.specs.declared.act.Act.TheVariants as act
+use Rattle.bs_workers.specs.declared.act.TheConstants.{MOST_STAYS}
+use Rattle.bs_workers.specs.Acts.{Setting, Stay, blocks_in_registry, registry_after, has_name, stay_named}
+use Rattle.bs_host.specs.declared.guests.Guests.TheInside.{Inside}
+use Rattle.bs_host.specs.declared.route.Route.{Route}
+use Rattle.bs_host.specs.declared.route.Route.TheVariants as route
+use Rattle.bs_host.specs.Routing.{admit_route, command_to, hand_route, leave_route}
+
+pub record GuestList : Type 0 where
+  pub made : ℕ
+  pub stays : List (ℕ × GameRow)
+
+abbrev pub guests_in : Inside → GuestList
+guests_in g = record { made = g.made; stays = g.stays.items }
+
+abbrev pub open_from : ℕ → List Stay → List (ℕ × GameRow)
+open_from first [] = []
+open_from first (entry ∷ registry) =
+    if entry.is_open then (first, entry.row) ∷ open_from (first + 1) registry else open_from (first + 1) registry
+
+abbrev pub open_of : List Stay → List (ℕ × GameRow)
+open_of = open_from 0
+
+abbrev pub guests_of : List Stay → GuestList
+guests_of registry = record { made = length registry; stays = open_of registry }
+
+abbrev pub bears : List ℕ → ℕ × GameRow → Bool
+bears name stay = is_same_text name stay.1.game
+
+-- the number of the open stay of that name
+abbrev pub found_in : List ℕ → List (ℕ × GameRow) → Option ℕ
+found_in name [] = None
+found_in name (stay ∷ stays) = if bears name stay then Some stay.0 else found_in name stays
+
+abbrev pub blocks_in : ℕ → List (ℕ × GameRow) → ℕ
+blocks_in cap = sum_by (λ stay. blocks_of cap stay.1)
+
+-- the open stays tell all that the routing asks of the registry, and what becomes of them
+pub record IsToldByOpen (cap : ℕ) (registry : List Stay) : Type 0 where
+  pub named : (name : List ℕ) → stay_named registry name ≡ found_in name (open_of registry)
+  pub any : (name : List ℕ) → list_any (has_name name) registry ≡ list_any (bears name) (open_of registry)
+  pub many : count_by (λ entry. entry.is_open) registry ≡ length (open_of registry)
+  pub blocks : blocks_in_registry cap registry ≡ blocks_in cap (open_of registry)
+  pub admits : (row : GameRow) → open_of (registry_after registry (act.Admit row)) ≡ open_of registry ++ (length registry, row) ∷ []
+  pub leaves : (stay : ℕ) → open_of (registry_after registry (act.Leave stay)) ≡ filter (λ other. not (nat_eq other.0 stay)) (open_of registry)
+
+abbrev pub OpenLaw : Type 0
+OpenLaw = (cap : ℕ) (registry : List Stay) → IsToldByOpen cap registry
+
+-- the routing by the open stays
+
+abbrev pub refusal_by : Setting → GuestList → GameRow → Option Stray
+refusal_by setting guests row =
+    if list_any (bears row.game) guests.stays then Some stray.NameOpen
+    else (if not (nat_lt (length guests.stays) MOST_ROWS && nat_lt guests.made MOST_STAYS) then Some stray.Full
+    else (if nat_le (blocks_of setting.cap row) (setting.blocks - blocks_in setting.cap guests.stays) then None else Some stray.Short))
+
+abbrev pub route_by : Setting → GuestList → Line → Route
+route_by setting guests line.Blank = route.Nowhere
+route_by setting guests (line.Command game command) = hand_route (found_in game guests.stays) command
+route_by setting guests (line.Bad game) = hand_route (found_in game guests.stays) command.Bad
+route_by setting guests (line.Stray kind) = route.Stray kind
+route_by setting guests (line.Admit row) = admit_route (refusal_by setting guests row) row
+route_by setting guests line.BadAdmit = route.Stray stray.BadRow
+route_by setting guests (line.Leave None) = route.Stray stray.NoStay
+route_by setting guests (line.Leave (Some game)) = leave_route (found_in game guests.stays)
+
+abbrev pub guests_then : GuestList → Route → GuestList
+guests_then guests (route.Act (act.Hand stay command)) = guests
+guests_then guests (route.Act (act.Admit row)) = record { made = guests.made + 1; stays = guests.stays ++ (guests.made, row) ∷ [] }
+guests_then guests (route.Act (act.Leave stay)) =
+    record { made = guests.made; stays = filter (λ other. not (nat_eq other.0 stay)) guests.stays }
+guests_then guests (route.Stray kind) = guests
+guests_then guests route.Nowhere = guests
+
+abbrev pub routes_by_guests : Setting → Version → GuestList → ℕ → List (List ℕ) → List (ℕ × Route)
+routes_by_guests setting version guests number [] = []
+routes_by_guests setting version guests number (text ∷ lines) =
+    (number, route_by setting guests (line_of version text))
+    ∷ routes_by_guests setting version (guests_then guests (route_by setting guests (line_of version text))) (number + 1) lines
+
+-- the rows that the lines admit
+
+abbrev pub rows_in_route : Route → List GameRow
+rows_in_route (route.Act (act.Hand stay command)) = []
+rows_in_route (route.Act (act.Admit row)) = row ∷ []
+rows_in_route (route.Act (act.Leave stay)) = []
+rows_in_route (route.Stray kind) = []
+rows_in_route route.Nowhere = []
+
+abbrev pub rows_by_guests : Setting → Version → GuestList → List (List ℕ) → List GameRow
+rows_by_guests setting version guests [] = []
+rows_by_guests setting version guests (text ∷ lines) =
+    rows_in_route (route_by setting guests (line_of version text))
+    ++ rows_by_guests setting version (guests_then guests (route_by setting guests (line_of version text))) lines
+
+-- the lines of a stay, as the code goes through them
+abbrev pub own_by_guests : Setting → Version → GuestList → ℕ → List (List ℕ) → List (List ℕ)
+own_by_guests setting version guests stay [] = []
+own_by_guests setting version guests stay (text ∷ lines) =
+    if is_some (command_to stay (route_by setting guests (line_of version text)))
+    then text ∷ own_by_guests setting version (guests_then guests (route_by setting guests (line_of version text))) stay lines
+    else own_by_guests setting version (guests_then guests (route_by setting guests (line_of version text))) stay lines

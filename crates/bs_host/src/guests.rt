@@ -1,0 +1,185 @@
+//! The open stays, while the lines of a file are routed.
+ghost use Rattle.std.specs.Prelude.{◌≡◌, not, nat_eq};
+ghost use Rattle.std.specs.List.{filter};
+ghost use Rattle.bs_host.specs.Guests.{GuestList, guests_in};
+
+use crate::blocks::blocks_of;
+use crate::parse::ParsedLine;
+use crate::route::Route;
+use bs_board::limits::MOST_ROWS;
+use bs_board::{Id, Row, Rows};
+use bs_fiber::SharedCommand;
+use bs_json::Stray;
+use bs_workers::{Act, MOST_STAYS};
+use std::alloc::{AllocError, Global};
+use std::marker::Model;
+
+/// The open stays, each with the number of its row, and how many rows were made. At most as many
+/// are open as a plan may have games, so the work for a line does not grow with the rows.
+#[derive(Debug, Drop)]
+pub struct Guests {
+    made: usize,
+    stays: Vec<(usize, Row)>,
+}
+
+impl Model for Guests {
+    ghost Value = { GuestList };
+
+    ghost view = { guests_in };
+}
+
+fn remove_stay(stays: &mut Vec<(usize, Row)>, stay: usize)
+    ensures { stays.new.items ≡ filter (λ other. not (nat_eq other.0 stay)) stays.old.items }
+{
+    stays.retain(|other| other.0 != stay);
+}
+
+impl Guests {
+    ghost use Rattle.std.specs.Prelude.{◌≡◌, ◌-◌, ◌&&◌, not, nat_lt, length, Some, None, IfOk, OnOk};
+    ghost use Rattle.std.specs.List.{list_any, position};
+    ghost use Rattle.bs_workers.specs.Acts.{opened};
+    ghost use Rattle.bs_host.specs.declared.limits.TheConstants.{BLOCK_BYTES};
+    ghost use Rattle.bs_host.specs.declared.route.Route.TheVariants as route;
+    ghost use Rattle.bs_host.specs.Guests.{bears, blocks_in, found_in, guests_of, guests_then, refusal_by};
+    ghost use Rattle.bs_host.specs.Parsed.{route_parsed};
+    ghost use Rattle.bs_host.specs.Routing.{admit_route, hand_route, setting_of, leave_route};
+
+    /// The rows of a plan, all of them open.
+    #[tactic(auto, using(crate::proofs::GuestRoutes::all_open, crate::proofs::GuestRoutes::one_more_open))]
+    pub(crate) fn of_plan(alloc: Global, rows: &Rows) -> Result<Guests, AllocError>
+        ensures { IfOk result (λ guests. guests ≡ guests_of (opened rows.now)) }
+    {
+        let rows = rows.as_slice();
+        let mut stays = Vec::with_capacity(alloc, rows.len())?;
+        for stay in 0..rows.len() {
+            stays.push((stay, rows[stay].copy(alloc)?))?;
+        }
+        Ok(Guests {
+            made: rows.len(),
+            stays,
+        })
+    }
+
+    /// How many rows were made.
+    pub(crate) fn made(&self) -> usize
+        ensures { result ≡ self.now.made }
+    {
+        self.made
+    }
+
+    /// The place of that name among the open stays.
+    fn place(&self, name: &Id) -> Option<usize>
+        ensures { result ≡ position (bears name.now) self.now.stays }
+    {
+        self.stays
+            .iter()
+            .position(|stay| name.is_same(&stay.1.game))
+    }
+
+    /// The number of the open stay of that name.
+    #[tactic(auto, using(crate::proofs::GuestRoutes::found_at, crate::proofs::GuestRoutes::found_nowhere))]
+    fn find(&self, name: &Id) -> Option<usize>
+        ensures { result ≡ found_in name.now self.now.stays }
+    {
+        match self.place(name) {
+            Some(place) => Some(self.stays[place].0),
+            None => None,
+        }
+    }
+
+    fn has_name(&self, name: &Id) -> bool
+        ensures { result ≡ list_any (bears name.now) self.now.stays }
+    {
+        self.stays.iter().any(|stay| name.is_same(&stay.1.game))
+    }
+
+    /// The blocks of so many that are left beside those of the open stays.
+    #[tactic(auto, using(crate::proofs::GuestRoutes::one_less_left))]
+    fn left_of(&self, blocks: usize) -> usize
+        ensures { result ≡ blocks - blocks_in BLOCK_BYTES self.now.stays }
+    {
+        let mut left = blocks;
+        for index in 0..self.stays.len() {
+            left = left.saturating_sub(blocks_of(&self.stays[index].1));
+        }
+        left
+    }
+
+    /// Whether no more stays can be opened.
+    fn is_full(&self) -> bool
+        ensures { result ≡ not (nat_lt (length self.now.stays) MOST_ROWS && nat_lt self.now.made MOST_STAYS) }
+    {
+        !(self.stays.len() < MOST_ROWS && self.made < MOST_STAYS)
+    }
+
+    /// The first reason against admitting that row, if there is one.
+    fn refusal(&self, blocks: usize, row: &Row) -> Option<Stray>
+        ensures { result ≡ refusal_by (setting_of blocks) self.now row.now }
+    {
+        if self.has_name(&row.game) {
+            Some(Stray::NameOpen)
+        } else if self.is_full() {
+            Some(Stray::Full)
+        } else if blocks_of(row) <= self.left_of(blocks) {
+            None
+        } else {
+            Some(Stray::Short)
+        }
+    }
+
+    fn hand(&self, game: &Id, command: &SharedCommand) -> Result<Route, AllocError>
+        ensures route { IfOk result (λ route. route ≡ hand_route (found_in game.now self.now.stays) command.now) }
+        ensures after { IfOk result (λ route. guests_then self.now route ≡ self.now) }
+    {
+        match self.find(game) {
+            Some(stay) => Ok(Route::Act(Act::Hand(stay, command.share()?))),
+            None => Ok(Route::Stray(Stray::Game)),
+        }
+    }
+
+    #[tactic(auto, using(crate::proofs::GuestRoutes::room_for_one))]
+    fn admit(&mut self, alloc: Global, blocks: usize, row: &Row) -> Result<Route, AllocError>
+        ensures route { IfOk result (λ route. route ≡ admit_route (refusal_by (setting_of blocks) self.old row.now) row.now) }
+        ensures after { IfOk result (λ route. self.new ≡ guests_then self.old route) }
+    {
+        if let Some(kind) = self.refusal(blocks, row) {
+            return Ok(Route::Stray(kind));
+        }
+        self.stays.push((self.made, row.copy(alloc)?))?;
+        self.made += 1;
+        Ok(Route::Act(Act::Admit(row.copy(alloc)?)))
+    }
+
+    fn leave(&mut self, game: &Id) -> Route
+        ensures route { result ≡ leave_route (found_in game.now self.old.stays) }
+        ensures after { self.new ≡ guests_then self.old result }
+    {
+        match self.find(game) {
+            Some(stay) => {
+                remove_stay(&mut self.stays, stay);
+                Route::Act(Act::Leave(stay))
+            }
+            None => Route::Stray(Stray::NoStay),
+        }
+    }
+
+    /// Where a parsed line goes in a file that is served from that many blocks. Admits and
+    /// dismisses games as the line asks.
+    pub(crate) fn route(
+        &mut self,
+        alloc: Global,
+        blocks: usize,
+        line: &ParsedLine,
+    ) -> Result<Route, AllocError>
+        ensures route { IfOk result (λ route. route ≡ route_parsed (setting_of blocks) self.old line.now) }
+        ensures after { IfOk result (λ route. self.new ≡ guests_then self.old route) }
+    {
+        match line {
+            ParsedLine::Command(game, command) => self.hand(game, command),
+            ParsedLine::Admit(row) => self.admit(alloc, blocks, row),
+            ParsedLine::Leave(game) => Ok(self.leave(game)),
+            ParsedLine::Stray(kind) => Ok(Route::Stray(*kind)),
+            ParsedLine::Blank => Ok(Route::Nowhere),
+        }
+    }
+}
