@@ -2,7 +2,7 @@
 """Compares the peer with the program, byte by byte: output, status and standard error.
 
     benches/compare.py [FILE..]            these command files, or the files of cases
-    benches/compare.py --shapes            the shapes of measure.py
+    benches/compare.py --shapes            the shapes of measure.py, of versions 1 and 2
     benches/compare.py --limits            files and command lines at the ends of limits
     benches/compare.py --drawn N           N files drawn by chance, from --seed S on
     benches/compare.py --time RUNS FILE..  times both in turns as well
@@ -12,7 +12,8 @@
     --version 1|2    up to which version of plans to compare: 2 if not given
     --keep FOLDER    for drawn files on which the two disagree, cut to the lines that matter
 
-The peer is built by benches/peer/build. The status is 0 where all agreed.
+The peer is built by benches/peer/build, and reads no file of version 3. The status is 0 where all
+agreed.
 """
 import argparse
 import os
@@ -38,6 +39,7 @@ DISAGREEMENTS = HERE / "peer/out/disagreements"
 PROGRAM = ROOT / "crates/arena/out/arena"
 BLOCKS = ["--blocks", "512"]  # enough for each shape
 NO_SUCH_GAME = "\U0001f40d"
+NEWER = [measure.stays.__name__]  # shapes of version 3, which the peer does not read
 
 
 def ran(program, words, text=None):
@@ -172,7 +174,8 @@ def main():
     comparison = Comparison(program)
     files = given.files
     if not (files or given.drawn or given.shapes or given.limits):
-        files = [case.file for case in cases.cases()]
+        # The peer reads no file of version 3.
+        files = [case.file for case in cases.cases() if case.version <= 2]
     if given.stored:
         transcripts = {case.file: case.transcript for case in cases.cases()}
         for path in files:
@@ -181,7 +184,7 @@ def main():
         with tempfile.TemporaryDirectory() as folder:
             if given.shapes:
                 measure.write_all(Path(folder))
-                files += sorted(Path(folder).glob("*.jsonl"))
+                files += sorted(path for path in Path(folder).glob("*.jsonl") if path.stem not in NEWER)
             for path in files:
                 comparison.file(path, BLOCKS)
             for name, words, text in limits.made(given.version) if given.limits else ():

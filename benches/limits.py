@@ -56,7 +56,7 @@ def plans():
         *[b'{"games":[]}'.ljust(size, b"\n") for size in (MAX_FILE, MAX_FILE + 1)],
         b"x" * (MAX_FILE + 1),
     ]
-    for version in b"0 1 3 4 1.0 -1 '1' null true 18446744073709551617".split():
+    for version in b"0 1 4 5 1.0 -1 '1' null true 18446744073709551617".split():
         texts.append(b'{"games":[],"version":' + version.replace(b"'", b'"') + b"}")
     for number, text in enumerate([*texts, *(lines(plan(*rows)) for rows in row_lists())]):
         yield f"plan {number}", SERVE, text

@@ -13,6 +13,7 @@ timed: the command file of each shape, at the smaller size, is written into the 
 """
 
 import argparse
+import itertools
 import json
 import os
 import subprocess
@@ -176,6 +177,31 @@ def wrapped(rounds):
             yield line(game=name, do="end")
 
 
+STAYED = 20  # turns of a stay
+COMING = 4  # games that are admitted between two turns, until 64 are open
+
+
+def stays(count):
+    """So many stays of twenty turns each, at most 64 open at once: a game of two snakes is admitted, played, and leaves."""
+    snakes = [{"id": "a", "x": 2, "y": 2}, {"id": "b", "x": 7, "y": 7}]
+    turns_of, names = {}, iter(f"g{index}" for index in range(count))
+    yield plan([], 0, version=3)
+    while True:
+        for name in itertools.islice(names, min(COMING, 64 - len(turns_of))):
+            turns_of[name] = 0
+            yield line(game=name, do="admit", quota=16_384)
+            yield line(game=name, do="new", mode="standard", width=11, height=11, snakes=snakes, food=[], min_food=0, food_chance=0)
+        if not turns_of:
+            return
+        for name, turn in list(turns_of.items()):
+            direction = ("up", "right", "down", "left")[turn % 4]
+            yield line(game=name, do="move", moves={"a": direction, "b": direction})
+            turns_of[name] += 1
+            if turns_of[name] == STAYED:
+                del turns_of[name]
+                yield line(game=name, do="leave")
+
+
 def short_commands(count):
     """Commands that are short and change nothing: turns that are not kept, of a game of one record."""
     yield plan(["g"], 4096)
@@ -191,6 +217,7 @@ SHAPES = [
     ("growing, large boards", growing_snakes, 4, lambda rounds: 8 * GROWING * rounds),
     ("constrictor, eight", constrictor, 8, lambda rounds: 8 * FILLING * rounds),
     ("wrapped, eight snakes", wrapped, 8, lambda rounds: 8 * ROUND * rounds),
+    ("64 of many stays", stays, 2_000, lambda count: STAYED * count),
     ("short commands", short_commands, 200_000, lambda count: 0),
 ]
 

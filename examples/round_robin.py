@@ -2,14 +2,17 @@
 """Writes the command file of a round robin: each of the given bots meets each other one once a round,
 in a game of two snakes.
 
-    examples/round_robin.py [--turns N] [--rounds N] [--seed N] BOT.moves .. > FILE
+    examples/round_robin.py [--turns N] [--rounds N] [--seed N] [--open N] BOT.moves .. > FILE
 
 A bot is a file of its moves: the words up, down, left and right, from the first turn on; after the
 last word it begins with the first again, and # starts a comment. It plays under the file's name
 without the ending. All games go on at once, turn by turn. The numbers that decide where food
 appears are drawn from the seed, so the same words on the command line give the same file. The last
-line, on the standard error, says how many blocks the games need, or that they are more than a file
+line, on the standard error, says how many blocks the games need, or that they are more than a plan
 may have: then examples/split.py comes next.
+
+With --open the file has version 3 and its plan no game: N games are admitted, play all their turns
+and leave, then the next N. Each game is given the same moves and numbers as without.
 """
 import argparse
 import json
@@ -69,8 +72,13 @@ def blocks_for(games, quota=QUOTA):
     return games * (quota // 1_835_008 + 2 + 4)
 
 
-def command_lines(bots, turns, seed, rounds=1):
-    """The lines of the file; bots has the moves of each by its name."""
+def batches(names, most):
+    names = iter(names)
+    return iter(lambda: list(islice(names, most)), [])
+
+
+def command_lines(bots, turns, seed, rounds=1, most_open=None):
+    """The lines of the file; bots has the moves of each by its name. With most_open, so many games are open at once."""
     draw = random.Random(seed)
     games = named_games(sorted(bots), rounds)
     for name in games:
@@ -80,15 +88,23 @@ def command_lines(bots, turns, seed, rounds=1):
         raise ValueError(f"{rounds} rounds of {len(bots)} bots have no game")
     if len(games) != rounds * len(bots) * (len(bots) - 1) // 2:
         raise ValueError("two games have the same name")
-    yield line(games=[{"game": name, "quota": QUOTA} for name in games])
-    for name, pair in games.items():
-        snakes = [{"id": id, **start} for id, start in zip(pair, STARTS)]
-        yield line(game=name, do="new", mode="standard", width=SIDE, height=SIDE, snakes=snakes, food=FOOD)
     played = {bot: list(islice(cycle(moves), turns)) for bot, moves in bots.items()}
-    for turn in range(turns):
-        for name, pair in games.items():
-            words = [draw.getrandbits(32) for _ in range(WORDS)]
-            yield line(game=name, do="move", moves={id: played[id][turn] for id in pair}, words=words)
+    # Drawn for all games at once, so that a game's numbers do not depend on which others are open.
+    words = [{name: [draw.getrandbits(32) for _ in range(WORDS)] for name in games} for _ in range(turns)]
+    rows = [] if most_open else [{"game": name, "quota": QUOTA} for name in games]
+    yield line(games=rows, version=3) if most_open else line(games=rows)
+    for some in batches(games, most_open or len(games)):
+        for name in some:
+            if most_open:
+                yield line(game=name, do="admit", quota=QUOTA)
+            snakes = [{"id": id, **start} for id, start in zip(games[name], STARTS)]
+            yield line(game=name, do="new", mode="standard", width=SIDE, height=SIDE, snakes=snakes, food=FOOD)
+        for turn in range(turns):
+            for name in some:
+                moves = {id: played[id][turn] for id in games[name]}
+                yield line(game=name, do="move", moves=moves, words=words[turn][name])
+        for name in some if most_open else []:
+            yield line(game=name, do="leave")
 
 
 def read_bots(paths):
@@ -103,12 +119,21 @@ def read_bots(paths):
     return bots
 
 
-def told(games, turns):
+def told(games, turns, most_open=None):
     """What the standard error says of so many games."""
-    said = f"{games} games of {turns} moves: "
+    said = f"{games} games of {turns} moves"
+    if most_open:
+        return said + f", {most_open} at once: arena serve needs --blocks {blocks_for(min(games, most_open))} or more"
     if games > MOST_GAMES:
-        return said + f"a file has at most {MOST_GAMES}, so give it to examples/split.py"
-    return said + f"arena serve needs --blocks {blocks_for(games)} or more"
+        return said + f": a plan has at most {MOST_GAMES}, so give it to examples/split.py, or use --open"
+    return said + f": arena serve needs --blocks {blocks_for(games)} or more"
+
+
+def open_games(word):
+    most = int(word)
+    if not 1 <= most <= MOST_GAMES:
+        raise argparse.ArgumentTypeError(f"1 to {MOST_GAMES} games can be open at once")
+    return most
 
 
 def main():
@@ -117,13 +142,15 @@ def main():
     parser.add_argument("--turns", type=int, default=150, help="moves that each game is given, 150 if left out")
     parser.add_argument("--rounds", type=int, default=1, help="1 if left out")
     parser.add_argument("--seed", type=int, default=1, help="of the numbers for food, 1 if left out")
+    parser.add_argument("--open", metavar="N", type=open_games, help="games open at once, in a file of version 3")
     given = parser.parse_args()
     try:
-        lines = list(command_lines(read_bots(given.bots), given.turns, given.seed, given.rounds))
+        bots = read_bots(given.bots)
+        lines = list(command_lines(bots, given.turns, given.seed, given.rounds, given.open))
     except (OSError, ValueError) as fault:
         sys.exit(f"round_robin: {fault}")
     print("\n".join(lines))
-    print(told(len(json.loads(lines[0])["games"]), given.turns), file=sys.stderr)
+    print(told(given.rounds * len(pairings(bots)), given.turns, given.open), file=sys.stderr)
 
 
 if __name__ == "__main__":

@@ -13,12 +13,13 @@ or empty. It then holds
     files.json      the games of each file with the number of their commands, and the stray lines:
                     what examples/merge.py reads
 
-A line is judged as the host judges it (docs/FORMATS.md). The lines that belong to no game are told
-on the standard error and stand in no file; the last line there says how many files there are.
+The plan is of version 1 or 2. A line is judged as the host judges it (docs/FORMATS.md). The lines
+that belong to no game are told on the standard error and stand in no file; the last line there says
+how many files there are.
 
-Status 1, with the reason, where the plan is refused (P1, P2), where one game's lines alone make a
-file too long, and where a file can't be read or written; then there is no files.json. 2: the
-command line.
+Status 1, with the reason, where the plan is refused (P1, P2) or of version 3, where one game's
+lines alone make a file too long, and where a file can't be read or written; then there is no
+files.json. 2: the command line.
 """
 import argparse
 import json
@@ -136,6 +137,8 @@ def plan_of(text: bytes) -> Plan:
     if not isinstance(value, dict):
         raise ValueError("plan P1: the first line is no plan")
     version, rows = value.get("version", 1), value.get("games")
+    if type(version) is int and version == 3:
+        raise ValueError("a file of version 3 is not split: which games it admits depends on all its lines")
     if type(version) is not int or version not in VERSIONS or not isinstance(rows, list):
         raise ValueError("plan P1: the first line is no plan of version 1 or 2")
     if len(text) > LONGEST_LINE and len(rows) <= MOST_GAMES:

@@ -55,7 +55,7 @@ ROW = b'{"game":"a","quota":%b}'
 LONG_NAME = b'{"games":[{"game":"%b","quota":16}]}'
 REFUSED = [
     *(b"", b"\n{}", b"{", b"[]", b'{"games":1}', b'{"games":null}', b'{"games":[],"more":NaN}'),
-    *(b'{"games":[],"version":%b}' % it for it in b'null 0 "1" 1.0 true'.split()),
+    *(b'{"games":[],"version":%b}' % it for it in b'null 0 4 "1" 1.0 true'.split()),
     *(b'{"games":[%b]}' % it for it in b'1 {"game":"a"} {"game":7,"quota":16}'.split()),
     *(LONG_NAME % b"", LONG_NAME % (b"a" * 65), LONG_NAME % ("\u00e9".encode() * 33)),
     *(b'{"games":[%b]}' % (ROW % it) for it in b'15 16777217 -16 16.0 1e3 "16" true'.split()),
@@ -122,7 +122,8 @@ class Split(InFolder):
         return str(found.exception)
 
     def test_each_case_is_the_same_in_parts(self):
-        for case in cases.cases():
+        # Which games a file of version 3 admits depends on all its lines: it is not split.
+        for case in [case for case in cases.cases() if case.version <= 2]:
             for most in (1, 2, 8):
                 with self.subTest(case=case.name, most=most):
                     wanted = case.transcript.read_bytes()
@@ -212,6 +213,10 @@ class Split(InFolder):
             b'{"games":[{"game":"a","quota":16}],"version":2}\n',
             b'{"games":[{"game":"b","quota":16}],"version":2}\n' + SHOW % b"b" + b"\n",
         ])
+
+    def test_a_file_of_version_three_is_refused(self):
+        told = "a file of version 3 is not split: which games it admits depends on all its lines"
+        self.assertEqual(self.refused(b'{"games":[],"version":3}'), told)
 
     def test_a_folder_that_is_not_empty_is_refused(self):
         self.parts.mkdir()

@@ -6,6 +6,7 @@ crates/arena/stdin with crates/arena/stdout.
 """
 import json
 import re
+from collections import Counter
 from dataclasses import dataclass
 from pathlib import Path
 
@@ -14,6 +15,10 @@ FOLDER = ROOT / "examples"
 # Command lines that serve nothing.
 COMMAND_LINES = [["--help"], ["--version"], ["serve", "--help"], ["serve", "-", "--workers", "5"], ["play"], ["serve", "no such file"]]
 COMMAND_LINES += [["alone", "-"], ["serve", "-", "--blocks", "x"], ["alone", "-", "--game", "a", "--workers", "2"], ["serve", b"\xff"]]
+COMMAND_LINES += [["alone", "-", "--game", "a", "--stay", "0"]]
+# The blocks that a case is served from, where they are not the program's own number.
+BLOCKS = {"stays": 12}
+USUAL_BLOCKS = 64
 PURPOSE = re.compile(r"^- `([a-z0-9_./]+)`: (\S.*)$")
 
 
@@ -22,6 +27,27 @@ class Case:
     name: str
     file: Path
     transcript: Path
+
+    @property
+    def blocks(self):
+        """The number of blocks that the transcript is of. It matters in files of version 3."""
+        return BLOCKS.get(self.name, USUAL_BLOCKS)
+
+    @property
+    def version(self):
+        """The version of the format."""
+        return json.loads(self.file.read_text().splitlines()[0]).get("version", 1)
+
+    def words(self, workers):
+        """The command line that serves the case."""
+        return ["serve", str(self.file), "--workers", str(workers), "--blocks", str(self.blocks)]
+
+
+@dataclass(frozen=True)
+class Alone:
+    """One stay of a case: the words that play it alone, and the lines that they write."""
+    words: list
+    section: bytes
 
 
 def cases():
@@ -38,8 +64,28 @@ def purposes():
     return {line[1]: line[2] for line in lines if line}
 
 
-def first_game(case):
-    """The first name of a case's plan, and the lines of its transcript that are that game's."""
-    name = json.loads(case.file.read_text().splitlines()[0])["games"][0]["game"]
-    lines = case.transcript.read_text().splitlines(True)
-    return name, "".join(line for line in lines if json.loads(line).get("game") == name).encode()
+def sections(transcript):
+    """The lines of each stay of a transcript with the name of its game, in their order."""
+    found, open_section = [], b""
+    for line in transcript.splitlines(True):
+        said = json.loads(line)
+        open_section += line
+        if "final" in said:
+            found.append((said["game"], open_section))
+            open_section = b""
+    return found
+
+
+def stays(case):
+    """Each stay of a case, played alone."""
+    counts = Counter()
+    for name, section in sections(case.transcript.read_bytes()):
+        counts[name] += 1
+        words = ["alone", str(case.file), "--game", name, "--stay", str(counts[name]), "--blocks", str(case.blocks)]
+        yield Alone(words, section)
+
+
+def played_alone(case):
+    """The stays that a test plays alone where runs are dear: the first, and in version 3 each."""
+    all_stays = list(stays(case))
+    return all_stays if case.version == 3 else all_stays[:1]

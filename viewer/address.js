@@ -1,13 +1,13 @@
 // The address of one turn of one game, which stands behind the `#`; and the file that the address names behind the `?`.
 'use strict';
 
-/** The place that an address names, in its own words, round 1 and turn 0 where it leaves them out; null where it names no game. */
+/** The place that an address names, in its own words, stay 1, round 1 and turn 0 where it leaves them out; null where it names no game. */
 function placeInAddress(hash) {
   const words = new URLSearchParams(hash.replace(/^#/, ''));
   if (!words.has('game')) {
     return null;
   }
-  return { game: words.get('game'), round: words.get('round') ?? '1', turn: words.get('turn') ?? '0' };
+  return { game: words.get('game'), stay: words.get('stay') ?? '1', round: words.get('round') ?? '1', turn: words.get('turn') ?? '0' };
 }
 
 /** The number that a word of an address is; null where it is none. */
@@ -15,8 +15,9 @@ function numberInAddress(word) {
   return /^\d+$/.test(word) ? Number(word) : null;
 }
 
-function addressOf(game, round, turn) {
-  return `#${new URLSearchParams({ game, round, turn })}`;
+/** The address of a turn; a first stay is not named. */
+function addressOf(game, stay, round, turn) {
+  return `#${new URLSearchParams(stay === 1 ? { game, round, turn } : { game, stay, round, turn })}`;
 }
 
 /** The file that the address of the page names, or null. */

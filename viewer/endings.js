@@ -2,11 +2,12 @@
 'use strict';
 
 /** What became of a game: only what its lines say. The last board is null where the game was never begun. */
-function endingOf(game, board) {
+function endingOf(game, stayText, board) {
   const snakes = board?.snakes ?? [];
   return {
     game,
     name: game.name,
+    stayText,
     state: stateOf(game, board),
     living: snakes.map((snake, seat) => ({ snake, seat })).filter(({ snake }) => isLiving(snake)),
     turns: board?.turn ?? null,
@@ -26,12 +27,12 @@ function stateOf(game, board) {
   return game.running ? 'running' : 'ended';
 }
 
-/** The endings of all games, in the order of the plan. Each board is waited for by itself, so the page answers meanwhile. */
+/** The endings of all games, in the order of their rows. Each board is waited for by itself, so the page answers meanwhile. */
 async function endingsOf(transcript) {
   const endings = [];
   for (const game of transcript.games) {
     const line = game.lastBoardLine();
-    endings.push(endingOf(game, line === null ? null : await transcript.board(line)));
+    endings.push(endingOf(game, transcript.stayText(game), line === null ? null : await transcript.board(line)));
   }
   return endings;
 }

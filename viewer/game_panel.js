@@ -136,6 +136,7 @@ class GamePanel {
     const { page } = this;
     this.game = game;
     page.name.textContent = game.name;
+    page.stay.textContent = this.transcript.stayText(game);
     page.round.replaceChildren(...game.rounds.map((round, index) => made('option', { value: index + 1 }, `${index + 1} of ${game.rounds.length}`)));
     page.rounds.hidden = game.rounds.length < 2;
     page.controls.hidden = false;
@@ -159,7 +160,7 @@ class GamePanel {
 
   /** The link names the turn at once, the address of the page when the turns have come to rest. */
   writeAddress() {
-    const address = addressOf(this.game.name, this.game.rounds.indexOf(this.round) + 1, this.board.turn);
+    const address = addressOf(this.game.name, this.game.stay, this.game.rounds.indexOf(this.round) + 1, this.board.turn);
     this.page.link.setAttribute('href', address);
     clearTimeout(this.addressTimer);
     this.addressTimer = setTimeout(() => history.replaceState(null, '', address), ADDRESS_DELAY);

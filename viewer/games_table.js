@@ -16,7 +16,7 @@ function compareValues(first, second) {
   return typeof first === 'string' ? first.localeCompare(second, 'en', { numeric: true }) : first - second;
 }
 
-/** The rows in the order of a column; rows that are alike in it keep the order of the plan. */
+/** The rows in the order of a column; rows that are alike in it keep their order. */
 function sortedRows(rows, column, isDescending) {
   const valueOf = SORTED_BY[column];
   const sign = isDescending ? -1 : 1;
@@ -51,7 +51,7 @@ class GamesTable {
     }
   }
 
-  /** Shows rows in the order of the plan. */
+  /** Shows rows in the order of the transcript. */
   show(rows) {
     this.rows = rows;
     this.column = null;
@@ -80,16 +80,18 @@ class GamesTable {
   rowFor(row) {
     const button = made('button', { type: 'button' }, row.name);
     button.addEventListener('click', () => this.onChoose(row.game));
-    const line = made('tr', {}, made('th', { scope: 'row' }, button), made('td', {}, row.state), livingCell(row),
+    const stay = made('span', { className: 'stay' }, row.stayText);
+    const line = made('tr', {}, made('th', { scope: 'row' }, button, stay), made('td', {}, row.state), livingCell(row),
       numberCell(row.turns), numberCell(row.rounds), numberCell(row.refused), numberCell(row.charge));
     line.dataset.game = row.name;
+    line.dataset.stay = row.game.stay;
     return line;
   }
 
   markChosen(game) {
     this.chosen = game;
     for (const line of this.table.tBodies[0].rows) {
-      if (line.dataset.game === game?.name) {
+      if (line.dataset.game === game?.name && Number(line.dataset.stay) === game.stay) {
         line.setAttribute('aria-current', 'true');
       } else {
         line.removeAttribute('aria-current');

@@ -15,7 +15,7 @@ const LINE_FORMS = Object.entries({
   unshown: String.raw`^\{"charge":\d+,"do":"(?<word>free|end)",${OF_GAME},${NUMBERED}\}$`,
   final: String.raw`${WITH_BOARD},"final":true,${OF_GAME}\}$`,
   finalWithout: String.raw`^\{"board":null,"charge":(?<charge>\d+),"final":true,${OF_GAME}\}$`,
-  stray: String.raw`^\{"line":(?<line>\d+),"no":"(?<reason>L[1-3])","why":"(?<why>[a-z]+)"\}$`,
+  stray: String.raw`^\{"line":(?<line>\d+),"no":"(?<reason>L[1-3]|A[1-5])","why":"(?<why>[a-z]+)"\}$`,
 }).map(([name, pattern]) => ({ name, pattern: new RegExp(pattern, 's') }));
 
 const lineDecoder = new TextDecoder();

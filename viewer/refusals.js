@@ -10,8 +10,13 @@ const REASONS = {
   G6: 'no record of that turn is kept',
   G7: 'the new record would exceed the quota',
   L1: 'no JSON text, or no object',
-  L2: 'it names no game of the plan',
+  L2: 'it names no open game',
   L3: 'it has more than 65,536 bytes',
+  A1: 'the name or the quota of the game to be admitted is missing, of a wrong type or out of range',
+  A2: 'a game of that name is open',
+  A3: '64 games are open',
+  A4: 'the game to be admitted needs more blocks than are left',
+  A5: 'the game that is to leave is not named, or not open',
 };
 
 const ENTRIES_AT_ONCE = 200;

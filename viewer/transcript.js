@@ -1,7 +1,6 @@
 // A transcript: its games with their rounds and refused commands, and its stray lines, found from the ends of its lines.
 'use strict';
 
-const MOST_GAMES = 64;
 const MOST_LINE_BYTES = 2 * 1024 * 1024; // the largest board, eight snakes of 10,003 parts, is written in 1.3 MB
 
 /** What a `turn` in a line has to be, by the word of its command, where so many boards of the round have come before. */
@@ -13,12 +12,14 @@ const FITTING_TURN = {
 };
 
 /**
- * A game of the plan. A round is what lies between a `new` and its `end`: its boards are the numbers of the lines that show
- * turn 0, turn 1 and so on. A refusal has the round and the turn after which it came, both null before the first `new`.
+ * A game in one of its stays, which are counted from 1: a game that was admitted more than once has as many sections. A round is
+ * what lies between a `new` and its `end`: its boards are the numbers of the lines that show turn 0, turn 1 and so on. A refusal has
+ * the round and the turn after which it came, both null before the first `new`.
  */
 class Game {
-  constructor(name) {
+  constructor(name, stay) {
     this.name = name;
+    this.stay = stay;
     this.rounds = [];
     this.running = null;
     this.replies = 0;
@@ -40,14 +41,31 @@ class Transcript {
     this.starts = [];
     this.games = [];
     this.strays = [];
+    this.staysByName = new Map();
   }
 
   startOf(number) {
     return this.starts[number - 1] ?? this.file.size;
   }
 
-  gameNamed(name) {
-    return this.games.find((game) => game.name === name) ?? null;
+  /** The stays of the games of that name, in their order: none where the transcript has no such game. */
+  staysOf(name) {
+    return this.staysByName.get(name) ?? [];
+  }
+
+  /** Adds the next stay of that name. */
+  addGame(name) {
+    const stays = this.staysOf(name);
+    const game = new Game(name, stays.length + 1);
+    stays.push(game);
+    this.staysByName.set(name, stays);
+    this.games.push(game);
+    return game;
+  }
+
+  /** Which stay of its name a game is, in words; nothing where there is no other. */
+  stayText(game) {
+    return this.staysOf(game.name).length > 1 ? `stay ${game.stay.toLocaleString('en')}` : '';
   }
 
   async board(number) {
@@ -121,15 +139,11 @@ class TranscriptBuilder {
       return;
     }
     const name = this.nameIn(told.game);
-    if (this.transcript.strays.length > 0 || this.transcript.gameNamed(name)) {
+    if (this.transcript.strays.length > 0) {
       throw this.fault('is of a game whose lines have to stand further up');
     }
-    if (this.transcript.games.length === MOST_GAMES) {
-      throw this.fault(`is of one game more than the ${MOST_GAMES} that a transcript can hold`);
-    }
-    this.game = new Game(name);
+    this.game = this.transcript.addGame(name);
     this.openName = told.game;
-    this.transcript.games.push(this.game);
   }
 
   nameIn(text) {

@@ -19,6 +19,14 @@ function megabytes(bytes) {
   return `${(bytes / 1e6).toFixed(1)} MB`;
 }
 
+/** What an address names that the transcript does not hold. */
+function noticeOf(place, isGame, isStay) {
+  if (!isGame) {
+    return `The transcript has no game ${place.game}.`;
+  }
+  return isStay ? `The game ${place.game} has no turn ${place.turn} in round ${place.round}.` : `The game ${place.game} has no stay ${place.stay}.`;
+}
+
 /** The elements of the page by their ids. */
 function elementsOfPage() {
   return Object.fromEntries([...document.querySelectorAll('[id]')].map((element) => [element.id, element]));
@@ -124,14 +132,13 @@ class Viewer {
     if (!place || !this.transcript) {
       return false;
     }
-    const game = this.transcript.gameNamed(place.game);
+    const stays = this.transcript.staysOf(place.game);
+    const game = stays[numberInAddress(place.stay) - 1];
     const number = numberInAddress(place.round);
     const turn = numberInAddress(place.turn);
     this.page.notice.textContent = '';
     if (game?.rounds[number - 1]?.boards[turn] === undefined) {
-      this.page.notice.textContent = game
-        ? `The game ${place.game} has no turn ${place.turn} in round ${place.round}.`
-        : `The transcript has no game ${place.game}.`;
+      this.page.notice.textContent = noticeOf(place, stays.length > 0, game !== undefined);
       return false;
     }
     this.panel.player.pause();

@@ -93,13 +93,16 @@ class Page:
     def plots(self):
         return self.browser.run(PLOTS)
 
-    def choose_game(self, name):
+    def choose_game(self, name, stay=1):
         """Clicks a game's name in the table, and waits until the page shows it."""
         self.browser.run("""
             const rows = [...document.querySelectorAll('#games tbody tr')];
-            rows.find((row) => row.dataset.game === arguments[0]).querySelector('button').click();
-        """, name)
-        self.browser.wait("return document.getElementById('name').textContent === arguments[0]", name)
+            rows.find((row) => row.dataset.game === arguments[0] && row.dataset.stay === arguments[1]).querySelector('button').click();
+        """, name, str(stay))
+        self.browser.wait("""
+            const marked = document.querySelector('#games [aria-current]');
+            return document.getElementById('name').textContent === arguments[0] && marked.dataset.game === arguments[0] && marked.dataset.stay === arguments[1];
+        """, name, str(stay))
 
     def choose_round(self, number):
         self.browser.run("""

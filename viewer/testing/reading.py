@@ -7,10 +7,15 @@ from dataclasses import dataclass, field
 @dataclass
 class Game:
     name: str
+    stay: int = 1
+    stays: int = 1  # of the games of that name
     rounds: list = field(default_factory=list)  # of each round its boards by turn
     refusals: list = field(default_factory=list)  # (line, round, turn)
     runs: bool = False
     charge: int = 0
+
+    def stay_text(self):
+        return f"stay {self.stay}" if self.stays > 1 else ""
 
     def last_board(self):
         return self.rounds[-1][-1] if self.rounds else None
@@ -27,17 +32,20 @@ class Game:
 
 
 def read(path):
-    """The games of a transcript in their order, and its stray lines."""
-    games, strays = {}, []
+    """The stays of the games of a transcript in their order, and its stray lines."""
+    games, strays, game = [], [], None
     for text in path.read_text().splitlines():
         line = json.loads(text)
         if "game" not in line:
             strays.append(line)
             continue
-        game = games.setdefault(line["game"], Game(line["game"]))
+        if game is None:
+            game = Game(line["game"], 1 + sum(other.name == line["game"] for other in games))
+            games.append(game)
         if "final" in line:
             game.charge = line["charge"]
             game.runs = line["board"] is not None
+            game = None
         elif "why" in line:
             turn = game.rounds[-1][-1]["turn"] if game.rounds else None
             game.refusals.append((line, len(game.rounds) or None, turn))
@@ -45,4 +53,6 @@ def read(path):
             game.rounds.append([line["board"]])
         elif line["do"] == "move":
             game.rounds[-1].append(line["board"])
-    return list(games.values()), strays
+    for game in games:
+        game.stays = sum(other.name == game.name for other in games)
+    return games, strays

@@ -101,7 +101,7 @@ class BoardsTest(PageCase):
             for game in games:
                 for number, boards in enumerate(game.rounds, 1):
                     with self.subTest(f"{path.name}, {game.name}, round {number}"):
-                        self.page.choose_game(game.name)
+                        self.page.choose_game(game.name, game.stay)
                         if number > 1:
                             self.page.choose_round(number)
                         self.step_through(boards)

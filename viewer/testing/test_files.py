@@ -10,6 +10,7 @@ from testing.test_boards import expected
 
 GOOD = (ROOT / "examples" / "quota_of_two_records.transcript").read_text()
 LINES = GOOD.splitlines(keepends=True)
+STRAY = '{"line":2,"no":"L1","why":"json"}\n'
 
 
 def changed(line, *path, to):
@@ -31,7 +32,8 @@ BROKEN = {
     "cut in a line": (GOOD[:-10], "Line 8 is cut off: no line feed ends it."),
     "cut between lines": ("".join(LINES[:-1]), "Line 7 is the last, and its game has no final line."),
     "an empty line": (GOOD + "\n", "Line 9 is no line of a transcript."),
-    "twice": (GOOD + GOOD, "Line 9 is of a game whose lines have to stand further up."),
+    "twice": ((GOOD + STRAY) * 2, "Line 10 is of a game whose lines have to stand further up."),
+    "a reason that is none": (GOOD + STRAY.replace("L1", "A6"), "Line 9 is no line of a transcript."),
     "a line left out": ("".join(LINES[:2] + LINES[3:]), "Line 3 has the number 4 where 3 has to stand."),
     "another game between": (changed(4, "game", to="b"), "Line 4 is of another game, and the one before has no final line."),
     "a turn left out": (changed(5, "board", "turn", to=3), "Line 5 shows turn 3, which can't follow the turns before it."),

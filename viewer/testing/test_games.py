@@ -15,7 +15,7 @@ def number(value):
 
 def row_of(game):
     board = game.last_board()
-    return [game.name, game.state(), game.living() or ("nobody" if board else "–"), number(board and board["turn"]),
+    return [game.name + game.stay_text(), game.state(), game.living() or ("nobody" if board else "–"), number(board and board["turn"]),
             number(len(game.rounds)), number(len(game.refusals)), number(game.charge)]
 
 
@@ -65,7 +65,7 @@ class GamesTest(PageCase):
         for shown, stray in zip(self.page.texts("#strays li"), strays):
             self.assertIn(f"line {stray['line']} of the command file: {stray['no']} {stray['why']}", shown)
         for game in games:
-            self.page.choose_game(game.name)
+            self.page.choose_game(game.name, game.stay)
             items = self.page.texts("#refusals li")
             self.assertEqual(len(items), len(game.refusals), game.name)
             for shown, (line, round_number, turn) in zip(items, game.refusals):
