@@ -59,7 +59,7 @@ fn begin_move(last: &Record) -> Out
     }
 }
 
-/// A command that nothing is told against unseen. For a move no board is decoded.
+/// Begins a command that `check_unseen` does not refuse. For a move no board is decoded.
 fn begin_unrefused(alloc: Global, input: &Input) -> Result<Out, AllocError>
     requires { IsFitGame input.now }
     ensures { IfOk result (λ out. (view : AnyView) → IsSeen view input.now → out ≡ begun view input.now.command) }
@@ -70,8 +70,7 @@ fn begin_unrefused(alloc: Global, input: &Input) -> Result<Out, AllocError>
     }
 }
 
-/// The same from all that the job reads. What is refused with no board seen takes none out of its
-/// record.
+/// The output of a Begin. A board is decoded only where the answer depends on it.
 pub(crate) fn begin(alloc: Global, input: &Input) -> Result<Out, AllocError>
     requires { IsFitGame input.now }
     ensures { IfOk result (λ out. (view : AnyView) → IsSeen view input.now → out ≡ begun view input.now.command) }

@@ -41,7 +41,7 @@ fn copy_record(alloc: Global, bytes: Option<&[u8]>) -> Result<Option<Record>, Al
     }
 }
 
-/// The same, over a record that is not needed any more, if there is one.
+/// Like `copy_record`, but reuses the memory of the record in `kept`, if there is one.
 fn copy_record_over(
     alloc: Global,
     bytes: &Option<&[u8]>,
@@ -60,20 +60,20 @@ impl Expected<'_> {
     ghost use Rattle.std.specs.Prelude.{[]};
     ghost use Rattle.bs_fiber.specs.Expected.{IsOf};
 
-    /// A holder of the command: the one that is there already, or else one more.
-    fn held(&self, holder: Option<SharedCommand>) -> Result<SharedCommand, AllocError>
-        requires { IfSome holder (λ holder. holder ≡ self.now.command.now) }
+    /// A handle to the command: the given one, or else a new one.
+    fn held(&self, handle: Option<SharedCommand>) -> Result<SharedCommand, AllocError>
+        requires { IfSome handle (λ handle. handle ≡ self.now.command.now) }
         ensures { IfOk result (λ shared. shared ≡ self.now.command.now) }
     {
-        match holder {
-            Some(holder) => Ok(holder),
+        match handle {
+            Some(handle) => Ok(handle),
             None => self.command.share(),
         }
     }
 
     /// All of it, the records copied and the command held: an input that has no parts yet.
-    fn new_input(&self, alloc: Global, holder: Option<SharedCommand>) -> Result<Input, AllocError>
-        requires { IfSome holder (λ holder. holder ≡ self.now.command.now) }
+    fn new_input(&self, alloc: Global, handle: Option<SharedCommand>) -> Result<Input, AllocError>
+        requires { IfSome handle (λ handle. handle ≡ self.now.command.now) }
         ensures expected { IfOk result (λ input. IsOf input self.now) }
         ensures parts { IfOk result (λ input. input.parts ≡ []) }
     {
@@ -86,7 +86,7 @@ impl Expected<'_> {
             kept: self.kept,
             last: copy_record(alloc, self.last)?,
             asked: copy_record(alloc, self.asked)?,
-            command: self.held(holder)?,
+            command: self.held(handle)?,
             parts: Parts::from_vec(Vec::new(alloc)),
         })
     }
@@ -95,15 +95,15 @@ impl Expected<'_> {
     fn new_contents<const CAP: usize>(
         &self,
         alloc: Global,
-        holder: Option<SharedCommand>,
+        handle: Option<SharedCommand>,
     ) -> Result<Box<Contents<CAP>>, AllocError>
-        requires { IfSome holder (λ holder. holder ≡ self.now.command.now) }
+        requires { IfSome handle (λ handle. handle ≡ self.now.command.now) }
         ensures expected { IfOk result (λ contents. IsOf contents.value.input self.now) }
         ensures parts { IfOk result (λ contents. contents.value.input.parts ≡ []) }
         ensures frames { IfOk result (λ contents. contents.value.frames.items ≡ []) }
     {
         let contents = Contents {
-            input: self.new_input(alloc, holder)?,
+            input: self.new_input(alloc, handle)?,
             frames: Vec::new(alloc),
         };
         Ok(Box::new(alloc, contents)?)
@@ -114,10 +114,10 @@ impl Expected<'_> {
     fn write_over(
         &self,
         alloc: Global,
-        holder: Option<SharedCommand>,
+        handle: Option<SharedCommand>,
         input: &mut Input,
     ) -> Result<(), AllocError>
-        requires { IfSome holder (λ holder. holder ≡ self.now.command.now) }
+        requires { IfSome handle (λ handle. handle ≡ self.now.command.now) }
         ensures expected { OnOk result (IsOf input.new self.now) }
         ensures parts { OnOk result (input.new.parts ≡ []) }
     {
@@ -129,7 +129,7 @@ impl Expected<'_> {
         input.kept = self.kept;
         copy_record_over(alloc, &self.last, &mut input.last)?;
         copy_record_over(alloc, &self.asked, &mut input.asked)?;
-        input.command.hold_by(holder, self.command)?;
+        input.command.hold_by(handle, self.command)?;
         input.parts = Parts::from_vec(Vec::new(alloc));
         Ok(())
     }
@@ -137,36 +137,36 @@ impl Expected<'_> {
     fn contents_over<const CAP: usize>(
         &self,
         alloc: Global,
-        holder: Option<SharedCommand>,
+        handle: Option<SharedCommand>,
         mut contents: Box<Contents<CAP>>,
     ) -> Result<Box<Contents<CAP>>, AllocError>
-        requires { IfSome holder (λ holder. holder ≡ self.now.command.now) }
+        requires { IfSome handle (λ handle. handle ≡ self.now.command.now) }
         ensures expected { IfOk result (λ contents. IsOf contents.value.input self.now) }
         ensures parts { IfOk result (λ contents. contents.value.input.parts ≡ []) }
         ensures frames { IfOk result (λ contents. contents.value.frames.items ≡ []) }
     {
-        self.write_over(alloc, holder, &mut contents.input)?;
+        self.write_over(alloc, handle, &mut contents.input)?;
         contents.frames.clear();
         Ok(contents)
     }
 
-    /// All of it, the records copied and the command held: an input that has no parts yet, and no
-    /// blocks. The command's holder may be there already. It takes the place of a spent one, if
-    /// there is one; then it asks for memory only where a record is longer than that one's.
+    /// Makes the contents of a ticket: copies the records, and takes `handle` or a new handle to the
+    /// command. There are no parts and no blocks yet. Reuses the memory of `spent`; then memory is
+    /// requested only for longer records.
     pub fn to_contents<const CAP: usize>(
         &self,
         alloc: Global,
-        holder: Option<SharedCommand>,
+        handle: Option<SharedCommand>,
         spent: Option<Box<Contents<CAP>>>,
     ) -> Result<Box<Contents<CAP>>, AllocError>
-        requires { IfSome holder (λ holder. holder ≡ self.now.command.now) }
+        requires { IfSome handle (λ handle. handle ≡ self.now.command.now) }
         ensures expected { IfOk result (λ contents. IsOf contents.value.input self.now) }
         ensures parts { IfOk result (λ contents. contents.value.input.parts ≡ []) }
         ensures frames { IfOk result (λ contents. contents.value.frames.items ≡ []) }
     {
         match spent {
-            None => self.new_contents(alloc, holder),
-            Some(contents) => self.contents_over(alloc, holder, contents),
+            None => self.new_contents(alloc, handle),
+            Some(contents) => self.contents_over(alloc, handle, contents),
         }
     }
 }

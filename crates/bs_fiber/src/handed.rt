@@ -120,9 +120,9 @@ impl Handed {
     }
 
     /// Takes the handle for the job that begins a setup or a move, once.
-    pub fn take_holder(&mut self) -> Option<SharedCommand>
+    pub fn take_handle(&mut self) -> Option<SharedCommand>
         ensures same { self.new ≡ self.old }
-        ensures holder { IfSome result (λ holder. holder ≡ self.old) }
+        ensures handle { IfSome result (λ handle. handle ≡ self.old) }
     {
         match self.wanted {
             Wanted::Nothing => None,
@@ -137,12 +137,12 @@ impl Handed {
 /// A command with all handles that a core keeps of it: its game's and the journal's. They are made
 /// before the core is locked. Contracts see the command.
 #[derive(Debug, Drop)]
-pub struct Holders {
+pub struct Handles {
     handed: Handed,
     noted: SharedCommand,
 }
 
-impl Model for Holders {
+impl Model for Handles {
     ghost use Rattle.std.specs.Prelude.{◌≡◌};
     ghost use Rattle.bs_board.specs.declared.commands.command.Command.{Command};
 
@@ -153,12 +153,12 @@ impl Model for Holders {
     ghost invariant = { λ h. h.noted ≡ h.handed };
 }
 
-impl Holders {
+impl Handles {
     /// Makes the handles. An error means that they can't be counted any more.
-    pub fn new(command: &SharedCommand) -> Result<Holders, AllocError>
-        ensures { IfOk result (λ holders. holders ≡ command.now) }
+    pub fn new(command: &SharedCommand) -> Result<Handles, AllocError>
+        ensures { IfOk result (λ handles. handles ≡ command.now) }
     {
-        Ok(Holders {
+        Ok(Handles {
             handed: Handed::new(command)?,
             noted: command.share()?,
         })
@@ -176,7 +176,7 @@ impl Holders {
         ensures handed { result.0 ≡ self }
         ensures noted { result.1 ≡ self }
     {
-        let Holders { handed, noted } = self;
+        let Handles { handed, noted } = self;
         (handed, noted)
     }
 }

@@ -1,6 +1,5 @@
-//! The jobs that a command is carried out by, and what each of them comes to: the one that begins
-//! it, for a move the parts that move the snakes, and the one that joins them. A job reads its
-//! ticket alone.
+//! The jobs of a command and their results: a Begin; for a move also the parts, which move the
+//! snakes, and a Join. A job reads its ticket alone.
 #![tactic(auto)]
 
 mod beginning;
@@ -28,7 +27,7 @@ mod viewing;
 pub use contents::{Contents, LEAST_CAPACITY};
 pub use done::{Done, work};
 pub use expected::Expected;
-pub use handed::{Handed, Holders};
+pub use handed::{Handed, Handles};
 pub use input::Input;
 pub use job::{JobKind, JobName};
 pub use moved::Moved;

@@ -75,15 +75,15 @@ impl SharedCommand {
     /// Becomes a handle to that command: the given one, or else a new one.
     pub(crate) fn hold_by(
         &mut self,
-        holder: Option<SharedCommand>,
+        handle: Option<SharedCommand>,
         command: &SharedCommand,
     ) -> Result<(), AllocError>
-        requires { IfSome holder (λ holder. holder ≡ command.now) }
+        requires { IfSome handle (λ handle. handle ≡ command.now) }
         ensures { OnOk result (self.new ≡ command.now) }
     {
-        match holder {
-            Some(holder) => {
-                *self = holder;
+        match handle {
+            Some(handle) => {
+                *self = handle;
                 Ok(())
             }
             None => self.hold(command),

@@ -8,7 +8,7 @@ ghost use Rattle.bs_fiber.specs.Work.{goes, moved_part, parts_of};
 
 use crate::beginning::goes;
 use crate::{
-    Contents, Done, Expected, Handed, Holders, Input, JobKind, JobName, Moved, Out, Parts,
+    Contents, Done, Expected, Handed, Handles, Input, JobKind, JobName, Moved, Out, Parts,
     SharedCommand, Ticket, work,
 };
 use bs_board::{
@@ -253,16 +253,16 @@ fn a_handed_command_has_what_its_begin_needs(rt: HostRuntime) -> Result<(), Fail
     assert!(rt; handed.asks().is_none());
     assert!(rt; handed.is_move());
     assert!(rt; handed.shared().get().is_same(moved.get()));
-    assert!(rt; matches!(handed.take_holder(), Some(holder) if holder.get().is_same(moved.get())));
-    assert!(rt; handed.take_holder().is_none());
+    assert!(rt; matches!(handed.take_handle(), Some(handle) if handle.get().is_same(moved.get())));
+    assert!(rt; handed.take_handle().is_none());
     assert!(rt; handed.is_move());
 
     let at = TurnNumber::new(7).ok_or("a turn")?;
     let turn = SharedCommand::new(alloc, Command::Turn(at))?;
-    let (mut handed, noted) = Holders::new(&turn)?.into_parts();
+    let (mut handed, noted) = Handles::new(&turn)?.into_parts();
     assert_eq!(rt; handed.asks(), Some(at));
     assert!(rt; !handed.is_move());
-    assert!(rt; handed.take_holder().is_none());
+    assert!(rt; handed.take_handle().is_none());
     assert!(rt; handed.shared().get().is_same(turn.get()) && noted.get().is_same(turn.get()));
     Ok(())
 }

@@ -65,9 +65,9 @@ impl<const CAP: usize> Ticket<CAP> {
     ghost use Rattle.bs_fiber.specs.Fit.{IsFitInput};
     ghost use Rattle.bs_fiber.specs.Tickets.{IsFresh, IsTicket, ticket_in, frames_in};
 
-    /// The records are those of legal boards, one that is asked for comes with a `turn` alone, and
-    /// the charge is within the quota. A Part or a Join is of a move that goes. A Part has an empty
-    /// block; a Join alone has parts, what each of them moved, and their blocks as they wrote them.
+    /// Requires records of legal boards, an asked record only for a `turn`, a charge within the
+    /// quota, and for a Part or a Join a move that goes. A Part has one empty block. A Join has the
+    /// moved snakes and the written block of each part.
     pub fn new(contents: Box<Contents<CAP>>) -> Ticket<CAP>
         requires wide { LEAST_CAPACITY ≤ CAP }
         requires fit { IsFitInput contents.value.input }

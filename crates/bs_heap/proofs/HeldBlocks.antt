@@ -154,12 +154,6 @@ kept_empty heap pool none nothing =
       all = nothing ∙ sym long;
     }
 
--- only the owners count
-pub kept_by_owners : (heap : Heap) (old new : Ledger) → new.owners ≡ old.owners → IsKeptIn heap old → IsKeptIn heap new
-kept_by_owners heap old new same kept =
-    let P : List (Option ℕ) → Type 0 = λ os. IsKeptIn heap (record { owners = os; reservations = new.reservations }) in
-    subst P (sym same) (record { owned = record { each = kept.owned.each; once = kept.owned.once }; all = kept.all })
-
 -- the index does not
 pub kept_with_room : (n : ℕ) (heap : Heap) (pool : Ledger) → IsKeptIn heap pool → IsKeptIn (with_index_room n heap) pool
 kept_with_room n heap pool kept = kept

@@ -15,13 +15,14 @@ use Rattle.bs_json.specs.declared.line.Stray.{Stray}
 use Rattle.bs_json.specs.Line.{line_of}
 use Rattle.bs_json.specs.declared.line.Line.TheVariants as line
 use Rattle.bs_workers.specs.declared.act.Act.{Act}
-use Rattle.bs_workers.specs.Acts.{Setting, Stay, are_acceptable, closed_stay, stay_at, has_name, is_acceptable, is_in, no_stay, open_stay, opened, rows_admitted, rows_in_registry, stay_named, command_in}
+use Rattle.bs_sched.specs.Stays.{Capacity, Stay, closed_stay, has_name, is_in, no_stay, open_stay, stay_at}
+use Rattle.bs_workers.specs.Acts.{are_acceptable, is_acceptable, opened, rows_admitted, rows_in_registry, stay_named, command_in}
 use Rattle.bs_workers.specs.declared.act.Act.TheVariants as act
 use Rattle.bs_host.specs.File.{pieces_of, later_pieces, rows_of, version_of}
 use Rattle.bs_host.specs.declared.route.Route.{Route}
 use Rattle.bs_host.specs.Guests.{GuestList, guests_of, guests_then, route_by, routes_by_guests, rows_by_guests, rows_in_route}
 use Rattle.bs_host.specs.Laws.{ActsLaw}
-use Rattle.bs_host.specs.Routing.{act_in, acts_in, admit_refusal, admit_route, registry_behind, registry_then, command_to, commands_to, hand_route, setting_of, leave_route, next_registry, route_at, route_of, routes_from, stays_behind}
+use Rattle.bs_host.specs.Routing.{act_in, acts_in, admit_refusal, admit_route, registry_behind, registry_then, command_to, commands_to, hand_route, capacity_of, leave_route, next_registry, route_at, route_of, routes_from, stays_behind}
 use Rattle.bs_host.specs.declared.route.Route.TheVariants as route
 use Rattle.bs_host.proofs.FitStays.{may_come}
 use Rattle.bs_host.proofs.GuestRoutes.{guests_law}
@@ -42,43 +43,43 @@ rows_step registry route.Nowhere acts = refl
 
 -- each act may be made where it comes
 
-abbrev IsAcceptable : Setting → List Stay → Route → Type 0
-IsAcceptable setting registry (route.Act a) = is_acceptable setting registry a ≡ true
-IsAcceptable setting registry (route.Stray kind) = Unit {0}
-IsAcceptable setting registry route.Nowhere = Unit {0}
+abbrev IsAcceptable : Capacity → List Stay → Route → Type 0
+IsAcceptable capacity registry (route.Act a) = is_acceptable capacity registry a ≡ true
+IsAcceptable capacity registry (route.Stray kind) = Unit {0}
+IsAcceptable capacity registry route.Nowhere = Unit {0}
 
 named_is_in : (registry : List Stay) (name : List ℕ) (stay : ℕ) → stay_named registry name ≡ Some stay → is_in registry stay ≡ true
 named_is_in registry name stay is =
     let (within, hit, before) = position-Some (has_name name) registry stay no_stay is in
     and_from _ _ (lt-ltb stay (length registry) within) (and_parts (stay_at registry stay).is_open (is_same_text name (stay_at registry stay).row.game) hit).0
 
-hand_acceptable : (setting : Setting) (registry : List Stay) (name : List ℕ) (command : Command) (found : Option ℕ) → stay_named registry name ≡ found → IsAcceptable setting registry (hand_route found command)
-hand_acceptable setting registry name command None is = tt
-hand_acceptable setting registry name command (Some stay) is = named_is_in registry name stay is
+hand_acceptable : (capacity : Capacity) (registry : List Stay) (name : List ℕ) (command : Command) (found : Option ℕ) → stay_named registry name ≡ found → IsAcceptable capacity registry (hand_route found command)
+hand_acceptable capacity registry name command None is = tt
+hand_acceptable capacity registry name command (Some stay) is = named_is_in registry name stay is
 
-admit_acceptable : (setting : Setting) (registry : List Stay) (row : GameRow) (found : Option Stray) → admit_refusal setting registry row ≡ found → IsAcceptable setting registry (admit_route found row)
-admit_acceptable setting registry row None is = may_come setting registry row is
-admit_acceptable setting registry row (Some kind) is = tt
+admit_acceptable : (capacity : Capacity) (registry : List Stay) (row : GameRow) (found : Option Stray) → admit_refusal capacity registry row ≡ found → IsAcceptable capacity registry (admit_route found row)
+admit_acceptable capacity registry row None is = may_come capacity registry row is
+admit_acceptable capacity registry row (Some kind) is = tt
 
-leave_acceptable : (setting : Setting) (registry : List Stay) (name : List ℕ) (found : Option ℕ) → stay_named registry name ≡ found → IsAcceptable setting registry (leave_route found)
-leave_acceptable setting registry name None is = tt
-leave_acceptable setting registry name (Some stay) is = named_is_in registry name stay is
+leave_acceptable : (capacity : Capacity) (registry : List Stay) (name : List ℕ) (found : Option ℕ) → stay_named registry name ≡ found → IsAcceptable capacity registry (leave_route found)
+leave_acceptable capacity registry name None is = tt
+leave_acceptable capacity registry name (Some stay) is = named_is_in registry name stay is
 
-route_acceptable : (setting : Setting) (registry : List Stay) (l : Line) → IsAcceptable setting registry (route_of setting registry l)
-route_acceptable setting registry line.Blank = tt
-route_acceptable setting registry (line.Command name command) = hand_acceptable setting registry name command (stay_named registry name) refl
-route_acceptable setting registry (line.Bad name) = hand_acceptable setting registry name command.Bad (stay_named registry name) refl
-route_acceptable setting registry (line.Stray kind) = tt
-route_acceptable setting registry (line.Admit row) = admit_acceptable setting registry row (admit_refusal setting registry row) refl
-route_acceptable setting registry line.BadAdmit = tt
-route_acceptable setting registry (line.Leave None) = tt
-route_acceptable setting registry (line.Leave (Some name)) = leave_acceptable setting registry name (stay_named registry name) refl
+route_acceptable : (capacity : Capacity) (registry : List Stay) (l : Line) → IsAcceptable capacity registry (route_of capacity registry l)
+route_acceptable capacity registry line.Blank = tt
+route_acceptable capacity registry (line.Command name command) = hand_acceptable capacity registry name command (stay_named registry name) refl
+route_acceptable capacity registry (line.Bad name) = hand_acceptable capacity registry name command.Bad (stay_named registry name) refl
+route_acceptable capacity registry (line.Stray kind) = tt
+route_acceptable capacity registry (line.Admit row) = admit_acceptable capacity registry row (admit_refusal capacity registry row) refl
+route_acceptable capacity registry line.BadAdmit = tt
+route_acceptable capacity registry (line.Leave None) = tt
+route_acceptable capacity registry (line.Leave (Some name)) = leave_acceptable capacity registry name (stay_named registry name) refl
 
-acceptable_step : (setting : Setting) (registry : List Stay) (r : Route) (acts : List Act) → IsAcceptable setting registry r → are_acceptable setting (registry_then registry r) acts ≡ true
-    → are_acceptable setting registry (cons_option (act_in r) acts) ≡ true
-acceptable_step setting registry (route.Act a) acts first rest = and_from _ _ first rest
-acceptable_step setting registry (route.Stray kind) acts first rest = rest
-acceptable_step setting registry route.Nowhere acts first rest = rest
+acceptable_step : (capacity : Capacity) (registry : List Stay) (r : Route) (acts : List Act) → IsAcceptable capacity registry r → are_acceptable capacity (registry_then registry r) acts ≡ true
+    → are_acceptable capacity registry (cons_option (act_in r) acts) ≡ true
+acceptable_step capacity registry (route.Act a) acts first rest = and_from _ _ first rest
+acceptable_step capacity registry (route.Stray kind) acts first rest = rest
+acceptable_step capacity registry route.Nowhere acts first rest = rest
 
 -- commands
 
@@ -87,39 +88,39 @@ commands_step stay (route.Act a) acts = refl
 commands_step stay (route.Stray kind) acts = refl
 commands_step stay route.Nowhere acts = refl
 
-module _ (setting : Setting) (version : Version) where
+module _ (capacity : Capacity) (version : Version) where
   rows_made : (registry : List Stay) (number : ℕ) (lines : List (List ℕ))
-      → rows_in_registry (registry_behind setting version registry lines) ≡ rows_in_registry registry ++ rows_admitted (acts_in (routes_from setting version registry number lines))
+      → rows_in_registry (registry_behind capacity version registry lines) ≡ rows_in_registry registry ++ rows_admitted (acts_in (routes_from capacity version registry number lines))
   rows_made registry number [] = sym (append-nil (rows_in_registry registry))
   rows_made registry number (text ∷ lines) =
-      let next = next_registry setting version registry text in
+      let next = next_registry capacity version registry text in
       rows_made next (number + 1) lines
-      ∙ rows_step registry (route_at setting version registry text) (acts_in (routes_from setting version next (number + 1) lines))
+      ∙ rows_step registry (route_at capacity version registry text) (acts_in (routes_from capacity version next (number + 1) lines))
 
-  acts_acceptable : (registry : List Stay) (number : ℕ) (lines : List (List ℕ)) → are_acceptable setting registry (acts_in (routes_from setting version registry number lines)) ≡ true
+  acts_acceptable : (registry : List Stay) (number : ℕ) (lines : List (List ℕ)) → are_acceptable capacity registry (acts_in (routes_from capacity version registry number lines)) ≡ true
   acts_acceptable registry number [] = refl
   acts_acceptable registry number (text ∷ lines) =
-      let next = next_registry setting version registry text in
-      acceptable_step setting registry (route_at setting version registry text) (acts_in (routes_from setting version next (number + 1) lines)) (route_acceptable setting registry (line_of version text))
+      let next = next_registry capacity version registry text in
+      acceptable_step capacity registry (route_at capacity version registry text) (acts_in (routes_from capacity version next (number + 1) lines)) (route_acceptable capacity registry (line_of version text))
       (acts_acceptable next (number + 1) lines)
 
   commands_acted : (registry : List Stay) (number stay : ℕ) (lines : List (List ℕ))
-      → commands_to stay (routes_from setting version registry number lines) ≡ filter_map (command_in stay) (acts_in (routes_from setting version registry number lines))
+      → commands_to stay (routes_from capacity version registry number lines) ≡ filter_map (command_in stay) (acts_in (routes_from capacity version registry number lines))
   commands_acted registry number stay [] = refl
   commands_acted registry number stay (text ∷ lines) =
-      let next = next_registry setting version registry text in
-      ap (λ rest. cons_option (command_to stay (route_at setting version registry text)) rest) (commands_acted next (number + 1) stay lines)
-      ∙ sym (commands_step stay (route_at setting version registry text) (acts_in (routes_from setting version next (number + 1) lines)))
+      let next = next_registry capacity version registry text in
+      ap (λ rest. cons_option (command_to stay (route_at capacity version registry text)) rest) (commands_acted next (number + 1) stay lines)
+      ∙ sym (commands_step stay (route_at capacity version registry text) (acts_in (routes_from capacity version next (number + 1) lines)))
 
 pub acts_law : ActsLaw
 acts_law blocks file =
-    let setting = setting_of blocks in
+    let capacity = capacity_of blocks in
     let lines = later_pieces (pieces_of file) in
     record {
-      stays = rows_made setting (version_of file) (opened (rows_of file)) 2 lines
-          ∙ ap (λ rows. rows ++ rows_admitted (acts_in (routes_from setting (version_of file) (opened (rows_of file)) 2 lines))) (rows_opened (rows_of file));
-      acceptable = acts_acceptable setting (version_of file) (opened (rows_of file)) 2 lines;
-      commands = λ stay. commands_acted setting (version_of file) (opened (rows_of file)) 2 stay lines;
+      stays = rows_made capacity (version_of file) (opened (rows_of file)) 2 lines
+          ∙ ap (λ rows. rows ++ rows_admitted (acts_in (routes_from capacity (version_of file) (opened (rows_of file)) 2 lines))) (rows_opened (rows_of file));
+      acceptable = acts_acceptable capacity (version_of file) (opened (rows_of file)) 2 lines;
+      commands = λ stay. commands_acted capacity (version_of file) (opened (rows_of file)) 2 stay lines;
     }
 
 -- the rows of the open stays' walk
@@ -131,18 +132,18 @@ rows_of_act (route.Act (act.Leave stay)) acts = refl
 rows_of_act (route.Stray kind) acts = refl
 rows_of_act route.Nowhere acts = refl
 
-rows_walked : (setting : Setting) (version : Version) (guests : GuestList) (number : ℕ) (lines : List (List ℕ))
-    → rows_admitted (acts_in (routes_by_guests setting version guests number lines)) ≡ rows_by_guests setting version guests lines
-rows_walked setting version guests number [] = refl
-rows_walked setting version guests number (text ∷ lines) =
-    let r = route_by setting guests (line_of version text) in
-    rows_of_act r (acts_in (routes_by_guests setting version (guests_then guests r) (number + 1) lines))
-    ∙ ap (λ rows. rows_in_route r ++ rows) (rows_walked setting version (guests_then guests r) (number + 1) lines)
+rows_walked : (capacity : Capacity) (version : Version) (guests : GuestList) (number : ℕ) (lines : List (List ℕ))
+    → rows_admitted (acts_in (routes_by_guests capacity version guests number lines)) ≡ rows_by_guests capacity version guests lines
+rows_walked capacity version guests number [] = refl
+rows_walked capacity version guests number (text ∷ lines) =
+    let r = route_by capacity guests (line_of version text) in
+    rows_of_act r (acts_in (routes_by_guests capacity version (guests_then guests r) (number + 1) lines))
+    ∙ ap (λ rows. rows_in_route r ++ rows) (rows_walked capacity version (guests_then guests r) (number + 1) lines)
 
-pub stays_walked : (setting : Setting) (version : Version) (rows : List GameRow) (lines : List (List ℕ))
-    → stays_behind setting version rows lines ≡ rows ++ rows_by_guests setting version (guests_of (opened rows)) lines
-stays_walked setting version rows lines =
-    rows_made setting version (opened rows) 2 lines
-    ∙ ap (λ first. first ++ rows_admitted (acts_in (routes_from setting version (opened rows) 2 lines))) (rows_opened rows)
-    ∙ ap (λ routes. rows ++ rows_admitted (acts_in routes)) (guests_law setting version 2 (opened rows) lines)
-    ∙ ap (λ all. rows ++ all) (rows_walked setting version (guests_of (opened rows)) 2 lines)
+pub stays_walked : (capacity : Capacity) (version : Version) (rows : List GameRow) (lines : List (List ℕ))
+    → stays_behind capacity version rows lines ≡ rows ++ rows_by_guests capacity version (guests_of (opened rows)) lines
+stays_walked capacity version rows lines =
+    rows_made capacity version (opened rows) 2 lines
+    ∙ ap (λ first. first ++ rows_admitted (acts_in (routes_from capacity version (opened rows) 2 lines))) (rows_opened rows)
+    ∙ ap (λ routes. rows ++ rows_admitted (acts_in routes)) (guests_law capacity version 2 (opened rows) lines)
+    ∙ ap (λ all. rows ++ all) (rows_walked capacity version (guests_of (opened rows)) 2 lines)

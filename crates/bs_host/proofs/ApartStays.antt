@@ -15,7 +15,8 @@ use Rattle.bs_board.specs.Texts.{is_same_text}
 use Rattle.bs_json.specs.declared.line.Line.{Line}
 use Rattle.bs_json.specs.declared.line.Stray.{Stray}
 use Rattle.bs_json.specs.declared.line.Line.TheVariants as line
-use Rattle.bs_workers.specs.Acts.{Setting, Stay, stay_at, closed_stay, has_name, has_room, is_full, no_stay, open_stay, opened, stay_named}
+use Rattle.bs_sched.specs.Stays.{Capacity, Stay, closed_stay, has_name, has_room, is_full, no_stay, open_stay, stay_at}
+use Rattle.bs_workers.specs.Acts.{opened, stay_named}
 use Rattle.bs_workers.specs.declared.act.Act.TheVariants as act
 use Rattle.bs_host.specs.Routing.{admit_refusal, admit_route, registry_then, hand_route, leave_route, route_of}
 use Rattle.bs_host.specs.Cut.{row_at}
@@ -103,25 +104,25 @@ after_hand : (registry : List Stay) (command : Command) (found : Option ℕ) →
 after_hand registry command None apart = apart
 after_hand registry command (Some stay) apart = apart
 
-after_admit : (setting : Setting) (registry : List Stay) (row : GameRow) (found : Option Stray) → admit_refusal setting registry row ≡ found → Apart registry → Apart (registry_then registry (admit_route found row))
-after_admit setting registry row None is apart =
-    let come = may_come setting registry row is in
-    apart_more registry row (new_name (list_any (has_name row.game) registry) (not (is_full registry) && has_room setting registry row) come) apart
-after_admit setting registry row (Some kind) is apart = apart
+after_admit : (capacity : Capacity) (registry : List Stay) (row : GameRow) (found : Option Stray) → admit_refusal capacity registry row ≡ found → Apart registry → Apart (registry_then registry (admit_route found row))
+after_admit capacity registry row None is apart =
+    let come = may_come capacity registry row is in
+    apart_more registry row (new_name (list_any (has_name row.game) registry) (not (is_full registry) && has_room capacity registry row) come) apart
+after_admit capacity registry row (Some kind) is apart = apart
 
 after_leave : (registry : List Stay) (name : List ℕ) (found : Option ℕ) → stay_named registry name ≡ found → Apart registry → Apart (registry_then registry (leave_route found))
 after_leave registry name None is apart = apart
 after_leave registry name (Some to) is apart = apart_left registry to (position-Some (has_name name) registry to no_stay is).0 apart
 
-pub apart_then : (setting : Setting) (registry : List Stay) (l : Line) → Apart registry → Apart (registry_then registry (route_of setting registry l))
-apart_then setting registry line.Blank apart = apart
-apart_then setting registry (line.Command name command) apart = after_hand registry command (stay_named registry name) apart
-apart_then setting registry (line.Bad name) apart = after_hand registry _ (stay_named registry name) apart
-apart_then setting registry (line.Stray kind) apart = apart
-apart_then setting registry (line.Admit row) apart = after_admit setting registry row (admit_refusal setting registry row) refl apart
-apart_then setting registry line.BadAdmit apart = apart
-apart_then setting registry (line.Leave None) apart = apart
-apart_then setting registry (line.Leave (Some name)) apart = after_leave registry name (stay_named registry name) refl apart
+pub apart_then : (capacity : Capacity) (registry : List Stay) (l : Line) → Apart registry → Apart (registry_then registry (route_of capacity registry l))
+apart_then capacity registry line.Blank apart = apart
+apart_then capacity registry (line.Command name command) apart = after_hand registry command (stay_named registry name) apart
+apart_then capacity registry (line.Bad name) apart = after_hand registry _ (stay_named registry name) apart
+apart_then capacity registry (line.Stray kind) apart = apart
+apart_then capacity registry (line.Admit row) apart = after_admit capacity registry row (admit_refusal capacity registry row) refl apart
+apart_then capacity registry line.BadAdmit apart = apart
+apart_then capacity registry (line.Leave None) apart = apart
+apart_then capacity registry (line.Leave (Some name)) apart = after_leave registry name (stay_named registry name) refl apart
 
 -- the plan's games
 

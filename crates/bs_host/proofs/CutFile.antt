@@ -9,7 +9,8 @@ use Rattle.bs_board.specs.declared.plans.version.Version.{Version}
 use Rattle.bs_board.specs.plans.Plan.{GameRow}
 use Rattle.bs_json.specs.Line.{line_of}
 use Rattle.bs_json.specs.PlanLine.{plan_line_of}
-use Rattle.bs_workers.specs.Acts.{Setting, opened}
+use Rattle.bs_sched.specs.Stays.{Capacity}
+use Rattle.bs_workers.specs.Acts.{opened}
 use Rattle.bs_host.specs.declared.cut_fault.Cut.TheVariants.{TooLong}
 use Rattle.bs_host.specs.declared.limits.TheConstants.{MOST_FILE_BYTES}
 use Rattle.bs_host.specs.declared.lines.TheConstants.{LINE_FEED}
@@ -17,7 +18,7 @@ use Rattle.bs_host.specs.declared.route.Route.{Route}
 use Rattle.bs_host.specs.Cut.{behind_feeds, cut_of, cut_refusal_of, cut_refusal_of_plan, lone_plan_of, nth_from, nth_stay, own_lines_in, own_lines_of, row_at}
 use Rattle.bs_host.specs.File.{pieces_after, pieces_of, first_piece, later_pieces, plan_of, rows_in, version_in, version_of}
 use Rattle.bs_host.specs.Guests.{GuestList, guests_of, guests_then, own_by_guests, route_by}
-use Rattle.bs_host.specs.Routing.{command_to, setting_of, stays_behind, stays_of}
+use Rattle.bs_host.specs.Routing.{command_to, capacity_of, stays_behind, stays_of}
 use Rattle.bs_host.proofs.CutLines.{joined_behind}
 use Rattle.bs_host.proofs.FoundStays.{found_row}
 use Rattle.bs_host.proofs.GuestRoutes.{guest_lines_law}
@@ -38,14 +39,14 @@ refusal_of_first blocks file game first n rest short pieces =
 
 abbrev cut_from : ℕ → Plan → ℕ → List (List ℕ) → List ℕ
 cut_from blocks plan stay lines =
-    lone_plan_of plan.version (row_at (stays_behind (setting_of blocks) plan.version plan.rows lines) stay)
-    ++ behind_feeds (own_lines_in (setting_of blocks) plan.version (opened plan.rows) stay lines)
+    lone_plan_of plan.version (row_at (stays_behind (capacity_of blocks) plan.version plan.rows lines) stay)
+    ++ behind_feeds (own_lines_in (capacity_of blocks) plan.version (opened plan.rows) stay lines)
 
 pub stays_of_first : (blocks : ℕ) (file first : List ℕ) (rest : List (List ℕ)) (plan : Plan) → pieces_of file ≡ first ∷ rest → plan_line_of first ≡ Ok plan
-    → stays_of blocks file ≡ stays_behind (setting_of blocks) plan.version plan.rows rest
+    → stays_of blocks file ≡ stays_behind (capacity_of blocks) plan.version plan.rows rest
 stays_of_first blocks file first rest plan pieces read =
-    ap (λ all. stays_behind (setting_of blocks) (version_in (plan_line_of (first_piece all))) (rows_in (plan_line_of (first_piece all))) (later_pieces all)) pieces
-    ∙ ap (λ found. stays_behind (setting_of blocks) (version_in found) (rows_in found) rest) read
+    ap (λ all. stays_behind (capacity_of blocks) (version_in (plan_line_of (first_piece all))) (rows_in (plan_line_of (first_piece all))) (later_pieces all)) pieces
+    ∙ ap (λ found. stays_behind (capacity_of blocks) (version_in found) (rows_in found) rest) read
 
 pub cut_of_first : (blocks : ℕ) (file first : List ℕ) (rest : List (List ℕ)) (plan : Plan) (stay : ℕ) → pieces_of file ≡ first ∷ rest → plan_line_of first ≡ Ok plan
     → cut_of blocks file stay ≡ cut_from blocks plan stay rest
@@ -54,25 +55,25 @@ cut_of_first blocks file first rest plan stay pieces read =
     joined_behind (lone_plan_of (version_of file) (row_at (stays_of blocks file) stay)) (own_lines_of blocks file stay)
     ∙ ap (λ stays. lone_plan_of (version_of file) (row_at stays stay) ++ behind_feeds (own_lines_of blocks file stay)) (stays_of_first blocks file first rest plan pieces read)
     ∙ ap (λ all.
-    lone_plan_of (version_in (plan_line_of (first_piece all))) (row_at (stays_behind (setting_of blocks) plan.version plan.rows rest) stay)
-    ++ behind_feeds (own_lines_in (setting_of blocks) (version_in (plan_line_of (first_piece all))) (opened (rows_in (plan_line_of (first_piece all)))) stay (later_pieces all))) pieces
+    lone_plan_of (version_in (plan_line_of (first_piece all))) (row_at (stays_behind (capacity_of blocks) plan.version plan.rows rest) stay)
+    ++ behind_feeds (own_lines_in (capacity_of blocks) (version_in (plan_line_of (first_piece all))) (opened (rows_in (plan_line_of (first_piece all)))) stay (later_pieces all))) pieces
     ∙ ap (λ found.
-    lone_plan_of (version_in found) (row_at (stays_behind (setting_of blocks) plan.version plan.rows rest) stay)
-    ++ behind_feeds (own_lines_in (setting_of blocks) (version_in found) (opened (rows_in found)) stay rest)) read
+    lone_plan_of (version_in found) (row_at (stays_behind (capacity_of blocks) plan.version plan.rows rest) stay)
+    ++ behind_feeds (own_lines_in (capacity_of blocks) (version_in found) (opened (rows_in found)) stay rest)) read
 
 -- what was written for the stay that was found is the file's cut
 pub cut_of_found : (blocks : ℕ) (file first game name text : List ℕ) (n : ℕ) (rest : List (List ℕ)) (plan : Plan) (found : ℕ × GameRow) → pieces_of file ≡ first ∷ rest
-    → plan_line_of first ≡ Ok plan → name ≡ game → Some found ≡ nth_from 0 (stays_behind (setting_of blocks) plan.version plan.rows rest) name n
-    → text ≡ lone_plan_of plan.version found.1 ++ behind_feeds (own_lines_in (setting_of blocks) plan.version (opened plan.rows) found.0 rest)
+    → plan_line_of first ≡ Ok plan → name ≡ game → Some found ≡ nth_from 0 (stays_behind (capacity_of blocks) plan.version plan.rows rest) name n
+    → text ≡ lone_plan_of plan.version found.1 ++ behind_feeds (own_lines_in (capacity_of blocks) plan.version (opened plan.rows) found.0 rest)
     → option_map (cut_of blocks file) (nth_stay blocks file game n) ≡ Some text
 cut_of_found blocks file first game name text n rest plan found pieces read is looked written =
-    let stays = stays_behind (setting_of blocks) plan.version plan.rows rest in
+    let stays = stays_behind (capacity_of blocks) plan.version plan.rows rest in
     let all = stays_of_first blocks file first rest plan pieces read in
     let nth : nth_from 0 (stays_of blocks file) game n ≡ Some found =
     ap (λ rows. nth_from 0 rows game n) all ∙ ap (λ g. nth_from 0 stays g n) (sym is) ∙ sym looked in
     let its_row = found_row stays name n found (sym looked) in
     let same : text ≡ cut_from blocks plan found.0 rest =
-    written ∙ ap (λ r. lone_plan_of plan.version r ++ behind_feeds (own_lines_in (setting_of blocks) plan.version (opened plan.rows) found.0 rest)) its_row in
+    written ∙ ap (λ r. lone_plan_of plan.version r ++ behind_feeds (own_lines_in (capacity_of blocks) plan.version (opened plan.rows) found.0 rest)) its_row in
     ap (λ o. option_map (cut_of blocks file) (option_map (λ (f : ℕ × GameRow). f.0) o)) nth
     ∙ ap Some (cut_of_first blocks file first rest plan found.0 pieces read ∙ sym same)
 
@@ -85,30 +86,30 @@ fewer_left left None text is shorter = rw is (omega arith)
 fewer_left left (Some rest) text is shorter = rw is (omega (arith, shorter))
 
 -- the line goes to the stay, behind what was written before; or it does not
-module _ (setting : Setting) (version : Version) (guests : GuestList) (stay : ℕ) (line written : List ℕ) (lines : List (List ℕ)) where
+module _ (capacity : Capacity) (version : Version) (guests : GuestList) (stay : ℕ) (line written : List ℕ) (lines : List (List ℕ)) where
   abbrev goes : Route
-  goes = route_by setting guests (line_of version line)
+  goes = route_by capacity guests (line_of version line)
 
   abbrev own_behind : List (List ℕ)
-  own_behind = own_by_guests setting version (guests_then guests goes) stay lines
+  own_behind = own_by_guests capacity version (guests_then guests goes) stay lines
 
   pub own_line_goes : is_some (command_to stay goes) ≡ true
-      → (written ++ LINE_FEED ∷ line) ++ behind_feeds own_behind ≡ written ++ behind_feeds (own_by_guests setting version guests stay (line ∷ lines))
+      → (written ++ LINE_FEED ∷ line) ++ behind_feeds own_behind ≡ written ++ behind_feeds (own_by_guests capacity version guests stay (line ∷ lines))
   own_line_goes own =
       rw own (append_assoc written (LINE_FEED ∷ line) (behind_feeds own_behind)
       ∙ ap (λ rest. written ++ rest) (sym (flat_map-cons (λ l. LINE_FEED ∷ l) line own_behind)))
 
   pub other_line_goes : is_some (command_to stay goes) ≡ false
-      → written ++ behind_feeds own_behind ≡ written ++ behind_feeds (own_by_guests setting version guests stay (line ∷ lines))
+      → written ++ behind_feeds own_behind ≡ written ++ behind_feeds (own_by_guests capacity version guests stay (line ∷ lines))
   other_line_goes other = rw other refl
 
 -- when all lines were looked at
-pub none_left : (setting : Setting) (version : Version) (guests : GuestList) (stay : ℕ) (rows : List GameRow) (lines : List (List ℕ)) (written before : List ℕ)
+pub none_left : (capacity : Capacity) (version : Version) (guests : GuestList) (stay : ℕ) (rows : List GameRow) (lines : List (List ℕ)) (written before : List ℕ)
     (left : Option (Bor (List ℕ))) → left ≡ None
-    → written ++ behind_feeds (own_by_guests setting version guests stay (pieces_after (option_copied left)))
-    ≡ before ++ behind_feeds (own_by_guests setting version (guests_of (opened rows)) stay lines)
-    → written ≡ before ++ behind_feeds (own_lines_in setting version (opened rows) stay lines)
-none_left setting version guests stay rows lines written before left is told =
+    → written ++ behind_feeds (own_by_guests capacity version guests stay (pieces_after (option_copied left)))
+    ≡ before ++ behind_feeds (own_by_guests capacity version (guests_of (opened rows)) stay lines)
+    → written ≡ before ++ behind_feeds (own_lines_in capacity version (opened rows) stay lines)
+none_left capacity version guests stay rows lines written before left is told =
     sym (append-nil written)
-    ∙ ap (λ rest. written ++ behind_feeds (own_by_guests setting version guests stay (pieces_after (option_copied rest)))) (sym is) ∙ told
-    ∙ ap (λ own. before ++ behind_feeds own) (sym (guest_lines_law setting version stay (opened rows) lines))
+    ∙ ap (λ rest. written ++ behind_feeds (own_by_guests capacity version guests stay (pieces_after (option_copied rest)))) (sym is) ∙ told
+    ∙ ap (λ own. before ++ behind_feeds own) (sym (guest_lines_law capacity version stay (opened rows) lines))

@@ -8,13 +8,14 @@ use Rattle.bs_board.specs.plans.Plan.{GameRow, is_fit_row}
 use Rattle.bs_json.specs.PlanLine.{plan_line_of}
 use Rattle.bs_sched.specs.PlanBlocks.{blocks_of, blocks_of_all}
 use Rattle.bs_transcript.specs.Lines.{stray_lines_of}
-use Rattle.bs_workers.specs.Acts.{Stay, stay_at, no_stay, opened, rows_in_registry}
+use Rattle.bs_sched.specs.Stays.{Stay, no_stay, stay_at}
+use Rattle.bs_workers.specs.Acts.{opened, rows_in_registry}
 use Rattle.bs_host.specs.declared.limits.TheConstants.{BLOCK_BYTES}
 use Rattle.bs_host.specs.File.{pieces_of, first_piece, later_pieces, plan_of, rows_in, rows_of, version_of, version_in}
 use Rattle.bs_host.specs.Transcript.{section_of, transcript_of}
 use Rattle.bs_host.specs.declared.route.Route.{Route}
-use Rattle.bs_host.specs.Cut.{IsServedAlone, SectionLaw, cut_of, lone_plan_of, own_lines_of, row_at}
-use Rattle.bs_host.specs.Routing.{registry_behind, commands_to, setting_of, routes_from, routes_of, stays_of, strays_in}
+use Rattle.bs_host.specs.Cut.{IsWrittenAlone, SectionLaw, cut_of, lone_plan_of, own_lines_of, row_at}
+use Rattle.bs_host.specs.Routing.{registry_behind, commands_to, capacity_of, routes_from, routes_of, stays_of, strays_in}
 use Rattle.bs_host.proofs.CutLines.{later_are_lines, pieces_are_lines, pieces_of_joined, joined_is_short, own_are_lines}
 use Rattle.bs_host.proofs.CutPlan.{fit_parts, lone_plan_has_no_feed, lone_plan_is_plan, lone_plan_is_short}
 use Rattle.bs_host.proofs.CutRows.{file_is_fit}
@@ -46,7 +47,7 @@ module _ (blocks : ℕ) (file : List ℕ) (stay : ℕ) (within : stay < length (
   lines = later_pieces (pieces_of file)
 
   abbrev last : List Stay
-  last = registry_behind (setting_of blocks) (version_of file) (opened (rows_of file)) lines
+  last = registry_behind (capacity_of blocks) (version_of file) (opened (rows_of file)) lines
 
   there : stay < length last
   there = omega (arith, within, length-map last (λ (e : Stay). e.row))
@@ -57,7 +58,7 @@ module _ (blocks : ℕ) (file : List ℕ) (stay : ℕ) (within : stay < length (
   row_is_fit : is_fit_row row ≡ true
   row_is_fit =
       let first = opened_all (λ r. is_fit_row r ≡ true) (rows_of file) (file_is_fit file).rows_fit in
-      let all = all_behind (setting_of blocks) (version_of file) (λ r. is_fit_row r ≡ true) (λ registry r fit none. fit) (opened (rows_of file)) lines first in
+      let all = all_behind (capacity_of blocks) (version_of file) (λ r. is_fit_row r ≡ true) (λ registry r fit none. fit) (opened (rows_of file)) lines first in
       ap is_fit_row (sym is_row) ∙ all stay no_stay there
 
   row_fits : blocks_of_all BLOCK_BYTES (rows_of file) ≤ blocks → blocks_of BLOCK_BYTES row ≤ blocks
@@ -65,7 +66,7 @@ module _ (blocks : ℕ) (file : List ℕ) (stay : ℕ) (within : stay < length (
       let few : All (λ r. blocks_of BLOCK_BYTES r ≤ blocks) (rows_of file) = λ k d inside.
       let one = get_or-le-sum_by (blocks_of BLOCK_BYTES) (rows_of file) k d inside in omega (arith, one, plan_fits) in
       let first = opened_all (λ r. blocks_of BLOCK_BYTES r ≤ blocks) (rows_of file) few in
-      let all = all_behind (setting_of blocks) (version_of file) (λ r. blocks_of BLOCK_BYTES r ≤ blocks) (λ registry r fit none. fits_pool (setting_of blocks) registry r none) (opened (rows_of file)) lines first in
+      let all = all_behind (capacity_of blocks) (version_of file) (λ r. blocks_of BLOCK_BYTES r ≤ blocks) (λ registry r fit none. fits_pool (capacity_of blocks) registry r none) (opened (rows_of file)) lines first in
       let same = ap (blocks_of BLOCK_BYTES) is_row in
       let here = all stay no_stay there in
       omega (arith, same, here)
@@ -75,31 +76,31 @@ module _ (blocks : ℕ) (file : List ℕ) (stay : ℕ) (within : stay < length (
   cut_pieces =
       pieces_of_joined (lone_plan_of (version_of file) row) (own_lines_of blocks file stay)
       (lone_plan_has_no_feed (version_of file) row (fit_parts row row_is_fit))
-      (own_are_lines (setting_of blocks) (version_of file) stay (opened (rows_of file)) lines (later_are_lines (pieces_of file) (pieces_are_lines file)))
+      (own_are_lines (capacity_of blocks) (version_of file) stay (opened (rows_of file)) lines (later_are_lines (pieces_of file) (pieces_are_lines file)))
 
   cut_is_short : length (cut_of blocks file stay) ≤ length file + 512
   unfolding cut_of
-  cut_is_short = joined_is_short (setting_of blocks) (version_of file) stay 512 (lone_plan_of (version_of file) row) (opened (rows_of file)) file
+  cut_is_short = joined_is_short (capacity_of blocks) (version_of file) stay 512 (lone_plan_of (version_of file) row) (opened (rows_of file)) file
       (lone_plan_is_short (version_of file) row (fit_parts row row_is_fit))
 
-  pub served_alone : IsServedAlone blocks file stay row
+  pub served_alone : IsWrittenAlone blocks file stay row
   served_alone =
-      let setting = setting_of blocks in
+      let capacity = capacity_of blocks in
       let version = version_of file in
       let own = own_lines_of blocks file stay in
       let cut = cut_of blocks file stay in
       let plan : plan_of cut ≡ Ok (record { rows = row ∷ []; version = version }) =
       ap (λ all. plan_line_of (first_piece all)) cut_pieces ∙ lone_plan_is_plan version row row_is_fit in
       let rows : rows_of cut ≡ row ∷ [] = ap rows_in plan in
-      let routes : routes_of blocks cut ≡ routes_from setting version (lone_registry row) 2 own =
-      ap (λ p. routes_from setting (version_in p) (opened (rows_in p)) 2 (later_pieces (pieces_of cut))) plan
-      ∙ ap (λ all. routes_from setting version (lone_registry row) 2 (later_pieces all)) cut_pieces in
+      let routes : routes_of blocks cut ≡ routes_from capacity version (lone_registry row) 2 own =
+      ap (λ p. routes_from capacity (version_in p) (opened (rows_in p)) 2 (later_pieces (pieces_of cut))) plan
+      ∙ ap (λ all. routes_from capacity version (lone_registry row) 2 (later_pieces all)) cut_pieces in
       let stays : stays_of blocks cut ≡ row ∷ [] =
-      ap (λ p. rows_in_registry (registry_behind setting (version_in p) (opened (rows_in p)) (later_pieces (pieces_of cut)))) plan
-      ∙ ap (λ all. rows_in_registry (registry_behind setting version (lone_registry row) (later_pieces all))) cut_pieces
-      ∙ ap rows_in_registry (own_registry setting version stay row (opened (rows_of file)) lines is_row) in
-      let none = ap strays_in routes ∙ own_strays setting version stay row (opened (rows_of file)) 2 lines is_row in
-      let commands = ap (commands_to 0) routes ∙ own_commands setting version stay row (opened (rows_of file)) 2 2 lines is_row in
+      ap (λ p. rows_in_registry (registry_behind capacity (version_in p) (opened (rows_in p)) (later_pieces (pieces_of cut)))) plan
+      ∙ ap (λ all. rows_in_registry (registry_behind capacity version (lone_registry row) (later_pieces all))) cut_pieces
+      ∙ ap rows_in_registry (own_registry capacity version stay row (opened (rows_of file)) lines is_row) in
+      let none = ap strays_in routes ∙ own_strays capacity version stay row (opened (rows_of file)) 2 lines is_row in
+      let commands = ap (commands_to 0) routes ∙ own_commands capacity version stay row (opened (rows_of file)) 2 2 lines is_row in
       let one = sum_by-cons (blocks_of BLOCK_BYTES) row [] in
       let all = ap (blocks_of_all BLOCK_BYTES) rows in
       record {

@@ -9,7 +9,7 @@ use Rattle.std.proofs.lemmas.List.Splits.{slice_split_none, slice_split_at, join
 use Rattle.std.specs.List.{join_with_byte, list_all, onto_first, sum_by}
 use Rattle.std.specs.Prelude.{not}
 use Rattle.bs_board.specs.declared.plans.version.Version.{Version}
-use Rattle.bs_workers.specs.Acts.{Setting, Stay}
+use Rattle.bs_sched.specs.Stays.{Capacity, Stay}
 use Rattle.bs_host.specs.declared.lines.TheConstants.{LINE_FEED}
 use Rattle.bs_host.specs.Cut.{behind_feeds, is_own_line, own_lines_in}
 use Rattle.bs_host.specs.File.{pieces_of, later_pieces}
@@ -82,36 +82,36 @@ later_fit [] = omega arith
 later_fit (first ∷ lines) = let all = length_of_joined first lines in omega (arith, all)
 
 -- a stay's own lines
-module _ (setting : Setting) (version : Version) (stay : ℕ) where
-  pub own_are_lines : (registry : List Stay) (lines : List (List ℕ)) → are_lines lines ≡ true → are_lines (own_lines_in setting version registry stay lines) ≡ true
+module _ (capacity : Capacity) (version : Version) (stay : ℕ) where
+  pub own_are_lines : (registry : List Stay) (lines : List (List ℕ)) → are_lines lines ≡ true → are_lines (own_lines_in capacity version registry stay lines) ≡ true
   own_are_lines registry [] all = refl
   own_are_lines registry (text ∷ lines) all =
       let parts = and_parts (is_line text) (are_lines lines) all in
-      let rest = own_are_lines (next_registry setting version registry text) lines parts.1 in
-      elim (cases_Bool (is_own_line setting version registry stay text)) [
+      let rest = own_are_lines (next_registry capacity version registry text) lines parts.1 in
+      elim (cases_Bool (is_own_line capacity version registry stay text)) [
         | inl own ↦ rw (own, parts.0) rest
         | inr other ↦ rw other rest
       ]
 
-  own_are_fewer : (registry : List Stay) (lines : List (List ℕ)) → bytes_of (own_lines_in setting version registry stay lines) ≤ bytes_of lines
+  own_are_fewer : (registry : List Stay) (lines : List (List ℕ)) → bytes_of (own_lines_in capacity version registry stay lines) ≤ bytes_of lines
   own_are_fewer registry [] = omega arith
   own_are_fewer registry (text ∷ lines) =
-      let next = next_registry setting version registry text in
+      let next = next_registry capacity version registry text in
       let rest = own_are_fewer next lines in
       let all = sum_by-cons (λ (line : List ℕ). suc (length line)) text lines in
-      elim (cases_Bool (is_own_line setting version registry stay text)) [
+      elim (cases_Bool (is_own_line capacity version registry stay text)) [
         | inl own ↦
-            let some = sum_by-cons (λ (line : List ℕ). suc (length line)) text (own_lines_in setting version next stay lines) in
+            let some = sum_by-cons (λ (line : List ℕ). suc (length line)) text (own_lines_in capacity version next stay lines) in
             rw own (omega (arith, rest, all, some))
         | inr other ↦ rw other (omega (arith, rest, all))
       ]
 
   -- behind a short line
   pub joined_is_short : (most : ℕ) (first : List ℕ) (registry : List Stay) (file : List ℕ) → length first ≤ most
-      → length (join_with_byte LINE_FEED (first ∷ own_lines_in setting version registry stay (later_pieces (pieces_of file)))) ≤ length file + most
+      → length (join_with_byte LINE_FEED (first ∷ own_lines_in capacity version registry stay (later_pieces (pieces_of file)))) ≤ length file + most
   joined_is_short most first registry file short =
       let later = later_pieces (pieces_of file) in
-      let all = length_of_joined first (own_lines_in setting version registry stay later) in
+      let all = length_of_joined first (own_lines_in capacity version registry stay later) in
       let some = own_are_fewer registry later in
       let fit = later_fit (pieces_of file) in
       let whole = ap length (join_with_byte-slice_split LINE_FEED file) in

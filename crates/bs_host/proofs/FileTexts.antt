@@ -1,5 +1,5 @@
 -- A file's plan and its lines, from its first line and the others, to the transcript.
-use Rattle.std.proofs.Common.{◌≡◌, ℕ, ◌<◌, ◌≤◌, true, List, [], ◌∷◌, ◌++◌, Option, Some, None, Result, Ok, Err, length, refl, sym, subst, ap, ◌∙◌}
+use Rattle.std.proofs.Common.{◌≡◌, ℕ, ◌<◌, ◌≤◌, true, List, [], ◌∷◌, ◌++◌, Some, None, Ok, length, sym, subst, ap, ◌∙◌}
 use Rattle.std.proofs.lemmas.Bool.{lt-ltb, le-ltb, cond-true, cond-false}
 use Rattle.std.proofs.lemmas.List.{length-replicate}
 use Rattle.bs_board.specs.declared.plans.plan.Plan.{Plan}
@@ -14,17 +14,16 @@ use Rattle.bs_sched.specs.PlanBlocks.{blocks_of_all}
 use Rattle.bs_sched.specs.declared.opening.Open.{Open}
 use Rattle.bs_sched.specs.declared.opening.Open.TheVariants as opening
 use Rattle.bs_workers.specs.declared.act.Act.{Act}
-use Rattle.bs_workers.specs.Acts.{are_acceptable, setting_of_core, opened as opened_registry, rows_admitted}
+use Rattle.bs_workers.specs.Acts.{are_acceptable, capacity_of_core, opened as opened_registry, rows_admitted}
 use Rattle.bs_workers.specs.Run.{IsRunOf}
-use Rattle.bs_host.specs.declared.fault.Fault.{Fault}
-use Rattle.bs_host.specs.declared.fault.Fault.TheVariants.{TooLong, Plan as OfPlan, Memory, Broken, Write}
+use Rattle.bs_host.specs.declared.fault.Fault.TheVariants.{TooLong, Memory}
 use Rattle.bs_host.specs.declared.limits.TheConstants.{BLOCK_BYTES, MOST_FILE_BYTES}
 use Rattle.bs_host.specs.declared.route.Requests.{Requests}
 use Rattle.bs_host.specs.File.{pieces_of, first_piece, later_pieces, plan_in, plan_of, rows_of}
 use Rattle.bs_host.specs.Hosted.{Hosts, IsOpened}
 use Rattle.bs_host.specs.declared.route.Route.{Route}
-use Rattle.bs_host.specs.Routing.{IsRouted, acts_in, acts_of, setting_of, routes_from, routes_of, stays_of, strays_in}
-use Rattle.bs_host.specs.Faults.{IsFault, IsRefusal, Leaves, fault_of, fault_of_opening, refusal_of, refusal_of_plan}
+use Rattle.bs_host.specs.Routing.{IsRouted, acts_in, acts_of, capacity_of, routes_from, routes_of, stays_of, strays_in}
+use Rattle.bs_host.specs.Faults.{IsRefusal, fault_of, fault_of_opening, refusal_of, refusal_of_plan}
 use Rattle.bs_host.specs.Transcript.{core_text_of, transcript_of}
 use Rattle.bs_host.proofs.ActsLaw.{acts_law}
 use Rattle.bs_host.proofs.HostedCore.{hosts_lines, is_fresh, no_refusal, opening_refusal, transcript_of_core}
@@ -76,27 +75,10 @@ opening_refused blocks file first rest plan copied error short pieces read same 
     let less : error ≡ opening.Short → blocks < blocks_of_all BLOCK_BYTES plan.rows = λ is. subst (λ (plan : Plan). blocks < blocks_of_all BLOCK_BYTES plan.rows) same (few is) in
     subst (λ found. IsRefusal found (fault_of_opening error)) (sym (refusal_of_read blocks file first rest plan short pieces read)) (opening_refusal blocks plan error less)
 
--- a fault that is found before anything is written
-
-pub refusal_is_fault : (found : Option Fault) (f : Fault) → IsRefusal found f → IsFault found f
-refusal_is_fault found TooLong is = is
-refusal_is_fault found (OfPlan reason) is = is
-refusal_is_fault found Memory is = tt
-refusal_is_fault found Broken is = is
-refusal_is_fault found (Write written) is = absurd is
-
-pub refusal_leaves : {W : Type 0} (contents : W → Option (List ℕ)) (text : List ℕ) (found : Option Fault) (f : Fault) (w : W) → IsRefusal found f
-    → Leaves contents text w w f
-refusal_leaves contents text found TooLong w is = refl
-refusal_leaves contents text found (OfPlan reason) w is = refl
-refusal_leaves contents text found Memory w is = refl
-refusal_leaves contents text found Broken w is = refl
-refusal_leaves contents text found (Write written) w is = absurd is
-
 -- from the opened file to its transcript
 
 abbrev routes_behind : ℕ → Plan → List (List ℕ) → List (ℕ × Route)
-routes_behind blocks plan lines = routes_from (setting_of blocks) plan.version (opened_registry plan.rows) 2 lines
+routes_behind blocks plan lines = routes_from (capacity_of blocks) plan.version (opened_registry plan.rows) 2 lines
 
 same_routes : (blocks : ℕ) (file : List ℕ) (lines : List (List ℕ)) (plan : Plan) (old : CoreView) → IsOpened blocks file old plan lines
     → routes_behind blocks plan lines ≡ routes_of blocks file
@@ -111,13 +93,13 @@ module _ (blocks : ℕ) (file : List ℕ) (lines : List (List ℕ)) (plan : Plan
   opened_with = opens.opened ∙ ap (λ (plan : Plan). opened_core BLOCK_BYTES blocks old.games.workers plan.rows) opens.is_plan
 
   -- the core accepts the acts in their order
-  pub acts_accepted : are_acceptable (setting_of_core BLOCK_BYTES old) (opened_registry old.games.rows) acts ≡ true
+  pub acts_accepted : are_acceptable (capacity_of_core BLOCK_BYTES old) (opened_registry old.games.rows) acts ≡ true
   acts_accepted =
       let many : size old.games.storage.pool ≡ blocks = ap (λ (core : CoreView). size core.games.storage.pool) opened_with ∙ length-replicate blocks None in
       let rows : old.games.rows ≡ rows_of file = ap (λ (core : CoreView). core.games.rows) opened_with in
-      ap (λ n. are_acceptable (setting_of n) (opened_registry old.games.rows) acts) many
-      ∙ ap (λ (rows : List GameRow). are_acceptable (setting_of blocks) (opened_registry rows) acts) rows
-      ∙ ap (λ all. are_acceptable (setting_of blocks) (opened_registry (rows_of file)) all) asked ∙ (acts_law blocks file).acceptable
+      ap (λ n. are_acceptable (capacity_of n) (opened_registry old.games.rows) acts) many
+      ∙ ap (λ (rows : List GameRow). are_acceptable (capacity_of blocks) (opened_registry rows) acts) rows
+      ∙ ap (λ all. are_acceptable (capacity_of blocks) (opened_registry (rows_of file)) all) asked ∙ (acts_law blocks file).acceptable
 
   pub hosts_of_run : (new : CoreView) → IsRunOf old acts new → Hosts blocks file new
   hosts_of_run new ran =

@@ -21,7 +21,8 @@ use Rattle.bs_json.specs.Line.{admit_line, command_line, does, is_space, line_fo
 use Rattle.bs_json.specs.PlanLine.{row_from}
 use Rattle.bs_json.specs.Values.{text_at, value_of}
 use Rattle.bs_sched.specs.PlanBlocks.{blocks_of}
-use Rattle.bs_workers.specs.Acts.{Setting, Stay, blocks_in_registry, stay_at, closed_stay, has_name, has_room, is_full, may_admit_in, no_stay, open_stay, opened, stay_named}
+use Rattle.bs_sched.specs.Stays.{Capacity, Stay, blocks_in_registry, closed_stay, has_name, has_room, is_full, may_admit_in, no_stay, open_stay, stay_at}
+use Rattle.bs_workers.specs.Acts.{opened, stay_named}
 use Rattle.bs_host.specs.Routing.{admit_refusal, admit_route, registry_behind, registry_then, hand_route, leave_route, next_registry, route_of}
 use Rattle.bs_host.proofs.CutRows.{IsFitIfRead, row_from_is_fit}
 
@@ -82,17 +83,17 @@ all_three false true c none = absurd cc
 all_three false false true none = refl
 all_three false false false none = absurd cc
 
-pub may_come : (setting : Setting) (registry : List Stay) (row : GameRow) → admit_refusal setting registry row ≡ None → may_admit_in setting registry row ≡ true
-may_come setting registry row none = all_three (list_any (has_name row.game) registry) (is_full registry) (has_room setting registry row) none
+pub may_come : (capacity : Capacity) (registry : List Stay) (row : GameRow) → admit_refusal capacity registry row ≡ None → may_admit_in capacity registry row ≡ true
+may_come capacity registry row none = all_three (list_any (has_name row.game) registry) (is_full registry) (has_room capacity registry row) none
 
-pub fits_pool : (setting : Setting) (registry : List Stay) (row : GameRow) → admit_refusal setting registry row ≡ None → blocks_of setting.cap row ≤ setting.blocks
-fits_pool setting registry row none =
-    let outer = and_parts (not (list_any (has_name row.game) registry)) (not (is_full registry) && has_room setting registry row) (may_come setting registry row none) in
-    let room = leb-true (blocks_of setting.cap row) (setting.blocks - blocks_in_registry setting.cap registry) (and_parts (not (is_full registry)) (has_room setting registry row) outer.1).1 in
+pub fits_pool : (capacity : Capacity) (registry : List Stay) (row : GameRow) → admit_refusal capacity registry row ≡ None → blocks_of capacity.cap row ≤ capacity.blocks
+fits_pool capacity registry row none =
+    let outer = and_parts (not (list_any (has_name row.game) registry)) (not (is_full registry) && has_room capacity registry row) (may_come capacity registry row none) in
+    let room = leb-true (blocks_of capacity.cap row) (capacity.blocks - blocks_in_registry capacity.cap registry) (and_parts (not (is_full registry)) (has_room capacity registry row) outer.1).1 in
     omega (arith, room)
 
 -- what holds of the rows at first and of each row that comes holds of all
-module _ (setting : Setting) (version : Version) (Q : GameRow → Type 0) (comes : (registry : List Stay) (row : GameRow) → is_fit_row row ≡ true → admit_refusal setting registry row ≡ None → Q row) where
+module _ (capacity : Capacity) (version : Version) (Q : GameRow → Type 0) (comes : (registry : List Stay) (row : GameRow) → is_fit_row row ≡ true → admit_refusal capacity registry row ≡ None → Q row) where
   abbrev AllRows : List Stay → Type 0
   AllRows registry = All (λ (entry : Stay). Q entry.row) registry
 
@@ -100,7 +101,7 @@ module _ (setting : Setting) (version : Version) (Q : GameRow → Type 0) (comes
   keeps_hand registry name command None all = all
   keeps_hand registry name command (Some stay) all = all
 
-  keeps_admit : (registry : List Stay) (row : GameRow) (found : Option Stray) → admit_refusal setting registry row ≡ found → is_fit_row row ≡ true → AllRows registry
+  keeps_admit : (registry : List Stay) (row : GameRow) (found : Option Stray) → admit_refusal capacity registry row ≡ found → is_fit_row row ≡ true → AllRows registry
       → AllRows (registry_then registry (admit_route found row))
   keeps_admit registry row None is fit all = All-push (λ (entry : Stay). Q entry.row) registry (open_stay row) all (comes registry row fit is)
   keeps_admit registry row (Some kind) is fit all = all
@@ -111,20 +112,20 @@ module _ (setting : Setting) (version : Version) (Q : GameRow → Type 0) (comes
       let within = (position-Some (has_name name) registry to no_stay is).0 in
       All-set (λ (entry : Stay). Q entry.row) registry to (closed_stay (stay_at registry to)) (all to no_stay within) all
 
-  keeps_line : (registry : List Stay) (l : Line) → IsFitLine l → AllRows registry → AllRows (registry_then registry (route_of setting registry l))
+  keeps_line : (registry : List Stay) (l : Line) → IsFitLine l → AllRows registry → AllRows (registry_then registry (route_of capacity registry l))
   keeps_line registry line.Blank fit all = all
   keeps_line registry (line.Command name command) fit all = keeps_hand registry name command (stay_named registry name) all
   keeps_line registry (line.Bad name) fit all = keeps_hand registry name _ (stay_named registry name) all
   keeps_line registry (line.Stray kind) fit all = all
-  keeps_line registry (line.Admit row) fit all = keeps_admit registry row (admit_refusal setting registry row) refl fit all
+  keeps_line registry (line.Admit row) fit all = keeps_admit registry row (admit_refusal capacity registry row) refl fit all
   keeps_line registry line.BadAdmit fit all = all
   keeps_line registry (line.Leave None) fit all = all
   keeps_line registry (line.Leave (Some name)) fit all = keeps_leave registry name (stay_named registry name) refl all
 
-  pub all_behind : (registry : List Stay) (lines : List (List ℕ)) → AllRows registry → AllRows (registry_behind setting version registry lines)
+  pub all_behind : (registry : List Stay) (lines : List (List ℕ)) → AllRows registry → AllRows (registry_behind capacity version registry lines)
   all_behind registry [] all = all
   all_behind registry (text ∷ lines) all =
-      all_behind (next_registry setting version registry text) lines (keeps_line registry (line_of version text) (line_is_fit version text) all)
+      all_behind (next_registry capacity version registry text) lines (keeps_line registry (line_of version text) (line_is_fit version text) all)
 
 pub opened_all : (Q : GameRow → Type 0) (rows : List GameRow) → All Q rows → All (λ (entry : Stay). Q entry.row) (opened rows)
 opened_all Q [] all k d within = absurd (omega arith)

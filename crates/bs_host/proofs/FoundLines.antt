@@ -7,7 +7,8 @@ use Rattle.bs_board.specs.plans.Plan.{GameRow, row_of}
 use Rattle.bs_board.specs.plans.Version.{has_stays}
 use Rattle.bs_board.specs.Texts.{is_same_text}
 use Rattle.bs_json.specs.Line.{line_of}
-use Rattle.bs_workers.specs.Acts.{Setting, opened}
+use Rattle.bs_sched.specs.Stays.{Capacity}
+use Rattle.bs_workers.specs.Acts.{opened}
 use Rattle.bs_workers.specs.declared.act.Act.TheVariants as act
 use Rattle.bs_host.specs.declared.route.Route.{Route}
 use Rattle.bs_host.specs.declared.route.Route.TheVariants as route
@@ -36,24 +37,24 @@ passed_planned rows more stay row name n left total within is other few before =
 abbrev IsSought : ℕ → List GameRow → List ℕ → ℕ → List ℕ → ℕ → Type 0
 IsSought stay rows sought n name nth = (more : List GameRow) → nth_from stay (drop stay rows ++ more) sought n ≡ nth_from 0 (rows ++ more) name nth
 
-module _ (setting : Setting) (version : Version) (rows all : List GameRow) (lines : List (List ℕ)) (name : List ℕ) (nth : ℕ) (same : all ≡ rows) where
+module _ (capacity : Capacity) (version : Version) (rows all : List GameRow) (lines : List (List ℕ)) (name : List ℕ) (nth : ℕ) (same : all ≡ rows) where
   abbrev later : List GameRow
-  later = rows_by_guests setting version (guests_of (opened rows)) lines
+  later = rows_by_guests capacity version (guests_of (opened rows)) lines
 
-  among_stays : nth_from 0 (all ++ later) name nth ≡ nth_from 0 (stays_behind setting version rows lines) name nth
+  among_stays : nth_from 0 (all ++ later) name nth ≡ nth_from 0 (stays_behind capacity version rows lines) name nth
   among_stays =
       ap (λ (first : List GameRow). nth_from 0 (first ++ later) name nth) same
-      ∙ ap (λ (list : List GameRow). nth_from 0 list name nth) (sym (stays_walked setting version rows lines))
+      ∙ ap (λ (list : List GameRow). nth_from 0 list name nth) (sym (stays_walked capacity version rows lines))
 
   pub found_planned : (stay : ℕ) (row : GameRow) (sought : List ℕ) (n : ℕ) → stay < length all → row ≡ row_at all stay
       → (is_same_text sought row.game && nat_eq n 1) ≡ true → IsSought stay all sought n name nth
-      → Some (stay, row) ≡ nth_from 0 (stays_behind setting version rows lines) name nth
+      → Some (stay, row) ≡ nth_from 0 (stays_behind capacity version rows lines) name nth
   found_planned stay row sought n within is both told =
       sym (found_first stay row (drop (stay + 1) all ++ later) sought n both)
       ∙ sym (ap (λ list. nth_from stay list sought n) (next_row all later stay row within is)) ∙ told later ∙ among_stays
 
   pub found_behind : (at : ℕ) (sought : List ℕ) (n : ℕ) (found : Option (ℕ × GameRow)) → at ≡ length all → found ≡ nth_from (length rows) later sought n
-      → IsSought at all sought n name nth → found ≡ nth_from 0 (stays_behind setting version rows lines) name nth
+      → IsSought at all sought n name nth → found ≡ nth_from 0 (stays_behind capacity version rows lines) name nth
   found_behind at sought n found end is told =
       let none : [] ≡ drop at all = sym (drop_all at all (omega (arith, end))) in
       is ∙ ap (λ first. nth_from first later sought n) (sym (end ∙ ap length same))
@@ -61,16 +62,16 @@ module _ (setting : Setting) (version : Version) (rows all : List GameRow) (line
 
   pub found_if_ok : {E : Type 0} (at : ℕ) (sought : List ℕ) (n : ℕ) (result : Result (Option (ℕ × GameRow)) E) → at ≡ length all
       → IfOk result (λ found. found ≡ nth_from (length rows) later sought n) → IsSought at all sought n name nth
-      → IfOk result (λ found. found ≡ nth_from 0 (stays_behind setting version rows lines) name nth)
+      → IfOk result (λ found. found ≡ nth_from 0 (stays_behind capacity version rows lines) name nth)
   found_if_ok at sought n (Ok found) end is told = found_behind at sought n found end is told
   found_if_ok at sought n (Err error) end is told = tt
 
   pub found_early : (at : ℕ) (sought : List ℕ) (n : ℕ) → at ≡ length all → has_stays version ≡ false → IsSought at all sought n name nth
-      → None ≡ nth_from 0 (stays_behind setting version rows lines) name nth
+      → None ≡ nth_from 0 (stays_behind capacity version rows lines) name nth
   found_early at sought n end early told =
       let none : [] ≡ drop at all ++ [] = sym (append-nil (drop at all) ∙ drop_all at all (omega (arith, end))) in
       ap (λ (left : List GameRow). nth_from at left sought n) none ∙ told []
-      ∙ ap (λ (list : List GameRow). nth_from 0 list name nth) (append-nil all ∙ same ∙ sym (stays_plain setting version rows lines early))
+      ∙ ap (λ (list : List GameRow). nth_from 0 list name nth) (append-nil all ∙ same ∙ sym (stays_plain capacity version rows lines early))
 
 -- among the rows that lines admit
 
@@ -88,14 +89,14 @@ none_more_made guests (route.Act (act.Leave stay)) is = refl
 none_more_made guests (route.Stray kind) is = refl
 none_more_made guests route.Nowhere is = refl
 
-module _ (setting : Setting) (version : Version) (guests after : GuestList) (line : List ℕ) (lines : List (List ℕ)) (r : Route) (name : List ℕ) (n : ℕ) (total : Option (ℕ × GameRow)) (is : r ≡ route_by setting guests (line_of version line)) (moved : after ≡ guests_then guests r) (before : nth_from guests.made (rows_by_guests setting version guests (line ∷ lines)) name n ≡ total) where
+module _ (capacity : Capacity) (version : Version) (guests after : GuestList) (line : List ℕ) (lines : List (List ℕ)) (r : Route) (name : List ℕ) (n : ℕ) (total : Option (ℕ × GameRow)) (is : r ≡ route_by capacity guests (line_of version line)) (moved : after ≡ guests_then guests r) (before : nth_from guests.made (rows_by_guests capacity version guests (line ∷ lines)) name n ≡ total) where
   abbrev rest : List GameRow
-  rest = rows_by_guests setting version after lines
+  rest = rows_by_guests capacity version after lines
 
   looked_at : nth_from guests.made (rows_in_route r ++ rest) name n ≡ total
   looked_at =
-      ap (λ (g : GuestList). nth_from guests.made (rows_in_route r ++ rows_by_guests setting version g lines) name n) moved
-      ∙ ap (λ (q : Route). nth_from guests.made (rows_in_route q ++ rows_by_guests setting version (guests_then guests q) lines) name n) is ∙ before
+      ap (λ (g : GuestList). nth_from guests.made (rows_in_route r ++ rows_by_guests capacity version g lines) name n) moved
+      ∙ ap (λ (q : Route). nth_from guests.made (rows_in_route q ++ rows_by_guests capacity version (guests_then guests q) lines) name n) is ∙ before
 
   pub found_admitted : (row : GameRow) → rows_in_route r ≡ row ∷ [] → (is_same_text name row.game && nat_eq n 1) ≡ true → Some (guests.made, row) ≡ total
   found_admitted row rows both =

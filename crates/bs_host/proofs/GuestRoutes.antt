@@ -12,8 +12,9 @@ use Rattle.bs_json.specs.Line.{line_of}
 use Rattle.bs_json.specs.declared.line.Line.TheVariants as line
 use Rattle.bs_json.specs.declared.line.Stray.TheVariants as stray
 use Rattle.bs_sched.specs.PlanBlocks.{blocks_of}
-use Rattle.bs_workers.specs.declared.act.TheConstants.{MOST_STAYS}
-use Rattle.bs_workers.specs.Acts.{Stay, Setting, closed_stay, stay_at, open_stay, opened}
+use Rattle.bs_sched.specs.declared.plan_blocks.TheConstants.{MOST_STAYS}
+use Rattle.bs_sched.specs.Stays.{Capacity, Stay, closed_stay, open_stay, stay_at}
+use Rattle.bs_workers.specs.Acts.{opened}
 use Rattle.bs_workers.specs.declared.act.Act.TheVariants as act
 use Rattle.bs_host.specs.declared.route.Route.{Route}
 use Rattle.bs_host.specs.Guests.{bears, blocks_in, found_in, open_from, open_of, GuestList, own_by_guests, guests_of, guests_then, refusal_by, route_by, routes_by_guests}
@@ -23,46 +24,46 @@ use Rattle.bs_host.specs.Routing.{command_to, admit_refusal, admit_route, regist
 use Rattle.bs_host.specs.declared.route.Route.TheVariants as route
 use Rattle.bs_host.proofs.OpenStays.{open_law, position_behind}
 
-same_refusal : (setting : Setting) (registry : List Stay) (row : GameRow) → admit_refusal setting registry row ≡ refusal_by setting (guests_of registry) row
-same_refusal setting registry row =
-    let told = open_law setting.cap registry in
+same_refusal : (capacity : Capacity) (registry : List Stay) (row : GameRow) → admit_refusal capacity registry row ≡ refusal_by capacity (guests_of registry) row
+same_refusal capacity registry row =
+    let told = open_law capacity.cap registry in
     let any = told.any row.game in
     rw (any, told.many, told.blocks) refl
 
-same_route : (setting : Setting) (registry : List Stay) (l : Line) → route_of setting registry l ≡ route_by setting (guests_of registry) l
-same_route setting registry line.Blank = refl
-same_route setting registry (line.Command game command) = ap (λ o. hand_route o command) ((open_law setting.cap registry).named game)
-same_route setting registry (line.Bad game) = ap (λ o. hand_route o command.Bad) ((open_law setting.cap registry).named game)
-same_route setting registry (line.Stray kind) = refl
-same_route setting registry (line.Admit row) = ap (λ o. admit_route o row) (same_refusal setting registry row)
-same_route setting registry line.BadAdmit = refl
-same_route setting registry (line.Leave None) = refl
-same_route setting registry (line.Leave (Some game)) = ap leave_route ((open_law setting.cap registry).named game)
+same_route : (capacity : Capacity) (registry : List Stay) (l : Line) → route_of capacity registry l ≡ route_by capacity (guests_of registry) l
+same_route capacity registry line.Blank = refl
+same_route capacity registry (line.Command game command) = ap (λ o. hand_route o command) ((open_law capacity.cap registry).named game)
+same_route capacity registry (line.Bad game) = ap (λ o. hand_route o command.Bad) ((open_law capacity.cap registry).named game)
+same_route capacity registry (line.Stray kind) = refl
+same_route capacity registry (line.Admit row) = ap (λ o. admit_route o row) (same_refusal capacity registry row)
+same_route capacity registry line.BadAdmit = refl
+same_route capacity registry (line.Leave None) = refl
+same_route capacity registry (line.Leave (Some game)) = ap leave_route ((open_law capacity.cap registry).named game)
 
 abbrev pub guests_with : ℕ → List (ℕ × GameRow) → GuestList
 guests_with made stays = record { made = made; stays = stays }
 
-same_next : (setting : Setting) (registry : List Stay) (r : Route) → guests_of (registry_then registry r) ≡ guests_then (guests_of registry) r
-same_next setting registry (route.Act (act.Hand stay command)) = refl
-same_next setting registry (route.Act (act.Admit row)) =
+same_next : (capacity : Capacity) (registry : List Stay) (r : Route) → guests_of (registry_then registry r) ≡ guests_then (guests_of registry) r
+same_next capacity registry (route.Act (act.Hand stay command)) = refl
+same_next capacity registry (route.Act (act.Admit row)) =
     let many : length (registry ++ open_stay row ∷ []) ≡ length registry + 1 = omega (arith, length-append registry (open_stay row ∷ [])) in
-    ap (λ n. guests_with n (open_of (registry ++ open_stay row ∷ []))) many ∙ ap (guests_with (length registry + 1)) ((open_law setting.cap registry).admits row)
-same_next setting registry (route.Act (act.Leave stay)) =
+    ap (λ n. guests_with n (open_of (registry ++ open_stay row ∷ []))) many ∙ ap (guests_with (length registry + 1)) ((open_law capacity.cap registry).admits row)
+same_next capacity registry (route.Act (act.Leave stay)) =
     ap (λ n. guests_with n (open_of (registry_then registry (route.Act (act.Leave stay))))) (length-set registry stay (closed_stay (stay_at registry stay)))
-    ∙ ap (guests_with (length registry)) ((open_law setting.cap registry).leaves stay)
-same_next setting registry (route.Stray kind) = refl
-same_next setting registry route.Nowhere = refl
+    ∙ ap (guests_with (length registry)) ((open_law capacity.cap registry).leaves stay)
+same_next capacity registry (route.Stray kind) = refl
+same_next capacity registry route.Nowhere = refl
 
 pub guests_law : GuestsLaw
-guests_law setting version number registry [] = refl
-guests_law setting version number registry (text ∷ lines) =
-    let r = route_by setting (guests_of registry) (line_of version text) in
-    let same = same_route setting registry (line_of version text) in
-    let next : guests_of (next_registry setting version registry text) ≡ guests_then (guests_of registry) r =
-    same_next setting registry (route_at setting version registry text) ∙ ap (guests_then (guests_of registry)) same in
-    ap (λ q. (number, q) ∷ routes_from setting version (next_registry setting version registry text) (number + 1) lines) same
-    ∙ ap (λ rest. (number, r) ∷ rest) (guests_law setting version (number + 1) (next_registry setting version registry text) lines
-    ∙ ap (λ g. routes_by_guests setting version g (number + 1) lines) next)
+guests_law capacity version number registry [] = refl
+guests_law capacity version number registry (text ∷ lines) =
+    let r = route_by capacity (guests_of registry) (line_of version text) in
+    let same = same_route capacity registry (line_of version text) in
+    let next : guests_of (next_registry capacity version registry text) ≡ guests_then (guests_of registry) r =
+    same_next capacity registry (route_at capacity version registry text) ∙ ap (guests_then (guests_of registry)) same in
+    ap (λ q. (number, q) ∷ routes_from capacity version (next_registry capacity version registry text) (number + 1) lines) same
+    ∙ ap (λ rest. (number, r) ∷ rest) (guests_law capacity version (number + 1) (next_registry capacity version registry text) lines
+    ∙ ap (λ g. routes_by_guests capacity version g (number + 1) lines) next)
 
 if_own : Bool → List ℕ → List (List ℕ) → List (List ℕ)
 if_own own text rest = if own then text ∷ rest else rest
@@ -72,17 +73,17 @@ unfolding if_own
 same_if own text rest = refl
 
 pub guest_lines_law : GuestLinesLaw
-guest_lines_law setting version stay registry [] = refl
-guest_lines_law setting version stay registry (text ∷ lines) =
-    let r = route_by setting (guests_of registry) (line_of version text) in
-    let same = same_route setting registry (line_of version text) in
-    let next : guests_of (next_registry setting version registry text) ≡ guests_then (guests_of registry) r =
-    same_next setting registry (route_at setting version registry text) ∙ ap (guests_then (guests_of registry)) same in
-    let rest = guest_lines_law setting version stay (next_registry setting version registry text) lines ∙ ap (λ g. own_by_guests setting version g stay lines) next in
-    same_if (is_own_line setting version registry stay text) text (own_lines_in setting version (next_registry setting version registry text) stay lines)
-    ∙ ap (λ q. if_own (is_some (command_to stay q)) text (own_lines_in setting version (next_registry setting version registry text) stay lines)) same
+guest_lines_law capacity version stay registry [] = refl
+guest_lines_law capacity version stay registry (text ∷ lines) =
+    let r = route_by capacity (guests_of registry) (line_of version text) in
+    let same = same_route capacity registry (line_of version text) in
+    let next : guests_of (next_registry capacity version registry text) ≡ guests_then (guests_of registry) r =
+    same_next capacity registry (route_at capacity version registry text) ∙ ap (guests_then (guests_of registry)) same in
+    let rest = guest_lines_law capacity version stay (next_registry capacity version registry text) lines ∙ ap (λ g. own_by_guests capacity version g stay lines) next in
+    same_if (is_own_line capacity version registry stay text) text (own_lines_in capacity version (next_registry capacity version registry text) stay lines)
+    ∙ ap (λ q. if_own (is_some (command_to stay q)) text (own_lines_in capacity version (next_registry capacity version registry text) stay lines)) same
     ∙ ap (if_own (is_some (command_to stay r)) text) rest
-    ∙ sym (same_if (is_some (command_to stay r)) text (own_by_guests setting version (guests_then (guests_of registry) r) stay lines))
+    ∙ sym (same_if (is_some (command_to stay r)) text (own_by_guests capacity version (guests_then (guests_of registry) r) stay lines))
 
 -- the stay of a name is the first of the open ones that bears it
 
@@ -140,8 +141,8 @@ all_open rows all stays same before =
     ∙ ap (λ n. guests_with n (open_of (opened rows))) (ap length same ∙ sym (length-map rows open_stay))
 
 -- where nothing is against a row, there is a number for it
-pub room_for_one : (setting : Setting) (guests : GuestList) (row : GameRow) → refusal_by setting guests row ≡ None → guests.made < MOST_STAYS
-room_for_one setting guests row none = elim (cases_Bool (list_any (bears row.game) guests.stays)) [
+pub room_for_one : (capacity : Capacity) (guests : GuestList) (row : GameRow) → refusal_by capacity guests row ≡ None → guests.made < MOST_STAYS
+room_for_one capacity guests row none = elim (cases_Bool (list_any (bears row.game) guests.stays)) [
   | inl same ↦ let wrong : Some stray.NameOpen ≡ None = rw same at none in absurd cc
   | inr new ↦ elim (cases_Bool (nat_lt (length guests.stays) MOST_ROWS && nat_lt guests.made MOST_STAYS)) [
     | inl fits ↦ ltb-true guests.made MOST_STAYS (and_parts (nat_lt (length guests.stays) MOST_ROWS) (nat_lt guests.made MOST_STAYS) fits).1

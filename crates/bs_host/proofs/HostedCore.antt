@@ -1,5 +1,5 @@
 -- A core from its opening to the text of what it answered.
-use Rattle.std.proofs.Common.{◌≡◌, ℕ, suc, ◌+◌, ◌*◌, ◌<◌, ◌≤◌, List, [], ◌∷◌, ◌++◌, Option, None, Some, drop, length, refl, sym, ap, subst, ◌∙◌, arith, append-nil, append_assoc}
+use Rattle.std.proofs.Common.{◌≡◌, ℕ, suc, ◌+◌, ◌*◌, ◌<◌, ◌≤◌, List, [], ◌∷◌, ◌++◌, None, Some, drop, length, refl, sym, ap, subst, ◌∙◌, arith, append-nil, append_assoc}
 use Rattle.std.proofs.Math.ListN.{get_or-map}
 use Rattle.std.proofs.Math.Nat.{mul-le-mul}
 use Rattle.std.specs.Prelude.{Ok}
@@ -11,9 +11,7 @@ use Rattle.bs_board.specs.declared.commands.command.Command.{Command}
 use Rattle.bs_board.specs.declared.plans.plan.Plan.{Plan}
 use Rattle.bs_board.specs.plans.Plan.{GameRow}
 use Rattle.bs_json.specs.declared.line.Stray.{Stray}
-use Rattle.bs_json.specs.Replies.{final_line_of}
 use Rattle.bs_game.specs.Alone.{alone}
-use Rattle.bs_game.specs.Game.{game_charge, last_board}
 use Rattle.bs_pool.specs.Ledger.{size}
 use Rattle.bs_sched.specs.Core.{CoreView, opened_core}
 use Rattle.bs_sched.specs.Games.{row_at}
@@ -26,16 +24,14 @@ use Rattle.bs_sched.specs.declared.opening.Open.TheVariants as opening
 use Rattle.bs_workers.specs.declared.act.Act.{Act}
 use Rattle.bs_workers.specs.Acts.{command_in, rows_admitted}
 use Rattle.bs_workers.specs.Run.{IsRunOf, rows_made}
-use Rattle.bs_workers.specs.declared.fault.Run.{Run}
 use Rattle.bs_workers.specs.declared.fault.Run.TheVariants as run
-use Rattle.bs_host.specs.declared.fault.Fault.{Fault}
 use Rattle.bs_host.specs.declared.fault.Fault.TheVariants.{Plan as OfPlan}
 use Rattle.bs_host.specs.declared.fault.PlanRefusal.TheVariants as refusal
 use Rattle.bs_host.specs.declared.limits.TheConstants.{BLOCK_BYTES}
 use Rattle.bs_host.specs.declared.route.Route.{Route}
 use Rattle.bs_host.specs.Hosted.{Hosts, HostsLines}
 use Rattle.bs_host.specs.Routing.{acts_in, commands_to, routes_of, stays_of, strays_of}
-use Rattle.bs_host.specs.Faults.{IsRefusal, fault_of_opening, fault_of_run, refusal_of_plan}
+use Rattle.bs_host.specs.Faults.{IsRefusal, fault_of_opening, refusal_of_plan}
 use Rattle.bs_host.specs.Transcript.{section_of, transcript_of, core_text_of, lane_lines_of}
 use Rattle.bs_transcript.specs.Lines.{last_line_of, reply_lines_of, section_lines_of, stray_lines_of}
 use Rattle.bs_transcript.specs.declared.lines.Section.{Section}
@@ -49,10 +45,6 @@ pub opening_refusal : (blocks : ℕ) (plan : Plan) (error : Open) → (error ≡
 opening_refusal blocks plan opening.Short short =
     cond-true _ (Some (OfPlan refusal.Short)) None (lt-ltb blocks (blocks_of_all BLOCK_BYTES plan.rows) (short refl))
 opening_refusal blocks plan opening.Memory short = tt
-
-pub run_refusal : (found : Option Fault) (error : Run) → found ≡ None → IsRefusal found (fault_of_run error)
-run_refusal found run.Memory none = tt
-run_refusal found run.Broken none = none
 
 pub is_fresh : (capacity blocks workers : ℕ) (rows : List GameRow) (core : CoreView) → core ≡ opened_core capacity blocks workers rows
     → core ≡ opened_core capacity (size core.games.storage.pool) core.games.workers core.games.rows
@@ -112,8 +104,7 @@ lane_lines : (x : Lane) (commands : List Command) → IsServedAlone x.row comman
 unfolding section_of
 lane_lines x commands served =
     ap (λ replies. reply_lines_of x.row.game replies ++ last_line_of x.row.game x.game) served.replies
-    ∙ ap (λ board. reply_lines_of x.row.game (alone x.row commands).replies ++ final_line_of x.row.game board (game_charge x.game)) served.board
-    ∙ ap (λ charge. reply_lines_of x.row.game (alone x.row commands).replies ++ final_line_of x.row.game (last_board (alone x.row commands).game) charge) served.charge
+    ∙ ap (λ game. reply_lines_of x.row.game (alone x.row commands).replies ++ last_line_of x.row.game game) served.game
 
 sections_served : (routes : List (ℕ × Route)) (first : ℕ) (lanes : List Lane)
     → ((stay : ℕ) → stay < length lanes → IsServedAlone (lane_of lanes stay).row (commands_to (first + stay) routes) (lane_of lanes stay))

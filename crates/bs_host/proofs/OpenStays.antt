@@ -7,7 +7,8 @@ use Rattle.std.proofs.lemmas.List.Sums.{sum_by-cons}
 use Rattle.bs_board.specs.plans.Plan.{GameRow}
 use Rattle.bs_board.specs.Texts.{is_same_text}
 use Rattle.bs_sched.specs.PlanBlocks.{blocks_of}
-use Rattle.bs_workers.specs.Acts.{Stay, blocks_in_registry, closed_stay, stay_at, has_name, open_stay, stay_named}
+use Rattle.bs_sched.specs.Stays.{Stay, blocks_in_registry, closed_stay, has_name, open_stay, stay_at}
+use Rattle.bs_workers.specs.Acts.{stay_named}
 use Rattle.bs_host.specs.Guests.{OpenLaw, bears, found_in, open_from, open_of}
 
 pushed : (first : ℕ) (registry : List Stay) (row : GameRow) → open_from first (registry ++ open_stay row ∷ []) ≡ open_from first registry ++ (first + length registry, row) ∷ []

@@ -10,7 +10,8 @@ use Rattle.bs_board.specs.plans.Plan.{GameRow}
 use Rattle.bs_json.specs.declared.line.Line.{Line}
 use Rattle.bs_json.specs.declared.line.Line.TheVariants as line
 use Rattle.bs_json.specs.Line.{line_of}
-use Rattle.bs_workers.specs.Acts.{Setting, opened}
+use Rattle.bs_sched.specs.Stays.{Capacity}
+use Rattle.bs_workers.specs.Acts.{opened}
 use Rattle.bs_host.specs.declared.parse.ParsedLine.{ParsedLine}
 use Rattle.bs_host.specs.declared.route.Requests.{Requests}
 use Rattle.bs_host.specs.declared.route.Route.{Route}
@@ -37,37 +38,37 @@ one_more_parsed version left piece rest old new total parsed is read pushed befo
 
 -- routing
 
-pub route_of_parsed : (setting : Setting) (guests : GuestList) (l : Line) → route_parsed setting guests (parsed_line l) ≡ route_by setting guests l
-route_of_parsed setting guests line.Blank = refl
-route_of_parsed setting guests (line.Command game command) = refl
-route_of_parsed setting guests (line.Bad game) = refl
-route_of_parsed setting guests (line.Stray kind) = refl
-route_of_parsed setting guests (line.Admit row) = refl
-route_of_parsed setting guests line.BadAdmit = refl
-route_of_parsed setting guests (line.Leave None) = refl
-route_of_parsed setting guests (line.Leave (Some game)) = refl
+pub route_of_parsed : (capacity : Capacity) (guests : GuestList) (l : Line) → route_parsed capacity guests (parsed_line l) ≡ route_by capacity guests l
+route_of_parsed capacity guests line.Blank = refl
+route_of_parsed capacity guests (line.Command game command) = refl
+route_of_parsed capacity guests (line.Bad game) = refl
+route_of_parsed capacity guests (line.Stray kind) = refl
+route_of_parsed capacity guests (line.Admit row) = refl
+route_of_parsed capacity guests line.BadAdmit = refl
+route_of_parsed capacity guests (line.Leave None) = refl
+route_of_parsed capacity guests (line.Leave (Some game)) = refl
 
-routes_by_parsed : (setting : Setting) (version : Version) (guests : GuestList) (number : ℕ) (pieces : List (List ℕ))
-    → routes_parsed setting guests number (parsed_lines version pieces) ≡ routes_by_guests setting version guests number pieces
-routes_by_parsed setting version guests number [] = refl
-routes_by_parsed setting version guests number (piece ∷ pieces) =
-    let same = route_of_parsed setting guests (line_of version piece) in
-    let goes = route_by setting guests (line_of version piece) in
-    ap (λ r. (number, r) ∷ routes_parsed setting (guests_then guests r) (number + 1) (parsed_lines version pieces)) same
-    ∙ ap (λ rest. (number, goes) ∷ rest) (routes_by_parsed setting version (guests_then guests goes) (number + 1) pieces)
+routes_by_parsed : (capacity : Capacity) (version : Version) (guests : GuestList) (number : ℕ) (pieces : List (List ℕ))
+    → routes_parsed capacity guests number (parsed_lines version pieces) ≡ routes_by_guests capacity version guests number pieces
+routes_by_parsed capacity version guests number [] = refl
+routes_by_parsed capacity version guests number (piece ∷ pieces) =
+    let same = route_of_parsed capacity guests (line_of version piece) in
+    let goes = route_by capacity guests (line_of version piece) in
+    ap (λ r. (number, r) ∷ routes_parsed capacity (guests_then guests r) (number + 1) (parsed_lines version pieces)) same
+    ∙ ap (λ rest. (number, goes) ∷ rest) (routes_by_parsed capacity version (guests_then guests goes) (number + 1) pieces)
 
-pub routed : (setting : Setting) (plan : Plan) (pieces : List (List ℕ)) (lines : List ParsedLine) (requests : Requests) → lines ≡ parsed_lines plan.version pieces
-    → IsRouted (routes_parsed setting (guests_of (opened plan.rows)) 2 lines) requests → IsRouted (routes_from setting plan.version (opened plan.rows) 2 pieces) requests
-routed setting plan pieces lines requests is goes =
+pub routed : (capacity : Capacity) (plan : Plan) (pieces : List (List ℕ)) (lines : List ParsedLine) (requests : Requests) → lines ≡ parsed_lines plan.version pieces
+    → IsRouted (routes_parsed capacity (guests_of (opened plan.rows)) 2 lines) requests → IsRouted (routes_from capacity plan.version (opened plan.rows) 2 pieces) requests
+routed capacity plan pieces lines requests is goes =
     subst (λ routes. IsRouted routes requests) (
-    ap (routes_parsed setting (guests_of (opened plan.rows)) 2) is ∙ routes_by_parsed setting plan.version (guests_of (opened plan.rows)) 2 pieces
-    ∙ sym (guests_law setting plan.version 2 (opened plan.rows) pieces)) goes
+    ap (routes_parsed capacity (guests_of (opened plan.rows)) 2) is ∙ routes_by_parsed capacity plan.version (guests_of (opened plan.rows)) 2 pieces
+    ∙ sym (guests_law capacity plan.version 2 (opened plan.rows) pieces)) goes
 
-pub routed_if_ok : {E : Type 0} (setting : Setting) (plan : Plan) (pieces : List (List ℕ)) (lines : List ParsedLine) (result : Result Requests E)
-    → lines ≡ parsed_lines plan.version pieces → IfOk result (IsRouted (routes_parsed setting (guests_of (opened plan.rows)) 2 lines))
-    → IfOk result (IsRouted (routes_from setting plan.version (opened plan.rows) 2 pieces))
-routed_if_ok setting plan pieces lines (Ok requests) is goes = routed setting plan pieces lines requests is goes
-routed_if_ok setting plan pieces lines (Err error) is goes = tt
+pub routed_if_ok : {E : Type 0} (capacity : Capacity) (plan : Plan) (pieces : List (List ℕ)) (lines : List ParsedLine) (result : Result Requests E)
+    → lines ≡ parsed_lines plan.version pieces → IfOk result (IsRouted (routes_parsed capacity (guests_of (opened plan.rows)) 2 lines))
+    → IfOk result (IsRouted (routes_from capacity plan.version (opened plan.rows) 2 pieces))
+routed_if_ok capacity plan pieces lines (Ok requests) is goes = routed capacity plan pieces lines requests is goes
+routed_if_ok capacity plan pieces lines (Err error) is goes = tt
 
 cons_is_append : {X : Type 0} (first : Option X) (rest : List X) → cons_option first rest ≡ option_to_list first ++ rest
 cons_is_append None rest = refl
@@ -83,55 +84,55 @@ pub record AreLeft (all : List (ℕ × Route)) (left : List (ℕ × Route)) (req
   pub acts : requests.acts.items ++ acts_in left ≡ acts_in all
   pub strays : requests.strays.items ++ strays_in left ≡ strays_in all
 
-module _ (setting : Setting) where
+module _ (capacity : Capacity) where
   next_routes : (guests : GuestList) (lines : List ParsedLine) (index : ℕ) (line : ParsedLine) → index < length lines → line ≡ get_or lines index line
-      → routes_parsed setting guests (2 + index) (drop index lines)
-      ≡ (2 + index, route_parsed setting guests line) ∷ routes_parsed setting (guests_then guests (route_parsed setting guests line)) (2 + (index + 1)) (drop (index + 1) lines)
+      → routes_parsed capacity guests (2 + index) (drop index lines)
+      ≡ (2 + index, route_parsed capacity guests line) ∷ routes_parsed capacity (guests_then guests (route_parsed capacity guests line)) (2 + (index + 1)) (drop (index + 1) lines)
   next_routes guests lines index line within is =
       let e : 2 + index + 1 ≡ 2 + (index + 1) = omega arith in
-      ap (routes_parsed setting guests (2 + index)) (drop_more lines index line within ∙ ap (λ l. l ∷ drop (index + 1) lines) (sym is))
-      ∙ ap (λ n. (2 + index, route_parsed setting guests line) ∷ routes_parsed setting (guests_then guests (route_parsed setting guests line)) n (drop (index + 1) lines)) e
+      ap (routes_parsed capacity guests (2 + index)) (drop_more lines index line within ∙ ap (λ l. l ∷ drop (index + 1) lines) (sym is))
+      ∙ ap (λ n. (2 + index, route_parsed capacity guests line) ∷ routes_parsed capacity (guests_then guests (route_parsed capacity guests line)) n (drop (index + 1) lines)) e
 
   pub goes_on : (all : List (ℕ × Route)) (before after : GuestList) (lines : List ParsedLine) (index number : ℕ) (line : ParsedLine) (goes : Route) (old new : Requests)
-      → index < length lines → line ≡ get_or lines index line → goes ≡ route_parsed setting before line → after ≡ guests_then before goes → number ≡ 2 + index
+      → index < length lines → line ≡ get_or lines index line → goes ≡ route_parsed capacity before line → after ≡ guests_then before goes → number ≡ 2 + index
       → new.acts.items ≡ old.acts.items ++ option_to_list (act_in goes)
       → new.strays.items ≡ old.strays.items ++ option_to_list (numbered_stray (number, goes))
-      → AreLeft all (routes_parsed setting before (2 + index) (drop index lines)) old
-      → AreLeft all (routes_parsed setting after (2 + (index + 1)) (drop (index + 1) lines)) new
+      → AreLeft all (routes_parsed capacity before (2 + index) (drop index lines)) old
+      → AreLeft all (routes_parsed capacity after (2 + (index + 1)) (drop (index + 1) lines)) new
   goes_on all before after lines index number line goes old new within is to moved at acts strays left =
-      let to_route = route_parsed setting before line in
-      let rest = routes_parsed setting (guests_then before to_route) (2 + (index + 1)) (drop (index + 1) lines) in
+      let to_route = route_parsed capacity before line in
+      let rest = routes_parsed capacity (guests_then before to_route) (2 + (index + 1)) (drop (index + 1) lines) in
       let next = next_routes before lines index line within is in
       let state : after ≡ guests_then before to_route = moved ∙ ap (guests_then before) to in
       let asked = rw to at acts in
       let told = rw (to, at) at strays in
       record {
         acts =
-            ap (λ g. new.acts.items ++ acts_in (routes_parsed setting g (2 + (index + 1)) (drop (index + 1) lines))) state
+            ap (λ g. new.acts.items ++ acts_in (routes_parsed capacity g (2 + (index + 1)) (drop (index + 1) lines))) state
             ∙ moves_on old.acts.items new.acts.items (act_in to_route) (acts_in rest) asked
             ∙ ap (λ routes. old.acts.items ++ acts_in routes) (sym next) ∙ left.acts;
         strays =
-            ap (λ g. new.strays.items ++ strays_in (routes_parsed setting g (2 + (index + 1)) (drop (index + 1) lines))) state
+            ap (λ g. new.strays.items ++ strays_in (routes_parsed capacity g (2 + (index + 1)) (drop (index + 1) lines))) state
             ∙ moves_on old.strays.items new.strays.items (numbered_stray (2 + index, to_route)) (strays_in rest) told
             ∙ ap (λ routes. old.strays.items ++ strays_in routes) (sym next) ∙ left.strays;
       }
 
   pub none_read : (guests : GuestList) (rows : List GameRow) (lines : List ParsedLine) (requests : Requests) → guests ≡ guests_of (opened rows) → requests.acts.items ≡ []
       → requests.strays.items ≡ []
-      → AreLeft (routes_parsed setting (guests_of (opened rows)) 2 lines) (routes_parsed setting guests (2 + 0) (drop 0 lines)) requests
+      → AreLeft (routes_parsed capacity (guests_of (opened rows)) 2 lines) (routes_parsed capacity guests (2 + 0) (drop 0 lines)) requests
   none_read guests rows lines requests is no_act no_stray =
-      let same : routes_parsed setting guests (2 + 0) (drop 0 lines) ≡ routes_parsed setting (guests_of (opened rows)) 2 lines
-      = ap (λ (g : GuestList). routes_parsed setting g 2 lines) is in
+      let same : routes_parsed capacity guests (2 + 0) (drop 0 lines) ≡ routes_parsed capacity (guests_of (opened rows)) 2 lines
+      = ap (λ (g : GuestList). routes_parsed capacity g 2 lines) is in
       record {
-        acts = ap (λ acts. acts ++ acts_in (routes_parsed setting guests (2 + 0) (drop 0 lines))) no_act ∙ ap acts_in same;
-        strays = ap (λ strays. strays ++ strays_in (routes_parsed setting guests (2 + 0) (drop 0 lines))) no_stray ∙ ap strays_in same;
+        acts = ap (λ acts. acts ++ acts_in (routes_parsed capacity guests (2 + 0) (drop 0 lines))) no_act ∙ ap acts_in same;
+        strays = ap (λ strays. strays ++ strays_in (routes_parsed capacity guests (2 + 0) (drop 0 lines))) no_stray ∙ ap strays_in same;
       }
 
   pub all_read : (guests : GuestList) (number : ℕ) (lines : List ParsedLine) (all : List (ℕ × Route)) (requests : Requests)
-      → AreLeft all (routes_parsed setting guests number (drop (length lines) lines)) requests → IsRouted all requests
+      → AreLeft all (routes_parsed capacity guests number (drop (length lines) lines)) requests → IsRouted all requests
   all_read guests number lines all requests left =
-      let none : [] ≡ routes_parsed setting guests number (drop (length lines) lines)
-      = sym (ap (routes_parsed setting guests number) (drop_all (length lines) lines (omega arith))) in
+      let none : [] ≡ routes_parsed capacity guests number (drop (length lines) lines)
+      = sym (ap (routes_parsed capacity guests number) (drop_all (length lines) lines (omega arith))) in
       record {
         acts = sym (append-nil requests.acts.items) ∙ ap (λ rest. requests.acts.items ++ acts_in rest) none ∙ left.acts;
         strays = sym (append-nil requests.strays.items) ∙ ap (λ rest. requests.strays.items ++ strays_in rest) none ∙ left.strays;

@@ -17,12 +17,13 @@ use Rattle.bs_json.specs.Values.{text_at, value_of}
 use Rattle.bs_json.specs.declared.line.Line.{Line}
 use Rattle.bs_json.specs.declared.line.Line.TheVariants as line
 use Rattle.bs_transcript.specs.Lines.{stray_lines_of}
-use Rattle.bs_workers.specs.Acts.{Setting, Stay, opened, rows_in_registry, stay_named}
+use Rattle.bs_sched.specs.Stays.{Capacity, Stay}
+use Rattle.bs_workers.specs.Acts.{opened, rows_in_registry, stay_named}
 use Rattle.bs_host.specs.declared.route.Route.{Route}
 use Rattle.bs_host.specs.Laws.{EarlyLaw}
 use Rattle.bs_host.specs.File.{rows_of, version_of, pieces_of, later_pieces}
 use Rattle.bs_host.specs.Transcript.{transcript_of, section_of}
-use Rattle.bs_host.specs.Routing.{registry_behind, registry_then, hand_route, next_registry, route_at, route_of, routes_from, routes_of, stays_behind, stays_of, strays_in, commands_to, setting_of}
+use Rattle.bs_host.specs.Routing.{registry_behind, registry_then, hand_route, next_registry, route_at, route_of, routes_from, routes_of, stays_behind, stays_of, strays_in, commands_to, capacity_of}
 
 -- a line after which the registry is as before
 abbrev IsPlain : Line → Type 0
@@ -73,21 +74,21 @@ same_by_hand : (registry : List Stay) (command : Command) (found : Option ℕ) �
 same_by_hand registry command None = refl
 same_by_hand registry command (Some stay) = refl
 
-same_registry : (setting : Setting) (registry : List Stay) (l : Line) → IsPlain l → registry_then registry (route_of setting registry l) ≡ registry
-same_registry setting registry line.Blank plain = refl
-same_registry setting registry (line.Command game command) plain = same_by_hand registry command (stay_named registry game)
-same_registry setting registry (line.Bad game) plain = same_by_hand registry command.Bad (stay_named registry game)
-same_registry setting registry (line.Stray kind) plain = refl
-same_registry setting registry (line.Admit row) plain = absurd plain
-same_registry setting registry line.BadAdmit plain = absurd plain
-same_registry setting registry (line.Leave game) plain = absurd plain
+same_registry : (capacity : Capacity) (registry : List Stay) (l : Line) → IsPlain l → registry_then registry (route_of capacity registry l) ≡ registry
+same_registry capacity registry line.Blank plain = refl
+same_registry capacity registry (line.Command game command) plain = same_by_hand registry command (stay_named registry game)
+same_registry capacity registry (line.Bad game) plain = same_by_hand registry command.Bad (stay_named registry game)
+same_registry capacity registry (line.Stray kind) plain = refl
+same_registry capacity registry (line.Admit row) plain = absurd plain
+same_registry capacity registry line.BadAdmit plain = absurd plain
+same_registry capacity registry (line.Leave game) plain = absurd plain
 
 -- all of the lines
-same_behind : (setting : Setting) (version : Version) (registry : List Stay) (lines : List (List ℕ)) → has_stays version ≡ false → registry_behind setting version registry lines ≡ registry
-same_behind setting version registry [] early = refl
-same_behind setting version registry (text ∷ lines) early =
-    let same : next_registry setting version registry text ≡ registry = same_registry setting registry (line_of version text) (plain_line version text early) in
-    ap (λ b. registry_behind setting version b lines) same ∙ same_behind setting version registry lines early
+same_behind : (capacity : Capacity) (version : Version) (registry : List Stay) (lines : List (List ℕ)) → has_stays version ≡ false → registry_behind capacity version registry lines ≡ registry
+same_behind capacity version registry [] early = refl
+same_behind capacity version registry (text ∷ lines) early =
+    let same : next_registry capacity version registry text ≡ registry = same_registry capacity registry (line_of version text) (plain_line version text early) in
+    ap (λ b. registry_behind capacity version b lines) same ∙ same_behind capacity version registry lines early
 
 not_the_last : (version : Version) → version ≢ Three → has_stays version ≡ false
 not_the_last One other = refl
@@ -96,34 +97,34 @@ not_the_last Three other = absurd (other refl)
 
 -- nor does it matter how many blocks there are
 
-same_route : (setting other : Setting) (registry : List Stay) (l : Line) → IsPlain l → route_of setting registry l ≡ route_of other registry l
-same_route setting other registry line.Blank plain = refl
-same_route setting other registry (line.Command game command) plain = refl
-same_route setting other registry (line.Bad game) plain = refl
-same_route setting other registry (line.Stray kind) plain = refl
-same_route setting other registry (line.Admit row) plain = absurd plain
-same_route setting other registry line.BadAdmit plain = absurd plain
-same_route setting other registry (line.Leave game) plain = absurd plain
+same_route : (capacity other : Capacity) (registry : List Stay) (l : Line) → IsPlain l → route_of capacity registry l ≡ route_of other registry l
+same_route capacity other registry line.Blank plain = refl
+same_route capacity other registry (line.Command game command) plain = refl
+same_route capacity other registry (line.Bad game) plain = refl
+same_route capacity other registry (line.Stray kind) plain = refl
+same_route capacity other registry (line.Admit row) plain = absurd plain
+same_route capacity other registry line.BadAdmit plain = absurd plain
+same_route capacity other registry (line.Leave game) plain = absurd plain
 
-same_routes : (setting other : Setting) (version : Version) (number : ℕ) (registry : List Stay) (lines : List (List ℕ)) → has_stays version ≡ false
-    → routes_from setting version registry number lines ≡ routes_from other version registry number lines
-same_routes setting other version number registry [] early = refl
-same_routes setting other version number registry (text ∷ lines) early =
+same_routes : (capacity other : Capacity) (version : Version) (number : ℕ) (registry : List Stay) (lines : List (List ℕ)) → has_stays version ≡ false
+    → routes_from capacity version registry number lines ≡ routes_from other version registry number lines
+same_routes capacity other version number registry [] early = refl
+same_routes capacity other version number registry (text ∷ lines) early =
     let plain = plain_line version text early in
-    let same = same_route setting other registry (line_of version text) plain in
-    ap (λ r. (number, r) ∷ routes_from setting version (registry_then registry r) (number + 1) lines) same
-    ∙ ap (λ ls. (number, route_at other version registry text) ∷ ls) (same_routes setting other version (number + 1) (next_registry other version registry text) lines early)
+    let same = same_route capacity other registry (line_of version text) plain in
+    ap (λ r. (number, r) ∷ routes_from capacity version (registry_then registry r) (number + 1) lines) same
+    ∙ ap (λ ls. (number, route_at other version registry text) ∷ ls) (same_routes capacity other version (number + 1) (next_registry other version registry text) lines early)
 
 pub rows_opened : (rows : List GameRow) → rows_in_registry (opened rows) ≡ rows
 rows_opened [] = refl
 rows_opened (row ∷ rows) = ap (λ rest. row ∷ rest) (rows_opened rows)
 
-pub stays_plain : (setting : Setting) (version : Version) (rows : List GameRow) (lines : List (List ℕ)) → has_stays version ≡ false → stays_behind setting version rows lines ≡ rows
-stays_plain setting version rows lines early = ap rows_in_registry (same_behind setting version (opened rows) lines early) ∙ rows_opened rows
+pub stays_plain : (capacity : Capacity) (version : Version) (rows : List GameRow) (lines : List (List ℕ)) → has_stays version ≡ false → stays_behind capacity version rows lines ≡ rows
+stays_plain capacity version rows lines early = ap rows_in_registry (same_behind capacity version (opened rows) lines early) ∙ rows_opened rows
 
 pub stays_early : (blocks : ℕ) (file : List ℕ) → has_stays (version_of file) ≡ false → stays_of blocks file ≡ rows_of file
 stays_early blocks file early =
-    ap rows_in_registry (same_behind (setting_of blocks) (version_of file) (opened (rows_of file)) (later_pieces (pieces_of file)) early) ∙ rows_opened (rows_of file)
+    ap rows_in_registry (same_behind (capacity_of blocks) (version_of file) (opened (rows_of file)) (later_pieces (pieces_of file)) early) ∙ rows_opened (rows_of file)
 
 abbrev text_by : List GameRow → List (ℕ × Route) → List ℕ
 text_by stays routes = flat_map (λ stay. section_of stay.1 (commands_to stay.0 routes)) (enumerate_from 0 stays) ++ stray_lines_of (strays_in routes)
@@ -132,7 +133,7 @@ text_early : (blocks other : ℕ) (file : List ℕ) → has_stays (version_of fi
 unfolding transcript_of
 text_early blocks other file early =
     let stays = stays_early blocks file early ∙ sym (stays_early other file early) in
-    let routes = same_routes (setting_of blocks) (setting_of other) (version_of file) 2 (opened (rows_of file)) (later_pieces (pieces_of file)) early in
+    let routes = same_routes (capacity_of blocks) (capacity_of other) (version_of file) 2 (opened (rows_of file)) (later_pieces (pieces_of file)) early in
     ap (λ all. text_by all (routes_of blocks file)) stays ∙ ap (text_by (stays_of other file)) routes
 
 pub early_law : EarlyLaw

@@ -4,7 +4,8 @@ use Rattle.std.proofs.Math.ListN.{get_or-map}
 use Rattle.std.proofs.lemmas.Bool.{cases_eq}
 use Rattle.std.proofs.lemmas.List.{get_or_append_left, get_or-set_same, get_or-set_other, length-set}
 use Rattle.bs_board.specs.declared.plans.version.Version.{Version}
-use Rattle.bs_workers.specs.Acts.{Setting, Stay, stay_at, no_stay, open_stay, closed_stay, rows_in_registry}
+use Rattle.bs_sched.specs.Stays.{Capacity, Stay, closed_stay, no_stay, open_stay, stay_at}
+use Rattle.bs_workers.specs.Acts.{rows_in_registry}
 use Rattle.bs_workers.specs.declared.act.Act.TheVariants as act
 use Rattle.bs_host.specs.declared.route.Route.{Route}
 use Rattle.bs_host.specs.Cut.{row_at}
@@ -30,13 +31,13 @@ length_kept registry (route.Act (act.Leave to)) = omega (arith, length-set regis
 length_kept registry (route.Stray kind) = omega arith
 length_kept registry route.Nowhere = omega arith
 
-pub row_behind : (setting : Setting) (version : Version) (registry : List Stay) (lines : List (List ℕ)) (stay : ℕ) → stay < length registry
-    → (stay_at (registry_behind setting version registry lines) stay).row ≡ (stay_at registry stay).row
-row_behind setting version registry [] stay within = refl
-row_behind setting version registry (text ∷ lines) stay within =
-    let longer = length_kept registry (route_at setting version registry text) in
-    row_behind setting version (next_registry setting version registry text) lines stay (omega (arith, within, longer))
-    ∙ row_kept registry (route_at setting version registry text) stay within
+pub row_behind : (capacity : Capacity) (version : Version) (registry : List Stay) (lines : List (List ℕ)) (stay : ℕ) → stay < length registry
+    → (stay_at (registry_behind capacity version registry lines) stay).row ≡ (stay_at registry stay).row
+row_behind capacity version registry [] stay within = refl
+row_behind capacity version registry (text ∷ lines) stay within =
+    let longer = length_kept registry (route_at capacity version registry text) in
+    row_behind capacity version (next_registry capacity version registry text) lines stay (omega (arith, within, longer))
+    ∙ row_kept registry (route_at capacity version registry text) stay within
 
 pub row_in_registry : (registry : List Stay) (stay : ℕ) → row_at (rows_in_registry registry) stay ≡ (stay_at registry stay).row
 row_in_registry registry stay = get_or-map (λ (e : Stay). e.row) registry stay no_stay

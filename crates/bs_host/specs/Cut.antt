@@ -15,14 +15,15 @@ use Rattle.bs_json.specs.declared.plan.PlanFault.{PlanFault}
 use Rattle.bs_json.specs.declared.plan.PlanFault.TheVariants as plan
 use Rattle.bs_json.specs.Boards.{object_of, whole_data}
 use Rattle.bs_sched.specs.PlanBlocks.{blocks_of_all}
-use Rattle.bs_workers.specs.Acts.{Setting, Stay, opened}
+use Rattle.bs_sched.specs.Stays.{Capacity, Stay}
+use Rattle.bs_workers.specs.Acts.{opened}
 use Rattle.bs_host.specs.declared.cut_fault.Cut.{Cut}
 use Rattle.bs_host.specs.declared.cut_fault.Cut.TheVariants.{TooLong, Plan as OfPlan, NoSuchGame, Memory}
 use Rattle.bs_host.specs.declared.fault.PlanRefusal.TheVariants as refusal
 use Rattle.bs_host.specs.declared.limits.TheConstants.{BLOCK_BYTES, MOST_FILE_BYTES}
 use Rattle.bs_host.specs.declared.lines.TheConstants.{LINE_FEED}
 use Rattle.bs_host.specs.File.{pieces_of, later_pieces, plan_of, rows_of, version_of}
-use Rattle.bs_host.specs.Routing.{command_to, commands_of, setting_of, next_registry, route_at, stays_of}
+use Rattle.bs_host.specs.Routing.{command_to, commands_of, capacity_of, next_registry, route_at, stays_of}
 use Rattle.bs_host.specs.Transcript.{section_of, transcript_of}
 
 abbrev pub row_data : GameRow → Data
@@ -41,20 +42,20 @@ lone_plan_data version row = object_of ((codes "games", array (items_of (row_dat
 abbrev pub lone_plan_of : Version → GameRow → List ℕ
 lone_plan_of version row = compact_text (lone_plan_data version row)
 
-abbrev pub is_own_line : Setting → Version → List Stay → ℕ → List ℕ → Bool
-is_own_line setting version registry stay text = is_some (command_to stay (route_at setting version registry text))
+abbrev pub is_own_line : Capacity → Version → List Stay → ℕ → List ℕ → Bool
+is_own_line capacity version registry stay text = is_some (command_to stay (route_at capacity version registry text))
 
 -- the lines that go to that stay, as they stand
-abbrev pub own_lines_in : Setting → Version → List Stay → ℕ → List (List ℕ) → List (List ℕ)
-own_lines_in setting version registry stay [] = []
-own_lines_in setting version registry stay (text ∷ lines) =
-    if is_own_line setting version registry stay text
-    then text ∷ own_lines_in setting version (next_registry setting version registry text) stay lines
-    else own_lines_in setting version (next_registry setting version registry text) stay lines
+abbrev pub own_lines_in : Capacity → Version → List Stay → ℕ → List (List ℕ) → List (List ℕ)
+own_lines_in capacity version registry stay [] = []
+own_lines_in capacity version registry stay (text ∷ lines) =
+    if is_own_line capacity version registry stay text
+    then text ∷ own_lines_in capacity version (next_registry capacity version registry text) stay lines
+    else own_lines_in capacity version (next_registry capacity version registry text) stay lines
 
 abbrev pub own_lines_of : ℕ → List ℕ → ℕ → List (List ℕ)
 own_lines_of blocks file stay =
-    own_lines_in (setting_of blocks) (version_of file) (opened (rows_of file)) stay (later_pieces (pieces_of file))
+    own_lines_in (capacity_of blocks) (version_of file) (opened (rows_of file)) stay (later_pieces (pieces_of file))
 
 abbrev pub row_at : List GameRow → ℕ → GameRow
 row_at rows stay = slice_index_or rows stay (row_of [] 0)
@@ -69,7 +70,7 @@ abbrev pub behind_feeds : List (List ℕ) → List ℕ
 behind_feeds = flat_map (λ line. LINE_FEED ∷ line)
 
 -- What is written for that file from as many blocks, and how large it is.
-pub record IsServedAlone (blocks : ℕ) (file : List ℕ) (stay : ℕ) (row : GameRow) : Type 0 where
+pub record IsWrittenAlone (blocks : ℕ) (file : List ℕ) (stay : ℕ) (row : GameRow) : Type 0 where
   -- its plan is that stay's row, in the file's version
   pub plan : plan_of (cut_of blocks file stay) ≡ Ok (record { rows = row ∷ []; version = version_of file })
   -- its transcript is the stay's section of the whole file's transcript, and nothing else
@@ -82,7 +83,7 @@ pub record IsServedAlone (blocks : ℕ) (file : List ℕ) (stay : ℕ) (row : Ga
 abbrev pub SectionLaw : Type 0
 SectionLaw =
     (blocks : ℕ) (file : List ℕ) (stay : ℕ) → stay < length (stays_of blocks file)
-    → IsServedAlone blocks file stay (row_at (stays_of blocks file) stay)
+    → IsWrittenAlone blocks file stay (row_at (stays_of blocks file) stay)
 
 -- Which stay a cut is of, and when there is none.
 

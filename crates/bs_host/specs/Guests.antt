@@ -14,8 +14,9 @@ use Rattle.bs_json.specs.declared.line.Stray.TheVariants as stray
 use Rattle.bs_json.specs.Line.{line_of}
 use Rattle.bs_sched.specs.PlanBlocks.{blocks_of}
 use Rattle.bs_workers.specs.declared.act.Act.TheVariants as act
-use Rattle.bs_workers.specs.declared.act.TheConstants.{MOST_STAYS}
-use Rattle.bs_workers.specs.Acts.{Setting, Stay, blocks_in_registry, registry_after, has_name, stay_named}
+use Rattle.bs_sched.specs.declared.plan_blocks.TheConstants.{MOST_STAYS}
+use Rattle.bs_sched.specs.Stays.{Capacity, Stay, blocks_in_registry, has_name}
+use Rattle.bs_workers.specs.Acts.{registry_after, stay_named}
 use Rattle.bs_host.specs.declared.guests.Guests.TheInside.{Inside}
 use Rattle.bs_host.specs.declared.route.Route.{Route}
 use Rattle.bs_host.specs.declared.route.Route.TheVariants as route
@@ -64,21 +65,21 @@ OpenLaw = (cap : ℕ) (registry : List Stay) → IsToldByOpen cap registry
 
 -- the routing by the open stays
 
-abbrev pub refusal_by : Setting → GuestList → GameRow → Option Stray
-refusal_by setting guests row =
+abbrev pub refusal_by : Capacity → GuestList → GameRow → Option Stray
+refusal_by capacity guests row =
     if list_any (bears row.game) guests.stays then Some stray.NameOpen
     else (if not (nat_lt (length guests.stays) MOST_ROWS && nat_lt guests.made MOST_STAYS) then Some stray.Full
-    else (if nat_le (blocks_of setting.cap row) (setting.blocks - blocks_in setting.cap guests.stays) then None else Some stray.Short))
+    else (if nat_le (blocks_of capacity.cap row) (capacity.blocks - blocks_in capacity.cap guests.stays) then None else Some stray.Short))
 
-abbrev pub route_by : Setting → GuestList → Line → Route
-route_by setting guests line.Blank = route.Nowhere
-route_by setting guests (line.Command game command) = hand_route (found_in game guests.stays) command
-route_by setting guests (line.Bad game) = hand_route (found_in game guests.stays) command.Bad
-route_by setting guests (line.Stray kind) = route.Stray kind
-route_by setting guests (line.Admit row) = admit_route (refusal_by setting guests row) row
-route_by setting guests line.BadAdmit = route.Stray stray.BadRow
-route_by setting guests (line.Leave None) = route.Stray stray.NoStay
-route_by setting guests (line.Leave (Some game)) = leave_route (found_in game guests.stays)
+abbrev pub route_by : Capacity → GuestList → Line → Route
+route_by capacity guests line.Blank = route.Nowhere
+route_by capacity guests (line.Command game command) = hand_route (found_in game guests.stays) command
+route_by capacity guests (line.Bad game) = hand_route (found_in game guests.stays) command.Bad
+route_by capacity guests (line.Stray kind) = route.Stray kind
+route_by capacity guests (line.Admit row) = admit_route (refusal_by capacity guests row) row
+route_by capacity guests line.BadAdmit = route.Stray stray.BadRow
+route_by capacity guests (line.Leave None) = route.Stray stray.NoStay
+route_by capacity guests (line.Leave (Some game)) = leave_route (found_in game guests.stays)
 
 abbrev pub guests_then : GuestList → Route → GuestList
 guests_then guests (route.Act (act.Hand stay command)) = guests
@@ -88,11 +89,11 @@ guests_then guests (route.Act (act.Leave stay)) =
 guests_then guests (route.Stray kind) = guests
 guests_then guests route.Nowhere = guests
 
-abbrev pub routes_by_guests : Setting → Version → GuestList → ℕ → List (List ℕ) → List (ℕ × Route)
-routes_by_guests setting version guests number [] = []
-routes_by_guests setting version guests number (text ∷ lines) =
-    (number, route_by setting guests (line_of version text))
-    ∷ routes_by_guests setting version (guests_then guests (route_by setting guests (line_of version text))) (number + 1) lines
+abbrev pub routes_by_guests : Capacity → Version → GuestList → ℕ → List (List ℕ) → List (ℕ × Route)
+routes_by_guests capacity version guests number [] = []
+routes_by_guests capacity version guests number (text ∷ lines) =
+    (number, route_by capacity guests (line_of version text))
+    ∷ routes_by_guests capacity version (guests_then guests (route_by capacity guests (line_of version text))) (number + 1) lines
 
 -- the rows that the lines admit
 
@@ -103,16 +104,16 @@ rows_in_route (route.Act (act.Leave stay)) = []
 rows_in_route (route.Stray kind) = []
 rows_in_route route.Nowhere = []
 
-abbrev pub rows_by_guests : Setting → Version → GuestList → List (List ℕ) → List GameRow
-rows_by_guests setting version guests [] = []
-rows_by_guests setting version guests (text ∷ lines) =
-    rows_in_route (route_by setting guests (line_of version text))
-    ++ rows_by_guests setting version (guests_then guests (route_by setting guests (line_of version text))) lines
+abbrev pub rows_by_guests : Capacity → Version → GuestList → List (List ℕ) → List GameRow
+rows_by_guests capacity version guests [] = []
+rows_by_guests capacity version guests (text ∷ lines) =
+    rows_in_route (route_by capacity guests (line_of version text))
+    ++ rows_by_guests capacity version (guests_then guests (route_by capacity guests (line_of version text))) lines
 
 -- the lines of a stay, as the code goes through them
-abbrev pub own_by_guests : Setting → Version → GuestList → ℕ → List (List ℕ) → List (List ℕ)
-own_by_guests setting version guests stay [] = []
-own_by_guests setting version guests stay (text ∷ lines) =
-    if is_some (command_to stay (route_by setting guests (line_of version text)))
-    then text ∷ own_by_guests setting version (guests_then guests (route_by setting guests (line_of version text))) stay lines
-    else own_by_guests setting version (guests_then guests (route_by setting guests (line_of version text))) stay lines
+abbrev pub own_by_guests : Capacity → Version → GuestList → ℕ → List (List ℕ) → List (List ℕ)
+own_by_guests capacity version guests stay [] = []
+own_by_guests capacity version guests stay (text ∷ lines) =
+    if is_some (command_to stay (route_by capacity guests (line_of version text)))
+    then text ∷ own_by_guests capacity version (guests_then guests (route_by capacity guests (line_of version text))) stay lines
+    else own_by_guests capacity version (guests_then guests (route_by capacity guests (line_of version text))) stay lines

@@ -5,11 +5,12 @@ use Rattle.bs_board.specs.declared.plans.version.Version.{Version}
 use Rattle.bs_board.specs.declared.plans.version.Version.TheVariants.{Three}
 use Rattle.bs_board.specs.Texts.{is_same_text}
 use Rattle.bs_json.specs.Line.{line_of}
-use Rattle.bs_workers.specs.Acts.{Setting, Stay, are_acceptable, command_in, opened, rows_admitted}
+use Rattle.bs_sched.specs.Stays.{Capacity, Stay}
+use Rattle.bs_workers.specs.Acts.{are_acceptable, command_in, opened, rows_admitted}
 use Rattle.bs_host.specs.Cut.{nth_stay, own_lines_in, own_lines_of, row_at}
 use Rattle.bs_host.specs.File.{pieces_of, later_pieces, rows_of, version_of}
 use Rattle.bs_host.specs.Guests.{guests_of, own_by_guests, routes_by_guests}
-use Rattle.bs_host.specs.Routing.{acts_of, behind_admit, commands_of, setting_of, is_command_for, routes_from, stays_of, until_leave}
+use Rattle.bs_host.specs.Routing.{acts_of, behind_admit, commands_of, capacity_of, is_command_for, routes_from, stays_of, until_leave}
 use Rattle.bs_host.specs.Transcript.{transcript_of}
 
 -- A stay's own lines are those between its `admit` and its `leave` that name its game.
@@ -19,13 +20,13 @@ OwnLinesLaw =
     → own_lines_of blocks file stay
     ≡ filter (λ text. is_command_for (row_at (stays_of blocks file) stay).game (line_of (version_of file) text))
     (until_leave (version_of file) (row_at (stays_of blocks file) stay).game
-    (behind_admit (setting_of blocks) (version_of file) (opened (rows_of file)) stay (later_pieces (pieces_of file))))
+    (behind_admit (capacity_of blocks) (version_of file) (opened (rows_of file)) stay (later_pieces (pieces_of file))))
 
 -- The stays are the plan's rows and those admitted; the acts of a file may be made in their order,
 -- whatever the games do meanwhile.
 pub record IsActedOn (blocks : ℕ) (file : List ℕ) : Type 0 where
   pub stays : stays_of blocks file ≡ rows_of file ++ rows_admitted (acts_of blocks file)
-  pub acceptable : are_acceptable (setting_of blocks) (opened (rows_of file)) (acts_of blocks file) ≡ true
+  pub acceptable : are_acceptable (capacity_of blocks) (opened (rows_of file)) (acts_of blocks file) ≡ true
   pub commands : (stay : ℕ) → commands_of blocks file stay ≡ filter_map (command_in stay) (acts_of blocks file)
 
 abbrev pub ActsLaw : Type 0
@@ -52,10 +53,10 @@ FoundLaw = (blocks : ℕ) (file name : List ℕ) (n stay : ℕ) → nth_stay blo
 
 abbrev pub GuestsLaw : Type 0
 GuestsLaw =
-    (setting : Setting) (version : Version) (number : ℕ) (registry : List Stay) (lines : List (List ℕ))
-    → routes_from setting version registry number lines ≡ routes_by_guests setting version (guests_of registry) number lines
+    (capacity : Capacity) (version : Version) (number : ℕ) (registry : List Stay) (lines : List (List ℕ))
+    → routes_from capacity version registry number lines ≡ routes_by_guests capacity version (guests_of registry) number lines
 
 abbrev pub GuestLinesLaw : Type 0
 GuestLinesLaw =
-    (setting : Setting) (version : Version) (stay : ℕ) (registry : List Stay) (lines : List (List ℕ))
-    → own_lines_in setting version registry stay lines ≡ own_by_guests setting version (guests_of registry) stay lines
+    (capacity : Capacity) (version : Version) (stay : ℕ) (registry : List Stay) (lines : List (List ℕ))
+    → own_lines_in capacity version registry stay lines ≡ own_by_guests capacity version (guests_of registry) stay lines

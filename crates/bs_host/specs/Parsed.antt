@@ -6,7 +6,7 @@ use Rattle.bs_json.specs.declared.line.Line.{Line}
 use Rattle.bs_json.specs.declared.line.Line.TheVariants as line
 use Rattle.bs_json.specs.declared.line.Stray.TheVariants as stray
 use Rattle.bs_json.specs.Line.{line_of}
-use Rattle.bs_workers.specs.Acts.{Setting}
+use Rattle.bs_sched.specs.Stays.{Capacity}
 use Rattle.bs_host.specs.declared.parse.ParsedLine.{ParsedLine}
 use Rattle.bs_host.specs.declared.parse.ParsedLine.TheVariants as parsed
 use Rattle.bs_host.specs.declared.route.Route.{Route}
@@ -27,16 +27,16 @@ parsed_line (line.Leave (Some game)) = parsed.Leave game
 abbrev pub parsed_lines : Version → List (List ℕ) → List ParsedLine
 parsed_lines version = map (λ piece. parsed_line (line_of version piece))
 
-abbrev pub route_parsed : Setting → GuestList → ParsedLine → Route
-route_parsed setting guests (parsed.Command game command) = hand_route (found_in game guests.stays) command
-route_parsed setting guests (parsed.Stray kind) = route.Stray kind
-route_parsed setting guests parsed.Blank = route.Nowhere
-route_parsed setting guests (parsed.Admit row) = admit_route (refusal_by setting guests row) row
-route_parsed setting guests (parsed.Leave game) = leave_route (found_in game guests.stays)
+abbrev pub route_parsed : Capacity → GuestList → ParsedLine → Route
+route_parsed capacity guests (parsed.Command game command) = hand_route (found_in game guests.stays) command
+route_parsed capacity guests (parsed.Stray kind) = route.Stray kind
+route_parsed capacity guests parsed.Blank = route.Nowhere
+route_parsed capacity guests (parsed.Admit row) = admit_route (refusal_by capacity guests row) row
+route_parsed capacity guests (parsed.Leave game) = leave_route (found_in game guests.stays)
 
 -- of the lines from that number on
-abbrev pub routes_parsed : Setting → GuestList → ℕ → List ParsedLine → List (ℕ × Route)
-routes_parsed setting guests number [] = []
-routes_parsed setting guests number (line ∷ lines) =
-    (number, route_parsed setting guests line)
-    ∷ routes_parsed setting (guests_then guests (route_parsed setting guests line)) (number + 1) lines
+abbrev pub routes_parsed : Capacity → GuestList → ℕ → List ParsedLine → List (ℕ × Route)
+routes_parsed capacity guests number [] = []
+routes_parsed capacity guests number (line ∷ lines) =
+    (number, route_parsed capacity guests line)
+    ∷ routes_parsed capacity (guests_then guests (route_parsed capacity guests line)) (number + 1) lines

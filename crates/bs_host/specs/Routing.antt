@@ -14,7 +14,8 @@ use Rattle.bs_json.specs.declared.line.Stray.TheVariants as stray
 use Rattle.bs_json.specs.Line.{line_of}
 use Rattle.bs_workers.specs.declared.act.Act.{Act}
 use Rattle.bs_workers.specs.declared.act.Act.TheVariants as act
-use Rattle.bs_workers.specs.Acts.{Setting, Stay, has_name, has_room, is_full, stay_named, registry_after, command_in, opened, rows_in_registry}
+use Rattle.bs_sched.specs.Stays.{Capacity, Stay, has_name, has_room, is_full}
+use Rattle.bs_workers.specs.Acts.{stay_named, registry_after, command_in, opened, rows_in_registry}
 use Rattle.bs_host.specs.declared.limits.TheConstants.{BLOCK_BYTES}
 use Rattle.bs_host.specs.declared.route.Requests.{Requests}
 use Rattle.bs_host.specs.declared.route.Route.{Route}
@@ -24,11 +25,11 @@ use Rattle.bs_host.specs.File.{pieces_of, later_pieces, rows_of, version_of}
 -- One line.
 
 -- the first reason against admitting a row
-abbrev pub admit_refusal : Setting → List Stay → GameRow → Option Stray
-admit_refusal setting registry row =
+abbrev pub admit_refusal : Capacity → List Stay → GameRow → Option Stray
+admit_refusal capacity registry row =
     if list_any (has_name row.game) registry then Some stray.NameOpen
     else (if is_full registry then Some stray.Full
-    else (if has_room setting registry row then None else Some stray.Short))
+    else (if has_room capacity registry row then None else Some stray.Short))
 
 abbrev pub hand_route : Option ℕ → Command → Route
 hand_route None command = route.Stray stray.Game
@@ -42,15 +43,15 @@ abbrev pub leave_route : Option ℕ → Route
 leave_route None = route.Stray stray.NoStay
 leave_route (Some stay) = route.Act (act.Leave stay)
 
-abbrev pub route_of : Setting → List Stay → Line → Route
-route_of setting registry line.Blank = route.Nowhere
-route_of setting registry (line.Command game command) = hand_route (stay_named registry game) command
-route_of setting registry (line.Bad game) = hand_route (stay_named registry game) command.Bad
-route_of setting registry (line.Stray kind) = route.Stray kind
-route_of setting registry (line.Admit row) = admit_route (admit_refusal setting registry row) row
-route_of setting registry line.BadAdmit = route.Stray stray.BadRow
-route_of setting registry (line.Leave None) = route.Stray stray.NoStay
-route_of setting registry (line.Leave (Some game)) = leave_route (stay_named registry game)
+abbrev pub route_of : Capacity → List Stay → Line → Route
+route_of capacity registry line.Blank = route.Nowhere
+route_of capacity registry (line.Command game command) = hand_route (stay_named registry game) command
+route_of capacity registry (line.Bad game) = hand_route (stay_named registry game) command.Bad
+route_of capacity registry (line.Stray kind) = route.Stray kind
+route_of capacity registry (line.Admit row) = admit_route (admit_refusal capacity registry row) row
+route_of capacity registry line.BadAdmit = route.Stray stray.BadRow
+route_of capacity registry (line.Leave None) = route.Stray stray.NoStay
+route_of capacity registry (line.Leave (Some game)) = leave_route (stay_named registry game)
 
 abbrev pub registry_then : List Stay → Route → List Stay
 registry_then registry (route.Act a) = registry_after registry a
@@ -59,35 +60,35 @@ registry_then registry route.Nowhere = registry
 
 -- All lines, in the order of the file.
 
-abbrev pub route_at : Setting → Version → List Stay → List ℕ → Route
-route_at setting version registry text = route_of setting registry (line_of version text)
+abbrev pub route_at : Capacity → Version → List Stay → List ℕ → Route
+route_at capacity version registry text = route_of capacity registry (line_of version text)
 
-abbrev pub next_registry : Setting → Version → List Stay → List ℕ → List Stay
-next_registry setting version registry text = registry_then registry (route_at setting version registry text)
+abbrev pub next_registry : Capacity → Version → List Stay → List ℕ → List Stay
+next_registry capacity version registry text = registry_then registry (route_at capacity version registry text)
 
 -- the registry that these lines leave
-abbrev pub registry_behind : Setting → Version → List Stay → List (List ℕ) → List Stay
-registry_behind setting version = fold (next_registry setting version)
+abbrev pub registry_behind : Capacity → Version → List Stay → List (List ℕ) → List Stay
+registry_behind capacity version = fold (next_registry capacity version)
 
 -- the lines that stand in a file from that number on, with their numbers
-abbrev pub routes_from : Setting → Version → List Stay → ℕ → List (List ℕ) → List (ℕ × Route)
-routes_from setting version registry number [] = []
-routes_from setting version registry number (text ∷ lines) =
-    (number, route_at setting version registry text) ∷ routes_from setting version (next_registry setting version registry text) (number + 1) lines
+abbrev pub routes_from : Capacity → Version → List Stay → ℕ → List (List ℕ) → List (ℕ × Route)
+routes_from capacity version registry number [] = []
+routes_from capacity version registry number (text ∷ lines) =
+    (number, route_at capacity version registry text) ∷ routes_from capacity version (next_registry capacity version registry text) (number + 1) lines
 
-abbrev pub setting_of : ℕ → Setting
-setting_of blocks = record { cap = BLOCK_BYTES; blocks = blocks }
+abbrev pub capacity_of : ℕ → Capacity
+capacity_of blocks = record { cap = BLOCK_BYTES; blocks = blocks }
 
 -- lines are counted from 1, and the first is the plan
 abbrev pub routes_of : ℕ → List ℕ → List (ℕ × Route)
-routes_of blocks file = routes_from (setting_of blocks) (version_of file) (opened (rows_of file)) 2 (later_pieces (pieces_of file))
+routes_of blocks file = routes_from (capacity_of blocks) (version_of file) (opened (rows_of file)) 2 (later_pieces (pieces_of file))
 
 -- the stays in the order of their rows: the plan's, and then those that these lines admit
-abbrev pub stays_behind : Setting → Version → List GameRow → List (List ℕ) → List GameRow
-stays_behind setting version rows lines = rows_in_registry (registry_behind setting version (opened rows) lines)
+abbrev pub stays_behind : Capacity → Version → List GameRow → List (List ℕ) → List GameRow
+stays_behind capacity version rows lines = rows_in_registry (registry_behind capacity version (opened rows) lines)
 
 abbrev pub stays_of : ℕ → List ℕ → List GameRow
-stays_of blocks file = stays_behind (setting_of blocks) (version_of file) (rows_of file) (later_pieces (pieces_of file))
+stays_of blocks file = stays_behind (capacity_of blocks) (version_of file) (rows_of file) (later_pieces (pieces_of file))
 
 -- What is taken from the routes.
 
@@ -155,10 +156,10 @@ until_leave version name [] = []
 until_leave version name (text ∷ lines) = if is_leave_of name (line_of version text) then [] else text ∷ until_leave version name lines
 
 -- the lines behind the one that opens that stay; all, where it is there before
-abbrev pub behind_admit : Setting → Version → List Stay → ℕ → List (List ℕ) → List (List ℕ)
-behind_admit setting version registry stay [] = []
-behind_admit setting version registry stay (text ∷ lines) =
-    if nat_lt stay (length registry) then text ∷ lines else behind_admit setting version (next_registry setting version registry text) stay lines
+abbrev pub behind_admit : Capacity → Version → List Stay → ℕ → List (List ℕ) → List (List ℕ)
+behind_admit capacity version registry stay [] = []
+behind_admit capacity version registry stay (text ∷ lines) =
+    if nat_lt stay (length registry) then text ∷ lines else behind_admit capacity version (next_registry capacity version registry text) stay lines
 
 -- the requests are what the lines ask for
 pub record IsRouted (routes : List (ℕ × Route)) (requests : Requests) : Type 0 where

@@ -11,19 +11,19 @@ ghost use Rattle.bs_host.specs.Cut.{row_data, lone_plan_data, lone_plan_of, is_t
 ghost use Rattle.bs_host.specs.File.{pieces_after};
 ghost use Rattle.bs_host.specs.Guests.{guests_of, guests_then, route_by, rows_by_guests, rows_in_route};
 ghost use Rattle.bs_host.specs.Laws.{EarlyLaw, FoundLaw, OwnLinesLaw};
-ghost use Rattle.bs_host.specs.Routing.{command_to, setting_of, stays_behind};
+ghost use Rattle.bs_host.specs.Routing.{command_to, capacity_of, stays_behind};
 
-use crate::blocks::blocks_of_all;
 use crate::cut_fault::Cut;
 use crate::fault::PlanRefusal;
 use crate::file::CommandFile;
 use crate::guests::Guests;
-use crate::limits::MOST_FILE_BYTES;
+use crate::limits::{BLOCK_BYTES, MOST_FILE_BYTES};
 use crate::lines::split_line;
 use crate::parse::parse_line;
 use crate::route::Route;
 use bs_board::{Id, Plan, Row, Version};
 use bs_json::read_plan;
+use bs_sched::blocks_of_all;
 use bs_workers::Act;
 use serde_json::{Value, json};
 use std::alloc::{AllocError, Global};
@@ -76,7 +76,7 @@ fn route_text(
     file: CommandFile<'_>,
     line: &[u8],
 ) -> Result<Route, AllocError>
-    ensures route { IfOk result (λ route. route ≡ route_by (setting_of file.entry.blocks) guests.old (line_of file.entry.plan.now.version line.now)) }
+    ensures route { IfOk result (λ route. route ≡ route_by (capacity_of file.entry.blocks) guests.old (line_of file.entry.plan.now.version line.now)) }
     ensures after { IfOk result (λ route. guests.new ≡ guests_then guests.old route) }
 {
     let parsed = parse_line(alloc, file.plan.version, line, None)?;
@@ -100,7 +100,7 @@ fn push_own_lines(
     text: &mut Vec<u8>,
 ) -> Result<(), AllocError>
     ensures { OnOk result
-        (text.new.items ≡ text.old.items ++ behind_feeds (own_lines_in (setting_of file.entry.blocks) file.entry.plan.now.version (opened file.entry.plan.now.rows) stay (pieces_after (option_copied file.entry.rest)))) }
+        (text.new.items ≡ text.old.items ++ behind_feeds (own_lines_in (capacity_of file.entry.blocks) file.entry.plan.now.version (opened file.entry.plan.now.rows) stay (pieces_after (option_copied file.entry.rest)))) }
 {
     let mut guests = Guests::of_plan(alloc, &file.plan.rows)?;
     let mut left = file.rest;
@@ -123,7 +123,7 @@ fn cut_to(
 ) -> Result<Vec<u8>, AllocError>
     ensures { IfOk result (λ text. text.items
         ≡ lone_plan_of file.entry.plan.now.version row.now
-        ++ behind_feeds (own_lines_in (setting_of file.entry.blocks) file.entry.plan.now.version (opened file.entry.plan.now.rows) stay (pieces_after (option_copied file.entry.rest)))) }
+        ++ behind_feeds (own_lines_in (capacity_of file.entry.blocks) file.entry.plan.now.version (opened file.entry.plan.now.rows) stay (pieces_after (option_copied file.entry.rest)))) }
 {
     let mut text = lone_plan_text(alloc, file.plan.version, row)?;
     push_own_lines(alloc, file, stay, &mut text)?;
@@ -175,7 +175,7 @@ fn find_admitted(
     mut search: Search<'_>,
 ) -> Result<Option<(usize, Row)>, AllocError>
     ensures { IfOk result (λ found. found
-        ≡ nth_from (length file.entry.plan.now.rows) (rows_by_guests (setting_of file.entry.blocks) file.entry.plan.now.version (guests_of (opened file.entry.plan.now.rows)) (pieces_after (option_copied file.entry.rest))) search.entry.name.now search.entry.left) }
+        ≡ nth_from (length file.entry.plan.now.rows) (rows_by_guests (capacity_of file.entry.blocks) file.entry.plan.now.version (guests_of (opened file.entry.plan.now.rows)) (pieces_after (option_copied file.entry.rest))) search.entry.name.now search.entry.left) }
 {
     let mut guests = Guests::of_plan(alloc, &file.plan.rows)?;
     let mut left = file.rest;
@@ -202,7 +202,7 @@ fn find_stay(
     nth: usize,
 ) -> Result<Option<(usize, Row)>, AllocError>
     ensures { IfOk result (λ found. found
-        ≡ nth_from 0 (stays_behind (setting_of file.entry.blocks) file.entry.plan.now.version file.entry.plan.now.rows (pieces_after (option_copied file.entry.rest))) name.now nth) }
+        ≡ nth_from 0 (stays_behind (capacity_of file.entry.blocks) file.entry.plan.now.version file.entry.plan.now.rows (pieces_after (option_copied file.entry.rest))) name.now nth) }
 {
     let mut search = Search { name, left: nth };
     let rows = file.plan.rows.as_slice();
@@ -223,7 +223,7 @@ fn find_stay(
 fn is_too_small(plan: &Plan, blocks: usize) -> bool
     ensures { result ≡ is_too_small blocks plan.now }
 {
-    plan.version.has_stays() && blocks_of_all(plan.rows.as_slice()) > blocks
+    plan.version.has_stays() && blocks_of_all(BLOCK_BYTES, plan.rows.as_slice()) > blocks
 }
 
 /// Makes the file of one stay alone: a plan of the same version with its row alone, then its lines,

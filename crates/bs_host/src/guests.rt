@@ -3,14 +3,15 @@ ghost use Rattle.std.specs.Prelude.{◌≡◌, not, nat_eq};
 ghost use Rattle.std.specs.List.{filter};
 ghost use Rattle.bs_host.specs.Guests.{GuestList, guests_in};
 
-use crate::blocks::blocks_of;
+use crate::limits::BLOCK_BYTES;
 use crate::parse::ParsedLine;
 use crate::route::Route;
 use bs_board::limits::MOST_ROWS;
 use bs_board::{Id, Row, Rows};
 use bs_fiber::SharedCommand;
 use bs_json::Stray;
-use bs_workers::{Act, MOST_STAYS};
+use bs_sched::{MOST_STAYS, blocks_of};
+use bs_workers::Act;
 use std::alloc::{AllocError, Global};
 use std::marker::Model;
 
@@ -38,11 +39,10 @@ impl Guests {
     ghost use Rattle.std.specs.Prelude.{◌≡◌, ◌-◌, ◌&&◌, not, nat_lt, length, Some, None, IfOk, OnOk};
     ghost use Rattle.std.specs.List.{list_any, position};
     ghost use Rattle.bs_workers.specs.Acts.{opened};
-    ghost use Rattle.bs_host.specs.declared.limits.TheConstants.{BLOCK_BYTES};
     ghost use Rattle.bs_host.specs.declared.route.Route.TheVariants as route;
     ghost use Rattle.bs_host.specs.Guests.{bears, blocks_in, found_in, guests_of, guests_then, refusal_by};
     ghost use Rattle.bs_host.specs.Parsed.{route_parsed};
-    ghost use Rattle.bs_host.specs.Routing.{admit_route, hand_route, setting_of, leave_route};
+    ghost use Rattle.bs_host.specs.Routing.{admit_route, hand_route, capacity_of, leave_route};
 
     /// The rows of a plan, all of them open.
     #[tactic(auto, using(crate::proofs::GuestRoutes::all_open, crate::proofs::GuestRoutes::one_more_open))]
@@ -100,7 +100,7 @@ impl Guests {
     {
         let mut left = blocks;
         for index in 0..self.stays.len() {
-            left = left.saturating_sub(blocks_of(&self.stays[index].1));
+            left = left.saturating_sub(blocks_of(BLOCK_BYTES, &self.stays[index].1));
         }
         left
     }
@@ -114,13 +114,13 @@ impl Guests {
 
     /// The first reason against admitting that row, if there is one.
     fn refusal(&self, blocks: usize, row: &Row) -> Option<Stray>
-        ensures { result ≡ refusal_by (setting_of blocks) self.now row.now }
+        ensures { result ≡ refusal_by (capacity_of blocks) self.now row.now }
     {
         if self.has_name(&row.game) {
             Some(Stray::NameOpen)
         } else if self.is_full() {
             Some(Stray::Full)
-        } else if blocks_of(row) <= self.left_of(blocks) {
+        } else if blocks_of(BLOCK_BYTES, row) <= self.left_of(blocks) {
             None
         } else {
             Some(Stray::Short)
@@ -139,7 +139,7 @@ impl Guests {
 
     #[tactic(auto, using(crate::proofs::GuestRoutes::room_for_one))]
     fn admit(&mut self, alloc: Global, blocks: usize, row: &Row) -> Result<Route, AllocError>
-        ensures route { IfOk result (λ route. route ≡ admit_route (refusal_by (setting_of blocks) self.old row.now) row.now) }
+        ensures route { IfOk result (λ route. route ≡ admit_route (refusal_by (capacity_of blocks) self.old row.now) row.now) }
         ensures after { IfOk result (λ route. self.new ≡ guests_then self.old route) }
     {
         if let Some(kind) = self.refusal(blocks, row) {
@@ -171,7 +171,7 @@ impl Guests {
         blocks: usize,
         line: &ParsedLine,
     ) -> Result<Route, AllocError>
-        ensures route { IfOk result (λ route. route ≡ route_parsed (setting_of blocks) self.old line.now) }
+        ensures route { IfOk result (λ route. route ≡ route_parsed (capacity_of blocks) self.old line.now) }
         ensures after { IfOk result (λ route. self.new ≡ guests_then self.old route) }
     {
         match line {

@@ -2,7 +2,6 @@
 //! and writes the transcript. Also cuts a file to one stay of a game: its own lines as a file.
 #![tactic(auto)]
 
-mod blocks;
 mod cut_fault;
 #[cfg(test)]
 mod cut_tests;

@@ -3,7 +3,7 @@ ghost use Rattle.std.specs.Prelude.{◌≡◌, ◌++◌, IfOk, OnOk, option_to_l
 ghost use Rattle.bs_workers.specs.Acts.{opened};
 ghost use Rattle.bs_host.specs.Guests.{guests_of};
 ghost use Rattle.bs_host.specs.Parsed.{routes_parsed};
-ghost use Rattle.bs_host.specs.Routing.{IsRouted, act_in, setting_of, numbered_stray};
+ghost use Rattle.bs_host.specs.Routing.{IsRouted, act_in, capacity_of, numbered_stray};
 
 use crate::guests::Guests;
 use crate::parse::ParsedLine;
@@ -58,7 +58,7 @@ pub(crate) fn route_lines(
     rows: &Rows,
     lines: &[ParsedLine],
 ) -> Result<Requests, AllocError>
-    ensures { IfOk result (IsRouted (routes_parsed (setting_of blocks) (guests_of (opened rows.now)) 2 lines.now)) }
+    ensures { IfOk result (IsRouted (routes_parsed (capacity_of blocks) (guests_of (opened rows.now)) 2 lines.now)) }
 {
     let mut guests = Guests::of_plan(alloc, rows)?;
     let mut requests = Requests {

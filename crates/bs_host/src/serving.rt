@@ -5,7 +5,7 @@ ghost use Rattle.std.specs.Io.KnownBytes.{Appends};
 ghost use Rattle.bs_host.specs.File.{pieces_after};
 ghost use Rattle.bs_host.specs.Hosted.{Hosts, IsOpened};
 ghost use Rattle.bs_workers.specs.Acts.{opened};
-ghost use Rattle.bs_host.specs.Routing.{IsRouted, setting_of, routes_from};
+ghost use Rattle.bs_host.specs.Routing.{IsRouted, capacity_of, routes_from};
 ghost use Rattle.bs_host.specs.Faults.{refusal_of, IsRefusal, IsFault, Leaves};
 ghost use Rattle.bs_host.specs.Transcript.{transcript_of};
 
@@ -17,6 +17,7 @@ use crate::parse::parse_lines;
 use crate::render::render_core;
 use crate::route::{Requests, route_lines};
 use bs_board::Plan;
+use bs_board::limits::MOST_ROWS;
 use bs_json::read_plan;
 use bs_sched::{Core, MOST_WORKERS};
 use bs_transcript::write_shares;
@@ -33,16 +34,21 @@ const MOST_THREADS: usize = 1_024;
 /// time at the lock is small beside them.
 const MOST_WORKERS_OF_THREAD: usize = 16;
 
-/// The number of workers of a core for that many games. Each thread has as many workers as there
-/// are games for it, from 1 to 16, so that all games advance together. A single thread has one.
+/// The number of workers of a core for that plan. Each thread has as many workers as there may be
+/// games for it at once, from 1 to 16, so that all games advance together. A single thread has one.
 #[tactic(auto, using(crate::proofs::HostedCore::few_workers))]
-fn count_workers(games: usize, threads: usize) -> usize
+fn count_workers(plan: &Plan, threads: usize) -> usize
     requires { threads ≤ MOST_THREADS }
     ensures { result ≤ MOST_WORKERS }
 {
     if threads <= 1 {
         return threads;
     }
+    let games = if plan.version.has_stays() {
+        MOST_ROWS
+    } else {
+        plan.rows.as_slice().len()
+    };
     let of_thread = (games / threads).clamp(1, MOST_WORKERS_OF_THREAD);
     threads * of_thread
 }
@@ -65,7 +71,7 @@ fn open_file(
     }
     let (first, rest) = split_line(input);
     let plan = read_plan(alloc, first)?;
-    let workers = count_workers(plan.rows.as_slice().len(), threads);
+    let workers = count_workers(&plan, threads);
     let core = Core::open(alloc, plan.copy(alloc)?, blocks, workers)?;
     Ok((core, plan, rest))
 }
@@ -78,7 +84,7 @@ fn read_requests<R: Threads + Sync>(
     threads: usize,
 ) -> Result<Requests, AllocError>
     ensures { IfOk result
-        (IsRouted (routes_from (setting_of file.entry.blocks) file.entry.plan.now.version (opened file.entry.plan.now.rows) 2 (pieces_after (option_copied file.entry.rest)))) }
+        (IsRouted (routes_from (capacity_of file.entry.blocks) file.entry.plan.now.version (opened file.entry.plan.now.rows) 2 (pieces_after (option_copied file.entry.rest)))) }
 {
     let lines = parse_lines(rt, alloc, file.plan.version, file.rest, threads)?;
     route_lines(alloc, file.blocks, &file.plan.rows, lines.as_slice())

@@ -375,7 +375,7 @@ fn plans_are_refused(rt: HostRuntime) -> Result<(), Fail> {
     Ok(())
 }
 
-/// Takes so many bytes, a few at a time, and then fails: by an error, or by taking nothing.
+/// Takes so many bytes, one a call, and then fails: by an error, or by taking nothing.
 #[derive(Drop)]
 struct Narrow {
     taken: Vec<u8>,
@@ -385,7 +385,7 @@ struct Narrow {
 
 impl Write for Narrow {
     fn write(&mut self, buf: &[u8]) -> io::Result<usize> {
-        let count = buf.len().min(self.room).min(3);
+        let count = buf.len().min(self.room).min(1);
         if count == 0 {
             return match self.failure {
                 Some(kind) => Err(io::Error::from(kind)),

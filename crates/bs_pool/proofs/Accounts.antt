@@ -1,29 +1,19 @@
 -- What accounts tell of reservations and of counts, and what becomes of them.
 use Rattle.std.proofs.Common.{◌≡◌, ◌≢◌, ℕ, suc, ◌+◌, ◌<◌, ◌≤◌, true, false, List, [], ◌∷◌, ◌++◌, length, Option, Some, None, IsSome, slice_get, slice_set, slice_index_or, refl, sym, ap, ◌∙◌, arith, inl, inr}
 use Rattle.std.specs.List.{position_or_len}
-use Rattle.std.specs.Prelude.{nat_eq, nat_lt, find, position, count_by, cond, AllPairs, MatchOption, option_map}
+use Rattle.std.specs.Prelude.{nat_eq, nat_lt, find, position, count_by, cond, AllPairs, MatchOption}
 use Rattle.std.proofs.lemmas.Bool.{cases_Bool, cases_eq, cases_lt, eq-eqb, ne_eqb, eqb-true}
 use Rattle.std.proofs.Math.Seq.{map-set_same}
-use Rattle.std.proofs.lemmas.List.Sums.{sum_by-cons}
 use Rattle.std.proofs.lemmas.List.{length-map, map-append, get_or-map, get_or-set_same, get_or-set_other}
 use Rattle.std.proofs.lemmas.List.Quantifiers.{position-Some}
 use Rattle.std.proofs.lemmas.Option.{slice_get-get_or, get_or_from_slice_get}
 use Rattle.std.proofs.lemmas.List.Folds.{find_at}
 use Rattle.bs_pool.proofs.Positions.{none_passes}
 use Rattle.bs_pool.specs.declared.reservation.Account.{Account}
-use Rattle.bs_pool.specs.Accounts.{reservations_of, is_account_of, has_account, granted, all_granted, without_account, counted, AreCounted, Recounts}
-use Rattle.bs_pool.specs.Reservations.{is_of, is_reserved, reserved_by, all_reserved, without}
+use Rattle.bs_pool.specs.Accounts.{reservations_of, is_account_of, has_account, granted, without_account, counted, AreCounted, Recounts}
+use Rattle.bs_pool.specs.Reservations.{is_of, is_reserved, reserved_by, without}
 use Rattle.bs_pool.specs.Ledger.{is_owned_by}
 use Rattle.bs_pool.proofs.Reservations.{none_since, some_since}
-
--- the reservation of a tag is its account's
-pub find_in : (tag : ℕ) (accounts : List Account)
-    → find (is_of tag) (reservations_of accounts) ≡ option_map (λ a. a.reservation) (find (is_account_of tag) accounts)
-find_in tag [] = refl
-find_in tag (a ∷ accounts) = elim (cases_Bool (nat_eq a.reservation.tag tag)) [
-  | inl same ↦ rw same refl
-  | inr differ ↦ rw differ (find_in tag accounts)
-]
 
 pub reserved_in : (tag : ℕ) (accounts : List Account) → granted tag accounts ≡ reserved_by tag (reservations_of accounts)
 reserved_in tag [] = refl
@@ -48,12 +38,6 @@ some_in tag accounts some = some_since tag (reservations_of accounts) (sym (is_r
 
 pub pushed_in : (accounts : List Account) (a : Account) → reservations_of (accounts ++ a ∷ []) ≡ reservations_of accounts ++ a.reservation ∷ []
 pushed_in accounts a = map-append (λ x. x.reservation) accounts (a ∷ [])
-
-pub all_reserved_in : (accounts : List Account) → all_granted accounts ≡ all_reserved (reservations_of accounts)
-all_reserved_in [] = refl
-all_reserved_in (a ∷ accounts) =
-    sum_by-cons (λ x. x.reservation.blocks) a accounts ∙ ap (λ n. a.reservation.blocks + n) (all_reserved_in accounts)
-    ∙ sym (sum_by-cons (λ r. r.blocks) a.reservation (reservations_of accounts))
 
 pub without_in : (tag : ℕ) (accounts : List Account) → reservations_of (without_account tag accounts) ≡ without tag (reservations_of accounts)
 without_in tag [] = refl
@@ -105,9 +89,6 @@ pub recounts_at : (change : ℕ → ℕ) (tag : ℕ) (accounts : List Account) (
 recounts_at change tag accounts at d is =
     let within = (position-Some (is_account_of tag) accounts at d is).0 in
     rw is (slice_index_or accounts at d, slice_get-get_or accounts at d within, refl)
-
-pub recounts_none : (change : ℕ → ℕ) (tag : ℕ) (accounts : List Account) → position (is_account_of tag) accounts ≡ None → Recounts change tag accounts accounts
-recounts_none change tag accounts none = rw none refl
 
 module _ (change : ℕ → ℕ) (tag : ℕ) (old new : List Account) (distinct : AllPairs (λ r s. r.tag ≢ s.tag) (reservations_of old)) where
   -- the reservations stay, and the tag's count alone is changed

@@ -80,32 +80,6 @@ abbrev pub MarksBelow : List ℕ → ℕ → ℕ → Type 0
 MarksBelow words count number =
     (length words ≡ count) × ((i : ℕ) → mark_of words i ≡ cond (nat_lt i number) 1 0)
 
-zero_at : (count k : ℕ) → ◌≡◌ {A = ℕ} (slice_index_or (replicate count 0) k 0) 0
-zero_at count k = elim (cases_lt k count) [
-  | inl there ↦ get_or-replicate count k 0 0 there
-  | inr past ↦ get_or_past (replicate count 0) k 0 (omega (arith, past, length-replicate {A = ℕ} count 0))
-]
-
-pub none_below : (count : ℕ) → MarksBelow (replicate count 0) count 0
-none_below count = (
-  length-replicate count 0,
-  λ i. ap (λ w. bit_at w (i % 64)) (zero_at count (i / 64)) ∙ bit_at-zero (i % 64)
-      ∙ sym (ap (λ b. cond b 1 0) (le-ltb i 0 (omega arith))),
-)
-
-pub one_more_below : (words new : List ℕ) (count number : ℕ)
-    → MarksBelow words count number → SetsMark words number 1 new → MarksBelow new count (number + 1)
-one_more_below words new count number below set = (
-  set.0 ∙ below.0,
-  λ i. elim (cases_eq i number) [
-    | inl same ↦ ap (mark_of new) same ∙ set.1 ∙ sym (ap (λ b. cond b 1 0) (lt-ltb i (number + 1) (omega (arith, same))))
-    | inr apart ↦ elim (cases_lt i number) [
-      | inl lower ↦ set.2 i apart ∙ below.1 i ∙ ap (λ b. cond b 1 0) (lt-ltb i number lower ∙ sym (lt-ltb i (number + 1) (omega (arith, lower))))
-      | inr higher ↦ set.2 i apart ∙ below.1 i ∙ ap (λ b. cond b 1 0) (le-ltb i number higher ∙ sym (le-ltb i (number + 1) (omega (arith, higher, apart))))
-    ]
-  ],
-)
-
 free_in_new : (n i : ℕ) → is_free_at (replicate n None) i ≡ nat_lt i n
 free_in_new n i = elim (cases_lt i n) [
   | inl there ↦ ap is_unowned (get_or-replicate n i None (Some 0) there) ∙ sym (lt-ltb i n there)

@@ -67,14 +67,6 @@ all_reserved_pushed tag n rs = sum_by_push (λ r. r.blocks) rs (record { tag = t
 pub unreserved_pushed : (tag n : ℕ) (pool : Ledger) → unreserved (with_reservation tag n pool) ≡ unreserved pool - n
 unreserved_pushed tag n pool = let e = all_reserved_pushed tag n pool.reservations in omega (arith, e)
 
--- one less
-pub reserved_without : (tag : ℕ) (rs : List Reservation) → reserved_by tag (without tag rs) ≡ 0
-reserved_without tag [] = refl
-reserved_without tag (r ∷ rs) = elim (cases_Bool (nat_eq r.tag tag)) [
-  | inl same ↦ rw same (reserved_without tag rs)
-  | inr differ ↦ rw (differ, differ) (reserved_without tag rs)
-]
-
 pub reserved_without_other : (tag other : ℕ) (rs : List Reservation) → tag ≢ other → reserved_by other (without tag rs) ≡ reserved_by other rs
 reserved_without_other tag other [] apart = refl
 reserved_without_other tag other (r ∷ rs) apart = elim (cases_eq r.tag tag) [

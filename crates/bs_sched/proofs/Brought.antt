@@ -12,7 +12,6 @@ use Rattle.bs_game.specs.View.{answer_of}
 use Rattle.bs_fiber.specs.declared.input.Input.{Input}
 use Rattle.bs_fiber.specs.declared.job.JobKind.{JobKind}
 use Rattle.bs_fiber.specs.declared.job.JobKind.TheVariants as kind
-use Rattle.bs_fiber.specs.declared.out.Out.{Out}
 use Rattle.bs_fiber.specs.declared.out.Out.TheVariants.{Goes, Answered, Moved}
 use Rattle.bs_fiber.specs.Frames.{frame_of}
 use Rattle.bs_fiber.specs.Tickets.{HoldsWork, bytes_of, frames_in, names_of}

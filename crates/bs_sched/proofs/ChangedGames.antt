@@ -2,7 +2,7 @@
 use Rattle.std.proofs.Common.{◌≡◌, ℕ, ◌<◌, ◌≤◌, true, List, length, map, refl, sym, ap, subst, ◌∙◌, get_or, Result, Ok, Err, arith}
 use Rattle.std.specs.Prelude.{[], Option, None, Some, replicate, slice_index_or, slice_set, OnOk, OnErr}
 use Rattle.bs_board.specs.declared.commands.command.Command.{Command}
-use Rattle.std.proofs.lemmas.List.{map-set, length-set, set-get_or, get_or-set_other}
+use Rattle.std.proofs.lemmas.List.{map-set, length-set, get_or-set_other}
 use Rattle.std.proofs.Math.Seq.{map-set_same}
 use Rattle.std.proofs.Math.ListN.{get_or-map}
 use Rattle.std.proofs.lemmas.Option.{slice_get_read, get_or_from_slice_get}
@@ -17,7 +17,6 @@ use Rattle.bs_sched.proofs.OpenRows.{open_same}
 use Rattle.bs_sched.proofs.Reserved.{reserved_changed, with_room}
 use Rattle.bs_sched.proofs.RightRuns.{busy_out, busy_ready, open_busy}
 use Rattle.bs_sched.specs.Insides.{may_answer}
-use Rattle.bs_heap.specs.Packing.{no_packing}
 use Rattle.bs_pool.specs.Ledger.{Ledger, reserved}
 use Rattle.bs_game.specs.declared.reply.Effect.{Effect}
 use Rattle.bs_game.specs.declared.reply.Effect.TheVariants as effect
@@ -40,9 +39,9 @@ use Rattle.bs_sched.proofs.ChangedFrames.{changed_frames, changed_lane_frames, l
 use Rattle.bs_sched.proofs.Heaps.{changed_gone, changed_lane, changed_heaps}
 use Rattle.bs_sched.proofs.PartFrames.{same_frame}
 use Rattle.std.specs.Vec.{with_item}
-use Rattle.bs_sched.specs.Lane.{Lane, is_out, is_ready, no_lane, lane_command, lane_view, part_at, with_waiting}
+use Rattle.bs_sched.specs.Lane.{Lane, is_out, is_ready, lane_command, lane_view, part_at, with_waiting}
 use Rattle.bs_sched.specs.Machine.{lane_of, open_blocks}
-use Rattle.bs_sched.specs.Storage.{Storage, frame_tag, frames_of, packing_of, packing_after, pool_after, record_tag, stored, with_parts, without_frames}
+use Rattle.bs_sched.specs.Storage.{frame_tag, frames_of, packing_of, packing_after, pool_after, record_tag, stored, with_parts, without_frames}
 
 -- what is read at a place within a list is there whatever stands behind its end
 pub read_at : {X : Type 0} (xs : List X) (i : ℕ) (x d : X) → i < length xs → x ≡ get_or xs i x → x ≡ get_or xs i d
@@ -214,10 +213,6 @@ pub same_packings : (game : ℕ) (heaps : List Heap) (heap new : Heap) → heap 
     → map (λ (h : Heap). h.packing) (slice_set heaps game new) ≡ map (λ (h : Heap). h.packing) heaps
 same_packings game heaps heap new is grown =
     map-set_same (λ (h : Heap). h.packing) heaps game new (empty_heap 0 0) (ap (λ (h : Heap). h.packing) (grown ∙ ap (with_index_room new.index_room) is))
-
--- an effect that keeps all records leaves the storage
-pub kept_storage : (cap game : ℕ) (storage : Storage) → stored cap game effect.Keep storage ≡ storage
-kept_storage cap game storage = ap (λ packings. record storage { packings = packings }) (set-get_or storage.packings game no_packing)
 
 -- a command was handed in, or was not for want of memory
 

@@ -1,5 +1,5 @@
 -- A core to which a stay has come, and one that a stay has left.
-use Rattle.std.proofs.Common.{◌≡◌, ◌≢◌, ℕ, ◌+◌, ◌-◌, ◌*◌, ◌<◌, ◌≤◌, true, false, List, [], ◌∷◌, ◌++◌, None, length, map, refl, sym, ap, subst, ◌∙◌, arith, inl, inr}
+use Rattle.std.proofs.Common.{◌≡◌, ◌≢◌, ℕ, ◌+◌, ◌-◌, ◌*◌, ◌<◌, ◌≤◌, true, false, List, [], ◌∷◌, ◌++◌, None, length, refl, sym, ap, subst, ◌∙◌, arith, inl, inr}
 use Rattle.std.specs.Prelude.{All, ◌&&◌, count_by, filter, nat_eq, nat_le, nat_lt, not, slice_set}
 use Rattle.std.specs.List.{list_any}
 use Rattle.std.proofs.Math.ListN.{get_or-map}
@@ -17,7 +17,7 @@ use Rattle.bs_pool.specs.declared.reservation.Reservation.{Reservation}
 use Rattle.bs_pool.specs.Ledger.{Ledger, ledger_of, held, reservation_of, reserved, size, IsSound as IsSoundPool}
 use Rattle.bs_pool.specs.Reservations.{all_reserved, reserved_by}
 use Rattle.bs_sched.specs.declared.games.Games.TheInside.{Inside}
-use Rattle.bs_sched.specs.declared.plan_blocks.TheConstants.{FRAME_BLOCKS, MOST_STAYS}
+use Rattle.bs_sched.specs.declared.plan_blocks.TheConstants.{MOST_STAYS}
 use Rattle.bs_sched.specs.declared.stage.Stage.{Stage}
 use Rattle.bs_sched.specs.declared.stage.Stage.TheVariants as stage
 use Rattle.bs_sched.specs.Frames.{FramesView, AreFramesAt, AreFramesOf, known, no_frames}

@@ -1,6 +1,6 @@
 -- What a fiber keeps, after each event.
 use Rattle.std.proofs.Common.{◌≡◌, ℕ, ◌<◌, true, false, List, length, map, refl, sym, ap, subst, ◌∙◌, arith, Global, Vec, vec_len, vec_capacity}
-use Rattle.std.specs.Prelude.{Option, Some, None, IfSome, MatchOption, drop, is_some, nat_eq, not, slice_set}
+use Rattle.std.specs.Prelude.{Option, Some, None, IfSome, MatchOption, drop, nat_eq, slice_set}
 use Rattle.std.specs.List.{list_all, filter_map}
 use Rattle.std.proofs.lemmas.Bool.{eqb-true}
 use Rattle.std.proofs.lemmas.List.{length-drop, length-map, length-set}

@@ -1,5 +1,5 @@
 -- What was found in the open stays of a core.
-use Rattle.std.proofs.Common.{◌≡◌, ℕ, ◌<◌, true, List, length, inl, inr, sym, subst, arith}
+use Rattle.std.proofs.Common.{◌≡◌, ℕ, ◌<◌, List, length, inl, inr, subst, arith}
 use Rattle.std.specs.Prelude.{slice_index_or, Option, None, Some, MatchOption}
 use Rattle.bs_fiber.specs.declared.job.JobName.{JobName}
 use Rattle.std.proofs.lemmas.Bool.{cases_lt}

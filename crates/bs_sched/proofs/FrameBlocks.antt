@@ -1,21 +1,14 @@
 -- The slots of a game's parts, filled and emptied.
-use Rattle.std.proofs.Common.{◌≡◌, ℕ, zero, suc, ◌+◌, ◌<◌, Bool, true, All, List, [], ◌∷◌, ◌++◌, length, map, drop, get_or, Option, Some, None, slice_get, set, replicate, refl, sym, ap, ◌∙◌, subst, arith, inl, inr}
+use Rattle.std.proofs.Common.{◌≡◌, ℕ, zero, suc, ◌+◌, ◌<◌, All, List, [], ◌∷◌, ◌++◌, length, map, drop, get_or, Option, Some, None, slice_get, set, replicate, refl, sym, ap, ◌∙◌, subst, arith}
 use Rattle.std.specs.Prelude.{slice_index_or}
-use Rattle.std.proofs.lemmas.Bool.{cases_eq}
-use Rattle.std.proofs.lemmas.Grind.{get_or-set_at}
-use Rattle.std.proofs.lemmas.List.{get_or-set_other, length-map, length-set}
+use Rattle.std.proofs.lemmas.List.{length-map}
 use Rattle.std.proofs.lemmas.List.Elements.{All-cons, All-nil}
 use Rattle.bs_counter.specs.Keys.{Key, AreKeys}
 use Rattle.bs_pool.specs.declared.owned.Owned.{Owned}
 use Rattle.bs_sched.specs.declared.frames.FrameSlot.{FrameSlot}
 use Rattle.bs_sched.specs.declared.frames.FrameSlot.TheVariants as slot
-use Rattle.bs_sched.specs.FrameSlots.{number_in, bytes_in, is_ready_slot, AreReadyAt, IsReadyAt, IsSlotOf}
+use Rattle.bs_sched.specs.FrameSlots.{number_in, bytes_in, AreReadyAt, IsReadyAt, IsSlotOf}
 use Rattle.bs_sched.specs.Frames.{FramesView, known}
-
-pub within_slots : {most : ℕ} (slots : List (FrameSlot most)) (part : ℕ) (o : Option ℕ) → slice_get (map number_in slots) part ≡ Some o → part < length slots
-within_slots [] part o is = absurd cc
-within_slots (s ∷ slots) zero o is = omega arith
-within_slots (s ∷ slots) (suc part) o is = let rest = within_slots slots part o is in omega arith
 
 nothing_moved : {most : ℕ} (s : FrameSlot most) → number_in s ≡ None → bytes_in s ≡ None
 nothing_moved (slot.Ready key) is = refl
@@ -75,29 +68,6 @@ ready_with_keys most parts keys are p within =
     let all = are.1.all in
     let here = are.1.each p (omega (arith, many, all, within)) in
     subst (λ (s : FrameSlot most). IsReadyAt p s) (sym (key_at_part keys p here.0 here.1)) here.2
-
--- a slot is written
-pub ready_set : {most : ℕ} (slots : List (FrameSlot most)) (i : ℕ) (new : FrameSlot most) → AreReadyAt slots → IsReadyAt i new → AreReadyAt (set slots i new)
-ready_set [] i new are here p within = absurd (omega arith)
-ready_set {most} (x ∷ slots) i new are here p within =
-    elim (cases_eq p i) [
-      | inl same ↦
-          let there : i < length (x ∷ slots) = let l = length-set (x ∷ slots) i new in omega (arith, l) in
-          subst (λ (y : FrameSlot most). IsReadyAt p y) (sym (get_or-set_at (x ∷ slots) i p new (slot.Out 0) same there))
-          (subst (λ (q : ℕ). IsReadyAt q new) (sym same) here)
-      | inr differ ↦
-          subst (λ (y : FrameSlot most). IsReadyAt p y) (sym (get_or-set_other (x ∷ slots) i p new (slot.Out 0) differ))
-          (are p (let l = length-set (x ∷ slots) i new in omega (arith, l)))
-    ]
-
--- a slot of whose part no block was drawn has a key
-pub ready_none : {most : ℕ} (slots : List (FrameSlot most)) (part : ℕ) (s : FrameSlot most) → slice_get (map number_in slots) part ≡ Some None
-    → s ≡ get_or slots part s → is_ready_slot s ≡ true
-ready_none [] part s free is = absurd cc
-ready_none (slot.Ready key ∷ slots) zero s free is = rw is refl
-ready_none (slot.Out n ∷ slots) zero s free is = absurd (let wrong : Some (Some n) ≡ Some None = free in cc)
-ready_none (slot.Back owned ∷ slots) zero s free is = absurd (let wrong : Some (Some owned.number) ≡ Some None = free in cc)
-ready_none (x ∷ slots) (suc part) s free is = ready_none slots part s free is
 
 -- a slot without a number is passed over
 passed : {most : ℕ} (slots : List (FrameSlot most)) (i : ℕ) (s : FrameSlot most) → i < length slots → s ≡ get_or slots i s → number_in s ≡ None

@@ -1,14 +1,13 @@
 -- Slots that are emptied one after the other.
-use Rattle.std.proofs.Common.{◌≡◌, ℕ, zero, suc, ◌+◌, ◌<◌, ◌≤◌, List, [], ◌∷◌, ◌++◌, length, take, drop, map, get_or, set, Option, Some, None, refl, sym, ap, ◌∙◌, arith, length-append}
+use Rattle.std.proofs.Common.{◌≡◌, ℕ, zero, suc, ◌+◌, ◌<◌, ◌≤◌, List, [], ◌∷◌, ◌++◌, length, take, drop, map, get_or, refl, sym, ap, ◌∙◌, arith, length-append}
 use Rattle.std.specs.Prelude.{slice_set, flat_map, option_to_list}
-use Rattle.std.proofs.lemmas.List.{append-nil, take_more, length-take}
+use Rattle.std.proofs.lemmas.List.{append-nil, take_more}
 use Rattle.std.proofs.lemmas.List.Concat.{flat_map-append}
 use Rattle.std.proofs.lemmas.Option.{slice_get_read}
 use Rattle.bs_modes.proofs.InPlace.{set_next}
-use Rattle.bs_pool.specs.declared.owned.Owned.{Owned}
 use Rattle.bs_sched.specs.declared.frames.FrameSlot.{FrameSlot}
 use Rattle.bs_sched.specs.declared.frames.FrameSlot.TheVariants as slot
-use Rattle.bs_sched.specs.FrameSlots.{sent_off, back_in}
+use Rattle.bs_sched.specs.FrameSlots.{back_in}
 
 seam_here : {X : Type 0} (f : X → X) (xs : List X) (i : ℕ) (d : X) → get_or (map f (take i xs) ++ drop i xs) i d ≡ get_or xs i d
 seam_here f [] zero d = refl

@@ -1,27 +1,22 @@
 -- What the events leave of what was handed to the lanes, and what a quiet lane has answered.
-use Rattle.std.proofs.Common.{◌≡◌, ℕ, ◌<◌, Bool, true, false, List, [], ◌∷◌, ◌++◌, length, take, drop, map, get_or, refl, sym, ap, ◌∙◌}
-use Rattle.std.specs.Prelude.{if◌then◌else◌, slice_set, slice_index_or}
-use Rattle.std.specs.List.{list_all}
-use Rattle.std.proofs.Math.ListN.{get_or-map}
-use Rattle.std.proofs.Math.Seq.{map-set_same}
+use Rattle.std.proofs.Common.{◌≡◌, ℕ, Bool, true, false, List, [], ◌∷◌, ◌++◌, take, drop, refl, sym, ap, ◌∙◌}
+use Rattle.std.specs.Prelude.{if◌then◌else◌}
 use Rattle.std.proofs.lemmas.Bool.{eqb-true}
-use Rattle.std.proofs.lemmas.List.{append_assoc, append-nil, take-append-drop, map-set, map_push, nil_from_length}
-use Rattle.std.proofs.lemmas.List.Sums.{AllPass-from_list_all}
+use Rattle.std.proofs.lemmas.List.{append_assoc, append-nil, take-append-drop, nil_from_length}
 use Rattle.bs_board.proofs.Chains.{and_both}
 use Rattle.bs_board.specs.declared.commands.command.Command.{Command}
-use Rattle.bs_board.specs.plans.Plan.{GameRow, row_of}
-use Rattle.bs_game.specs.Alone.{course_of}
+use Rattle.bs_board.specs.plans.Plan.{GameRow}
+use Rattle.bs_game.specs.Alone.{alone, course_of}
 use Rattle.bs_fiber.specs.declared.job.JobKind.{JobKind}
 use Rattle.bs_fiber.specs.declared.job.JobKind.TheVariants as kind
-use Rattle.bs_fiber.specs.declared.job.JobName.{JobName}
 use Rattle.bs_sched.specs.declared.event.Event.{Event}
 use Rattle.bs_sched.specs.declared.event.Event.TheVariants as event
-use Rattle.bs_sched.specs.Games.{opened, row_at}
 use Rattle.bs_sched.specs.Courses.{IsRight, answered_commands}
-use Rattle.bs_sched.specs.Handed.{commands_of, quota_of, handed_to, handed_after, IsServed}
+use Rattle.bs_sched.specs.Handed.{commands_of}
 use Rattle.bs_sched.specs.Isolation.{commands_in}
-use Rattle.bs_sched.specs.Lane.{Lane, empty_lane, closed_lane, no_lane, goes_on, is_idle, is_quiet, forked, answered, with_waiting, with_taken, with_put}
-use Rattle.bs_sched.specs.Machine.{lane_of, lane_after, lane_effect}
+use Rattle.bs_sched.specs.Lane.{Lane, goes_on, is_idle, is_quiet, records_of, forked, answered, with_waiting, with_taken, with_put}
+use Rattle.bs_sched.specs.Machine.{lane_after}
+use Rattle.bs_sched.specs.Registry.{IsServedAlone}
 
 -- of one lane
 
@@ -82,55 +77,6 @@ row_kept x (event.Put worker job) = row_put x job.kind job.part
 row_kept x (event.Admit row) = refl
 row_kept x (event.Leave game) = refl
 
-pub quota_kept : (x : Lane) (e : Event) → quota_of (lane_after x e) ≡ quota_of x
-quota_kept x e = ap (λ (row : GameRow). row.quota) (row_kept x e)
-
--- of all lanes
-
-pub all_handed : (lanes : List Lane) (game : ℕ) (command : Command)
-    → map commands_of (lane_effect lanes (event.Hand game command))
-    ≡ slice_set (map commands_of lanes) game (slice_index_or (map commands_of lanes) game [] ++ command ∷ [])
-all_handed lanes game command =
-    let before : get_or (map commands_of lanes) game [] ≡ commands_of (lane_of lanes game) = get_or-map commands_of lanes game no_lane in
-    let here : commands_of (with_waiting command (lane_of lanes game)) ≡ get_or (map commands_of lanes) game [] ++ command ∷ []
-    = commands_handed (lane_of lanes game) command ∙ ap (λ all. all ++ command ∷ []) (sym before) in
-    map-set commands_of lanes game (with_waiting command (lane_of lanes game)) ∙ ap (slice_set (map commands_of lanes) game) here
-
-pub all_taken : (lanes : List Lane) (worker : ℕ) (job : JobName) → map commands_of (lane_effect lanes (event.Take worker job)) ≡ map commands_of lanes
-all_taken lanes worker job =
-    map-set_same commands_of lanes job.game (with_taken worker job.kind job.part (lane_of lanes job.game)) no_lane
-    (commands_taken (lane_of lanes job.game) worker job.kind job.part)
-
-pub all_put : (lanes : List Lane) (worker : ℕ) (job : JobName) → map commands_of (lane_effect lanes (event.Put worker job)) ≡ map commands_of lanes
-all_put lanes worker job =
-    map-set_same commands_of lanes job.game (with_put job.kind job.part (lane_of lanes job.game)) no_lane
-    (commands_put (lane_of lanes job.game) job.kind job.part)
-
-pub all_handed_after : (lanes : List Lane) (e : Event) → map commands_of (lane_effect lanes e) ≡ handed_after (map commands_of lanes) e
-all_handed_after lanes (event.Hand game command) = all_handed lanes game command
-all_handed_after lanes (event.Take worker job) = all_taken lanes worker job
-all_handed_after lanes (event.Put worker job) = all_put lanes worker job
-all_handed_after lanes (event.Admit row) = map_push commands_of lanes (empty_lane row)
-all_handed_after lanes (event.Leave game) = map-set_same commands_of lanes game (closed_lane (lane_of lanes game)) no_lane refl
-
--- of a core that was just opened
-
-none_handed : (rows : List GameRow) → map commands_of (map (λ (row : GameRow). empty_lane row) rows) ≡ map (λ (_ : GameRow). []) rows
-none_handed [] = refl
-none_handed (row ∷ rows) = ap (λ rest. [] ∷ rest) (none_handed rows)
-
-pub quotas_of_rows : (rows : List GameRow) → map quota_of (map (λ (row : GameRow). empty_lane row) rows) ≡ map (λ (row : GameRow). row.quota) rows
-quotas_of_rows [] = refl
-quotas_of_rows (row ∷ rows) = ap (λ rest. row.quota ∷ rest) (quotas_of_rows rows)
-
-pub opened_handed : (cap blocks workers : ℕ) (rows : List GameRow)
-    → map commands_of (opened cap blocks workers rows).lanes ≡ map (λ (_ : GameRow). []) rows
-opened_handed cap blocks workers rows = none_handed rows
-
-pub opened_quotas : (cap blocks workers : ℕ) (rows : List GameRow)
-    → map quota_of (opened cap blocks workers rows).lanes ≡ map (λ (row : GameRow). row.quota) rows
-opened_quotas cap blocks workers rows = quotas_of_rows rows
-
 -- a quiet lane has answered all that was handed to it
 
 quiet_commands : (x : Lane) → is_quiet x ≡ true → answered_commands x ≡ commands_of x
@@ -141,37 +87,12 @@ quiet_commands x quiet =
     let all : x.taken ++ [] ≡ x.taken = append-nil x.taken in
     rw (idle, none, all) refl
 
-pub quiet_course : (x : Lane) → IsRight x → is_quiet x ≡ true
-    → (x.replies ≡ (course_of x.row.quota (commands_of x)).replies) × (x.game ≡ (course_of x.row.quota (commands_of x)).game)
-quiet_course x right quiet =
-    let same = quiet_commands x quiet in (
-      right.course.replies ∙ ap (λ commands. (course_of x.row.quota commands).replies) same,
-      right.course.game ∙ ap (λ commands. (course_of x.row.quota commands).game) same,
-    )
-
-pub served : (x : Lane) (row : GameRow) (commands : List Command) → IsRight x → is_quiet x ≡ true → x.row.quota ≡ row.quota
-    → commands_of x ≡ commands → IsServed row commands x
-served x row commands right quiet quota handed =
-    let course = quiet_course x right quiet in
-    let replies : x.replies ≡ (course_of row.quota (commands_of x)).replies
-    = course.0 ∙ ap (λ most. (course_of most (commands_of x)).replies) quota in
-    let game : x.game ≡ (course_of row.quota (commands_of x)).game
-    = course.1 ∙ ap (λ most. (course_of most (commands_of x)).game) quota in
+pub served : (x : Lane) (commands : List Command) → IsRight x → is_quiet x ≡ true → commands_of x ≡ commands → IsServedAlone x.row commands x
+served x commands right quiet handed =
+    let same = quiet_commands x quiet ∙ handed in
+    let game : x.game ≡ (alone x.row commands).game = right.course.game ∙ ap (λ cs. (course_of x.row.quota cs).game) same in
     record {
-      replies = replies ∙ ap (λ all. (course_of row.quota all).replies) handed;
-      game = game ∙ ap (λ all. (course_of row.quota all).game) handed;
+      replies = right.course.replies ∙ ap (λ cs. (course_of x.row.quota cs).replies) same;
+      game = game;
+      records = ap (λ g. if x.is_open then records_of g else []) game;
     }
-
--- one lane of a quiet core
-pub served_lane : (lanes : List Lane) (rows : List GameRow) (handed : List (List Command)) (game : ℕ) → game < length lanes
-    → IsRight (lane_of lanes game) → list_all is_quiet lanes ≡ true → map quota_of lanes ≡ map (λ (row : GameRow). row.quota) rows
-    → map commands_of lanes ≡ handed → IsServed (row_at rows game) (handed_to handed game) (lane_of lanes game)
-served_lane lanes rows handed game within right quiet quotas commands =
-    let each = AllPass-from_list_all is_quiet lanes quiet in
-    let still : is_quiet (lane_of lanes game) ≡ true = each game no_lane within in
-    let quota : quota_of (lane_of lanes game) ≡ (row_at rows game).quota
-    = sym (get_or-map quota_of lanes game no_lane) ∙ ap (λ all. get_or all game 0) quotas
-    ∙ get_or-map (λ (row : GameRow). row.quota) rows game (row_of [] 0) in
-    let all : commands_of (lane_of lanes game) ≡ handed_to handed game
-    = sym (get_or-map commands_of lanes game no_lane) ∙ ap (λ every. get_or every game []) commands in
-    served (lane_of lanes game) (row_at rows game) (handed_to handed game) right still quota all

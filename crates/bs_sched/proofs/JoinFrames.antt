@@ -1,5 +1,5 @@
 -- The frame blocks of a move that is joined.
-use Rattle.std.proofs.Common.{◌≡◌, ℕ, zero, suc, ◌+◌, ◌<◌, ◌≤◌, true, ◌&&◌, List, [], ◌∷◌, length, map, Option, Some, None, refl, sym, ap, ◌∙◌, subst, arith}
+use Rattle.std.proofs.Common.{◌≡◌, ℕ, ◌+◌, ◌<◌, ◌≤◌, true, ◌&&◌, List, [], ◌∷◌, length, map, Option, Some, None, refl, sym, ap, ◌∙◌, subst}
 use Rattle.std.specs.List.{range_with_len}
 use Rattle.std.specs.Prelude.{nat_eq}
 use Rattle.std.proofs.lemmas.Bool.{and_parts, eqb-true}
@@ -12,7 +12,7 @@ use Rattle.bs_fiber.specs.Tickets.{fresh_bytes}
 use Rattle.bs_fiber.specs.Work.{moved_part}
 use Rattle.bs_sched.specs.declared.stage.Stage.{Stage}
 use Rattle.bs_sched.specs.declared.stage.Stage.TheVariants as stage
-use Rattle.bs_sched.specs.Frames.{FramesView, known, joining_frames, AreDoneFrames, AreJoinFrames, AreFramesAt, AreFramesOf}
+use Rattle.bs_sched.specs.Frames.{FramesView, known, joining_frames, AreDoneFrames, AreFramesAt, AreFramesOf}
 use Rattle.bs_sched.specs.Inputs.{moved_parts_for}
 use Rattle.bs_sched.specs.Lane.{Lane, is_ready, is_to_join, with_taken, lane_view, lane_command}
 use Rattle.bs_sched.proofs.Lanes.{ready_join}

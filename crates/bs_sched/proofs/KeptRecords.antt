@@ -1,7 +1,7 @@
 -- Records of games.
-use Rattle.std.proofs.Common.{◌≡◌, ℕ, zero, suc, Option, ◌-◌, ◌<◌, ◌≤◌, List, [], ◌∷◌, length, map, slice_index_or, refl, sym, ap, ◌∙◌, arith}
+use Rattle.std.proofs.Common.{◌≡◌, ℕ, zero, suc, Option, ◌-◌, ◌<◌, ◌≤◌, List, [], ◌∷◌, length, slice_index_or, refl, sym, ap, ◌∙◌, arith}
 use Rattle.std.specs.Prelude.{Some, None, option_map, slice_get}
-use Rattle.std.proofs.lemmas.Option.{slice_get-get_or, slice_get-map}
+use Rattle.std.proofs.lemmas.Option.{slice_get-map}
 use Rattle.bs_board.specs.records.Record.{record_of}
 use Rattle.bs_board.specs.declared.boards.board.Board.{Board}
 use Rattle.bs_game.specs.Turns.{place_of_turn}
@@ -21,22 +21,6 @@ use Rattle.bs_game.proofs.Games.{board_charge_small}
 use Rattle.bs_heap.specs.declared.heap.TheConstants.{MOST_RECORD_BYTES}
 use Rattle.bs_heap.specs.HeldBlocks.{LeavesOthers}
 use Rattle.bs_pool.specs.Ledger.{Ledger}
-
-pub no_record : (game : Game) (records : List (List ℕ)) → IsRecorded game records → 0 ≡ length records → None ≡ option_map record_of (last_board game)
-no_record [] records kept none = refl
-no_record (first ∷ game) records kept none =
-    let many = as_many (first ∷ game) records kept in
-    absurd (omega arith)
-
-pub newest_record : (game : Game) (records : List (List ℕ)) → IsRecorded game records → 0 < length records
-    → Some (slice_index_or records (length records - 1) []) ≡ option_map record_of (last_board game)
-newest_record game records kept some =
-    let many = as_many game records kept in
-    let there = slice_get-get_or records (length records - 1) [] (omega arith) in
-    let same : slice_get records (length records - 1) ≡ slice_get (map record_of game) (length records - 1)
-    = ap (λ all. slice_get all (length records - 1)) kept.is in
-    let last = slice_get-map record_of game (length records - 1) in
-    sym there ∙ same ∙ last ∙ ap (λ n. option_map record_of (slice_get game (n - 1))) many
 
 pub nothing_left : (tag : ℕ) (pool : Ledger) → LeavesOthers tag pool pool
 nothing_left tag pool = record { holds = λ other numbers differ held. held; reservations = refl }

@@ -1,10 +1,10 @@
 -- The isolation law of the memory, of what all stays' records and blocks are.
-use Rattle.std.proofs.Common.{◌≡◌, ◌≢◌, ℕ, zero, suc, ◌+◌, ◌-◌, ◌<◌, ◌≤◌, true, false, List, [], ◌∷◌, ◌++◌, length, map, replicate, Bool, Option, None, Some, refl, sym, ap, subst, ◌∙◌, arith, inl, inr}
+use Rattle.std.proofs.Common.{◌≡◌, ◌≢◌, ℕ, zero, suc, ◌+◌, ◌-◌, ◌<◌, ◌≤◌, true, false, List, [], ◌∷◌, ◌++◌, length, map, replicate, Bool, Option, None, refl, sym, ap, subst, ◌∙◌, arith, inl, inr}
 use Rattle.std.specs.List.{list_any}
 use Rattle.std.specs.Prelude.{if◌then◌else◌, not, nat_eq, nat_le, All, slice_index_or, slice_set, count_by}
 use Rattle.std.proofs.Math.ListN.{get_or-map}
 use Rattle.std.proofs.lemmas.Bool.{cases_Bool, cases_lt, cond-true, cond-false, leb-true}
-use Rattle.std.proofs.lemmas.List.{nil_from_length, length-map, length-replicate, length_push, length-set, get_or-set_other, get_or_append_left, get_or_push}
+use Rattle.std.proofs.lemmas.List.{length-map, length-replicate, length_push, length-set, get_or-set_other, get_or_append_left, get_or_push}
 use Rattle.std.proofs.lemmas.List.Elements.{All-nil, All-cons, All-head, All-tail, All-get_or, All-contains}
 use Rattle.std.proofs.lemmas.List.Sums.{sum_by-cons, sum_by_push, sum_by-set, get_or-le-sum_by}
 use Rattle.bs_board.proofs.Chains.{and_both}
@@ -16,7 +16,7 @@ use Rattle.bs_heap.specs.HeldBlocks.{Holds, next_number}
 use Rattle.bs_heap.specs.Packing.{Packing, numbers_of, no_packing}
 use Rattle.bs_heap.specs.PackedPlaces.{AreApart}
 use Rattle.bs_heap.proofs.PackedPlaces.{apart_none}
-use Rattle.bs_pool.specs.Ledger.{Ledger, ledger_of, least_free, is_unowned}
+use Rattle.bs_pool.specs.Ledger.{Ledger, ledger_of, is_unowned}
 use Rattle.bs_pool.proofs.Counts.{count_cons}
 use Rattle.bs_sched.specs.Memory.{Memory, block_in, memory_with, bytes_at}
 use Rattle.bs_sched.specs.PlanBlocks.{blocks_of, blocks_of_all}

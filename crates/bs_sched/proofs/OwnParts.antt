@@ -1,12 +1,12 @@
 -- The parts of a move come back one after the other: each is still the core's own when those before
 -- it are back.
-use Rattle.std.proofs.Common.{◌≡◌, ◌≢◌, ℕ, zero, suc, ◌+◌, ◌<◌, Bool, true, false, ◌&&◌, List, [], ◌∷◌, length, Option, Some, None, refl, sym, ap, subst, ◌∙◌, arith, get_or, slice_index_or}
-use Rattle.std.specs.Prelude.{nat_lt, nat_eq, slice_set, slice_get, remove}
+use Rattle.std.proofs.Common.{◌≡◌, ◌≢◌, ℕ, zero, suc, ◌+◌, ◌<◌, true, false, ◌&&◌, List, [], ◌∷◌, length, Option, Some, None, refl, sym, ap, subst, ◌∙◌, arith, get_or, slice_index_or}
+use Rattle.std.specs.Prelude.{nat_lt, slice_set, slice_get, remove}
 use Rattle.std.specs.List.{list_all}
-use Rattle.std.proofs.lemmas.Bool.{and_from, lt-ltb, ltb-true, cond-true}
+use Rattle.std.proofs.lemmas.Bool.{and_from, lt-ltb, cond-true}
 use Rattle.std.proofs.lemmas.List.{get_or-set_same, get_or-set_other, length-set}
 use Rattle.bs_board.proofs.Chains.{and_both}
-use Rattle.bs_fiber.specs.Tickets.{TicketView, names_of}
+use Rattle.bs_fiber.specs.Tickets.{TicketView}
 use Rattle.bs_fiber.specs.declared.job.JobName.{JobName}
 use Rattle.bs_fiber.specs.declared.job.JobKind.TheVariants as kind
 use Rattle.bs_sched.specs.declared.event.Event.TheVariants as event
@@ -16,12 +16,11 @@ use Rattle.bs_sched.specs.declared.stage.Stage.TheVariants as stage
 use Rattle.bs_sched.specs.Core.{CoreView}
 use Rattle.bs_sched.specs.Games.{GamesView, after}
 use Rattle.bs_sched.specs.Inputs.{input_of}
-use Rattle.bs_sched.specs.Lane.{Lane, no_lane, is_out, is_in_parts, is_part_done, has_part, part_at, with_part_done, stage_with}
+use Rattle.bs_sched.specs.Lane.{Lane, no_lane, is_out, is_in_parts, is_part_done, has_part, part_at, with_part_done}
 use Rattle.bs_sched.specs.Isolation.{are_enabled}
 use Rattle.bs_sched.specs.Journal.{setting_in}
 use Rattle.bs_sched.specs.Machine.{Setting, lane_of, is_enabled, is_enabled_there, step, lane_effect}
 use Rattle.bs_sched.specs.Parts.{IsOwnPart, AreOwnParts, part_job, core_run, puts_of}
-use Rattle.bs_sched.specs.Putting.{IsOwn}
 use Rattle.bs_sched.proofs.OwnJobs.{own_there, own_out}
 
 -- a part that somebody has is not done, so not all are

@@ -1,14 +1,14 @@
 -- The frame block of a part that is taken.
-use Rattle.std.proofs.Common.{◌≡◌, ◌≢◌, ℕ, zero, suc, ◌+◌, ◌<◌, ◌≤◌, Bool, true, false, ◌&&◌, List, [], ◌∷◌, length, map, Option, Some, None, slice_get, get_or, set, refl, sym, ap, ◌∙◌, subst, arith, inl, inr}
+use Rattle.std.proofs.Common.{◌≡◌, ◌≢◌, ℕ, zero, suc, ◌+◌, ◌<◌, ◌≤◌, Bool, true, false, ◌&&◌, List, [], ◌∷◌, length, map, Option, Some, None, slice_get, set, refl, sym, ap, ◌∙◌, subst, arith, inl, inr}
 use Rattle.std.specs.Prelude.{slice_set, slice_index_or, replicate, nat_eq, nat_lt, if◌then◌else◌}
 use Rattle.std.specs.List.{list_all, range_with_len}
 use Rattle.std.proofs.lemmas.Bool.{and_parts, cases_eq, eqb-true}
-use Rattle.std.proofs.lemmas.List.{length-replicate, length-set, get_or-set_other, get_or-set_same, get_or_past}
+use Rattle.std.proofs.lemmas.List.{length-replicate, length-set, get_or-set_other, get_or-set_same}
 use Rattle.bs_board.specs.declared.commands.command.Command.{Command}
 use Rattle.bs_game.specs.declared.view.View.{View}
 use Rattle.bs_pool.specs.Ledger.{Ledger}
 use Rattle.bs_pool.specs.Reservations.{reserved_by}
-use Rattle.bs_heap.specs.HeldBlocks.{Holds, LeavesOthers, next_number}
+use Rattle.bs_heap.specs.HeldBlocks.{Holds, LeavesOthers}
 use Rattle.bs_heap.specs.Heap.{Heap}
 use Rattle.bs_heap.specs.Packing.{numbers_of}
 use Rattle.bs_sched.specs.GamesLayout.{IsHeapOf}

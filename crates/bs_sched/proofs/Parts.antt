@@ -1,14 +1,14 @@
 -- The slots of a move's parts: filled, emptied and read.
 use Rattle.std.proofs.Common.{◌≡◌, ℕ, zero, suc, ◌+◌, ◌<◌, ◌≤◌, true, false, List, [], ◌∷◌, ◌++◌, Option, Some, None, length, take, drop, map, slice_index_or, refl, sym, ap, ◌∙◌, subst, arith, inl, inr}
-use Rattle.std.specs.Prelude.{slice_set, replicate, option_to_list, nat_lt}
+use Rattle.std.specs.Prelude.{slice_set, replicate, option_to_list}
 use Rattle.std.specs.List.{filter_map, list_all, range_with_len}
-use Rattle.std.proofs.Math.ListN.{set, get_or}
+use Rattle.std.proofs.Math.ListN.{get_or}
 use Rattle.std.proofs.lemmas.Grind.{get_or-set_at}
 use Rattle.std.proofs.lemmas.List.{get_or-set_other, length-set}
 use Rattle.std.proofs.lemmas.Option.{slice_get_read}
 use Rattle.bs_modes.proofs.InPlace.{set_next}
-use Rattle.std.proofs.lemmas.Bool.{cases_Bool, cases_eq, ltb-true, ltb-false}
-use Rattle.std.proofs.lemmas.List.{take_more, length-map, get_or-map, get_or_past}
+use Rattle.std.proofs.lemmas.Bool.{cases_eq}
+use Rattle.std.proofs.lemmas.List.{take_more, length-map, get_or-map}
 use Rattle.std.proofs.lemmas.List.Elements.{filter_map-append}
 use Rattle.bs_board.specs.declared.commands.command.Command.{Command}
 use Rattle.bs_board.specs.declared.boards.snake.Snake.{Snake}
@@ -19,7 +19,7 @@ use Rattle.bs_sched.specs.declared.fiber.Slot.TheVariants as slot
 use Rattle.bs_sched.specs.declared.stage.PartState.{PartState}
 use Rattle.bs_sched.specs.declared.stage.PartState.TheVariants as part
 use Rattle.bs_sched.specs.Insides.{IsSlot, AreSlots}
-use Rattle.bs_sched.specs.Lane.{is_part_done, is_part_ready}
+use Rattle.bs_sched.specs.Lane.{is_part_done}
 use Rattle.bs_sched.specs.Slots.{state_of, emptied, moved_in}
 
 one_moved : (x : Slot) → filter_map moved_in (x ∷ []) ≡ option_to_list (moved_in x)
@@ -134,14 +134,3 @@ slots_set view command (x ∷ slots) i new right here p within =
 pub state_there : (slots : List Slot) (p : ℕ) (x : Slot) (d : PartState) → p < length slots → x ≡ get_or slots p x
     → get_or (map state_of slots) p d ≡ state_of x
 state_there slots p x d within is = get_or-map state_of slots p x d within ∙ ap state_of (sym is)
-
-pub none_past : (slots : List Slot) → ((p : ℕ) → p < length slots → is_part_ready (get_or (map state_of slots) p part.Done) ≡ false)
-    → (p : ℕ) → is_part_ready (get_or (map state_of slots) p part.Done) ≡ false
-none_past slots before p =
-    elim (cases_Bool (nat_lt p (length slots))) [
-      | inl less ↦ before p (ltb-true _ _ less)
-      | inr more ↦
-          let past : length slots ≤ p = ltb-false _ _ more in
-          let many = length-map slots state_of in
-          rw (get_or_past (map state_of slots) p part.Done (omega arith)) refl
-    ]

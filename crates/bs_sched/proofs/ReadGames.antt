@@ -1,5 +1,5 @@
 -- What is read of one game of a core.
-use Rattle.std.proofs.Common.{◌≡◌, ℕ, ◌<◌, true, false, [], length, map, sym, ap, ◌∙◌, inl, inr}
+use Rattle.std.proofs.Common.{◌≡◌, ℕ, ◌<◌, true, [], length, map, sym, ap, ◌∙◌, inl, inr}
 use Rattle.std.proofs.lemmas.Bool.{cases_Bool, cond-false, cond-true}
 use Rattle.bs_board.specs.records.Record.{record_of}
 use Rattle.bs_game.specs.Game.{game_charge}

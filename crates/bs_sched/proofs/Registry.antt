@@ -1,11 +1,11 @@
--- Who is in the setting.
+-- Which stays are open, and what they have answered.
 use Rattle.std.proofs.Common.{◌≡◌, ℕ, ◌-◌, Bool, true, false, ◌&&◌, if◌then◌else◌, List, [], ◌∷◌, ◌++◌, length, refl, sym, ap, ◌∙◌, arith, inl, inr}
 use Rattle.std.specs.Prelude.{nat_eq, nat_le, nat_lt, fold, count_by, slice_set, slice_index_or}
 use Rattle.std.specs.List.{list_any}
 use Rattle.std.proofs.Math.ListN.{get_or-map}
 use Rattle.std.proofs.Math.Seq.{map-set_same}
-use Rattle.std.proofs.lemmas.Bool.{cases_Bool, cond-true, cond-false, and_from, and_left, eq-eqb, eqb-true}
-use Rattle.std.proofs.lemmas.List.{length-map, map_push, map-set, append-nil, nil_from_length}
+use Rattle.std.proofs.lemmas.Bool.{cases_Bool, cond-true, cond-false, and_from, and_left, eq-eqb}
+use Rattle.std.proofs.lemmas.List.{length-map, map_push, map-set}
 use Rattle.std.proofs.lemmas.List.Sums.{sum_by-cons}
 use Rattle.bs_board.proofs.Chains.{and_both}
 use Rattle.bs_board.specs.declared.commands.command.Command.{Command}
@@ -16,21 +16,18 @@ use Rattle.bs_board.specs.plans.Plan.{GameRow}
 use Rattle.bs_board.specs.Texts.{is_same_text}
 use Rattle.bs_fiber.specs.declared.job.JobKind.{JobKind}
 use Rattle.bs_fiber.specs.declared.job.JobKind.TheVariants as kind
-use Rattle.bs_game.specs.Alone.{course_of, alone}
 use Rattle.bs_game.specs.Answer.{answer_to}
-use Rattle.bs_game.specs.Game.{last_board, game_charge}
 use Rattle.bs_game.specs.Reasons.{reason_against}
 use Rattle.bs_game.specs.View.{reply_to}
 use Rattle.bs_sched.specs.PlanBlocks.{blocks_of}
 use Rattle.bs_sched.specs.declared.event.Event.{Event}
 use Rattle.bs_sched.specs.declared.event.Event.TheVariants as event
-use Rattle.bs_sched.specs.Registry.{Stay, stay_of, registry_of, no_stay, blocks_in_registry, may_admit_in, is_in, registry_after, RegistryLaw, ServedLaw, IsServedAlone, ProgressExample, JournalLaw, rows_in, commands_to, begin_of_only, coming_and_going}
-use Rattle.bs_sched.specs.Courses.{IsRight, answered_commands}
-use Rattle.bs_sched.specs.Handed.{commands_of}
+use Rattle.bs_sched.specs.Registry.{stay_of, registry_of, capacity_of, registry_after, RegistryLaw, ServedLaw, ProgressExample, JournalLaw, rows_in, commands_to, begin_of_only, coming_and_going}
+use Rattle.bs_sched.specs.Stays.{Stay, blocks_in_registry, closed_stay, is_in, may_admit_in, no_stay}
 use Rattle.bs_sched.specs.Isolation.{alone_event, accepted, is_accepted, admitted, are_enabled, opened_lanes, own_events, commands_in, shared_run}
-use Rattle.bs_sched.specs.Lane.{Lane, empty_lane, no_lane, is_quiet, is_idle, records_of, goes_on, forked, answered, with_taken, with_put, with_waiting, closed_lane}
+use Rattle.bs_sched.specs.Lane.{Lane, empty_lane, no_lane, is_quiet, goes_on, forked, answered, with_taken, with_put, with_waiting, closed_lane}
 use Rattle.bs_sched.specs.Machine.{Setting, lane_of, is_named, is_enabled, may_admit, has_name, blocks_in, open_blocks, lane_effect, step, run_of}
-use Rattle.bs_sched.proofs.HandedCommands.{one_more_event}
+use Rattle.bs_sched.proofs.HandedCommands.{one_more_event, served}
 use Rattle.bs_sched.proofs.Isolation.{keeps_commands, rows_run, opened_rows}
 use Rattle.bs_sched.proofs.LoneLanes.{step_enabled, step_refused}
 use Rattle.bs_sched.proofs.RightRuns.{well_run, well_opened}
@@ -58,7 +55,7 @@ blocks_told cap (x ∷ lanes) =
     let rest = blocks_told cap lanes in
     omega (arith, one, other, rest)
 
-pub admits_by_registry : (setting : Setting) (lanes : List Lane) (row : GameRow) → may_admit setting lanes row ≡ may_admit_in setting (registry_of lanes) row
+pub admits_by_registry : (setting : Setting) (lanes : List Lane) (row : GameRow) → may_admit setting lanes row ≡ may_admit_in (capacity_of setting) (registry_of lanes) row
 admits_by_registry setting lanes row = rw (named_in row lanes, counted_in lanes, blocks_told setting.cap lanes, length-map lanes stay_of) refl
 
 -- a job and a command leave it
@@ -86,7 +83,7 @@ registry_changed lanes (event.Put worker job) =
 registry_changed lanes (event.Admit row) = map_push stay_of lanes (empty_lane row)
 registry_changed lanes (event.Leave game) =
     map-set stay_of lanes game (closed_lane (lane_of lanes game))
-    ∙ ap (λ (entry : Stay). slice_set (registry_of lanes) game (record { row = entry.row; is_open = false })) (sym (get_or-map stay_of lanes game no_lane))
+    ∙ ap (λ (entry : Stay). slice_set (registry_of lanes) game (closed_stay entry)) (sym (get_or-map stay_of lanes game no_lane))
 
 registry_run : (setting : Setting) (lanes : List Lane) (events : List Event) → are_enabled setting lanes events ≡ true
     → registry_of (run_of setting lanes events) ≡ fold registry_after (registry_of lanes) events
@@ -210,28 +207,6 @@ journal_law setting plan events enabled =
       rows = rows_run setting (opened_lanes plan) events ∙ ap (λ rs. rs ++ admitted setting (opened_lanes plan) events) (opened_rows plan)
           ∙ ap (λ rs. plan ++ rs) (admitted_all setting (opened_lanes plan) events enabled);
       commands = λ game there. keeps_commands setting plan events game there ∙ handed_all setting game (opened_lanes plan) events enabled;
-    }
-
--- a stay that has nothing to do has answered all
-
-quiet_commands : (x : Lane) → is_quiet x ≡ true → answered_commands x ≡ commands_of x
-quiet_commands x quiet =
-    let both = and_both _ _ quiet in
-    let idle : is_idle x.stage ≡ true = both.0 in
-    let none : x.waiting ≡ [] = nil_from_length x.waiting (eqb-true _ _ both.1) in
-    let all : x.taken ++ [] ≡ x.taken = append-nil x.taken in
-    rw (idle, none, all) refl
-
-served : (x : Lane) (commands : List Command) → IsRight x → is_quiet x ≡ true → commands_of x ≡ commands → IsServedAlone x.row commands x
-served x commands right quiet handed =
-    let same = quiet_commands x quiet ∙ handed in
-    let replies : x.replies ≡ (alone x.row commands).replies = right.course.replies ∙ ap (λ cs. (course_of x.row.quota cs).replies) same in
-    let game : x.game ≡ (alone x.row commands).game = right.course.game ∙ ap (λ cs. (course_of x.row.quota cs).game) same in
-    record {
-      replies = replies;
-      board = ap last_board game;
-      charge = ap game_charge game;
-      records = ap (λ g. if x.is_open then records_of g else []) game;
     }
 
 pub served_law : ServedLaw

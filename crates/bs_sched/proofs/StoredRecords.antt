@@ -3,7 +3,7 @@
 use Rattle.std.proofs.Common.{◌≡◌, ◌≢◌, ℕ, zero, suc, ◌+◌, ◌<◌, ◌≤◌, Bool, true, false, if◌then◌else◌, List, [], ◌∷◌, ◌++◌, length, map, slice_get, Option, Some, None, IsSome, refl, sym, ap, subst, ◌∙◌, arith, inl, inr}
 use Rattle.std.specs.Prelude.{All, AllPairs, option_to_list, slice_index_or, slice_set}
 use Rattle.std.proofs.lemmas.Bool.{cases_eq, cases_lt}
-use Rattle.std.proofs.lemmas.List.{length-set, length_push, map_push, map-append, append-nil, length-append, get_or-set_same, get_or-set_other}
+use Rattle.std.proofs.lemmas.List.{length-set, length_push, map_push, map-append, append-nil, length-append, get_or-set_other}
 use Rattle.std.proofs.lemmas.List.Elements.{All-pop, All-nil, All-push, All-head, All-tail}
 use Rattle.std.proofs.lemmas.List.Sums.{sum_by_push}
 use Rattle.std.proofs.lemmas.Option.{slice_get_within, slice_get-get_or, slice_get_past}
@@ -53,11 +53,6 @@ pub record IsChanged (cap quota tag : ℕ) (records : List (List ℕ)) (packing 
   pub many : length new_memory ≡ length memory
 
 -- reading behind a write
-
-get_of_set : (xs : List (Option ℕ)) (i : ℕ) (y : Option ℕ) → i < length xs → slice_get (slice_set xs i y) i ≡ Some y
-get_of_set xs i y within =
-    let long : i < length (slice_set xs i y) = omega (arith, length-set xs i y) in
-    slice_get-get_or (slice_set xs i y) i y long ∙ ap Some (get_or-set_same xs i y y within)
 
 get_beside_set : (xs : List (Option ℕ)) (i j : ℕ) (y : Option ℕ) → j ≢ i → slice_get (slice_set xs i y) j ≡ slice_get xs j
 get_beside_set xs i j y differ =

@@ -1,5 +1,5 @@
 -- What an event does to the frame blocks of the game that it names, which its lane tells.
-use Rattle.std.specs.Prelude.{ℕ, Bool, true, false, if◌then◌else◌, List, [], length, map, replicate, Option, Some, None, is_some, slice_set}
+use Rattle.std.specs.Prelude.{ℕ, Bool, true, false, if◌then◌else◌, List, [], length, map, replicate, Option, Some, None, slice_set}
 use Rattle.bs_pool.specs.Ledger.{Ledger, drawn}
 use Rattle.bs_heap.specs.HeldBlocks.{all_given, next_number}
 use Rattle.bs_fiber.specs.declared.job.JobKind.{JobKind}

@@ -12,7 +12,6 @@ use Rattle.bs_fiber.specs.declared.job.JobKind.{JobKind}
 use Rattle.bs_fiber.specs.declared.job.JobKind.TheVariants as kind
 use Rattle.bs_fiber.specs.declared.job.JobName.{JobName}
 use Rattle.bs_fiber.specs.Work.{moved_part}
-use Rattle.bs_fiber.specs.Tickets.{TicketView}
 use Rattle.bs_sched.specs.Frames.{known}
 use Rattle.bs_sched.specs.Storage.{Storage, frame_tag, frames_of}
 use Rattle.bs_sched.specs.Lane.{Lane, lane_command, lane_view}

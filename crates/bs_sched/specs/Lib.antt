@@ -23,6 +23,7 @@ pub mod Putting
 pub mod Reserved
 pub mod SharedMemory
 pub mod Slots
+pub mod Stays
 pub mod Storage
 pub mod Taking
 pub mod Turns

@@ -1,31 +1,24 @@
--- Who is in the setting, and what of a list of events decides that: who comes and who leaves, and
--- no job.
-use Rattle.std.specs.Prelude.{◌≡◌, ◌≢◌, ℕ, ◌<◌, ◌≤◌, ◌-◌, Bool, true, false, ◌&&◌, not, if◌then◌else◌, List, [], ◌∷◌, ◌++◌, length, map, fold, count_by, sum_by, nat_eq, nat_lt, nat_le, slice_index_or, slice_set, All}
-use Rattle.std.specs.List.{list_any}
+-- Which stays are open, and what of a list of events decides that: admissions and leaves, and no
+-- job.
+use Rattle.std.specs.Prelude.{◌≡◌, ◌≢◌, ℕ, ◌<◌, ◌≤◌, true, ◌&&◌, if◌then◌else◌, List, [], ◌∷◌, ◌++◌, length, map, fold, count_by, nat_eq, nat_le, All}
 use Rattle.bs_board.specs.declared.limits.TheConstants.{MOST_ROWS}
 use Rattle.bs_board.specs.declared.commands.command.Command.{Command}
 use Rattle.bs_board.specs.declared.commands.reply.Reply.TheVariants.{Refused}
 use Rattle.bs_board.specs.declared.commands.reply.Refusal.TheVariants as refusal
 use Rattle.bs_board.specs.declared.commands.command.Command.TheVariants as command
-use Rattle.bs_board.specs.plans.Plan.{GameRow, row_of, IsFitPlan}
-use Rattle.bs_board.specs.Texts.{is_same_text}
+use Rattle.bs_board.specs.plans.Plan.{GameRow, IsFitPlan}
 use Rattle.bs_fiber.specs.declared.job.JobKind.TheVariants as kind
 use Rattle.bs_fiber.specs.declared.job.JobName.{JobName}
 use Rattle.bs_game.specs.Alone.{alone}
-use Rattle.bs_game.specs.Game.{last_board, game_charge}
 use Rattle.bs_sched.specs.PlanBlocks.{blocks_of}
 use Rattle.bs_sched.specs.declared.event.Event.{Event}
 use Rattle.bs_sched.specs.declared.event.Event.TheVariants as event
 use Rattle.bs_sched.specs.Handed.{commands_of}
-use Rattle.bs_sched.specs.Isolation.{HandsFit, are_enabled, opened_lanes, own_events, row_made, commands_in, shared_run, final_board, final_charge}
+use Rattle.bs_sched.specs.Isolation.{HandsFit, are_enabled, opened_lanes, own_events, row_made, commands_in, shared_run}
 use Rattle.bs_sched.specs.Lane.{Lane, is_quiet, kept_of, records_of}
 use Rattle.bs_sched.specs.Machine.{Setting, lane_of, is_enabled, step, run_of}
+use Rattle.bs_sched.specs.Stays.{Capacity, Stay, is_in, may_admit_in, with_admitted, with_closed}
 use Rattle.bs_sched.specs.declared.plan_blocks.TheConstants.{MOST_STAYS}
-
--- the row of a stay, and whether it is open
-pub record Stay : Type 0 where
-  pub row : GameRow
-  pub is_open : Bool
 
 abbrev pub stay_of : Lane → Stay
 stay_of x = record { row = x.row; is_open = x.is_open }
@@ -33,35 +26,22 @@ stay_of x = record { row = x.row; is_open = x.is_open }
 abbrev pub registry_of : List Lane → List Stay
 registry_of = map stay_of
 
-abbrev pub no_stay : Stay
-no_stay = record { row = row_of [] 0; is_open = true }
-
-abbrev pub blocks_in_registry : ℕ → List Stay → ℕ
-blocks_in_registry cap = sum_by (λ entry. if entry.is_open then blocks_of cap entry.row else 0)
-
--- whether a row may come, of the registry alone
-abbrev pub may_admit_in : Setting → List Stay → GameRow → Bool
-may_admit_in setting registry row =
-    not (list_any (λ entry. entry.is_open && is_same_text row.game entry.row.game) registry)
-    && (not (not (nat_lt (count_by (λ entry. entry.is_open) registry) MOST_ROWS && nat_lt (length registry) MOST_STAYS))
-    && nat_le (blocks_of setting.cap row) (setting.blocks - blocks_in_registry setting.cap registry))
+abbrev pub capacity_of : Setting → Capacity
+capacity_of setting = record { cap = setting.cap; blocks = setting.blocks }
 
 -- what an event that is enabled makes of the registry
 abbrev pub registry_after : List Stay → Event → List Stay
 registry_after registry (event.Hand game command) = registry
 registry_after registry (event.Take worker job) = registry
 registry_after registry (event.Put worker job) = registry
-registry_after registry (event.Admit row) = registry ++ record { row = row; is_open = true } ∷ []
-registry_after registry (event.Leave game) = slice_set registry game (record { row = (slice_index_or registry game no_stay).row; is_open = false })
-
-abbrev pub is_in : List Stay → ℕ → Bool
-is_in registry game = nat_lt game (length registry) && (slice_index_or registry game no_stay).is_open
+registry_after registry (event.Admit row) = with_admitted row registry
+registry_after registry (event.Leave game) = with_closed game registry
 
 -- By the registry alone a row may come or not and a command may be handed in or not; who leaves
 -- must besides have nothing to do. A job leaves the registry. The registry after events that were
 -- all enabled is what those make of it that come and leave.
 pub record DecidedByRegistry (setting : Setting) (lanes : List Lane) (events : List Event) : Type 0 where
-  pub admits : (row : GameRow) → is_enabled setting lanes (event.Admit row) ≡ may_admit_in setting (registry_of lanes) row
+  pub admits : (row : GameRow) → is_enabled setting lanes (event.Admit row) ≡ may_admit_in (capacity_of setting) (registry_of lanes) row
   pub hands : (game : ℕ) (command : Command) → is_enabled setting lanes (event.Hand game command) ≡ is_in (registry_of lanes) game
   pub leaves : (game : ℕ) → is_enabled setting lanes (event.Leave game) ≡ (is_in (registry_of lanes) game && is_quiet (lane_of lanes game))
   pub takes : (worker : ℕ) (job : JobName) → registry_of (step setting lanes (event.Take worker job)) ≡ registry_of lanes
@@ -99,11 +79,10 @@ abbrev pub JournalLaw : Type 0
 JournalLaw = (setting : Setting) (plan : List GameRow) (events : List Event) → are_enabled setting (opened_lanes plan) events ≡ true → TellsStays setting plan events
 
 -- A stay that has nothing to do has answered all that was handed to it, as in a game by itself. So
--- it is with each stay that has left, of which no record is kept.
+-- has each stay that has left: it keeps its last board and its charge, and no record.
 pub record IsServedAlone (row : GameRow) (commands : List Command) (x : Lane) : Type 0 where
   pub replies : x.replies ≡ (alone row commands).replies
-  pub board : final_board x ≡ last_board (alone row commands).game
-  pub charge : final_charge x ≡ game_charge (alone row commands).game
+  pub game : x.game ≡ (alone row commands).game
   pub records : kept_of x ≡ (if x.is_open then records_of (alone row commands).game else [])
 
 abbrev pub ServedLaw : Type 0

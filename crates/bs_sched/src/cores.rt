@@ -16,7 +16,7 @@ use crate::event::Event;
 use crate::fiber::keeps_limits;
 use crate::games::Games;
 use bs_board::{Board, Command, Reply, Row};
-use bs_fiber::{Handed, Holders, SharedCommand};
+use bs_fiber::{Handed, Handles, SharedCommand};
 use std::alloc::{AllocError, Global};
 use std::marker::Model;
 
@@ -107,18 +107,18 @@ impl<const CAP: usize> Core<CAP> {
         ensures ok { OnOk result (self.new ≡ core_after CAP self.old (event.Hand game command.now)) }
         ensures err { OnErr result (self.new ≡ self.old) }
     {
-        self.hand_held(game, Holders::new(command)?)
+        self.hand_handles(game, Handles::new(command)?)
     }
 
     /// Queues a command by handles that were made before, so that the command itself is not read.
-    pub fn hand_held(&mut self, game: usize, holders: Holders) -> Result<(), AllocError>
+    pub fn hand_handles(&mut self, game: usize, handles: Handles) -> Result<(), AllocError>
         requires game { game < length self.old.games.lanes }
         requires open { (lane_of self.old.games.lanes game).is_open ≡ true }
-        ensures ok { OnOk result (self.new ≡ core_after CAP self.old (event.Hand game holders)) }
+        ensures ok { OnOk result (self.new ≡ core_after CAP self.old (event.Hand game handles)) }
         ensures err { OnErr result (self.new ≡ self.old) }
     {
-        keeps_limits(holders.get());
-        let (handed, noted) = holders.into_parts();
+        keeps_limits(handles.get());
+        let (handed, noted) = handles.into_parts();
         let row = self.games.row_number(game);
         reserve_events(&mut self.journal, self.out, 1)?;
         self.games.hand(game, handed)?;

@@ -124,7 +124,7 @@ fn has_part(slots: &[Slot], worker: usize, part: usize) -> bool
     ensures { result ≡ has_part worker (slice_index_or (map state_of slots.now) part state.Done) }
 {
     match slots.get(part) {
-        Some(Slot::Out(holder)) => *holder == worker,
+        Some(Slot::Out(handle)) => *handle == worker,
         Some(Slot::Ready) => false,
         Some(Slot::Done(_)) => false,
         None => false,
@@ -364,12 +364,12 @@ impl Fiber {
     }
 
     /// Takes the handle of the next command that was made for its Begin, if there is one.
-    pub(crate) fn take_holder(&mut self) -> Option<SharedCommand>
+    pub(crate) fn take_handle(&mut self) -> Option<SharedCommand>
         requires { 0 < length self.old.waiting }
         ensures same { self.new ≡ self.old }
-        ensures holder { IfSome result (λ holder. holder ≡ lane_command (with_taken 0 kind.Begin 0 self.old)) }
+        ensures handle { IfSome result (λ handle. handle ≡ lane_command (with_taken 0 kind.Begin 0 self.old)) }
     {
-        self.commands[self.begun].take_holder()
+        self.commands[self.begun].take_handle()
     }
 
     /// The command that is being answered.
@@ -426,9 +426,9 @@ impl Fiber {
         ensures { result ≡ is_out worker self.now kind part }
     {
         match (kind, self.stage) {
-            (JobKind::Begin, Stage::Begin(holder)) => part == 0 && holder == worker,
+            (JobKind::Begin, Stage::Begin(handle)) => part == 0 && handle == worker,
             (JobKind::Part, Stage::Parts) => has_part(&self.slots, worker, part as usize),
-            (JobKind::Join, Stage::Join(Some(holder))) => part == 0 && holder == worker,
+            (JobKind::Join, Stage::Join(Some(handle))) => part == 0 && handle == worker,
             _ => false,
         }
     }

@@ -32,6 +32,7 @@ pub use cores::{Core, Counts, LEAST_CAPACITY, MOST_WORKERS};
 pub use event::Event;
 pub use law::isolation_law;
 pub use opening::Open;
+pub use plan_blocks::{MOST_STAYS, blocks_of, blocks_of_all};
 pub use putting::Stray;
 pub use shared_row::SharedRow;
 pub use stage::{PartState, Stage};

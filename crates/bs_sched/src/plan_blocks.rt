@@ -18,7 +18,7 @@ use std::alloc::{AllocError, Global};
 pub(crate) const FRAME_BLOCKS: usize = 4;
 
 /// The most rows that a core ever makes: a tag has 32 bits, and a stay has two tags.
-pub(crate) const MOST_STAYS: usize = 2_147_483_648;
+pub const MOST_STAYS: usize = 2_147_483_648;
 
 fn record_blocks(cap: usize, row: &Row) -> usize
     requires { 2 * MOST_RECORD_BYTES ≤ cap }
@@ -29,7 +29,7 @@ fn record_blocks(cap: usize, row: &Row) -> usize
 }
 
 /// The number of blocks of `cap` bytes that are reserved for one stay.
-pub(crate) fn blocks_of(cap: usize, row: &Row) -> usize
+pub fn blocks_of(cap: usize, row: &Row) -> usize
     requires { 2 * MOST_RECORD_BYTES ≤ cap }
     ensures value { result ≡ blocks_of cap row.now }
     ensures few { result ≤ 70 }
@@ -38,14 +38,14 @@ pub(crate) fn blocks_of(cap: usize, row: &Row) -> usize
 }
 
 /// The number of blocks of `cap` bytes that are reserved for all games of a plan.
-pub(crate) fn blocks_of_all(cap: usize, rows: &[Row]) -> usize
+pub fn blocks_of_all(cap: usize, rows: &[Row]) -> usize
     requires wide { 2 * MOST_RECORD_BYTES ≤ cap }
     requires few { length rows.now ≤ MOST_ROWS }
     ensures { result ≡ blocks_of_all cap rows.now }
 {
     let mut total = 0;
     for row in rows {
-        total += record_blocks(cap, row) + FRAME_BLOCKS;
+        total += blocks_of(cap, row);
     }
     total
 }

@@ -79,7 +79,7 @@ fn a_stay_comes_and_goes(rt: HostRuntime) -> Result<(), Fail> {
     assert_eq!(rt; admit(alloc, &mut core, "c")?, Err(short));
     assert_eq!(rt; core.rows(), 2);
 
-    hand(&rt, alloc, &mut core, 1, new_solo(alloc, 5)?)?;
+    hand(&rt, alloc, &mut core, 1, new_solo(alloc, 3)?)?;
     assert_eq!(rt; leave(&rt, alloc, &mut core, 1), Err(Leave::Busy));
     work_one(&rt, alloc, &mut core)?;
     assert_counts(&rt, &core, BLOCKS - 1);

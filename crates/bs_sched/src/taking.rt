@@ -149,9 +149,9 @@ fn begin_input<const CAP: usize>(
 {
     let seq = fiber.next_seq();
     let keys = open_keys(alloc, fiber, heap)?;
-    let holder = fiber.take_holder();
+    let handle = fiber.take_handle();
     let contents = expected(fiber, heap, fiber.next(), seq, worker, job).to_contents(
-        alloc, holder, spent,
+        alloc, handle, spent,
     )?;
     fiber.begin(worker as usize)?;
     frames.begin(keys);

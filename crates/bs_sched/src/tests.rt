@@ -1,5 +1,5 @@
 //! Cores of small plans, played job by job.
-use crate::{Core, Counts, Open, Taken};
+use crate::{Core, Counts, Open, Taken, blocks_of, blocks_of_all};
 use arrayvec::ArrayVec;
 use bs_board::limits::MOST_ROWS;
 use bs_board::plans::plan::have_distinct_names;
@@ -8,7 +8,7 @@ use bs_board::{
     Starts, TurnNumber, Version, Word, Words,
 };
 use bs_counter::{Finish, PartKey, Parted};
-use bs_fiber::{Done, Holders, JobKind, SharedCommand, work};
+use bs_fiber::{Done, Handles, JobKind, SharedCommand, work};
 use std::alloc::{AllocError, Global};
 use std::process::Abort;
 use std::sync::Wait;
@@ -217,7 +217,9 @@ fn opens_within_its_blocks(rt: HostRuntime) -> Result<(), Fail> {
     let short = Core::<CAP>::open(rt.alloc(), plan_of(&rt, rt.alloc(), &two)?, 11, 3);
     assert_eq!(rt; short.err(), Some(Open::Short));
 
-    let core = Core::<CAP>::open(rt.alloc(), plan_of(&rt, rt.alloc(), &two)?, 12, 3)?;
+    let plan = plan_of(&rt, rt.alloc(), &two)?;
+    assert_eq!(rt; blocks_of_all(CAP, plan.rows.as_slice()), 12);
+    let core = Core::<CAP>::open(rt.alloc(), plan, 12, 3)?;
     let counts = Counts {
         free: 12,
         held: 0,
@@ -228,6 +230,7 @@ fn opens_within_its_blocks(rt: HostRuntime) -> Result<(), Fail> {
     assert_eq!(rt; core.workers(), 3);
     assert_eq!(rt; core.rows(), 2);
     assert_eq!(rt; core.row(1).quota, 64);
+    assert_eq!(rt; blocks_of(CAP, core.row(1)), 6);
     assert_eq!(rt; core.count(0), 0);
     assert_eq!(rt; core.charge(0), 0);
     assert!(rt; core.board(rt.alloc(), 0)?.is_none());
@@ -244,11 +247,13 @@ fn assert_two_strays(
 ) -> Result<(), Fail> {
     hand(rt, alloc, core, Command::Show)?;
     let done = take_done(rt, alloc, core, 0)?;
+    let before = read_all(rt, core);
     assert!(rt; core.put(0, foreign).is_err());
-    assert_eq!(rt; core.counts(), counts_of(5));
     assert!(rt; core.put(1, done).is_err());
+    assert_eq!(rt; read_all(rt, core), before);
+    assert_eq!(rt; before.counts, counts_of(5));
+    assert_eq!(rt; before.taken, 2);
     assert!(rt; core.rows() == 1);
-    assert_eq!(rt; core.taken(0).len(), 2);
     let board = core.board(alloc, 0)?.ok_or("a board")?;
     assert_eq!(rt; board.turn, 0);
     Ok(())
@@ -268,12 +273,13 @@ fn results_of_another_core_are_strays(rt: HostRuntime) -> Result<(), Fail> {
     assert!(rt; matches!(take(&rt, alloc, &mut core, 0)?, Taken::Busy));
     put(&mut core, 0, done)?;
 
+    let before = read_all(&rt, &core);
     let Err(stray) = core.put(0, foreign) else {
         return Err(Fail::from("a job that is not out"));
     };
     assert_job(&rt, &stray.done, JobKind::Begin, 0);
-    assert!(rt; core.rows() == 1);
-    assert_eq!(rt; core.replies(0).len(), 1);
+    assert_eq!(rt; read_all(&rt, &core), before);
+    assert_eq!(rt; before.replies, 1);
 
     assert_two_strays(&rt, alloc, &mut core, stray.done)
 }
@@ -535,7 +541,7 @@ fn two_cores_hold_one_command(rt: HostRuntime) -> Result<(), Fail> {
         core.hand_shared(0, &shared)?;
         assert!(rt; core.rows() == 1);
         assert!(rt; core.is_open(0));
-        core.hand_held(0, Holders::new(&shared)?)?;
+        core.hand_handles(0, Handles::new(&shared)?)?;
         play(&rt, alloc, &mut core, 0)?;
         assert!(rt; core.rows() == 1);
         let replies = core.replies(0);

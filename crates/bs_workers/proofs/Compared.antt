@@ -1,5 +1,5 @@
 -- What the comparison of a core with a run sees, and what a quiet core is that has made the acts.
-use Rattle.std.proofs.Common.{◌≡◌, ℕ, ◌+◌, ◌<◌, ◌≤◌, true, false, List, [], ◌∷◌, ◌++◌, length, map, take, get_or, refl, sym, ap, subst, ◌∙◌, arith, inl, inr}
+use Rattle.std.proofs.Common.{◌≡◌, ℕ, ◌+◌, ◌<◌, ◌≤◌, true, List, [], ◌∷◌, ◌++◌, length, take, get_or, refl, sym, ap, subst, ◌∙◌, arith, inl, inr}
 use Rattle.std.specs.Prelude.{if◌then◌else◌, nat_eq, count_by}
 use Rattle.std.specs.List.{filter_map, list_all}
 use Rattle.std.proofs.Math.Seq.{take-append_seam}
@@ -7,19 +7,17 @@ use Rattle.std.proofs.Math.ListN.{get_or-map}
 use Rattle.std.proofs.lemmas.Bool.{cases_Bool}
 use Rattle.std.proofs.lemmas.List.{length-append, length-map, take_all, take_more, get_or-take}
 use Rattle.std.proofs.lemmas.List.Sums.{AllPass-from_list_all, sum_by-cons}
-use Rattle.bs_board.specs.declared.commands.command.Command.{Command}
 use Rattle.bs_board.specs.plans.Plan.{GameRow, row_of}
-use Rattle.bs_game.specs.Game.{game_charge, last_board}
 use Rattle.bs_pool.specs.Ledger.{size}
 use Rattle.bs_sched.specs.declared.event.Event.{Event}
 use Rattle.bs_sched.specs.declared.event.Event.TheVariants as event
 use Rattle.bs_sched.specs.Registry.{IsServedAlone, commands_to, rows_in}
 use Rattle.bs_sched.specs.Core.{CoreView, opened_core}
 use Rattle.bs_sched.specs.Games.{row_at}
-use Rattle.bs_sched.specs.Handed.{IsServed, commands_of}
+use Rattle.bs_sched.specs.Handed.{commands_of}
 use Rattle.bs_sched.specs.Isolation.{IsWell, opened_lanes, shared_run}
 use Rattle.bs_sched.specs.Journal.{KeepsApart, setting_in}
-use Rattle.bs_sched.specs.Lane.{Lane, no_lane, is_quiet, records_of}
+use Rattle.bs_sched.specs.Lane.{Lane, no_lane, is_quiet}
 use Rattle.bs_sched.specs.Machine.{lane_of}
 use Rattle.bs_sched.proofs.HandedCommands.{served}
 use Rattle.bs_workers.specs.declared.act.Act.{Act}
@@ -107,15 +105,6 @@ rows_fresh cap blocks workers rows core fresh = ap (λ (c : CoreView). rows_made
 
 -- a quiet core whose journal makes the acts has served each stay
 
-served_alone : (x : Lane) (row : GameRow) (commands : List Command) → IsServed row commands x → IsServedAlone row commands x
-served_alone x row commands is =
-    record {
-      replies = is.replies;
-      board = ap last_board is.game;
-      charge = ap game_charge is.game;
-      records = ap (λ game. if x.is_open then records_of game else []) is.game;
-    }
-
 -- one stay of a core
 served_one : (cap : ℕ) (core : CoreView) (stay : ℕ) → KeepsApart cap core → list_all is_quiet core.games.lanes ≡ true → stay < length core.games.lanes
     → IsServedAlone (lane_of core.games.lanes stay).row (filter_map (command_in stay) (acts_of core.journal)) (lane_of core.games.lanes stay)
@@ -126,8 +115,7 @@ served_one cap core stay apart quiet there =
     let told : commands_of x ≡ filter_map (command_in stay) (acts_of core.journal)
     = ap (λ (ls : List Lane). commands_of (lane_of ls stay)) (sym apart.lanes) ∙ apart.told.commands stay among ∙ commands_of_acts stay core.journal in
     let still : is_quiet x ≡ true = AllPass-from_list_all is_quiet core.games.lanes quiet stay no_lane there in
-    served_alone x x.row (filter_map (command_in stay) (acts_of core.journal))
-    (served x x.row (filter_map (command_in stay) (acts_of core.journal)) well.right still refl told)
+    served x (filter_map (command_in stay) (acts_of core.journal)) well.right still told
 
 -- the rows are those of the plan, and those that the acts admit
 made_of : (cap : ℕ) (core : CoreView) → KeepsApart cap core → rows_made core.games.lanes ≡ core.games.rows ++ rows_admitted (acts_of core.journal)

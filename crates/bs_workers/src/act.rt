@@ -1,10 +1,7 @@
 //! What a run is asked to do, one act after the other.
 use bs_board::Row;
-use bs_fiber::{Holders, SharedCommand};
+use bs_fiber::{Handles, SharedCommand};
 use std::alloc::{AllocError, Global};
-
-/// The most rows that are ever made: twice the number of a row is the tag of its records.
-pub const MOST_STAYS: usize = 2_147_483_648;
 
 /// One act of a run. The rows of the plan are numbered first, then those that are admitted.
 #[derive(Debug, Drop)]
@@ -20,7 +17,7 @@ pub enum Act {
 /// An act with the handles that the core keeps of it.
 #[derive(Drop)]
 pub(crate) enum HeldAct {
-    Hand(usize, Holders),
+    Hand(usize, Handles),
     Admit(Row),
     Leave(usize),
 }
@@ -29,7 +26,7 @@ impl Act {
     /// Makes the handles that a core keeps of the act.
     fn hold(&self, alloc: Global) -> Result<HeldAct, AllocError> {
         match self {
-            Act::Hand(stay, command) => Ok(HeldAct::Hand(*stay, Holders::new(command)?)),
+            Act::Hand(stay, command) => Ok(HeldAct::Hand(*stay, Handles::new(command)?)),
             Act::Admit(row) => Ok(HeldAct::Admit(row.copy(alloc)?)),
             Act::Leave(stay) => Ok(HeldAct::Leave(*stay)),
         }

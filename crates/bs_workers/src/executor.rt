@@ -20,8 +20,8 @@ pub(crate) struct Executor<const CAP: usize> {
     /// Notified when a job may have become ready, and at the end of the run.
     changed: Condvar,
     alloc: Global,
-    /// The number of the core's workers that each thread has.
-    batch: usize,
+    /// How many worker numbers of the core each thread has.
+    numbers: usize,
 }
 
 /// The number of polls of the lock before a thread sleeps. A lock that has sleepers is passed to
@@ -39,13 +39,13 @@ const SPINS_PER_TRY: u32 = 4;
 const ACTS_AT_ONCE: usize = 1024;
 
 impl<const CAP: usize> Executor<CAP> {
-    /// Makes an executor for a newly opened core. Each thread has `batch` of the core's workers.
-    pub(crate) fn new(alloc: Global, core: Core<CAP>, batch: usize) -> Result<Self, AllocError> {
+    /// Makes an executor for a newly opened core. Each thread has `numbers` of its worker numbers.
+    pub(crate) fn new(alloc: Global, core: Core<CAP>, numbers: usize) -> Result<Self, AllocError> {
         Ok(Executor {
             state: Mutex::new(Box::new(alloc, State::new(core))?),
             changed: Condvar::new(),
             alloc,
-            batch,
+            numbers,
         })
     }
 
@@ -69,6 +69,18 @@ impl<const CAP: usize> Executor<CAP> {
         if wakes {
             self.changed.notify_all();
         }
+    }
+
+    /// Waits until it is notified. The thread is counted as waiting meanwhile.
+    fn sleep<'a, R: Wait>(
+        &'a self,
+        rt: &R,
+        mut state: MutexGuard<'a, Box<State<CAP>>>,
+    ) -> MutexGuard<'a, Box<State<CAP>>> {
+        state.waiting = state.waiting.saturating_add(1);
+        let mut state = self.changed.wait(rt, state);
+        state.waiting = state.waiting.saturating_sub(1);
+        state
     }
 
     /// Records the fault, stops the run, and wakes all waiting threads.
@@ -127,9 +139,7 @@ impl<const CAP: usize> Executor<CAP> {
                 Next::Wait { wakes: _ } => {
                     // Others may run jobs of what was just made.
                     self.changed.notify_all();
-                    state.waiting = state.waiting.saturating_add(1);
-                    state = self.changed.wait(rt, state);
-                    state.waiting = state.waiting.saturating_sub(1);
+                    state = self.sleep(rt, state);
                 }
                 Next::End => {
                     self.unlock(state, true);
@@ -158,9 +168,7 @@ impl<const CAP: usize> Executor<CAP> {
                     if wakes {
                         self.changed.notify_all();
                     }
-                    state.waiting = state.waiting.saturating_add(1);
-                    state = self.changed.wait(rt, state);
-                    state.waiting = state.waiting.saturating_sub(1);
+                    state = self.sleep(rt, state);
                 }
             }
         }
@@ -169,8 +177,8 @@ impl<const CAP: usize> Executor<CAP> {
 
     /// The worker of that thread; none where memory ran out, which stops the run.
     fn worker_of<R: Wait>(&self, rt: &R, thread: usize) -> Option<Worker<CAP>> {
-        let first = thread.saturating_mul(self.batch);
-        match Worker::new(self.alloc, thread, first, self.batch) {
+        let first = thread.saturating_mul(self.numbers);
+        match Worker::new(self.alloc, thread, first, self.numbers) {
             Ok(worker) => Some(worker),
             Err(_) => {
                 self.fail(rt, Run::Memory);

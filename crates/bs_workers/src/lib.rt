@@ -13,7 +13,7 @@ mod state;
 mod tests;
 mod worker;
 
-pub use act::{Act, MOST_STAYS};
+pub use act::Act;
 pub use fault::Run;
 pub use gate::{Gate, OpenGate};
 pub use runs::run;

@@ -2,7 +2,7 @@
 ghost use Rattle.std.specs.Prelude.{◌≡◌, true, IfOk};
 ghost use Rattle.bs_pool.specs.Ledger.{size};
 ghost use Rattle.bs_sched.specs.Core.{opened_core};
-ghost use Rattle.bs_workers.specs.Acts.{are_acceptable, setting_of_core, opened};
+ghost use Rattle.bs_workers.specs.Acts.{are_acceptable, capacity_of_core, opened};
 ghost use Rattle.bs_workers.specs.Run.{IsRunOf};
 
 use crate::act::Act;
@@ -65,7 +65,7 @@ pub fn run<const CAP: usize, R: Threads + Wait + Sync, G: Gate>(
 ) -> Result<Core<CAP>, Run>
     requires fresh { core
         ≡ opened_core CAP (size core.games.storage.pool) core.games.workers core.games.rows }
-    requires acts { are_acceptable (setting_of_core CAP core) (opened core.games.rows) acts.now
+    requires acts { are_acceptable (capacity_of_core CAP core) (opened core.games.rows) acts.now
         ≡ true }
     ensures { IfOk result (λ done. IsRunOf core.entry acts.now done) }
 {

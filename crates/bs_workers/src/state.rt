@@ -3,7 +3,7 @@ use crate::act::HeldAct;
 use crate::fault::Run;
 use crate::worker::{Job, MOST_PARTS, Worker};
 use bs_board::Row;
-use bs_fiber::Holders;
+use bs_fiber::Handles;
 use bs_sched::{Core, Leave, Taken};
 use std::alloc::Global;
 
@@ -55,20 +55,25 @@ impl<const CAP: usize> State<CAP> {
         }
     }
 
-    /// Records the fault and stops the run. Once `Memory` is recorded it stays. Returns `End`.
-    pub(crate) fn fail(&mut self, fault: Run) -> Next {
+    /// Records the fault and stops the run. Once `Memory` is recorded it stays.
+    pub(crate) fn fail(&mut self, fault: Run) {
         if self.fault != Some(Run::Memory) {
             self.fault = Some(fault);
         }
         self.core.fail();
+    }
+
+    /// Stops the run, after which there is no job.
+    fn end(&mut self, fault: Run) -> Next {
+        self.fail(fault);
         Next::End
     }
 
     /// Queues the command for the game of that row, which is open.
-    fn hand(&mut self, stay: usize, command: Holders) {
+    fn hand(&mut self, stay: usize, command: Handles) {
         if stay >= self.core.rows() || !self.core.is_open(stay) {
             self.fail(Run::Broken);
-        } else if self.core.hand_held(stay, command).is_err() {
+        } else if self.core.hand_handles(stay, command).is_err() {
             self.fail(Run::Memory);
         }
     }
@@ -77,12 +82,8 @@ impl<const CAP: usize> State<CAP> {
     fn admit(&mut self, alloc: Global, row: Row) {
         match self.core.admit(alloc, row) {
             Ok(_) => {}
-            Err(bs_sched::Admit::Memory) => {
-                self.fail(Run::Memory);
-            }
-            Err(_) => {
-                self.fail(Run::Broken);
-            }
+            Err(bs_sched::Admit::Memory) => self.fail(Run::Memory),
+            Err(_) => self.fail(Run::Broken),
         }
     }
 
@@ -95,12 +96,8 @@ impl<const CAP: usize> State<CAP> {
         match self.core.leave(alloc, stay) {
             Ok(()) => {}
             Err(Leave::Busy) => return self.fault.is_some(),
-            Err(Leave::Closed) => {
-                self.fail(Run::Broken);
-            }
-            Err(Leave::Memory) => {
-                self.fail(Run::Memory);
-            }
+            Err(Leave::Closed) => self.fail(Run::Broken),
+            Err(Leave::Memory) => self.fail(Run::Memory),
         }
         true
     }
@@ -146,9 +143,7 @@ impl<const CAP: usize> State<CAP> {
                 Ok(contents) => {
                     let _kept = worker.spent.push(contents);
                 }
-                Err(_) => {
-                    self.fail(Run::Broken);
-                }
+                Err(_) => self.fail(Run::Broken),
             }
         }
     }
@@ -166,7 +161,7 @@ impl<const CAP: usize> State<CAP> {
     /// number can take another job.
     fn take_job(&mut self, worker: &mut Worker<CAP>, number: usize) -> Result<bool, Next> {
         if number > self.core.workers() {
-            return Err(self.fail(Run::Broken));
+            return Err(self.end(Run::Broken));
         }
         let spent = worker.spent.pop();
         let job = match self.core.take_over(worker.alloc, number, spent) {
@@ -177,13 +172,13 @@ impl<const CAP: usize> State<CAP> {
             },
             Ok(Taken::Nothing) => return Err(self.without_job()),
             Ok(Taken::Failed) => return Err(Next::End),
-            Ok(Taken::Busy) => return Err(self.fail(Run::Broken)),
-            Err(_) => return Err(self.fail(Run::Memory)),
+            Ok(Taken::Busy) => return Err(self.end(Run::Broken)),
+            Err(_) => return Err(self.end(Run::Memory)),
         };
         let is_part = job.key.is_some();
         match worker.jobs.push(job) {
             Ok(()) => Ok(is_part),
-            Err(_) => Err(self.fail(Run::Memory)),
+            Err(_) => Err(self.end(Run::Memory)),
         }
     }
 
@@ -192,12 +187,12 @@ impl<const CAP: usize> State<CAP> {
     /// wait, only as many numbers as its share of `ready` take a job, and each takes one. A worker
     /// with a single number takes one job.
     fn take_batch(&mut self, worker: &mut Worker<CAP>, ready: usize) -> Result<(), Next> {
-        let batch = worker.batch.max(1);
+        let all = worker.numbers.max(1);
         let (numbers, most) = if self.waiting > 0 {
             let share = ready / self.waiting.saturating_add(1);
-            (share.clamp(1, batch), 1)
-        } else if batch > 1 {
-            (batch, MOST_PARTS)
+            (share.clamp(1, all), 1)
+        } else if all > 1 {
+            (all, MOST_PARTS)
         } else {
             (1, 1)
         };

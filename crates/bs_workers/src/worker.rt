@@ -32,8 +32,8 @@ pub(crate) struct Worker<const CAP: usize> {
     thread: usize,
     /// The first of its numbers in the core; the others follow.
     pub(crate) first: usize,
-    /// The number of its worker numbers.
-    pub(crate) batch: usize,
+    /// How many worker numbers of the core it has.
+    pub(crate) numbers: usize,
     /// Jobs to be run.
     pub(crate) jobs: Vec<Job<CAP>>,
     /// Begins and Joins to be completed.
@@ -49,20 +49,20 @@ pub(crate) struct Worker<const CAP: usize> {
 }
 
 impl<const CAP: usize> Worker<CAP> {
-    /// Makes the worker of that thread with `batch` numbers from `first`. Allocates all lists at
-    /// their full capacity.
+    /// Makes the worker of that thread, with as many of the core's worker numbers from `first` on.
+    /// Allocates all lists at their full capacity.
     pub(crate) fn new(
         alloc: Global,
         thread: usize,
         first: usize,
-        batch: usize,
+        numbers: usize,
     ) -> Result<Self, AllocError> {
-        let room = batch.saturating_mul(MOST_PARTS);
+        let room = numbers.saturating_mul(MOST_PARTS);
         Ok(Worker {
             alloc,
             thread,
             first,
-            batch,
+            numbers,
             jobs: Vec::with_capacity(alloc, room)?,
             done: Vec::with_capacity(alloc, room)?,
             moves: Vec::with_capacity(alloc, room)?,

@@ -4,15 +4,15 @@ use Rattle.bs_workers.specs.Acts.{opened}
 use Rattle.bs_host.specs.Cut.{behind_feeds}
 use Rattle.bs_host.specs.File.{pieces_after}
 use Rattle.bs_host.specs.Guests.{guests_of, own_by_guests}
-use Rattle.bs_host.specs.Routing.{setting_of}
+use Rattle.bs_host.specs.Routing.{capacity_of}
 use Rattle.bs_host.proofs.CutFile.{bytes_left}
 use Rattle.bs_host.proofs.cutting.push_own_lines.Given as goal
 
 -- what was written and what the lines that are left will bring
 abbrev pub invariant-lines : goal.invariant-lines
 invariant-lines l =
-    l.text.items ++ behind_feeds (own_by_guests (setting_of l.file.blocks) l.file.plan.now.version l.guests l.stay (pieces_after (option_copied l.left)))
-    ≡ l.fn.text.items ++ behind_feeds (own_by_guests (setting_of l.file.blocks) l.file.plan.now.version (guests_of (opened l.file.plan.now.rows)) l.stay (pieces_after (option_copied l.file.rest)))
+    l.text.items ++ behind_feeds (own_by_guests (capacity_of l.file.blocks) l.file.plan.now.version l.guests l.stay (pieces_after (option_copied l.left)))
+    ≡ l.fn.text.items ++ behind_feeds (own_by_guests (capacity_of l.file.blocks) l.file.plan.now.version (guests_of (opened l.file.plan.now.rows)) l.stay (pieces_after (option_copied l.file.rest)))
 
 abbrev pub decreases-lines : goal.decreases-lines
 decreases-lines l = bytes_left l.left

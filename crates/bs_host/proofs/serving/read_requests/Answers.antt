@@ -2,7 +2,7 @@ use Rattle.std.proofs.Common.{◌≡◌, rules}
 use Rattle.std.specs.Prelude.{option_copied}
 use Rattle.bs_host.specs.File.{pieces_after}
 use Rattle.bs_host.specs.Parsed.{parsed_lines}
-use Rattle.bs_host.specs.Routing.{setting_of}
+use Rattle.bs_host.specs.Routing.{capacity_of}
 use Rattle.bs_host.proofs.ParsedLines.{routed_if_ok}
 use Rattle.bs_host.proofs.serving.read_requests.Goals as goal
 
@@ -10,4 +10,4 @@ pub returns : goal.returns
 returns g c =
     let pieces = pieces_after (option_copied c.args.file.rest) in
     let is : c.as_slice.result.now ≡ parsed_lines c.args.file.plan.now.version pieces = search rules in
-    routed_if_ok (setting_of c.args.file.blocks) c.args.file.plan.now pieces c.as_slice.result.now c.route_lines.result is c.route_lines.ensures
+    routed_if_ok (capacity_of c.args.file.blocks) c.args.file.plan.now pieces c.as_slice.result.now c.route_lines.result is c.route_lines.ensures

@@ -1,5 +1,4 @@
 use Rattle.std.proofs.Common.{◌≡◌, ◌↔◌, ◌+◌, ℕ, List, map, drop, ap, sym, ◌∙◌}
-use Rattle.bs_fiber.specs.Tickets.{frames_in, names_of}
 use Rattle.bs_sched.specs.declared.frames.FrameSlot.{FrameSlot}
 use Rattle.bs_sched.specs.FrameSlots.{number_in}
 use Rattle.bs_sched.specs.Frames.{known}

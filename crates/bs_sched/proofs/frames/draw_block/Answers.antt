@@ -1,6 +1,6 @@
-use Rattle.std.proofs.Common.{◌≡◌, ◌++◌, ◌∷◌, List, ℕ, Some, Option, sym, ap, ◌∙◌, subst}
+use Rattle.std.proofs.Common.{◌≡◌, ◌++◌, ◌∷◌, ℕ, Option, sym, ap, ◌∙◌, subst}
 use Rattle.std.specs.Prelude.{unwrap_or}
-use Rattle.bs_pool.specs.Ledger.{Ledger, least_free, drawn}
+use Rattle.bs_pool.specs.Ledger.{Ledger, drawn}
 use Rattle.bs_heap.specs.HeldBlocks.{Holds, LeavesOthers, next_number}
 use Rattle.bs_heap.proofs.HeldBlocks.{others_drawn}
 use Rattle.bs_sched.proofs.FrameNumbers.{holds_inserted}

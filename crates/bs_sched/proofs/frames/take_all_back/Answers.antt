@@ -1,5 +1,5 @@
 use Rattle.std.specs.Prelude.{Option, option_to_list}
-use Rattle.std.proofs.Common.{rules, ◌≡◌, ◌<◌, ℕ, List, ap, ◌∙◌, arith, length, length-take, take}
+use Rattle.std.proofs.Common.{rules, ◌≡◌, ◌<◌, ℕ, ap, ◌∙◌, arith, length, length-take, take}
 use Rattle.bs_pool.specs.declared.owned.Owned.{Owned}
 use Rattle.bs_sched.specs.declared.frames.FrameSlot.{FrameSlot}
 use Rattle.bs_sched.specs.FrameSlots.{sent_off, back_in}

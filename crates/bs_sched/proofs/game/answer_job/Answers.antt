@@ -1,6 +1,5 @@
-use Rattle.std.proofs.Common.{◌≡◌, ◌≢◌, ◌∙◌, ap, sym, subst, ℕ, List, arith}
-use Rattle.bs_pool.specs.Ledger.{Ledger}
-use Rattle.bs_heap.specs.HeldBlocks.{Holds, LeavesOthers, all_given}
+use Rattle.std.proofs.Common.{◌≡◌, ◌≢◌, ◌∙◌, ap, sym, ℕ, arith}
+use Rattle.bs_heap.specs.HeldBlocks.{all_given}
 use Rattle.bs_sched.specs.Frames.{known}
 use Rattle.bs_sched.proofs.ChangedFrames.{leaves_both}
 use Rattle.bs_sched.proofs.PartFrames.{held_beside, heap_beside, frames_given}

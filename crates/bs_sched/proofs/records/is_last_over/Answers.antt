@@ -1,5 +1,5 @@
 -- The newest record says whether its board is over.
-use Rattle.std.proofs.Common.{◌≡◌, sym, subst, Some, Option}
+use Rattle.std.proofs.Common.{◌≡◌, sym, subst, Option}
 use Rattle.std.specs.Prelude.{IfSome}
 use Rattle.bs_board.specs.declared.boards.board.Board.{Board}
 use Rattle.bs_board.specs.boards.Over.{is_over}

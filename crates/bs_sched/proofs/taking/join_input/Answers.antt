@@ -1,10 +1,6 @@
-use Rattle.std.proofs.Common.{rules, ◌≡◌, ◌≤◌, ◌∙◌, [], List, ℕ, map, length, ap, sym, arith, vec_capacity}
+use Rattle.std.proofs.Common.{rules, ◌≡◌, ◌≤◌, ◌∙◌, [], ℕ, arith, vec_capacity}
 use Rattle.std.proofs.lemmas.Grind.{common_steps}
-use Rattle.bs_board.specs.declared.boards.snake.Snake.{Snake}
-use Rattle.bs_fiber.specs.declared.job.JobKind.{JobKind}
-use Rattle.bs_fiber.specs.Frames.{frame_of}
 use Rattle.bs_fiber.specs.declared.job.JobKind.TheVariants as kind
-use Rattle.bs_fiber.specs.Tickets.{fresh_bytes}
 use Rattle.bs_sched.specs.Inputs.{moved_parts_for}
 use Rattle.bs_sched.proofs.JoinFrames.{to_join, join_is_0, joined_bytes, join_taken, fresh_join}
 use Rattle.bs_sched.proofs.taking.join_input.Goals as goal

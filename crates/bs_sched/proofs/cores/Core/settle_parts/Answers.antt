@@ -1,4 +1,4 @@
-use Rattle.std.proofs.Common.{◌≡◌, ◌+◌, ◌<◌, List, Option, length, refl, subst, sym, ap, ◌∙◌, arith}
+use Rattle.std.proofs.Common.{◌≡◌, ◌+◌, ◌<◌, List, Option, length, refl, subst, sym, ◌∙◌, arith}
 use Rattle.bs_fiber.specs.Tickets.{TicketView}
 use Rattle.bs_sched.specs.Parts.{core_run, puts_of}
 use Rattle.bs_sched.proofs.OwnParts.{AreOwnFrom, from_all, next_part, own_next}

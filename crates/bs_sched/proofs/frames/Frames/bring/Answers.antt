@@ -1,5 +1,5 @@
-use Rattle.std.proofs.Common.{◌≡◌, ℕ, List, Option, Some, None, map, slice_get, sym, ap, ◌∙◌, subst}
-use Rattle.bs_sched.specs.FrameSlots.{number_in, bytes_in}
+use Rattle.std.proofs.Common.{◌≡◌, ℕ, Some, map, slice_get, sym, ap, ◌∙◌, subst}
+use Rattle.bs_sched.specs.FrameSlots.{number_in}
 use Rattle.bs_sched.specs.Frames.{FramesView, with_bytes}
 use Rattle.bs_sched.proofs.FrameBlocks.{brought, same_view}
 use Rattle.bs_sched.proofs.frames.Frames.bring.Goals as goal

@@ -1,11 +1,10 @@
-use Rattle.std.proofs.Common.{◌≡◌, ℕ, List, Option, Some, None, ◌++◌, ◌∷◌, map, slice_get, sym, ap, ◌∙◌, subst, arith}
+use Rattle.std.proofs.Common.{◌≡◌, ℕ, List, Some, None, ◌++◌, ◌∷◌, map, slice_get, sym, ap, ◌∙◌, subst}
 use Rattle.std.specs.Prelude.{slice_set}
-use Rattle.bs_pool.specs.Ledger.{Ledger}
 use Rattle.bs_heap.specs.HeldBlocks.{Holds, next_number}
 use Rattle.bs_sched.specs.declared.frames.FrameSlot.{FrameSlot}
 use Rattle.bs_sched.specs.declared.frames.FrameSlot.TheVariants as slot
 use Rattle.bs_sched.specs.FrameSlots.{number_in, bytes_in}
-use Rattle.bs_sched.specs.Frames.{FramesView, known, with_number}
+use Rattle.bs_sched.specs.Frames.{FramesView, with_number}
 use Rattle.bs_sched.proofs.FrameNumbers.{parted}
 use Rattle.bs_sched.proofs.FrameBlocks.{sent, same_view}
 use Rattle.bs_sched.proofs.frames.Frames.draw.Goals as goal

@@ -1,5 +1,5 @@
-use Rattle.std.proofs.Common.{◌≡◌, ◌≤◌, ℕ, [], List, Option, None, length, map, replicate, ap, sym, subst, ◌∙◌, All, arith, vec_capacity}
-use Rattle.bs_counter.specs.Keys.{Key, AreKeys}
+use Rattle.std.proofs.Common.{◌≡◌, ◌≤◌, ℕ, [], List, length, map, ap, sym, subst, ◌∙◌, All, arith}
+use Rattle.bs_counter.specs.Keys.{AreKeys}
 use Rattle.bs_sched.specs.declared.frames.FrameSlot.{FrameSlot}
 use Rattle.bs_sched.specs.FrameSlots.{number_in, bytes_in, AreReadyAt, IsSlotOf}
 use Rattle.bs_sched.specs.Frames.{FramesView, forked_frames}

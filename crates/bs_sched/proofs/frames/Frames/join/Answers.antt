@@ -1,5 +1,4 @@
-use Rattle.std.proofs.Common.{◌≡◌, ℕ, List, Option, Some, None, map, ap, sym, ◌∙◌, subst, arith, All, ◌≤◌, vec_capacity}
-use Rattle.std.specs.Prelude.{flat_map}
+use Rattle.std.proofs.Common.{◌≡◌, ℕ, List, Some, map, ap, sym, ◌∙◌, subst, arith, All, ◌≤◌}
 use Rattle.bs_pool.specs.declared.owned.Owned.{Owned}
 use Rattle.bs_fiber.specs.Tickets.{bytes_of, frames_in, names_of}
 use Rattle.bs_sched.specs.declared.frames.FrameSlot.{FrameSlot}

@@ -1,4 +1,4 @@
-use Rattle.std.proofs.Common.{◌≡◌, ℕ, ◌<◌, length, subst, sym, ap, ◌∙◌, arith}
+use Rattle.std.proofs.Common.{◌≡◌, ℕ, ◌<◌, length, subst, sym, ◌∙◌, arith}
 use Rattle.bs_heap.specs.Heap.{empty_heap}
 use Rattle.bs_sched.specs.Games.{GamesView}
 use Rattle.bs_sched.specs.GamesLayout.{heap_of}

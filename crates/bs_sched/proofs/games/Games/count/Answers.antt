@@ -1,4 +1,4 @@
-use Rattle.std.proofs.Common.{◌≡◌, ℕ, ◌<◌, List, length, sym, ap, subst, ◌∙◌, arith}
+use Rattle.std.proofs.Common.{◌≡◌, ℕ, ◌<◌, length, sym, ap, subst, ◌∙◌, arith}
 use Rattle.bs_heap.specs.Heap.{Heap, empty_heap}
 use Rattle.bs_sched.specs.Games.{GamesView}
 use Rattle.bs_sched.specs.GamesLayout.{heap_of}

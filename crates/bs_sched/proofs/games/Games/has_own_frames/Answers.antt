@@ -5,7 +5,7 @@ use Rattle.bs_sched.specs.Frames.{FramesView, no_frames}
 use Rattle.bs_sched.specs.Games.{GamesView}
 use Rattle.bs_sched.specs.GamesLayout.{frames_at}
 use Rattle.bs_sched.specs.Inputs.{job_numbers, names_for}
-use Rattle.bs_sched.specs.Storage.{frame_tag, frames_of}
+use Rattle.bs_sched.specs.Storage.{frame_tag}
 use Rattle.bs_sched.specs.Lane.{is_out}
 use Rattle.bs_sched.specs.Machine.{lane_of}
 use Rattle.bs_sched.proofs.ChangedGames.{open_out, read_at, numbers_there}

@@ -4,7 +4,7 @@ use Rattle.std.specs.Vec.{with_item}
 use Rattle.bs_game.specs.Game.{game_charge, last_board}
 use Rattle.bs_heap.specs.Heap.{Heap, empty_heap, without_records}
 use Rattle.bs_heap.specs.HeldBlocks.{IsKeptIn, LeavesOthers, all_given}
-use Rattle.bs_heap.specs.Packing.{Packing, numbers_of}
+use Rattle.bs_heap.specs.Packing.{numbers_of}
 use Rattle.bs_sched.specs.declared.games.Games.TheInside.{Inside}
 use Rattle.bs_sched.specs.Games.{GamesView}
 use Rattle.bs_sched.specs.GamesLayout.{heap_of}

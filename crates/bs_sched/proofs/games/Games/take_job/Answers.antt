@@ -5,7 +5,7 @@ use Rattle.std.proofs.lemmas.Result.{IfOk-weaker}
 use Rattle.bs_sched.specs.Inputs.{job_numbers}
 use Rattle.bs_heap.specs.Heap.{empty_heap}
 use Rattle.bs_heap.specs.HeldBlocks.{LeavesOthers, next_number}
-use Rattle.bs_sched.specs.Frames.{FramesView, AreFramesOf, LeavesBut, frames_taken, no_frames, pool_taken}
+use Rattle.bs_sched.specs.Frames.{AreFramesOf, frames_taken, no_frames, pool_taken}
 use Rattle.bs_sched.specs.Games.{GamesView}
 use Rattle.bs_sched.specs.GamesLayout.{KeepsBoards, frames_at, heap_of}
 use Rattle.bs_sched.specs.Lane.{Lane, is_ready, no_lane, with_taken}

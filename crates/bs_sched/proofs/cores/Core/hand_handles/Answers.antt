@@ -7,12 +7,12 @@ use Rattle.bs_sched.specs.Machine.{is_enabled_there, lane_of}
 use Rattle.bs_sched.proofs.BusyTable.{hand_marks_none}
 use Rattle.bs_sched.proofs.JobsOut.{as_many_handed}
 use Rattle.bs_sched.proofs.Journal.{journaled_after}
-use Rattle.bs_sched.proofs.cores.Core.hand_held.Goals as goal
+use Rattle.bs_sched.proofs.cores.Core.hand_handles.Goals as goal
 
 pub invariant_of-self-2 : goal.invariant_of-self-2
 invariant_of-self-2 g c =
     let inside = c.self.inside in
-    let command = c.args.holders in
+    let command = c.args.handles in
     let e = event.Hand c.args.game command in
     let within : c.args.game < length inside.games.lanes = subst (λ (v : CoreView). c.args.game < length v.games.lanes) (sym c.self.view_is) c.requires.game in
     let stands : (lane_of inside.games.lanes c.args.game).is_open ≡ true = subst (λ (v : CoreView). (lane_of v.games.lanes c.args.game).is_open ≡ true) (sym c.self.view_is) c.requires.«open» in
