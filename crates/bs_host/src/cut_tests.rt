@@ -1,17 +1,8 @@
 //! Files and what is left of them for one game.
 use crate::cut;
+use crate::tests::TWO_GAMES;
 use std::alloc::{AllocError, Global};
 use std::test::Fail;
-
-// Two games whose lines take turns.
-const TWO_GAMES: &str = r#"{"games":[{"game":"a","quota":64},{"game":"b","quota":4096}]}
-{"game":"a","do":"new","mode":"solo","width":5,"height":5,"snakes":[{"id":"s","x":1,"y":1}],"food":[],"min_food":0,"food_chance":0}
-{"game":"b","do":"new","mode":"standard","width":7,"height":7,"snakes":[{"id":"s","x":1,"y":1},{"id":"t","x":5,"y":1},{"id":"u","x":3,"y":5}],"food":[{"x":1,"y":2}],"min_food":0,"food_chance":0}
-{"game":"a","do":"move","moves":{}}
-{"game":"b","do":"move","moves":{"u":"down"}}
-{"game":"a","do":"end"}
-{"game":"b","do":"show"}
-"#;
 
 const FIRST_GAME: &str = r#"{"games":[{"game":"a","quota":64}]}
 {"game":"a","do":"new","mode":"solo","width":5,"height":5,"snakes":[{"id":"s","x":1,"y":1}],"food":[],"min_food":0,"food_chance":0}

@@ -35,17 +35,6 @@ pub(crate) const TWO_GAMES: &str = r#"{"games":[{"game":"a","quota":64},{"game":
 {"game":"b","do":"show"}
 "#;
 
-const TWO_GAMES_TEXT: &str =
-    r#"{"board":{"food":[],"food_chance":0,"height":5,"min_food":0,"mode":"solo","over":false,"snakes":[{"body":[{"x":1,"y":1},{"x":1,"y":1},{"x":1,"y":1}],"by":null,"cause":null,"health":100,"id":"s","out":null}],"turn":0,"width":5},"charge":32,"do":"new","game":"a","seq":1}
-{"board":{"food":[],"food_chance":0,"height":5,"min_food":0,"mode":"solo","over":false,"snakes":[{"body":[{"x":1,"y":2},{"x":1,"y":1},{"x":1,"y":1}],"by":null,"cause":null,"health":99,"id":"s","out":null}],"turn":1,"width":5},"charge":64,"do":"move","game":"a","seq":2}
-{"charge":0,"do":"end","game":"a","seq":3}
-{"board":null,"charge":0,"final":true,"game":"a"}
-{"board":{"food":[{"x":1,"y":2}],"food_chance":0,"height":7,"min_food":0,"mode":"standard","over":false,"snakes":[{"body":[{"x":1,"y":1},{"x":1,"y":1},{"x":1,"y":1}],"by":null,"cause":null,"health":100,"id":"s","out":null},{"body":[{"x":5,"y":1},{"x":5,"y":1},{"x":5,"y":1}],"by":null,"cause":null,"health":100,"id":"t","out":null},{"body":[{"x":3,"y":5},{"x":3,"y":5},{"x":3,"y":5}],"by":null,"cause":null,"health":100,"id":"u","out":null}],"turn":0,"width":7},"charge":64,"do":"new","game":"b","seq":1}
-{"board":{"food":[],"food_chance":0,"height":7,"min_food":0,"mode":"standard","over":false,"snakes":[{"body":[{"x":1,"y":2},{"x":1,"y":1},{"x":1,"y":1},{"x":1,"y":1}],"by":null,"cause":null,"health":100,"id":"s","out":null},{"body":[{"x":5,"y":2},{"x":5,"y":1},{"x":5,"y":1}],"by":null,"cause":null,"health":99,"id":"t","out":null},{"body":[{"x":3,"y":4},{"x":3,"y":5},{"x":3,"y":5}],"by":null,"cause":null,"health":99,"id":"u","out":null}],"turn":1,"width":7},"charge":128,"do":"move","game":"b","seq":2}
-{"board":{"food":[],"food_chance":0,"height":7,"min_food":0,"mode":"standard","over":false,"snakes":[{"body":[{"x":1,"y":2},{"x":1,"y":1},{"x":1,"y":1},{"x":1,"y":1}],"by":null,"cause":null,"health":100,"id":"s","out":null},{"body":[{"x":5,"y":2},{"x":5,"y":1},{"x":5,"y":1}],"by":null,"cause":null,"health":99,"id":"t","out":null},{"body":[{"x":3,"y":4},{"x":3,"y":5},{"x":3,"y":5}],"by":null,"cause":null,"health":99,"id":"u","out":null}],"turn":1,"width":7},"charge":128,"do":"show","game":"b","seq":3}
-{"board":{"food":[],"food_chance":0,"height":7,"min_food":0,"mode":"standard","over":false,"snakes":[{"body":[{"x":1,"y":2},{"x":1,"y":1},{"x":1,"y":1},{"x":1,"y":1}],"by":null,"cause":null,"health":100,"id":"s","out":null},{"body":[{"x":5,"y":2},{"x":5,"y":1},{"x":5,"y":1}],"by":null,"cause":null,"health":99,"id":"t","out":null},{"body":[{"x":3,"y":4},{"x":3,"y":5},{"x":3,"y":5}],"by":null,"cause":null,"health":99,"id":"u","out":null}],"turn":1,"width":7},"charge":128,"final":true,"game":"b"}
-"#;
-
 // A quota of two records: the third is refused until the older ones are given up.
 const TWO_RECORDS: &str = r#"{"games":[{"game":"a","quota":64}]}
 {"game":"a","do":"new","mode":"solo","width":5,"height":5,"snakes":[{"id":"s","x":1,"y":1}],"food":[],"min_food":0,"food_chance":0}
@@ -189,7 +178,6 @@ fn files_and_their_transcripts(rt: HostRuntime) -> Result<(), Fail> {
     let alloc = rt.alloc();
     for (file, text) in [
         (SOLO, SOLO_TEXT),
-        (TWO_GAMES, TWO_GAMES_TEXT),
         (TWO_RECORDS, TWO_RECORDS_TEXT),
         (AGAIN, AGAIN_TEXT),
         (STRAYS, STRAYS_TEXT),
@@ -208,11 +196,9 @@ fn files_and_their_transcripts(rt: HostRuntime) -> Result<(), Fail> {
 fn any_workers_write_the_same(rt: HostRuntime) -> Result<(), Fail> {
     let alloc = rt.alloc();
     for workers in 1..5 {
-        for (file, text) in [(TWO_GAMES, TWO_GAMES_TEXT), (SOLO, SOLO_TEXT)] {
-            let (told, written) = worked(&rt, alloc, file.as_bytes(), 12, workers, &OpenGate)?;
-            assert_eq!(rt; told.as_str(), "served", "{workers}");
-            assert_eq!(rt; written.as_slice(), text.as_bytes(), "{workers}");
-        }
+        let (told, written) = worked(&rt, alloc, SOLO.as_bytes(), 12, workers, &OpenGate)?;
+        assert_eq!(rt; told.as_str(), "served", "{workers}");
+        assert_eq!(rt; written.as_slice(), SOLO_TEXT.as_bytes(), "{workers}");
         let file = TWO_GAMES.as_bytes();
         let mut written = Vec::new(alloc);
         let served = serve(&rt, alloc, file, 12, workers, &OpenGate, &mut written);
@@ -306,38 +292,6 @@ fn runs_that_are_broken_off(rt: HostRuntime) -> Result<(), Fail> {
         written.as_slice(),
         b"{\"line\":2,\"no\":\"L1\",\"why\":\"json\"}\n".as_slice()
     );
-    Ok(())
-}
-
-// A file that ends anywhere: without its whole first line it has no plan, and a later line that is
-// cut is a stray.
-#[test]
-fn every_front_of_a_file_is_served(rt: HostRuntime) -> Result<(), Fail> {
-    let alloc = rt.alloc();
-    let bytes = TWO_GAMES.as_bytes();
-    let mut number = 1u64;
-    for end in 0..bytes.len() {
-        let (told, written) = outcome(&rt, alloc, &bytes[..end], 12)?;
-        let is_line_end = bytes[end] == b'\n';
-        if number == 1 && !is_line_end {
-            assert_eq!(rt; told.as_str(), "plan P1");
-            assert_eq!(rt; written.len(), 0);
-        } else {
-            assert_eq!(rt; told.as_str(), "served");
-            let stray = format!(in alloc;
-                "{{\"line\":{number},\"no\":\"L1\",\"why\":\"json\"}}\n"
-            )?;
-            let is_cut = !is_line_end && end > 0 && bytes[end - 1] != b'\n';
-            assert_eq!(rt;
-                written.as_slice().ends_with(stray.as_bytes()),
-                is_cut,
-                "at {end}"
-            );
-        }
-        if is_line_end {
-            number = number.wrapping_add(1);
-        }
-    }
     Ok(())
 }
 
