@@ -1,0 +1,197 @@
+//! Answers to the commands of a game, and the answer to a move whose seats have moved.
+ghost use Rattle.std.specs.Prelude.{◌≡◌, [], IfOk, All, Some, option_map};
+ghost use Rattle.bs_board.specs.boards.Wrap.{AreSides, wrap_of};
+ghost use Rattle.bs_board.specs.commands.Orders.{orders_of};
+ghost use Rattle.bs_rules.specs.Motion.{moved_board, IsMovable};
+
+use crate::fault::Fault;
+use crate::page::Page;
+use crate::scene::{Act, Question, ask, look, tried};
+use crate::values::{RECORD, new_solo, solo};
+use bs_board::{Board, Command, Mode, Move, Moves, TurnNumber, Words, is_legal};
+use bs_game::{Answer, Record, View, answer, check, joined};
+use bs_rules::move_snakes;
+use std::alloc::Global;
+
+/// Plays the scenes of this file.
+pub fn scenes(page: &mut Page) {
+    let alloc = page.alloc();
+    answers(page);
+    ask::<Joined>(page, "joined", solo(alloc));
+    if page.wants("refill") {
+        let end = refill(page);
+        page.ended(end);
+    }
+}
+
+/// Each command where it is accepted, and one that is refused.
+fn answers(page: &mut Page) {
+    let alloc = page.alloc();
+    ask::<Answered>(page, "answer_new", first_new(alloc));
+    ask::<Answered>(page, "answer_running", new_while_running(alloc));
+    let orders = Command::Move(no_orders(alloc));
+    ask::<Answered>(page, "answer_move", of_running(alloc, orders));
+    ask::<Answered>(page, "answer_show", of_running(alloc, Command::Show));
+    ask::<Answered>(page, "answer_free", of_running(alloc, Command::Free));
+    ask::<Answered>(page, "answer_end", of_running(alloc, Command::End));
+    ask::<Answered>(page, "answer_turn", first_turn(alloc));
+}
+
+/// A command, and what its answer sees of the game.
+#[derive(Debug, Drop)]
+struct Asked {
+    view: View,
+    command: Command,
+}
+
+/// `answer`.
+struct Answered;
+
+impl Question for Answered {
+    type On = Asked;
+
+    type Answer = Answer;
+
+    fn call(alloc: Global, on: &Asked) -> Result<Answer, Fault> {
+        if !on.view.is_fit() {
+            return Err(Fault::NoView);
+        }
+        Ok(answer(alloc, &on.view, &on.command)?)
+    }
+}
+
+fn first_new(alloc: Global) -> Result<Asked, Fault> {
+    let view = View {
+        quota: 4096,
+        charge: 0,
+        kept: 0,
+        last: None,
+        asked: None,
+    };
+    Ok(Asked {
+        view,
+        command: Command::New(new_solo(alloc, Mode::Solo)?),
+    })
+}
+
+/// What is seen of the game with the board of one snake.
+fn running(alloc: Global, asked: Option<Board>) -> Result<View, Fault> {
+    Ok(View {
+        quota: 4096,
+        charge: 32,
+        kept: 1,
+        last: Some(solo(alloc)?),
+        asked,
+    })
+}
+
+fn of_running(alloc: Global, command: Command) -> Result<Asked, Fault> {
+    let view = running(alloc, None)?;
+    Ok(Asked { view, command })
+}
+
+fn new_while_running(alloc: Global) -> Result<Asked, Fault> {
+    of_running(alloc, Command::New(new_solo(alloc, Mode::Solo)?))
+}
+
+fn first_turn(alloc: Global) -> Result<Asked, Fault> {
+    let turn = TurnNumber::new(0).ok_or(Fault::NoTurn)?;
+    let view = running(alloc, Some(solo(alloc)?))?;
+    Ok(Asked {
+        view,
+        command: Command::Turn(turn),
+    })
+}
+
+/// `Record::refill`, of an empty record.
+struct Refilling;
+
+impl Act for Refilling {
+    type State = Record;
+
+    type Seen = usize;
+
+    type Answer = ();
+
+    fn readers(_alloc: Global, state: &Record) -> Result<usize, Fault> {
+        Ok(state.as_slice().len())
+    }
+
+    fn call(&self, _alloc: Global, state: &mut Record) -> Result<(), Fault> {
+        Ok(state.refill(&RECORD)?)
+    }
+}
+
+fn refill(page: &mut Page) -> Result<(), Fault> {
+    let mut record = Record::from_vec(Vec::new(page.alloc()));
+    tried(page, &Refilling, &mut record)?;
+    look::<Refilling>(page, "answer", &record)
+}
+
+fn no_orders(alloc: Global) -> Move
+    ensures { result ≡ orders_of [] [] }
+{
+    Move::new(
+        Moves::from_vec(Vec::new(alloc)),
+        Words::from_vec(Vec::new(alloc)),
+    )
+}
+
+/// The board with all its snakes gone straight on.
+fn gone_on(alloc: Global, board: &Board) -> Result<Board, Fault>
+    requires bodies { All IsMovable board.now.snakes }
+    requires sides { AreSides (wrap_of board.now) }
+    ensures { IfOk result (λ moved. moved ≡ moved_board [] board.now) }
+{
+    let snakes = move_snakes(alloc, board.snakes.as_slice(), &[], board.wrap())?;
+    let mut moved = board.copy(alloc)?;
+    moved.snakes = snakes;
+    Ok(moved)
+}
+
+fn view_of_one(last: Board) -> View
+    ensures { result.last ≡ Some last }
+{
+    View {
+        quota: 64,
+        charge: 32,
+        kept: 1,
+        last: Some(last),
+        asked: None,
+    }
+}
+
+/// The answer to a move with no orders, of the board that is moved already.
+fn joined_on(alloc: Global, view: &View, moved: Board) -> Result<Answer, Fault>
+    requires { option_map (moved_board []) view.now.last ≡ Some moved }
+{
+    if check(view, &Command::Move(no_orders(alloc))).is_some() || !view.is_fit() {
+        return Err(Fault::NoView);
+    }
+    let orders = no_orders(alloc);
+    Ok(joined(alloc, view, &orders, moved)?)
+}
+
+/// The whole of `joined`, with all that it needs.
+#[tactic(auto, using(bs_rules::proofs::Movable::legal_is_movable, bs_rules::proofs::Movable::legal_has_sides))]
+fn joined_answer(alloc: Global, board: &Board) -> Result<Answer, Fault> {
+    if !is_legal(board) {
+        return Err(Fault::NotLegal);
+    }
+    let moved = gone_on(alloc, board)?;
+    let view = view_of_one(board.copy(alloc)?);
+    joined_on(alloc, &view, moved)
+}
+
+/// `joined`.
+struct Joined;
+
+impl Question for Joined {
+    type On = Board;
+
+    type Answer = Answer;
+
+    fn call(alloc: Global, on: &Board) -> Result<Answer, Fault> {
+        joined_answer(alloc, on)
+    }
+}

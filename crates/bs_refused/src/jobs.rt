@@ -1,0 +1,153 @@
+//! Each job of a game, worked with its memory refused; and a core that was told to fail.
+ghost use Rattle.bs_fiber.specs.Tickets.{IsFresh};
+
+use crate::cores::Taking;
+use crate::fault::Fault;
+use crate::page::Page;
+use crate::play::{CAP, Job, WORKERS, next_job, played, put_job, take};
+use crate::scene::look;
+use bs_fiber::{Done, Stopped, Ticket, work};
+use bs_pool::Owned;
+use bs_sched::{Core, Taken};
+use std::alloc::Global;
+
+/// How many jobs the commands of the game are.
+const JOBS: usize = 10;
+
+/// Plays the scenes of this file.
+pub fn scenes(page: &mut Page) {
+    if page.wants("work") {
+        let end = worked(page);
+        page.ended(end);
+    }
+    if page.wants("failed") {
+        let end = failed(page);
+        page.ended(end);
+    }
+}
+
+/// The tags and the numbers of blocks.
+fn names_of(alloc: Global, frames: &[Owned<CAP>]) -> Result<Vec<(u32, usize)>, Fault> {
+    let mut names = Vec::new(alloc);
+    for frame in frames {
+        names.push((frame.tag(), frame.number()))?;
+    }
+    Ok(names)
+}
+
+fn tell_frames(page: &mut Page, what: &str, frames: &[Owned<CAP>]) -> Result<(), Fault> {
+    let names = names_of(page.alloc(), frames)?;
+    page.line(what, &names);
+    Ok(())
+}
+
+/// The job behind that many others.
+fn job_behind(alloc: Global, jobs: usize) -> Result<Job, Fault> {
+    let mut core = played(alloc, jobs)?;
+    next_job(alloc, &mut core)
+}
+
+fn tell_done(page: &mut Page, done: &Done<CAP>) {
+    page.line("answer", &done.ticket().job());
+    page.line("answer", done.out());
+}
+
+/// A stopped job gives the blocks of its ticket back. The same job of another core, which was
+/// played the same way, is then worked in its place.
+fn work_again(page: &mut Page, jobs: usize, stopped: Stopped<CAP>) -> Result<Done<CAP>, Fault> {
+    tell_frames(page, "memory", stopped.blocks.as_slice())?;
+    let Job { ticket, key: _key } = job_behind(page.alloc(), jobs)?;
+    match work(page.alloc(), ticket) {
+        Ok(done) => Ok(done),
+        Err(_stopped) => Err(Fault::Memory),
+    }
+}
+
+fn marked_work(page: &mut Page, ticket: Ticket<CAP>) -> Result<Done<CAP>, Stopped<CAP>>
+    requires { IsFresh ticket }
+{
+    page.begin();
+    let first = work(page.alloc(), ticket);
+    page.end();
+    first
+}
+
+fn try_work(page: &mut Page, jobs: usize) -> Result<(), Fault> {
+    let Job { ticket, key: _key } = job_behind(page.alloc(), jobs)?;
+    tell_frames(page, "before", ticket.frames())?;
+    let done = match marked_work(page, ticket) {
+        Ok(done) => done,
+        Err(stopped) => work_again(page, jobs, stopped)?,
+    };
+    tell_done(page, &done);
+    Ok(())
+}
+
+/// `work` of each job in turn.
+fn worked(page: &mut Page) -> Result<(), Fault> {
+    for jobs in 0..JOBS {
+        try_work(page, jobs)?;
+    }
+    Ok(())
+}
+
+/// Whether the worker is told that the core failed.
+fn is_failed(alloc: Global, core: &mut Core<CAP>, worker: usize) -> Result<bool, Fault> {
+    if worker > core.workers() {
+        return Err(Fault::NoWorker);
+    }
+    match core.take(alloc, worker)? {
+        Taken::Failed => Ok(true),
+        _ => Ok(false),
+    }
+}
+
+/// Tells of each worker that asks whether it is told that the core failed.
+fn tell_failed(page: &mut Page, core: &mut Core<CAP>) -> Result<(), Fault> {
+    for worker in 0..WORKERS + 1 {
+        let is_failed = is_failed(page.alloc(), core, worker)?;
+        page.line("answer", &is_failed);
+    }
+    Ok(())
+}
+
+/// Beside a part the other part, for the next worker.
+fn other_of(alloc: Global, core: &mut Core<CAP>, job: &Job) -> Result<Option<Job>, Fault> {
+    match &job.key {
+        Some(_) => take(alloc, core, 1),
+        None => Ok(None),
+    }
+}
+
+/// Brings back what is out.
+fn put_all(alloc: Global, core: &mut Core<CAP>, job: Job, other: Option<Job>) -> Result<(), Fault> {
+    put_job(alloc, core, 0, job)?;
+    match other {
+        Some(other) => put_job(alloc, core, 1, other),
+        None => Ok(()),
+    }
+}
+
+/// Tells the core to fail while a job is out, which is then brought back.
+fn fail_out(page: &mut Page, core: &mut Core<CAP>) -> Result<(), Fault> {
+    let job = next_job(page.alloc(), core)?;
+    let other = other_of(page.alloc(), core, &job)?;
+    core.fail();
+    tell_failed(page, core)?;
+    put_all(page.alloc(), core, job, other)
+}
+
+/// After `fail`, with each job out in turn: no worker gets a job, and what is out is brought back.
+fn fail_behind(page: &mut Page, jobs: usize) -> Result<(), Fault> {
+    let mut core = played(page.alloc(), jobs)?;
+    fail_out(page, &mut core)?;
+    look::<Taking>(page, "answer", &core)?;
+    tell_failed(page, &mut core)
+}
+
+fn failed(page: &mut Page) -> Result<(), Fault> {
+    for jobs in 0..JOBS {
+        fail_behind(page, jobs)?;
+    }
+    Ok(())
+}

@@ -1,0 +1,163 @@
+//! A core that is handed the commands of a game, and whose jobs are taken, worked and put.
+ghost use Rattle.bs_fiber.specs.Tickets.{IsFresh};
+
+use crate::fault::Fault;
+use crate::values::{move_of, plan_of};
+use bs_board::{Cells, Command, Direction, Id, Mode, New, Point, Starts, TurnNumber};
+use bs_counter::{Finish, PartKey, Parted};
+use bs_fiber::{Done, Ticket, work};
+use bs_sched::{Core, Taken};
+use std::alloc::Global;
+
+pub const CAP: usize = 524_288;
+
+/// The last worker's number.
+pub const WORKERS: usize = 2;
+
+/// A core with one game.
+pub fn opened(alloc: Global, blocks: usize) -> Result<Core<CAP>, Fault> {
+    let plan = plan_of(alloc, "a")?;
+    Ok(Core::<CAP>::open(alloc, plan, blocks, WORKERS)?)
+}
+
+fn start_at(alloc: Global, name: &str, x: i16, y: i16) -> Result<(Id, Point), Fault> {
+    Ok((Id::from_str(alloc, name)?, Point { x, y }))
+}
+
+/// Three snakes, the first of them below the only food: two parts.
+pub fn new_of_three(alloc: Global) -> Result<Command, Fault> {
+    let (s, t) = (start_at(alloc, "s", 1, 1)?, start_at(alloc, "t", 5, 1)?);
+    let starts = vec![in alloc; s, t, start_at(alloc, "u", 3, 5)?]?;
+    let mut food = Cells::new(alloc);
+    food.push(Point { x: 1, y: 2 })?;
+    let new = New::new(Mode::Standard, 7, 7, Starts::from_vec(starts), food, 0, 0);
+    Ok(Command::New(new.ok_or(Fault::NoSetup)?))
+}
+
+/// A move in which the third snake goes down, or all go straight on.
+fn move_down(alloc: Global, goes_down: bool) -> Result<Command, Fault> {
+    let mut moves = Vec::new(alloc);
+    if goes_down {
+        moves.push((Id::from_str(alloc, "u")?, Direction::Down))?;
+    }
+    Ok(Command::Move(move_of(moves, Vec::new(alloc))?))
+}
+
+/// The commands of the game: a move of two parts among them.
+pub fn commands(alloc: Global) -> Result<Vec<Command>, Fault> {
+    let turn = TurnNumber::new(0).ok_or(Fault::NoTurn)?;
+    let (down, on) = (move_down(alloc, true)?, move_down(alloc, false)?);
+    let new = new_of_three(alloc)?;
+    Ok(vec![in alloc; new, down, Command::Turn(turn), Command::Free, on]?)
+}
+
+/// Hands the command to the open stay of that row.
+pub fn hand(
+    alloc: Global,
+    core: &mut Core<CAP>,
+    game: usize,
+    command: &Command,
+) -> Result<(), Fault> {
+    let copy = command.copy(alloc)?;
+    if game >= core.rows() || !core.is_open(game) {
+        return Err(Fault::NoStay);
+    }
+    Ok(core.hand(alloc, game, copy)?)
+}
+
+/// A job that was taken and not worked: its blocks are as it is to find them.
+#[derive(Drop)]
+pub struct Job {
+    pub ticket: Ticket<CAP>,
+    pub key: Option<PartKey<Done<CAP>>>,
+    pub ghost fresh: { IsFresh ticket },
+}
+
+/// The next job for that worker, if there is one.
+pub fn take(alloc: Global, core: &mut Core<CAP>, worker: usize) -> Result<Option<Job>, Fault> {
+    if worker > core.workers() {
+        return Err(Fault::NoWorker);
+    }
+    match core.take(alloc, worker)? {
+        Taken::Job(ticket) => Ok(Some(Job { ticket, key: None })),
+        Taken::Part(ticket, key) => Ok(Some(Job {
+            ticket,
+            key: Some(key),
+        })),
+        Taken::Nothing => Ok(None),
+        Taken::Busy => Err(Fault::Busy),
+        Taken::Failed => Err(Fault::Failed),
+    }
+}
+
+/// Brings back what was worked of a part: the last part brings them all.
+fn put_part(core: &mut Core<CAP>, done: Done<CAP>, key: PartKey<Done<CAP>>) -> Result<(), Fault> {
+    if key.part() != done.part() {
+        return Err(Fault::OtherKey);
+    }
+    match key.finish(done) {
+        Finish::More(_spent) => Ok(()),
+        Finish::Last(parts) => match core.put_parts(parts) {
+            Ok(()) => Ok(()),
+            Err(_) => Err(Fault::Strays),
+        },
+    }
+}
+
+/// Brings back what was worked.
+fn put(
+    core: &mut Core<CAP>,
+    worker: usize,
+    done: Done<CAP>,
+    key: Option<PartKey<Done<CAP>>>,
+) -> Result<(), Fault> {
+    if let Some(key) = key {
+        return put_part(core, done, key);
+    }
+    match core.put(worker, done) {
+        Ok(()) => Ok(()),
+        Err(_) => Err(Fault::Stray),
+    }
+}
+
+/// Works the job and brings back what it gave.
+pub fn put_job(alloc: Global, core: &mut Core<CAP>, worker: usize, job: Job) -> Result<(), Fault> {
+    let Job { ticket, key } = job;
+    match work(alloc, ticket) {
+        Ok(done) => put(core, worker, done, key),
+        Err(_) => Err(Fault::Memory),
+    }
+}
+
+/// The next job for the caller's own worker, which is there.
+pub fn next_job(alloc: Global, core: &mut Core<CAP>) -> Result<Job, Fault> {
+    take(alloc, core, 0)?.ok_or(Fault::NoJob)
+}
+
+fn hand_all(alloc: Global, core: &mut Core<CAP>, commands: &[Command]) -> Result<(), Fault> {
+    for command in commands {
+        hand(alloc, core, 0, command)?;
+    }
+    Ok(())
+}
+
+fn play_jobs(alloc: Global, core: &mut Core<CAP>, jobs: usize) -> Result<(), Fault> {
+    for _ in 0..jobs {
+        let job = next_job(alloc, core)?;
+        put_job(alloc, core, 0, job)?;
+    }
+    Ok(())
+}
+
+fn play_behind(alloc: Global, core: &mut Core<CAP>, jobs: usize) -> Result<(), Fault> {
+    let commands = commands(alloc)?;
+    hand_all(alloc, core, commands.as_slice())?;
+    play_jobs(alloc, core, jobs)
+}
+
+/// A core that was handed all commands, and has that many of its jobs behind it.
+pub fn played(alloc: Global, jobs: usize) -> Result<Core<CAP>, Fault> {
+    let mut core = opened(alloc, 6)?;
+    play_behind(alloc, &mut core, jobs)?;
+    Ok(core)
+}

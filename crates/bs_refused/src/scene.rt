@@ -1,0 +1,86 @@
+//! Calls that are tried: each with its requests for memory marked, and once more where it is
+//! answered want of memory.
+use crate::fault::Fault;
+use crate::page::Page;
+use std::alloc::Global;
+use std::fmt::Debug;
+
+/// A call that only reads what it is made on.
+pub trait Question {
+    /// What it is made on.
+    type On: Debug + Drop;
+
+    type Answer: Debug + Drop;
+
+    fn call(alloc: Global, on: &Self::On) -> Result<Self::Answer, Fault>;
+}
+
+/// A call that changes what it is made on.
+pub trait Act {
+    type State;
+    /// What the readers of the state give.
+    type Seen: Debug + Drop;
+
+    type Answer: Drop;
+
+    fn readers(alloc: Global, state: &Self::State) -> Result<Self::Seen, Fault>;
+
+    fn call(&self, alloc: Global, state: &mut Self::State) -> Result<Self::Answer, Fault>;
+}
+
+fn asked<Q: Question>(page: &mut Page, on: &Q::On) -> Result<Q::Answer, Fault> {
+    page.line("before", on);
+    page.begin();
+    let first = Q::call(page.alloc(), on);
+    page.end();
+    match first {
+        Err(Fault::Memory) => {
+            page.line("memory", on);
+            Q::call(page.alloc(), on)
+        }
+        other => other,
+    }
+}
+
+fn ask_on<Q: Question>(page: &mut Page, on: &Q::On) -> Result<(), Fault> {
+    let answer = asked::<Q>(page, on)?;
+    page.line("answer", &answer);
+    Ok(())
+}
+
+/// The scene of a call, where it is wanted.
+pub fn ask<Q: Question>(page: &mut Page, name: &str, on: Result<Q::On, Fault>) {
+    if !page.wants(name) {
+        return;
+    }
+    match on {
+        Ok(on) => {
+            let end = ask_on::<Q>(page, &on);
+            page.ended(end);
+        }
+        Err(fault) => page.ended(Err(fault)),
+    }
+}
+
+/// Tells what the readers give.
+pub fn look<A: Act>(page: &mut Page, what: &str, state: &A::State) -> Result<(), Fault> {
+    let seen = A::readers(page.alloc(), state)?;
+    page.line(what, &seen);
+    Ok(())
+}
+
+/// The call, and the call again where it is answered want of memory. The readers are told before
+/// each.
+pub fn tried<A: Act>(page: &mut Page, act: &A, state: &mut A::State) -> Result<A::Answer, Fault> {
+    look::<A>(page, "before", state)?;
+    page.begin();
+    let first = act.call(page.alloc(), state);
+    page.end();
+    match first {
+        Err(Fault::Memory) => {
+            look::<A>(page, "memory", state)?;
+            act.call(page.alloc(), state)
+        }
+        other => other,
+    }
+}

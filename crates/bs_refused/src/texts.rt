@@ -1,0 +1,211 @@
+//! Lines that are read and written, the text of a transcript, and the cut of a file.
+use crate::fault::Fault;
+use crate::page::Page;
+use crate::scene::{Question, ask};
+use crate::values::{shown_reply, solo};
+use bs_board::{Board, Id, Plan, Refusal, Reply, Version, Word};
+use bs_host::cut;
+use bs_json::{
+    Line, Stray, board_value, final_line, push_reply_line, read_line, read_plan, reply_line,
+    stray_line,
+};
+use bs_transcript::{Section, text};
+use std::alloc::Global;
+
+/// The blocks that the file is served from.
+const BLOCKS: usize = 24;
+
+/// Games that come and go, and a line of each kind.
+const FILE: &str = r#"{"games":[{"game":"a","quota":64},{"game":"b","quota":4096}],"version":3}
+{"game":"a","do":"new","mode":"solo","width":5,"height":5,"snakes":[{"id":"s","x":1,"y":1}],"food":[],"min_food":0,"food_chance":0}
+{"game":"b","do":"new","mode":"wrapped","width":7,"height":7,"snakes":[{"id":"s","x":1,"y":1},{"id":"t","x":5,"y":1}],"food":[{"x":1,"y":2}]}
+{"game":"a","do":"move","moves":{"s":"up","t":"left"},"words":[5,4294967295]}
+{ "game" : "b", "words" : [ 7 ], "moves" : { "\u0074" : "down" }, "do" : "move" }
+{"game":"a","do":"turn","at":10000}
+{"game":"b","do":"jump"}
+{"game":"b","do":"leave"}
+{"game":"b","do":"admit","quota":64}
+{"do":"admit","game":"c","quota":1}
+{"do":"leave"}
+{"game":"b","do":"show"}
+{"game":"z","do":"show"}
+{oops"#;
+
+/// Plays the scenes of this file.
+pub fn scenes(page: &mut Page) {
+    ask::<ReadPlan>(page, "read_plan", FILE.lines().next().ok_or(Fault::NoLine));
+    ask::<ReadLines>(page, "read_line", Ok(FILE));
+    ask::<Cutting>(page, "cut_planned", Ok(("a", 1)));
+    ask::<Cutting>(page, "cut_admitted", Ok(("b", 2)));
+    lines(page);
+}
+
+/// The lines of a transcript, and its text.
+fn lines(page: &mut Page) {
+    let alloc = page.alloc();
+    ask::<ShowBoard>(page, "board_value", solo(alloc));
+    ask::<ReplyLine>(page, "reply_shown", shown_reply(alloc));
+    ask::<ReplyLine>(page, "reply_plain", Ok(Reply::Plain(Word::End, 0)));
+    ask::<ReplyLine>(page, "reply_refused", Ok(Reply::Refused(Refusal::Over)));
+    ask::<PushReply>(page, "push_shown", shown_reply(alloc));
+    ask::<PushReply>(page, "push_refused", Ok(Reply::Refused(Refusal::Over)));
+    ask::<FinalLine>(page, "final_line", last_board(alloc));
+    ask::<FinalLine>(page, "final_none", Ok(None));
+    ask::<StrayLine>(page, "stray_line", Ok(Stray::Json));
+    ask::<StrayLine>(page, "stray_admit", Ok(Stray::NameOpen));
+    ask::<WholeText>(page, "text", two_replies(alloc));
+}
+
+fn text_of(bytes: Vec<u8>) -> Result<String, Fault> {
+    match String::from_utf8(bytes) {
+        Ok(text) => Ok(text),
+        Err(_) => Err(Fault::NoText),
+    }
+}
+
+fn two_replies(alloc: Global) -> Result<Vec<Reply>, Fault> {
+    let shown = shown_reply(alloc)?;
+    Ok(vec![in alloc; shown, Reply::Refused(Refusal::Over)]?)
+}
+
+fn last_board(alloc: Global) -> Result<Option<Board>, Fault> {
+    Ok(Some(solo(alloc)?))
+}
+
+/// `read_plan`.
+struct ReadPlan;
+
+impl Question for ReadPlan {
+    type On = &'static str;
+
+    type Answer = Plan;
+
+    fn call(alloc: Global, on: &&'static str) -> Result<Plan, Fault> {
+        Ok(read_plan(alloc, on.as_bytes())?)
+    }
+}
+
+/// `read_line`, of each line of the file.
+struct ReadLines;
+
+impl Question for ReadLines {
+    type On = &'static str;
+
+    type Answer = Vec<Line>;
+
+    fn call(alloc: Global, on: &&'static str) -> Result<Vec<Line>, Fault> {
+        let mut lines = Vec::new(alloc);
+        for line in on.lines() {
+            lines.push(read_line(alloc, line.as_bytes(), Version::Three)?)?;
+        }
+        Ok(lines)
+    }
+}
+
+/// `board_value`.
+struct ShowBoard;
+
+impl Question for ShowBoard {
+    type On = Board;
+
+    type Answer = String;
+
+    fn call(alloc: Global, on: &Board) -> Result<String, Fault> {
+        Ok(board_value(alloc, on)?.to_string(alloc)?)
+    }
+}
+
+/// `reply_line`.
+struct ReplyLine;
+
+impl Question for ReplyLine {
+    type On = Reply;
+
+    type Answer = String;
+
+    fn call(alloc: Global, on: &Reply) -> Result<String, Fault> {
+        let game = Id::from_str(alloc, "a")?;
+        text_of(reply_line(alloc, &game, 7, on)?)
+    }
+}
+
+/// `push_reply_line`.
+struct PushReply;
+
+impl Question for PushReply {
+    type On = Reply;
+
+    type Answer = String;
+
+    fn call(alloc: Global, on: &Reply) -> Result<String, Fault> {
+        let game = Id::from_str(alloc, "a")?;
+        let mut text = Vec::new(alloc);
+        push_reply_line(alloc, &game, 7, on, &mut text)?;
+        text_of(text)
+    }
+}
+
+/// `final_line`.
+struct FinalLine;
+
+impl Question for FinalLine {
+    type On = Option<Board>;
+
+    type Answer = String;
+
+    fn call(alloc: Global, on: &Option<Board>) -> Result<String, Fault> {
+        let game = Id::from_str(alloc, "a")?;
+        text_of(final_line(alloc, &game, on.as_ref(), 96)?)
+    }
+}
+
+/// `stray_line`.
+struct StrayLine;
+
+impl Question for StrayLine {
+    type On = Stray;
+
+    type Answer = String;
+
+    fn call(alloc: Global, on: &Stray) -> Result<String, Fault> {
+        text_of(stray_line(alloc, 12, *on)?)
+    }
+}
+
+/// The text of a game with these replies and a last board.
+fn whole_text(alloc: Global, replies: &[Reply]) -> Result<Vec<u8>, Fault> {
+    let game = Id::from_str(alloc, "a")?;
+    let section = Section {
+        name: &game,
+        replies,
+        board: Some(solo(alloc)?),
+        charge: 96,
+    };
+    Ok(text(alloc, &[section], &[(3, Stray::Json)])?)
+}
+
+/// `text`.
+struct WholeText;
+
+impl Question for WholeText {
+    type On = Vec<Reply>;
+
+    type Answer = String;
+
+    fn call(alloc: Global, on: &Vec<Reply>) -> Result<String, Fault> {
+        text_of(whole_text(alloc, on.as_slice())?)
+    }
+}
+
+/// `cut`, to that stay of the game.
+struct Cutting;
+
+impl Question for Cutting {
+    type On = (&'static str, usize);
+
+    type Answer = String;
+
+    fn call(alloc: Global, on: &(&'static str, usize)) -> Result<String, Fault> {
+        text_of(cut(alloc, FILE.as_bytes(), BLOCKS, on.0, on.1)?)
+    }
+}

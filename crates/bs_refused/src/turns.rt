@@ -1,0 +1,197 @@
+//! First boards, growth, food, and the steps of a turn.
+use crate::fault::Fault;
+use crate::page::Page;
+use crate::scene::{Question, ask};
+use crate::values::{new_solo, solo, two_heads, two_orders};
+use bs_board::limits::{LAST_TURN, MOST_SNAKES};
+use bs_board::{Board, Direction, Mode, New, Point, Snake, Snakes, is_legal};
+use bs_food::{free_cells, spawn};
+use bs_modes::{grow, start};
+use bs_rules::{feed, finish_turn, move_snake, move_snakes, turn};
+use std::alloc::Global;
+
+/// Plays the scenes of this file.
+pub fn scenes(page: &mut Page) {
+    let alloc = page.alloc();
+    ask::<FirstBoard>(page, "start_solo", new_solo(alloc, Mode::Solo));
+    ask::<FirstBoard>(
+        page,
+        "start_constrictor",
+        new_solo(alloc, Mode::Constrictor),
+    );
+    ask::<Growing>(page, "grow", two_heads(alloc));
+    ask::<FreeCells>(page, "free_cells", two_heads(alloc));
+    ask::<Spawning>(page, "spawn", two_heads(alloc));
+    steps(page);
+}
+
+/// The steps of a turn, and whole turns.
+fn steps(page: &mut Page) {
+    let alloc = page.alloc();
+    ask::<MoveSnake>(page, "move_snake", two_heads(alloc));
+    ask::<MoveSnakes>(page, "move_snakes", two_heads(alloc));
+    ask::<Feeding>(page, "feed", meeting(alloc));
+    ask::<FinishTurn>(page, "finish_turn", meeting(alloc));
+    ask::<NextBoard>(page, "turn_solo", solo(alloc));
+    ask::<NextBoard>(page, "turn", two_heads(alloc));
+}
+
+/// `start`.
+struct FirstBoard;
+
+impl Question for FirstBoard {
+    type On = New;
+
+    type Answer = Board;
+
+    fn call(alloc: Global, on: &New) -> Result<Board, Fault> {
+        Ok(start(alloc, on)?)
+    }
+}
+
+/// `grow`, of a copy in constrictor mode: after want of memory its board is given up.
+struct Growing;
+
+impl Question for Growing {
+    type On = Board;
+
+    type Answer = Board;
+
+    fn call(alloc: Global, on: &Board) -> Result<Board, Fault> {
+        let mut copy = on.copy(alloc)?;
+        copy.mode = Mode::Constrictor;
+        grow(alloc, &mut copy)?;
+        Ok(copy)
+    }
+}
+
+/// `free_cells`.
+struct FreeCells;
+
+impl Question for FreeCells {
+    type On = Board;
+
+    type Answer = Vec<Point>;
+
+    fn call(alloc: Global, on: &Board) -> Result<Vec<Point>, Fault> {
+        Ok(free_cells(alloc, on)?)
+    }
+}
+
+/// `spawn` of five foods, on a copy.
+struct Spawning;
+
+impl Question for Spawning {
+    type On = Board;
+
+    type Answer = Board;
+
+    fn call(alloc: Global, on: &Board) -> Result<Board, Fault> {
+        let mut copy = on.copy(alloc)?;
+        copy.min_food = 6;
+        spawn(alloc, &mut copy, &[5, 5, 7, 3, 1])?;
+        Ok(copy)
+    }
+}
+
+#[tactic(auto, using(bs_rules::proofs::Movable::legal_is_movable))]
+fn first_moved(alloc: Global, board: &Board) -> Result<Snake, Fault> {
+    if !is_legal(board) {
+        return Err(Fault::NotLegal);
+    }
+    match board.snakes.as_slice() {
+        [first, ..] => Ok(move_snake(alloc, first, Some(Direction::Down), None)?),
+        [] => Err(Fault::NotLegal),
+    }
+}
+
+/// `move_snake`.
+struct MoveSnake;
+
+impl Question for MoveSnake {
+    type On = Board;
+
+    type Answer = Snake;
+
+    fn call(alloc: Global, on: &Board) -> Result<Snake, Fault> {
+        first_moved(alloc, on)
+    }
+}
+
+#[tactic(auto, using(bs_rules::proofs::Movable::legal_is_movable))]
+fn all_moved(alloc: Global, board: &Board) -> Result<Snakes, Fault> {
+    if !is_legal(board) {
+        return Err(Fault::NotLegal);
+    }
+    Ok(move_snakes(alloc, board.snakes.as_slice(), &[], None)?)
+}
+
+/// `move_snakes`.
+struct MoveSnakes;
+
+impl Question for MoveSnakes {
+    type On = Board;
+
+    type Answer = Snakes;
+
+    fn call(alloc: Global, on: &Board) -> Result<Snakes, Fault> {
+        all_moved(alloc, on)
+    }
+}
+
+/// The two snakes with their heads on the food.
+fn meeting(alloc: Global) -> Result<Board, Fault> {
+    let mut board = two_heads(alloc)?;
+    board.snakes = all_moved(alloc, &board)?;
+    Ok(board)
+}
+
+/// `feed`, of a copy: after want of memory its board is given up.
+struct Feeding;
+
+impl Question for Feeding {
+    type On = Board;
+
+    type Answer = Board;
+
+    fn call(alloc: Global, on: &Board) -> Result<Board, Fault> {
+        let mut copy = on.copy(alloc)?;
+        feed(alloc, &mut copy)?;
+        Ok(copy)
+    }
+}
+
+/// `finish_turn`, of a copy.
+struct FinishTurn;
+
+impl Question for FinishTurn {
+    type On = Board;
+
+    type Answer = Board;
+
+    fn call(alloc: Global, on: &Board) -> Result<Board, Fault> {
+        let mut copy = on.copy(alloc)?;
+        copy.min_food = 2;
+        if copy.turn >= LAST_TURN || copy.snakes.len() > MOST_SNAKES {
+            return Err(Fault::NoTurn);
+        }
+        Ok(finish_turn(alloc, copy, &[5, 7])?)
+    }
+}
+
+/// `turn`.
+struct NextBoard;
+
+impl Question for NextBoard {
+    type On = Board;
+
+    type Answer = Board;
+
+    fn call(alloc: Global, on: &Board) -> Result<Board, Fault> {
+        let orders = two_orders(alloc)?;
+        if !is_legal(on) || on.turn >= LAST_TURN {
+            return Err(Fault::NoTurn);
+        }
+        Ok(turn(alloc, on, &orders)?)
+    }
+}

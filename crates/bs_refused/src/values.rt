@@ -1,0 +1,93 @@
+//! The boards, commands and plans that the scenes are played with.
+use crate::fault::Fault;
+use bs_board::commands::orders::is_ascending;
+use bs_board::limits::{MOST_ROWS, MOST_WORDS};
+use bs_board::plans::plan::have_distinct_names;
+use bs_board::{
+    Board, Cells, Direction, Id, KeptBoard, Mode, Move, Moves, New, Plan, Point, Reply, Row, Rows,
+    Starts, Version, Word, Words, decode, is_legal,
+};
+use std::alloc::Global;
+
+/// On a board of three by three, the record of turn 0.
+pub const RECORD: [u8; 26] = [
+    1, 1, 3, 3, 0, 0, 0, 0, 1, 0, 0, 1, 115, 100, 0, 0, 0, 0, 0, 3, 2, 2, 2, 2, 2, 2,
+];
+
+/// A standard board of turn 10 with two snakes and a food between their heads.
+pub const TWO_HEADS: [u8; 43] = [
+    1, 0, 5, 5, 0, 10, 0, 0, 2, 0, 1, 2, 2, 1, 65, 90, 0, 0, 0, 0, 0, 3, 2, 3, 1, 3, 1, 2, 1, 66,
+    90, 0, 0, 0, 0, 0, 3, 4, 3, 5, 3, 5, 2,
+];
+
+/// A name too long to lie in its `Id` itself.
+pub const LONG_NAME: &str = "a name that is longer than the bytes that an Id holds in itself";
+
+pub fn bytes_of(alloc: Global, bytes: &[u8]) -> Result<Vec<u8>, Fault> {
+    let mut copy = Vec::new(alloc);
+    copy.extend_from_slice(bytes)?;
+    Ok(copy)
+}
+
+/// The board of one snake.
+pub fn solo(alloc: Global) -> Result<Board, Fault> {
+    Ok(decode(alloc, &RECORD)?)
+}
+
+/// The board of two snakes whose heads are at one food.
+pub fn two_heads(alloc: Global) -> Result<Board, Fault> {
+    Ok(decode(alloc, &TWO_HEADS)?)
+}
+
+/// The board of two snakes in its record.
+pub fn kept_of(alloc: Global) -> Result<KeptBoard, Fault> {
+    let board = two_heads(alloc)?;
+    if !is_legal(&board) {
+        return Err(Fault::NotLegal);
+    }
+    Ok(KeptBoard::of(alloc, &board)?)
+}
+
+/// A reply that shows that board.
+pub fn shown_reply(alloc: Global) -> Result<Reply, Fault> {
+    Ok(Reply::Shown(Word::Move, kept_of(alloc)?, 96))
+}
+
+/// A first board of one snake below the only food.
+pub fn new_solo(alloc: Global, mode: Mode) -> Result<New, Fault> {
+    let starts = vec![in alloc; (Id::from_str(alloc, "s")?, Point { x: 1, y: 1 })]?;
+    let mut food = Cells::new(alloc);
+    food.push(Point { x: 1, y: 2 })?;
+    New::new(mode, 5, 5, Starts::from_vec(starts), food, 2, 0).ok_or(Fault::NoSetup)
+}
+
+/// The move with these directions, in the order of their names, and these words.
+pub fn move_of(moves: Vec<(Id, Direction)>, words: Vec<u32>) -> Result<Move, Fault> {
+    if !is_ascending(moves.as_slice()) || words.len() > MOST_WORDS {
+        return Err(Fault::NoSetup);
+    }
+    Ok(Move::new(Moves::from_vec(moves), Words::from_vec(words)))
+}
+
+/// Two directions and two words.
+pub fn two_orders(alloc: Global) -> Result<Move, Fault> {
+    let first = (Id::from_str(alloc, "A")?, Direction::Up);
+    let second = (Id::from_str(alloc, "B")?, Direction::Left);
+    move_of(vec![in alloc; first, second]?, vec![in alloc; 5, 7]?)
+}
+
+pub fn row_of(alloc: Global, name: &str) -> Result<Row, Fault> {
+    Row::new(Id::from_str(alloc, name)?, 4096).ok_or(Fault::NoPlan)
+}
+
+/// A plan of that one game.
+pub fn plan_of(alloc: Global, name: &str) -> Result<Plan, Fault> {
+    let rows = vec![in alloc; row_of(alloc, name)?]?;
+    if !have_distinct_names(rows.as_slice()) || rows.len() > MOST_ROWS {
+        return Err(Fault::NoPlan);
+    }
+    Ok(Plan {
+        rows: Rows::from_vec(rows),
+        version: Version::One,
+    })
+}
