@@ -114,7 +114,7 @@ class Comparison:
         while size:
             at = 0
             while at < len(lines):
-                fewer = lines[:at] + lines[at + size:]
+                fewer = lines[:at] + lines[at + size :]
                 if self.differs(words, b"\n".join(fewer)):
                     lines = fewer
                 else:
@@ -184,7 +184,9 @@ def main():
         with tempfile.TemporaryDirectory() as folder:
             if given.shapes:
                 measure.write_all(Path(folder))
-                files += sorted(path for path in Path(folder).glob("*.jsonl") if path.stem not in NEWER)
+                files += sorted(
+                    path for path in Path(folder).glob("*.jsonl") if path.stem not in NEWER
+                )
             for path in files:
                 comparison.file(path, BLOCKS)
             for name, words, text in limits.made(given.version) if given.limits else ():

@@ -54,7 +54,9 @@ null
 {"game":"g0","do":"move","moves":{},"moves":[]}
 {"game":"g0","do":"move","moves":{"":"up"}}
 {"moves":{},"do":"move","game":"g0"}
-""".strip().split(b"\n")
+""".strip().split(
+    b"\n"
+)
 LINES += [b"", b" ", b"\t\r", b"\x0c", b"\xef\xbb\xbf", b"\xff", b"\x00", b"{}\x00"]
 LINES += [b'{"game":"g0","do":"\xff"}', b'\xef\xbb\xbf{"game":"g0","do":"show"}']
 LINES += [b'{"game":"g0","do":"show","x":"\xed\xa0\x80"}']
@@ -103,9 +105,9 @@ def spoiled(rng, line):
     at = rng.randrange(len(line))
     kind = rng.randrange(5)
     if kind == 0:
-        return line[:at] + line[at + 1:]
+        return line[:at] + line[at + 1 :]
     if kind == 1:
-        return line[:at] + bytes([rng.randrange(256)]).replace(b"\n", b" ") + line[at + 1:]
+        return line[:at] + bytes([rng.randrange(256)]).replace(b"\n", b" ") + line[at + 1 :]
     if kind == 2:
         return line[:at] + rng.choice([b" ", b",", b'"', b"}", b"]", b"0", b"\\"]) + line[at:]
     if kind == 3:
@@ -208,7 +210,7 @@ class Game:
         direction = rng.choice(list(kept))
         body.insert(0, kept[direction])
         if self.mode != "constrictor":
-            del body[self.length:]
+            del body[self.length :]
         return None if direction == ahead[0] and chance(rng, 30) else direction
 
 
@@ -222,15 +224,17 @@ def plan(rng, version):
         said["version"] = version
     if chance(rng, 3):
         wrong, count = Raw(rng.choice(WRONG)), rng.choice([10, 11, 64, 65])
-        broken = rng.choice([
-            {"version": wrong},
-            {"games": rows[0]},
-            {"games": rows + [3]},
-            {"games": rows * 2},
-            {"games": rows + [{"game": "h", "quota": wrong}]},
-            {"games": rows + [{"game": wrong, "quota": 64}]},
-            {"games": [{"game": f"h{at}", "quota": 64} for at in range(count)]},
-        ])
+        broken = rng.choice(
+            [
+                {"version": wrong},
+                {"games": rows[0]},
+                {"games": rows + [3]},
+                {"games": rows * 2},
+                {"games": rows + [{"game": "h", "quota": wrong}]},
+                {"games": rows + [{"game": wrong, "quota": 64}]},
+                {"games": [{"game": f"h{at}", "quota": 64} for at in range(count)]},
+            ]
+        )
         said = {**said, **broken}
     return names, said
 

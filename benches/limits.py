@@ -129,7 +129,8 @@ def to_the_last_turn(version):
 
 
 def hunger(version):
-    """Two snakes go round in four cells, and at the end of their health into food, a wall, or on."""
+    """Two snakes go round in four cells, and at the end of their health into food, a wall, or
+    on."""
     snakes = [{"id": "s", "x": 0, "y": 0}, {"id": "t", "x": 3, "y": 3}]
     food = [{"x": x, "y": y} for x, y in ((2, 0), (2, 1), (0, 2), (1, 2))]
     for mode in ("standard", "constrictor", "wrapped")[: version + 1]:
@@ -178,7 +179,9 @@ alone - --game a --workers 1
 alone --game b - --blocks 6
 alone - --game b --blocks 5
 alone - --game c --blocks 5
-""".strip().split("\n")
+""".strip().split(
+    "\n"
+)
 
 
 def command_lines():

@@ -39,14 +39,25 @@ ROUND = 95  # turns, fewer than a snake lives without food
 
 
 def many_games(rounds):
-    """64 games of four snakes each, which go round in squares of two by two cells. Each game is ended and begun anew, round by round."""
+    """64 games of four snakes each, which go round in squares of two by two cells. Each game is
+    ended and begun anew, round by round."""
     names = [f"g{index}" for index in range(64)]
     starts = {"a": (2, 2), "b": (7, 2), "c": (2, 7), "d": (7, 7)}
     snakes = [{"id": id, "x": x, "y": y} for id, (x, y) in starts.items()]
     yield plan(names, 16_384)
     for _ in range(rounds):
         for name in names:
-            yield line(game=name, do="new", mode="standard", width=11, height=11, snakes=snakes, food=[], min_food=0, food_chance=0)
+            yield line(
+                game=name,
+                do="new",
+                mode="standard",
+                width=11,
+                height=11,
+                snakes=snakes,
+                food=[],
+                min_food=0,
+                food_chance=0,
+            )
         for turn in range(ROUND):
             direction = ("up", "right", "down", "left")[turn % 4]
             for name in names:
@@ -56,7 +67,8 @@ def many_games(rounds):
 
 
 def tour(width, height):
-    """The cells of a board of even width in a round: along the bottom row, then up and down the columns from the right."""
+    """The cells of a board of even width in a round: along the bottom row, then up and down the
+    columns from the right."""
     cells = [(x, 0) for x in range(width)]
     for x in reversed(range(width)):
         column = range(1, height)
@@ -68,13 +80,24 @@ DIRECTIONS = {(0, 1): "up", (0, -1): "down", (1, 0): "right", (-1, 0): "left"}
 
 
 def long_game(turns):
-    """One snake that goes on a tour of a board of 20 by 20 cells. The words of every 90th move put food before its head."""
+    """One snake that goes on a tour of a board of 20 by 20 cells. The words of every 90th move put
+    food before its head."""
     width = height = 20
     cells = tour(width, height)
     length, food = 3, None
     body = [cells[0]] * 3
     yield plan(["g"], 16_777_216)
-    yield line(game="g", do="new", mode="solo", width=width, height=height, snakes=[{"id": "s", "x": 0, "y": 0}], food=[], min_food=0, food_chance=100)
+    yield line(
+        game="g",
+        do="new",
+        mode="solo",
+        width=width,
+        height=height,
+        snakes=[{"id": "s", "x": 0, "y": 0}],
+        food=[],
+        min_food=0,
+        food_chance=100,
+    )
     for turn in range(turns):
         here, there = cells[turn % len(cells)], cells[(turn + 1) % len(cells)]
         body = [there] + body[:-1]
@@ -87,11 +110,17 @@ def long_game(turns):
             free = [(x, y) for y in range(height) for x in range(width) if (x, y) not in taken]
             food = cells[(turn + 2) % len(cells)]
             words = [0, free.index(food)]
-        yield line(game="g", do="move", moves={"s": DIRECTIONS[there[0] - here[0], there[1] - here[1]]}, words=words)
+        yield line(
+            game="g",
+            do="move",
+            moves={"s": DIRECTIONS[there[0] - here[0], there[1] - here[1]]},
+            words=words,
+        )
 
 
 def corner_tours(side, columns, rows):
-    """The tours of the equal parts that a square board is cut into, each from the lower left corner of its part."""
+    """The tours of the equal parts that a square board is cut into, each from the lower left corner
+    of its part."""
     width, height = side // columns, side // rows
     corners = [(column * width, row * height) for row in range(rows) for column in range(columns)]
     return [[(left + x, low + y) for x, y in tour(width, height)] for left, low in corners]
@@ -100,11 +129,17 @@ def corner_tours(side, columns, rows):
 def orders(tours, turn):
     """Each snake's next direction on its tour. The snakes are named by letters."""
     steps = [(cells[turn % len(cells)], cells[(turn + 1) % len(cells)]) for cells in tours]
-    return {"abcdefgh"[seat]: DIRECTIONS[there[0] - here[0], there[1] - here[1]] for seat, (here, there) in enumerate(steps)}
+    return {
+        "abcdefgh"[seat]: DIRECTIONS[there[0] - here[0], there[1] - here[1]]
+        for seat, (here, there) in enumerate(steps)
+    }
 
 
 def starts(tours):
-    return [{"id": "abcdefgh"[seat], "x": cells[0][0], "y": cells[0][1]} for seat, cells in enumerate(tours)]
+    return [
+        {"id": "abcdefgh"[seat], "x": cells[0][0], "y": cells[0][1]}
+        for seat, cells in enumerate(tours)
+    ]
 
 
 LARGE = 24  # cells of a side, which can be cut into halves, thirds and quarters
@@ -112,7 +147,8 @@ GROWING = 240  # turns, in which each of four snakes grows to 62 parts
 
 
 def feeding_words(side, tours):
-    """For each turn the words that put food before the head of one snake after the other, in games without any other food."""
+    """For each turn the words that put food before the head of one snake after the other, in games
+    without any other food."""
     bodies = [[cells[0]] * 3 for cells in tours]
     food = None
     for turn in range(GROWING):
@@ -129,14 +165,25 @@ def feeding_words(side, tours):
 
 
 def growing_snakes(rounds):
-    """Eight games on large boards, in each of which four snakes go on tours of a quarter and grow. Each is ended and begun anew, round by round."""
+    """Eight games on large boards, in each of which four snakes go on tours of a quarter and grow.
+    Each is ended and begun anew, round by round."""
     names = [f"g{index}" for index in range(8)]
     tours = corner_tours(LARGE, 2, 2)
     words = list(feeding_words(LARGE, tours))
     yield plan(names, 1_048_576)
     for _ in range(rounds):
         for name in names:
-            yield line(game=name, do="new", mode="standard", width=LARGE, height=LARGE, snakes=starts(tours), food=[], min_food=0, food_chance=100)
+            yield line(
+                game=name,
+                do="new",
+                mode="standard",
+                width=LARGE,
+                height=LARGE,
+                snakes=starts(tours),
+                food=[],
+                min_food=0,
+                food_chance=100,
+            )
         for turn in range(GROWING):
             for name in names:
                 yield line(game=name, do="move", moves=orders(tours, turn), words=words[turn])
@@ -148,13 +195,22 @@ FILLING = 64  # turns, after which eight snakes of a constrictor game fill most 
 
 
 def constrictor(rounds):
-    """Eight games of constrictor, in each of which eight snakes fill an eighth of a large board. Each is ended and begun anew, round by round."""
+    """Eight games of constrictor, in each of which eight snakes fill an eighth of a large board.
+    Each is ended and begun anew, round by round."""
     names = [f"g{index}" for index in range(8)]
     tours = corner_tours(LARGE, 2, 4)
     yield plan(names, 1_048_576)
     for _ in range(rounds):
         for name in names:
-            yield line(game=name, do="new", mode="constrictor", width=LARGE, height=LARGE, snakes=starts(tours), food=[])
+            yield line(
+                game=name,
+                do="new",
+                mode="constrictor",
+                width=LARGE,
+                height=LARGE,
+                snakes=starts(tours),
+                food=[],
+            )
         for turn in range(FILLING):
             for name in names:
                 yield line(game=name, do="move", moves=orders(tours, turn))
@@ -163,16 +219,31 @@ def constrictor(rounds):
 
 
 def wrapped(rounds):
-    """Eight wrapped games, in each of which eight snakes go to the right, each in a row of its own and again and again across the edge."""
+    """Eight wrapped games, in each of which eight snakes go to the right, each in a row of its own
+    and again and again across the edge."""
     names = [f"g{index}" for index in range(8)]
     snakes = [{"id": id, "x": 0, "y": 3 * index} for index, id in enumerate("abcdefgh")]
     yield plan(names, 16_384, version=2)
     for _ in range(rounds):
         for name in names:
-            yield line(game=name, do="new", mode="wrapped", width=LARGE, height=LARGE, snakes=snakes, food=[], min_food=0, food_chance=0)
+            yield line(
+                game=name,
+                do="new",
+                mode="wrapped",
+                width=LARGE,
+                height=LARGE,
+                snakes=snakes,
+                food=[],
+                min_food=0,
+                food_chance=0,
+            )
         for turn in range(ROUND):
             for name in names:
-                yield line(game=name, do="move", moves={} if turn else {snake["id"]: "right" for snake in snakes})
+                yield line(
+                    game=name,
+                    do="move",
+                    moves={} if turn else {snake["id"]: "right" for snake in snakes},
+                )
         for name in names:
             yield line(game=name, do="end")
 
@@ -182,7 +253,8 @@ COMING = 4  # games that are admitted between two turns, until 64 are open
 
 
 def stays(count):
-    """So many stays of twenty turns each, at most 64 open at once: a game of two snakes is admitted, played, and leaves."""
+    """So many stays of twenty turns each, at most 64 open at once: a game of two snakes is
+    admitted, played, and leaves."""
     snakes = [{"id": "a", "x": 2, "y": 2}, {"id": "b", "x": 7, "y": 7}]
     turns_of, names = {}, iter(f"g{index}" for index in range(count))
     yield plan([], 0, version=3)
@@ -190,7 +262,17 @@ def stays(count):
         for name in itertools.islice(names, min(COMING, 64 - len(turns_of))):
             turns_of[name] = 0
             yield line(game=name, do="admit", quota=16_384)
-            yield line(game=name, do="new", mode="standard", width=11, height=11, snakes=snakes, food=[], min_food=0, food_chance=0)
+            yield line(
+                game=name,
+                do="new",
+                mode="standard",
+                width=11,
+                height=11,
+                snakes=snakes,
+                food=[],
+                min_food=0,
+                food_chance=0,
+            )
         if not turns_of:
             return
         for name, turn in list(turns_of.items()):
@@ -203,9 +285,20 @@ def stays(count):
 
 
 def short_commands(count):
-    """Commands that are short and change nothing: turns that are not kept, of a game of one record."""
+    """Commands that are short and change nothing: turns that are not kept, of a game of one
+    record."""
     yield plan(["g"], 4096)
-    yield line(game="g", do="new", mode="solo", width=3, height=3, snakes=[{"id": "s", "x": 1, "y": 1}], food=[], min_food=0, food_chance=0)
+    yield line(
+        game="g",
+        do="new",
+        mode="solo",
+        width=3,
+        height=3,
+        snakes=[{"id": "s", "x": 1, "y": 1}],
+        food=[],
+        min_food=0,
+        food_chance=0,
+    )
     for _ in range(count):
         yield line(game="g", do="turn", at=9)
 
@@ -257,19 +350,29 @@ def write_all(folder):
 
 
 def measure_all(program):
-    print(f"{'shape':24}{'read MB':>9}{'written MB':>12}{'seconds':>9}{'turns/s':>10}{'read MB/s':>11}{'written MB/s':>14}{'memory MB':>11}")
+    print(
+        f"{'shape':24}{'read MB':>9}{'written MB':>12}{'seconds':>9}{'turns/s':>10}{'read MB/s':>11}{'written MB/s':>14}{'memory MB':>11}"
+    )
     with tempfile.TemporaryDirectory() as name:
         for title, shape, size, turns in SHAPES:
-            rows = [(count, *measure(program, Path(name), shape, count)) for count in (size, 2 * size)]
+            rows = [
+                (count, *measure(program, Path(name), shape, count)) for count in (size, 2 * size)
+            ]
             for count, read, written, seconds, memory in rows:
                 speeds = f"{turns(count) / seconds:10.0f}{read / seconds / 1e6:11.1f}{written / seconds / 1e6:14.1f}"
-                print(f"{title:24}{read / 1e6:9.2f}{written / 1e6:12.2f}{seconds:9.3f}{speeds}{memory:11.1f}")
+                print(
+                    f"{title:24}{read / 1e6:9.2f}{written / 1e6:12.2f}{seconds:9.3f}{speeds}{memory:11.1f}"
+                )
             (_, read, written, seconds, _), (_, read2, written2, seconds2, _) = rows
-            print(f"{'':24}file x{read2 / read:.2f}, written x{written2 / written:.2f}, time x{seconds2 / seconds:.2f}")
+            print(
+                f"{'':24}file x{read2 / read:.2f}, written x{written2 / written:.2f}, time x{seconds2 / seconds:.2f}"
+            )
 
 
 def main():
-    parser = argparse.ArgumentParser(description=__doc__, formatter_class=argparse.RawDescriptionHelpFormatter)
+    parser = argparse.ArgumentParser(
+        description=__doc__, formatter_class=argparse.RawDescriptionHelpFormatter
+    )
     parser.add_argument("program", nargs="?", default=str(ROOT / "crates/arena/out/arena"))
     parser.add_argument("--write", metavar="FOLDER", type=Path)
     given = parser.parse_args()

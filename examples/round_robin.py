@@ -1,6 +1,6 @@
 #!/usr/bin/env python3
-"""Writes the command file of a round robin: each of the given bots meets each other one once a round,
-in a game of two snakes.
+"""Writes the command file of a round robin: each of the given bots meets each other one once a
+round, in a game of two snakes.
 
     examples/round_robin.py [--turns N] [--rounds N] [--seed N] [--open N] BOT.moves .. > FILE
 
@@ -47,7 +47,8 @@ def moves_of(text):
 
 
 def pairings(names):
-    """Each two names once. Who is named first starts on the left; that goes back and forth, so no bot starts there always."""
+    """Each two names once. Who is named first starts on the left; that goes back and forth, so no
+    bot starts there always."""
     pairs = []
     for (one, a), (other, b) in combinations(enumerate(names), 2):
         pairs.append((a, b) if (one + other) % 2 else (b, a))
@@ -78,7 +79,8 @@ def batches(names, most):
 
 
 def command_lines(bots, turns, seed, rounds=1, most_open=None):
-    """The lines of the file; bots has the moves of each by its name. With most_open, so many games are open at once."""
+    """The lines of the file; bots has the moves of each by its name. With most_open, so many games
+    are open at once."""
     draw = random.Random(seed)
     games = named_games(sorted(bots), rounds)
     for name in games:
@@ -90,7 +92,9 @@ def command_lines(bots, turns, seed, rounds=1, most_open=None):
         raise ValueError("two games have the same name")
     played = {bot: list(islice(cycle(moves), turns)) for bot, moves in bots.items()}
     # Drawn for all games at once, so that a game's numbers do not depend on which others are open.
-    words = [{name: [draw.getrandbits(32) for _ in range(WORDS)] for name in games} for _ in range(turns)]
+    words = [
+        {name: [draw.getrandbits(32) for _ in range(WORDS)] for name in games} for _ in range(turns)
+    ]
     rows = [] if most_open else [{"game": name, "quota": QUOTA} for name in games]
     yield line(games=rows, version=3) if most_open else line(games=rows)
     for some in batches(games, most_open or len(games)):
@@ -98,7 +102,15 @@ def command_lines(bots, turns, seed, rounds=1, most_open=None):
             if most_open:
                 yield line(game=name, do="admit", quota=QUOTA)
             snakes = [{"id": id, **start} for id, start in zip(games[name], STARTS)]
-            yield line(game=name, do="new", mode="standard", width=SIDE, height=SIDE, snakes=snakes, food=FOOD)
+            yield line(
+                game=name,
+                do="new",
+                mode="standard",
+                width=SIDE,
+                height=SIDE,
+                snakes=snakes,
+                food=FOOD,
+            )
         for turn in range(turns):
             for name in some:
                 moves = {id: played[id][turn] for id in games[name]}
@@ -123,9 +135,15 @@ def told(games, turns, most_open=None):
     """What the standard error says of so many games."""
     said = f"{games} games of {turns} moves"
     if most_open:
-        return said + f", {most_open} at once: arena serve needs --blocks {blocks_for(min(games, most_open))} or more"
+        return (
+            said
+            + f", {most_open} at once: arena serve needs --blocks {blocks_for(min(games, most_open))} or more"
+        )
     if games > MOST_GAMES:
-        return said + f": a plan has at most {MOST_GAMES}, so give it to examples/split.py, or use --open"
+        return (
+            said
+            + f": a plan has at most {MOST_GAMES}, so give it to examples/split.py, or use --open"
+        )
     return said + f": arena serve needs --blocks {blocks_for(games)} or more"
 
 
@@ -137,12 +155,20 @@ def open_games(word):
 
 
 def main():
-    parser = argparse.ArgumentParser(description=__doc__, formatter_class=argparse.RawDescriptionHelpFormatter)
+    parser = argparse.ArgumentParser(
+        description=__doc__, formatter_class=argparse.RawDescriptionHelpFormatter
+    )
     parser.add_argument("bots", nargs="+", metavar="BOT.moves", type=Path)
-    parser.add_argument("--turns", type=int, default=150, help="moves that each game is given, 150 if left out")
+    parser.add_argument(
+        "--turns", type=int, default=150, help="moves that each game is given, 150 if left out"
+    )
     parser.add_argument("--rounds", type=int, default=1, help="1 if left out")
-    parser.add_argument("--seed", type=int, default=1, help="of the numbers for food, 1 if left out")
-    parser.add_argument("--open", metavar="N", type=open_games, help="games open at once, in a file of version 3")
+    parser.add_argument(
+        "--seed", type=int, default=1, help="of the numbers for food, 1 if left out"
+    )
+    parser.add_argument(
+        "--open", metavar="N", type=open_games, help="games open at once, in a file of version 3"
+    )
     given = parser.parse_args()
     try:
         bots = read_bots(given.bots)

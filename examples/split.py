@@ -138,7 +138,9 @@ def plan_of(text: bytes) -> Plan:
         raise ValueError("plan P1: the first line is no plan")
     version, rows = value.get("version", 1), value.get("games")
     if type(version) is int and version == 3:
-        raise ValueError("a file of version 3 is not split: which games it admits depends on all its lines")
+        raise ValueError(
+            "a file of version 3 is not split: which games it admits depends on all its lines"
+        )
     if type(version) is not int or version not in VERSIONS or not isinstance(rows, list):
         raise ValueError("plan P1: the first line is no plan of version 1 or 2")
     if len(text) > LONGEST_LINE and len(rows) <= MOST_GAMES:

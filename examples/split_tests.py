@@ -182,14 +182,17 @@ class Split(InFolder):
 
     def test_what_is_told_and_listed(self):
         told = self.cut(b"\n".join([PLAN, NEW % b"b", b"", b"x", NEW % b"a", b"{}", b"y"]), 2)
-        self.assertEqual(told.splitlines(), [
-            "lines of no game: L1 json 2, L2 game 1; the first is line 4",
-            "3 games in 2 files of at most 2: --array=1-2 --mem=92 (13 blocks at most)",
-        ])
-        self.assertEqual(rows_of(self.parts), [
-            ["0001.jsonl", "13", "92", "2", "273"],
-            ["0002.jsonl", "6", "77", "1", "49"],
-        ])
+        self.assertEqual(
+            told.splitlines(),
+            [
+                "lines of no game: L1 json 2, L2 game 1; the first is line 4",
+                "3 games in 2 files of at most 2: --array=1-2 --mem=92 (13 blocks at most)",
+            ],
+        )
+        self.assertEqual(
+            rows_of(self.parts),
+            [["0001.jsonl", "13", "92", "2", "273"], ["0002.jsonl", "6", "77", "1", "49"]],
+        )
         first = (self.parts / "0001.jsonl").read_bytes().splitlines()
         self.assertEqual(first[1:], [NEW % b"b", NEW % b"a"])
         numbers = [path.read_text().split() for path in sorted(self.parts.glob("*.lines"))]
@@ -209,10 +212,13 @@ class Split(InFolder):
     def test_version_two_stays(self):
         rows = b'{"game":"a","quota":16},{"game":"b","quota":16}'
         self.cut(b'{"version":2,"games":[%b]}\n' % rows + SHOW % b"b", 1)
-        self.assertEqual([path.read_bytes() for path in sorted(self.parts.glob("*.jsonl"))], [
-            b'{"games":[{"game":"a","quota":16}],"version":2}\n',
-            b'{"games":[{"game":"b","quota":16}],"version":2}\n' + SHOW % b"b" + b"\n",
-        ])
+        self.assertEqual(
+            [path.read_bytes() for path in sorted(self.parts.glob("*.jsonl"))],
+            [
+                b'{"games":[{"game":"a","quota":16}],"version":2}\n',
+                b'{"games":[{"game":"b","quota":16}],"version":2}\n' + SHOW % b"b" + b"\n",
+            ],
+        )
 
     def test_a_file_of_version_three_is_refused(self):
         told = "a file of version 3 is not split: which games it admits depends on all its lines"

@@ -57,7 +57,8 @@ def counted(counter):
 
 
 def read_transcript(lines):
-    """The tally of each snake by its id, the refusals and stray lines by their word, and the games that have no final board."""
+    """The tally of each snake by its id, the refusals and stray lines by their word, and the games
+    that have no final board."""
     tallies, refused, empty = {}, Counter(), []
     for text in lines:
         said = json.loads(text)
@@ -72,12 +73,19 @@ def read_transcript(lines):
 
 def table(tallies):
     """The rows of the standings, as one text with columns."""
-    ranked = sorted(tallies.items(), key=lambda item: (-item[1].wins, -item[1].draws, -item[1].turns, item[0]))
+    ranked = sorted(
+        tallies.items(), key=lambda item: (-item[1].wins, -item[1].draws, -item[1].turns, item[0])
+    )
     rows = [TITLES]
     for id, it in ranked:
-        rows.append((id, it.games, it.wins, it.draws, it.losses, it.turns, counted(it.causes) or "-"))
+        rows.append(
+            (id, it.games, it.wins, it.draws, it.losses, it.turns, counted(it.causes) or "-")
+        )
     widths = [max(len(str(row[column])) for row in rows) for column in range(len(TITLES))]
-    return "\n".join("  ".join(str(cell).ljust(width) for cell, width in zip(row, widths)).rstrip() for row in rows)
+    return "\n".join(
+        "  ".join(str(cell).ljust(width) for cell, width in zip(row, widths)).rstrip()
+        for row in rows
+    )
 
 
 def report(lines):
@@ -98,7 +106,9 @@ def lines_of(paths):
 
 
 def main():
-    parser = argparse.ArgumentParser(description=__doc__, formatter_class=argparse.RawDescriptionHelpFormatter)
+    parser = argparse.ArgumentParser(
+        description=__doc__, formatter_class=argparse.RawDescriptionHelpFormatter
+    )
     parser.add_argument("transcripts", nargs="*", metavar="TRANSCRIPT", type=Path)
     given = parser.parse_args()
     try:

@@ -13,8 +13,20 @@ from pathlib import Path
 ROOT = Path(__file__).resolve().parent.parent
 FOLDER = ROOT / "examples"
 # Command lines that serve nothing.
-COMMAND_LINES = [["--help"], ["--version"], ["serve", "--help"], ["serve", "-", "--workers", "5"], ["play"], ["serve", "no such file"]]
-COMMAND_LINES += [["alone", "-"], ["serve", "-", "--blocks", "x"], ["alone", "-", "--game", "a", "--workers", "2"], ["serve", b"\xff"]]
+COMMAND_LINES = [
+    ["--help"],
+    ["--version"],
+    ["serve", "--help"],
+    ["serve", "-", "--workers", "5"],
+    ["play"],
+    ["serve", "no such file"],
+]
+COMMAND_LINES += [
+    ["alone", "-"],
+    ["serve", "-", "--blocks", "x"],
+    ["alone", "-", "--game", "a", "--workers", "2"],
+    ["serve", b"\xff"],
+]
 COMMAND_LINES += [["alone", "-", "--game", "a", "--stay", "0"]]
 # The blocks that a case is served from, where they are not the program's own number.
 BLOCKS = {"stays": 12}
@@ -46,15 +58,21 @@ class Case:
 @dataclass(frozen=True)
 class Alone:
     """One stay of a case: the words that play it alone, and the lines that they write."""
+
     words: list
     section: bytes
 
 
 def cases():
     """Each case, by its name."""
-    found = [Case(file.stem, file, file.with_suffix(".transcript")) for file in FOLDER.glob("*.jsonl")]
+    found = [
+        Case(file.stem, file, file.with_suffix(".transcript")) for file in FOLDER.glob("*.jsonl")
+    ]
     arena = ROOT / "crates/arena"
-    return sorted([*found, Case("crates/arena/stdin", arena / "stdin", arena / "stdout")], key=lambda case: case.name)
+    return sorted(
+        [*found, Case("crates/arena/stdin", arena / "stdin", arena / "stdout")],
+        key=lambda case: case.name,
+    )
 
 
 def purposes():
@@ -81,7 +99,16 @@ def stays(case):
     counts = Counter()
     for name, section in sections(case.transcript.read_bytes()):
         counts[name] += 1
-        words = ["alone", str(case.file), "--game", name, "--stay", str(counts[name]), "--blocks", str(case.blocks)]
+        words = [
+            "alone",
+            str(case.file),
+            "--game",
+            name,
+            "--stay",
+            str(counts[name]),
+            "--blocks",
+            str(case.blocks),
+        ]
         yield Alone(words, section)
 
 

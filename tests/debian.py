@@ -4,10 +4,14 @@ import subprocess
 
 
 def missing(command, *packages):
-    """Installs the packages where the command is not there. Where it can't be had, the reason in words, and else nothing."""
+    """Installs the packages where the command is not there. Where it can't be had, the reason in
+    words, and else nothing."""
     if shutil.which(command):
         return None
-    for words in (["apt-get", "update"], ["apt-get", "install", "--yes", "--no-install-recommends", *packages]):
+    for words in (
+        ["apt-get", "update"],
+        ["apt-get", "install", "--yes", "--no-install-recommends", *packages],
+    ):
         try:
             ran = subprocess.run(words, capture_output=True, text=True)
         except FileNotFoundError as fault:

@@ -15,5 +15,20 @@ def missing():
 def compiled(folder):
     """The library, made in the folder."""
     library = Path(folder) / "refusing.so"
-    subprocess.run(["gcc", "-shared", "-fPIC", "-O1", "-Wall", "-Wextra", "-Werror", "-o", library, SOURCE, "-ldl"], check=True)
+    subprocess.run(
+        [
+            "gcc",
+            "-shared",
+            "-fPIC",
+            "-O1",
+            "-Wall",
+            "-Wextra",
+            "-Werror",
+            "-o",
+            library,
+            SOURCE,
+            "-ldl",
+        ],
+        check=True,
+    )
     return library

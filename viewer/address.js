@@ -1,4 +1,5 @@
-// The address of one turn of one game, which stands behind the `#`; and the file that the address names behind the `?`.
+// The address of one turn of one game, which stands behind the `#`; and the file that the address
+// names behind the `?`.
 'use strict';
 
 /** The place that an address names, in its own words, stay 1, round 1 and turn 0 where it leaves them out; null where it names no game. */

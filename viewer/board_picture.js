@@ -1,4 +1,5 @@
-// The picture of a board: cells, food and snakes, with one cell round the edges for heads that have left it.
+// The picture of a board: cells, food and snakes, with one cell round the edges for heads that have
+// left it.
 'use strict';
 
 /** All cells as one path of squares with a little room between them. */

@@ -1,4 +1,5 @@
-// A board as a line of a transcript shows it, checked before anything is drawn, and what is said of its snakes.
+// A board as a line of a transcript shows it, checked before anything is drawn, and what is said of
+// its snakes.
 'use strict';
 
 /** Of each cause what it is called, and which ids its killer can have. */

@@ -1,4 +1,5 @@
-// The game that is looked at: its round and turn, the board, the snakes, the slider and the address of the turn.
+// The game that is looked at: its round and turn, the board, the snakes, the slider and the address
+// of the turn.
 'use strict';
 
 const ADDRESS_DELAY = 300; // milliseconds of rest before the address is written, which browsers let a page do only so often

@@ -1,4 +1,5 @@
-// The forms that a line of a transcript can have, told by its two ends alone, without reading the board between them.
+// The forms that a line of a transcript can have, told by its two ends alone, without reading the
+// board between them.
 'use strict';
 
 const HEAD_BYTES = 32;

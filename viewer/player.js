@@ -1,4 +1,5 @@
-// Plays a round: one turn after the other at the chosen speed, until the last or until it is stopped.
+// Plays a round: one turn after the other at the chosen speed, until the last or until it is
+// stopped.
 'use strict';
 
 class Player {

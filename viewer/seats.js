@@ -1,4 +1,5 @@
-// How the eight seats look: a colour and a mark along the body for each, so that no two are told apart by hue alone.
+// How the eight seats look: a colour and a mark along the body for each, so that no two are told
+// apart by hue alone.
 'use strict';
 
 /** The colours differ in lightness as well as hue; the test measures how far apart they are for colour-blind eyes. */

@@ -1,4 +1,5 @@
-// The list of a game's snakes: how each looks, whether it lives, its health and length, and the plot of both.
+// The list of a game's snakes: how each looks, whether it lives, its health and length, and the
+// plot of both.
 'use strict';
 
 /** One snake's place in the list; what changes from turn to turn is written by `show`. */

@@ -1,4 +1,5 @@
-// The picture of one snake: a joined body in the colour and with the mark of its seat, and a head that looks where it goes.
+// The picture of one snake: a joined body in the colour and with the mark of its seat, and a head
+// that looks where it goes.
 'use strict';
 
 /** The middle of a cell in the picture, where y goes down; the board's y goes up. */

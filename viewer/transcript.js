@@ -1,4 +1,5 @@
-// A transcript: its games with their rounds and refused commands, and its stray lines, found from the ends of its lines.
+// A transcript: its games with their rounds and refused commands, and its stray lines, found from
+// the ends of its lines.
 'use strict';
 
 const MOST_LINE_BYTES = 2 * 1024 * 1024; // the largest board, eight snakes of 10,003 parts, is written in 1.3 MB

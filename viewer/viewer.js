@@ -1,4 +1,5 @@
-// The page as a whole: opens a transcript that is chosen, dropped or named in the address, and answers keys.
+// The page as a whole: opens a transcript that is chosen, dropped or named in the address, and
+// answers keys.
 'use strict';
 
 const FAR_STEP = 10;

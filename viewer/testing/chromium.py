@@ -10,9 +10,19 @@ import time
 import urllib.error
 import urllib.request
 
-PACKAGES = {"chromium": ["chromium", "fonts-dejavu-core"], "chromedriver": ["chromium-driver"]}  # what each program comes with
+PACKAGES = {
+    "chromium": ["chromium", "fonts-dejavu-core"],
+    "chromedriver": ["chromium-driver"],
+}  # what each program comes with
 ELEMENT = "element-6066-11e4-a52e-4f735466cecf"  # the key of an element's reference, as the protocol names it
-PATIENCE = ["-o", "Acquire::Retries=1", "-o", "Acquire::http::Timeout=20", "-o", "Acquire::https::Timeout=20"]
+PATIENCE = [
+    "-o",
+    "Acquire::Retries=1",
+    "-o",
+    "Acquire::http::Timeout=20",
+    "-o",
+    "Acquire::https::Timeout=20",
+]
 INSTALL_SECONDS = 900
 ANSWER_SECONDS = 120
 
@@ -23,29 +33,51 @@ class NotToBeHad(Exception):
 
 def install():
     """Installs what is missing; raises NotToBeHad where that fails."""
-    missing = [package for program, packages in PACKAGES.items() if shutil.which(program) is None for package in packages]
+    missing = [
+        package
+        for program, packages in PACKAGES.items()
+        if shutil.which(program) is None
+        for package in packages
+    ]
     if not missing:
         return
     environment = {**os.environ, "DEBIAN_FRONTEND": "noninteractive"}
     for words in (["update"], ["install", "-y", "--no-install-recommends", *missing]):
         try:
-            run = subprocess.run(["apt-get", *PATIENCE, *words], env=environment, stdout=subprocess.PIPE, stderr=subprocess.STDOUT, text=True, timeout=INSTALL_SECONDS)
+            run = subprocess.run(
+                ["apt-get", *PATIENCE, *words],
+                env=environment,
+                stdout=subprocess.PIPE,
+                stderr=subprocess.STDOUT,
+                text=True,
+                timeout=INSTALL_SECONDS,
+            )
         except (OSError, subprocess.TimeoutExpired) as fault:
             raise NotToBeHad(f"apt-get {words[0]}: {fault}") from fault
         if run.returncode != 0:
-            raise NotToBeHad(f"apt-get {words[0]}: {(run.stdout.strip().splitlines() or ['failed'])[-1]}")
+            raise NotToBeHad(
+                f"apt-get {words[0]}: {(run.stdout.strip().splitlines() or ['failed'])[-1]}"
+            )
 
 
 class Browser:
-    """One window of a Chromium, with a driver of its own. It resolves no name but the machine's own."""
+    """One window of a Chromium, with a driver of its own. It resolves no name but the machine's
+    own."""
 
     def __init__(self):
         self.profile = tempfile.mkdtemp(prefix="viewer-chromium-")
-        self.driver = subprocess.Popen([shutil.which("chromedriver"), "--port=0"], stdout=subprocess.PIPE, stderr=subprocess.DEVNULL, text=True)
+        self.driver = subprocess.Popen(
+            [shutil.which("chromedriver"), "--port=0"],
+            stdout=subprocess.PIPE,
+            stderr=subprocess.DEVNULL,
+            text=True,
+        )
         self.root = f"http://127.0.0.1:{self.port()}"
         self.session = None
         try:
-            self.session = self.call("POST", "/session", {"capabilities": {"alwaysMatch": self.wishes()}})["sessionId"]
+            self.session = self.call(
+                "POST", "/session", {"capabilities": {"alwaysMatch": self.wishes()}}
+            )["sessionId"]
         except BaseException:
             self.close()
             raise
@@ -58,15 +90,28 @@ class Browser:
         raise RuntimeError("chromedriver did not start")
 
     def wishes(self):
-        words = ["--headless=new", "--no-sandbox", "--disable-dev-shm-usage", "--window-size=1500,1250", "--force-device-scale-factor=1",
-                 "--host-resolver-rules=MAP * ~NOTFOUND, EXCLUDE 127.0.0.1", f"--user-data-dir={self.profile}"]
-        return {"browserName": "chrome", "goog:chromeOptions": {"binary": shutil.which("chromium"), "args": words},
-                "goog:loggingPrefs": {"browser": "SEVERE"}}
+        words = [
+            "--headless=new",
+            "--no-sandbox",
+            "--disable-dev-shm-usage",
+            "--window-size=1500,1250",
+            "--force-device-scale-factor=1",
+            "--host-resolver-rules=MAP * ~NOTFOUND, EXCLUDE 127.0.0.1",
+            f"--user-data-dir={self.profile}",
+        ]
+        return {
+            "browserName": "chrome",
+            "goog:chromeOptions": {"binary": shutil.which("chromium"), "args": words},
+            "goog:loggingPrefs": {"browser": "SEVERE"},
+        }
 
     def call(self, method, path, body=None):
-        """What the driver answers to a request; a path that is not of the whole driver is of the session."""
+        """What the driver answers to a request; a path that is not of the whole driver is of the
+        session."""
         address = self.root + (path if path == "/session" else f"/session/{self.session}{path}")
-        request = urllib.request.Request(address, None if body is None else json.dumps(body).encode(), method=method)
+        request = urllib.request.Request(
+            address, None if body is None else json.dumps(body).encode(), method=method
+        )
         try:
             with urllib.request.urlopen(request, timeout=ANSWER_SECONDS) as answer:
                 return json.load(answer)["value"]
@@ -98,14 +143,25 @@ class Browser:
         actions = []
         for key in keys:
             together = key if isinstance(key, tuple) else (key,)
-            actions += [{"type": "keyDown", "value": each} for each in together] + [{"type": "keyUp", "value": each} for each in reversed(together)]
-        self.call("POST", "/actions", {"actions": [{"type": "key", "id": "keyboard", "actions": actions}]})
+            actions += [{"type": "keyDown", "value": each} for each in together] + [
+                {"type": "keyUp", "value": each} for each in reversed(together)
+            ]
+        self.call(
+            "POST", "/actions", {"actions": [{"type": "key", "id": "keyboard", "actions": actions}]}
+        )
 
     def drop(self, path):
         """Drops a file of the machine on the middle of the page, as a hand would."""
         data = {"items": [], "files": [str(path)], "dragOperationsMask": 1}
         for event in ("dragEnter", "dragOver", "drop"):
-            self.call("POST", "/goog/cdp/execute", {"cmd": "Input.dispatchDragEvent", "params": {"type": event, "x": 600, "y": 400, "data": data}})
+            self.call(
+                "POST",
+                "/goog/cdp/execute",
+                {
+                    "cmd": "Input.dispatchDragEvent",
+                    "params": {"type": event, "x": 600, "y": 400, "data": data},
+                },
+            )
 
     def picture(self, selector):
         """The bytes of a PNG of an element."""

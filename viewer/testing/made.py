@@ -9,13 +9,19 @@ def text(line):
 
 
 def rounds_of(lines, game):
-    """The lines of a game that has one round, with an `end` behind them, so that they can stand again and again."""
-    own = [line for line in map(json.loads, lines) if line.get("game") == game and "board" in line and "final" not in line]
+    """The lines of a game that has one round, with an `end` behind them, so that they can stand
+    again and again."""
+    own = [
+        line
+        for line in map(json.loads, lines)
+        if line.get("game") == game and "board" in line and "final" not in line
+    ]
     return own + [{"charge": 0, "do": "end", "game": game}]
 
 
 def write_large(path, lines, game, games, size):
-    """Writes a transcript of so many games and at least so many bytes: each game is begun anew until it has its share. Returns the rounds of each."""
+    """Writes a transcript of so many games and at least so many bytes: each game is begun anew
+    until it has its share. Returns the rounds of each."""
     ends = [json.loads(text(line)) for line in rounds_of(lines, game)]
     rounds = size // games // sum(len(text(line)) + 1 for line in ends) + 1
     with open(path, "w") as file:
@@ -23,7 +29,9 @@ def write_large(path, lines, game, games, size):
             numbered = ((rank, line) for rank, line in enumerate(ends * rounds, 1))
             for seq, line in numbered:
                 file.write(text({**line, "game": f"game {index}", "seq": seq}) + "\n")
-            file.write(text({"board": None, "charge": 0, "final": True, "game": f"game {index}"}) + "\n")
+            file.write(
+                text({"board": None, "charge": 0, "final": True, "game": f"game {index}"}) + "\n"
+            )
     return rounds
 
 
@@ -32,7 +40,8 @@ MEAL = 90  # turns from one food to the next, fewer than a snake lives without
 
 
 def tour():
-    """The cells of the board in a round: along the bottom row, then up and down the columns from the right."""
+    """The cells of the board in a round: along the bottom row, then up and down the columns from
+    the right."""
     cells = [(x, 0) for x in range(SIDE)]
     for x in reversed(range(SIDE)):
         column = range(1, SIDE)
@@ -41,7 +50,8 @@ def tour():
 
 
 def tour_boards(turns):
-    """The boards of a solo game on the tour, in which food lies before the head every so many turns."""
+    """The boards of a solo game on the tour, in which food lies before the head every so many
+    turns."""
     cells = tour()
     body, health, food = [cells[0]] * 3, 100, []
     for turn in range(turns + 1):
@@ -51,9 +61,25 @@ def tour_boards(turns):
                 body, health, food = body + body[-1:], 100, []
             if turn % MEAL == MEAL - 1:
                 food = [cells[(turn + 1) % len(cells)]]
-        snake = {"body": points(body), "by": None, "cause": None, "health": health, "id": "s", "out": None}
-        yield {"food": points(food), "food_chance": 100, "height": SIDE, "min_food": 0, "mode": "solo", "over": False,
-               "snakes": [snake], "turn": turn, "width": SIDE}
+        snake = {
+            "body": points(body),
+            "by": None,
+            "cause": None,
+            "health": health,
+            "id": "s",
+            "out": None,
+        }
+        yield {
+            "food": points(food),
+            "food_chance": 100,
+            "height": SIDE,
+            "min_food": 0,
+            "mode": "solo",
+            "over": False,
+            "snakes": [snake],
+            "turn": turn,
+            "width": SIDE,
+        }
 
 
 def points(cells):
@@ -61,8 +87,20 @@ def points(cells):
 
 
 def write_long(path, turns):
-    """Writes a transcript of one game of so many turns. Its charges are not those of the program: nothing here is compared with them."""
+    """Writes a transcript of one game of so many turns. Its charges are not those of the program:
+    nothing here is compared with them."""
     with open(path, "w") as file:
         for turn, board in enumerate(tour_boards(turns)):
-            file.write(text({"board": board, "charge": 0, "do": "move" if turn else "new", "game": "long", "seq": turn + 1}) + "\n")
+            file.write(
+                text(
+                    {
+                        "board": board,
+                        "charge": 0,
+                        "do": "move" if turn else "new",
+                        "game": "long",
+                        "seq": turn + 1,
+                    }
+                )
+                + "\n"
+            )
         file.write(text({"board": board, "charge": 0, "final": True, "game": "long"}) + "\n")

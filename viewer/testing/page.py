@@ -70,10 +70,14 @@ class Page:
         self.wait_until_read(path.name)
 
     def wait_until_read(self, name, seconds=20):
-        self.browser.wait("""
+        self.browser.wait(
+            """
             const isRead = ['open', 'fault'].includes(document.body.dataset.state);
             return isRead && document.getElementById('file').textContent === arguments[0];
-        """, name, seconds=seconds)
+        """,
+            name,
+            seconds=seconds,
+        )
 
     def state(self):
         return self.browser.run("return document.body.dataset.state")
@@ -82,7 +86,10 @@ class Page:
         return self.browser.run("return document.querySelector(arguments[0]).textContent", selector)
 
     def texts(self, selector):
-        return self.browser.run("return [...document.querySelectorAll(arguments[0])].map((element) => element.textContent)", selector)
+        return self.browser.run(
+            "return [...document.querySelectorAll(arguments[0])].map((element) => element.textContent)",
+            selector,
+        )
 
     def games(self):
         return self.browser.run(GAMES)
@@ -95,30 +102,50 @@ class Page:
 
     def choose_game(self, name, stay=1):
         """Clicks a game's name in the table, and waits until the page shows it."""
-        self.browser.run("""
+        self.browser.run(
+            """
             const rows = [...document.querySelectorAll('#games tbody tr')];
             rows.find((row) => row.dataset.game === arguments[0] && row.dataset.stay === arguments[1]).querySelector('button').click();
-        """, name, str(stay))
-        self.browser.wait("""
+        """,
+            name,
+            str(stay),
+        )
+        self.browser.wait(
+            """
             const marked = document.querySelector('#games [aria-current]');
             return document.getElementById('name').textContent === arguments[0] && marked.dataset.game === arguments[0] && marked.dataset.stay === arguments[1];
-        """, name, str(stay))
+        """,
+            name,
+            str(stay),
+        )
 
     def choose_round(self, number):
-        self.browser.run("""
+        self.browser.run(
+            """
             document.getElementById('round').value = arguments[0];
             document.getElementById('round').dispatchEvent(new Event('change'));
-        """, number)
+        """,
+            number,
+        )
 
     def wait_for_turn(self, turn, last):
-        self.browser.wait("return document.getElementById('turn').textContent === arguments[0]", f"Turn {turn} of {last}")
+        self.browser.wait(
+            "return document.getElementById('turn').textContent === arguments[0]",
+            f"Turn {turn} of {last}",
+        )
 
     def wait_for_plots(self, seconds=20):
-        self.browser.wait("return document.getElementById('snakes').getAttribute('aria-busy') === 'false'", seconds=seconds)
+        self.browser.wait(
+            "return document.getElementById('snakes').getAttribute('aria-busy') === 'false'",
+            seconds=seconds,
+        )
 
     def seat_colours(self):
-        """The colours in which the bodies on the board are painted, and that of the board's cells."""
-        return self.browser.run("""
+        """The colours in which the bodies on the board are painted, and that of the board's
+        cells."""
+        return self.browser.run(
+            """
             const painted = (selector, property) => [...document.querySelectorAll(selector)].map((element) => getComputedStyle(element)[property]);
             return [...painted('#board .body', 'stroke'), ...painted('#board .cells', 'fill')];
-        """)
+        """
+        )

@@ -16,7 +16,16 @@ def unfiltered(kind, row, above, step):
     for index in range(len(row)):
         left = row[index - step] if index >= step else 0
         corner = above[index - step] if index >= step else 0
-        row[index] = (row[index] + (0, left, above[index], (left + above[index]) // 2, paeth(left, above[index], corner))[kind]) & 255
+        row[index] = (
+            row[index]
+            + (
+                0,
+                left,
+                above[index],
+                (left + above[index]) // 2,
+                paeth(left, above[index], corner),
+            )[kind]
+        ) & 255
     return row
 
 
@@ -24,8 +33,8 @@ def pixels(data):
     """All pixels of a picture, row by row, each as red, green and blue."""
     place, packed, head = 8, b"", None
     while place < len(data):
-        length, name = struct.unpack(">I4s", data[place:place + 8])
-        body = data[place + 8:place + 8 + length]
+        length, name = struct.unpack(">I4s", data[place : place + 8])
+        body = data[place + 8 : place + 8 + length]
         head = struct.unpack(">IIBBBBB", body) if name == b"IHDR" else head
         packed += body if name == b"IDAT" else b""
         place += 12 + length
@@ -33,6 +42,6 @@ def pixels(data):
     step = CHANNELS[colour]
     raw, above, found = zlib.decompress(packed), bytes(width * step), []
     for start in range(0, height * (width * step + 1), width * step + 1):
-        above = unfiltered(raw[start], raw[start + 1:start + 1 + width * step], above, step)
-        found += [tuple(above[index:index + 3]) for index in range(0, len(above), step)]
+        above = unfiltered(raw[start], raw[start + 1 : start + 1 + width * step], above, step)
+        found += [tuple(above[index : index + 3]) for index in range(0, len(above), step)]
     return found

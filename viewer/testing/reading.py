@@ -28,7 +28,11 @@ class Game:
         return "running" if self.runs else "ended"
 
     def living(self):
-        return [snake["id"] for snake in self.last_board()["snakes"] if snake["cause"] is None] if self.rounds else []
+        return (
+            [snake["id"] for snake in self.last_board()["snakes"] if snake["cause"] is None]
+            if self.rounds
+            else []
+        )
 
 
 def read(path):

@@ -14,11 +14,16 @@ LOOKS = {(0, 1): "up", (0, -1): "down", (-1, 0): "left", (1, 0): "right"}
 
 
 def fate(snake):
-    return "lives" if snake["cause"] is None else f"out in turn {snake['out']}: {FATES[snake['cause']].format(by=snake['by'])}"
+    return (
+        "lives"
+        if snake["cause"] is None
+        else f"out in turn {snake['out']}: {FATES[snake['cause']].format(by=snake['by'])}"
+    )
 
 
 def step(before, cell, board):
-    """The columns and rows from a cell to another; on a wrapped board a step across an edge is one to the neighbour."""
+    """The columns and rows from a cell to another; on a wrapped board a step across an edge is one
+    to the neighbour."""
     found = []
     for axis, side in (("x", board["width"]), ("y", board["height"])):
         apart = cell[axis] - before[axis]
@@ -39,7 +44,8 @@ def middles(cells, height):
 
 
 def line_along(body, board):
-    """The points of the line along a body, and in how many pieces: where it crosses an edge, it ends there and begins at the opposite edge."""
+    """The points of the line along a body, and in how many pieces: where it crosses an edge, it
+    ends there and begins at the opposite edge."""
     places, pieces = [], 1
     for before, cell in zip([None, *body], body):
         [here] = middles([cell], board["height"])
@@ -58,23 +64,41 @@ def line_along(body, board):
 def drawn_snake(seat, snake, board):
     out = snake["cause"] is not None
     cells, pieces = line_along(snake["body"], board)
-    return {"seat": seat, "out": out, "crossed": out, "cells": cells, "pieces": pieces, "looks": looks(snake["body"], board)}
+    return {
+        "seat": seat,
+        "out": out,
+        "crossed": out,
+        "cells": cells,
+        "pieces": pieces,
+        "looks": looks(snake["body"], board),
+    }
 
 
 def expected(board, last, with_earlier=False):
     """What has to stand on the page for a board of a round that goes to a last turn."""
     snakes = list(enumerate(board["snakes"]))
-    out = [(seat, snake) for seat, snake in snakes if snake["cause"] is not None and (with_earlier or snake["out"] == board["turn"])]
+    out = [
+        (seat, snake)
+        for seat, snake in snakes
+        if snake["cause"] is not None and (with_earlier or snake["out"] == board["turn"])
+    ]
     living = [(seat, snake) for seat, snake in snakes if snake["cause"] is None]
     return {
         "turn": f"Turn {board['turn']} of {last}",
         "facts": f"{board['mode']}, {board['width']} by {board['height']}, food at least {board['min_food']}, chance {board['food_chance']}"
-                 + (", over" if board["over"] else ""),
+        + (", over" if board["over"] else ""),
         "view": f"-1 -1 {board['width'] + 2} {board['height'] + 2}",
         "food": middles(board["food"], board["height"]),
         "snakes": [drawn_snake(seat, snake, board) for seat, snake in out + living],
-        "cards": [{"id": snake["id"], "fate": fate(snake), "numbers": f"health {snake['health']}, length {len(snake['body'])}",
-                   "meter": snake["health"]} for snake in board["snakes"]],
+        "cards": [
+            {
+                "id": snake["id"],
+                "fate": fate(snake),
+                "numbers": f"health {snake['health']}, length {len(snake['body'])}",
+                "meter": snake["health"],
+            }
+            for snake in board["snakes"]
+        ],
     }
 
 
@@ -107,15 +131,34 @@ class BoardsTest(PageCase):
                         self.step_through(boards)
 
     def test_the_cases_hold_every_cause_and_eight_snakes(self):
-        boards = [board for game in read(TOURNAMENT)[0] for boards in game.rounds for board in boards]
-        self.assertEqual({snake["cause"] for board in boards for snake in board["snakes"]}, {None, *FATES})
+        boards = [
+            board for game in read(TOURNAMENT)[0] for boards in game.rounds for board in boards
+        ]
+        self.assertEqual(
+            {snake["cause"] for board in boards for snake in board["snakes"]}, {None, *FATES}
+        )
         self.assertEqual(max(len(board["snakes"]) for board in boards), 8)
 
     def test_the_cases_hold_bodies_that_cross_each_edge(self):
-        boards = [board for path in CASES for game in read(path)[0] for boards in game.rounds for board in boards]
-        bodies = [(snake["body"], board) for board in boards if board["mode"] == "wrapped" for snake in board["snakes"]]
-        crossed = {step(before, cell, board) for body, board in bodies for before, cell in zip(body, body[1:])
-                   if abs(cell["x"] - before["x"]) + abs(cell["y"] - before["y"]) > 1}
+        boards = [
+            board
+            for path in CASES
+            for game in read(path)[0]
+            for boards in game.rounds
+            for board in boards
+        ]
+        bodies = [
+            (snake["body"], board)
+            for board in boards
+            if board["mode"] == "wrapped"
+            for snake in board["snakes"]
+        ]
+        crossed = {
+            step(before, cell, board)
+            for body, board in bodies
+            for before, cell in zip(body, body[1:])
+            if abs(cell["x"] - before["x"]) + abs(cell["y"] - before["y"]) > 1
+        }
         self.assertEqual(crossed, set(LOOKS))
 
     def test_bodies_that_went_out_earlier_are_drawn_where_they_are_wished_for(self):
@@ -125,7 +168,9 @@ class BoardsTest(PageCase):
         self.page.wait_for_turn(last, last)
         self.browser.click("#earlier")
         self.assertEqual(self.page.board(), expected(boards[-1], last, with_earlier=True))
-        self.assertNotEqual(expected(boards[-1], last, with_earlier=True), expected(boards[-1], last))
+        self.assertNotEqual(
+            expected(boards[-1], last, with_earlier=True), expected(boards[-1], last)
+        )
 
     def test_a_game_without_a_board_says_so(self):
         games = self.open(TOURNAMENT)
@@ -135,7 +180,9 @@ class BoardsTest(PageCase):
         self.assertEqual(self.page.board()["snakes"], [])
         self.page.choose_game(games[0].name)
         self.page.wait_for_turn(0, len(games[0].rounds[0]) - 1)
-        self.assertEqual(self.page.board(), expected(games[0].rounds[0][0], len(games[0].rounds[0]) - 1))
+        self.assertEqual(
+            self.page.board(), expected(games[0].rounds[0][0], len(games[0].rounds[0]) - 1)
+        )
 
 
 class PlotsTest(PageCase):
@@ -145,7 +192,14 @@ class PlotsTest(PageCase):
         boards = read(TOURNAMENT)[0][0].rounds[0]
         last = len(boards) - 1
         longest = max(len(snake["body"]) for board in boards for snake in board["snakes"])
-        shown = [[board["snakes"][seat] for board in boards if board["turn"] <= (boards[-1]["snakes"][seat]["out"] or last)] for seat in range(8)]
+        shown = [
+            [
+                board["snakes"][seat]
+                for board in boards
+                if board["turn"] <= (boards[-1]["snakes"][seat]["out"] or last)
+            ]
+            for seat in range(8)
+        ]
         self.page.wait_for_plots()
         for plot, snakes in zip(self.page.plots(), shown):
             self.compare(plot["health"], [snake["health"] for snake in snakes], 100, last)

@@ -20,33 +20,73 @@ def changed(line, *path, to):
     for member in path[:-1]:
         inner = inner[member]
     inner[path[-1]] = to
-    return "".join([*LINES[:line - 1], text(value) + "\n", *LINES[line:]])
+    return "".join([*LINES[: line - 1], text(value) + "\n", *LINES[line:]])
 
 
 # The file's content, and what the page says of it.
 BROKEN = {
     "nothing": ("", "The file is empty."),
     "picture": (b"\x89PNG\r\n\x1a\n\0\0\0\rIHDR", "Line 1 is no line of a transcript."),
-    "commands": ((ROOT / "examples" / "four_snakes.jsonl").read_text(), "Line 1 is no line of a transcript."),
+    "commands": (
+        (ROOT / "examples" / "four_snakes.jsonl").read_text(),
+        "Line 1 is no line of a transcript.",
+    ),
     "prose": ("All snakes live.\n", "Line 1 is no line of a transcript."),
     "cut in a line": (GOOD[:-10], "Line 8 is cut off: no line feed ends it."),
-    "cut between lines": ("".join(LINES[:-1]), "Line 7 is the last, and its game has no final line."),
+    "cut between lines": (
+        "".join(LINES[:-1]),
+        "Line 7 is the last, and its game has no final line.",
+    ),
     "an empty line": (GOOD + "\n", "Line 9 is no line of a transcript."),
     "twice": ((GOOD + STRAY) * 2, "Line 10 is of a game whose lines have to stand further up."),
-    "a reason that is none": (GOOD + STRAY.replace("L1", "A6"), "Line 9 is no line of a transcript."),
-    "a line left out": ("".join(LINES[:2] + LINES[3:]), "Line 3 has the number 4 where 3 has to stand."),
-    "another game between": (changed(4, "game", to="b"), "Line 4 is of another game, and the one before has no final line."),
-    "a turn left out": (changed(5, "board", "turn", to=3), "Line 5 shows turn 3, which can't follow the turns before it."),
-    "a second new": (changed(2, "do", to="new"), "Line 2 shows a board after new, while a game runs."),
-    "a move first": (changed(1, "do", to="move"), "Line 1 shows a board after move, where no game runs."),
-    "another last board": (changed(8, "board", "turn", to=1), "Line 8 shows turn 1 at last, which is not the turn before it."),
-    "no last board": (changed(8, "board", to=None), "Line 8 is a final line without a board, which can't follow the lines before it."),
-    "a stray between": (LINES[0] + '{"line":2,"no":"L1","why":"json"}\n', "Line 2 comes before the final line of a game."),
-    "a broken last board": (changed(8, "board", "snakes", 0, "health", to=101),
-                            "Line 8 holds no board that can be drawn: the health of s is no number from 0 to 100."),
-    "another kind of board": (changed(8, "board", "mode", to="royale"),
-                              "Line 8 holds no board that can be drawn: its mode, or whether it is over, is not told."),
-    "an endless line": (b"x" * (3 << 20), "The file holds a line that is longer than any line of a transcript."),
+    "a reason that is none": (
+        GOOD + STRAY.replace("L1", "A6"),
+        "Line 9 is no line of a transcript.",
+    ),
+    "a line left out": (
+        "".join(LINES[:2] + LINES[3:]),
+        "Line 3 has the number 4 where 3 has to stand.",
+    ),
+    "another game between": (
+        changed(4, "game", to="b"),
+        "Line 4 is of another game, and the one before has no final line.",
+    ),
+    "a turn left out": (
+        changed(5, "board", "turn", to=3),
+        "Line 5 shows turn 3, which can't follow the turns before it.",
+    ),
+    "a second new": (
+        changed(2, "do", to="new"),
+        "Line 2 shows a board after new, while a game runs.",
+    ),
+    "a move first": (
+        changed(1, "do", to="move"),
+        "Line 1 shows a board after move, where no game runs.",
+    ),
+    "another last board": (
+        changed(8, "board", "turn", to=1),
+        "Line 8 shows turn 1 at last, which is not the turn before it.",
+    ),
+    "no last board": (
+        changed(8, "board", to=None),
+        "Line 8 is a final line without a board, which can't follow the lines before it.",
+    ),
+    "a stray between": (
+        LINES[0] + '{"line":2,"no":"L1","why":"json"}\n',
+        "Line 2 comes before the final line of a game.",
+    ),
+    "a broken last board": (
+        changed(8, "board", "snakes", 0, "health", to=101),
+        "Line 8 holds no board that can be drawn: the health of s is no number from 0 to 100.",
+    ),
+    "another kind of board": (
+        changed(8, "board", "mode", to="royale"),
+        "Line 8 holds no board that can be drawn: its mode, or whether it is over, is not told.",
+    ),
+    "an endless line": (
+        b"x" * (3 << 20),
+        "The file holds a line that is longer than any line of a transcript.",
+    ),
 }
 
 # A member of the board in line 2, which is read only when its turn is asked for, and what the page
@@ -72,7 +112,9 @@ class FilesTest(PageCase):
                 self.page.drop(self.file(f"{name}.txt", content))
                 self.assertEqual(self.page.state(), "fault")
                 self.assertEqual(self.page.text("#notice"), f"{name}.txt can't be shown. {said}")
-                self.assertFalse(self.browser.run("return document.querySelector('main').checkVisibility()"))
+                self.assertFalse(
+                    self.browser.run("return document.querySelector('main').checkVisibility()")
+                )
 
     def test_after_a_broken_file_a_good_one_opens(self):
         self.page.open_empty()
@@ -87,9 +129,14 @@ class FilesTest(PageCase):
         for path, value, said in BROKEN_LATER:
             with self.subTest(said):
                 self.page.open_empty()
-                self.page.choose(self.file("broken.transcript", changed(2, "board", *path, to=value)))
+                self.page.choose(
+                    self.file("broken.transcript", changed(2, "board", *path, to=value))
+                )
                 self.assertEqual(self.page.state(), "open")
                 self.browser.click("#forward")
                 said_of_line = f"Line 2 holds no board that can be drawn: {said}."
-                self.browser.wait("return document.getElementById('notice').textContent === arguments[0]", said_of_line)
+                self.browser.wait(
+                    "return document.getElementById('notice').textContent === arguments[0]",
+                    said_of_line,
+                )
                 self.page.wait_for_turn(0, 2)

@@ -15,13 +15,23 @@ def number(value):
 
 def row_of(game):
     board = game.last_board()
-    return [game.name + game.stay_text(), game.state(), game.living() or ("nobody" if board else "–"), number(board and board["turn"]),
-            number(len(game.rounds)), number(len(game.refusals)), number(game.charge)]
+    return [
+        game.name + game.stay_text(),
+        game.state(),
+        game.living() or ("nobody" if board else "–"),
+        number(board and board["turn"]),
+        number(len(game.rounds)),
+        number(len(game.refusals)),
+        number(game.charge),
+    ]
 
 
 def sorted_by(games, column, is_descending):
     keys = {
-        "name": lambda game: [(0, int(word), "") if word.isdigit() else (1, 0, word.casefold()) for word in re.findall(r"\d+|\D+", game.name)],
+        "name": lambda game: [
+            (0, int(word), "") if word.isdigit() else (1, 0, word.casefold())
+            for word in re.findall(r"\d+|\D+", game.name)
+        ],
         "state": lambda game: game.state(),
         "living": lambda game: len(game.living()),
         "turns": lambda game: game.last_board()["turn"] if game.rounds else -1,
@@ -49,12 +59,26 @@ class GamesTest(PageCase):
             for column in columns:
                 for order in ("ascending", "descending"):
                     self.browser.click(f"th[data-column={column}] button")
-                    self.assertEqual(self.browser.run("return document.querySelector(arguments[0]).ariaSort", f"th[data-column={column}]"), order)
-                    self.assertEqual(self.page.games(), [row_of(game) for game in sorted_by(games, column, order == "descending")], (column, order))
+                    self.assertEqual(
+                        self.browser.run(
+                            "return document.querySelector(arguments[0]).ariaSort",
+                            f"th[data-column={column}]",
+                        ),
+                        order,
+                    )
+                    self.assertEqual(
+                        self.page.games(),
+                        [row_of(game) for game in sorted_by(games, column, order == "descending")],
+                        (column, order),
+                    )
 
     def numbered_games(self):
-        """A transcript of games that were never begun, named by numbers that are not in their order."""
-        lines = [text({"board": None, "charge": 0, "final": True, "game": f"game {number}"}) for number in (10, 9, 100, 1)]
+        """A transcript of games that were never begun, named by numbers that are not in their
+        order."""
+        lines = [
+            text({"board": None, "charge": 0, "final": True, "game": f"game {number}"})
+            for number in (10, 9, 100, 1)
+        ]
         return self.file("numbered.transcript", "\n".join(lines) + "\n")
 
     def test_refused_commands_and_strays_are_listed(self):
@@ -63,14 +87,21 @@ class GamesTest(PageCase):
         games, strays = read(TOURNAMENT)
         self.assertEqual(len(self.page.texts("#strays li")), len(strays))
         for shown, stray in zip(self.page.texts("#strays li"), strays):
-            self.assertIn(f"line {stray['line']} of the command file: {stray['no']} {stray['why']}", shown)
+            self.assertIn(
+                f"line {stray['line']} of the command file: {stray['no']} {stray['why']}", shown
+            )
         for game in games:
             self.page.choose_game(game.name, game.stay)
             items = self.page.texts("#refusals li")
             self.assertEqual(len(items), len(game.refusals), game.name)
             for shown, (line, round_number, turn) in zip(items, game.refusals):
                 self.assertIn(f"number {line['seq']}: {line['no']} {line['why']}", shown)
-                self.assertIn("before the first new" if turn is None else f"after turn {turn} of round {round_number}", shown)
+                self.assertIn(
+                    "before the first new"
+                    if turn is None
+                    else f"after turn {turn} of round {round_number}",
+                    shown,
+                )
 
     def test_a_refused_command_leads_to_its_turn(self):
         self.page.open_empty()
@@ -90,7 +121,10 @@ class GamesTest(PageCase):
         self.page.choose(self.file("strays.transcript", "\n".join(lines) + "\n"))
         for shown in (200, 400, 500):
             self.assertEqual(len(self.page.texts("#strays li")), shown)
-            self.assertEqual(self.browser.run("return document.querySelector('#strays .more').hidden"), shown == 500)
+            self.assertEqual(
+                self.browser.run("return document.querySelector('#strays .more').hidden"),
+                shown == 500,
+            )
             if shown < 500:
                 self.browser.click("#strays .more")
         self.assertIn("line 501 of", self.page.texts("#strays li")[-1])

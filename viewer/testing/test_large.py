@@ -14,7 +14,9 @@ SIZE = 85_000_000
 GAMES = 64
 OPEN_SECONDS = 30
 TURN_SECONDS = 2
-MOST_SILENCE = 2  # seconds in which the page may not answer at a stretch; the machine may be busy with a gate
+MOST_SILENCE = (
+    2  # seconds in which the page may not answer at a stretch; the machine may be busy with a gate
+)
 LONG = 10_000
 
 HEARTBEAT = """
@@ -35,7 +37,8 @@ class LargeTest(PageCase):
         return Path(folder.name) / name
 
     def open_timed(self, path):
-        """Opens a file; says how long that took, and for how long at most the page did not answer."""
+        """Opens a file; says how long that took, and for how long at most the page did not
+        answer."""
         self.page.open_empty()
         self.browser.run(HEARTBEAT)
         began = time.monotonic()
@@ -52,7 +55,13 @@ class LargeTest(PageCase):
         boards = read(TOURNAMENT)[0][0].rounds[0]
         last = len(boards) - 1
         living = [snake["id"] for snake in boards[-1]["snakes"] if snake["cause"] is None]
-        self.assertEqual(self.page.games(), [[f"game {index}", "ended", living, str(last), str(rounds), "0", "0"] for index in range(GAMES)])
+        self.assertEqual(
+            self.page.games(),
+            [
+                [f"game {index}", "ended", living, str(last), str(rounds), "0", "0"]
+                for index in range(GAMES)
+            ],
+        )
         self.page.choose_game(f"game {GAMES - 1}")
         self.page.choose_round(rounds)
         began = time.monotonic()
@@ -60,8 +69,10 @@ class LargeTest(PageCase):
         self.page.wait_for_turn(last, last)
         turn_took = time.monotonic() - began
         self.assertEqual(self.page.board(), expected(boards[-1], last))
-        print(f"\n{path.stat().st_size / 1e6:.1f} MB, {GAMES} games: open after {took:.2f} s, at most {silence * 1000:.0f} ms without an answer,"
-              f" the last turn of the last game after {turn_took * 1000:.0f} ms")
+        print(
+            f"\n{path.stat().st_size / 1e6:.1f} MB, {GAMES} games: open after {took:.2f} s, at most {silence * 1000:.0f} ms without an answer,"
+            f" the last turn of the last game after {turn_took * 1000:.0f} ms"
+        )
         self.assertLess(silence, MOST_SILENCE)
         self.assertLess(turn_took, TURN_SECONDS)
 
@@ -78,10 +89,16 @@ class LargeTest(PageCase):
         self.page.wait_for_plots(seconds=OPEN_SECONDS)
         silence = self.browser.run("return window.silence") / 1000
         plot = self.page.plots()[0]
-        self.assertEqual(min(y for _, y in plot["length"]), 0, f"the plot reaches the greatest length, {longest}")
+        self.assertEqual(
+            min(y for _, y in plot["length"]), 0, f"the plot reaches the greatest length, {longest}"
+        )
         lowest = min(board["snakes"][0]["health"] for board in boards)
-        self.assertAlmostEqual(max(y for _, y in plot["health"]), 48 * (1 - lowest / 100), delta=0.051)
+        self.assertAlmostEqual(
+            max(y for _, y in plot["health"]), 48 * (1 - lowest / 100), delta=0.051
+        )
         self.assertLess(len(plot["health"]), 2 * 240 + 2)
-        print(f"\n{path.stat().st_size / 1e6:.1f} MB, one game of {LONG} turns: open after {took:.2f} s,"
-              f" at most {silence * 1000:.0f} ms without an answer, its plot read as well")
+        print(
+            f"\n{path.stat().st_size / 1e6:.1f} MB, one game of {LONG} turns: open after {took:.2f} s,"
+            f" at most {silence * 1000:.0f} ms without an answer, its plot read as well"
+        )
         self.assertLess(silence, MOST_SILENCE)

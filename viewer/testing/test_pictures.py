@@ -47,12 +47,21 @@ class PicturesTest(PageCase):
             (FOLDER / f"{name}.png").write_bytes(self.browser.picture("#panel"))
             colours = [rgb(painted) for painted in self.page.seat_colours()[:-1]]
             counts = Counter(pixels(self.browser.picture("#board")))
-            cell = self.browser.run("return document.querySelector('#board .wall').getBoundingClientRect().width") / boards[turn]["width"]
+            cell = (
+                self.browser.run(
+                    "return document.querySelector('#board .wall').getBoundingClientRect().width"
+                )
+                / boards[turn]["width"]
+            )
             shown = self.page.board()["snakes"]
             self.assertTrue(shown)
             for snake, colour in zip(shown, colours):
                 if not snake["out"]:
-                    self.assertGreater(counts[colour], len(snake["cells"]) * cell * cell / 4, f"{name}, seat {snake['seat']}")
+                    self.assertGreater(
+                        counts[colour],
+                        len(snake["cells"]) * cell * cell / 4,
+                        f"{name}, seat {snake['seat']}",
+                    )
 
     def test_colour_blind_eyes_can_tell_the_seats_apart(self):
         self.page.open_empty()
@@ -60,8 +69,13 @@ class PicturesTest(PageCase):
         self.show("eight", 1, len(read(TOURNAMENT)[0][0].rounds[0]) - 1)
         colours = [rgb(painted) for painted in self.page.seat_colours()]
         self.assertEqual(len(set(colours)), 9)
-        apart = [(distance(lab(first, eye), lab(second, eye)), eye, first, second)
-                 for first, second in itertools.combinations(colours, 2) for eye in EYES]
+        apart = [
+            (distance(lab(first, eye), lab(second, eye)), eye, first, second)
+            for first, second in itertools.combinations(colours, 2)
+            for eye in EYES
+        ]
         least = min(apart)
-        print(f"\nthe nearest colours are {least[0]:.1f} apart, {least[1]}: {least[2]} and {least[3]}")
+        print(
+            f"\nthe nearest colours are {least[0]:.1f} apart, {least[1]}: {least[2]} and {least[3]}"
+        )
         self.assertGreater(least[0], LEAST_DISTANCE)

@@ -7,7 +7,15 @@ from testing.reading import read
 from testing.served import ROOT
 from testing.test_boards import expected
 
-SPACE, LEFT, UP, RIGHT, HOME, END, SHIFT = " ", "\ue012", "\ue013", "\ue014", "\ue011", "\ue010", "\ue008"
+SPACE, LEFT, UP, RIGHT, HOME, END, SHIFT = (
+    " ",
+    "\ue012",
+    "\ue013",
+    "\ue014",
+    "\ue011",
+    "\ue010",
+    "\ue008",
+)
 
 
 class PlayingTest(PageCase):
@@ -36,18 +44,25 @@ class PlayingTest(PageCase):
         self.browser.press(END)
         self.page.wait_for_turn(self.last, self.last)
         self.browser.press(SPACE)
-        self.browser.wait("return parseInt(document.getElementById('turn').textContent.split(' ')[1]) < arguments[0]", self.last)
+        self.browser.wait(
+            "return parseInt(document.getElementById('turn').textContent.split(' ')[1]) < arguments[0]",
+            self.last,
+        )
 
     def test_a_pause_holds_the_turn(self):
         self.choose_speed("20")
         self.browser.press(SPACE)
-        self.browser.wait("return parseInt(document.getElementById('turn').textContent.split(' ')[1]) >= 3")
+        self.browser.wait(
+            "return parseInt(document.getElementById('turn').textContent.split(' ')[1]) >= 3"
+        )
         self.browser.press(SPACE)
         self.assertEqual(self.page.text("#play"), "Play")
-        held = self.browser.run("""
+        held = self.browser.run(
+            """
             const turnAfter = (rest) => new Promise((done) => setTimeout(() => done(document.getElementById('turn').textContent), rest));
             return Promise.all([turnAfter(150), turnAfter(450)]); // a board that was being read at the pause is shown before the first
-        """)
+        """
+        )
         self.assertEqual(held[0], held[1])
         self.assertLess(self.turn(), self.last)
 
@@ -57,32 +72,44 @@ class PlayingTest(PageCase):
             self.choose_speed(speed)
             self.browser.press(HOME)
             self.page.wait_for_turn(0, self.last)
-            reached[speed] = self.browser.run("""
+            reached[speed] = self.browser.run(
+                """
                 document.getElementById('play').click();
                 return new Promise((done) => setTimeout(() => {
                   document.getElementById('play').click();
                   done(parseInt(document.getElementById('turn').textContent.split(' ')[1]));
                 }, 1100));
-            """)
+            """
+            )
         self.assertIn(reached["2"], (1, 2))
         self.assertGreater(reached["20"], 5)
         self.assertLessEqual(reached["20"], 22)
 
     def test_keys_step(self):
-        for keys, turn in (((RIGHT, RIGHT), 2), ((LEFT,), 1), (((SHIFT, RIGHT),), 11), (((SHIFT, LEFT),), 1), ((END,), self.last),
-                           ((RIGHT,), self.last), ((HOME,), 0), ((LEFT,), 0)):
+        for keys, turn in (
+            ((RIGHT, RIGHT), 2),
+            ((LEFT,), 1),
+            (((SHIFT, RIGHT),), 11),
+            (((SHIFT, LEFT),), 1),
+            ((END,), self.last),
+            ((RIGHT,), self.last),
+            ((HOME,), 0),
+            ((LEFT,), 0),
+        ):
             for key in keys:
                 self.browser.press(key)
             self.page.wait_for_turn(turn, self.last)
 
     def test_a_board_that_is_read_too_late_is_not_shown(self):
-        self.browser.run("""
+        self.browser.run(
+            """
             const read = Blob.prototype.text;
             Blob.prototype.text = function () {
               Blob.prototype.text = read;
               return new Promise((done) => setTimeout(() => read.call(this).then(done).finally(() => { window.isReadLate = true; }), 200));
             };
-        """)
+        """
+        )
         self.browser.press(RIGHT, RIGHT)
         self.page.wait_for_turn(2, self.last)
         self.browser.wait("return window.isReadLate")
@@ -95,17 +122,28 @@ class PlayingTest(PageCase):
         self.browser.press("-", "-")
         self.assertEqual(self.browser.run(speed), "2")
         self.browser.press("n")
-        self.browser.wait("return document.getElementById('name').textContent === arguments[0]", self.games[1].name)
-        self.assertEqual(self.browser.run("return document.querySelector('#games [aria-current]').dataset.game"), self.games[1].name)
+        self.browser.wait(
+            "return document.getElementById('name').textContent === arguments[0]",
+            self.games[1].name,
+        )
+        self.assertEqual(
+            self.browser.run("return document.querySelector('#games [aria-current]').dataset.game"),
+            self.games[1].name,
+        )
         self.browser.press("p")
-        self.browser.wait("return document.getElementById('name').textContent === arguments[0]", self.games[0].name)
+        self.browser.wait(
+            "return document.getElementById('name').textContent === arguments[0]",
+            self.games[0].name,
+        )
 
     def test_the_slider_goes_to_a_turn(self):
         self.browser.type_into("#slider", RIGHT * 5)
         self.page.wait_for_turn(5, self.last)
         self.browser.type_into("#slider", END)
         self.page.wait_for_turn(self.last, self.last)
-        told = self.browser.run("return document.getElementById('slider').getAttribute('aria-valuetext')")
+        told = self.browser.run(
+            "return document.getElementById('slider').getAttribute('aria-valuetext')"
+        )
         self.assertEqual(told, f"Turn {self.last} of {self.last}")
 
     def test_a_click_on_a_plot_goes_to_its_turn(self):
@@ -123,7 +161,9 @@ class AddressTest(PageCase):
         for game in read(TOURNAMENT)[0]:
             for number, boards in enumerate(game.rounds, 1):
                 board = boards[len(boards) // 2]
-                self.browser.go(self.address(TOURNAMENT, game=game.name, round=number, turn=board["turn"]))
+                self.browser.go(
+                    self.address(TOURNAMENT, game=game.name, round=number, turn=board["turn"])
+                )
                 self.page.wait_for_turn(board["turn"], len(boards) - 1)
                 self.assertEqual(self.page.text("#name"), game.name)
                 self.assertEqual(self.page.board(), expected(board, len(boards) - 1))
@@ -151,13 +191,18 @@ class AddressTest(PageCase):
         self.page.choose(ROOT / "examples" / "four_snakes.transcript")
         self.page.wait_for_turn(0, 4)
         self.assertEqual(self.page.text("#notice"), "")
-        self.browser.wait("return location.href === arguments[0]", f"{shared['server'].root}/viewer/index.html#game=arena&round=1&turn=0")
+        self.browser.wait(
+            "return location.href === arguments[0]",
+            f"{shared['server'].root}/viewer/index.html#game=arena&round=1&turn=0",
+        )
 
     def test_an_address_of_nothing_is_told(self):
-        for fragment, notice in (("game=nobody", "The transcript has no game nobody."),
-                                 ("game=hungry&turn=101", "The game hungry has no turn 101 in round 1."),
-                                 ("game=hungry&round=2", "The game hungry has no turn 0 in round 2."),
-                                 ("game=hungry&turn=x", "The game hungry has no turn x in round 1.")):
+        for fragment, notice in (
+            ("game=nobody", "The transcript has no game nobody."),
+            ("game=hungry&turn=101", "The game hungry has no turn 101 in round 1."),
+            ("game=hungry&round=2", "The game hungry has no turn 0 in round 2."),
+            ("game=hungry&turn=x", "The game hungry has no turn x in round 1."),
+        ):
             self.page.open_empty(f"#{fragment}")
             self.page.choose(TOURNAMENT)
             self.assertEqual(self.page.text("#notice"), notice)
@@ -166,7 +211,9 @@ class AddressTest(PageCase):
         name = "../examples/nothing.transcript"
         self.browser.go(f"{shared['server'].root}/viewer/index.html?file={name}")
         self.page.wait_until_read(name)
-        self.assertEqual(self.page.text("#notice"), f"{name} can't be shown. The server answered 404.")
+        self.assertEqual(
+            self.page.text("#notice"), f"{name} can't be shown. The server answered 404."
+        )
         self.assertEqual(len(self.browser.complaints()), 1)
 
     def test_no_other_server_is_asked(self):
@@ -174,10 +221,14 @@ class AddressTest(PageCase):
         for page in (f"{shared['server'].root}/viewer/index.html", PAGE.as_uri()):
             self.browser.go(f"{page}?{urlencode({'file': name})}")
             self.page.wait_until_read(name)
-            self.assertEqual(self.page.text("#notice"),
-                             f"{name} can't be shown. An address can name a file only of the server that the page comes from.")
+            self.assertEqual(
+                self.page.text("#notice"),
+                f"{name} can't be shown. An address can name a file only of the server that the page comes from.",
+            )
         self.browser.go(self.address(TOURNAMENT, game="hungry", turn=1))
         self.page.wait_for_turn(1, 100)
-        asked = self.browser.run("return performance.getEntriesByType('resource').map((entry) => entry.name)")
+        asked = self.browser.run(
+            "return performance.getEntriesByType('resource').map((entry) => entry.name)"
+        )
         self.assertGreater(len(asked), 10)
         self.assertEqual([name for name in asked if not name.startswith(shared["server"].root)], [])
