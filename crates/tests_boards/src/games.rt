@@ -34,22 +34,36 @@ fn answered(alloc: Global, view: &View, command: &Command) -> Result<Answer, Fai
     Ok(answer(alloc, view, command)?)
 }
 
-/// The reply shows a board of that turn, with its head in the second column and that row.
-fn check_shown(
-    alloc: Global,
-    answer: &Answer,
-    told: (Word, u32),
-    head: (u16, i16),
-) -> Result<(), Fail> {
+/// A reply that shows a board: with its word, its charge, the board's turn and the row of its head,
+/// which is in the second column; and the name of the effect beside it.
+#[derive(Clone, Copy)]
+struct Shown {
+    word: Word,
+    charge: u32,
+    turn: u16,
+    y: i16,
+    effect: &'static str,
+}
+
+/// The answer shows that board.
+fn check_shown(alloc: Global, answer: &Answer, wanted: Shown) -> Result<(), Fail> {
     let Reply::Shown(word, kept, charge) = &answer.reply else {
         return Err(Fail::from("not shown"));
     };
-    same("word and charge", (*word, *charge), told)?;
-    let board = kept.board(alloc)?;
-    let (turn, y) = head;
+    same(
+        "word and charge",
+        (*word, *charge),
+        (wanted.word, wanted.charge),
+    )?;
+    same("effect", name(&answer.effect), wanted.effect)?;
+    check_head(&kept.board(alloc)?, wanted.turn, wanted.y)
+}
+
+/// The board of one snake is of that turn, and its head in the second column and that row.
+fn check_head(board: &Board, turn: u16, y: i16) -> Result<(), Fail> {
     same("turn", board.turn, turn)?;
-    let snake = board.snakes.as_slice().first().ok_or("a snake")?;
     same("seats", board.snakes.len(), 1)?;
+    let snake = board.snakes.as_slice().first().ok_or("a snake")?;
     same(
         "head",
         snake.body.as_slice().first().copied(),
@@ -57,21 +71,40 @@ fn check_shown(
     )
 }
 
-fn check_plain(answer: &Answer, word: Word, charge: u32) -> Result<(), Fail> {
+/// The command is answered by that board.
+fn is_shown(alloc: Global, view: &View, command: &Command, wanted: Shown) -> Result<(), Fail> {
+    check_shown(alloc, &answered(alloc, view, command)?, wanted)
+}
+
+/// The command is answered by a plain reply of that word and charge.
+fn is_plain(
+    alloc: Global,
+    view: &View,
+    command: &Command,
+    told: (Word, u32),
+    effect: &str,
+) -> Result<(), Fail> {
+    let answer = answered(alloc, view, command)?;
+    same("effect", name(&answer.effect), effect)?;
     match &answer.reply {
-        Reply::Plain(told, number) => same("word and charge", (*told, *number), (word, charge)),
+        Reply::Plain(word, charge) => same("word and charge", (*word, *charge), told),
         Reply::Shown(_, _, _) => Err(Fail::from("shown")),
         Reply::Refused(_) => Err(Fail::from("refused")),
     }
 }
 
 fn check_refused(answer: &Answer, reason: Refusal) -> Result<(), Fail> {
+    same("effect", name(&answer.effect), "keep")?;
     match &answer.reply {
-        Reply::Refused(told) => same("reason", *told, reason)?,
-        Reply::Shown(_, _, _) => return Err(Fail::from("shown")),
-        Reply::Plain(_, _) => return Err(Fail::from("plain")),
+        Reply::Refused(told) => same("reason", *told, reason),
+        Reply::Shown(_, _, _) => Err(Fail::from("shown")),
+        Reply::Plain(_, _) => Err(Fail::from("plain")),
     }
-    same("effect", name(&answer.effect), "keep")
+}
+
+/// The command is refused for that reason.
+fn is_refused(alloc: Global, view: &View, command: &Command, reason: Refusal) -> Result<(), Fail> {
+    check_refused(&answered(alloc, view, command)?, reason)
 }
 
 fn name(effect: &Effect) -> &str {
@@ -83,18 +116,32 @@ fn name(effect: &Effect) -> &str {
     }
 }
 
+/// What a move shows that leads to that turn, with two records then.
+fn moved_to(turn: u16, y: i16) -> Shown {
+    Shown {
+        word: Word::Move,
+        charge: 64,
+        turn,
+        y,
+        effect: "add",
+    }
+}
+
 /// The replies of a game whose quota holds two records.
 #[test]
 fn quota_of_two_records(rt: HostRuntime) -> Result<(), Fail> {
     let alloc = rt.alloc();
-    let told = answered(alloc, &view(64, 0, 0, None), &new_solo(alloc, 5)?)?;
-    check_shown(alloc, &told, (Word::New, 32), (0, 1))?;
+    let first = Shown {
+        word: Word::New,
+        charge: 32,
+        turn: 0,
+        y: 1,
+        effect: "add",
+    };
+    is_shown(alloc, &view(64, 0, 0, None), &new_solo(alloc, 5)?, first)?;
     let step = straight_on(alloc);
-    let told = answered(alloc, &view_after(alloc, 32, 1, 0)?, &step)?;
-    check_shown(alloc, &told, (Word::Move, 64), (1, 2))?;
-    same("effect of a move", name(&told.effect), "add")?;
-    let told = answered(alloc, &view_after(alloc, 64, 2, 1)?, &step)?;
-    check_refused(&told, Refusal::Quota)
+    is_shown(alloc, &view_after(alloc, 32, 1, 0)?, &step, moved_to(1, 2))?;
+    is_refused(alloc, &view_after(alloc, 64, 2, 1)?, &step, Refusal::Quota)
 }
 
 /// The same game, once its records are freed.
@@ -102,33 +149,40 @@ fn quota_of_two_records(rt: HostRuntime) -> Result<(), Fail> {
 fn freed_and_ended(rt: HostRuntime) -> Result<(), Fail> {
     let alloc = rt.alloc();
     let two = view_after(alloc, 64, 2, 1)?;
-    let told = answered(alloc, &two, &Command::Free)?;
-    check_plain(&told, Word::Free, 32)?;
-    same("effect of free", name(&told.effect), "trim")?;
-    let told = answered(alloc, &view_after(alloc, 32, 1, 1)?, &straight_on(alloc))?;
-    check_shown(alloc, &told, (Word::Move, 64), (2, 3))?;
-    let told = answered(alloc, &two, &Command::End)?;
-    check_plain(&told, Word::End, 0)?;
-    same("effect of end", name(&told.effect), "drop")
+    is_plain(alloc, &two, &Command::Free, (Word::Free, 32), "trim")?;
+    is_plain(alloc, &two, &Command::End, (Word::End, 0), "drop")?;
+    is_shown(
+        alloc,
+        &view_after(alloc, 32, 1, 1)?,
+        &straight_on(alloc),
+        moved_to(2, 3),
+    )
 }
 
 fn turn_command(number: u16) -> Result<Command, Fail> {
     Ok(Command::Turn(TurnNumber::new(number).ok_or("a turn")?))
 }
 
+/// What a command shows that keeps both records.
+fn kept(word: Word, turn: u16, y: i16) -> Shown {
+    Shown {
+        word,
+        charge: 64,
+        turn,
+        y,
+        effect: "keep",
+    }
+}
+
 /// After two turns and a `free` before the second: turn 0 is gone, turn 1 is shown.
 #[test]
 fn kept_turns_are_shown(rt: HostRuntime) -> Result<(), Fail> {
     let alloc = rt.alloc();
-    let mut kept = view_after(alloc, 64, 2, 2)?;
-    let told = answered(alloc, &kept, &Command::Show)?;
-    check_shown(alloc, &told, (Word::Show, 64), (2, 3))?;
-    let told = answered(alloc, &kept, &turn_command(0)?)?;
-    check_refused(&told, Refusal::NoRecord)?;
-    kept.asked = Some(solo_after(alloc, 5, 1)?);
-    let told = answered(alloc, &kept, &turn_command(1)?)?;
-    check_shown(alloc, &told, (Word::Turn, 64), (1, 2))?;
-    same("effect of turn", name(&told.effect), "keep")
+    let mut view = view_after(alloc, 64, 2, 2)?;
+    is_shown(alloc, &view, &Command::Show, kept(Word::Show, 2, 3))?;
+    is_refused(alloc, &view, &turn_command(0)?, Refusal::NoRecord)?;
+    view.asked = Some(solo_after(alloc, 5, 1)?);
+    is_shown(alloc, &view, &turn_command(1)?, kept(Word::Turn, 1, 2))
 }
 
 /// Of the records of turns 1 and 2.
@@ -176,8 +230,6 @@ fn late(alloc: Global, mode: Mode) -> Result<View, AllocError> {
 
 #[test]
 fn reasons_in_their_order(rt: HostRuntime) -> Result<(), Fail> {
-    let alloc = rt.alloc();
-    let (new, step) = (new_solo(alloc, 5)?, straight_on(alloc));
     let nothing = view(64, 0, 0, None);
     same(
         "bad",
@@ -185,22 +237,36 @@ fn reasons_in_their_order(rt: HostRuntime) -> Result<(), Fail> {
         Some(Refusal::Unknown),
     )?;
     same(
-        "a move of no game",
-        check(&nothing, &step),
-        Some(Refusal::NoGame),
+        "a new game",
+        check(&nothing, &new_solo(rt.alloc(), 5)?),
+        None,
     )?;
-    same("a new game", check(&nothing, &new), None)?;
+    same(
+        "a move of no game",
+        check(&nothing, &straight_on(rt.alloc())),
+        Some(Refusal::NoGame),
+    )
+}
+
+/// A game in its last turn takes neither a new game nor a move.
+#[test]
+fn reasons_of_a_game_that_runs(rt: HostRuntime) -> Result<(), Fail> {
+    let alloc = rt.alloc();
     let running = late(alloc, Mode::Solo)?;
-    same("new again", check(&running, &new), Some(Refusal::Running))?;
+    same(
+        "new again",
+        check(&running, &new_solo(alloc, 5)?),
+        Some(Refusal::Running),
+    )?;
     same(
         "a move too late",
-        check(&running, &step),
+        check(&running, &straight_on(alloc)),
         Some(Refusal::Limit),
     )?;
     let ended = late(alloc, Mode::Standard)?;
     same(
         "a move at its end",
-        check(&ended, &step),
+        check(&ended, &straight_on(alloc)),
         Some(Refusal::Over),
     )
 }
@@ -243,9 +309,9 @@ fn joined_turn(rt: HostRuntime) -> Result<(), Fail> {
         check(&view, &Command::Move(no_orders(alloc))).is_none(),
     )?;
     let told = joined_within(alloc, view.quota, view.charge, &orders, moved.copy(alloc)?)?;
-    check_shown(alloc, &told, (Word::Move, 64), (1, 2))?;
+    check_shown(alloc, &told, moved_to(1, 2))?;
     let told = joined(alloc, &view, &orders, moved)?;
-    check_shown(alloc, &told, (Word::Move, 64), (1, 2))
+    check_shown(alloc, &told, moved_to(1, 2))
 }
 
 /// What is told of a command by whether a game runs and whether the turn is kept that it asks for.

@@ -75,23 +75,30 @@ fn draw_an_empty_block<const CAP: usize>(pool: &mut Pool<CAP>, tag: u32) -> Resu
     same("zeros", &*fresh, [0; 16].as_slice())
 }
 
+/// A heap of tag 0 that comes and goes.
+fn use_first(alloc: Global, pool: &mut Pool<524_288>) -> Result<(), Fail> {
+    let mut heap = open_heap(alloc, pool, 0, 64)?;
+    add(&mut heap, pool, &[170; 32])??;
+    same("blocks held", pool.held(0), 1)?;
+    close_heap(&mut heap, pool, 0)?;
+    same("records at its end", heap.count(), 0)
+}
+
+/// A heap of tag 1, whose blocks are given back.
+fn use_second(alloc: Global, pool: &mut Pool<524_288>) -> Result<(), Fail> {
+    let mut heap = open_heap(alloc, pool, 1, 64)?;
+    add(&mut heap, pool, &[1, 2, 3])??;
+    check_one(&heap, pool, 1, &[1, 2, 3], 16)?;
+    heap.free(pool);
+    Ok(())
+}
+
 #[test]
 fn pool_of_two_with_two_heaps(rt: HostRuntime) -> Result<(), Fail> {
     let mut pool = Pool::<524_288>::open(rt.alloc(), 2)?;
-    let mut first = open_heap(rt.alloc(), &mut pool, 0, 64)?;
-    add(&mut first, &mut pool, &[170; 32])??;
-    same("held by the first", pool.held(0), 1)?;
-    close_heap(&mut first, &mut pool, 0)?;
-    same("records of the first", first.count(), 0)?;
+    use_first(rt.alloc(), &mut pool)?;
     same("free", pool.free(), 2)?;
-
-    let mut second = open_heap(rt.alloc(), &mut pool, 1, 64)?;
-    add(&mut second, &mut pool, &[1, 2, 3])??;
-    holds("a record of the second", second.count() == 1)?;
-    same("its bytes", second.record(0), [1, 2, 3].as_slice())?;
-    same("its charge", second.charge(), 16)?;
-    second.free(&mut pool);
-
+    use_second(rt.alloc(), &mut pool)?;
     draw_an_empty_block(&mut pool, 1)
 }
 
