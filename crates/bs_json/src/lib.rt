@@ -14,6 +14,7 @@ mod replies;
 mod setups;
 mod short_lines;
 mod shown;
+mod shown_bytes;
 #[cfg(test)]
 mod tests;
 mod values;
