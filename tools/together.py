@@ -162,6 +162,8 @@ class Trial:
         """Tries a group in one check, and returns the edits whose own refusal is not shown."""
         is_proved, said = self.check(group.texts, f"{len(group.edits)} edits")
         is_reached = is_proved or NOT_PROVED.search(said) is not None
+        if not is_reached and len(group.edits) > 1:
+            return self.try_halves(group.edits)
         left = []
         for edit in group.edits:
             why = refusal(edit, said, group.texts, self.folder) if is_reached else None
@@ -174,6 +176,12 @@ class Trial:
             why = verdict(is_proved, is_reached, said)
             print(f"{self.name}/{left[0].file.stem}: {why}", flush=True)
         return left
+
+    def try_halves(self, edits):
+        """Does the same in two groups, where one of the edits keeps the others from the prover."""
+        middle = len(edits) // 2
+        halves = [groups_of(part, self.folder) for part in (edits[:middle], edits[middle:])]
+        return [edit for half in halves for group in half for edit in self.try_group(group)]
 
     def check(self, texts, what):
         """Checks the crate with these texts, and prints what that took."""
