@@ -178,7 +178,7 @@ class Trial:
         return left
 
     def try_halves(self, edits):
-        """Does the same in two groups, where one of the edits keeps the others from the prover."""
+        """Tries the edits in two parts, where one of them keeps all from the prover."""
         middle = len(edits) // 2
         halves = [groups_of(part, self.folder) for part in (edits[:middle], edits[middle:])]
         return [edit for half in halves for group in half for edit in self.try_group(group)]
