@@ -1,0 +1,160 @@
+"""A client of bots: it asks them for their moves, and trusts nothing that they answer."""
+
+from __future__ import annotations
+
+import asyncio
+import json
+import re
+import time
+from dataclasses import dataclass, replace
+from typing import Any
+
+import aiohttp
+
+from ladder.payloads import Look
+
+DIRECTIONS = ("up", "down", "left", "right")
+CAUSES = ("late", "refused", "cut", "status", "long", "json", "direction")
+MOST_BYTES = 64 * 1024  # of an answer
+LONGEST_SHOUT = 256
+LOOK_SECONDS = 5.0
+ADDRESS_SECONDS = 300  # for which the address of a name is kept
+HEADERS = {
+    "Content-Type": "application/json",
+    "Accept-Encoding": "identity",
+    "User-Agent": "arena-ladder",
+}
+
+
+class NoAnswer(Exception):
+    """An answer that is none, with its cause."""
+
+    def __init__(self, cause: str) -> None:
+        super().__init__(cause)
+        self.cause = cause
+
+
+@dataclass(frozen=True, slots=True)
+class Answer:
+    """What a bot said to a request for its move: a direction, or why there is none."""
+
+    move: str | None
+    cause: str | None
+    latency: int  # milliseconds
+    shout: str = ""
+
+
+class BotClient:
+    """Calls bots over HTTP, each request within the timeout, in seconds."""
+
+    def __init__(self, timeout: float) -> None:
+        self.timeout = timeout
+
+    async def __aenter__(self) -> BotClient:
+        self.session = aiohttp.ClientSession(
+            connector=aiohttp.TCPConnector(limit=0, ttl_dns_cache=ADDRESS_SECONDS),
+            cookie_jar=aiohttp.DummyCookieJar(),
+            auto_decompress=False,
+            headers=HEADERS,
+            timeout=aiohttp.ClientTimeout(total=None),
+        )
+        return self
+
+    async def __aexit__(self, *_: object) -> None:
+        await self.session.close()
+
+    async def look(self, url: str) -> Look:
+        """Asks how a bot is to be drawn; raises `NoAnswer` where it does not say."""
+        return look_of(object_of(await self._call("GET", url + "/", b"", LOOK_SECONDS)))
+
+    async def move(self, url: str, body: bytes) -> Answer:
+        """Asks a bot for its move. The latency of an answer that is late is the timeout."""
+        began = time.perf_counter()
+        try:
+            text = await self._call("POST", url + "/move", body, self.timeout)
+            answer = answer_of(object_of(text))
+        except NoAnswer as fault:
+            answer = Answer(None, fault.cause, 0)
+        took = min(time.perf_counter() - began, self.timeout)
+        return replace(
+            answer, latency=round(1000 * (self.timeout if answer.cause == "late" else took))
+        )
+
+    async def tell(self, url: str, body: bytes) -> None:
+        """Sends a request whose answer says nothing, whatever it is: a start or an end."""
+        try:
+            await self._call("POST", url, body, self.timeout)
+        except NoAnswer:
+            pass
+
+    async def _call(self, method: str, url: str, body: bytes, timeout: float) -> bytes:
+        """The body of the answer with status 200; an answer that is none is raised by its cause."""
+        try:
+            async with asyncio.timeout(timeout):
+                try:
+                    return await self._request(method, url, body)
+                except aiohttp.ServerDisconnectedError:
+                    # Most often a connection that the bot closed while it was idle.
+                    return await self._request(method, url, body)
+        except TimeoutError:
+            raise NoAnswer("late") from None
+        except aiohttp.ClientConnectorError:
+            raise NoAnswer("refused") from None
+        except (aiohttp.ClientError, OSError, ValueError):
+            raise NoAnswer("cut") from None
+
+    async def _request(self, method: str, url: str, body: bytes) -> bytes:
+        async with self.session.request(
+            method, url, data=body or None, allow_redirects=False
+        ) as response:
+            try:
+                if response.status != 200:
+                    raise NoAnswer("status")
+                return await limited(response)
+            except BaseException:
+                response.close()  # what it would still send is not read
+                raise
+
+
+async def limited(response: aiohttp.ClientResponse) -> bytes:
+    """The body of an answer, which is read no further than its limit."""
+    body = bytearray()
+    async for piece in response.content.iter_any():
+        body += piece
+        if len(body) > MOST_BYTES:
+            raise NoAnswer("long")
+    return bytes(body)
+
+
+def object_of(text: bytes) -> dict[str, Any]:
+    """The JSON object of a text."""
+    try:
+        value = json.loads(text)
+    except (ValueError, RecursionError):
+        raise NoAnswer("json") from None
+    if not isinstance(value, dict):
+        raise NoAnswer("json")
+    return value
+
+
+def answer_of(said: dict[str, Any]) -> Answer:
+    """The move that a bot said; its shout is cut where it is too long."""
+    move, shout = said.get("move"), said.get("shout")
+    if move not in DIRECTIONS:
+        raise NoAnswer("direction")
+    return Answer(move, None, 0, shout[:LONGEST_SHOUT] if isinstance(shout, str) else "")
+
+
+def look_of(said: dict[str, Any]) -> Look:
+    """The look that a bot asked for, as far as it is one."""
+
+    def part(name: str, pattern: str, usual: str) -> str:
+        value = said.get(name)
+        return value if isinstance(value, str) and re.fullmatch(pattern, value) else usual
+
+    usual = Look()
+    return Look(
+        color=part("color", "#[0-9A-Fa-f]{6}", usual.color),
+        head=part("head", "[a-z0-9-]{1,48}", usual.head),
+        tail=part("tail", "[a-z0-9-]{1,48}", usual.tail),
+    )
