@@ -6,8 +6,9 @@ import asyncio
 import json
 import re
 import time
+from collections.abc import Callable, Coroutine, Sequence
 from dataclasses import dataclass, replace
-from typing import Any
+from typing import Any, TypeVar
 
 import aiohttp
 
@@ -18,12 +19,18 @@ CAUSES = ("late", "refused", "cut", "status", "long", "json", "direction")
 MOST_BYTES = 64 * 1024  # of an answer
 LONGEST_SHOUT = 256
 LOOK_SECONDS = 5.0
+LOOKS_AGAIN = 6  # turns of the event loop, enough to take what lies in a socket
 ADDRESS_SECONDS = 300  # for which the address of a name is kept
 HEADERS = {
     "Content-Type": "application/json",
     "Accept-Encoding": "identity",
     "User-Agent": "arena-ladder",
 }
+
+
+Given = TypeVar("Given")
+Request = tuple[str, bytes]  # the address of a bot or of one of its calls, and the body
+Call = Callable[[str, bytes], Coroutine[Any, Any, Given]]
 
 
 class NoAnswer(Exception):
@@ -65,39 +72,62 @@ class BotClient:
 
     async def look(self, url: str) -> Look:
         """Asks how a bot is to be drawn; raises `NoAnswer` where it does not say."""
-        return look_of(object_of(await self._call("GET", url + "/", b"", LOOK_SECONDS)))
+        try:
+            async with asyncio.timeout(LOOK_SECONDS):
+                return look_of(object_of(await self._call("GET", url + "/", b"")))
+        except TimeoutError:
+            raise NoAnswer("late") from None
 
-    async def move(self, url: str, body: bytes) -> Answer:
-        """Asks a bot for its move. The latency of an answer that is late is the timeout."""
+    async def moves(self, requests: Sequence[Request]) -> list[Answer]:
+        """Asks bots for their moves, all at once, and waits no longer than the timeout.
+
+        What had come in when the time was over is still taken, be it that this program was too busy
+        to look at it before.
+        """
+        late = Answer(None, "late", round(1000 * self.timeout))
+        return [answer or late for answer in await self._all(self._move, requests)]
+
+    async def tell(self, requests: Sequence[Request]) -> None:
+        """Sends requests whose answers say nothing, such as /end, for no longer than the timeout."""
+        await self._all(self._tell, requests)
+
+    async def _all(self, call: Call[Given], requests: Sequence[Request]) -> list[Given | None]:
+        """What the calls give, in their order; None for one that is not done in time."""
+        tasks = [asyncio.create_task(call(url, body)) for url, body in requests]
+        try:
+            await asyncio.wait(tasks, timeout=self.timeout)
+            for _ in range(LOOKS_AGAIN):
+                if all(task.done() for task in tasks):
+                    break
+                await asyncio.sleep(0)
+            return [task.result() if task.done() else None for task in tasks]
+        finally:
+            for task in tasks:
+                task.cancel()
+
+    async def _move(self, url: str, body: bytes) -> Answer:
         began = time.perf_counter()
         try:
-            text = await self._call("POST", url + "/move", body, self.timeout)
-            answer = answer_of(object_of(text))
+            answer = answer_of(object_of(await self._call("POST", url + "/move", body)))
         except NoAnswer as fault:
             answer = Answer(None, fault.cause, 0)
         took = min(time.perf_counter() - began, self.timeout)
-        return replace(
-            answer, latency=round(1000 * (self.timeout if answer.cause == "late" else took))
-        )
+        return replace(answer, latency=round(1000 * took))
 
-    async def tell(self, url: str, body: bytes) -> None:
-        """Sends a request whose answer says nothing, whatever it is: a start or an end."""
+    async def _tell(self, url: str, body: bytes) -> None:
         try:
-            await self._call("POST", url, body, self.timeout)
+            await self._call("POST", url, body)
         except NoAnswer:
             pass
 
-    async def _call(self, method: str, url: str, body: bytes, timeout: float) -> bytes:
+    async def _call(self, method: str, url: str, body: bytes) -> bytes:
         """The body of the answer with status 200; an answer that is none is raised by its cause."""
         try:
-            async with asyncio.timeout(timeout):
-                try:
-                    return await self._request(method, url, body)
-                except aiohttp.ServerDisconnectedError:
-                    # Most often a connection that the bot closed while it was idle.
-                    return await self._request(method, url, body)
-        except TimeoutError:
-            raise NoAnswer("late") from None
+            try:
+                return await self._request(method, url, body)
+            except aiohttp.ServerDisconnectedError:
+                # Most often a connection that the bot closed while it was idle.
+                return await self._request(method, url, body)
         except aiohttp.ClientConnectorError:
             raise NoAnswer("refused") from None
         except (aiohttp.ClientError, OSError, ValueError):

@@ -2,7 +2,6 @@
 
 from __future__ import annotations
 
-import asyncio
 import time
 from collections.abc import Mapping
 from dataclasses import dataclass
@@ -125,13 +124,12 @@ class Game:
     async def ask_all(self, board: Board) -> dict[str, Answer]:
         """Asks all living snakes at once; each has an answer, be it that there is none."""
         names = living_of(board)
-        requests = bodies(self.text, board, self.seats, names)
         urls = [self.around.urls[name] for name in names]
+        requests = list(zip(urls, bodies(self.text, board, self.seats, names)))
         asked_at = time.perf_counter()
         own = None if self.answered_at is None else asked_at - self.answered_at
-        found = await asyncio.gather(*map(self.around.client.move, urls, requests))
+        answers = dict(zip(names, await self.around.client.moves(requests)))
         self.answered_at = time.perf_counter()
-        answers = dict(zip(names, found))
         self.around.watch.count(answers, own)
         return answers
 
@@ -144,9 +142,8 @@ class Game:
     async def tell_all(self, what: str, board: Board) -> None:
         """Tells all bots that the game begins or ends; what they answer says nothing."""
         names = self.fixture.bots
-        requests = bodies(self.text, board, self.seats, names)
         urls = [f"{self.around.urls[name]}/{what}" for name in names]
-        await asyncio.gather(*map(self.around.client.tell, urls, requests))
+        await self.around.client.tell(list(zip(urls, bodies(self.text, board, self.seats, names))))
 
     def outcome(self) -> Outcome:
         """What the game came to, once it was played."""

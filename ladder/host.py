@@ -79,7 +79,9 @@ class Asked:
         """Whether a line of the host is the answer: it names the game, or has the number."""
         if "line" in said:
             return bool(said["line"] == self.number)
-        return not self.is_admit and self.stay is not None and bool(said["game"] == self.stay.name)
+        if self.stay is None or self.is_admit:
+            return False
+        return bool(said.get("game") == self.stay.name)
 
     def settle(self, said: dict[str, Any] | None) -> None:
         """Hands the answer to whoever waits; None says that the line was accepted in silence."""
@@ -285,16 +287,19 @@ class Host:
     def _take(self, line: bytes) -> None:
         """Hands a line to what it answers: admissions before that were accepted."""
         said = json.loads(line)
+        if not isinstance(said, dict):
+            raise HostFault(f"arena live wrote a line that is none: {line[:200]!r}")
         while self._asked:
-            asked = self._asked.popleft()
-            if asked.is_answered_by(said):
-                if asked.stay is not None and not asked.is_admit and "line" not in said:
-                    asked.stay.count(line)
-                asked.settle(said)
-                return
-            if not asked.is_admit:
+            asked = self._asked[0]
+            is_answered = asked.is_answered_by(said)
+            if not is_answered and not asked.is_admit:
                 break
-            asked.settle(None)
+            self._asked.popleft()
+            asked.settle(said if is_answered else None)
+            if is_answered:
+                if asked.stay is not None and "line" not in said:
+                    asked.stay.count(line)
+                return
         if not (self._closing and said.get("final")):
             raise HostFault(f"arena live wrote a line that answers nothing: {line[:200]!r}")
 

@@ -5,19 +5,23 @@ from __future__ import annotations
 import argparse
 import asyncio
 import signal
+import sqlite3
 import sys
 from collections.abc import Sequence
 from contextlib import AsyncExitStack
 from pathlib import Path
+from typing import Any
 
 from rich.console import Console
 
 from ladder.check import check
 from ladder.config import ConfigFault, read_config
+from ladder.feed import Feed
 from ladder.game import GameFault
 from ladder.game_files import make_folders
 from ladder.host import PROGRAM, HostDied, HostFault
 from ladder.merge import merge
+from ladder.page import address_of, page
 from ladder.pairing import Part, part_of
 from ladder.play import Job, locked, play
 from ladder.progress import Counts, ProgressBar
@@ -26,7 +30,7 @@ from ladder.store import Store, StoreFault, open_store
 from ladder.watch import Watch
 
 INTERRUPTED = 130
-FAULTS = (ConfigFault, GameFault, HostDied, HostFault, StoreFault, OSError)
+FAULTS = (ConfigFault, GameFault, HostDied, HostFault, StoreFault, OSError, sqlite3.Error)
 
 
 def program_of(given: argparse.Namespace) -> Path:
@@ -42,8 +46,22 @@ async def play_job(job: Job, counts: Counts, given: argparse.Namespace) -> None:
     store = Store(job.folder)
     async with AsyncExitStack() as stack:
         stack.callback(store.close)
-        watches: list[Watch] = [counts, stack.enter_context(ProgressBar(counts))]
+        bar = stack.enter_context(ProgressBar(counts))
+        watches: list[Watch] = [counts, bar]
+        if given.page is not None:
+            feed = Feed(lambda: rows_of(job.folder), counts.line)
+            bar.say(f"the page is {await stack.enter_async_context(page(feed, given.page))}")
+            watches.append(feed)
         await play(job, store, watches)
+
+
+def rows_of(folder: Path) -> list[dict[str, Any]]:
+    """The standings of a folder, read anew: another thread may ask for them."""
+    store = open_store(folder)
+    try:
+        return [standing.row() for standing in standings_of(store)]
+    finally:
+        store.close()
 
 
 def run_play(given: argparse.Namespace) -> int:
@@ -100,6 +118,8 @@ def parser() -> argparse.ArgumentParser:
     one = commands.add_parser("play", help="plays the games that are not done yet")
     one.add_argument("config", metavar="CONFIG.toml", type=Path)
     one.add_argument("--part", metavar="K/N", type=part_of, help="one part of the games")
+    help = "a page with the standings and the running games; on 127.0.0.1 if no host is named"
+    one.add_argument("--page", metavar="[HOST:]PORT", type=address_of, help=help)
     add_program(one)
     one.set_defaults(run=run_play)
     one = commands.add_parser("standings", help="prints the standings of a folder")

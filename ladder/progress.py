@@ -87,16 +87,17 @@ class ProgressBar(Watch):
             TextColumn("{task.description}", markup=False),
             console=self.console,
             refresh_per_second=LOOKS_A_SECOND,
-            disable=not self.console.is_terminal,
         )
         self.task = self.bar.add_task("", total=None)
 
     def __enter__(self) -> ProgressBar:
-        self.bar.start()
+        if self.console.is_terminal:
+            self.bar.start()
         return self
 
     def __exit__(self, *_: object) -> None:
-        self.bar.stop()
+        if self.console.is_terminal:
+            self.bar.stop()
 
     def begin(self, done: int, fixtures: int) -> None:
         self.bar.update(self.task, total=fixtures, completed=done)
