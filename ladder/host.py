@@ -18,6 +18,7 @@ import hashlib
 import json
 from collections import deque
 from collections.abc import Iterable, Mapping
+from contextlib import suppress
 from dataclasses import dataclass
 from pathlib import Path
 from typing import Any, Protocol
@@ -206,7 +207,8 @@ class Host:
             limit=LONGEST_LINE,
         )
         self._reader = asyncio.create_task(self._read())
-        await self._write(PLAN)
+        with suppress(HostDied):  # which the first call raises
+            await self._write(PLAN)
         return self
 
     async def __aexit__(self, kind: type[BaseException] | None, *_: object) -> None:

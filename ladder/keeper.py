@@ -48,11 +48,14 @@ class HostKeeper(Watch):
                 self._host = await Host(self.blocks, self.program).__aenter__()
             return self._host
 
-    async def bury(self, host: Host, death: HostDied) -> None:
-        """Puts away a host that has died; raises its death where no other is to follow."""
+    async def bury(self, host: Host, death: HostDied) -> bool:
+        """Puts away a host that has died; raises its death where no other is to follow.
+
+        False where another game of that host was first.
+        """
         async with self._lock:
             if self._host is not host:
-                return  # another game of that host was first
+                return False
             self._host = None
             self.deaths += 1
             self.idle_deaths += 1
@@ -60,3 +63,4 @@ class HostKeeper(Watch):
             is_fault = death.status < 0 or death.status in FAULTS
             if not is_fault or self.idle_deaths > MOST_IDLE_DEATHS or self.deaths > MOST_DEATHS:
                 raise death
+            return True

@@ -121,7 +121,7 @@ class Run:
                 await game.play(host)
                 return game
             except HostDied as death:
-                self.around.watch.say(f"{fixture.name}: {death}")
-                await self.keeper.bury(host, death)
+                if await self.keeper.bury(host, death):
+                    self.around.watch.say(f"{death}; its games go on in another")
             except Refused as fault:
                 raise GameFault(f"the host refused a line of {fixture.name}: {fault}") from None

@@ -4,6 +4,8 @@ from __future__ import annotations
 
 import asyncio
 import json
+import socket
+import threading
 import time
 from collections.abc import Awaitable, Callable, Coroutine
 from typing import Any
@@ -160,22 +162,32 @@ def test_all_are_asked_at_once() -> None:
     assert time.monotonic() - began < 10 * TIMEOUT
 
 
-def test_answer_that_lies_there_is_taken_however_busy_the_ladder_is() -> None:
-    """Where this program does not look for longer than the timeout, no bot pays for it."""
+def test_answer_that_came_in_time_is_taken_however_busy_the_ladder_is() -> None:
+    """Where this program does not look until the time is over, no bot pays for it."""
+    asked_for, listener = threading.Event(), socket.create_server(("127.0.0.1", 0))
+
+    def serve() -> None:
+        connection, _ = listener.accept()
+        with connection:
+            connection.recv(4096)
+            asked_for.set()
+            time.sleep(0.1)  # the event loop does not look by now
+            connection.sendall(b'HTTP/1.1 200 OK\r\nContent-Length: 13\r\n\r\n{"move":"up"}')
 
     async def work() -> Answer:
-        server = await asyncio.start_server(saying({"move": "up"}), "127.0.0.1", 0)
-        url = f"http://127.0.0.1:{server.sockets[0].getsockname()[1]}/bot"
-        async with BotClient(0.2) as client:
+        url = f"http://127.0.0.1:{listener.getsockname()[1]}/bot"
+        async with BotClient(0.5) as client:
             asking = asyncio.create_task(client.moves([(url, b"{}")]))
-            for _ in range(200):
-                await asyncio.sleep(0)
-                time.sleep(0.002)  # the event loop turns, and turns late
-            (answer,) = await asking
-        server.close()
-        return answer
+            while not asked_for.is_set():
+                await asyncio.sleep(0.001)
+            time.sleep(0.8)
+            return (await asking)[0]
 
+    thread = threading.Thread(target=serve)
+    thread.start()
     assert run(work()).move == "up"
+    thread.join()
+    listener.close()
 
 
 def test_looks_are_taken_as_far_as_they_are_looks() -> None:

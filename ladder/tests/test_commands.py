@@ -149,6 +149,20 @@ def test_file_of_another_game_is_not_gone_on_with(
     assert ran.stderr.startswith("ladder: the file of r0001-t001 has not begun as this ladder")
 
 
+def test_hosts_that_die_at_once_are_given_up(config: Path, tmp_path: Path) -> None:
+    """A program that is broken is started six times, and no seventh time."""
+    program, starts = tmp_path / "broken", tmp_path / "starts"
+    program.write_text(f"#!/bin/sh\necho x >> {starts}\nexit 7\n")
+    program.chmod(0o755)
+    mine = tmp_path / "mine.toml"
+    mine.write_text(config.read_text().replace("results", "given-up"))
+    ran = run_ladder("play", mine, "--program", program)
+    assert ran.returncode == 1
+    death = "ladder: arena live ended with status 7"
+    assert ran.stderr.splitlines() == [f"{death}; its games go on in another"] * 5 + [death]
+    assert len(starts.read_text().splitlines()) == 6
+
+
 def test_faults_are_one_line(program: Path, config: Path, tmp_path: Path) -> None:
     text = config.read_text().replace("results", "faults")
     config = tmp_path / "faults.toml"

@@ -122,7 +122,7 @@ def test_host_that_is_killed_is_followed_by_another(
         os.kill(host, signal.SIGKILL)
         out, error = process.communicate(timeout=LONGEST)
         assert process.returncode == 0, error
-        assert "arena live ended with status -9" in error
+        assert error == "ladder: arena live ended with status -9; its games go on in another\n"
         assert_same(folder / "results", undisturbed, program)
 
 

@@ -60,6 +60,8 @@ def test_readers_are_told_what_changed() -> None:
         kind, state = told(reader.events.get_nowait())
         assert (kind, state["boards"]) == ("changes", {GAME.name: {"turn": 2}})
         assert state["standings"] == [{"bot": "a"}]
+        await feed.tick()
+        assert told(reader.events.get_nowait())[1]["boards"] == {}
         await feed.close()
         assert told(reader.events.get_nowait())[0] == "end"
         assert reader.events.get_nowait() is None

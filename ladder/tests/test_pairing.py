@@ -79,7 +79,9 @@ def test_words_that_are_no_part(word: str) -> None:
 def test_draws_are_digests_that_anybody_can_make() -> None:
     digest = hashlib.sha256(b"5/r0001-t001/3/0").digest()
     assert Draw(5, "r0001-t001", 3).number() == int.from_bytes(digest[:8], "big")
-    assert words_of(5, "r0001-t001", 3, 2)[0] == int.from_bytes(digest[:4], "big")
+    second = hashlib.sha256(b"5/r0001-t001/3/1").digest()
+    expected = [int.from_bytes(it[:4], "big") for it in (digest, second)]
+    assert words_of(5, "r0001-t001", 3, 2) == expected
     assert sorted(Draw("x").shuffled(range(50))) == list(range(50)) != Draw("x").shuffled(range(50))
 
 
