@@ -19,7 +19,6 @@ CAUSES = ("late", "refused", "cut", "status", "long", "json", "direction")
 MOST_BYTES = 64 * 1024  # of an answer
 LONGEST_SHOUT = 256
 LOOK_SECONDS = 5.0
-LOOKS_AGAIN = 6  # turns of the event loop, enough to take what lies in a socket
 ADDRESS_SECONDS = 300  # for which the address of a name is kept
 HEADERS = {
     "Content-Type": "application/json",
@@ -92,14 +91,14 @@ class BotClient:
         await self._all(self._tell, requests)
 
     async def _all(self, call: Call[Given], requests: Sequence[Request]) -> list[Given | None]:
-        """What the calls give, in their order; None for one that is not done in time."""
+        """What the calls give, in their order; None for one that is not done in time.
+
+        One timer is for all. At its end the event loop has handed what lay in the sockets to the
+        calls, which have gone on before this one does. A timer of each call would cancel it first.
+        """
         tasks = [asyncio.create_task(call(url, body)) for url, body in requests]
         try:
             await asyncio.wait(tasks, timeout=self.timeout)
-            for _ in range(LOOKS_AGAIN):
-                if all(task.done() for task in tasks):
-                    break
-                await asyncio.sleep(0)
             return [task.result() if task.done() else None for task in tasks]
         finally:
             for task in tasks:

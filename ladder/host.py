@@ -221,6 +221,8 @@ class Host:
         except asyncio.TimeoutError:
             self._process.kill()
         status = await self._process.wait()
+        with suppress(ConnectionError):
+            await self._input.wait_closed()
         if kind is None and status != 0:
             raise self._fault or HostDied(status)
 
@@ -266,13 +268,14 @@ class Host:
 
     async def _write(self, line: bytes) -> None:
         self.lines_sent += 1
-        self._input.write(line)
-        try:
-            await self._input.drain()
-        except ConnectionError:
-            await self._reader  # which finds out why
-            if self._fault is not None:
-                raise self._fault from None
+        with suppress(ConnectionError):
+            if not self._input.is_closing():
+                self._input.write(line)
+                await self._input.drain()
+                return
+        await asyncio.wait([self._reader])  # which finds out why the input is closed
+        assert self._fault is not None
+        raise self._fault
 
     async def _read(self) -> None:
         """Takes the lines of the host until it ends."""
