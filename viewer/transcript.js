@@ -16,6 +16,22 @@ const FITTING_TURN = {
   turn: (turn, boards) => turn < boards,
 };
 
+/** The board in the text of a line; a fault where it holds none that can be drawn. */
+function boardInLine(text, number) {
+  let board;
+  try {
+    ({ board } = JSON.parse(text));
+  } catch {
+    throw new TranscriptFault(`Line ${number.toLocaleString('en')} is no JSON.`);
+  }
+  const fault = faultOfBoard(board);
+  if (fault) {
+    const line = number.toLocaleString('en');
+    throw new TranscriptFault(`Line ${line} holds no board that can be drawn: ${fault}.`);
+  }
+  return board;
+}
+
 /**
  * A game in one of its stays, which are counted from 1: a game that was admitted more than once has
  * as many sections. A round is what lies between a `new` and its `end`: its boards are the numbers

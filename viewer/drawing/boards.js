@@ -1,5 +1,5 @@
-// A board as a line of a transcript shows it, checked before anything is drawn, and what is said of
-// its snakes.
+// A board as a line of the host shows it, checked before anything is drawn, and what is said of its
+// snakes.
 'use strict';
 
 /** Of each cause what it is called, and which ids its killer can have. */
@@ -73,22 +73,6 @@ function faultOfBoard(board) {
   const ids = board.snakes.map((snake) => snake?.id);
   const faults = board.snakes.map((snake) => faultOfSnake(snake, board, ids));
   return faults.find((fault) => fault !== null) ?? null;
-}
-
-/** The board in the text of a line; a fault where it holds none that can be drawn. */
-function boardInLine(text, number) {
-  let board;
-  try {
-    ({ board } = JSON.parse(text));
-  } catch {
-    throw new TranscriptFault(`Line ${number.toLocaleString('en')} is no JSON.`);
-  }
-  const fault = faultOfBoard(board);
-  if (fault) {
-    const line = number.toLocaleString('en');
-    throw new TranscriptFault(`Line ${line} holds no board that can be drawn: ${fault}.`);
-  }
-  return board;
 }
 
 function isLiving(snake) {
