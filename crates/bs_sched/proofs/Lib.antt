@@ -32,6 +32,7 @@ pub mod OpenedGames
 pub mod OwnJobs
 pub mod OwnParts
 pub mod Parts
+pub mod Progress
 pub mod PlacedRecords
 pub mod PlanBlocks
 pub mod ReadGames
