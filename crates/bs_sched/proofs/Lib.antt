@@ -37,6 +37,7 @@ pub mod PlacedRecords
 pub mod PlanBlocks
 pub mod ReadGames
 pub mod Reframed
+pub mod RegistryRefusals
 pub mod Reserved
 pub mod RightLanes
 pub mod RightRuns

@@ -1,57 +1,26 @@
 -- Which stays are open, and what they have answered.
-use Rattle.std.proofs.Common.{◌≡◌, ℕ, ◌-◌, Bool, true, false, ◌&&◌, if◌then◌else◌, List, [], ◌∷◌, ◌++◌, length, refl, sym, ap, ◌∙◌, arith, inl, inr}
-use Rattle.std.specs.Prelude.{nat_eq, nat_lt, fold, count_by, slice_set, slice_index_or}
-use Rattle.std.specs.List.{list_any}
+use Rattle.std.proofs.Common.{◌≡◌, ℕ, Bool, true, false, ◌&&◌, if◌then◌else◌, List, [], ◌∷◌, ◌++◌, length, refl, sym, ap, ◌∙◌, inl, inr}
+use Rattle.std.specs.Prelude.{nat_eq, nat_lt, fold, slice_set, slice_index_or}
 use Rattle.std.proofs.Math.ListN.{get_or-map}
 use Rattle.std.proofs.Math.Seq.{map-set_same}
 use Rattle.std.proofs.lemmas.Bool.{cases_Bool, cond-true, cond-false, and_from, and_left}
 use Rattle.std.proofs.lemmas.List.{length-map, map_push, map-set}
-use Rattle.std.proofs.lemmas.List.Sums.{sum_by-cons}
 use Rattle.bs_board.proofs.Chains.{and_both}
 use Rattle.bs_board.specs.declared.commands.command.Command.{Command}
-use Rattle.bs_board.specs.declared.commands.command.Command.TheVariants as command
-use Rattle.bs_board.specs.plans.Plan.{GameRow}
-use Rattle.bs_board.specs.Texts.{is_same_text}
 use Rattle.bs_fiber.specs.declared.job.JobKind.{JobKind}
 use Rattle.bs_fiber.specs.declared.job.JobKind.TheVariants as kind
-use Rattle.bs_sched.specs.PlanBlocks.{blocks_of}
 use Rattle.bs_sched.specs.declared.event.Event.{Event}
 use Rattle.bs_sched.specs.declared.event.Event.TheVariants as event
-use Rattle.bs_sched.specs.Registry.{stay_of, registry_of, capacity_of, registry_after, RegistryLaw, ServedLaw, JournalLaw, rows_in, commands_to}
-use Rattle.bs_sched.specs.Stays.{Stay, blocks_in_registry, closed_stay, is_in, may_admit_in, no_stay}
+use Rattle.bs_sched.specs.Registry.{stay_of, registry_of, registry_after, RegistryLaw, ServedLaw, JournalLaw, rows_in, commands_to}
+use Rattle.bs_sched.specs.Stays.{Stay, closed_stay, is_in, no_stay}
 use Rattle.bs_sched.specs.Isolation.{alone_event, accepted, is_accepted, admitted, are_enabled, opened_lanes, own_events, commands_in, shared_run}
 use Rattle.bs_sched.specs.Lane.{Lane, empty_lane, no_lane, is_quiet, goes_on, forked, answered, with_taken, with_put, with_waiting, closed_lane}
-use Rattle.bs_sched.specs.Machine.{Setting, lane_of, is_named, is_enabled, may_admit, has_name, blocks_in, open_blocks, lane_effect, step, run_of}
+use Rattle.bs_sched.specs.Machine.{Setting, lane_of, is_named, is_enabled, lane_effect, step, run_of}
 use Rattle.bs_sched.proofs.HandedCommands.{one_more_event, served}
 use Rattle.bs_sched.proofs.Isolation.{keeps_commands, rows_run, opened_rows}
+use Rattle.bs_sched.proofs.RegistryRefusals.{admits_by_registry}
 use Rattle.bs_sched.proofs.LoneLanes.{step_enabled, step_refused}
 use Rattle.bs_sched.proofs.RightRuns.{well_run, well_opened}
-
--- the registry tells who may come
-
-named_in : (row : GameRow) (lanes : List Lane)
-    → list_any (has_name row) lanes ≡ list_any (λ (entry : Stay). entry.is_open && is_same_text row.game entry.row.game) (registry_of lanes)
-named_in row [] = refl
-named_in row (x ∷ lanes) = rw (named_in row lanes) refl
-
-counted_in : (lanes : List Lane) → count_by (λ (x : Lane). x.is_open) lanes ≡ count_by (λ (entry : Stay). entry.is_open) (registry_of lanes)
-counted_in [] = refl
-counted_in (x ∷ lanes) =
-    let one = sum_by-cons (λ (y : Lane). if y.is_open then 1 else 0) x lanes in
-    let other = sum_by-cons (λ (entry : Stay). if entry.is_open then 1 else 0) (stay_of x) (registry_of lanes) in
-    let rest = counted_in lanes in
-    omega (arith, one, other, rest)
-
-blocks_told : (cap : ℕ) (lanes : List Lane) → open_blocks cap lanes ≡ blocks_in_registry cap (registry_of lanes)
-blocks_told cap [] = refl
-blocks_told cap (x ∷ lanes) =
-    let one = sum_by-cons (blocks_in cap) x lanes in
-    let other = sum_by-cons (λ (entry : Stay). if entry.is_open then blocks_of cap entry.row else 0) (stay_of x) (registry_of lanes) in
-    let rest = blocks_told cap lanes in
-    omega (arith, one, other, rest)
-
-pub admits_by_registry : (setting : Setting) (lanes : List Lane) (row : GameRow) → may_admit setting lanes row ≡ may_admit_in (capacity_of setting) (registry_of lanes) row
-admits_by_registry setting lanes row = rw (named_in row lanes, counted_in lanes, blocks_told setting.cap lanes, length-map lanes stay_of) refl
 
 -- a job and a command leave it
 
