@@ -1,2 +1,3 @@
+pub mod Acceptable
 pub mod Acts
 pub mod Run

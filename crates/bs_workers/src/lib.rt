@@ -7,6 +7,7 @@ mod compare;
 mod executor;
 mod fault;
 mod gate;
+mod law;
 mod runs;
 mod state;
 #[cfg(test)]
@@ -16,4 +17,5 @@ mod worker;
 pub use act::Act;
 pub use fault::Run;
 pub use gate::{Gate, OpenGate};
+pub use law::acts_law;
 pub use runs::run;
