@@ -9,11 +9,9 @@ mod fault;
 mod gate;
 mod runs;
 mod state;
-#[cfg(test)]
-mod tests;
 mod worker;
 
 pub use act::Act;
 pub use fault::Run;
 pub use gate::{Gate, OpenGate};
-pub use runs::run;
+pub use runs::{run, run_any};
