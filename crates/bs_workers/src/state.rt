@@ -238,8 +238,8 @@ impl<const CAP: usize> State<CAP> {
 
     /// Returns the core, or why the run was stopped.
     pub(crate) fn into_core(self) -> Result<Core<CAP>, Run>
-        ensures ok { OnOk result (self.fault ≡ None) }
-        ensures err { IfErr result (λ fault. self.fault ≡ Some fault) }
+        ensures ok { OnOk result (self.entry.fault ≡ None) }
+        ensures err { IfErr result (λ fault. self.entry.fault ≡ Some fault) }
     {
         match self.fault {
             None => Ok(self.core),

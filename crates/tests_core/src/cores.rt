@@ -313,14 +313,12 @@ fn each_part_holds_a_block_until_the_answer(rt: HostRuntime) -> Result<(), Fail>
     play_counted_join(alloc, &mut core)
 }
 
-/// The reply to the command of that number shows a board of that turn.
+/// The reply to the command of that number shows a board: its word, its turn and the charge.
 fn check_shown(
     alloc: Global,
     core: &Core<CAP>,
     number: usize,
-    word: Word,
-    turn: u16,
-    charge: u32,
+    (word, turn, charge): (Word, u16, u32),
 ) -> Result<(), Fail> {
     holds("a game", core.rows() == 1)?;
     let Some(Reply::Shown(said, kept, charged)) = core.replies(0).get(number) else {
@@ -359,14 +357,14 @@ fn hand_over_quota(alloc: Global, core: &mut Core<CAP>) -> Result<(), Fail> {
 fn check_over_quota(alloc: Global, core: &Core<CAP>) -> Result<(), Fail> {
     holds("a game", core.rows() == 1)?;
     same("replies", core.replies(0).len(), 7)?;
-    check_shown(alloc, core, 0, Word::New, 0, 32)?;
-    check_shown(alloc, core, 1, Word::Move, 1, 64)?;
+    check_shown(alloc, core, 0, (Word::New, 0, 32))?;
+    check_shown(alloc, core, 1, (Word::Move, 1, 64))?;
     check_refused(core, 2, Refusal::Quota)?;
     let freed = core.replies(0).get(3);
     holds("freed", matches!(freed, Some(Reply::Plain(Word::Free, 32))))?;
-    check_shown(alloc, core, 4, Word::Move, 2, 64)?;
+    check_shown(alloc, core, 4, (Word::Move, 2, 64))?;
     check_refused(core, 5, Refusal::NoRecord)?;
-    check_shown(alloc, core, 6, Word::Turn, 1, 64)?;
+    check_shown(alloc, core, 6, (Word::Turn, 1, 64))?;
     same("records", core.count(0), 2)
 }
 
@@ -401,7 +399,7 @@ fn two_cores_hold_one_command(rt: HostRuntime) -> Result<(), Fail> {
         let mut core = core_with_shared(alloc, name, &shared)?;
         play_all(&rt, alloc, &mut core, 0)?;
         same("replies", read_all(&core)?.replies, 2)?;
-        check_shown(alloc, &core, 0, Word::New, 0, 32)?;
+        check_shown(alloc, &core, 0, (Word::New, 0, 32))?;
         check_refused(&core, 1, Refusal::Running)?;
     }
     Ok(())
