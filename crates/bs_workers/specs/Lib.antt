@@ -1,3 +1,4 @@
 pub mod Acceptable
 pub mod Acts
+pub mod Faults
 pub mod Run

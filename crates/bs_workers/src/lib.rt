@@ -10,12 +10,10 @@ mod gate;
 mod law;
 mod runs;
 mod state;
-#[cfg(test)]
-mod tests;
 mod worker;
 
 pub use act::Act;
 pub use fault::Run;
 pub use gate::{Gate, OpenGate};
 pub use law::acts_law;
-pub use runs::run;
+pub use runs::{run, run_any};

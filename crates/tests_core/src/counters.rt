@@ -1,9 +1,7 @@
 //! Tallies of one and of four parts, the latter also finished by four threads.
-ghost use Rattle.std.specs.Prelude.{◌≡◌};
-
-use crate::{Finish, PartKey, Parted, Tally};
+use bs_counter::{Finish, PartKey, Parted, Tally};
+use bs_samples::{holds, same};
 use std::alloc::{AllocError, Global};
-use std::process::Abort;
 use std::sync::Wait;
 use std::test::Fail;
 use std::thread;
@@ -32,12 +30,7 @@ fn finish(key: PartKey<Piece>, value: u64) -> Finish<Piece> {
 
 /// Finishes the key's part with that value. The values of all parts, in the order of the answer,
 /// where this was the last finisher.
-fn finish_last(
-    rt: &impl Abort,
-    alloc: Global,
-    key: PartKey<Piece>,
-    value: u64,
-) -> Result<Option<Vec<u64>>, Fail> {
+fn finish_last(alloc: Global, key: PartKey<Piece>, value: u64) -> Result<Option<Vec<u64>>, Fail> {
     match finish(key, value) {
         Finish::More(spent) => {
             drop(spent);
@@ -47,7 +40,7 @@ fn finish_last(
             let mut values = Vec::new(alloc);
             for (place, out) in outs.as_slice().iter().enumerate() {
                 let piece = out.as_ref().ok_or("an outcome")?;
-                assert_eq!(rt; piece.part(), place);
+                same("part", piece.part(), place)?;
                 values.push(piece.value)?;
             }
             drop(outs);
@@ -60,11 +53,24 @@ fn finish_last(
 fn the_only_part_is_the_last(rt: HostRuntime) -> Result<(), Fail> {
     let alloc = rt.alloc();
     let mut keys = Tally::open(alloc, 1)?;
-    assert_eq!(rt; keys.len(), 1);
+    same("keys", keys.len(), 1)?;
     let key = keys.pop().ok_or("a key")?;
-    let values = finish_last(&rt, alloc, key, 7)?.ok_or("the last part")?;
-    assert_eq!(rt; values.as_slice(), [7].as_slice());
-    Ok(())
+    let values = finish_last(alloc, key, 7)?.ok_or("the last part")?;
+    same("values", values.as_slice(), [7].as_slice())
+}
+
+/// Finishes the part whose key lies at that place, which is not the last part.
+fn finish_at(
+    alloc: Global,
+    keys: &mut Vec<PartKey<Piece>>,
+    place: usize,
+    part: usize,
+    value: u64,
+) -> Result<(), Fail> {
+    holds("a key", place < keys.len())?;
+    let key = keys.remove(place);
+    same("part", key.part(), part)?;
+    holds("another part", finish_last(alloc, key, value)?.is_none())
 }
 
 /// The parts 3, 1, 0 and 2 of a tally of four are finished in this order.
@@ -72,26 +78,19 @@ fn the_only_part_is_the_last(rt: HostRuntime) -> Result<(), Fail> {
 fn the_last_of_four_parts_gets_all_values(rt: HostRuntime) -> Result<(), Fail> {
     let alloc = rt.alloc();
     let mut keys = Tally::open(alloc, 4)?;
-    for (place, part, value) in [(3usize, 3usize, 13), (1, 1, 11), (0, 0, 10)] {
-        assert!(rt; place < keys.len());
-        let key = keys.remove(place);
-        assert_eq!(rt; key.part(), part);
-        assert!(rt; finish_last(&rt, alloc, key, value)?.is_none());
-    }
+    same("keys", keys.len(), 4)?;
+    finish_at(alloc, &mut keys, 3, 3, 13)?;
+    finish_at(alloc, &mut keys, 1, 1, 11)?;
+    finish_at(alloc, &mut keys, 0, 0, 10)?;
     let key = keys.pop().ok_or("a key")?;
-    assert_eq!(rt; key.part(), 2);
-    let values = finish_last(&rt, alloc, key, 12)?.ok_or("the last part")?;
-    assert_eq!(rt; values.as_slice(), [10, 11, 12, 13].as_slice());
-    Ok(())
+    same("part", key.part(), 2)?;
+    let values = finish_last(alloc, key, 12)?.ok_or("the last part")?;
+    same("values", values.as_slice(), [10, 11, 12, 13].as_slice())
 }
 
 /// Finishes each key on a thread of its own, and counts those that were told that theirs was the
 /// last.
-fn count_last<R: Threads + Sync>(
-    rt: &R,
-    alloc: Global,
-    keys: Vec<PartKey<Piece>>,
-) -> Result<usize, AllocError> {
+fn count_last<R: Threads + Sync>(rt: &R, keys: Vec<PartKey<Piece>>) -> Result<usize, AllocError> {
     let told = thread::map_vec(
         rt,
         keys,
@@ -104,7 +103,7 @@ fn count_last<R: Threads + Sync>(
 fn one_of_four_threads_is_the_last(rt: HostRuntime) -> Result<(), Fail> {
     for _ in 0..1000 {
         let keys = Tally::open(rt.alloc(), 4)?;
-        assert_eq!(rt; count_last(&rt, rt.alloc(), keys)?, 1);
+        same("last finishers", count_last(&rt, keys)?, 1)?;
     }
     Ok(())
 }
