@@ -13,6 +13,13 @@ pub mod FoundLines
 pub mod FoundStays
 pub mod GuestRoutes
 pub mod HostedCore
+pub mod LiveBytes
+pub mod LivePlays
+pub mod LiveHeld
+pub mod LiveLaw
+pub mod LiveLines
+pub mod LivePieces
+pub mod LiveTexts
 pub mod OpenStays
 pub mod OwnLines
 pub mod ParsedLines
