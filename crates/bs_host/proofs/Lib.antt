@@ -14,11 +14,13 @@ pub mod FoundStays
 pub mod GuestRoutes
 pub mod HostedCore
 pub mod LiveBytes
-pub mod LivePlays
 pub mod LiveHeld
 pub mod LiveLaw
 pub mod LiveLines
 pub mod LivePieces
+pub mod LivePlays
+pub mod LiveRefusals
+pub mod LiveStops
 pub mod LiveTexts
 pub mod OpenStays
 pub mod OwnLines

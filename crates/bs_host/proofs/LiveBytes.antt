@@ -1,5 +1,5 @@
 -- What a live host read and wrote.
-use Rattle.std.proofs.Common.{◌≡◌, ℕ, List, [], ◌∷◌, ◌++◌, Option, Some, None, map, refl, sym, ap, subst, ◌∙◌, append-nil, append_assoc}
+use Rattle.std.proofs.Common.{◌≡◌, ℕ, ◌+◌, List, [], ◌∷◌, ◌++◌, Option, Some, None, length, map, refl, sym, ap, subst, ◌∙◌, arith, append-nil, append_assoc, length-append}
 use Rattle.std.specs.Io.KnownBytes.{Appends, Consumes, IsAtEnd, Keeps}
 use Rattle.std.specs.Prelude.{IfSome, Ok}
 use Rattle.bs_board.specs.declared.plans.plan.Plan.{Plan}
@@ -51,13 +51,13 @@ if_some (Some xs) f p = f xs refl p
 
 module _ (blocks : ℕ) (version : Version) (plan : List GameRow) where
   pub serving_begins : (after : List ℕ) (old : Option (List ℕ)) (games : List (ℕ × CoreView)) (guests : GuestList) (number : ℕ)
-      → HasAnswered blocks version plan [] games guests number → IsServing blocks version plan after after old old games guests number
-  serving_begins after old games guests number is = record { done = []; parts = λ more. refl; answered = is; written = appends_none old }
+      → HasAnswered blocks version plan [] games guests number → IsServing blocks version plan after after old old 0 games guests number
+  serving_begins after old games guests number is = record { done = []; parts = λ more. refl; answered = is; written = appends_none old; counted = refl }
 
-  pub serving_reads : (after pending new bytes : List ℕ) (old now : Option (List ℕ)) (games : List (ℕ × CoreView)) (guests : GuestList) (number : ℕ)
-      → IsServing blocks version plan after pending old now games guests number → new ≡ pending ++ bytes
-      → IsServing blocks version plan (after ++ bytes) new old now games guests number
-  serving_reads after pending new bytes old now games guests number is read =
+  pub serving_reads : (after pending new bytes : List ℕ) (old now : Option (List ℕ)) (count : ℕ) (games : List (ℕ × CoreView)) (guests : GuestList) (number : ℕ)
+      → IsServing blocks version plan after pending old now count games guests number → new ≡ pending ++ bytes
+      → IsServing blocks version plan (after ++ bytes) new old now count games guests number
+  serving_reads after pending new bytes old now count games guests number is read =
       record {
         done = is.done;
         parts =
@@ -66,27 +66,33 @@ module _ (blocks : ℕ) (version : Version) (plan : List GameRow) where
             ∙ ap (λ text. map held_of is.done ++ map held_of (pieces_of text)) (sym (append_assoc pending bytes more) ∙ ap (λ all. all ++ more) (sym read));
         answered = is.answered;
         written = is.written;
+        counted = is.counted;
       }
 
   -- of the pending line the part is forgotten on which nothing depends
-  pub serving_holds : (after pending new : List ℕ) (old now : Option (List ℕ)) (games : List (ℕ × CoreView)) (guests : GuestList) (number : ℕ)
-      → IsServing blocks version plan after pending old now games guests number → IsSameText pending new
-      → IsServing blocks version plan after new old now games guests number
-  serving_holds after pending new old now games guests number is same =
+  pub serving_holds : (after pending new : List ℕ) (old now : Option (List ℕ)) (count : ℕ) (games : List (ℕ × CoreView)) (guests : GuestList) (number : ℕ)
+      → IsServing blocks version plan after pending old now count games guests number → IsSameText pending new
+      → IsServing blocks version plan after new old now count games guests number
+  serving_holds after pending new old now count games guests number is same =
       record {
         done = is.done;
         parts = λ more. is.parts more ∙ ap (λ pieces. map held_of is.done ++ pieces) (same more);
         answered = is.answered;
         written = is.written;
+        counted = is.counted;
       }
 
-  pub serving_answers : (after pending front back text : List ℕ) (old now next : Option (List ℕ)) (games behind : List (ℕ × CoreView)) (guests left : GuestList) (number last : ℕ)
-      → IsServing blocks version plan after pending old now games guests number → IsCutLast pending front back
+  pub serving_answers : (after pending front back text : List ℕ) (old now next : Option (List ℕ)) (count total : ℕ) (games behind : List (ℕ × CoreView)) (guests left : GuestList) (number last : ℕ)
+      → IsServing blocks version plan after pending old now count games guests number → IsCutLast pending front back
       → ((before : List (List ℕ)) → HasAnswered blocks version plan before games guests number → HasAnswered blocks version plan (before ++ pieces_of front) behind left last)
       → ((before : List (List ℕ)) → HasAnswered blocks version plan before games guests number → text ≡ [] ++ answers_from blocks version plan before (pieces_of front))
-      → Appends now next text → IsServing blocks version plan after back old next behind left last
-  serving_answers after pending front back text old now next games behind guests left number last is cut answers told wrote =
+      → Appends now next text → total ≡ count + length text → IsServing blocks version plan after back old next total behind left last
+  serving_answers after pending front back text old now next count total games behind guests left number last is cut answers told wrote adds =
       let new : text ≡ answers_from blocks version plan is.done (pieces_of front) = told is.done is.answered in
+      let before = answers_from blocks version plan [] is.done in
+      let whole : answers_from blocks version plan [] (is.done ++ pieces_of front) ≡ before ++ text
+      = answers_append blocks version plan [] is.done (pieces_of front) ∙ ap (λ more. before ++ more) (sym new) in
+      let many = is.counted in
       record {
         done = is.done ++ pieces_of front;
         parts =
@@ -97,19 +103,18 @@ module _ (blocks : ℕ) (version : Version) (plan : List GameRow) where
             ∙ ap (λ pieces. pieces ++ map held_of (pieces_of (back ++ more))) (sym (map_both is.done (pieces_of front)));
         answered = answers is.done is.answered;
         written =
-            subst (λ all. Appends old next all)
-            (ap (λ more. answers_from blocks version plan [] is.done ++ more) new ∙ sym (answers_append blocks version plan [] is.done (pieces_of front)))
-            (appends_both old now next (answers_from blocks version plan [] is.done) text is.written wrote);
+            subst (λ all. Appends old next all) (sym whole) (appends_both old now next before text is.written wrote);
+        counted = let all = ap length whole in omega (arith, adds, many, all, length-append before text);
       }
 
   -- what is written once all is read
-  pub serving_ends : (after pending text both : List ℕ) (old now next : Option (List ℕ)) (games behind : List (ℕ × CoreView)) (guests left : GuestList) (number last : ℕ)
-      → IsServing blocks version plan after pending old now games guests number
+  pub serving_whole : (after pending text both : List ℕ) (old now : Option (List ℕ)) (count : ℕ) (games behind : List (ℕ × CoreView)) (guests left : GuestList) (number last : ℕ)
+      → (is : IsServing blocks version plan after pending old now count games guests number)
       → ((before : List (List ℕ)) → HasAnswered blocks version plan before games guests number → HasAnswered blocks version plan (before ++ pieces_of pending) behind left last)
       → ((before : List (List ℕ)) → HasAnswered blocks version plan before games guests number → text ≡ [] ++ answers_from blocks version plan before (pieces_of pending))
       → ((lines : List (List ℕ)) → HasAnswered blocks version plan lines behind left last → both ≡ text ++ closing_behind blocks version plan lines)
-      → Appends now next both → Appends old next (live_lines_of blocks version plan (pieces_of after))
-  serving_ends after pending text both old now next games behind guests left number last is answers told closes wrote =
+      → live_lines_of blocks version plan (pieces_of after) ≡ answers_from blocks version plan [] is.done ++ both
+  serving_whole after pending text both old now count games behind guests left number last is answers told closes =
       let lines = is.done ++ pieces_of pending in
       let all : map held_of (pieces_of after) ≡ map held_of lines
       = ap (λ text. map held_of (pieces_of text)) (sym (append-nil after)) ∙ is.parts []
@@ -122,35 +127,16 @@ module _ (blocks : ℕ) (version : Version) (plan : List GameRow) where
       let whole : before ++ both ≡ live_lines_of blocks version plan lines
       = ap (λ t. before ++ t) ends ∙ sym (append_assoc before (answers_from blocks version plan is.done (pieces_of pending)) end)
       ∙ ap (λ t. t ++ end) (sym (answers_append blocks version plan [] is.done (pieces_of pending))) in
-      subst (λ t. Appends old next t) (whole ∙ sym (live_same blocks version plan (pieces_of after) lines all)) (appends_both old now next before both is.written wrote)
+      live_same blocks version plan (pieces_of after) lines all ∙ sym whole
 
--- the definition for a file, from its first line
-
-pub live_of_first : (blocks : ℕ) (file first : List ℕ) (rest : List (List ℕ)) (plan : Plan) → pieces_of file ≡ first ∷ rest → plan_line_of first ≡ Ok plan
-    → live_of blocks file ≡ live_lines_of blocks plan.version plan.rows rest
-unfolding live_of
-live_of_first blocks file first rest plan pieces read =
-    ap (λ all. live_lines_of blocks (version_in (plan_line_of (first_piece all))) (rows_in (plan_line_of (first_piece all))) (later_pieces all)) pieces
-    ∙ ap (λ found. live_lines_of blocks (version_in found) (rows_in found) rest) read
+  pub serving_ends : (after both : List ℕ) (old now next : Option (List ℕ)) (count : ℕ) (pending : List ℕ) (games : List (ℕ × CoreView)) (guests : GuestList) (number : ℕ)
+      → (is : IsServing blocks version plan after pending old now count games guests number)
+      → live_lines_of blocks version plan (pieces_of after) ≡ answers_from blocks version plan [] is.done ++ both
+      → Appends now next both → Appends old next (live_lines_of blocks version plan (pieces_of after))
+  serving_ends after both old now next count pending games guests number is whole wrote =
+      subst (λ t. Appends old next t) (sym whole) (appends_both old now next (answers_from blocks version plan [] is.done) both is.written wrote)
 
 -- some bytes more
 
 pub reads_more : (a b c : Option (List ℕ)) (old new : List ℕ) → Consumes a b old → ((bytes : List ℕ) × Consumes b c bytes × (new ≡ old ++ bytes)) → Consumes a c new
 reads_more a b c old new one (bytes, two, is) = subst (λ all. Consumes a c all) (sym is) (consumes_both a b c old bytes one two)
-
-pub live_of_file : (blocks : ℕ) (a b old new : Option (List ℕ)) (bytes first rest : List ℕ) (plan : Plan) → Consumes a b bytes → IsCutFirst bytes first rest
-    → plan_line_of first ≡ Ok plan → IfSome b (λ left. Appends old new (live_lines_of blocks plan.version plan.rows (pieces_of (rest ++ left))))
-    → IfSome a (λ file. Appends old new (live_of blocks file))
-live_of_file blocks None b old new bytes first rest plan read cut is told = tt
-live_of_file blocks (Some xs) None old new bytes first rest plan read cut is told = absurd read
-live_of_file blocks (Some xs) (Some ys) old new bytes first rest plan read cut is told =
-    let pieces : pieces_of xs ≡ first ∷ pieces_of (rest ++ ys) = ap pieces_of read ∙ cut ys in
-    subst (λ text. Appends old new text) (sym (live_of_first blocks xs first (pieces_of (rest ++ ys)) plan pieces is)) told
-
-pub live_of_only : (blocks : ℕ) (a b old new : Option (List ℕ)) (bytes : List ℕ) (plan : Plan) → Consumes a b bytes → IsAtEnd b → pieces_of bytes ≡ bytes ∷ []
-    → plan_line_of bytes ≡ Ok plan → Appends old new (closing_behind blocks plan.version plan.rows []) → IfSome a (λ file. Appends old new (live_of blocks file))
-live_of_only blocks a b old new bytes plan read end piece is told =
-    if_some a
-    (λ xs some all. subst (λ text. Appends old new text)
-    (sym (ap (live_of blocks) all ∙ live_of_first blocks bytes bytes [] plan piece is)) told)
-    (all_consumed a b bytes read end)

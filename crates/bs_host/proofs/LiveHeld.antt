@@ -21,15 +21,15 @@ use Rattle.bs_host.proofs.CutPieces.{fails_everywhere, is_feed}
 
 -- a text without a line feed, before another
 
-abbrev in_front : List ℕ → List (List ℕ) → List (List ℕ)
+abbrev pub in_front : List ℕ → List (List ℕ) → List (List ℕ)
 in_front [] parts = parts
 in_front (x ∷ xs) parts = onto_first x (in_front xs parts)
 
-in_front_some : (xs part : List ℕ) (parts : List (List ℕ)) → in_front xs (part ∷ parts) ≡ (xs ++ part) ∷ parts
+pub in_front_some : (xs part : List ℕ) (parts : List (List ℕ)) → in_front xs (part ∷ parts) ≡ (xs ++ part) ∷ parts
 in_front_some [] part parts = refl
 in_front_some (x ∷ xs) part parts = ap (onto_first x) (in_front_some xs part parts)
 
-pieces_in_front : (xs more : List ℕ) → All (λ byte. is_feed byte ≡ false) xs → pieces_of (xs ++ more) ≡ in_front xs (pieces_of more)
+pub pieces_in_front : (xs more : List ℕ) → All (λ byte. is_feed byte ≡ false) xs → pieces_of (xs ++ more) ≡ in_front xs (pieces_of more)
 pieces_in_front [] more none = refl
 pieces_in_front (x ∷ xs) more none =
     slice_split-cons_no is_feed x (xs ++ more) (All-head (λ byte. is_feed byte ≡ false) x xs none)
@@ -64,7 +64,7 @@ held_back text none few = λ more. held_at (MAX_LINE + 1) text more none few
 
 -- what a line is does not depend on the rest of it
 
-by_length : {C : Type 0} (k at : ℕ) → (k ≤ at → C) → (at < k → C) → C
+pub by_length : {C : Type 0} (k at : ℕ) → (k ≤ at → C) → (at < k → C) → C
 by_length zero at short long = short (omega arith)
 by_length (suc k) zero short long = long (omega arith)
 by_length (suc k) (suc at) short long = by_length k at (λ few. short (omega (arith, few))) (λ many. long (omega (arith, many)))
@@ -123,7 +123,7 @@ module _ (blocks : ℕ) (version : Version) (plan : List GameRow) where
       ∙ ap (λ l. route_line plan (acts_behind blocks version plan before) (2 + length before) (route_of (capacity_of blocks) (stays_left blocks version plan before) l))
       (line_same version text)
 
-  answers_same : (before lines : List (List ℕ))
+  pub answers_same : (before lines : List (List ℕ))
       → answers_from blocks version plan (map held_of before) (map held_of lines) ≡ answers_from blocks version plan before lines
   answers_same before [] = refl
   answers_same before (text ∷ lines) =

@@ -32,7 +32,7 @@ use Rattle.bs_host.specs.declared.route.Route.{Route}
 use Rattle.bs_host.specs.declared.route.Route.TheVariants as route
 use Rattle.bs_host.specs.Cut.{row_at}
 use Rattle.bs_host.specs.Guests.{GuestList, guests_of, guests_then, route_by}
-use Rattle.bs_host.specs.Live.{ArePlayed, HasAnswered, IsFed, act_line, acts_behind, answer_behind, answers_from, closing_line, commands_given, next_line, route_behind, route_line, rows_behind, stays_left}
+use Rattle.bs_host.specs.Live.{ArePlayed, HasAnswered, IsCoreOf, act_line, acts_behind, answer_behind, answers_from, closing_line, commands_given, next_line, route_behind, route_line, rows_behind, stays_left}
 use Rattle.bs_host.specs.Routing.{act_in, acts_in, capacity_of, next_registry, registry_behind, registry_then, route_at, route_of, routes_from}
 use Rattle.bs_host.proofs.GuestRoutes.{same_next, same_route}
 
@@ -79,7 +79,7 @@ record Holds (core : CoreView) (row : GameRow) (commands : List Command) : Type 
   is_row : (lane_of core.games.lanes 0).row ≡ row
   served : IsServedAlone row commands (lane_of core.games.lanes 0)
 
-fed_holds : (core : CoreView) (row : GameRow) (commands : List Command) → IsFed row commands core → Holds core row commands
+fed_holds : (core : CoreView) (row : GameRow) (commands : List Command) → IsCoreOf row commands core → Holds core row commands
 fed_holds core row commands fed =
     let x = lane_of core.games.lanes 0 in
     let rows : rows_made core.games.lanes ≡ row ∷ []
@@ -96,8 +96,8 @@ fed_holds core row commands fed =
           (subst (λ cs. IsServedAlone x.row cs x) given (fed.settled.served 0 there));
     }
 
-pub fed_more : (row : GameRow) (commands : List Command) (command : Command) (old new : CoreView) → IsFed row commands old
-    → IsActed old (act.Hand 0 command) new → IsFed row (commands ++ command ∷ []) new
+pub fed_more : (row : GameRow) (commands : List Command) (command : Command) (old new : CoreView) → IsCoreOf row commands old
+    → IsActed old (act.Hand 0 command) new → IsCoreOf row (commands ++ command ∷ []) new
 fed_more row commands command old new fed did =
     record {
       is_row = did.makes.plan ∙ fed.is_row;
@@ -112,7 +112,7 @@ pub replies_with : (row : GameRow) (commands : List Command) (command : Command)
 replies_with row commands command = ap (λ course. course.replies) (course_snoc row.quota commands command)
 
 pub last_reply_line : (core : CoreView) (row : GameRow) (commands : List Command) (command : Command) (count : ℕ) (reply d : Reply) (before behind : List ℕ)
-    → IsFed row (commands ++ command ∷ []) core → count ≡ length (lane_of core.games.lanes 0).replies
+    → IsCoreOf row (commands ++ command ∷ []) core → count ≡ length (lane_of core.games.lanes 0).replies
     → reply ≡ get_or (lane_of core.games.lanes 0).replies (count - 1) d
     → behind ≡ before ++ reply_line_of (lane_of core.games.lanes 0).row.game count reply → behind ≡ before ++ next_line row commands command
 unfolding next_line
@@ -132,7 +132,7 @@ last_reply_line core row commands command count reply d before behind fed many i
     ∙ ap (λ a. before ++ reply_line_of row.game (length commands + 1) a) at
 
 pub last_line : (core : CoreView) (row : GameRow) (commands : List Command) (board : Option Board) (charge : ℕ) (before behind : List ℕ)
-    → IsFed row commands core → board ≡ last_board (lane_of core.games.lanes 0).game → charge ≡ game_charge (lane_of core.games.lanes 0).game
+    → IsCoreOf row commands core → board ≡ last_board (lane_of core.games.lanes 0).game → charge ≡ game_charge (lane_of core.games.lanes 0).game
     → behind ≡ before ++ final_line_of (lane_of core.games.lanes 0).row.game board charge → behind ≡ before ++ closing_line row commands
 unfolding closing_line
 last_line core row commands board charge before behind fed shown charged told =

@@ -16,7 +16,7 @@ use Rattle.bs_workers.specs.declared.act.Act.{Act}
 use Rattle.bs_workers.specs.declared.act.Act.TheVariants as act
 use Rattle.bs_workers.specs.Acts.{rows_admitted}
 use Rattle.bs_host.specs.Cut.{row_at}
-use Rattle.bs_host.specs.Live.{ArePlayed, IsAt, IsFed, IsPlayed, commands_given, rows_behind}
+use Rattle.bs_host.specs.Live.{ArePlayed, IsAt, IsCoreOf, IsPlayed, commands_given, rows_behind}
 use Rattle.bs_host.proofs.LiveLines.{given_append, rows_append}
 
 Game : Type 0
@@ -44,14 +44,14 @@ row_kept plan acts more stay inside =
     ∙ get_or_append_left (rows_behind plan acts) (rows_admitted more) (row_of [] 0) stay inside
 
 played_with : (plan : List GameRow) (acts more : List Act) (stay : ℕ) (commands : List Command) (core : CoreView) → stay < length (rows_behind plan acts)
-    → IsFed (row_at (rows_behind plan acts) stay) commands core → commands_given stay (acts ++ more) ≡ commands → IsPlayed plan (acts ++ more) (stay, core)
+    → IsCoreOf (row_at (rows_behind plan acts) stay) commands core → commands_given stay (acts ++ more) ≡ commands → IsPlayed plan (acts ++ more) (stay, core)
 played_with plan acts more stay commands core inside fed given =
     let many = many_more plan acts more in
     record {
       made = omega (arith, inside, many);
       fed =
-          subst (λ r. IsFed r (commands_given stay (acts ++ more)) core) (sym (row_kept plan acts more stay inside))
-          (subst (λ cs. IsFed (row_at (rows_behind plan acts) stay) cs core) (sym given) fed);
+          subst (λ r. IsCoreOf r (commands_given stay (acts ++ more)) core) (sym (row_kept plan acts more stay inside))
+          (subst (λ cs. IsCoreOf (row_at (rows_behind plan acts) stay) cs core) (sym given) fed);
     }
 
 played_kept : (plan : List GameRow) (acts more : List Act) (game : ℕ × CoreView) → IsPlayed plan acts game → commands_given game.0 more ≡ [] → IsPlayed plan (acts ++ more) game
@@ -73,10 +73,10 @@ plays_kept plan acts games are = subst (λ all. ArePlayed plan all games) (sym (
 -- a game at its place
 
 pub fed_at : (plan : List GameRow) (acts : List Act) (games : List (ℕ × CoreView)) (stay at : ℕ) (d : ℕ × CoreView) → ArePlayed plan acts games → IsAt games stay at
-    → IsFed (row_at (rows_behind plan acts) stay) (commands_given stay acts) (get_or games at d).1
+    → IsCoreOf (row_at (rows_behind plan acts) stay) (commands_given stay acts) (get_or games at d).1
 fed_at plan acts games stay at d are is =
     let number : (get_or games at d).0 ≡ stay = is.number d in
-    subst (λ n. IsFed (row_at (rows_behind plan acts) n) (commands_given n acts) (get_or games at d).1) number (are.all at d is.inside).fed
+    subst (λ n. IsCoreOf (row_at (rows_behind plan acts) n) (commands_given n acts) (get_or games at d).1) number (are.all at d is.inside).fed
 
 -- one more command
 
@@ -93,7 +93,7 @@ number_kept games at k new d same =
     ∙ get_or-map number games k d
 
 pub plays_handed : (plan : List GameRow) (acts : List Act) (stay at : ℕ) (command : Command) (games : List (ℕ × CoreView)) (core : CoreView) → IsAt games stay at
-    → ArePlayed plan acts games → IsFed (row_at (rows_behind plan acts) stay) (commands_given stay acts ++ command ∷ []) core
+    → ArePlayed plan acts games → IsCoreOf (row_at (rows_behind plan acts) stay) (commands_given stay acts ++ command ∷ []) core
     → ArePlayed plan (acts ++ act.Hand stay command ∷ []) (set games at (stay, core))
 plays_handed plan acts stay at command games core is are fed =
     let more = act.Hand stay command ∷ [] in
@@ -133,7 +133,7 @@ plays_handed plan acts stay at command games core is are fed =
 -- an admission
 
 pub plays_admitted : (plan : List GameRow) (acts : List Act) (stay : ℕ) (row : GameRow) (core : CoreView) (games : List (ℕ × CoreView)) → stay ≡ length (rows_behind plan acts)
-    → IsFed row [] core → ArePlayed plan acts games → ArePlayed plan (acts ++ act.Admit row ∷ []) (games ++ (stay, core) ∷ [])
+    → IsCoreOf row [] core → ArePlayed plan acts games → ArePlayed plan (acts ++ act.Admit row ∷ []) (games ++ (stay, core) ∷ [])
 plays_admitted plan acts stay row core games next fed are =
     let more = act.Admit row ∷ [] in
     let many = many_more plan acts more in
@@ -145,8 +145,8 @@ plays_admitted plan acts stay row core games next fed are =
     = record {
       made = omega (arith, next, many);
       fed =
-          subst (λ r. IsFed r (commands_given stay (acts ++ more)) core) (sym is)
-          (subst (λ cs. IsFed row cs core) (sym given) fed);
+          subst (λ r. IsCoreOf r (commands_given stay (acts ++ more)) core) (sym is)
+          (subst (λ cs. IsCoreOf row cs core) (sym given) fed);
     } in
     record {
       all =
@@ -191,15 +191,15 @@ none_opened rows =
     }
 
 pub one_more_opened : (rows : List GameRow) (index : ℕ) (row : GameRow) (core : CoreView) (games : List (ℕ × CoreView)) → index < length rows
-    → row ≡ get_or rows index row → IsFed row [] core
+    → row ≡ get_or rows index row → IsCoreOf row [] core
     → AreOpened rows index games → AreOpened rows (index + 1) (games ++ (index, core) ∷ [])
 one_more_opened rows index row core games inside is it are =
-    let fed : IsFed (row_at rows index) [] core = subst (λ r. IsFed r [] core) (is ∙ default_any rows index row (row_of [] 0) inside) it in
+    let fed : IsCoreOf (row_at rows index) [] core = subst (λ r. IsCoreOf r [] core) (is ∙ default_any rows index row (row_of [] 0) inside) it in
     let whole : rows_behind rows [] ≡ rows = append-nil rows in
     let few : length (rows_behind rows []) ≡ length rows = ap length whole in
     let played = are.played in
     let new : IsPlayed rows [] (index, core)
-    = record { made = omega (arith, inside, few); fed = subst (λ all. IsFed (row_at all index) [] core) (sym whole) fed } in
+    = record { made = omega (arith, inside, few); fed = subst (λ all. IsCoreOf (row_at all index) [] core) (sym whole) fed } in
     record {
       played =
           record {

@@ -1,5 +1,5 @@
 //! The lines of a file, split off one after the other.
-ghost use Rattle.std.specs.Prelude.{◌≡◌, ◌==◌, ◌+◌, ◌<◌, ◌≤◌, ◌^◌, [], ◌∷◌, ◌++◌, length, option_copied, IfSome, IsNone};
+ghost use Rattle.std.specs.Prelude.{◌≡◌, ◌==◌, ◌+◌, ◌<◌, ◌≤◌, ◌^◌, [], ◌∷◌, ◌++◌, length, option_copied, IfSome, IsNone, None};
 ghost use Rattle.bs_host.specs.Live.{IsCutFirst, IsCutLast};
 ghost use Rattle.std.specs.List.{position};
 ghost use Rattle.bs_host.specs.File.{pieces_of, pieces_after};
@@ -40,10 +40,10 @@ pub(crate) fn split_from(text: &[u8], place: usize) -> Option<(&[u8], &[u8])>
 }
 
 /// Splits a text at its first line feed, if there is one.
-#[tactic(auto, using(crate::proofs::LivePieces::first_cut, crate::proofs::LivePieces::no_cut))]
+#[tactic(auto, using(crate::proofs::LivePieces::first_cut))]
 pub(crate) fn split_first(text: &[u8]) -> Option<(&[u8], &[u8])>
     ensures some { IfSome result (λ cut. IsCutFirst text.now cut.0.now cut.1.now) }
-    ensures none { IsNone result → pieces_of text.now ≡ text.now ∷ [] }
+    ensures none { IsNone result → position (λ byte. byte == LINE_FEED) text.now ≡ None }
 {
     let at = first_feed(text)?;
     Some((&text[..at], &text[at + 1..]))

@@ -15,6 +15,6 @@ returns-clause-serving g c =
     let cut : IsCutLast c.args.pending.now.items c.in-Some.front.now back = rw c.deref.ensures.value at c.in-Some.ensures in
     let told = rw c.new-text.ensures.items at c.in_ok-answer_all.ensures.text in
     let wrote = rw c.deref-2.ensures.value at c.in_ok-write_out.ensures in
-    subst (λ p. IsServing host.blocks host.version plan after p first next new.games.items new.guests new.number) (sym same)
-    (serving_answers host.blocks host.version plan after c.args.pending.now.items c.in-Some.front.now back c.answer_all.new.text.items first old next host.games.items new.games.items
+    subst (λ p. IsServing host.blocks host.version plan after p first next new.cores.open.items new.guests new.number) (sym same)
+    (serving_answers host.blocks host.version plan after c.args.pending.now.items c.in-Some.front.now back c.answer_all.new.text.items first old next host.cores.open.items new.cores.open.items
     host.guests new.guests host.number new.number is cut (λ before has. c.in_ok-answer_all.ensures.answered plan before has) (λ before has. told plan before has) wrote)

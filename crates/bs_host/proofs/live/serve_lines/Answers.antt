@@ -15,8 +15,8 @@ loop-init g c = (
       let first = g.W.Write.contents c.args.output.now in (
         [],
         consumes_none (g.R.Read.remaining c.args.input.now),
-        subst (λ after. IsServing host.blocks host.version plan after pending first first host.games.items host.guests host.number) (sym (append-nil pending))
-            (serving_begins host.blocks host.version plan pending first host.games.items host.guests host.number is),
+        subst (λ after. IsServing host.blocks host.version plan after pending first first host.cores.open.items host.guests host.number) (sym (append-nil pending))
+            (serving_begins host.blocks host.version plan pending first host.cores.open.items host.guests host.number is),
       ),
 )
 
@@ -36,11 +36,11 @@ loop-preserved g c =
           let (bytes, before, serving) = inv.2 plan is in (
             bytes ++ more,
             consumes_both (g.R.Read.remaining c.args.input.now) (g.R.Read.remaining c.loop.input) (g.R.Read.remaining c.read_more.new.input) bytes more before read,
-            subst (λ after. IsServing host.blocks host.version plan after c.read_more.new.pending.items first now new.games.items new.guests new.number)
+            subst (λ after. IsServing host.blocks host.version plan after c.read_more.new.pending.items first now new.cores.open.items new.guests new.number)
                 (append_assoc pending bytes more)
-                (serving_reads host.blocks host.version plan (pending ++ bytes) c.hold_line.new.pending.items c.read_more.new.pending.items more first now new.games.items
+                (serving_reads host.blocks host.version plan (pending ++ bytes) c.hold_line.new.pending.items c.read_more.new.pending.items more first now new.cores.open.items
                 new.guests new.number (serving_holds host.blocks host.version plan (pending ++ bytes) c.answer_ready.new.pending.items c.hold_line.new.pending.items first now
-                new.games.items new.guests new.number (serves plan (pending ++ bytes) first serving) c.hold_line.ensures) got),
+                new.cores.open.items new.guests new.number (serves plan (pending ++ bytes) first serving) c.hold_line.ensures) got),
           ),
     )
 
@@ -57,12 +57,12 @@ returns-then-not-branch g c =
     let serves = rw (inv.0, inv.1) at c.in_ok-answer_ready.ensures.serving in
     let (more, read, got) = c.in_ok-read_more.ensures.bytes in
     let (bytes, before, serving) = inv.2 plan is in
-    let served : IsServing host.blocks host.version plan (pending ++ (bytes ++ more)) c.read_more.new.pending.items first now new.games.items new.guests new.number
-    = subst (λ after. IsServing host.blocks host.version plan after c.read_more.new.pending.items first now new.games.items new.guests new.number)
+    let served : IsServing host.blocks host.version plan (pending ++ (bytes ++ more)) c.read_more.new.pending.items first now new.cores.open.items new.guests new.number
+    = subst (λ after. IsServing host.blocks host.version plan after c.read_more.new.pending.items first now new.cores.open.items new.guests new.number)
     (append_assoc pending bytes more)
-    (serving_reads host.blocks host.version plan (pending ++ bytes) c.hold_line.new.pending.items c.read_more.new.pending.items more first now new.games.items
+    (serving_reads host.blocks host.version plan (pending ++ bytes) c.hold_line.new.pending.items c.read_more.new.pending.items more first now new.cores.open.items
     new.guests new.number (serving_holds host.blocks host.version plan (pending ++ bytes) c.answer_ready.new.pending.items c.hold_line.new.pending.items first now
-                new.games.items new.guests new.number (serves plan (pending ++ bytes) first serving) c.hold_line.ensures) got) in
+                new.cores.open.items new.guests new.number (serves plan (pending ++ bytes) first serving) c.hold_line.ensures) got) in
     let same_blocks = c.in_ok-answer_ready.ensures.blocks ∙ inv.0 in
     let same_version = c.in_ok-answer_ready.ensures.version ∙ inv.1 in
     let ends = rw (same_blocks, same_version, c.deref.ensures.value) at c.in_ok-end_live.ensures in

@@ -2,7 +2,7 @@ use Rattle.std.proofs.Common.{ℕ, rules, not}
 use Rattle.std.specs.Prelude.{nat_eq}
 use Rattle.std.proofs.lemmas.Fn.{filter_same}
 use Rattle.bs_sched.specs.Core.{CoreView}
-use Rattle.bs_host.proofs.live.drop_game.Goals as goal
+use Rattle.bs_host.proofs.stay_cores.drop_core.Goals as goal
 
 pub returns : goal.returns
 returns c =

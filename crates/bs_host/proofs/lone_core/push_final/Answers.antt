@@ -2,7 +2,7 @@ use Rattle.std.proofs.Common.{◌≡◌, ◌<◌, ◌++◌, length, arith, rules
 use Rattle.bs_json.specs.Replies.{final_line_of}
 use Rattle.bs_sched.specs.Machine.{lane_of}
 use Rattle.bs_host.proofs.LiveLines.{last_line}
-use Rattle.bs_host.proofs.live.push_final.Goals as goal
+use Rattle.bs_host.proofs.lone_core.push_final.Goals as goal
 
 pub returns : goal.returns
 returns c =

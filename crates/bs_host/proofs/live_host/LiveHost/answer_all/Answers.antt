@@ -2,7 +2,7 @@ use Rattle.std.proofs.Common.{◌≡◌, ◌∷◌, ap, ◌∙◌}
 use Rattle.std.specs.Prelude.{option_copied}
 use Rattle.bs_host.specs.File.{pieces_after, pieces_of}
 use Rattle.bs_host.proofs.LiveTexts.{one_more_answered}
-use Rattle.bs_host.proofs.live.LiveHost.answer_all.Goals as goal
+use Rattle.bs_host.proofs.live_host.LiveHost.answer_all.Goals as goal
 
 pub lines-preserved : goal.lines-preserved
 lines-preserved c =
@@ -18,6 +18,6 @@ lines-preserved c =
       c.in_ok-answer.ensures.version ∙ inv.1,
       λ plan before is.
           one_more_answered host.blocks host.version plan before (pieces_of c.args.lines.now) (pieces_after (option_copied c.lines.left)) more line
-          c.args.text.now.items c.lines.text.items c.answer.new.text.items c.lines.self.games.items c.answer.new.self.games.items c.lines.self.guests c.answer.new.self.guests
+          c.args.text.now.items c.lines.text.items c.answer.new.text.items c.lines.self.cores.open.items c.answer.new.self.cores.open.items c.lines.self.guests c.answer.new.self.guests
           c.lines.self.number c.answer.new.self.number (inv.2 plan before is) left (λ lines has. (answered plan lines has, told plan lines has)),
     )

@@ -3,7 +3,7 @@ use Rattle.bs_board.specs.declared.commands.reply.Reply.{Reply}
 use Rattle.bs_json.specs.Replies.{reply_line_of}
 use Rattle.bs_sched.specs.Machine.{lane_of}
 use Rattle.bs_host.proofs.LiveLines.{last_reply_line}
-use Rattle.bs_host.proofs.live.push_reply.Goals as goal
+use Rattle.bs_host.proofs.lone_core.push_reply.Goals as goal
 
 pub returns : goal.returns
 returns c =
