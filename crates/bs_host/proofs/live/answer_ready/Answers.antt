@@ -1,6 +1,10 @@
-use Rattle.std.proofs.Common.{◌≡◌, sym, subst, rules}
-use Rattle.bs_host.specs.Live.{IsCutLast, IsServing}
+use Rattle.std.proofs.Common.{◌≡◌, ◌+◌, ◌++◌, List, ℕ, length, sym, subst, rules}
+use Rattle.std.specs.Io.KnownBytes.{Appends}
+use Rattle.bs_host.specs.File.{pieces_of}
+use Rattle.bs_host.specs.Live.{IsCutLast, IsServing, answers_from}
+use Rattle.bs_host.specs.LiveFaults.{LeavesLines, LeavesText}
 use Rattle.bs_host.proofs.LiveBytes.{serving_answers}
+use Rattle.bs_host.proofs.LiveStops.{run_leaves, serving_first, serving_text, text_leaves}
 use Rattle.bs_host.proofs.live.answer_ready.Goals as goal
 
 pub returns-clause-serving : goal.returns-clause-serving
@@ -14,7 +18,9 @@ returns-clause-serving g c =
     let same : c.extend_from_slice.new.self.items ≡ back = search rules in
     let cut : IsCutLast c.args.pending.now.items c.in-Some.front.now back = rw c.deref.ensures.value at c.in-Some.ensures in
     let told = rw c.new-text.ensures.items at c.in_ok-answer_all.ensures.text in
-    let wrote = rw c.deref-2.ensures.value at c.in_ok-write_out.ensures in
-    subst (λ p. IsServing host.blocks host.version plan after p first next new.cores.open.items new.guests new.number) (sym same)
-    (serving_answers host.blocks host.version plan after c.args.pending.now.items c.in-Some.front.now back c.answer_all.new.text.items first old next host.cores.open.items new.cores.open.items
-    host.guests new.guests host.number new.number is cut (λ before has. c.in_ok-answer_all.ensures.answered plan before has) (λ before has. told plan before has) wrote)
+    let wrote = rw c.deref-2.ensures.value at c.in_ok-write_out.ensures.text in
+    let adds = rw c.deref-2.ensures.value at c.in_ok-write_out.ensures.count in
+    subst (λ p. IsServing host.blocks host.version plan after p first next c.write_out.new.written new.cores.open.items new.guests new.number) (sym same)
+    (serving_answers host.blocks host.version plan after c.args.pending.now.items c.in-Some.front.now back c.answer_all.new.text.items first old next c.args.written.now
+    c.write_out.new.written host.cores.open.items new.cores.open.items host.guests new.guests host.number new.number is cut
+    (λ before has. c.in_ok-answer_all.ensures.answered plan before has) (λ before has. told plan before has) wrote adds)

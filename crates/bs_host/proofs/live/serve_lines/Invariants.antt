@@ -11,4 +11,4 @@ invariant-loop g l =
     × ((plan : List GameRow) → HasAnswered l.fn.host.blocks l.fn.host.version plan [] l.fn.host.cores.open.items l.fn.host.guests l.fn.host.number
     → (bytes : List ℕ) × Consumes (g.R.Read.remaining l.fn.input) (g.R.Read.remaining l.input) bytes
     × IsServing l.fn.host.blocks l.fn.host.version plan (l.fn.pending.items ++ bytes) l.pending.items (g.W.Write.contents l.fn.output) (g.W.Write.contents l.output)
-    l.host.cores.open.items l.host.guests l.host.number)
+    l.written l.host.cores.open.items l.host.guests l.host.number)
