@@ -8,6 +8,7 @@ mod executor;
 mod fault;
 mod gate;
 mod runs;
+mod single;
 mod state;
 #[cfg(test)]
 mod tests;
@@ -17,3 +18,4 @@ pub use act::Act;
 pub use fault::Run;
 pub use gate::{Gate, OpenGate};
 pub use runs::run;
+pub use single::{is_settled, run_command};
