@@ -89,7 +89,7 @@ commands_step stay (route.Stray kind) acts = refl
 commands_step stay route.Nowhere acts = refl
 
 module _ (capacity : Capacity) (version : Version) where
-  rows_made : (registry : List Stay) (number : ℕ) (lines : List (List ℕ))
+  pub rows_made : (registry : List Stay) (number : ℕ) (lines : List (List ℕ))
       → rows_in_registry (registry_behind capacity version registry lines) ≡ rows_in_registry registry ++ rows_admitted (acts_in (routes_from capacity version registry number lines))
   rows_made registry number [] = sym (append-nil (rows_in_registry registry))
   rows_made registry number (text ∷ lines) =

@@ -13,6 +13,15 @@ pub mod FoundLines
 pub mod FoundStays
 pub mod GuestRoutes
 pub mod HostedCore
+pub mod LiveBytes
+pub mod LiveHeld
+pub mod LiveLaw
+pub mod LiveLines
+pub mod LivePieces
+pub mod LivePlays
+pub mod LiveRefusals
+pub mod LiveStops
+pub mod LiveTexts
 pub mod OpenStays
 pub mod OwnLines
 pub mod ParsedLines

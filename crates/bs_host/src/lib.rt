@@ -17,11 +17,16 @@ mod limits;
 #[cfg(test)]
 mod limits_tests;
 mod lines;
+mod live;
+mod live_fault;
+mod live_host;
+mod lone_core;
 mod parse;
 mod read;
 mod render;
 mod route;
 mod serving;
+mod stay_cores;
 #[cfg(test)]
 mod stays_tests;
 #[cfg(test)]
@@ -31,5 +36,7 @@ pub use cut_fault::Cut;
 pub use cutting::{cut, section_law};
 pub use fault::{Fault, PlanRefusal};
 pub use limits::{BLOCK_BYTES, MOST_FILE_BYTES};
+pub use live::{live_law, serve_live};
+pub use live_fault::LiveFault;
 pub use read::{ReadFault, read_input};
 pub use serving::serve;
