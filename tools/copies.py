@@ -17,7 +17,7 @@ def dependencies():
     return found
 
 
-def chosen(names, uses):
+def choose(names, uses):
     """The named crates, or all. Ends the program where a name is no crate's."""
     unknown = [name for name in names if name not in uses]
     if unknown:
@@ -33,7 +33,7 @@ def below(name, uses):
     return found
 
 
-def copied(name, uses, scratch):
+def copy_crate(name, uses, scratch):
     """Copies what a check of the crate reads, with its kept proofs. Returns its folder there."""
     if (ROOT / "HANDLES").exists():
         shutil.copy2(ROOT / "HANDLES", scratch)
@@ -57,7 +57,7 @@ def pairs(edit):
     return texts[0], list(zip(texts[1::2], texts[2::2]))
 
 
-def applied(edit):
+def apply(edit):
     """The file that an edit changes, its text after the edit or None, and why it is None."""
     path, changes = pairs(edit)
     file = edit.parent.parent / path
