@@ -24,7 +24,7 @@ def run_bytes(*words, text=b"", **more):
 
 
 def run(*words, text=""):
-    """Does the same with texts for bytes."""
+    """Runs the program as `run_bytes` does, with texts in place of bytes."""
     status, output, errors = run_bytes(*words, text=text.encode())
     return status, output.decode(), errors.decode()
 

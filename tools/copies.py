@@ -1,6 +1,5 @@
 """What tools/twins and tools/edits share: reading edits, and copies of crates to try them in."""
 import shutil
-import subprocess
 import sys
 from pathlib import Path
 
@@ -34,15 +33,18 @@ def below(name, uses):
 
 
 def copy_crate(name, uses, scratch):
-    """Copies what a check of the crate reads, with its kept proofs. Returns its folder there."""
+    """Copies what a check of the crate reads, with its kept proofs and the built libraries that it
+    stands on. Returns its folder there."""
     if (ROOT / "HANDLES").exists():
         shutil.copy2(ROOT / "HANDLES", scratch)
     (scratch / "crates").mkdir()
     lines = []
     for crate in below(name, uses):
         lines.append(f"{crate}: {' '.join(uses[crate])}\n")
-        words = ["cp", "-a", "--reflink=auto", ROOT / "crates" / crate, scratch / "crates"]
-        subprocess.run(words, check=True)
+        source = ROOT / "crates" / crate
+        is_used_built = crate != name and (source / "out/rlib/stamp").exists()
+        left_out = shutil.ignore_patterns(*["incremental"] * is_used_built)
+        shutil.copytree(source, scratch / "crates" / crate, ignore=left_out)
     (scratch / "crates.txt").write_text("".join(lines))
     return scratch / "crates" / name
 

@@ -15,32 +15,44 @@ function cellsPicture({ width, height }) {
 
 function foodPicture(cell, height) {
   const { x, y } = middleOf(cell, height);
-  return drawn('circle', { class: 'food', cx: x, cy: y, r: 0.26, 'data-x': cell.x, 'data-y': cell.y });
+  const place = { cx: x, cy: y, r: 0.26, 'data-x': cell.x, 'data-y': cell.y };
+  return drawn('circle', { class: 'food', ...place });
 }
 
-/** The seats of the snakes that are drawn: those that are out below the living, and of an earlier turn only where they are wished for. */
+/**
+ * The seats of the snakes that are drawn: those that are out below the living, and of an earlier
+ * turn only where they are wished for.
+ */
 function seatsToDraw(board, withEarlier) {
   const seats = [...board.snakes.keys()];
   const isOut = (seat) => !isLiving(board.snakes[seat]);
   const isShown = (seat) => withEarlier || board.snakes[seat].out === board.turn;
-  return [...seats.filter((seat) => isOut(seat) && isShown(seat)), ...seats.filter((seat) => !isOut(seat))];
+  const out = seats.filter((seat) => isOut(seat) && isShown(seat));
+  return [...out, ...seats.filter((seat) => !isOut(seat))];
+}
+
+function wordsOfSnake(snake) {
+  const [head] = snake.body;
+  const place = `at ${head.x}, ${head.y}`;
+  const state = `${place}, health ${snake.health}, length ${snake.body.length}`;
+  return isLiving(snake) ? state : fateOf(snake);
 }
 
 /** What a board holds, in words for those who don't see it. */
 function wordsOfBoard(board) {
-  const snakes = board.snakes.map((snake) => `${snake.id} ${isLiving(snake)
-    ? `at ${snake.body[0].x}, ${snake.body[0].y}, health ${snake.health}, length ${snake.body.length}` : fateOf(snake)}`);
+  const snakes = board.snakes.map((snake) => `${snake.id} ${wordsOfSnake(snake)}`);
   return `Board of turn ${board.turn}. ${snakes.join('; ')}. Food: ${board.food.length}.`;
 }
 
 /** Draws a board into an SVG element, in place of what stood there. */
 function drawBoard(svg, board, withEarlier) {
   const { width, height } = board;
+  const seats = seatsToDraw(board, withEarlier);
   svg.setAttribute('viewBox', `-1 -1 ${width + 2} ${height + 2}`);
   svg.setAttribute('aria-label', wordsOfBoard(board));
   svg.replaceChildren(
     cellsPicture(board),
     drawn('rect', { class: 'wall', x: 0, y: 0, width, height }),
     ...board.food.map((cell) => foodPicture(cell, height)),
-    ...seatsToDraw(board, withEarlier).map((seat) => snakePicture(board.snakes[seat], seat, board)));
+    ...seats.map((seat) => snakePicture(board.snakes[seat], seat, board)));
 }

@@ -2,7 +2,10 @@
 // apart by hue alone.
 'use strict';
 
-/** The colours differ in lightness as well as hue; the test measures how far apart they are for colour-blind eyes. */
+/**
+ * The colours differ in lightness as well as hue; the test measures how far apart they are for
+ * colour-blind eyes.
+ */
 const SEATS = [
   { colour: '#d17700', mark: 'plain' },
   { colour: '#07059c', mark: 'line' },

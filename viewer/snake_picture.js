@@ -7,17 +7,24 @@ function middleOf(cell, height) {
   return { x: cell.x + 0.5, y: height - cell.y - 0.5 };
 }
 
-/** The line from a part to the next: across an edge of a wrapped board to that edge, and on from the opposite one. */
+/**
+ * The line from a part to the next: across an edge of a wrapped board to that edge, and on from
+ * the opposite one.
+ */
 function lineBetween(from, to, step, height) {
   const { x, y } = middleOf(to, height);
   if (to.x - from.x === step.x && to.y - from.y === step.y) {
     return `L${x} ${y}`;
   }
   const before = middleOf(from, height);
-  return `L${before.x + step.x / 2} ${before.y - step.y / 2}M${x - step.x / 2} ${y + step.y / 2}L${x} ${y}`;
+  const toEdge = `L${before.x + step.x / 2} ${before.y - step.y / 2}`;
+  return `${toEdge}M${x - step.x / 2} ${y + step.y / 2}L${x} ${y}`;
 }
 
-/** The line along a body. It is broken at an edge that the body crosses, and where two parts that follow each other are no neighbours. */
+/**
+ * The line along a body. It is broken at an edge that the body crosses, and where two parts that
+ * follow each other are no neighbours.
+ */
 function pathAlong(body, board) {
   let path = '';
   let before = null;
@@ -34,7 +41,10 @@ function pathAlong(body, board) {
   return path;
 }
 
-/** A head with two eyes, drawn as it looks to the right and then turned; one without a direction looks out of the picture. */
+/**
+ * A head with two eyes, drawn as it looks to the right and then turned; one without a direction
+ * looks out of the picture.
+ */
 function headPicture(body, board, colour) {
   const { x, y } = middleOf(body[0], board.height);
   const direction = directionOf(body, board);
@@ -51,10 +61,14 @@ function headPicture(body, board, colour) {
       drawn('circle', { ...at, cx: at.cx + (direction ? 0.05 : 0), r: 0.07, class: 'pupil' }),
     ];
   });
-  return drawn('g', { class: 'head', transform: `translate(${x} ${y}) rotate(${turn})` }, shape, ...eyes);
+  const transform = `translate(${x} ${y}) rotate(${turn})`;
+  return drawn('g', { class: 'head', transform }, shape, ...eyes);
 }
 
-/** The cross over the part behind the head of a snake that is out: its head may lie under the snake that it ran into. */
+/**
+ * The cross over the part behind the head of a snake that is out: its head may lie under the snake
+ * that it ran into.
+ */
 function crossPicture(body, height) {
   const { x, y } = middleOf(body[1], height);
   return drawn('path', { class: 'cross', d: `M${x - 0.3} ${y - 0.3}l.6 .6m0-.6l-.6 .6` });
@@ -81,7 +95,8 @@ function snakePicture(snake, seat, board) {
 /** A small snake that shows how a seat looks. */
 function swatchPicture(seat, lives = true) {
   const body = [{ x: 2, y: 0 }, { x: 1, y: 0 }, { x: 0, y: 0 }];
-  const snake = lives ? { body, id: '', cause: null } : { body, id: '', cause: 'wall-collision', by: null, out: 1 };
+  const fate = lives ? { cause: null } : { cause: 'wall-collision', by: null, out: 1 };
+  const snake = { body, id: '', ...fate };
   const picture = snakePicture(snake, seat, { mode: 'solo', width: 3, height: 1 });
   picture.firstChild.remove();
   return drawn('svg', { class: 'swatch', viewBox: '0 0 3 1', 'aria-hidden': 'true' }, picture);
