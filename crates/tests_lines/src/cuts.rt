@@ -1,8 +1,10 @@
 //! What is left of a file for one game.
 use crate::files::{SOLO, TWO_GAMES};
+use crate::lengths::feeds_to;
+use crate::rows::{joined, rows_text};
 use crate::serving::{StayName, cut_text};
 use bs_samples::same;
-use std::alloc::{AllocError, Global};
+use std::alloc::Global;
 use std::test::Fail;
 
 const FIRST_GAME: &str = r#"{"games":[{"game":"a","quota":64}]}
@@ -71,23 +73,14 @@ fn files_and_their_cuts(rt: HostRuntime) -> Result<(), Fail> {
     Ok(())
 }
 
-// A plan of 65 games.
-fn many_games(alloc: Global) -> Result<String, AllocError> {
-    let mut plan = String::from_str(alloc, "{\"games\":[{\"game\":\"g\",\"quota\":64}")?;
-    for index in 0..64u8 {
-        plan.push_str(&format!(in alloc; ",{{\"game\":\"g{index}\",\"quota\":64}}")?)?;
-    }
-    plan.push_str("]}")?;
-    Ok(plan)
-}
-
 // The length is judged before the plan, and the plan before the name.
 #[test]
 fn cuts_are_refused_in_order(rt: HostRuntime) -> Result<(), Fail> {
     let alloc = rt.alloc();
-    is_cut_to(alloc, many_games(alloc)?.as_str(), "a", "plan P3")?;
-    let mut file = String::from_str(alloc, r#"{"games":[]}"#)?;
-    file.push_str("\n".repeat(alloc, 16_777_216 - 12)?.as_str())?;
+    let rows = rows_text(alloc, 65, 64)?;
+    let plan = joined(alloc, &["{\"games\":[", rows.as_str(), "]}"])?;
+    is_cut_to(alloc, plan.as_str(), "a", "plan P3")?;
+    let mut file = feeds_to(alloc, 16_777_216)?;
     is_cut_to(alloc, file.as_str(), "a", "no such game")?;
     file.push('\n')?;
     is_cut_to(alloc, file.as_str(), "a", "file too long")

@@ -1,26 +1,21 @@
 //! Writers and readers of the host that fail at each place: nothing is tried again.
 use crate::fakes::{FalteringReader, NarrowWriter, StumblingWriter};
 use crate::files::{SOLO, SOLO_TEXT, TWO_GAMES};
-use bs_host::{read_input, serve};
+use crate::serving::{Run, outcome};
+use bs_host::read_input;
 use bs_samples::same;
 use bs_workers::OpenGate;
 use std::alloc::{AllocError, Global};
-use std::io::{ErrorKind, Write};
+use std::io::ErrorKind;
 use std::sync::Wait;
 use std::test::Fail;
 use std::thread::Threads;
 
-// What is told of a run that writes to this writer.
-fn told_of<R: Threads + Wait + Sync, W: Write>(
-    rt: &R,
-    alloc: Global,
-    output: &mut W,
-) -> Result<String, AllocError> {
-    match serve(rt, alloc, SOLO.as_bytes(), 6, 2, &OpenGate, output) {
-        Ok(_) => String::from_str(alloc, "served"),
-        Err(fault) => format!(in alloc; "{fault}"),
-    }
-}
+const SOLO_RUN: Run<'static> = Run {
+    file: SOLO,
+    blocks: 6,
+    workers: 2,
+};
 
 const KINDS: [Option<ErrorKind>; 4] = [
     Some(ErrorKind::BrokenPipe),
@@ -49,7 +44,7 @@ fn writers_that_fail_once(rt: HostRuntime) -> Result<(), Fail> {
     let alloc = rt.alloc();
     for place in 0..SOLO_TEXT.len() + 1 {
         let mut output = StumblingWriter::new(alloc, place, KINDS[place % 4]);
-        let told = told_of(&rt, alloc, &mut output)?;
+        let told = outcome(&rt, alloc, SOLO_RUN, &OpenGate, &mut output)?;
         same(
             "the fault",
             told.as_str(),
@@ -60,30 +55,33 @@ fn writers_that_fail_once(rt: HostRuntime) -> Result<(), Fail> {
     Ok(())
 }
 
-// A writer that takes a byte a call and then nothing more.
+// Compares the fault of a writer that takes a byte a call, so many of them, and what it took.
+fn is_cut_off<R: Threads + Wait + Sync>(
+    rt: &R,
+    alloc: Global,
+    room: usize,
+    failure: Option<ErrorKind>,
+    fault: &str,
+) -> Result<(), Fail> {
+    let mut output = NarrowWriter::new(alloc, room, 1, failure);
+    let told = outcome(rt, alloc, SOLO_RUN, &OpenGate, &mut output)?;
+    same("the fault", told.as_str(), fault)?;
+    is_front(output.taken.as_slice(), room)
+}
+
 #[test]
 fn writers_that_fail_have_a_prefix(rt: HostRuntime) -> Result<(), Fail> {
-    let alloc = rt.alloc();
-    for (room, failure, wanted) in [
-        (
-            1_000,
-            Some(ErrorKind::BrokenPipe),
-            "write failed after 1000 bytes",
-        ),
-        (
-            10,
-            Some(ErrorKind::Interrupted),
-            "write failed after 10 bytes",
-        ),
-        (0, None, "write failed after 0 bytes"),
-        (5_000, None, "served"),
-    ] {
-        let mut output = NarrowWriter::new(alloc, room, 1, failure);
-        let told = told_of(&rt, alloc, &mut output)?;
-        same("the fault", told.as_str(), wanted)?;
-        is_front(output.taken.as_slice(), room)?;
-    }
-    Ok(())
+    let (pipe, signal) = (Some(ErrorKind::BrokenPipe), Some(ErrorKind::Interrupted));
+    is_cut_off(
+        &rt,
+        rt.alloc(),
+        1_000,
+        pipe,
+        "write failed after 1000 bytes",
+    )?;
+    is_cut_off(&rt, rt.alloc(), 10, signal, "write failed after 10 bytes")?;
+    is_cut_off(&rt, rt.alloc(), 0, None, "write failed after 0 bytes")?;
+    is_cut_off(&rt, rt.alloc(), 5_000, None, "served")
 }
 
 // What is told of a reader that fails at that place.

@@ -49,8 +49,8 @@ fn lines_at_their_limit(rt: HostRuntime) -> Result<(), Fail> {
     filled_line_is_answered(&rt, alloc, "", 65_537, (END, LONG))
 }
 
-// A plan without a game, and line feeds to that length.
-fn feeds_to(alloc: Global, length: usize) -> Result<String, AllocError> {
+/// A plan without a game, and line feeds to that length.
+pub fn feeds_to(alloc: Global, length: usize) -> Result<String, AllocError> {
     let mut file = String::from_str(alloc, r#"{"games":[]}"#)?;
     file.push_str(
         "\n".repeat(alloc, length.saturating_sub(file.len()))?
@@ -70,31 +70,35 @@ fn told_of_reading(alloc: Global, file: &str) -> Result<String, Fail> {
     }
 }
 
+// Compares what is told of the reading of a file.
+fn is_read(alloc: Global, file: &str, wanted: &str) -> Result<(), Fail> {
+    let told = told_of_reading(alloc, file)?;
+    same("what is read", told.as_str(), wanted)
+}
+
+// A run of a file without a game.
+fn run_of(file: &str) -> Run<'_> {
+    Run {
+        file,
+        blocks: 0,
+        workers: 2,
+    }
+}
+
 // A file may have 16,777,216 bytes, and not one more. Most of this one is line feeds.
 #[test]
 fn files_have_a_longest_length(rt: HostRuntime) -> Result<(), Fail> {
     let alloc = rt.alloc();
-    let longest = feeds_to(alloc, 16_777_216)?;
-    same(
-        "the longest",
-        told_of_reading(alloc, longest.as_str())?.as_str(),
-        "read",
-    )?;
-    let run = Run {
-        file: longest.as_str(),
-        blocks: 0,
-        workers: 2,
-    };
-    is_served(&rt, alloc, run, "")?;
-    let long = feeds_to(alloc, 16_777_217)?;
-    same(
-        "a longer one",
-        told_of_reading(alloc, long.as_str())?.as_str(),
+    let mut file = feeds_to(alloc, 16_777_216)?;
+    is_read(alloc, file.as_str(), "read")?;
+    is_served(&rt, alloc, run_of(file.as_str()), "")?;
+    file.push('\n')?;
+    is_read(alloc, file.as_str(), "file too long")?;
+    is_refused(
+        &rt,
+        alloc,
+        run_of(file.as_str()),
+        &OpenGate,
         "file too long",
-    )?;
-    let run = Run {
-        file: long.as_str(),
-        ..run
-    };
-    is_refused(&rt, alloc, run, &OpenGate, "file too long")
+    )
 }

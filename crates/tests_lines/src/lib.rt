@@ -28,6 +28,8 @@ mod plans;
 #[cfg(test)]
 mod plans_read;
 #[cfg(test)]
+mod rows;
+#[cfg(test)]
 mod serving;
 #[cfg(test)]
 mod setups_read;

@@ -12,8 +12,7 @@ use bs_sched::{LEAST_CAPACITY, MOST_STAYS, MOST_WORKERS};
 use std::test::Fail;
 
 // Of a board and its snakes.
-#[test]
-fn limits_of_boards(_rt: HostRuntime) -> Result<(), Fail> {
+fn are_of_boards() -> Result<(), Fail> {
     same("sides", (SHORTEST_SIDE, LONGEST_SIDE), (3, 25))?;
     same("snakes", MOST_SNAKES, 8)?;
     same(
@@ -28,8 +27,7 @@ fn limits_of_boards(_rt: HostRuntime) -> Result<(), Fail> {
 }
 
 // Of files, plans and quotas.
-#[test]
-fn limits_of_files(_rt: HostRuntime) -> Result<(), Fail> {
+fn are_of_files() -> Result<(), Fail> {
     same("games", MOST_ROWS, 64)?;
     same("names", LONGEST_ID, 64)?;
     same("quotas", (LEAST_QUOTA, MOST_QUOTA), (16, 16_777_216))?;
@@ -39,8 +37,7 @@ fn limits_of_files(_rt: HostRuntime) -> Result<(), Fail> {
 }
 
 // Of blocks and records.
-#[test]
-fn limits_of_memory(_rt: HostRuntime) -> Result<(), Fail> {
+fn are_of_memory() -> Result<(), Fail> {
     same("bytes of a block", BLOCK_BYTES, 2_097_152)?;
     same(
         "bytes of any block",
@@ -54,4 +51,11 @@ fn limits_of_memory(_rt: HostRuntime) -> Result<(), Fail> {
         (161_885, 262_144),
     )?;
     same("workers of a core", MOST_WORKERS, 4_294_967_295)
+}
+
+#[test]
+fn limits_are_these_numbers(_rt: HostRuntime) -> Result<(), Fail> {
+    are_of_boards()?;
+    are_of_files()?;
+    are_of_memory()
 }

@@ -1,9 +1,10 @@
 //! What the first line of a file is read to.
+use crate::rows::{joined, rows_text};
 use crate::summaries::{summary_of, summary_of_plan};
 use bs_board::Version;
 use bs_json::{PlanFault, read_line, read_plan};
 use bs_samples::same;
-use std::alloc::{AllocError, Global};
+use std::alloc::Global;
 use std::test::Fail;
 
 // What is read, and behind the bar the line of the plan.
@@ -62,23 +63,15 @@ fn a_long_line_is_judged_first(rt: HostRuntime) -> Result<(), Fail> {
     spaces_are_read(rt.alloc(), 65_537, "stray Long")
 }
 
-// The rows of 65 games, without their end.
-fn many_rows(alloc: Global) -> Result<String, AllocError> {
-    let mut rows = String::from_str(alloc, "{\"games\":[{\"game\":\"g\",\"quota\":16}")?;
-    for row in 1..65u8 {
-        rows.push_str(format!(in alloc; ",{{\"game\":\"g{row}\",\"quota\":16}}")?.as_str())?;
-    }
-    Ok(rows)
+// Compares the fault of a plan of 65 games, or of these and what is behind them.
+fn is_faulty(alloc: Global, what: &str, behind: &str, fault: PlanFault) -> Result<(), Fail> {
+    let rows = rows_text(alloc, 65, 16)?;
+    let plan = joined(alloc, &["{\"games\":[", rows.as_str(), behind, "]}"])?;
+    same(what, fault_of(alloc, plan.as_bytes()), Some(fault))
 }
 
 #[test]
 fn a_bad_row_is_found_before_too_many(rt: HostRuntime) -> Result<(), Fail> {
-    let mut many = many_rows(rt.alloc())?;
-    many.push_str("]}")?;
-    let fault = fault_of(rt.alloc(), many.as_bytes());
-    same("65 rows", fault, Some(PlanFault::TooMany))?;
-    let mut bad = many_rows(rt.alloc())?;
-    bad.push_str(",1]}")?;
-    let fault = fault_of(rt.alloc(), bad.as_bytes());
-    same("a bad row behind 65", fault, Some(PlanFault::BadRow))
+    is_faulty(rt.alloc(), "65 rows", "", PlanFault::TooMany)?;
+    is_faulty(rt.alloc(), "a bad row behind 65", ",1", PlanFault::BadRow)
 }

@@ -3,6 +3,7 @@ use bs_host::{cut, serve};
 use bs_samples::same;
 use bs_workers::{Gate, OpenGate};
 use std::alloc::{AllocError, Global};
+use std::io::Write;
 use std::sync::Wait;
 use std::test::Fail;
 use std::thread::Threads;
@@ -15,20 +16,27 @@ pub struct Run<'a> {
     pub workers: usize,
 }
 
-/// Serves a file, and returns "served" or the fault, and what was written.
-pub fn outcome<R: Threads + Wait + Sync, G: Gate>(
+// What a failed check names a file by.
+fn first_line(file: &str) -> &str {
+    match file.split_once('\n') {
+        Some((first, _)) => first,
+        None => file,
+    }
+}
+
+/// Serves a file to a writer, and returns "served" or the fault.
+pub fn outcome<R: Threads + Wait + Sync, G: Gate, W: Write>(
     rt: &R,
     alloc: Global,
     run: Run<'_>,
     gate: &G,
-) -> Result<(String, Vec<u8>), AllocError> {
-    let mut written = Vec::new(alloc);
+    output: &mut W,
+) -> Result<String, AllocError> {
     let file = run.file.as_bytes();
-    let told = match serve(rt, alloc, file, run.blocks, run.workers, gate, &mut written) {
-        Ok(_) => String::from_str(alloc, "served")?,
-        Err(fault) => format!(in alloc; "{fault}")?,
-    };
-    Ok((told, written))
+    match serve(rt, alloc, file, run.blocks, run.workers, gate, output) {
+        Ok(_) => String::from_str(alloc, "served"),
+        Err(fault) => format!(in alloc; "{fault}"),
+    }
 }
 
 /// The transcript of a file that is served, whose jobs the gate lets pass.
@@ -38,8 +46,9 @@ pub fn transcript<R: Threads + Wait + Sync, G: Gate>(
     run: Run<'_>,
     gate: &G,
 ) -> Result<String, Fail> {
-    let (told, written) = outcome(rt, alloc, run, gate)?;
-    same(run.file, told.as_str(), "served")?;
+    let mut written = Vec::new(alloc);
+    let told = outcome(rt, alloc, run, gate, &mut written)?;
+    same(first_line(run.file), told.as_str(), "served")?;
     Ok(String::from_utf8(written).ok().ok_or("text")?)
 }
 
@@ -51,7 +60,7 @@ pub fn is_served<R: Threads + Wait + Sync>(
     wanted: &str,
 ) -> Result<(), Fail> {
     let text = transcript(rt, alloc, run, &OpenGate)?;
-    same(run.file, text.as_str(), wanted)
+    same(first_line(run.file), text.as_str(), wanted)
 }
 
 /// Compares the transcripts that 1 to 4 workers write with a text.
@@ -81,8 +90,9 @@ pub fn is_refused<R: Threads + Wait + Sync, G: Gate>(
     gate: &G,
     fault: &str,
 ) -> Result<(), Fail> {
-    let (told, written) = outcome(rt, alloc, run, gate)?;
-    same(run.file, told.as_str(), fault)?;
+    let mut written = Vec::new(alloc);
+    let told = outcome(rt, alloc, run, gate, &mut written)?;
+    same(first_line(run.file), told.as_str(), fault)?;
     same("what is written", written.len(), 0)
 }
 

@@ -1,5 +1,6 @@
 //! Files whose games come and go: what is written for them, and the cut of each stay.
 use crate::files::TWO_GAMES;
+use crate::rows::{joined, rows_text};
 use crate::serving::{StayName, cut_text, is_served_by_all};
 use bs_samples::{holds, same};
 use std::alloc::{AllocError, Global};
@@ -69,15 +70,6 @@ const STRAYS_OF_FEW_BLOCKS: &str = r#"{"line":2,"no":"A4","why":"pool"}
 {"line":13,"no":"A4","why":"pool"}
 {"line":14,"no":"L2","why":"game"}
 "#;
-
-// The texts behind each other.
-fn joined(alloc: Global, texts: &[&str]) -> Result<String, AllocError> {
-    let mut whole = String::new(alloc);
-    for text in texts {
-        whole.push_str(text)?;
-    }
-    Ok(whole)
-}
 
 // The blocks decide which games are admitted: with room for three, line 3 admits c, which has not
 // left at line 7; with room for one, no game is.
@@ -178,17 +170,6 @@ fn earlier_versions_have_no_stays(rt: HostRuntime) -> Result<(), Fail> {
     is_served_by_all(&rt, alloc, file.as_str(), 12, text.as_str())
 }
 
-// A plan of 64 games of version 3.
-fn full_plan(alloc: Global) -> Result<String, AllocError> {
-    let mut file = String::from_str(alloc, "{\"version\":3,\"games\":[")?;
-    for index in 0..64u8 {
-        let comma = if index == 0 { "" } else { "," };
-        file.push_str(&format!(in alloc; "{comma}{{\"game\":\"g{index}\",\"quota\":64}}")?)?;
-    }
-    file.push_str("]}\n")?;
-    Ok(file)
-}
-
 // The last lines of the 64 games, of which none was asked anything.
 fn full_ends(alloc: Global) -> Result<String, AllocError> {
     let mut text = String::new(alloc);
@@ -219,9 +200,15 @@ const MORE_GAMES_TEXT: &str = r#"{"game":"g63","no":"G2","seq":1,"why":"none"}
 #[test]
 fn at_most_as_many_open_games_as_a_plan_has(rt: HostRuntime) -> Result<(), Fail> {
     let alloc = rt.alloc();
-    let mut file = full_plan(alloc)?;
-    file.push_str(MORE_GAMES)?;
-    let mut text = full_ends(alloc)?;
-    text.push_str(MORE_GAMES_TEXT)?;
+    let rows = rows_text(alloc, 64, 64)?;
+    let plan = [
+        "{\"version\":3,\"games\":[",
+        rows.as_str(),
+        "]}\n",
+        MORE_GAMES,
+    ];
+    let file = joined(alloc, &plan)?;
+    let ends = full_ends(alloc)?;
+    let text = joined(alloc, &[ends.as_str(), MORE_GAMES_TEXT])?;
     is_served_by_all(&rt, alloc, file.as_str(), 400, text.as_str())
 }
