@@ -3,19 +3,11 @@
 #![tactic(auto)]
 
 mod cut_fault;
-#[cfg(test)]
-mod cut_tests;
 mod cutting;
-#[cfg(test)]
-mod devices_tests;
 mod fault;
 mod file;
-#[cfg(test)]
-mod games_tests;
 mod guests;
 mod limits;
-#[cfg(test)]
-mod limits_tests;
 mod lines;
 mod live;
 mod live_fault;
@@ -27,10 +19,6 @@ mod render;
 mod route;
 mod serving;
 mod stay_cores;
-#[cfg(test)]
-mod stays_tests;
-#[cfg(test)]
-mod tests;
 
 pub use cut_fault::Cut;
 pub use cutting::{cut, section_law};

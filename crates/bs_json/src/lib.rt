@@ -15,12 +15,10 @@ mod setups;
 mod short_lines;
 mod shown;
 mod shown_bytes;
-#[cfg(test)]
-mod tests;
 mod values;
 
 pub use boards::board_value;
-pub use limits::MAX_LINE;
+pub use limits::{MAX_LINE, MOST_WORD, USUAL_CHANCE, USUAL_MIN_FOOD};
 pub use line::{Line, Stray, read_line};
 pub use plan::{PlanFault, read_plan};
 pub use replies::{final_line, reply_line, stray_line};

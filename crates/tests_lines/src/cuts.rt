@@ -1,7 +1,10 @@
-//! Files and what is left of them for one game.
-use crate::cut;
-use crate::tests::TWO_GAMES;
-use std::alloc::{AllocError, Global};
+//! What is left of a file for one game.
+use crate::files::{SOLO, TWO_GAMES};
+use crate::lengths::feeds_to;
+use crate::rows::{joined, rows_text};
+use crate::serving::{StayName, cut_text};
+use bs_samples::same;
+use std::alloc::Global;
 use std::test::Fail;
 
 const FIRST_GAME: &str = r#"{"games":[{"game":"a","quota":64}]}
@@ -43,17 +46,14 @@ const VERSION_TWO_SECOND: &str = r#"{"games":[{"game":"b","quota":4096}],"versio
 {"game":"b","do":"new","mode":"wrapped","width":5,"height":5,"snakes":[{"id":"s","x":3,"y":1},{"id":"t","x":3,"y":3}],"food":[],"min_food":0,"food_chance":0}
 {"game":"b","do":"move","moves":{"s":"right"}}"#;
 
-// The cut, or the fault.
-fn outcome(alloc: Global, file: &[u8], game: &str) -> Result<Vec<u8>, AllocError> {
-    match cut(alloc, file, 64, game, 1) {
-        Ok(text) => Ok(text),
-        Err(fault) => Ok(format!(in alloc; "{fault}")?.into_bytes()),
-    }
+// Compares the cut of a file to the first stay of a game.
+fn is_cut_to(alloc: Global, file: &str, game: &str, wanted: &str) -> Result<(), Fail> {
+    let text = cut_text(alloc, file, 64, StayName { game, number: 1 })?;
+    same(game, text.as_str(), wanted)
 }
 
 #[test]
 fn files_and_their_cuts(rt: HostRuntime) -> Result<(), Fail> {
-    let alloc = rt.alloc();
     for (file, game, wanted) in [
         (TWO_GAMES, "a", FIRST_GAME),
         (TWO_GAMES, "b", SECOND_GAME),
@@ -62,13 +62,13 @@ fn files_and_their_cuts(rt: HostRuntime) -> Result<(), Fail> {
         (VERSION_TWO, "b", VERSION_TWO_SECOND),
         (VERSION_TWO_SECOND, "b", VERSION_TWO_SECOND),
         (LOOSE, "b", r#"{"games":[{"game":"b","quota":17}]}"#),
+        (SOLO, "z", "no such game"),
         (TWO_GAMES, "c", "no such game"),
         (TWO_GAMES, "", "no such game"),
         ("", "a", "plan P1"),
         (r#"{"games":[{"game":"a","quota":15}]}"#, "b", "plan P2"),
     ] {
-        let told = outcome(alloc, file.as_bytes(), game)?;
-        assert_eq!(rt; told.as_slice(), wanted.as_bytes(), "{game} of {file}");
+        is_cut_to(rt.alloc(), file, game, wanted)?;
     }
     Ok(())
 }
@@ -77,19 +77,11 @@ fn files_and_their_cuts(rt: HostRuntime) -> Result<(), Fail> {
 #[test]
 fn cuts_are_refused_in_order(rt: HostRuntime) -> Result<(), Fail> {
     let alloc = rt.alloc();
-    let mut plan = String::from_str(alloc, "{\"games\":[{\"game\":\"g\",\"quota\":64}")?;
-    for index in 0..64u8 {
-        plan.push_str(&format!(in alloc; ",{{\"game\":\"g{index}\",\"quota\":64}}")?)?;
-    }
-    plan.push_str("]}")?;
-    let told = outcome(alloc, plan.as_bytes(), "a")?;
-    assert_eq!(rt; told.as_slice(), "plan P3".as_bytes());
-    let mut file = Vec::from_slice(alloc, br#"{"games":[]}"#)?;
-    file.resize(16_777_216, b'\n')?;
-    let told = outcome(alloc, file.as_slice(), "a")?;
-    assert_eq!(rt; told.as_slice(), "no such game".as_bytes());
-    file.push(b'\n')?;
-    let told = outcome(alloc, file.as_slice(), "a")?;
-    assert_eq!(rt; told.as_slice(), "file too long".as_bytes());
-    Ok(())
+    let rows = rows_text(alloc, 65, 64)?;
+    let plan = joined(alloc, &["{\"games\":[", rows.as_str(), "]}"])?;
+    is_cut_to(alloc, plan.as_str(), "a", "plan P3")?;
+    let mut file = feeds_to(alloc, 16_777_216)?;
+    is_cut_to(alloc, file.as_str(), "a", "no such game")?;
+    file.push('\n')?;
+    is_cut_to(alloc, file.as_str(), "a", "file too long")
 }
