@@ -11,12 +11,14 @@ pub mod FileTexts
 pub mod FitStays
 pub mod FoundLines
 pub mod FoundStays
+pub mod FullStays
 pub mod GuestRoutes
 pub mod HostedCore
 pub mod OpenStays
 pub mod OwnLines
 pub mod ParsedLines
 pub mod PlainLines
+pub mod RefusedLines
 pub mod RowNames
 pub mod StayLines
 pub mod StayRows
