@@ -11,6 +11,7 @@ pub mod FileTexts
 pub mod FitStays
 pub mod FoundLines
 pub mod FoundStays
+pub mod FullStays
 pub mod GuestRoutes
 pub mod HostedCore
 pub mod LiveBytes
@@ -26,6 +27,7 @@ pub mod OpenStays
 pub mod OwnLines
 pub mod ParsedLines
 pub mod PlainLines
+pub mod RefusedLines
 pub mod RowNames
 pub mod StayLines
 pub mod StayRows
