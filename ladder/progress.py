@@ -49,11 +49,14 @@ class Counts(Watch):
         self.done += 1
         self.played += 1
 
+    def rate(self) -> float:
+        """The turns a second so far."""
+        return self.turns / max(0.001, time.monotonic() - self.began)
+
     def line(self) -> str:
         """What was done so far, in words."""
-        rate = self.turns / max(0.001, time.monotonic() - self.began)
         return (
-            f"{len(self.running)} running, {rate:.0f} turns a second, "
+            f"{len(self.running)} running, {self.rate():.0f} turns a second, "
             f"{self.missed.total()} of {self.moves} moves missed"
         )
 
@@ -63,7 +66,7 @@ class Counts(Watch):
         causes = ", ".join(f"{cause} {moves}" for cause, moves in sorted(self.missed.items()))
         return (
             f"{self.done} of {self.fixtures} games are done, {self.played} of them now: "
-            f"{self.turns} turns in {took:.1f} s, {self.turns / max(0.001, took):.0f} a second; "
+            f"{self.turns} turns in {took:.1f} s, {self.rate():.0f} a second; "
             f"{self.missed.total()} of {self.moves} moves missed{' (' + causes + ')' if causes else ''}"
         )
 
