@@ -61,14 +61,17 @@ class Counts(Watch):
         )
 
     def summary(self) -> str:
-        """What the run came to, in words."""
+        """What the run came to, in one line."""
         took = time.monotonic() - self.began
-        causes = ", ".join(f"{cause} {moves}" for cause, moves in sorted(self.missed.items()))
-        return (
-            f"{self.done} of {self.fixtures} games are done, {self.played} of them now: "
-            f"{self.turns} turns in {took:.1f} s, {self.rate():.0f} a second; "
-            f"{self.missed.total()} of {self.moves} moves missed{' (' + causes + ')' if causes else ''}"
-        )
+        parts = [
+            f"{self.done} of {self.fixtures} games are done, {self.played} of them now",
+            f"{self.turns} turns in {took:.1f} s, {self.rate():.0f} a second",
+            f"{self.missed.total()} of {self.moves} moves missed",
+        ]
+        own = self.own_times()
+        if own is not None:
+            parts.append(f"own time between turns {own[0]:.1f} ms, 99 % {own[1]:.1f} ms")
+        return "; ".join(parts)
 
     def own_times(self) -> tuple[float, float] | None:
         """The median and the 99th percentile of the ladder's own time between turns, in ms."""
