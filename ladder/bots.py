@@ -8,9 +8,11 @@ import re
 import time
 from collections.abc import Callable, Coroutine, Sequence
 from dataclasses import dataclass, replace
+from functools import lru_cache
 from typing import Any, TypeVar
 
 import aiohttp
+from yarl import URL
 
 from ladder.payloads import Look
 
@@ -19,6 +21,7 @@ CAUSES = ("late", "refused", "cut", "status", "long", "json", "direction")
 MOST_BYTES = 64 * 1024  # of an answer
 LONGEST_SHOUT = 256
 LOOK_SECONDS = 5.0
+MOST_ADDRESSES = 1024
 ADDRESS_SECONDS = 300  # for which the address of a name is kept
 HEADERS = {
     "Content-Type": "application/json",
@@ -48,6 +51,8 @@ class Answer:
     cause: str | None
     latency: int  # milliseconds
     shout: str = ""
+    asked_at: float = 0.0  # seconds of the clock of time.perf_counter
+    answered_at: float = 0.0
 
 
 class BotClient:
@@ -83,8 +88,10 @@ class BotClient:
         What had come in when the time was over is still taken, be it that this program was too busy
         to look at it before.
         """
-        late = Answer(None, "late", round(1000 * self.timeout))
-        return [answer or late for answer in await self._all(self._move, requests)]
+        began = time.perf_counter()
+        found = await self._all(self._move, requests)
+        late = Answer(None, "late", self._latency(self.timeout), "", began, time.perf_counter())
+        return [answer or late for answer in found]
 
     async def tell(self, requests: Sequence[Request]) -> None:
         """Sends requests whose answers say nothing, such as /end, for no longer than the timeout."""
@@ -110,8 +117,14 @@ class BotClient:
             answer = answer_of(object_of(await self._call("POST", url + "/move", body)))
         except NoAnswer as fault:
             answer = Answer(None, fault.cause, 0)
-        took = min(time.perf_counter() - began, self.timeout)
-        return replace(answer, latency=round(1000 * took))
+        ended = time.perf_counter()
+        return replace(
+            answer, latency=self._latency(ended - began), asked_at=began, answered_at=ended
+        )
+
+    def _latency(self, seconds: float) -> int:
+        """The time of an answer in milliseconds, no longer than the timeout."""
+        return round(1000 * min(seconds, self.timeout))
 
     async def _tell(self, url: str, body: bytes) -> None:
         try:
@@ -134,7 +147,7 @@ class BotClient:
 
     async def _request(self, method: str, url: str, body: bytes) -> bytes:
         async with self.session.request(
-            method, url, data=body or None, allow_redirects=False
+            method, parsed(url), data=body or None, allow_redirects=False
         ) as response:
             try:
                 if response.status != 200:
@@ -143,6 +156,12 @@ class BotClient:
             except BaseException:
                 response.close()  # what it would still send is not read
                 raise
+
+
+@lru_cache(MOST_ADDRESSES)
+def parsed(url: str) -> URL:
+    """The parts of an address, found once."""
+    return URL(url)
 
 
 async def limited(response: aiohttp.ClientResponse) -> bytes:

@@ -2,7 +2,6 @@
 
 from __future__ import annotations
 
-import time
 from collections.abc import Mapping
 from dataclasses import dataclass
 from pathlib import Path
@@ -126,10 +125,10 @@ class Game:
         names = living_of(board)
         urls = [self.around.urls[name] for name in names]
         requests = list(zip(urls, bodies(self.text, board, self.seats, names)))
-        asked_at = time.perf_counter()
-        own = None if self.answered_at is None else asked_at - self.answered_at
         answers = dict(zip(names, await self.around.client.moves(requests)))
-        self.answered_at = time.perf_counter()
+        asked_at = min(answer.asked_at for answer in answers.values())
+        own = None if self.answered_at is None else asked_at - self.answered_at
+        self.answered_at = max(answer.answered_at for answer in answers.values())
         self.around.watch.count(answers, own)
         return answers
 

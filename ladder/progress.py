@@ -49,23 +49,29 @@ class Counts(Watch):
         self.done += 1
         self.played += 1
 
+    def rate(self) -> float:
+        """The turns a second so far."""
+        return self.turns / max(0.001, time.monotonic() - self.began)
+
     def line(self) -> str:
         """What was done so far, in words."""
-        rate = self.turns / max(0.001, time.monotonic() - self.began)
         return (
-            f"{len(self.running)} running, {rate:.0f} turns a second, "
+            f"{len(self.running)} running, {self.rate():.0f} turns a second, "
             f"{self.missed.total()} of {self.moves} moves missed"
         )
 
     def summary(self) -> str:
-        """What the run came to, in words."""
+        """What the run came to, in one line."""
         took = time.monotonic() - self.began
-        causes = ", ".join(f"{cause} {moves}" for cause, moves in sorted(self.missed.items()))
-        return (
-            f"{self.done} of {self.fixtures} games are done, {self.played} of them now: "
-            f"{self.turns} turns in {took:.1f} s, {self.turns / max(0.001, took):.0f} a second; "
-            f"{self.missed.total()} of {self.moves} moves missed{' (' + causes + ')' if causes else ''}"
-        )
+        parts = [
+            f"{self.done} of {self.fixtures} games are done, {self.played} of them now",
+            f"{self.turns} turns in {took:.1f} s, {self.rate():.0f} a second",
+            f"{self.missed.total()} of {self.moves} moves missed",
+        ]
+        own = self.own_times()
+        if own is not None:
+            parts.append(f"own time between turns {own[0]:.1f} ms, 99 % {own[1]:.1f} ms")
+        return "; ".join(parts)
 
     def own_times(self) -> tuple[float, float] | None:
         """The median and the 99th percentile of the ladder's own time between turns, in ms."""

@@ -55,7 +55,7 @@ def test_parts_are_merged_to_the_whole(program: Path, config: Path, played: Path
 def test_played_again_nothing_is_played(program: Path, config: Path, played: Path) -> None:
     before = files_of(played)
     again = run_ladder("play", config, "--program", program)
-    assert again.stdout.startswith("ladder: 10 of 10 games are done, 0 of them now: 0 turns")
+    assert again.stdout.startswith("ladder: 10 of 10 games are done, 0 of them now; 0 turns")
     assert files_of(played) == before
 
 

@@ -30,7 +30,7 @@ def test_64_games_of_four_with_every_fault(
     played = start_play(config, program)
     out, error = played.communicate(timeout=150)
     assert (played.returncode, error) == (0, "")
-    assert out.startswith("ladder: 64 of 64 games are done, 64 of them now: ")
+    assert out.startswith("ladder: 64 of 64 games are done, 64 of them now; ")
     checked = run_ladder("check", folder, "--program", program)
     assert (checked.returncode, checked.stdout) == (0, "64 of 64 games agree\n")
     assert_missed(folder, faulty_bots.counts())
