@@ -6,7 +6,8 @@
 PROGRAM is crates/arena/out/arena if not given. PART is one of
 
     memory     N stays (100,000) come, play 20 turns and leave, 64 of them open at a time. Told is
-               the peak of the resident memory in each tenth of the run, as /proc has it
+               the peak of the resident memory in each tenth of the run, as /proc has it; a step
+               of all 64 is written at once, and the next one when it is answered
     latency    with 64 stays open one line is written and its answer read, 100 times
     lines      6,400 such stays from a file, by `live` and by `serve` with one worker, in turn
 
@@ -20,7 +21,6 @@ import statistics
 import subprocess
 import sys
 import tempfile
-import threading
 import time
 from pathlib import Path
 
@@ -44,14 +44,11 @@ NEW = {
     "min_food": 0,
     "food_chance": 0,
 }
-# What each stay of a round is asked, one after the other; the stays take turns.
-STEPS = [
-    {"do": "admit", "quota": 4096},
-    NEW,
-    *[{"do": "move", "moves": {"s": "up", "t": "up"}}] * TURNS,
-    {"do": "leave"},
-]
-ANSWERS = (len(STEPS) - 1) * OPEN  # of a round: one for each line but an `admit`
+ADMIT = {"do": "admit", "quota": 4096}
+MOVE = {"do": "move", "moves": {"s": "up", "t": "up"}}
+# What each stay of a round is asked, step by step: one line of each step has an answer.
+STEPS = [[ADMIT, NEW], *[[MOVE]] * TURNS, [{"do": "leave"}]]
+LINES = sum(map(len, STEPS))  # of a stay
 PLAN = b'{"games":[],"version":3}\n'
 
 
@@ -59,13 +56,13 @@ def line(members, name="%s"):
     return json.dumps({"game": name, **members}, separators=(",", ":")).encode() + b"\n"
 
 
-ROUND = b"".join(line(step) * OPEN for step in STEPS)
+TEXTS = [b"".join(line(members) * OPEN for members in step) for step in STEPS]
 
 
-def round_of(number):
-    """The lines of the stays of one round, whose names no other round has."""
-    names = [b"r%dg%d" % (number, game) for game in range(OPEN)]
-    return ROUND % tuple(names * len(STEPS))
+def steps_of(number):
+    """The lines of the stays of one round, step by step. No other round has their names."""
+    names = tuple(b"r%dg%d" % (number, game) for game in range(OPEN))
+    return [text % (names * len(step)) for text, step in zip(TEXTS, STEPS)]
 
 
 class Live:
@@ -111,18 +108,19 @@ def measure_memory(program, stays):
     for tenth in range(TENTHS):
         some = range(rounds * tenth // TENTHS, rounds * (tenth + 1) // TENTHS)
         live.forget_peak()
-        writer = threading.Thread(target=lambda: [live.say(round_of(number)) for number in some])
-        writer.start()
-        live.hear(ANSWERS * len(some))
-        writer.join()
+        for number in some:
+            for text in steps_of(number):
+                live.say(text)
+                live.hear(OPEN)
         peaks.append(live.memory("VmHWM"))
         print(f"tenth {tenth + 1}: {len(some) * OPEN:,} stays, peak {peaks[-1]:,} KiB", flush=True)
     seconds = time.perf_counter() - started
     if live.end() != (0, b""):
         sys.exit("arena live did not end as it should")
-    lines = rounds * OPEN * len(STEPS)
+    lines = rounds * OPEN * LINES
     print(
-        f"{rounds * OPEN:,} stays, {lines:,} lines in {seconds:.1f} s: {lines / seconds:,.0f} lines a second through pipes"
+        f"{rounds * OPEN:,} stays, {lines:,} lines in {seconds:.1f} s:"
+        f" {lines / seconds:,.0f} lines a second through pipes"
     )
     print(f"peak of the last tenth: {peaks[-1] / peaks[0]:.3f} times that of the first")
     return peaks[-1] <= MOST_GROWTH * peaks[0]
@@ -131,11 +129,11 @@ def measure_memory(program, stays):
 def measure_latency(program):
     live, names = Live(program), [f"g{number}" for number in range(OPEN)]
     for name in names:
-        live.say(line(STEPS[0], name) + line(NEW, name))
+        live.say(line(ADMIT, name) + line(NEW, name))
     live.hear(OPEN)
     times = []
     for number in range(ASKED):
-        asked = line(STEPS[2], names[number % OPEN])
+        asked = line(MOVE, names[number % OPEN])
         started = time.perf_counter()
         live.say(asked)
         live.hear(1)
@@ -144,12 +142,13 @@ def measure_latency(program):
     times.sort()
     worst = times[ASKED * 99 // 100 - 1]
     print(
-        f"{ASKED} lines, {OPEN} stays open: median {statistics.median(times):.0f} us, 99th {worst:.0f} us, most {times[-1]:.0f} us"
+        f"{ASKED} lines, {OPEN} stays open: median {statistics.median(times):.0f} us,"
+        f" 99th {worst:.0f} us, most {times[-1]:.0f} us"
     )
 
 
 def measure_lines(program):
-    text = PLAN + b"".join(map(round_of, range(ROUNDS_OF_FILE)))
+    text = PLAN + b"".join(b"".join(steps_of(number)) for number in range(ROUNDS_OF_FILE))
     lines = text.count(b"\n")
     with tempfile.TemporaryDirectory(prefix="live-") as folder:
         file = Path(folder) / "file"
@@ -167,7 +166,8 @@ def measure_lines(program):
                     seconds, after = time.perf_counter() - started, os.times()
                 user = after.children_user - before.children_user
                 print(
-                    f"{words[0]}: {lines:,} lines, {len(text):,} bytes in {seconds:.2f} s, {user:.2f} s of user time: {lines / seconds:,.0f} lines a second"
+                    f"{words[0]}: {lines:,} lines, {len(text):,} bytes in {seconds:.2f} s,"
+                    f" {user:.2f} s of user time: {lines / seconds:,.0f} lines a second"
                 )
 
 

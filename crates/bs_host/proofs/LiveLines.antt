@@ -26,7 +26,7 @@ use Rattle.bs_workers.specs.declared.act.Act.{Act}
 use Rattle.bs_workers.specs.declared.act.Act.TheVariants as act
 use Rattle.bs_workers.specs.Acts.{command_in, opened, rows_admitted}
 use Rattle.bs_workers.specs.Run.{acts_of, rows_made}
-use Rattle.bs_workers.specs.Sole.{IsActed}
+use Rattle.bs_workers.specs.Single.{IsActed}
 use Rattle.bs_workers.proofs.Compared.{row_there}
 use Rattle.bs_host.specs.declared.route.Route.{Route}
 use Rattle.bs_host.specs.declared.route.Route.TheVariants as route

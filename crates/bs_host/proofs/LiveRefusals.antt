@@ -1,5 +1,5 @@
 -- When a live host refuses a file, and what its faults leave of the whole file.
-use Rattle.std.proofs.Common.{◌≡◌, ◌≢◌, ℕ, ◌+◌, ◌<◌, ◌≤◌, List, [], ◌∷◌, ◌++◌, Option, Some, None, Ok, Err, length, refl, sym, ap, subst, ◌∙◌, arith, append-nil, length-append}
+use Rattle.std.proofs.Common.{◌≡◌, ◌≢◌, ℕ, ◌+◌, ◌<◌, ◌≤◌, List, [], ◌∷◌, ◌++◌, Option, Some, None, Ok, Err, length, refl, sym, ap, subst, ◌∙◌, arith, append-nil, append_assoc, length-append}
 use Rattle.std.specs.Io.KnownBytes.{Appends, Consumes, IsAtEnd, Keeps}
 use Rattle.std.specs.List.{position}
 use Rattle.std.specs.Prelude.{IfSome}
@@ -17,6 +17,8 @@ use Rattle.bs_sched.specs.PlanBlocks.{blocks_of_all}
 use Rattle.bs_workers.specs.declared.fault.Run.{Run}
 use Rattle.bs_workers.specs.declared.fault.Run.TheVariants as run
 use Rattle.bs_host.specs.declared.fault.Fault.{Fault}
+use Rattle.bs_host.specs.declared.fault.Fault.TheVariants.{Plan as OfPlan}
+use Rattle.bs_host.specs.declared.fault.PlanRefusal.TheVariants as refusal
 use Rattle.bs_host.specs.declared.limits.TheConstants.{BLOCK_BYTES}
 use Rattle.bs_host.specs.declared.live_fault.LiveFault.{LiveFault}
 use Rattle.bs_host.specs.declared.live_fault.LiveFault.TheVariants as live
@@ -46,6 +48,11 @@ run_refused refusal run.Broken none = none
 pub none_refused : (blocks : ℕ) (first : List ℕ) (plan : Plan) → plan_line_of first ≡ Ok plan → blocks_of_all BLOCK_BYTES plan.rows ≤ blocks
     → refusal_of_plan blocks (plan_line_of first) ≡ None
 none_refused blocks first plan read room = ap (refusal_of_plan blocks) read ∙ no_refusal blocks plan room
+
+pub short_refused : (blocks : ℕ) (first : List ℕ) (plan : Plan) → plan_line_of first ≡ Ok plan → blocks < blocks_of_all BLOCK_BYTES plan.rows
+    → refusal_of_plan blocks (plan_line_of first) ≡ Some (OfPlan refusal.Short)
+short_refused blocks first plan read few =
+    ap (refusal_of_plan blocks) read ∙ cond-true _ (Some (OfPlan refusal.Short)) None (lt-ltb blocks (blocks_of_all BLOCK_BYTES plan.rows) few)
 
 -- faults of the whole
 
@@ -126,22 +133,22 @@ left_of_plan blocks file rest plan old new fault read pieces left =
 
 -- of what is known of a reader
 
-of_reader : {P : List ℕ → Type 0} (a b : Option (List ℕ)) (bytes : List ℕ) → Consumes a b bytes → ((left : List ℕ) → b ≡ Some left → P (bytes ++ left)) → IfSome a P
-of_reader None b bytes read told = tt
-of_reader (Some xs) None bytes read told = absurd read
-of_reader {P} (Some xs) (Some ys) bytes read told = subst P (sym read) (told ys refl)
+of_reader : (P : List ℕ → Type 0) (a b : Option (List ℕ)) (bytes : List ℕ) → Consumes a b bytes → ((left : List ℕ) → b ≡ Some left → P (bytes ++ left)) → IfSome a P
+of_reader P None b bytes read told = tt
+of_reader P (Some xs) None bytes read told = absurd read
+of_reader P (Some xs) (Some ys) bytes read told = subst P (sym read) (told ys refl)
 
-known : {Q : List ℕ → Type 0} (b : Option (List ℕ)) (left : List ℕ) → b ≡ Some left → IfSome b Q → Q left
-known {Q} b left is given = subst (λ b. IfSome b Q) is given
+known : (Q : List ℕ → Type 0) (b : Option (List ℕ)) (left : List ℕ) → b ≡ Some left → IfSome b Q → Q left
+known Q b left is given = subst (λ (b : Option (List ℕ)). IfSome b Q) is given
 
-pub any_known : {P : List ℕ → Type 0} (a : Option (List ℕ)) → ((file : List ℕ) → P file) → IfSome a P
-any_known None told = tt
-any_known (Some file) told = told file
+pub any_known : (P : List ℕ → Type 0) (a : Option (List ℕ)) → ((file : List ℕ) → P file) → IfSome a P
+any_known P None told = tt
+any_known P (Some file) told = told file
 
-pub served_not : {A : Type 0} (blocks : ℕ) (a : Option (List ℕ)) → IfSome a (λ file. live_refusal_of blocks file ≡ None)
+pub served_not : (A : Type 0) (blocks : ℕ) (a : Option (List ℕ)) → IfSome a (λ file. live_refusal_of blocks file ≡ None)
     → IfSome a (λ file. live_refusal_of blocks file ≢ None → A)
-served_not blocks None served = tt
-served_not blocks (Some file) served = λ refused. absurd (refused served)
+served_not A blocks None served = tt
+served_not A blocks (Some file) served = λ refused. absurd (refused served)
 
 -- The bytes read hold the plan's line: it is that of the whole file, whatever the reader has left.
 
@@ -152,40 +159,41 @@ module _ (blocks : ℕ) (a b : Option (List ℕ)) (bytes first : List ℕ) (read
 
   pub refused_kind : (fault : LiveFault) → IsLiveRefusal (refusal_of_plan blocks (plan_line_of first)) fault → IfSome a (λ file. IsLiveFault (live_refusal_of blocks file) fault)
   refused_kind fault is =
-      of_reader a b bytes read
+      of_reader (λ file. IsLiveFault (live_refusal_of blocks file) fault) a b bytes read
       (λ left some. subst (λ refusal. IsLiveFault refusal fault) (sym (same_refusal left some)) (kind_of_refusal (refusal_of_plan blocks (plan_line_of first)) fault is))
 
   pub refused_left : (old : Option (List ℕ)) (fault : LiveFault) → IsLiveRefusal (refusal_of_plan blocks (plan_line_of first)) fault
       → IfSome a (λ file. LeavesLive blocks file old old fault)
   refused_left old fault is =
-      of_reader a b bytes read (λ left some. left_by_refusal blocks (bytes ++ left) (refusal_of_plan blocks (plan_line_of first)) old fault is)
+      of_reader (λ file. LeavesLive blocks file old old fault) a b bytes read (λ left some. left_by_refusal blocks (bytes ++ left) (refusal_of_plan blocks (plan_line_of first)) old fault is)
 
   module _ (plan : Plan) (is : plan_line_of first ≡ Ok plan) (room : blocks_of_all BLOCK_BYTES plan.rows ≤ blocks) where
     none_of : (left : List ℕ) → b ≡ Some left → live_refusal_of blocks (bytes ++ left) ≡ None
     none_of left some = same_refusal left some ∙ none_refused blocks first plan is room
 
     pub opened_served : IfSome a (λ file. live_refusal_of blocks file ≡ None)
-    opened_served = of_reader a b bytes read none_of
+    opened_served = of_reader (λ file. live_refusal_of blocks file ≡ None) a b bytes read none_of
 
     module _ (behind : List ℕ → List (List ℕ)) (pieces : (left : List ℕ) → b ≡ Some left → later_pieces (pieces_of (bytes ++ left)) ≡ behind left) (old new : Option (List ℕ)) where
       pub opened_kind : (fault : LiveFault) → IfSome b (λ left. LeavesLines blocks plan.version plan.rows (behind left) old new fault)
           → IfSome a (λ file. IsLiveFault (live_refusal_of blocks file) fault)
       opened_kind fault given =
-          of_reader a b bytes read
+          of_reader (λ file. IsLiveFault (live_refusal_of blocks file) fault) a b bytes read
           (λ left some. kind_of_left blocks plan.version plan.rows (behind left) old new (live_refusal_of blocks (bytes ++ left)) fault
-          (known b left some given) (none_of left some))
+          (known (λ left. LeavesLines blocks plan.version plan.rows (behind left) old new fault) b left some given) (none_of left some))
 
       pub opened_left : (fault : LiveFault) → IfSome b (λ left. LeavesLines blocks plan.version plan.rows (behind left) old new fault)
           → IfSome a (λ file. LeavesLive blocks file old new fault)
       opened_left fault given =
-          of_reader a b bytes read
-          (λ left some. left_of_plan blocks (bytes ++ left) (behind left) plan old new fault (plans left some ∙ is) (pieces left some) (known b left some given))
+          of_reader (λ file. LeavesLive blocks file old new fault) a b bytes read
+          (λ left some. left_of_plan blocks (bytes ++ left) (behind left) plan old new fault (plans left some ∙ is) (pieces left some)
+          (known (λ left. LeavesLines blocks plan.version plan.rows (behind left) old new fault) b left some given))
 
       pub opened_written : IfSome b (λ left. Appends old new (live_lines_of blocks plan.version plan.rows (behind left))) → IfSome a (λ file. Appends old new (live_of blocks file))
       opened_written given =
-          of_reader a b bytes read
+          of_reader (λ file. Appends old new (live_of blocks file)) a b bytes read
           (λ left some. subst (λ text. Appends old new text) (sym (live_of_lines blocks (bytes ++ left) (behind left) plan (plans left some ∙ is) (pieces left some)))
-          (known b left some given))
+          (known (λ left. Appends old new (live_lines_of blocks plan.version plan.rows (behind left))) b left some given))
 
 -- the first line is complete
 
@@ -225,12 +233,17 @@ only_plans b bytes none end left some =
     (λ few. ap (λ all. plan_line_of (first_piece all)) (only_pieces bytes left none (at_end b left some (end few))))
     (λ many. long_line (first_piece (pieces_of (bytes ++ left))) (long_first bytes left none many) ∙ sym (long_line bytes many))
 
-malformed : {A : Type 0} (plan : Plan) → Err plan_fault.Malformed ≡ Ok plan → A
-malformed plan is = absurd is
-
 pub only_behind : (b : Option (List ℕ)) (bytes : List ℕ) (plan : Plan) → position is_feed bytes ≡ None → (length bytes ≤ MAX_LINE → IsAtEnd b) → plan_line_of bytes ≡ Ok plan
     → (left : List ℕ) → b ≡ Some left → later_pieces (pieces_of (bytes ++ left)) ≡ []
 only_behind b bytes plan none end is left some =
     by_length (length bytes) MAX_LINE
     (λ few. ap later_pieces (only_pieces bytes left none (at_end b left some (end few))))
-    (λ many. malformed plan (sym (long_line bytes many) ∙ is))
+    (λ many. let wrong = sym (long_line bytes many) ∙ is in cc)
+
+-- of lines that are read on, whatever else is left
+pub of_lines : (blocks : ℕ) (version : Version) (plan : List GameRow) (a b : Option (List ℕ)) (pending bytes : List ℕ) (old new : Option (List ℕ)) (fault : LiveFault)
+    → Consumes a b bytes → ((more : List ℕ) → LeavesLines blocks version plan (pieces_of ((pending ++ bytes) ++ more)) old new fault)
+    → IfSome a (λ left. LeavesLines blocks version plan (pieces_of (pending ++ left)) old new fault)
+of_lines blocks version plan a b pending bytes old new fault read told =
+    of_reader (λ left. LeavesLines blocks version plan (pieces_of (pending ++ left)) old new fault) a b bytes read
+    (λ more some. subst (λ text. LeavesLines blocks version plan (pieces_of text) old new fault) (append_assoc pending bytes more) (told more))

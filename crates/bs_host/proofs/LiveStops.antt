@@ -1,5 +1,5 @@
 -- What a live host leaves when it stops.
-use Rattle.std.proofs.Common.{◌≡◌, ℕ, ◌+◌, ◌<◌, ◌≤◌, List, [], ◌∷◌, ◌++◌, Option, Some, None, Ok, length, map, take, refl, sym, ap, subst, ◌∙◌, arith, append_assoc, length-append, length-take}
+use Rattle.std.proofs.Common.{◌≡◌, ℕ, ◌+◌, ◌<◌, ◌≤◌, List, [], ◌∷◌, ◌++◌, Option, Some, None, Ok, length, map, take, refl, sym, ap, subst, ◌∙◌, arith, append-nil, append_assoc, length-append, length-take}
 use Rattle.std.specs.Prelude.{◌⊎◌}
 use Rattle.std.specs.Io.KnownBytes.{Appends, Keeps}
 use Rattle.std.proofs.lemmas.List.{length-map, take-append-le, take-map}
@@ -47,6 +47,11 @@ module _ (blocks : ℕ) (version : Version) (plan : List GameRow) where
       → IsServing blocks version plan after pending old now count games guests number → HasFirstAnswers blocks version plan (pieces_of (after ++ more)) old now
   serving_first after pending more old now count games guests number is =
       first_of (pieces_of (after ++ more)) is.done (map held_of (pieces_of (pending ++ more))) old now (is.parts more) is.written
+
+  pub serving_last : (after pending : List ℕ) (old now : Option (List ℕ)) (count : ℕ) (games : List (ℕ × CoreView)) (guests : GuestList) (number : ℕ)
+      → IsServing blocks version plan after pending old now count games guests number → HasFirstAnswers blocks version plan (pieces_of after) old now
+  serving_last after pending old now count games guests number is =
+      subst (λ text. HasFirstAnswers blocks version plan (pieces_of text) old now) (append-nil after) (serving_first after pending [] old now count games guests number is)
 
   pub none_first : (lines : List (List ℕ)) (a : Option (List ℕ)) → HasFirstAnswers blocks version plan lines a a
   none_first lines a = record { count = 0; few = omega arith; written = appends_none a }

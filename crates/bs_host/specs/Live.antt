@@ -21,7 +21,7 @@ use Rattle.bs_workers.specs.declared.act.Act.{Act}
 use Rattle.bs_workers.specs.declared.act.Act.TheVariants as act
 use Rattle.bs_workers.specs.Acts.{command_in, opened, rows_admitted}
 use Rattle.bs_workers.specs.Run.{acts_of}
-use Rattle.bs_workers.specs.Sole.{IsSettled}
+use Rattle.bs_workers.specs.Single.{IsSettled}
 use Rattle.bs_host.specs.declared.limits.TheConstants.{BLOCK_BYTES}
 use Rattle.bs_host.specs.declared.route.Route.{Route}
 use Rattle.bs_host.specs.declared.route.Route.TheVariants as route

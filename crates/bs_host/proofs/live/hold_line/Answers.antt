@@ -8,6 +8,6 @@ use Rattle.bs_host.proofs.live.hold_line.Goals as goal
 
 pub returns-then-lacks_feed : goal.returns-then-lacks_feed
 returns-then-lacks_feed c =
-    let none : position is_feed c.args.pending.now.items ≡ None = rw c.deref.ensures.value at (c.lacks_feed.ensures c.if-lacks_feed.true) in
+    let none : position is_feed c.args.pending.now.items ≡ None = rw c.deref.ensures.value at (c.lacks_feed.ensures.0 c.if-lacks_feed.true) in
     let long : MAX_LINE + 1 ≤ length c.args.pending.now.items = omega arith in
     subst (λ new. IsSameText c.args.pending.now.items new) (sym c.truncate.ensures.items) (held_back c.args.pending.now.items none long)

@@ -21,7 +21,7 @@ loop-index-preserved c =
     let acts = acts_behind host.blocks host.version plan lines in
     let inside : index < length host.guests.stays = omega arith in
     let number : c.number.result ≡ stay.0 = c.number.ensures in
-    let closes = rw c.deref.ensures.value at c.in_ok-show_final.ensures in
+    let closes = c.in_ok-show_final.ensures in
     let row : row_at (rows_behind plan acts) stay.0 ≡ stay.1
     = guest_row host.blocks host.version plan lines host.cores.open.items host.guests host.number index d is inside in
     let told : c.show_final.new.text.items ≡ c.loop-index.text.items ++ closing_line stay.1 (commands_given stay.0 acts)

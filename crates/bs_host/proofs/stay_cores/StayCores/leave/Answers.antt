@@ -13,5 +13,5 @@ returns-clause-played c =
 pub returns-clause-text : goal.returns-clause-text
 returns-clause-text c =
     λ plan acts are.
-    let closes = rw c.deref.ensures.value at c.in_ok-show_final.ensures in
+    let closes = c.in_ok-show_final.ensures in
     closes plan acts are
