@@ -4,8 +4,6 @@
 mod block;
 mod raw;
 mod rounding;
-#[cfg(test)]
-mod tests;
 
 pub use block::{Block, MOST_CAPACITY};
 // A crate can name a block in a contract only if the types of its fields are exported.

@@ -9,10 +9,6 @@ pub mod id;
 pub mod limits;
 pub mod plans;
 pub mod records;
-#[cfg(test)]
-mod snake_tests;
-#[cfg(test)]
-mod tests;
 
 pub use boards::board::{Board, Mode};
 pub use boards::body::head_of;

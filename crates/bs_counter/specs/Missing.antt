@@ -11,9 +11,16 @@ use Rattle.bs_counter.specs.Tally.{Covers, Tallied}
 abbrev pub IsMissing : List View → ℕ → Type 0
 IsMissing views p = (i : ℕ) × (v : View) × (get_elem? views i ≡ some v) × Covers v p
 
+-- the seat is the last finisher
+abbrev pub IsLast : List View → ℕ → Type 0
+IsLast views i = (k : ℕ) × (get_elem? views i ≡ some (Last k))
+
 -- A state of the rule is a set of missing parts. The word is 0 exactly where it is empty, and a
 -- seat that finishes its part takes that part away and no other, whether it is the last or not.
+-- Where no part is missing exactly one seat is the last, else none.
 pub record IsSet {T : Type 0} (s : State (Option T) View) : Type 0 where
   pub empty : slice_index s.words 0 ≡ 0 ↔ ((p : ℕ) → ¬ IsMissing s.views p)
   pub finish : (id p : ℕ) (w : View) → get_elem? s.views id ≡ some (Writes p) → ((q : ℕ) → ¬ Covers w q)
       → (q : ℕ) → IsMissing (slice_set s.views id w) q ↔ (IsMissing s.views q × (q ≢ p))
+  pub one_last : ((p : ℕ) → ¬ IsMissing s.views p) → (i : ℕ) × (IsLast s.views i × ((j : ℕ) → IsLast s.views j → j ≡ i))
+  pub none_last : (p : ℕ) → IsMissing s.views p → (i : ℕ) → ¬ IsLast s.views i

@@ -8,7 +8,8 @@ ghost use Rattle.bs_counter.specs.Tally.{Tallied};
 use crate::parted::Parted;
 
 /// Every state that the rule allows is a set of missing parts. The word is 0 exactly where the set
-/// is empty, and a seat that finishes its part removes that part and no other.
+/// is empty, and a seat that finishes its part removes that part and no other. Where no part is
+/// missing exactly one seat is the last finisher, else none.
 pub fn tally_law<T: Parted>()
     ensures { (n : ℕ) (s : State (Option T) View) → Tallied T.part_of n s → IsSet s }
 {}

@@ -5,8 +5,6 @@
 mod free;
 mod marks;
 mod spawning;
-#[cfg(test)]
-mod tests;
 
 pub use free::free_cells;
 pub use spawning::spawn;

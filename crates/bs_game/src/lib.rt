@@ -7,8 +7,6 @@ mod checking;
 mod law;
 mod quota;
 mod reply;
-#[cfg(test)]
-mod tests;
 mod turns;
 mod view;
 

@@ -3,8 +3,6 @@
 
 mod blocks;
 mod heap;
-#[cfg(test)]
-mod tests;
 
 // A crate can name a heap in a contract only if the types of its fields are exported.
 #[doc(hidden)]

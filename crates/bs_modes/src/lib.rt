@@ -5,8 +5,6 @@
 mod ending;
 mod growth;
 mod opening;
-#[cfg(test)]
-mod tests;
 
 pub use ending::over;
 pub use growth::grow;

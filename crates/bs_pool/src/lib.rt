@@ -6,8 +6,6 @@ mod owned;
 mod pool;
 mod reservation;
 mod slot;
-#[cfg(test)]
-mod tests;
 mod words;
 
 pub use owned::Owned;

@@ -8,8 +8,6 @@ mod feeding;
 mod law;
 mod motion;
 mod parts;
-#[cfg(test)]
-mod tests;
 mod turns;
 mod verdict;
 

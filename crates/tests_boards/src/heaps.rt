@@ -4,16 +4,15 @@ ghost use Rattle.bs_pool.specs.Ledger.{reserved};
 ghost use Rattle.bs_heap.specs.Charge.{blocks_for};
 ghost use Rattle.bs_heap.specs.HeldBlocks.{IsKeptIn};
 
-use crate::{MOST_RECORD_BYTES, Quota, TagHeap, blocks_for};
+use bs_heap::{MOST_RECORD_BYTES, Quota, TagHeap, blocks_for};
 use bs_pool::Pool;
+use bs_samples::{holds, same};
 use std::alloc::{AllocError, Global};
-use std::process::Abort;
 use std::test::Fail;
 
 /// A heap, for which the pool reserves what its quota can need.
-#[tactic(auto, using(crate::proofs::HeldBlocks::kept_empty))]
+#[tactic(auto, using(bs_heap::proofs::HeldBlocks::kept_empty))]
 fn open_heap<const CAP: usize>(
-    rt: &impl Abort,
     alloc: Global,
     pool: &mut Pool<CAP>,
     tag: u32,
@@ -25,13 +24,13 @@ fn open_heap<const CAP: usize>(
 {
     let blocks = blocks_for(CAP, quota);
     pool.reserve(tag, blocks)?;
-    assert_eq!(rt; pool.reserved(tag), blocks);
-    assert_eq!(rt; pool.held(tag), 0);
+    holds("blocks are reserved", pool.reserved(tag) == blocks)?;
+    holds("none is held", pool.held(tag) == 0)?;
     Ok(TagHeap::new(alloc, tag, quota)?)
 }
 
 /// Grows the index, and adds the record.
-#[tactic(auto, using(crate::proofs::Charges::small_enough, crate::proofs::HeldBlocks::kept_with_room))]
+#[tactic(auto, using(bs_heap::proofs::Charges::small_enough, bs_heap::proofs::HeldBlocks::kept_with_room))]
 fn add<const CAP: usize>(
     heap: &mut TagHeap<CAP>,
     pool: &mut Pool<CAP>,
@@ -48,79 +47,93 @@ fn add<const CAP: usize>(
 }
 
 /// Frees the heap of that tag, and takes its reservation away.
-#[tactic(auto, using(crate::proofs::Charges::has_reservation))]
+#[tactic(auto, using(bs_heap::proofs::Charges::has_reservation))]
 fn close_heap<const CAP: usize>(
-    rt: &impl Abort,
     heap: &mut TagHeap<CAP>,
     pool: &mut Pool<CAP>,
     tag: u32,
-)
+) -> Result<(), Fail>
     requires { IsKeptIn heap.old pool.old }
 {
     heap.free(pool);
-    assert_eq!(rt; pool.held(tag), 0);
-    assert!(rt; pool.reserved(tag) > 0);
+    holds("no block is held", pool.held(tag) == 0)?;
+    holds("blocks are reserved", pool.reserved(tag) > 0)?;
     pool.unreserve(tag);
+    Ok(())
 }
 
 /// Block 0 comes, and no byte is in it but those that `split_fill` lends.
-fn draw_an_empty_block<const CAP: usize>(
-    rt: &impl Abort,
-    pool: &mut Pool<CAP>,
-    tag: u32,
-) -> Result<(), Fail> {
+fn draw_an_empty_block<const CAP: usize>(pool: &mut Pool<CAP>, tag: u32) -> Result<(), Fail> {
     let mut owned = pool.draw(tag).ok_or("a block is reserved")?;
-    assert_eq!(rt; owned.number(), 0);
-    assert_eq!(rt; owned.block().len(), 0);
+    same("its number", owned.number(), 0)?;
+    same("its bytes", owned.block().len(), 0)?;
     let (front, fresh) = owned
         .block_mut()
         .split_fill(16)
         .ok_or("the block is empty")?;
-    assert_eq!(rt; front.len(), 0);
-    assert_eq!(rt; &*fresh, [0; 16].as_slice());
-    Ok(())
+    same("no old bytes", front.len(), 0)?;
+    same("zeros", &*fresh, [0; 16].as_slice())
 }
 
 #[test]
 fn pool_of_two_with_two_heaps(rt: HostRuntime) -> Result<(), Fail> {
     let mut pool = Pool::<524_288>::open(rt.alloc(), 2)?;
-    let mut first = open_heap(&rt, rt.alloc(), &mut pool, 0, 64)?;
+    let mut first = open_heap(rt.alloc(), &mut pool, 0, 64)?;
     add(&mut first, &mut pool, &[170; 32])??;
-    assert_eq!(rt; pool.held(0), 1);
-    close_heap(&rt, &mut first, &mut pool, 0);
-    assert_eq!(rt; first.count(), 0);
-    assert_eq!(rt; pool.free(), 2);
+    same("held by the first", pool.held(0), 1)?;
+    close_heap(&mut first, &mut pool, 0)?;
+    same("records of the first", first.count(), 0)?;
+    same("free", pool.free(), 2)?;
 
-    let mut second = open_heap(&rt, rt.alloc(), &mut pool, 1, 64)?;
+    let mut second = open_heap(rt.alloc(), &mut pool, 1, 64)?;
     add(&mut second, &mut pool, &[1, 2, 3])??;
-    assert_eq!(rt; second.count(), 1);
-    assert_eq!(rt; second.record(0), [1, 2, 3].as_slice());
-    assert_eq!(rt; second.charge(), 16);
+    holds("a record of the second", second.count() == 1)?;
+    same("its bytes", second.record(0), [1, 2, 3].as_slice())?;
+    same("its charge", second.charge(), 16)?;
     second.free(&mut pool);
 
-    draw_an_empty_block(&rt, &mut pool, 1)
+    draw_an_empty_block(&mut pool, 1)
+}
+
+/// The heap has these two records.
+fn check_two<const CAP: usize>(
+    heap: &TagHeap<CAP>,
+    first: &[u8],
+    second: &[u8],
+) -> Result<(), Fail> {
+    holds("two records", heap.count() == 2)?;
+    same("the first", heap.record(0), first)?;
+    same("the second", heap.record(1), second)
+}
+
+/// The heap has this record alone, in one block, and is charged so many bytes.
+fn check_one<const CAP: usize>(
+    heap: &TagHeap<CAP>,
+    pool: &Pool<CAP>,
+    tag: u32,
+    record: &[u8],
+    charge: u32,
+) -> Result<(), Fail> {
+    holds("one record", heap.count() == 1)?;
+    same("its bytes", heap.record(0), record)?;
+    same("its charge", heap.charge(), charge)?;
+    same("blocks held", pool.held(tag), 1)
 }
 
 #[test]
 fn quota_of_two_records(rt: HostRuntime) -> Result<(), Fail> {
     let mut pool = Pool::<524_288>::open(rt.alloc(), 2)?;
-    let mut heap = open_heap(&rt, rt.alloc(), &mut pool, 7, 64)?;
-    assert_eq!(rt; heap.index_room(), 0);
+    let mut heap = open_heap(rt.alloc(), &mut pool, 7, 64)?;
+    same("room in the index", heap.index_room(), 0)?;
     add(&mut heap, &mut pool, &[1; 26])??;
-    assert_eq!(rt; heap.charge(), 32);
+    check_one(&heap, &pool, 7, &[1; 26], 32)?;
     add(&mut heap, &mut pool, &[2; 32])??;
-    assert_eq!(rt; heap.charge(), 64);
-    assert_eq!(rt; add(&mut heap, &mut pool, &[3])?, Err(Quota));
-    assert_eq!(rt; heap.count(), 2);
-    assert_eq!(rt; heap.record(0), [1; 26].as_slice());
-    assert_eq!(rt; heap.record(1), [2; 32].as_slice());
-
+    same("charge of two", heap.charge(), 64)?;
+    let third = add(&mut heap, &mut pool, &[3])?;
+    holds("a third is refused", third == Err(Quota))?;
+    check_two(&heap, &[1; 26], &[2; 32])?;
     heap.keep_last(&mut pool);
-    assert_eq!(rt; heap.count(), 1);
-    assert_eq!(rt; heap.charge(), 32);
-    assert_eq!(rt; heap.record(0), [2; 32].as_slice());
-    assert_eq!(rt; pool.held(7), 1);
-    Ok(())
+    check_one(&heap, &pool, 7, &[2; 32], 32)
 }
 
 fn bytes(alloc: Global, byte: u8, n: usize) -> Result<Vec<u8>, AllocError>
@@ -135,25 +148,17 @@ fn bytes(alloc: Global, byte: u8, n: usize) -> Result<Vec<u8>, AllocError>
 #[test]
 fn keeps_the_last_of_two_blocks(rt: HostRuntime) -> Result<(), Fail> {
     let mut pool = Pool::<278_528>::open(rt.alloc(), 20)?;
-    let mut heap = open_heap(&rt, rt.alloc(), &mut pool, 1, 300_000)?;
-    let (old, new) = (
-        bytes(rt.alloc(), 5, 150_000)?,
-        bytes(rt.alloc(), 6, 150_000)?,
-    );
+    let mut heap = open_heap(rt.alloc(), &mut pool, 1, 300_000)?;
+    let old = bytes(rt.alloc(), 5, 150_000)?;
+    let new = bytes(rt.alloc(), 6, 150_000)?;
     add(&mut heap, &mut pool, &old)??;
     add(&mut heap, &mut pool, &new)??;
-    assert_eq!(rt; pool.held(1), 2);
-    assert_eq!(rt; heap.count(), 2);
-    assert_eq!(rt; heap.record(0), old.as_slice());
-    assert_eq!(rt; heap.record(1), new.as_slice());
+    same("blocks held by both", pool.held(1), 2)?;
+    check_two(&heap, &old, &new)?;
 
     heap.keep_last(&mut pool);
-    assert_eq!(rt; heap.count(), 1);
-    assert_eq!(rt; heap.record(0), new.as_slice());
-    assert_eq!(rt; heap.charge(), 150_000);
-    assert_eq!(rt; pool.held(1), 1);
+    check_one(&heap, &pool, 1, &new, 150_000)?;
     heap.free(&mut pool);
-    assert_eq!(rt; heap.count(), 0);
-    assert_eq!(rt; pool.free(), 20);
-    Ok(())
+    same("records at the end", heap.count(), 0)?;
+    same("free at the end", pool.free(), 20)
 }

@@ -1,0 +1,43 @@
+//! Boards that are compared, member by member.
+use bs_board::{Board, Snake};
+use bs_samples::{holds, same};
+use std::test::Fail;
+
+/// The snake is as the other, member by member.
+pub fn same_snake(what: &str, snake: &Snake, wanted: &Snake) -> Result<(), Fail> {
+    same(what, snake.id.as_str(), wanted.id.as_str())?;
+    same(what, snake.body.as_slice(), wanted.body.as_slice())?;
+    same(
+        what,
+        (snake.health, snake.cause),
+        (wanted.health, wanted.cause),
+    )?;
+    same(what, (snake.killer, snake.out), (wanted.killer, wanted.out))
+}
+
+/// The snakes are as the others, seat by seat.
+pub fn same_snakes(what: &str, snakes: &[Snake], wanted: &[Snake]) -> Result<(), Fail> {
+    same(what, snakes.len(), wanted.len())?;
+    for (snake, wanted) in snakes.iter().zip(wanted) {
+        same_snake(what, snake, wanted)?;
+    }
+    Ok(())
+}
+
+/// The board is as the other, member by member.
+pub fn same_board(what: &str, board: &Board, wanted: &Board) -> Result<(), Fail> {
+    holds(what, board.mode == wanted.mode)?;
+    same(
+        what,
+        (board.width, board.height),
+        (wanted.width, wanted.height),
+    )?;
+    same(what, board.turn, wanted.turn)?;
+    same(
+        what,
+        (board.min_food, board.chance),
+        (wanted.min_food, wanted.chance),
+    )?;
+    same(what, board.food.as_slice(), wanted.food.as_slice())?;
+    same_snakes(what, board.snakes.as_slice(), wanted.snakes.as_slice())
+}

@@ -1,0 +1,183 @@
+//! Whole turns from texts, and each step once by itself.
+use crate::compare::same_board;
+use crate::texts::{board, board_after, order};
+use bs_board::limits::{LAST_TURN, MOST_SNAKES};
+use bs_board::{Board, Move, is_legal};
+use bs_rules::{collide, feed, finish_turn, first_out, move_snake, move_snakes, turn};
+use bs_samples::{holds, same};
+use std::alloc::Global;
+use std::test::Fail;
+
+// A board, so many turns of it, what each of them is told, and the board that they make.
+
+/// The last health is enough to reach food, and not enough without; two heads on one food are both
+/// fed, and equally long; food that nobody reaches stays. Food under the head of a snake that is
+/// out stays too, and does not feed it.
+const FEEDING: &str = r"solo 5 10 0|2,3|s 1 2,2 2,1 2,0>1>s=up>11||s 100 2,3 2,2 2,1 2,1
+solo 5 10 0||s 1 2,2 2,1 2,0>1>s=up>11||s 0 2,3 2,2 2,1 OutOfHealth in 11
+standard 5 10 0|2,2|A 90 1,2 0,2 0,1|B 90 3,2 4,2 4,1>1>A=right B=left>11||A 100 2,2 1,2 0,2 0,2 HeadCollision by 1 in 11|B 100 2,2 3,2 4,2 4,2 HeadCollision by 0 in 11
+solo 5 10 0|4,4 0,0|s 90 2,2 2,1 2,0>1>s=right>11| 4,4 0,0|s 89 3,2 2,2 2,1
+standard 5 10 0|2,2|A 90 2,2 1,2 0,2 HeadCollision by 1 in 9|B 90 4,1 4,0 3,0|C 90 0,4 1,4 2,4>1>B=up C=down>11| 2,2|A 90 2,2 1,2 0,2 HeadCollision by 1 in 9|B 89 4,2 4,1 4,0|C 89 0,3 0,4 1,4";
+
+/// The longer of two heads lives; of equally long killers the one of the first seat; a tail that
+/// moves away, and one that stays; who left the board is in nobody's way; two that run into each
+/// other's bodies are both out; into its own body.
+const COLLISIONS: &str =
+    r"standard 5 10 0||A 90 1,2 0,2 0,1|B 90 3,2 4,2 4,1 4,0>1>A=right B=left>11||A 89 2,2 1,2 0,2 HeadCollision by 1 in 11|B 89 2,2 3,2 4,2 4,1
+standard 5 10 0||A 90 1,2 0,2 0,1|B 90 3,2 4,2 4,1 4,0|C 90 2,3 2,4 3,4 4,4>1>A=right B=left C=down>11||A 89 2,2 1,2 0,2 HeadCollision by 1 in 11|B 89 2,2 3,2 4,2 4,1 HeadCollision by 2 in 11|C 89 2,2 2,3 2,4 3,4 HeadCollision by 1 in 11
+standard 7 10 0||A 90 1,2 1,1 1,0|B 90 4,2 3,2 2,2>1>A=right B=up>11||A 89 2,2 1,2 1,1|B 89 4,3 4,2 3,2
+standard 7 10 0||A 90 1,2 1,1 1,0|B 90 4,2 3,2 2,2 2,2>1>A=right B=up>11||A 89 2,2 1,2 1,1 BodyCollision by 1 in 11|B 89 4,3 4,2 3,2 2,2
+standard 5 10 0||A 90 0,2 1,2 2,2|B 90 1,1 1,0 2,0>1>A=left B=up>11||A 89 -1,2 0,2 1,2 WallCollision in 11|B 89 1,2 1,1 1,0
+standard 5 10 0||A 90 2,2 1,2 0,2|B 90 3,2 4,2 4,1>1>A=right B=left>11||A 89 3,2 2,2 1,2 BodyCollision by 1 in 11|B 89 2,2 3,2 4,2 BodyCollision by 0 in 11
+solo 5 10 0||s 90 2,2 2,3 1,3 1,2 1,1>1>s=left>11||s 89 1,2 2,2 2,3 1,3 1,2 SelfCollision by 0 in 11";
+
+/// One head that hits twice. In order: its own body and another's; a body and a head; its own body
+/// and a head. Then of several that qualify the longest is the killer, whatever its seat: two
+/// heads; two bodies; three heads, of which the first two are equally long and the third is
+/// shorter; and the same with a longer third.
+const DOUBLE_HITS: &str =
+    r"standard 5 10 0||A 90 2,2 2,3 1,3 1,2 1,1|B 90 0,3 0,2 1,2 1,1>1>A=left B=up>11||A 89 1,2 2,2 2,3 1,3 1,2 SelfCollision by 0 in 11|B 89 0,4 0,3 0,2 1,2
+standard 5 10 0||A 90 1,2 0,2 0,1|B 90 2,3 2,2 3,2|C 90 2,1 3,1 4,1 4,0>1>A=right B=up C=up>11||A 89 2,2 1,2 0,2 BodyCollision by 1 in 11|B 89 2,4 2,3 2,2|C 89 2,2 2,1 3,1 4,1 BodyCollision by 1 in 11
+standard 5 10 0||A 90 2,2 2,3 1,3 1,2 1,1|B 90 0,2 0,1 0,0 1,0 2,0 3,0>1>A=left B=right>11||A 89 1,2 2,2 2,3 1,3 1,2 SelfCollision by 0 in 11|B 89 1,2 0,2 0,1 0,0 1,0 2,0 BodyCollision by 0 in 11
+standard 5 10 0||A 90 1,2 0,2 0,1|B 90 3,2 4,2 4,1 4,0|C 90 2,3 2,4 3,4 4,4 4,3>1>A=right B=left C=down>11||A 89 2,2 1,2 0,2 HeadCollision by 2 in 11|B 89 2,2 3,2 4,2 4,1 HeadCollision by 2 in 11|C 89 2,2 2,3 2,4 3,4 4,4
+standard 5 10 0||A 90 1,2 0,2 0,1|B 90 2,3 2,2 2,2|C 90 3,2 2,2 2,1 1,1>1>A=right B=up C=right>11||A 89 2,2 1,2 0,2 BodyCollision by 2 in 11|B 89 2,4 2,3 2,2|C 89 4,2 3,2 2,2 2,1
+standard 5 10 0||A 90 1,2 0,2 0,3|B 90 3,2 4,2 4,1 4,0|C 90 2,3 2,4 3,4 4,4|D 90 2,1 2,0 1,0>1>A=right B=left C=down D=up>11||A 89 2,2 1,2 0,2 HeadCollision by 1 in 11|B 89 2,2 3,2 4,2 4,1 HeadCollision by 2 in 11|C 89 2,2 2,3 2,4 3,4 HeadCollision by 1 in 11|D 89 2,2 2,1 2,0 HeadCollision by 1 in 11
+standard 5 10 0||A 90 1,2 0,2 0,3|B 90 3,2 4,2 4,1 4,0|C 90 2,3 2,4 3,4 4,4|D 90 2,1 2,0 1,0 0,0 0,1>1>A=right B=left C=down D=up>11||A 89 2,2 1,2 0,2 HeadCollision by 3 in 11|B 89 2,2 3,2 4,2 4,1 HeadCollision by 3 in 11|C 89 2,2 2,3 2,4 3,4 HeadCollision by 3 in 11|D 89 2,2 2,1 2,0 1,0 0,0";
+
+/// With nothing ordered: a snake that has just started goes up, and then straight on, into the
+/// wall; straight on to each side. On a board wider than it is high a snake is within its width
+/// and not within its height.
+const MOTION: &str = r"solo 3 0 0||s 100 1,1 1,1 1,1>1>>1||s 99 1,2 1,1 1,1
+solo 3 0 0||s 100 1,1 1,1 1,1>2>>2||s 98 1,3 1,2 1,1 WallCollision in 2
+standard 7 9 0||A 90 2,2 3,2 4,2|B 90 4,4 3,4 2,4|C 90 5,3 5,4 5,5>1>>10||A 89 1,2 2,2 3,2|B 89 5,4 4,4 3,4 BodyCollision by 2 in 10|C 89 5,2 5,3 5,4
+solo 7x5 10 0||s 90 5,1 4,1 3,1>1>s=right>11||s 89 6,1 5,1 4,1
+solo 7x5 10 0||s 90 5,4 4,4 3,4>1>s=up>11||s 89 5,5 5,4 4,4 WallCollision in 11";
+
+/// The word chooses the last but one of seven free cells. A word above 65,535 counts as a whole.
+const FOOD: &str = r"solo 3 0 1||s 100 1,1 1,1 1,1>1>5>1| 0,2|s 99 1,2 1,1 1,1
+solo 3 0 1||s 100 1,1 1,1 1,1>1>65536>1| 2,0|s 99 1,2 1,1 1,1
+solo 3 0 1||s 100 1,1 1,1 1,1>1>4294967295>1| 0,1|s 99 1,2 1,1 1,1";
+
+/// In constrictor bodies grow as soon as they are stretched, those of snakes that are out do not.
+const CONSTRICTOR: &str =
+    r"constrictor 7 0 0||s 100 1,1 1,1 1,1|t 100 5,1 5,1 5,1>1>>1||s 100 1,2 1,1 1,1|t 100 5,2 5,1 5,1
+constrictor 7 0 0||s 100 1,1 1,1 1,1|t 100 5,1 5,1 5,1>3>>3||s 100 1,4 1,3 1,2 1,1 1,1|t 100 5,4 5,3 5,2 5,1 5,1
+constrictor 7 3 0||s 100 1,4 1,3 1,2 1,1 1,1|t 100 5,4 5,3 5,2 5,1 5,1|u 99 3,2 3,1 3,0 HeadCollision by 1 in 2>1>>4||s 100 1,5 1,4 1,3 1,2 1,1 1,1|t 100 5,5 5,4 5,3 5,2 5,1 5,1|u 99 3,2 3,1 3,0 HeadCollision by 1 in 2";
+
+/// Two snakes cross the right edge, first by an order and then straight on; two heads meet on a
+/// cell beyond an edge; a snake starves on the far side; straight on over three edges. Then boards
+/// that are no squares: over an edge by an order, and straight on, each side by its own length.
+const WRAPPED: &str =
+    r"wrapped 5 0 0||s 100 3,1 3,1 3,1|t 100 3,3 3,3 3,3>1>s=right t=right>1||s 99 4,1 3,1 3,1|t 99 4,3 3,3 3,3
+wrapped 5 1 0||s 99 4,1 3,1 3,1|t 99 4,3 3,3 3,3>1>>2||s 98 0,1 4,1 3,1|t 98 0,3 4,3 3,3
+wrapped 5 2 0||s 98 0,1 4,1 3,1|t 98 0,3 4,3 3,3>1>>3||s 97 1,1 0,1 4,1|t 97 1,3 0,3 4,3
+wrapped 5 10 0||A 90 0,2 1,2 2,2|B 90 4,1 4,0 3,0>1>A=left B=up>11||A 89 4,2 0,2 1,2 HeadCollision by 1 in 11|B 89 4,2 4,1 4,0 HeadCollision by 0 in 11
+wrapped 3 10 0||s 1 1,0 1,1 1,2>1>>11||s 0 1,2 1,0 1,1 OutOfHealth in 11
+wrapped 7 10 0||A 90 0,0 0,1 0,2|B 90 6,3 5,3 4,3|C 90 3,6 3,5 3,4>2>>12||A 88 0,5 0,6 0,0|B 88 1,3 0,3 6,3|C 88 3,1 3,0 3,6
+wrapped 7x5 10 0||A 90 5,1 4,1 3,1|B 90 2,4 2,3 2,2>2>A=right B=up>12||A 88 0,1 6,1 5,1|B 88 2,1 2,0 2,4
+wrapped 5x7 10 0||A 90 0,6 0,5 0,4|B 90 0,2 4,2 3,2>2>>12||A 88 0,1 0,0 0,6|B 88 2,2 1,2 0,2";
+
+/// The board after so many turns of the same move.
+fn played(alloc: Global, before: &Board, order: &Move, turns: u32) -> Result<Board, Fail> {
+    let mut next = before.copy(alloc)?;
+    for _ in 0..turns {
+        holds("a legal board", is_legal(&next))?;
+        holds("a turn to come", next.turn < LAST_TURN)?;
+        next = turn(alloc, &next, order)?;
+    }
+    Ok(next)
+}
+
+/// Plays "BEFORE>TURNS>ORDERS>AFTER".
+fn check_row(alloc: Global, row: &str) -> Result<(), Fail> {
+    let (before, rest) = row.split_once('>').ok_or("a board")?;
+    let (turns, rest) = rest.split_once('>').ok_or("turns")?;
+    let (ordered, after) = rest.split_once('>').ok_or("orders")?;
+    let before = board(alloc, before)?;
+    let turns = turns.parse::<u32>().ok().ok_or("turns")?;
+    let next = played(alloc, &before, &order(alloc, ordered)?, turns)?;
+    same_board(row, &next, &board_after(alloc, &before, after)?)
+}
+
+#[test]
+fn turns_are_played(rt: HostRuntime) -> Result<(), Fail> {
+    for table in [
+        FEEDING,
+        COLLISIONS,
+        DOUBLE_HITS,
+        MOTION,
+        FOOD,
+        CONSTRICTOR,
+        WRAPPED,
+    ] {
+        for row in table.split('\n') {
+            check_row(rt.alloc(), row)?;
+        }
+    }
+    Ok(())
+}
+
+const MEETING: &str = "standard 5 10 0|2,2|A 90 1,2 0,2 0,1|B 90 3,2 4,2 4,1";
+
+const MOVED: &str = "10| 2,2|A 89 2,2 1,2 0,2|B 89 2,2 3,2 4,2";
+
+const FED: &str = "10||A 100 2,2 1,2 0,2 0,2|B 100 2,2 3,2 4,2 4,2";
+
+const COLLIDED: &str =
+    "10||A 100 2,2 1,2 0,2 0,2 HeadCollision by 1 in 11|B 100 2,2 3,2 4,2 4,2 HeadCollision by 0 in 11";
+
+const FINISHED: &str =
+    "11||A 100 2,2 1,2 0,2 0,2 HeadCollision by 1 in 11|B 100 2,2 3,2 4,2 4,2 HeadCollision by 0 in 11";
+
+/// The board on which two snakes have moved to one food.
+#[tactic(auto, using(bs_rules::proofs::Movable::legal_is_movable))]
+fn meeting(alloc: Global) -> Result<Board, Fail> {
+    let mut next = board(alloc, MEETING)?;
+    holds("a legal board", is_legal(&next))?;
+    let before = next.snakes.as_slice();
+    holds("two snakes", before.len() == 2)?;
+    let alone = move_snake(alloc, &before[0], None, None)?;
+    next.snakes = move_snakes(alloc, before, &[], None)?;
+    let moved = next.snakes.as_slice().first().ok_or("a snake")?;
+    same(
+        "the first, by itself",
+        alone.body.as_slice(),
+        moved.body.as_slice(),
+    )?;
+    same_board("after the moves", &next, &board_after(alloc, &next, MOVED)?)?;
+    Ok(next)
+}
+
+/// The steps by themselves, on two snakes that meet at one food.
+#[test]
+fn two_heads_meet_at_food(rt: HostRuntime) -> Result<(), Fail> {
+    let alloc = rt.alloc();
+    let mut next = meeting(alloc)?;
+    feed(alloc, &mut next)?;
+    holds("a turn to come", next.turn < LAST_TURN)?;
+    first_out(&mut next);
+    same_board("after feeding", &next, &board_after(alloc, &next, FED)?)?;
+    holds("a turn to come", next.turn < LAST_TURN)?;
+    holds("few snakes", next.snakes.len() <= MOST_SNAKES)?;
+    collide(&mut next);
+    same_board(
+        "after the collisions",
+        &next,
+        &board_after(alloc, &next, COLLIDED)?,
+    )
+}
+
+/// All steps after the moves.
+#[test]
+fn the_rest_of_a_turn(rt: HostRuntime) -> Result<(), Fail> {
+    let alloc = rt.alloc();
+    let moved = meeting(alloc)?;
+    holds("a turn to come", moved.turn < LAST_TURN)?;
+    holds("few snakes", moved.snakes.len() <= MOST_SNAKES)?;
+    let finished = finish_turn(alloc, moved, &[])?;
+    same_board(
+        "at the end",
+        &finished,
+        &board_after(alloc, &finished, FINISHED)?,
+    )
+}

@@ -1,0 +1,134 @@
+//! A snake's part of a record: the bytes of one snake, each of them changed, and what is no snake's
+//! part.
+use crate::compare::same_snake;
+use bs_board::{Cause, Decode, Snake, decode_snake, encode_snake_into, snake_size};
+use bs_samples::{holds, same, snake};
+use std::alloc::{AllocError, Global};
+use std::test::Fail;
+
+// Bytes 12 to 26 of the first record of the three by three solo game.
+const S: [u8; 15] = [1, 115, 100, 0, 0, 0, 0, 0, 3, 2, 2, 2, 2, 2, 2];
+
+/// The snake that these bytes are, with another head and health.
+fn snake_at(alloc: Global, x: i16, y: i16, health: u8) -> Result<Snake, AllocError> {
+    snake(alloc, "s", health, &[(x, y), (1, 1), (1, 1)])
+}
+
+/// Reads the bytes as that snake, and writes it as the same bytes again.
+fn check_both_ways(alloc: Global, bytes: &[u8; 15], snake: &Snake) -> Result<(), Fail> {
+    let read = decode_snake(alloc, bytes)?;
+    same_snake("read", &read, snake)?;
+    holds("15 bytes", snake_size(&read) == 15)?;
+    let mut written = [0; 15];
+    encode_snake_into(&read, &mut written);
+    same("written again", written.as_slice(), bytes.as_slice())
+}
+
+#[test]
+fn a_snake_both_ways(rt: HostRuntime) -> Result<(), Fail> {
+    let alloc = rt.alloc();
+    let first = snake_at(alloc, 1, 1, 100)?;
+    same_snake("read", &decode_snake(alloc, &S)?, &first)?;
+    check_both_ways(alloc, &S, &first)
+}
+
+/// A snake that has just moved may have no health left, or its head off the board, and no cause yet.
+#[test]
+fn a_snake_that_has_just_moved(rt: HostRuntime) -> Result<(), Fail> {
+    let alloc = rt.alloc();
+    let starved = [1, 115, 0, 0, 0, 0, 0, 0, 3, 2, 3, 2, 2, 2, 2];
+    check_both_ways(alloc, &starved, &snake_at(alloc, 1, 2, 0)?)?;
+    let below = [1, 115, 99, 0, 0, 0, 0, 0, 3, 2, 0, 2, 2, 2, 2];
+    check_both_ways(alloc, &below, &snake_at(alloc, 1, -1, 99)?)?;
+    let beside = [1, 115, 99, 0, 0, 0, 0, 0, 3, 26, 2, 2, 2, 2, 2];
+    check_both_ways(alloc, &beside, &snake_at(alloc, 25, 1, 99)?)
+}
+
+/// The first and the last value that one byte of the snake may have, the others being as they are.
+fn range(place: usize) -> (u8, u8) {
+    match place {
+        // the length of the id, and its only byte, a text of its own
+        0 => (1, 1),
+        1 => (0, 127),
+        // health, cause, the killer's seat plus 1
+        2 => (0, 100),
+        3 => (0, 5),
+        4 => (0, 8),
+        // the turn of elimination, at most 10,000: 39 times 256, and 16
+        5 => (0, 39),
+        6 => (0, 255),
+        // the length of the body
+        7 => (0, 0),
+        8 => (3, 3),
+        // columns and rows
+        _ => (0, 26),
+    }
+}
+
+/// Whether the bytes are read. A snake that is read is written as those bytes again.
+fn is_read(alloc: Global, bytes: &[u8; 15]) -> Result<bool, Fail> {
+    match decode_snake(alloc, bytes) {
+        Ok(read) => {
+            holds("15 bytes", snake_size(&read) == 15)?;
+            let mut written = [0; 15];
+            encode_snake_into(&read, &mut written);
+            same("written again", written.as_slice(), bytes.as_slice())?;
+            Ok(true)
+        }
+        Err(Decode::NotARecord) => Ok(false),
+        Err(Decode::Memory) => Err(Fail::from("memory")),
+    }
+}
+
+#[test]
+fn a_snake_with_one_byte_changed(rt: HostRuntime) -> Result<(), Fail> {
+    let alloc = rt.alloc();
+    for place in 0..15 {
+        let (first, last) = range(place);
+        for byte in 0..=255u8 {
+            let mut bytes = S;
+            bytes[place] = byte;
+            let wanted = first <= byte && byte <= last;
+            same(
+                "read",
+                (place, byte, is_read(alloc, &bytes)?),
+                (place, byte, wanted),
+            )?;
+        }
+    }
+    Ok(())
+}
+
+/// The bytes are no snake.
+fn check_no_snake(alloc: Global, bytes: &[u8]) -> Result<(), Fail> {
+    match decode_snake(alloc, bytes) {
+        Err(Decode::NotARecord) => Ok(()),
+        Err(Decode::Memory) => Err(Fail::from("memory")),
+        Ok(_) => Err(Fail::new(format_args!("a snake of {} bytes", bytes.len()))),
+    }
+}
+
+#[test]
+fn a_snake_cut_short_or_followed(rt: HostRuntime) -> Result<(), Fail> {
+    let alloc = rt.alloc();
+    for len in 0..15 {
+        check_no_snake(alloc, &S[..len])?;
+    }
+    let mut longer = Vec::from_slice(alloc, &S)?;
+    longer.push(0)?;
+    check_no_snake(alloc, &longer)
+}
+
+/// The ends of what two bytes tell: a turn of elimination of 10,000, and one more.
+#[test]
+fn a_snake_that_is_out_last(rt: HostRuntime) -> Result<(), Fail> {
+    let alloc = rt.alloc();
+    let last = [1, 115, 0, 1, 0, 0x27, 0x10, 0, 3, 2, 2, 2, 2, 2, 2];
+    let read = decode_snake(alloc, &last)?;
+    same("cause", read.cause, Some(Cause::OutOfHealth))?;
+    same("turn", read.out, Some(10_000))?;
+    check_no_snake(
+        alloc,
+        &[1, 115, 0, 1, 0, 0x27, 0x11, 0, 3, 2, 2, 2, 2, 2, 2],
+    )
+}

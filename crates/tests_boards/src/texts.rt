@@ -1,0 +1,155 @@
+//! Boards and moves that are written as texts.
+use bs_board::{Board, Cause, Cells, Direction, Id, Mode, Move, Point, Snake, Snakes};
+use bs_samples::orders;
+use std::alloc::{AllocError, Global};
+use std::test::Fail;
+
+const NO_NUMBER: &str = "a number";
+
+fn cell(text: &str) -> Result<Option<Point>, Fail> {
+    match text.split_once(',') {
+        None => Ok(None),
+        Some((x, y)) => Ok(Some(Point {
+            x: x.parse::<i16>().ok().ok_or(NO_NUMBER)?,
+            y: y.parse::<i16>().ok().ok_or(NO_NUMBER)?,
+        })),
+    }
+}
+
+fn small(text: &str) -> Result<u8, Fail> {
+    Ok(text.parse::<u8>().ok().ok_or(NO_NUMBER)?)
+}
+
+/// The cells among the words of the text, "X,Y" each.
+fn cells(alloc: Global, text: &str) -> Result<Cells, Fail> {
+    let mut cells = Cells::new(alloc);
+    for word in text.split(' ') {
+        if let Some(cell) = cell(word)? {
+            cells.push(cell)?;
+        }
+    }
+    Ok(cells)
+}
+
+fn cause(word: &str) -> Option<Cause> {
+    match word {
+        "OutOfHealth" => Some(Cause::OutOfHealth),
+        "WallCollision" => Some(Cause::WallCollision),
+        "SelfCollision" => Some(Cause::SelfCollision),
+        "BodyCollision" => Some(Cause::BodyCollision),
+        "HeadCollision" => Some(Cause::HeadCollision),
+        _ => None,
+    }
+}
+
+/// The cause, the killer and the turn of "CELLS CAUSE by SEAT in TURN", as far as they are there.
+fn put_out(snake: &mut Snake, text: &str) -> Result<(), Fail> {
+    let mut before = "";
+    for word in text.split(' ') {
+        match before {
+            "by" => snake.killer = Some(usize::from(small(word)?)),
+            "in" => snake.out = Some(u16::from(small(word)?)),
+            _ => {
+                if let Some(cause) = cause(word) {
+                    snake.cause = Some(cause);
+                }
+            }
+        }
+        before = word;
+    }
+    Ok(())
+}
+
+/// The snake "ID HEALTH CELLS", or "ID HEALTH CELLS CAUSE by SEAT in TURN" of one that is out.
+fn snake(alloc: Global, text: &str) -> Result<Snake, Fail> {
+    let (id, rest) = text.split_once(' ').ok_or("an id")?;
+    let (health, rest) = rest.split_once(' ').ok_or("a health")?;
+    let mut snake = Snake {
+        id: Id::from_str(alloc, id)?,
+        body: cells(alloc, rest)?,
+        health: small(health)?,
+        cause: None,
+        killer: None,
+        out: None,
+    };
+    put_out(&mut snake, rest)?;
+    Ok(snake)
+}
+
+fn snakes(alloc: Global, text: &str) -> Result<Snakes, Fail> {
+    let mut snakes = Vec::new(alloc);
+    for seat in text.split('|') {
+        snakes.push(snake(alloc, seat)?)?;
+    }
+    Ok(Snakes::from_vec(snakes))
+}
+
+fn mode(word: &str) -> Mode {
+    match word {
+        "standard" => Mode::Standard,
+        "solo" => Mode::Solo,
+        "wrapped" => Mode::Wrapped,
+        _ => Mode::Constrictor,
+    }
+}
+
+/// The board "MODE SIDES TURN MIN_FOOD|FOOD|SNAKE|SNAKE", whose sides are "WIDTHxHEIGHT", or one
+/// number for a square. Its chance of food is 0.
+pub fn board(alloc: Global, text: &str) -> Result<Board, Fail> {
+    let (head, rest) = text.split_once('|').ok_or("a head")?;
+    let (food, seats) = rest.split_once('|').ok_or("food")?;
+    let (mode_name, rest) = head.split_once(' ').ok_or("a mode")?;
+    let (sides, rest) = rest.split_once(' ').ok_or("sides")?;
+    let (turn, min_food) = rest.split_once(' ').ok_or("a turn")?;
+    let (width, height) = sides.split_once('x').unwrap_or((sides, sides));
+    Ok(Board {
+        mode: mode(mode_name),
+        width: small(width)?,
+        height: small(height)?,
+        turn: u16::from(small(turn)?),
+        min_food: small(min_food)?,
+        chance: 0,
+        food: cells(alloc, food)?,
+        snakes: snakes(alloc, seats)?,
+    })
+}
+
+/// The board "TURN|FOOD|SNAKE|SNAKE" of the game of that other board.
+pub fn board_after(alloc: Global, before: &Board, text: &str) -> Result<Board, Fail> {
+    let (turn, rest) = text.split_once('|').ok_or("a turn")?;
+    let (food, seats) = rest.split_once('|').ok_or("food")?;
+    Ok(Board {
+        mode: before.mode,
+        width: before.width,
+        height: before.height,
+        turn: u16::from(small(turn)?),
+        min_food: before.min_food,
+        chance: before.chance,
+        food: cells(alloc, food)?,
+        snakes: snakes(alloc, seats)?,
+    })
+}
+
+fn direction(text: &str) -> Result<Direction, Fail> {
+    match text {
+        "up" => Ok(Direction::Up),
+        "down" => Ok(Direction::Down),
+        "left" => Ok(Direction::Left),
+        "right" => Ok(Direction::Right),
+        _ => Err(Fail::from("a direction")),
+    }
+}
+
+/// The move of "ID=DIRECTION" and words for food, each in its order.
+pub fn order(alloc: Global, text: &str) -> Result<Move, Fail> {
+    let mut directions = Vec::new(alloc);
+    let mut words = Vec::new(alloc);
+    for part in text.split(' ') {
+        if let Some((id, to)) = part.split_once('=') {
+            directions.push((id, direction(to)?))?;
+        } else if let Ok(word) = part.parse::<u32>() {
+            words.push(word)?;
+        }
+    }
+    orders(alloc, directions.as_slice(), words.as_slice())
+}
