@@ -1,11 +1,9 @@
 //! Two games side by side in one core, by calls that are drawn from a fixed seed, against each of
 //! them in a core of its own.
-use crate::player::{CAP, finish_and_put, hand, put, take};
+use crate::player::{CAP, Worked, complete, hand, take_worked};
 use bs_board::{Command, Direction};
-use bs_counter::PartKey;
-use bs_fiber::{Done, work};
 use bs_samples::{holds, new_of_three, new_solo, plan_of, same, straight_on, third_goes};
-use bs_sched::{Core, Taken};
+use bs_sched::Core;
 use std::alloc::Global;
 use std::fmt::Write;
 use std::test::Fail;
@@ -34,13 +32,6 @@ impl Draws {
             .wrapping_add(1_442_695_040_888_963_407);
         (self.state >> 33).checked_rem(below).unwrap_or(0)
     }
-}
-
-/// A job that is worked, with its key if it is a part.
-#[derive(Drop)]
-struct Worked {
-    done: Done<CAP>,
-    key: Option<PartKey<Done<CAP>>>,
 }
 
 /// A job that is out with that worker, done in both cores.
@@ -88,23 +79,6 @@ fn open_hosts(alloc: Global) -> Result<Hosts, Fail> {
     })
 }
 
-/// The job that the worker gets, worked.
-fn take_worked(alloc: Global, core: &mut Core<CAP>, worker: usize) -> Result<Option<Worked>, Fail> {
-    match take(alloc, core, worker)? {
-        Taken::Job(ticket) => Ok(Some(Worked {
-            done: work(alloc, ticket)?,
-            key: None,
-        })),
-        Taken::Part(ticket, key) => Ok(Some(Worked {
-            done: work(alloc, ticket)?,
-            key: Some(key),
-        })),
-        Taken::Busy => Ok(None),
-        Taken::Nothing => Ok(None),
-        Taken::Failed => Err(Fail::from("failed")),
-    }
-}
-
 /// A command goes to its game in both cores.
 fn hand_next(alloc: Global, hosts: &mut Hosts, game: usize, command: &Command) -> Result<(), Fail> {
     hand(alloc, &mut hosts.shared, game, command.copy(alloc)?)?;
@@ -138,17 +112,8 @@ fn put_next(hosts: &mut Hosts, place: usize) -> Result<(), Fail> {
     }
     let out = hosts.out.swap_remove(place);
     let core = hosts.lone.get_mut(out.game).ok_or("a game")?;
-    bring(core, out.worker, out.lone)?;
-    bring(&mut hosts.shared, out.worker, out.shared)
-}
-
-/// A part is finished, and the last one brings all of them back.
-fn bring(core: &mut Core<CAP>, worker: usize, worked: Worked) -> Result<(), Fail> {
-    let Worked { done, key } = worked;
-    match key {
-        None => put(core, worker, done),
-        Some(key) => finish_and_put(core, key, done),
-    }
+    complete(core, out.worker, out.lone)?;
+    complete(&mut hosts.shared, out.worker, out.shared)
 }
 
 /// All that one game of a core shows, as a text.

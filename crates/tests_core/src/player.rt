@@ -3,7 +3,7 @@ use arrayvec::ArrayVec;
 use bs_board::Command;
 use bs_counter::{Finish, PartKey, Parted};
 use bs_fiber::{Done, work};
-use bs_samples::{holds, plan_of, same};
+use bs_samples::{holds, plan_of};
 use bs_sched::{Core, Taken};
 use std::alloc::Global;
 use std::sync::Wait;
@@ -41,19 +41,44 @@ pub(crate) fn take(alloc: Global, core: &mut Core<CAP>, worker: usize) -> Result
     Ok(core.take(alloc, worker)?)
 }
 
+/// A job that was run, with its key if it is a part.
+#[derive(Drop)]
+pub(crate) struct Worked {
+    pub(crate) done: Done<CAP>,
+    key: Option<PartKey<Done<CAP>>>,
+}
+
+/// The job that the worker gets, run. None where there is none or the worker is busy.
+pub(crate) fn take_worked(
+    alloc: Global,
+    core: &mut Core<CAP>,
+    worker: usize,
+) -> Result<Option<Worked>, Fail> {
+    holds("the worker is there", worker <= core.workers())?;
+    match core.take(alloc, worker)? {
+        Taken::Job(ticket) => Ok(Some(Worked {
+            done: work(alloc, ticket)?,
+            key: None,
+        })),
+        Taken::Part(ticket, key) => Ok(Some(Worked {
+            done: work(alloc, ticket)?,
+            key: Some(key),
+        })),
+        Taken::Busy => Ok(None),
+        Taken::Nothing => Ok(None),
+        Taken::Failed => Err(Fail::from("failed")),
+    }
+}
+
 /// The Begin or Join that the worker gets, run.
 pub(crate) fn take_done(
     alloc: Global,
     core: &mut Core<CAP>,
     worker: usize,
 ) -> Result<Done<CAP>, Fail> {
-    match take(alloc, core, worker)? {
-        Taken::Job(ticket) => Ok(work(alloc, ticket)?),
-        Taken::Part(_, _) => Err(Fail::from("a part")),
-        Taken::Failed => Err(Fail::from("failed")),
-        Taken::Busy => Err(Fail::from("busy")),
-        Taken::Nothing => Err(Fail::from("nothing")),
-    }
+    let Worked { done, key } = take_worked(alloc, core, worker)?.ok_or("a job")?;
+    holds("no part", key.is_none())?;
+    Ok(done)
 }
 
 /// The part that the worker gets, run, with its key.
@@ -62,15 +87,13 @@ pub(crate) fn take_part(
     core: &mut Core<CAP>,
     worker: usize,
 ) -> Result<(Done<CAP>, PartKey<Done<CAP>>), Fail> {
-    match take(alloc, core, worker)? {
-        Taken::Part(ticket, key) => Ok((work(alloc, ticket)?, key)),
-        _ => Err(Fail::from("no part")),
-    }
+    let Worked { done, key } = take_worked(alloc, core, worker)?.ok_or("a job")?;
+    Ok((done, key.ok_or("a part")?))
 }
 
 /// Finishes the part by its key. All parts, if this was the last.
 pub(crate) fn finish(key: PartKey<Done<CAP>>, done: Done<CAP>) -> Result<Option<DoneParts>, Fail> {
-    same("part of the key", key.part(), done.part())?;
+    holds("the key of the part", key.part() == done.part())?;
     match key.finish(done) {
         Finish::More(spent) => {
             drop(spent);
@@ -92,12 +115,12 @@ pub(crate) fn put(core: &mut Core<CAP>, worker: usize, done: Done<CAP>) -> Resul
         .map_err(|_| Fail::from("a stray of its own core"))
 }
 
-/// Finishes the part by its key, and completes all parts if this was the last.
-pub(crate) fn finish_and_put(
-    core: &mut Core<CAP>,
-    key: PartKey<Done<CAP>>,
-    done: Done<CAP>,
-) -> Result<(), Fail> {
+/// Completes the job. A part is finished by its key, and the last one completes all parts.
+pub(crate) fn complete(core: &mut Core<CAP>, worker: usize, worked: Worked) -> Result<(), Fail> {
+    let Worked { done, key } = worked;
+    let Some(key) = key else {
+        return put(core, worker, done);
+    };
     match finish(key, done)? {
         Some(parts) => put_parts(core, parts),
         None => Ok(()),
@@ -118,10 +141,9 @@ pub(crate) fn play_all<R: Wait>(
     worker: usize,
 ) -> Result<(), Fail> {
     for _ in rt.forever() {
-        match take(alloc, core, worker)? {
-            Taken::Job(ticket) => put(core, worker, work(alloc, ticket)?)?,
-            Taken::Part(ticket, key) => finish_and_put(core, key, work(alloc, ticket)?)?,
-            _ => break,
+        match take_worked(alloc, core, worker)? {
+            Some(worked) => complete(core, worker, worked)?,
+            None => break,
         }
     }
     Ok(())
