@@ -18,8 +18,10 @@ from functions import function_on, proofs_of
 PLACE = re.compile(r"^(?:note: )?(?:\./)?((?:src|proofs)/\S+?):(\d+):\d+: (.*)$")
 LISTED = re.compile(r"^fn (\S+): (?:not proved|no proof)(.*)$", re.M)
 NOT_PROVED = re.compile(r"^logic=not-proved", re.M)
-# An error by which a text could not be read, so that nothing was tried of it.
-UNREAD = re.compile(r"is not in scope|has no field|is no name|operand is missing|expected the end")
+# Words by which a text could not be read, or not be proved for a fault of the prover's own.
+UNREAD = re.compile(
+    r"is not in scope|has no field|is no name|operand is missing|expected the end|a bug in rattle"
+)
 
 
 @dataclass
@@ -119,13 +121,14 @@ def refusal(edit, said, texts, crate):
         is_error = words.startswith("error")
         if path in by_hand and is_error:
             return line
-        if path not in texts or (is_error and UNREAD.search(words)):
+        if path not in texts or UNREAD.search(words):
             continue
         is_refusal = is_error or line.startswith("note: ")
         if is_refusal and (path, function_on(texts[path], number)) in edit.functions:
             return line
     for function, words in LISTED.findall(said):
-        if is_listed(edit, function) and (" did not prove " in words or "it calls" not in words):
+        is_own = " did not prove " in words or "it calls" not in words
+        if is_own and is_listed(edit, function) and not UNREAD.search(words):
             return f"fn {function}{words}"
     return None
 
