@@ -106,7 +106,7 @@ plays_handed plan acts stay at command games core is are fed =
     let new : IsPlayed plan (acts ++ more) (stay, core)
     = played_with plan acts more stay (commands_given stay acts ++ command ∷ []) core made fed given in
     let other : (k : ℕ) (d : ℕ × CoreView) → k < length games → (k ≡ at → ⊥) → stay ≢ (get_or games k d).0
-        → IsPlayed plan (acts ++ more) (get_or (set games at (stay, core)) k d)
+    → IsPlayed plan (acts ++ more) (get_or (set games at (stay, core)) k d)
     = λ k d inside apart differ.
     subst (λ game. IsPlayed plan (acts ++ more) game) (sym (get_or-set_other games at k (stay, core) d apart))
     (played_kept plan acts more (get_or games k d) (are.all k d inside) (given_not stay (get_or games k d).0 command differ)) in

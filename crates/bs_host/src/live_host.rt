@@ -117,7 +117,12 @@ impl LiveHost {
     }
 
     /// Answers the lines between the line feeds of a text, one after the other.
-    pub(crate) fn answer_all(&mut self, alloc: Global, lines: &[u8], text: &mut Vec<u8>) -> Result<(), Run>
+    pub(crate) fn answer_all(
+        &mut self,
+        alloc: Global,
+        lines: &[u8],
+        text: &mut Vec<u8>,
+    ) -> Result<(), Run>
         ensures blocks { OnOk result (self.new.blocks ≡ self.old.blocks) }
         ensures version { OnOk result (self.new.version ≡ self.old.version) }
         ensures answered { (plan : List GameRow) (before : List (List ℕ)) → HasAnswered self.old.blocks self.old.version plan before self.old.cores.open.items self.old.guests self.old.number
@@ -140,7 +145,8 @@ impl LiveHost {
             → OnOk result (text.new.items ≡ text.old.items ++ closing_behind self.now.blocks self.now.version plan lines) }
     {
         for index in 0..self.guests.len() {
-            self.cores.show_final(alloc, self.guests.number(index), text)?;
+            self.cores
+                .show_final(alloc, self.guests.number(index), text)?;
         }
         Ok(())
     }

@@ -16,11 +16,7 @@ use std::alloc::{AllocError, Global};
 const STAY: usize = 0;
 
 /// Appends the last reply of the core's stay.
-fn push_reply(
-    alloc: Global,
-    core: &Core<BLOCK_BYTES>,
-    text: &mut Vec<u8>,
-) -> Result<(), Run>
+fn push_reply(alloc: Global, core: &Core<BLOCK_BYTES>, text: &mut Vec<u8>) -> Result<(), Run>
     ensures { (row : GameRow) (commands : List Command) (command : Command) → IsCoreOf row (commands ++ command ∷ []) core.now → OnOk result
         (text.new.items ≡ text.old.items ++ next_line row commands command) }
 {

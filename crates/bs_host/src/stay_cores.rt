@@ -50,11 +50,7 @@ fn place_of(open: &[(usize, Core<BLOCK_BYTES>)], stay: usize) -> Option<usize>
 
 impl StayCores {
     /// Opens a core for each row of a plan. The stays are numbered from 0.
-    pub(crate) fn open_all(
-        alloc: Global,
-        version: Version,
-        rows: &[Row],
-    ) -> Result<StayCores, Run>
+    pub(crate) fn open_all(alloc: Global, version: Version, rows: &[Row]) -> Result<StayCores, Run>
         ensures { IfOk result (λ cores. ArePlayed rows.now [] cores.open.items) }
     {
         let mut open = Vec::with_capacity(alloc, rows.len())?;

@@ -1,4 +1,4 @@
-use Rattle.std.proofs.Common.{◌≡◌, ◌+◌, [], ◌++◌, List, ℕ, Option, length, refl, sym, subst, rules, inl}
+use Rattle.std.proofs.Common.{◌≡◌, ◌+◌, [], ◌++◌, List, ℕ, Option, Err, length, refl, sym, subst, rules, inl}
 use Rattle.std.specs.Io.KnownBytes.{Appends}
 use Rattle.bs_board.specs.plans.Plan.{GameRow}
 use Rattle.bs_host.specs.declared.live_fault.LiveFault.TheVariants as live
@@ -34,8 +34,8 @@ returns-in_err-extend_from_slice-clause-left g c =
     let count = c.args.written.now in
     let now = g.W.Write.contents c.args.output.now in
     let left : (plan : List GameRow) (after : List ℕ) (first : Option (List ℕ))
-        → IsServing host.blocks host.version plan after pending first now count host.cores.open.items host.guests host.number
-        → (more : List ℕ) → LeavesLines host.blocks host.version plan (pieces_of (after ++ more)) first now live.Memory
+    → IsServing host.blocks host.version plan after pending first now count host.cores.open.items host.guests host.number
+    → (more : List ℕ) → LeavesLines host.blocks host.version plan (pieces_of (after ++ more)) first now live.Memory
     = λ plan after first is more. serving_first host.blocks host.version plan after pending more first now count host.cores.open.items host.guests host.number is in
     search rules
 
@@ -47,8 +47,8 @@ returns-in_err-answer_all-clause-left g c =
     let now = g.W.Write.contents c.args.output.now in
     let error = c.in_err-answer_all.field-0.0 in
     let left : (plan : List GameRow) (after : List ℕ) (first : Option (List ℕ))
-        → IsServing host.blocks host.version plan after pending first now count host.cores.open.items host.guests host.number
-        → (more : List ℕ) → LeavesLines host.blocks host.version plan (pieces_of (after ++ more)) first now (live_fault_of_run error)
+    → IsServing host.blocks host.version plan after pending first now count host.cores.open.items host.guests host.number
+    → (more : List ℕ) → LeavesLines host.blocks host.version plan (pieces_of (after ++ more)) first now (live_fault_of_run error)
     = λ plan after first is more.
     run_leaves host.blocks host.version plan (pieces_of (after ++ more)) first now error
     (serving_first host.blocks host.version plan after pending more first now count host.cores.open.items host.guests host.number is) in
@@ -70,11 +70,11 @@ returns-in_err-write_out-clause-left g c =
     let told = rw c.new-text.ensures.items at c.in_ok-answer_all.ensures.text in
     let stops = rw c.deref-2.ensures.value at c.in_err-write_out.ensures.left in
     let left : (plan : List GameRow) (after : List ℕ) (first : Option (List ℕ))
-        → IsServing host.blocks host.version plan after pending first now count host.cores.open.items host.guests host.number
-        → (more : List ℕ) → LeavesLines host.blocks host.version plan (pieces_of (after ++ more)) first next fault
+    → IsServing host.blocks host.version plan after pending first now count host.cores.open.items host.guests host.number
+    → (more : List ℕ) → LeavesLines host.blocks host.version plan (pieces_of (after ++ more)) first next fault
     = λ plan after first is more.
     let (rest, whole) = serving_text host.blocks host.version plan after pending front back text more first now count host.cores.open.items host.guests host.number is cut
-        (told plan is.done is.answered) in
+    (told plan is.done is.answered) in
     text_leaves host.blocks host.version plan (pieces_of (after ++ more)) (answers_from host.blocks host.version plan [] is.done) text rest first now next count fault
     whole is.counted is.written
     (serving_first host.blocks host.version plan after pending more first now count host.cores.open.items host.guests host.number is)
@@ -83,4 +83,5 @@ returns-in_err-write_out-clause-left g c =
     (serving_answers host.blocks host.version plan after pending front back text first now next count (count + length text) host.cores.open.items new.cores.open.items
     host.guests new.guests host.number new.number is cut (λ before has. c.in_ok-answer_all.ensures.answered plan before has) (λ before has. told plan before has) wrote refl)))
     stops in
-    search rules
+    let same : c.from_residual-in_err-write_out.result ≡ Err c.in_err-write_out.field-0.0 = search rules in
+    rw same left

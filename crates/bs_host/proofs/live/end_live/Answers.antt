@@ -32,8 +32,8 @@ returns-in_err-answer_all-clause-left g c =
     let now = g.W.Write.contents c.args.output.now in
     let error = c.in_err-answer_all.field-0.0 in
     let left : (plan : List GameRow) (after : List ℕ) (first : Option (List ℕ))
-        → IsServing host.blocks host.version plan after c.args.pending.now first now count host.cores.open.items host.guests host.number
-        → LeavesLines host.blocks host.version plan (pieces_of after) first now (live_fault_of_run error)
+    → IsServing host.blocks host.version plan after c.args.pending.now first now count host.cores.open.items host.guests host.number
+    → LeavesLines host.blocks host.version plan (pieces_of after) first now (live_fault_of_run error)
     = λ plan after first is.
     run_leaves host.blocks host.version plan (pieces_of after) first now error
     (serving_last host.blocks host.version plan after c.args.pending.now first now count host.cores.open.items host.guests host.number is) in
@@ -46,8 +46,8 @@ returns-in_err-close-clause-left g c =
     let now = g.W.Write.contents c.args.output.now in
     let error = c.in_err-close.field-0.0 in
     let left : (plan : List GameRow) (after : List ℕ) (first : Option (List ℕ))
-        → IsServing host.blocks host.version plan after c.args.pending.now first now count host.cores.open.items host.guests host.number
-        → LeavesLines host.blocks host.version plan (pieces_of after) first now (live_fault_of_run error)
+    → IsServing host.blocks host.version plan after c.args.pending.now first now count host.cores.open.items host.guests host.number
+    → LeavesLines host.blocks host.version plan (pieces_of after) first now (live_fault_of_run error)
     = λ plan after first is.
     run_leaves host.blocks host.version plan (pieces_of after) first now error
     (serving_last host.blocks host.version plan after c.args.pending.now first now count host.cores.open.items host.guests host.number is) in
@@ -66,8 +66,8 @@ returns-in_err-write_out-clause-left g c =
     let closes = rw (c.in_ok-answer_all.ensures.blocks, c.in_ok-answer_all.ensures.version) at c.in_ok-close.ensures in
     let stops = rw c.deref.ensures.value at c.in_err-write_out.ensures.left in
     let left : (plan : List GameRow) (after : List ℕ) (first : Option (List ℕ))
-        → IsServing host.blocks host.version plan after c.args.pending.now first now count host.cores.open.items host.guests host.number
-        → LeavesLines host.blocks host.version plan (pieces_of after) first next fault
+    → IsServing host.blocks host.version plan after c.args.pending.now first now count host.cores.open.items host.guests host.number
+    → LeavesLines host.blocks host.version plan (pieces_of after) first next fault
     = λ plan after first is.
     let before = answers_from host.blocks host.version plan [] is.done in
     let whole : live_lines_of host.blocks host.version plan (pieces_of after) ≡ before ++ both

@@ -1,4 +1,4 @@
-use Rattle.std.proofs.Common.{◌≡◌, ℕ, List, [], ◌++◌, refl, sym, subst, ◌∙◌, append-nil, append_assoc, rules}
+use Rattle.std.proofs.Common.{◌≡◌, ℕ, List, Err, [], ◌++◌, refl, sym, subst, ◌∙◌, append-nil, append_assoc, rules}
 use Rattle.std.specs.Prelude.{IfSome}
 use Rattle.std.specs.Io.KnownBytes.{Appends, Consumes, IsAtEnd}
 use Rattle.bs_board.specs.plans.Plan.{GameRow}
@@ -70,7 +70,7 @@ returns-then-not-branch-clause-written g c =
     (append_assoc pending bytes more)
     (serving_reads host.blocks host.version plan (pending ++ bytes) c.hold_line.new.pending.items c.read_more.new.pending.items more first now count new.cores.open.items
     new.guests new.number (serving_holds host.blocks host.version plan (pending ++ bytes) c.answer_ready.new.pending.items c.hold_line.new.pending.items first now count
-                new.cores.open.items new.guests new.number (serves plan (pending ++ bytes) first serving) c.hold_line.ensures) got) in
+    new.cores.open.items new.guests new.number (serves plan (pending ++ bytes) first serving) c.hold_line.ensures) got) in
     let same_blocks = c.in_ok-answer_ready.ensures.blocks ∙ inv.0 in
     let same_version = c.in_ok-answer_ready.ensures.version ∙ inv.1 in
     let ends = rw (same_blocks, same_version, c.deref.ensures.value) at c.in_ok-end_live.ensures.written in
@@ -92,12 +92,13 @@ returns-in_err-answer_ready-clause-left g c =
     let inv = c.loop.invariant in
     let stops = rw (inv.0, inv.1) at c.in_err-answer_ready.ensures.left in
     let left : (plan : List GameRow) → HasAnswered host.blocks host.version plan [] host.cores.open.items host.guests host.number
-        → IfSome input (λ left. LeavesLines host.blocks host.version plan (pieces_of (pending ++ left)) first next fault)
+    → IfSome input (λ left. LeavesLines host.blocks host.version plan (pieces_of (pending ++ left)) first next fault)
     = λ plan is.
     let (bytes, before, serving) = inv.2 plan is in
     of_lines host.blocks host.version plan input (g.R.Read.remaining c.loop.input) pending bytes first next fault before
     (λ more. stops plan (pending ++ bytes) first serving more) in
-    search rules
+    let same : c.from_residual.result ≡ Err c.in_err-answer_ready.field-0.0 = search rules in
+    rw same left
 
 pub returns-in_err-read_more-clause-left : goal.returns-in_err-read_more-clause-left
 returns-in_err-read_more-clause-left g c =
@@ -112,7 +113,7 @@ returns-in_err-read_more-clause-left g c =
     let inv = c.loop.invariant in
     let serves = rw (inv.0, inv.1) at c.in_ok-answer_ready.ensures.serving in
     let left : (plan : List GameRow) → HasAnswered host.blocks host.version plan [] host.cores.open.items host.guests host.number
-        → IfSome input (λ left. LeavesLines host.blocks host.version plan (pieces_of (pending ++ left)) first now fault)
+    → IfSome input (λ left. LeavesLines host.blocks host.version plan (pieces_of (pending ++ left)) first now fault)
     = λ plan is.
     let (bytes, before, serving) = inv.2 plan is in
     of_lines host.blocks host.version plan input (g.R.Read.remaining c.loop.input) pending bytes first now fault before
@@ -120,7 +121,8 @@ returns-in_err-read_more-clause-left g c =
     read_leaves host.blocks host.version plan (pieces_of ((pending ++ bytes) ++ more)) first now fault c.in_err-read_more.ensures.fault
     (serving_first host.blocks host.version plan (pending ++ bytes) c.answer_ready.new.pending.items more first now count new.cores.open.items new.guests new.number
     (serves plan (pending ++ bytes) first serving))) in
-    search rules
+    let same : c.from_residual-in_err-read_more.result ≡ Err c.in_err-read_more.field-0.0 = search rules in
+    rw same left
 
 pub returns-in_err-end_live-clause-left : goal.returns-in_err-end_live-clause-left
 returns-in_err-end_live-clause-left g c =
@@ -141,7 +143,7 @@ returns-in_err-end_live-clause-left g c =
     let stops = rw (same_blocks, same_version, c.deref.ensures.value) at c.in_err-end_live.ensures.left in
     let end : IsAtEnd (g.R.Read.remaining c.read_more.new.input) = search rules in
     let left : (plan : List GameRow) → HasAnswered host.blocks host.version plan [] host.cores.open.items host.guests host.number
-        → IfSome input (λ left. LeavesLines host.blocks host.version plan (pieces_of (pending ++ left)) first next fault)
+    → IfSome input (λ left. LeavesLines host.blocks host.version plan (pieces_of (pending ++ left)) first next fault)
     = λ plan is.
     let (bytes, before, serving) = inv.2 plan is in
     let served : IsServing host.blocks host.version plan (pending ++ (bytes ++ more)) c.read_more.new.pending.items first now count new.cores.open.items new.guests new.number
@@ -149,12 +151,13 @@ returns-in_err-end_live-clause-left g c =
     (append_assoc pending bytes more)
     (serving_reads host.blocks host.version plan (pending ++ bytes) c.hold_line.new.pending.items c.read_more.new.pending.items more first now count new.cores.open.items
     new.guests new.number (serving_holds host.blocks host.version plan (pending ++ bytes) c.answer_ready.new.pending.items c.hold_line.new.pending.items first now count
-                new.cores.open.items new.guests new.number (serves plan (pending ++ bytes) first serving) c.hold_line.ensures) got) in
+    new.cores.open.items new.guests new.number (serves plan (pending ++ bytes) first serving) c.hold_line.ensures) got) in
     if_some input
     (λ left some same. subst (λ l. LeavesLines host.blocks host.version plan (pieces_of (pending ++ l)) first next fault) (sym same) (stops plan (pending ++ (bytes ++ more)) first served))
     (all_consumed input (g.R.Read.remaining c.read_more.new.input) (bytes ++ more)
     (consumes_both input (g.R.Read.remaining c.loop.input) (g.R.Read.remaining c.read_more.new.input) bytes more before read) end) in
-    search rules
+    let same : c.from_residual-in_err-end_live.result ≡ Err c.in_err-end_live.field-0.0 = search rules in
+    rw same left
 
 pub returns-clause-left : goal.returns-clause-left
 returns-clause-left g c =
