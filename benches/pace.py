@@ -1,7 +1,7 @@
 #!/usr/bin/python3
 """Times the ladder with bots that answer at once.
 
-    benches/ladder.py [--program PATH] [--games N] [--turns N] [--runs N]
+    benches/pace.py [--program PATH] [--games N] [--turns N] [--runs N]
 
 Games of four snakes are all played at once. The ladder has one processor for itself, the host
 another one, and the bots, which go round in squares without looking at the board, have the rest.
