@@ -93,6 +93,52 @@ fn a_last_board_is_written(rt: HostRuntime) -> Result<(), Fail> {
 const NO_BOARD: &str = r#"{"board":null,"charge":0,"final":true,"game":"a\""}
 "#;
 
+// A board of two digits a side: a snake that left it, one that collided with it, and one that lives.
+fn wide_board(alloc: Global, first: &str) -> Result<Board, AllocError> {
+    let mut outside = snake(alloc, first, 7, &[(-1, 12), (0, 12), (1, 12)])?;
+    outside.cause = Some(Cause::WallCollision);
+    outside.out = Some(100);
+    let mut struck = snake(alloc, "b", 100, &[(10, 9), (9, 9), (9, 10), (10, 10)])?;
+    struck.cause = Some(Cause::BodyCollision);
+    struck.killer = Some(0);
+    struck.out = Some(10_000);
+    let living = snake(alloc, "c", 10, &[(18, 0), (17, 0), (17, 0)])?;
+    Ok(Board {
+        mode: Mode::Standard,
+        width: 19,
+        height: 19,
+        turn: 10_000,
+        min_food: 0,
+        chance: 10,
+        food: cells(alloc, &[(0, 0), (9, 10), (18, 18)])?,
+        snakes: Snakes::from_vec(vec![in alloc; outside, struck, living]?),
+    })
+}
+
+const WIDE_REPLY: &str =
+    r#"{"board":{"food":[{"x":0,"y":0},{"x":9,"y":10},{"x":18,"y":18}],"food_chance":10,"height":19,"min_food":0,"mode":"standard","over":true,"snakes":[{"body":[{"x":-1,"y":12},{"x":0,"y":12},{"x":1,"y":12}],"by":null,"cause":"wall-collision","health":7,"id":"q","out":100},{"body":[{"x":10,"y":9},{"x":9,"y":9},{"x":9,"y":10},{"x":10,"y":10}],"by":"q","cause":"snake-collision","health":100,"id":"b","out":10000},{"body":[{"x":18,"y":0},{"x":17,"y":0},{"x":17,"y":0}],"by":null,"cause":null,"health":10,"id":"c","out":null}],"turn":10000,"width":19},"charge":4294967295,"do":"move","game":"a","seq":12}
+"#;
+
+const WIDE_REPLY_ESCAPED: &str =
+    r#"{"board":{"food":[{"x":0,"y":0},{"x":9,"y":10},{"x":18,"y":18}],"food_chance":10,"height":19,"min_food":0,"mode":"standard","over":true,"snakes":[{"body":[{"x":-1,"y":12},{"x":0,"y":12},{"x":1,"y":12}],"by":null,"cause":"wall-collision","health":7,"id":"q\"","out":100},{"body":[{"x":10,"y":9},{"x":9,"y":9},{"x":9,"y":10},{"x":10,"y":10}],"by":"q\"","cause":"snake-collision","health":100,"id":"b","out":10000},{"body":[{"x":18,"y":0},{"x":17,"y":0},{"x":17,"y":0}],"by":null,"cause":null,"health":10,"id":"c","out":null}],"turn":10000,"width":19},"charge":4294967295,"do":"move","game":"a","seq":12}
+"#;
+
+// The same board with an id that needs no escape, and with one that does.
+#[test]
+fn a_wide_board_is_written(rt: HostRuntime) -> Result<(), Fail> {
+    let alloc = rt.alloc();
+    let plain = [(
+        12,
+        shown(alloc, Word::Move, &wide_board(alloc, "q")?, u32::MAX)?,
+    )];
+    are_written(alloc, "a", &plain, WIDE_REPLY)?;
+    let escaped = [(
+        12,
+        shown(alloc, Word::Move, &wide_board(alloc, "q\"")?, u32::MAX)?,
+    )];
+    are_written(alloc, "a", &escaped, WIDE_REPLY_ESCAPED)
+}
+
 // The replies that show no board, of a game whose name has a mark that is escaped, and the same of
 // one whose name has none.
 const PLAIN_REPLIES: &str = r#"{"charge":0,"do":"end","game":"a\"","seq":3}
