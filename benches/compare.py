@@ -15,7 +15,6 @@
 The peer is built by benches/peer/build, and reads no file of version 3. The status is 0 where all
 agreed.
 """
-import argparse
 import os
 import random
 import subprocess
@@ -33,23 +32,24 @@ import cases
 import drawn
 import limits
 import measure
+import program
 
 PEER = HERE / "peer/out/release/peer"
 DISAGREEMENTS = HERE / "peer/out/disagreements"
-PROGRAM = ROOT / "crates/arena/out/arena"
 BLOCKS = ["--blocks", "512"]  # enough for each shape
 NO_SUCH_GAME = "\U0001f40d"
 NEWER = [measure.stays.__name__]  # shapes of version 3, which the peer does not read
 
 
-def ran(program, words, text=None):
+def run(file, words, text=None):
     """Status, output and standard error, of which a refused command line gives only the status."""
-    done = subprocess.run([program, *words], input=text, capture_output=True)
+    done = subprocess.run([file, *words], input=text, capture_output=True)
     return (2, b"", b"") if done.returncode == 2 else (done.returncode, done.stdout, done.stderr)
 
 
-def told(result):
-    status, output, errors = result
+def describe(answer):
+    """An answer in a few words."""
+    status, output, errors = answer
     return f"status {status}, {len(output)} bytes, {errors.decode(errors='replace').strip()!r}"
 
 
@@ -67,11 +67,12 @@ class Comparison:
 
     def differs(self, words, text=None):
         """In words, where the two differ."""
-        peer, program = ran(PEER, words, text), ran(self.program, words, text)
+        peer, program = run(PEER, words, text), run(self.program, words, text)
         self.compared += 1
         if peer == program:
             return None
-        return f"peer: {told(peer)}; program: {told(program)}{first_difference(peer, program)}"
+        said = f"peer: {describe(peer)}; program: {describe(program)}"
+        return said + first_difference(peer, program)
 
     def file(self, path, more=()):
         """A file with 1 to 4 workers."""
@@ -87,10 +88,10 @@ class Comparison:
 
     def stored(self, path, transcript):
         self.compared += 1
-        peer, wanted = ran(PEER, ["serve", str(path)]), (0, transcript.read_bytes(), b"")
+        peer, wanted = run(PEER, ["serve", str(path)]), (0, transcript.read_bytes(), b"")
         if peer != wanted:
             self.disagreements += 1
-            print(f"{path}: {told(peer)}{first_difference(peer, wanted)}")
+            print(f"{path}: {describe(peer)}{first_difference(peer, wanted)}")
 
     def drawn(self, seed, version, keep):
         rng = random.Random(seed)
@@ -149,11 +150,9 @@ def time_both(program, paths, runs):
                 print(f"{path.stem:24}{workers:>8}{name:>9}{figures}", flush=True)
 
 
-def arguments():
-    raw = argparse.RawDescriptionHelpFormatter
-    parser = argparse.ArgumentParser(description=__doc__, formatter_class=raw)
+def parse_args():
+    parser = program.argument_parser(__doc__)
     parser.add_argument("files", nargs="*", metavar="FILE", type=Path)
-    parser.add_argument("--program", type=Path, default=PROGRAM)
     parser.add_argument("--stored", action="store_true")
     parser.add_argument("--shapes", action="store_true")
     parser.add_argument("--limits", action="store_true")
@@ -162,16 +161,17 @@ def arguments():
     parser.add_argument("--version", type=int, choices=[1, 2], default=2)
     parser.add_argument("--keep", metavar="FOLDER", type=Path, default=DISAGREEMENTS)
     parser.add_argument("--time", metavar="RUNS", type=int, default=0)
-    return parser.parse_args()
+    given = parser.parse_args()
+    if not given.stored:
+        given.program = program.existing(given.program, parser)
+    if not PEER.is_file():
+        parser.error(f"there is no {PEER}; benches/peer/build builds it")
+    return given
 
 
 def main():
-    given = arguments()
-    program = given.program.resolve()
-    for path in [PEER] if given.stored else [PEER, program]:
-        if not path.is_file():
-            sys.exit(f"benches/compare.py: there is no {path}")
-    comparison = Comparison(program)
+    given = parse_args()
+    comparison = Comparison(given.program)
     files = given.files
     if not (files or given.drawn or given.shapes or given.limits):
         # The peer reads no file of version 3.
@@ -189,12 +189,12 @@ def main():
                 )
             for path in files:
                 comparison.file(path, BLOCKS)
-            for name, words, text in limits.made(given.version) if given.limits else ():
+            for name, words, text in limits.runs(given.version) if given.limits else ():
                 comparison.note(name, words, text)
             for seed in range(given.seed, given.seed + given.drawn):
                 comparison.drawn(seed, given.version, given.keep)
             if given.time:
-                time_both(program, files, given.time)
+                time_both(given.program, files, given.time)
     print(f"compared {comparison.compared} runs: {comparison.disagreements} disagreements")
     return 1 if comparison.disagreements else 0
 

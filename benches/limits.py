@@ -1,4 +1,4 @@
-"""Files and command lines at the ends of limits: `made(version)` yields names, words and bytes."""
+"""Files and command lines at the ends of limits: `runs(version)` yields names, words and bytes."""
 import itertools
 import json
 
@@ -192,7 +192,7 @@ def command_lines():
         yield "alone", ["alone", "-", "--game", "a"], text
 
 
-def made(version):
+def runs(version):
     yield from plans()
     yield from line_lengths()
     for one in range(1, version + 1):

@@ -5,16 +5,14 @@ Each shape is served at a size and at twice that size. Printed are the bytes rea
 time (the best of five runs), turns a second, MB a second, the greatest resident memory, and by how
 much time and bytes grew when the file doubled. Run it from anywhere:
 
-    benches/measure.py [PROGRAM]
+    benches/measure.py [--program PATH]
     benches/measure.py --write FOLDER
 
-PROGRAM is crates/arena/out/arena if not given; `./arena --help` builds it. With --write nothing is
+PATH is crates/arena/out/arena if not given; `./arena --help` builds it. With --write nothing is
 timed: the command file of each shape, at the smaller size, is written into the folder.
 """
 
-import argparse
 import itertools
-import json
 import os
 import subprocess
 import sys
@@ -22,13 +20,12 @@ import tempfile
 import time
 from pathlib import Path
 
-ROOT = Path(__file__).resolve().parent.parent
+sys.path.insert(0, str(Path(__file__).resolve().parent.parent / "tests"))
+from program import argument_parser, existing, line
+
 RUNS = 5
-BLOCKS = "512"  # enough for every shape; each block is a mapping of its own, so thousands of them cost time
-
-
-def line(**members):
-    return json.dumps(members, separators=(",", ":"))
+# Enough for every shape. Each block is a mapping of its own, so thousands of them cost time.
+BLOCKS = "512"
 
 
 def plan(names, quota, **more):
@@ -350,36 +347,30 @@ def write_all(folder):
 
 
 def measure_all(program):
-    print(
-        f"{'shape':24}{'read MB':>9}{'written MB':>12}{'seconds':>9}{'turns/s':>10}{'read MB/s':>11}{'written MB/s':>14}{'memory MB':>11}"
-    )
+    titles = f"{'shape':24}{'read MB':>9}{'written MB':>12}{'seconds':>9}{'turns/s':>10}"
+    print(f"{titles}{'read MB/s':>11}{'written MB/s':>14}{'memory MB':>11}")
     with tempfile.TemporaryDirectory() as name:
         for title, shape, size, turns in SHAPES:
             rows = [
                 (count, *measure(program, Path(name), shape, count)) for count in (size, 2 * size)
             ]
             for count, read, written, seconds, memory in rows:
-                speeds = f"{turns(count) / seconds:10.0f}{read / seconds / 1e6:11.1f}{written / seconds / 1e6:14.1f}"
-                print(
-                    f"{title:24}{read / 1e6:9.2f}{written / 1e6:12.2f}{seconds:9.3f}{speeds}{memory:11.1f}"
-                )
+                sizes = f"{title:24}{read / 1e6:9.2f}{written / 1e6:12.2f}{seconds:9.3f}"
+                speeds = f"{turns(count) / seconds:10.0f}{read / seconds / 1e6:11.1f}"
+                print(f"{sizes}{speeds}{written / seconds / 1e6:14.1f}{memory:11.1f}")
             (_, read, written, seconds, _), (_, read2, written2, seconds2, _) = rows
-            print(
-                f"{'':24}file x{read2 / read:.2f}, written x{written2 / written:.2f}, time x{seconds2 / seconds:.2f}"
-            )
+            grown = f"file x{read2 / read:.2f}, written x{written2 / written:.2f}"
+            print(f"{'':24}{grown}, time x{seconds2 / seconds:.2f}")
 
 
 def main():
-    parser = argparse.ArgumentParser(
-        description=__doc__, formatter_class=argparse.RawDescriptionHelpFormatter
-    )
-    parser.add_argument("program", nargs="?", default=str(ROOT / "crates/arena/out/arena"))
+    parser = argument_parser(__doc__)
     parser.add_argument("--write", metavar="FOLDER", type=Path)
     given = parser.parse_args()
     if given.write:
         write_all(given.write)
     else:
-        measure_all(given.program)
+        measure_all(existing(given.program, parser))
 
 
 if __name__ == "__main__":

@@ -131,20 +131,15 @@ def read_bots(paths):
     return bots
 
 
-def told(games, turns, most_open=None):
+def summary(games, turns, most_open=None):
     """What the standard error says of so many games."""
     said = f"{games} games of {turns} moves"
-    if most_open:
-        return (
-            said
-            + f", {most_open} at once: arena serve needs --blocks {blocks_for(min(games, most_open))} or more"
-        )
-    if games > MOST_GAMES:
-        return (
-            said
-            + f": a plan has at most {MOST_GAMES}, so give it to examples/split.py, or use --open"
-        )
-    return said + f": arena serve needs --blocks {blocks_for(games)} or more"
+    if games > MOST_GAMES and not most_open:
+        many = f"a plan has at most {MOST_GAMES}"
+        return f"{said}: {many}, so give it to examples/split.py, or use --open"
+    blocks = blocks_for(min(games, most_open) if most_open else games)
+    at_once = f", {most_open} at once" if most_open else ""
+    return f"{said}{at_once}: arena serve needs --blocks {blocks} or more"
 
 
 def open_games(word):
@@ -176,7 +171,7 @@ def main():
     except (OSError, ValueError) as fault:
         sys.exit(f"round_robin: {fault}")
     print("\n".join(lines))
-    print(told(given.rounds * len(pairings(bots)), given.turns, given.open), file=sys.stderr)
+    print(summary(given.rounds * len(pairings(bots)), given.turns, given.open), file=sys.stderr)
 
 
 if __name__ == "__main__":

@@ -215,8 +215,8 @@ def groups(plan: Plan, found: Routed, most: int) -> Iterator[range]:
         own = sum(found.starts[at] - found.starts[at - 1] for at in found.games[row])
         own += len(row_text(game).encode()) + 1
         if frame + own > LONGEST_FILE:
-            told = f"the file of the game {game.name} alone has {frame + own} bytes"
-            raise ValueError(f"{told}, and a file has at most {LONGEST_FILE}")
+            said = f"the file of the game {game.name} alone has {frame + own} bytes"
+            raise ValueError(f"{said}, and a file has at most {LONGEST_FILE}")
         if row - first == most or size + own > LONGEST_FILE:
             yield range(first, row)
             first, size = row, frame
@@ -255,14 +255,14 @@ def write_files(folder: Path, data: Data, plan: Plan, found: Routed, most: int) 
     return [list(row[1:3]) for row in table[1:]]
 
 
-def told_strays(strays: list[tuple[int, str]]) -> str:
+def describe_strays(strays: list[tuple[int, str]]) -> str:
     counts = Counter(f"{code} {WHY[code]}" for _, code in strays)
     each = ", ".join(f"{word} {count}" for word, count in sorted(counts.items()))
     return f"lines of no game: {each}; the first is line {strays[0][0]}"
 
 
 def split(path: Path, most: int, folder: Path) -> str:
-    """Writes the folder, and answers what is to be told."""
+    """Writes the folder, and returns what the standard error is to say."""
     with open(path, "rb") as file:
         empty = path.stat().st_size == 0
         data: Data = b"" if empty else mmap.mmap(file.fileno(), 0, access=mmap.ACCESS_READ)
@@ -270,12 +270,12 @@ def split(path: Path, most: int, folder: Path) -> str:
         plan = plan_of(line_at(data, starts, 1))
         found = routed(data, plan, starts)
         sizes = write_files(folder, data, plan, found, most)
-    told = [told_strays(found.strays)] if found.strays else []
-    told.append(f"{len(plan.games)} games in {len(sizes)} files of at most {most}")
+    said = [describe_strays(found.strays)] if found.strays else []
+    said.append(f"{len(plan.games)} games in {len(sizes)} files of at most {most}")
     if sizes:
         blocks, memory = map(max, zip(*sizes))
-        told[-1] += f": --array=1-{len(sizes)} --mem={memory} ({blocks} blocks at most)"
-    return "\n".join(told)
+        said[-1] += f": --array=1-{len(sizes)} --mem={memory} ({blocks} blocks at most)"
+    return "\n".join(said)
 
 
 def games_to_a_file(word: str) -> int:

@@ -7,12 +7,12 @@ from pathlib import Path
 
 import cases
 import merge
+import program
 import split
 import standings
 
 HERE = Path(__file__).resolve().parent
 BOTS = sorted((HERE / "bots").glob("*.moves"))
-PROGRAM = Path()  # set by examples/test
 
 NEW = (
     b'{"game":"%b","do":"new","mode":"solo","width":3,"height":3,'
@@ -75,23 +75,23 @@ TAKEN = [
 
 def served(plan: bytes) -> bytes:
     """What one host writes for a command file, or the line with which it refuses it."""
-    words = [PROGRAM, "serve", "-", "--blocks", "960"]
-    ran = subprocess.run(words, input=plan, capture_output=True)
-    return ran.stderr if ran.returncode else ran.stdout
+    status, output, errors = program.run_bytes("serve", "-", "--blocks", "960", text=plan)
+    return errors if status else output
 
 
 def split_and_served(plan: bytes, most: int, folder: Path) -> tuple[bytes, str]:
-    """The merged transcript of the parts of a command file, and what split.py told of it."""
+    """The merged transcript of the parts of a command file, and what split.py said of it."""
     whole, parts, merged = folder / "whole", folder / "parts", folder / "merged"
     whole.write_bytes(plan)
-    told = split.split(whole, most, parts)
+    said = split.split(whole, most, parts)
     for row in rows_of(parts):
-        words = [PROGRAM, "serve", parts / row[0], "--blocks", row[1]]
-        ran = subprocess.run(words, capture_output=True, check=True)
-        (parts / row[0]).with_suffix(".transcript").write_bytes(ran.stdout)
+        status, output, errors = program.run_bytes("serve", parts / row[0], "--blocks", row[1])
+        if status:
+            raise AssertionError(f"{row[0]}: status {status}, {errors!r}")
+        (parts / row[0]).with_suffix(".transcript").write_bytes(output)
     with open(merged, "wb") as out:
         merge.merge(parts, out)
-    return merged.read_bytes(), told
+    return merged.read_bytes(), said
 
 
 def rows_of(parts: Path) -> list[list[str]]:
@@ -180,10 +180,10 @@ class Split(InFolder):
         for most in (1, 8, 64):
             self.assertEqual(self.merged(plan, most), b"".join(sections) + strays)
 
-    def test_what_is_told_and_listed(self):
-        told = self.cut(b"\n".join([PLAN, NEW % b"b", b"", b"x", NEW % b"a", b"{}", b"y"]), 2)
+    def test_what_is_said_and_listed(self):
+        said = self.cut(b"\n".join([PLAN, NEW % b"b", b"", b"x", NEW % b"a", b"{}", b"y"]), 2)
         self.assertEqual(
-            told.splitlines(),
+            said.splitlines(),
             [
                 "lines of no game: L1 json 2, L2 game 1; the first is line 4",
                 "3 games in 2 files of at most 2: --array=1-2 --mem=92 (13 blocks at most)",
@@ -206,8 +206,8 @@ class Split(InFolder):
         self.cut(plan % two + SHOW % b"c" + b"\n" + full + last, 64)
         games_and_bytes = [row[3:] for row in rows_of(self.parts)]
         self.assertEqual(games_and_bytes, [["1", "16777216"], ["2", "85"]])
-        told = "the file of the game a alone has 16777217 bytes, and a file has at most 16777216"
-        self.assertEqual(self.refused(plan % b"" + full + last + b" "), told)
+        said = "the file of the game a alone has 16777217 bytes, and a file has at most 16777216"
+        self.assertEqual(self.refused(plan % b"" + full + last + b" "), said)
 
     def test_version_two_stays(self):
         rows = b'{"game":"a","quota":16},{"game":"b","quota":16}'
@@ -221,8 +221,8 @@ class Split(InFolder):
         )
 
     def test_a_file_of_version_three_is_refused(self):
-        told = "a file of version 3 is not split: which games it admits depends on all its lines"
-        self.assertEqual(self.refused(b'{"games":[],"version":3}'), told)
+        said = "a file of version 3 is not split: which games it admits depends on all its lines"
+        self.assertEqual(self.refused(b'{"games":[],"version":3}'), said)
 
     def test_a_folder_that_is_not_empty_is_refused(self):
         self.parts.mkdir()
@@ -249,11 +249,11 @@ class Merge(InFolder):
         self.assertEqual((ran.returncode, ran.stdout), (1, ""))
         return ran.stderr
 
-    def test_a_missing_transcript_is_told(self):
+    def test_a_missing_transcript_is_reported(self):
         self.second.unlink()
         self.assertEqual(self.refused(), "merge: 1 of 2 are missing: 0002.transcript\n")
 
-    def test_a_broken_transcript_is_told(self):
+    def test_a_broken_transcript_is_reported(self):
         text = self.second.read_bytes()
         lines = text.splitlines(True)
         for broken, said in [

@@ -23,6 +23,8 @@ COMMAND_LINES = [
 ]
 COMMAND_LINES += [
     ["alone", "-"],
+    ["live", "-"],
+    ["live", "--help"],
     ["serve", "-", "--blocks", "x"],
     ["alone", "-", "--game", "a", "--workers", "2"],
     ["serve", b"\xff"],
@@ -53,6 +55,11 @@ class Case:
     def words(self, workers):
         """The command line that serves the case."""
         return ["serve", str(self.file), "--workers", str(workers), "--blocks", str(self.blocks)]
+
+    @property
+    def live_words(self):
+        """The command line that answers the case's lines as they come."""
+        return ["live", "--blocks", str(self.blocks)]
 
 
 @dataclass(frozen=True)
@@ -92,6 +99,22 @@ def sections(transcript):
             found.append((said["game"], open_section))
             open_section = b""
     return found
+
+
+def lines_by_game(text):
+    """The lines of each game by its name, stay after stay, and the stray lines: the same of a
+    transcript and of what `arena live` writes for the file."""
+    found, strays = {}, []
+    for line in text.splitlines(True):
+        said = json.loads(line)
+        if "line" in said:
+            strays.append(line)
+            continue
+        stays_of_game = found.setdefault(said["game"], [[]])
+        stays_of_game[-1].append(line)
+        if "final" in said:
+            stays_of_game.append([])
+    return found, strays
 
 
 def stays(case):

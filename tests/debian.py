@@ -3,7 +3,7 @@ import shutil
 import subprocess
 
 
-def missing(command, *packages):
+def install(command, *packages):
     """Installs the packages where the command is not there. Where it can't be had, the reason in
     words, and else nothing."""
     if shutil.which(command):
@@ -17,5 +17,6 @@ def missing(command, *packages):
         except FileNotFoundError as fault:
             return f"{command} is missing, and there is no {fault.filename}"
         if ran.returncode != 0:
-            return f"{command} is missing, and '{' '.join(words)}' ended with status {ran.returncode}: {ran.stderr.strip()[-300:]}"
+            said = f"'{' '.join(words)}' ended with status {ran.returncode}"
+            return f"{command} is missing, and {said}: {ran.stderr.strip()[-300:]}"
     return None if shutil.which(command) else f"{command} is not in {' '.join(packages)}"

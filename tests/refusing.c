@@ -82,7 +82,10 @@ __attribute__((constructor)) static void begin(void) {
 static void wait_for_threads(void) {
     struct timespec pause = {0, 1000000};
     struct stat threads;
-    for (int waits = 0; waits < 1000 && stat("/proc/self/task", &threads) == 0 && threads.st_nlink > 3; waits++) nanosleep(&pause, NULL);
+    for (int waits = 0; waits < 1000; waits++) {
+        if (stat("/proc/self/task", &threads) != 0 || threads.st_nlink <= 3) break;
+        nanosleep(&pause, NULL);
+    }
 }
 
 // By this the program ends, also where its main returns.

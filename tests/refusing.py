@@ -7,28 +7,14 @@ import debian
 SOURCE = Path(__file__).resolve().parent / "refusing.c"
 
 
-def missing():
-    """Has what compiles it. Where that can't be had, the reason in words, and else nothing."""
-    return debian.missing("gcc", "gcc", "libc6-dev")
+def install():
+    """Installs what compiles it. Where that can't be had, the reason in words, and else nothing."""
+    return debian.install("gcc", "gcc", "libc6-dev")
 
 
-def compiled(folder):
-    """The library, made in the folder."""
+def compile_library(folder):
+    """Makes the library in the folder, and returns its path."""
     library = Path(folder) / "refusing.so"
-    subprocess.run(
-        [
-            "gcc",
-            "-shared",
-            "-fPIC",
-            "-O1",
-            "-Wall",
-            "-Wextra",
-            "-Werror",
-            "-o",
-            library,
-            SOURCE,
-            "-ldl",
-        ],
-        check=True,
-    )
+    words = ["gcc", "-shared", "-fPIC", "-O1", "-Wall", "-Wextra", "-Werror"]
+    subprocess.run([*words, "-o", library, SOURCE, "-ldl"], check=True)
     return library

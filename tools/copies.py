@@ -1,6 +1,5 @@
 """What tools/twins and tools/edits share: reading edits, and copies of crates to try them in."""
 import shutil
-import subprocess
 import sys
 from pathlib import Path
 
@@ -17,7 +16,7 @@ def dependencies():
     return found
 
 
-def chosen(names, uses):
+def choose(names, uses):
     """The named crates, or all. Ends the program where a name is no crate's."""
     unknown = [name for name in names if name not in uses]
     if unknown:
@@ -33,16 +32,19 @@ def below(name, uses):
     return found
 
 
-def copied(name, uses, scratch):
-    """Copies what a check of the crate reads, with its kept proofs. Returns its folder there."""
+def copy_crate(name, uses, scratch):
+    """Copies what a check of the crate reads, with its kept proofs and the built libraries that it
+    stands on. Returns its folder there."""
     if (ROOT / "HANDLES").exists():
         shutil.copy2(ROOT / "HANDLES", scratch)
     (scratch / "crates").mkdir()
     lines = []
     for crate in below(name, uses):
         lines.append(f"{crate}: {' '.join(uses[crate])}\n")
-        words = ["cp", "-a", "--reflink=auto", ROOT / "crates" / crate, scratch / "crates"]
-        subprocess.run(words, check=True)
+        source = ROOT / "crates" / crate
+        is_used_built = crate != name and (source / "out/rlib/stamp").exists()
+        left_out = shutil.ignore_patterns(*["incremental"] * is_used_built)
+        shutil.copytree(source, scratch / "crates" / crate, ignore=left_out)
     (scratch / "crates.txt").write_text("".join(lines))
     return scratch / "crates" / name
 
@@ -57,7 +59,7 @@ def pairs(edit):
     return texts[0], list(zip(texts[1::2], texts[2::2]))
 
 
-def applied(edit):
+def apply(edit):
     """The file that an edit changes, its text after the edit or None, and why it is None."""
     path, changes = pairs(edit)
     file = edit.parent.parent / path

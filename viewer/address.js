@@ -2,13 +2,18 @@
 // names behind the `?`.
 'use strict';
 
-/** The place that an address names, in its own words, stay 1, round 1 and turn 0 where it leaves them out; null where it names no game. */
+/**
+ * The place that an address names, in its own words, stay 1, round 1 and turn 0 where it leaves
+ * them out; null where it names no game.
+ */
 function placeInAddress(hash) {
   const words = new URLSearchParams(hash.replace(/^#/, ''));
   if (!words.has('game')) {
     return null;
   }
-  return { game: words.get('game'), stay: words.get('stay') ?? '1', round: words.get('round') ?? '1', turn: words.get('turn') ?? '0' };
+  const word = (name, usual) => words.get(name) ?? usual;
+  const [stay, round, turn] = [word('stay', '1'), word('round', '1'), word('turn', '0')];
+  return { game: words.get('game'), stay, round, turn };
 }
 
 /** The number that a word of an address is; null where it is none. */
@@ -18,7 +23,8 @@ function numberInAddress(word) {
 
 /** The address of a turn; a first stay is not named. */
 function addressOf(game, stay, round, turn) {
-  return `#${new URLSearchParams(stay === 1 ? { game, round, turn } : { game, stay, round, turn })}`;
+  const place = stay === 1 ? { game, round, turn } : { game, stay, round, turn };
+  return `#${new URLSearchParams(place)}`;
 }
 
 /** The file that the address of the page names, or null. */
@@ -26,7 +32,10 @@ function fileInAddress(search) {
   return new URLSearchParams(search).get('file');
 }
 
-/** Drops the file from the address of the page, since another was chosen; and the turn as well, where it was one of the file before. */
+/**
+ * Drops the file from the address of the page, since another was chosen; and the turn as well,
+ * where it was one of the file before.
+ */
 function forgetAddress(withTurn) {
   const address = new URL(location);
   address.search = '';
@@ -40,11 +49,13 @@ function forgetAddress(withTurn) {
 async function fetchFile(name) {
   const address = new URL(name, document.baseURI);
   if (address.origin !== location.origin || !address.protocol.startsWith('http')) {
-    throw new TranscriptFault('An address can name a file only of the server that the page comes from.');
+    throw new TranscriptFault(
+      'An address can name a file only of the server that the page comes from.');
   }
   const answer = await fetch(address).catch(() => null);
   if (!answer?.ok) {
-    throw new TranscriptFault(answer ? `The server answered ${answer.status}.` : 'The server did not answer.');
+    throw new TranscriptFault(
+      answer ? `The server answered ${answer.status}.` : 'The server did not answer.');
   }
   return answer.blob();
 }

@@ -4,7 +4,10 @@
 const PLOT_WIDTH = 240;
 const PLOT_HEIGHT = 48;
 
-/** The health and the length of each seat by turn; a snake's lists end with the turn in which it goes out. */
+/**
+ * The health and the length of each seat by turn; a snake's lists end with the turn in which it
+ * goes out.
+ */
 class Curves {
   constructor() {
     this.seats = [];
@@ -29,8 +32,8 @@ function plotX(turn, last) {
 }
 
 /**
- * The line through values by turn. Where more than one turn falls on a column of the plot, the line goes through the least and the
- * greatest of them, so that no peak is lost.
+ * The line through values by turn. Where more than one turn falls on a column of the plot, the line
+ * goes through the least and the greatest of them, so that no peak is lost.
  */
 function plotPath(values, greatest, last) {
   const perColumn = Math.max(1, Math.ceil(last / PLOT_WIDTH));
@@ -38,7 +41,9 @@ function plotPath(values, greatest, last) {
   for (let turn = 0; turn < values.length; turn += perColumn) {
     const column = values.slice(turn, turn + perColumn);
     const bounds = [...new Set([Math.max(...column), Math.min(...column)])];
-    points.push(...bounds.map((value) => `${plotX(turn, last).toFixed(1)} ${(PLOT_HEIGHT * (1 - value / greatest)).toFixed(1)}`));
+    const x = plotX(turn, last).toFixed(1);
+    const y = (value) => (PLOT_HEIGHT * (1 - value / greatest)).toFixed(1);
+    points.push(...bounds.map((value) => `${x} ${y(value)}`));
   }
   return points.length === 0 ? '' : `M${points.join('L')}h.1`;
 }

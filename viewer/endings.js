@@ -1,7 +1,10 @@
 // What a transcript leaves of each of its games: one row for the table of games.
 'use strict';
 
-/** What became of a game: only what its lines say. The last board is null where the game was never begun. */
+/**
+ * What became of a game: only what its lines say. The last board is null where the game was never
+ * begun.
+ */
 function endingOf(game, stayText, board) {
   const snakes = board?.snakes ?? [];
   return {
@@ -27,12 +30,16 @@ function stateOf(game, board) {
   return game.running ? 'running' : 'ended';
 }
 
-/** The endings of all games, in the order of their rows. Each board is waited for by itself, so the page answers meanwhile. */
+/**
+ * The endings of all games, in the order of their rows. Each board is waited for by itself, so the
+ * page answers meanwhile.
+ */
 async function endingsOf(transcript) {
   const endings = [];
   for (const game of transcript.games) {
     const line = game.lastBoardLine();
-    endings.push(endingOf(game, transcript.stayText(game), line === null ? null : await transcript.board(line)));
+    const board = line === null ? null : await transcript.board(line);
+    endings.push(endingOf(game, transcript.stayText(game), board));
   }
   return endings;
 }

@@ -2,7 +2,8 @@
 // of the turn.
 'use strict';
 
-const ADDRESS_DELAY = 300; // milliseconds of rest before the address is written, which browsers let a page do only so often
+// Milliseconds of rest before the address is written, which browsers let a page do only so often.
+const ADDRESS_DELAY = 300;
 const NOTHING = { game: null, round: null, turn: 0 };
 
 class GamePanel {
@@ -12,7 +13,8 @@ class GamePanel {
     this.onGame = onGame;
     this.onFault = onFault;
     this.cards = new SnakeCards(page.snakes, (turn) => this.goToTurn(turn));
-    this.refusals = new LongList(page.refusals, (refusal) => refusalItem(refusal, () => this.goToRefusal(refusal)));
+    this.refusals = new LongList(
+      page.refusals, (refusal) => refusalItem(refusal, () => this.goToRefusal(refusal)));
     this.player = new Player(page.play, page.speed, () => this.step(1), () => this.isAtEnd);
     this.close();
     this.listen();
@@ -26,8 +28,10 @@ class GamePanel {
     page.forward.addEventListener('click', () => this.step(1));
     page.last.addEventListener('click', () => this.goToTurn(this.lastTurn));
     page.slider.addEventListener('input', () => this.goToTurn(Number(page.slider.value)));
-    page.round.addEventListener('change', () => this.goTo(this.game, this.game.rounds[page.round.value - 1], 0));
-    page.earlier.addEventListener('change', () => drawBoard(page.board, this.board, page.earlier.checked));
+    page.round.addEventListener(
+      'change', () => this.goTo(this.game, this.game.rounds[page.round.value - 1], 0));
+    page.earlier.addEventListener(
+      'change', () => drawBoard(page.board, this.board, page.earlier.checked));
   }
 
   /** Nothing is looked at any more, and what is still being read is not shown. */
@@ -54,7 +58,9 @@ class GamePanel {
     return this.asked.turn === this.lastTurn;
   }
 
-  /** Shows the board after a turn of a round, unless another is asked for before it has been read. */
+  /**
+   * Shows the board after a turn of a round, unless another is asked for before it has been read.
+   */
   async goTo(game, round, turn) {
     const asked = { game, round, turn };
     this.asked = asked;
@@ -117,7 +123,8 @@ class GamePanel {
     this.page.board.replaceChildren();
     this.page.board.setAttribute('aria-label', 'No board');
     this.page.controls.hidden = true;
-    this.page.facts.textContent = 'No new of this game was accepted, so the transcript holds no board of it.';
+    this.page.facts.textContent =
+      'No new of this game was accepted, so the transcript holds no board of it.';
   }
 
   enter(game, round, board) {
@@ -138,7 +145,9 @@ class GamePanel {
     this.game = game;
     page.name.textContent = game.name;
     page.stay.textContent = this.transcript.stayText(game);
-    page.round.replaceChildren(...game.rounds.map((round, index) => made('option', { value: index + 1 }, `${index + 1} of ${game.rounds.length}`)));
+    const count = game.rounds.length;
+    const option = (number) => made('option', { value: number }, `${number} of ${count}`);
+    page.round.replaceChildren(...game.rounds.map((round, index) => option(index + 1)));
     page.rounds.hidden = game.rounds.length < 2;
     page.controls.hidden = false;
     page.panel.hidden = false;
@@ -154,20 +163,25 @@ class GamePanel {
     page.slider.value = board.turn;
     page.turn.textContent = `Turn ${board.turn} of ${this.lastTurn}`;
     page.slider.setAttribute('aria-valuetext', page.turn.textContent);
-    page.facts.textContent = `${board.mode}, ${board.width} by ${board.height}, food at least ${board.min_food}, chance ${board.food_chance}`
+    const food = `food at least ${board.min_food}, chance ${board.food_chance}`;
+    page.facts.textContent = `${board.mode}, ${board.width} by ${board.height}, ${food}`
       + `${board.over ? ', over' : ''}`;
     this.writeAddress();
   }
 
   /** The link names the turn at once, the address of the page when the turns have come to rest. */
   writeAddress() {
-    const address = addressOf(this.game.name, this.game.stay, this.game.rounds.indexOf(this.round) + 1, this.board.turn);
+    const round = this.game.rounds.indexOf(this.round) + 1;
+    const address = addressOf(this.game.name, this.game.stay, round, this.board.turn);
     this.page.link.setAttribute('href', address);
     clearTimeout(this.addressTimer);
     this.addressTimer = setTimeout(() => history.replaceState(null, '', address), ADDRESS_DELAY);
   }
 
-  /** Reads all boards of the round for the plots, which grow meanwhile; stops when another round is looked at. */
+  /**
+   * Reads all boards of the round for the plots, which grow meanwhile; stops when another round is
+   * looked at.
+   */
   async readCurves() {
     const curves = new Curves();
     this.curves = curves;

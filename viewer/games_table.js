@@ -13,7 +13,8 @@ const SORTED_BY = {
 };
 
 function compareValues(first, second) {
-  return typeof first === 'string' ? first.localeCompare(second, 'en', { numeric: true }) : first - second;
+  const isText = typeof first === 'string';
+  return isText ? first.localeCompare(second, 'en', { numeric: true }) : first - second;
 }
 
 /** The rows in the order of a column; rows that are alike in it keep their order. */
@@ -47,7 +48,8 @@ class GamesTable {
     this.column = null;
     this.isDescending = false;
     for (const head of table.querySelectorAll('th[data-column]')) {
-      head.querySelector('button').addEventListener('click', () => this.sortBy(head.dataset.column));
+      const button = head.querySelector('button');
+      button.addEventListener('click', () => this.sortBy(head.dataset.column));
     }
   }
 
@@ -71,7 +73,8 @@ class GamesTable {
   draw() {
     for (const head of this.table.querySelectorAll('th[data-column]')) {
       const isSorted = head.dataset.column === this.column;
-      head.setAttribute('aria-sort', isSorted ? (this.isDescending ? 'descending' : 'ascending') : 'none');
+      const direction = this.isDescending ? 'descending' : 'ascending';
+      head.setAttribute('aria-sort', isSorted ? direction : 'none');
     }
     this.table.tBodies[0].replaceChildren(...this.inOrder().map((row) => this.rowFor(row)));
     this.markChosen(this.chosen);
@@ -81,8 +84,9 @@ class GamesTable {
     const button = made('button', { type: 'button' }, row.name);
     button.addEventListener('click', () => this.onChoose(row.game));
     const stay = made('span', { className: 'stay' }, row.stayText);
-    const line = made('tr', {}, made('th', { scope: 'row' }, button, stay), made('td', {}, row.state), livingCell(row),
-      numberCell(row.turns), numberCell(row.rounds), numberCell(row.refused), numberCell(row.charge));
+    const name = made('th', { scope: 'row' }, button, stay);
+    const numbers = [row.turns, row.rounds, row.refused, row.charge].map(numberCell);
+    const line = made('tr', {}, name, made('td', {}, row.state), livingCell(row), ...numbers);
     line.dataset.game = row.name;
     line.dataset.stay = row.game.stay;
     return line;
@@ -99,7 +103,10 @@ class GamesTable {
     }
   }
 
-  /** The game so many rows below the chosen one, as the table is sorted now; the first and the last row are the ends. */
+  /**
+   * The game so many rows below the chosen one, as the table is sorted now; the first and the last
+   * row are the ends.
+   */
   gameBeside(step) {
     const rows = this.inOrder();
     const at = rows.findIndex((row) => row.game === this.chosen);

@@ -3,10 +3,12 @@
 'use strict';
 
 const HEAD_BYTES = 32;
-const TAIL_BYTES = 640; // more than follows a board: a game's name has 64 bytes, each at most six as JSON writes it
+// More than follows a board: a game's name has 64 bytes, each at most six as JSON writes it.
+const TAIL_BYTES = 640;
 
 const JSON_TEXT = String.raw`"(?:[^"\\]|\\.)*"`;
-const WITH_BOARD = String.raw`^\{"board":\{"food":\[.*"turn":(?<turn>\d+),"width":\d+\},"charge":(?<charge>\d+)`;
+const WITH_BOARD = String.raw`^\{"board":\{"food":\[.*"turn":(?<turn>\d+),"width":\d+\},`
+  + String.raw`"charge":(?<charge>\d+)`;
 const OF_GAME = `"game":(?<game>${JSON_TEXT})`;
 const NUMBERED = String.raw`"seq":(?<seq>\d+)`;
 
@@ -16,7 +18,8 @@ const LINE_FORMS = Object.entries({
   unshown: String.raw`^\{"charge":\d+,"do":"(?<word>free|end)",${OF_GAME},${NUMBERED}\}$`,
   final: String.raw`${WITH_BOARD},"final":true,${OF_GAME}\}$`,
   finalWithout: String.raw`^\{"board":null,"charge":(?<charge>\d+),"final":true,${OF_GAME}\}$`,
-  stray: String.raw`^\{"line":(?<line>\d+),"no":"(?<reason>L[1-3]|A[1-5])","why":"(?<why>[a-z]+)"\}$`,
+  stray: String.raw`^\{"line":(?<line>\d+),"no":"(?<reason>L[1-3]|A[1-5])",`
+    + String.raw`"why":"(?<why>[a-z]+)"\}$`,
 }).map(([name, pattern]) => ({ name, pattern: new RegExp(pattern, 's') }));
 
 const lineDecoder = new TextDecoder();
@@ -26,10 +29,14 @@ function endsOf(bytes) {
   if (bytes.length <= HEAD_BYTES + TAIL_BYTES) {
     return lineDecoder.decode(bytes);
   }
-  return lineDecoder.decode(bytes.subarray(0, HEAD_BYTES)) + lineDecoder.decode(bytes.subarray(-TAIL_BYTES));
+  const head = lineDecoder.decode(bytes.subarray(0, HEAD_BYTES));
+  return head + lineDecoder.decode(bytes.subarray(-TAIL_BYTES));
 }
 
-/** The form of a line with what its ends tell, numbers as numbers and the game's name still as JSON; null where it has no form. */
+/**
+ * The form of a line with what its ends tell, numbers as numbers and the game's name still as
+ * JSON; null where it has no form.
+ */
 function formOf(bytes) {
   const ends = endsOf(bytes);
   for (const { name, pattern } of LINE_FORMS) {

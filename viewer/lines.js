@@ -15,7 +15,10 @@ function joined(first, second) {
   return both;
 }
 
-/** The whole lines in bytes that begin at a place of a file, without their line feeds, and the bytes after the last of them. */
+/**
+ * The whole lines in bytes that begin at a place of a file, without their line feeds, and the
+ * bytes after the last of them.
+ */
 function cutLines(bytes, place) {
   const lines = [];
   let from = 0;
@@ -27,8 +30,9 @@ function cutLines(bytes, place) {
 }
 
 /**
- * The lines between two places of a file, slice by slice. Each slice is waited for, and meanwhile the browser draws and answers.
- * With the lines of a slice come the place that was reached and the number of bytes that no line feed has ended yet.
+ * The lines between two places of a file, slice by slice. Each slice is waited for, and meanwhile
+ * the browser draws and answers. With the lines of a slice come the place that was reached and the
+ * number of bytes that no line feed has ended yet.
  */
 async function* lineSlices(file, from, to) {
   let rest = new Uint8Array(0);

@@ -54,6 +54,7 @@ class Player {
 
   /** One speed more or less of those that can be chosen. */
   changeSpeed(by) {
-    this.speed.selectedIndex = Math.min(this.speed.length - 1, Math.max(0, this.speed.selectedIndex + by));
+    const wanted = Math.max(0, this.speed.selectedIndex + by);
+    this.speed.selectedIndex = Math.min(this.speed.length - 1, wanted);
   }
 }

@@ -12,7 +12,8 @@ const REASONS = {
   L1: 'no JSON text, or no object',
   L2: 'it names no open game',
   L3: 'it has more than 65,536 bytes',
-  A1: 'the name or the quota of the game to be admitted is missing, of a wrong type or out of range',
+  A1: 'the name or the quota of the game to be admitted is missing, of a wrong type or out of '
+    + 'range',
   A2: 'a game of that name is open',
   A3: '64 games are open',
   A4: 'the game to be admitted needs more blocks than are left',
@@ -25,7 +26,8 @@ function placeOf(refusal) {
   if (refusal.turn === null) {
     return 'before the first new';
   }
-  return `after turn ${refusal.turn.toLocaleString('en')} of round ${refusal.round.toLocaleString('en')}`;
+  const [turn, round] = [refusal.turn, refusal.round].map((it) => it.toLocaleString('en'));
+  return `after turn ${turn} of round ${round}`;
 }
 
 /** A list that shows so many entries, and more when a button below it is pressed. */
@@ -54,9 +56,12 @@ class LongList {
   }
 }
 
-/** One refused command; its place leads to the turn after which it was refused, where there is one. */
+/**
+ * One refused command; its place leads to the turn after which it was refused, where there is one.
+ */
 function refusalItem(refusal, onPlace) {
-  const words = `number ${refusal.seq.toLocaleString('en')}: ${refusal.reason} ${refusal.why}, ${REASONS[refusal.reason]}; `;
+  const why = `${refusal.reason} ${refusal.why}, ${REASONS[refusal.reason]}`;
+  const words = `number ${refusal.seq.toLocaleString('en')}: ${why}; `;
   if (refusal.turn === null) {
     return made('li', {}, words + placeOf(refusal));
   }
@@ -66,5 +71,6 @@ function refusalItem(refusal, onPlace) {
 }
 
 function strayItem(stray) {
-  return made('li', {}, `line ${stray.line.toLocaleString('en')} of the command file: ${stray.reason} ${stray.why}, ${REASONS[stray.reason]}`);
+  const why = `${stray.reason} ${stray.why}, ${REASONS[stray.reason]}`;
+  return made('li', {}, `line ${stray.line.toLocaleString('en')} of the command file: ${why}`);
 }

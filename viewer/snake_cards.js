@@ -8,7 +8,8 @@ class SnakeCard {
     this.seat = seat;
     this.fate = made('span', { className: 'fate' });
     this.numbers = made('span', { className: 'numbers' });
-    this.meter = made('meter', { min: 0, max: 100, low: 25, high: 50, optimum: 100, ariaLabel: `Health of ${snake.id}` });
+    const range = { min: 0, max: 100, low: 25, high: 50, optimum: 100 };
+    this.meter = made('meter', { ...range, ariaLabel: `Health of ${snake.id}` });
     this.plot = drawn('svg', { class: 'plot', role: 'img', preserveAspectRatio: 'none' });
     this.plot.addEventListener('click', (event) => onTurn(turnAtPlot(this.plot, event, this.last)));
     this.look = made('span', {}, swatchPicture(seat));
@@ -25,7 +26,8 @@ class SnakeCard {
     this.fate.textContent = fateOf(snake);
     this.numbers.textContent = `health ${snake.health}, length ${snake.body.length}`;
     this.meter.value = snake.health;
-    this.plot.setAttribute('aria-label', `Health and length of ${snake.id} from turn 0 to turn ${last}`);
+    const label = `Health and length of ${snake.id} from turn 0 to turn ${last}`;
+    this.plot.setAttribute('aria-label', label);
     movePlotLine(this.plot, turn, last);
   }
 }

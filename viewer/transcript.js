@@ -2,9 +2,13 @@
 // the ends of its lines.
 'use strict';
 
-const MOST_LINE_BYTES = 2 * 1024 * 1024; // the largest board, eight snakes of 10,003 parts, is written in 1.3 MB
+// The largest board, eight snakes of 10,003 parts, is written in 1.3 MB.
+const MOST_LINE_BYTES = 2 * 1024 * 1024;
 
-/** What a `turn` in a line has to be, by the word of its command, where so many boards of the round have come before. */
+/**
+ * What a `turn` in a line has to be, by the word of its command, where so many boards of the round
+ * have come before.
+ */
 const FITTING_TURN = {
   new: (turn) => turn === 0,
   move: (turn, boards) => turn === boards,
@@ -12,10 +16,27 @@ const FITTING_TURN = {
   turn: (turn, boards) => turn < boards,
 };
 
+/** The board in the text of a line; a fault where it holds none that can be drawn. */
+function boardInLine(text, number) {
+  let board;
+  try {
+    ({ board } = JSON.parse(text));
+  } catch {
+    throw new TranscriptFault(`Line ${number.toLocaleString('en')} is no JSON.`);
+  }
+  const fault = faultOfBoard(board);
+  if (fault) {
+    const line = number.toLocaleString('en');
+    throw new TranscriptFault(`Line ${line} holds no board that can be drawn: ${fault}.`);
+  }
+  return board;
+}
+
 /**
- * A game in one of its stays, which are counted from 1: a game that was admitted more than once has as many sections. A round is
- * what lies between a `new` and its `end`: its boards are the numbers of the lines that show turn 0, turn 1 and so on. A refusal has
- * the round and the turn after which it came, both null before the first `new`.
+ * A game in one of its stays, which are counted from 1: a game that was admitted more than once has
+ * as many sections. A round is what lies between a `new` and its `end`: its boards are the numbers
+ * of the lines that show turn 0, turn 1 and so on. A refusal has the round and the turn after which
+ * it came, both null before the first `new`.
  */
 class Game {
   constructor(name, stay) {
@@ -35,7 +56,9 @@ class Game {
   }
 }
 
-/** A file whose lines have been found. Lines are numbered from 1, and read when they are asked for. */
+/**
+ * A file whose lines have been found. Lines are numbered from 1, and read when they are asked for.
+ */
 class Transcript {
   constructor(file) {
     this.file = file;
@@ -49,7 +72,10 @@ class Transcript {
     return this.starts[number - 1] ?? this.file.size;
   }
 
-  /** The stays of the games of that name, in their order: none where the transcript has no such game. */
+  /**
+   * The stays of the games of that name, in their order: none where the transcript has no such
+   * game.
+   */
   staysOf(name) {
     return this.staysByName.get(name) ?? [];
   }
@@ -74,13 +100,16 @@ class Transcript {
     return boardInLine(text, number);
   }
 
-  /** The boards of a round, slice by slice, each slice a list from the turn that follows the last. */
+  /**
+   * The boards of a round, slice by slice, each slice a list from the turn that follows the last.
+   */
   async* boardSlices(round) {
     const first = round.boards[0];
     const last = round.boards.at(-1);
     let number = first;
     let turn = 0;
-    for await (const { lines } of lineSlices(this.file, this.startOf(first), this.startOf(last + 1))) {
+    const [from, to] = [this.startOf(first), this.startOf(last + 1)];
+    for await (const { lines } of lineSlices(this.file, from, to)) {
       const boards = [];
       for (const line of lines) {
         if (number === round.boards[turn]) {
@@ -94,7 +123,10 @@ class Transcript {
   }
 }
 
-/** Takes the lines of a file one after the other, and throws a fault at the first that can't stand in a transcript. */
+/**
+ * Takes the lines of a file one after the other, and throws a fault at the first that can't stand
+ * in a transcript.
+ */
 class TranscriptBuilder {
   constructor(file) {
     this.transcript = new Transcript(file);
@@ -103,7 +135,8 @@ class TranscriptBuilder {
   }
 
   fault(why) {
-    return new TranscriptFault(`Line ${this.transcript.starts.length.toLocaleString('en')} ${why}.`);
+    const number = this.transcript.starts.length.toLocaleString('en');
+    return new TranscriptFault(`Line ${number} ${why}.`);
   }
 
   add(line) {
@@ -173,13 +206,17 @@ class TranscriptBuilder {
   /** The round and the turn that the game has come to. */
   lastTurn() {
     const { rounds } = this.game;
-    return rounds.length === 0 ? { round: null, turn: null } : { round: rounds.length, turn: rounds.at(-1).boards.length - 1 };
+    if (rounds.length === 0) {
+      return { round: null, turn: null };
+    }
+    return { round: rounds.length, turn: rounds.at(-1).boards.length - 1 };
   }
 
   addShown(told) {
     const { game } = this;
     if ((told.word === 'new') === (game.running !== null)) {
-      throw this.fault(`shows a board after ${told.word}, ${game.running ? 'while a game runs' : 'where no game runs'}`);
+      const where = game.running ? 'while a game runs' : 'where no game runs';
+      throw this.fault(`shows a board after ${told.word}, ${where}`);
     }
     if (!FITTING_TURN[told.word](told.turn, game.running?.boards.length ?? 0)) {
       throw this.fault(`shows turn ${told.turn}, which can't follow the turns before it`);
@@ -205,7 +242,8 @@ class TranscriptBuilder {
   addFinal(told) {
     const { game } = this;
     if ((told.form === 'final') !== (game.running !== null)) {
-      throw this.fault(`is a final line ${game.running ? 'without' : 'with'} a board, which can't follow the lines before it`);
+      const what = `${game.running ? 'without' : 'with'} a board`;
+      throw this.fault(`is a final line ${what}, which can't follow the lines before it`);
     }
     if (game.running && !FITTING_TURN.show(told.turn, game.running.boards.length)) {
       throw this.fault(`shows turn ${told.turn} at last, which is not the turn before it`);
@@ -231,7 +269,10 @@ class TranscriptBuilder {
   }
 }
 
-/** The transcript in a file; `onProgress` is told the place that was reached, and `isWanted` asked whether to go on. Null where not. */
+/**
+ * The transcript in a file; `onProgress` is told the place that was reached, and `isWanted` asked
+ * whether to go on. Null where not.
+ */
 async function findTranscript(file, onProgress, isWanted) {
   const builder = new TranscriptBuilder(file);
   let unfinished = 0;
@@ -241,7 +282,8 @@ async function findTranscript(file, onProgress, isWanted) {
     }
     slice.lines.forEach((line) => builder.add(line));
     if (slice.unfinished > MOST_LINE_BYTES) {
-      throw new TranscriptFault('The file holds a line that is longer than any line of a transcript.');
+      throw new TranscriptFault(
+        'The file holds a line that is longer than any line of a transcript.');
     }
     unfinished = slice.unfinished;
     onProgress(slice.reached);

@@ -25,12 +25,14 @@ function noticeOf(place, isGame, isStay) {
   if (!isGame) {
     return `The transcript has no game ${place.game}.`;
   }
-  return isStay ? `The game ${place.game} has no turn ${place.turn} in round ${place.round}.` : `The game ${place.game} has no stay ${place.stay}.`;
+  const what = isStay ? `turn ${place.turn} in round ${place.round}` : `stay ${place.stay}`;
+  return `The game ${place.game} has no ${what}.`;
 }
 
 /** The elements of the page by their ids. */
 function elementsOfPage() {
-  return Object.fromEntries([...document.querySelectorAll('[id]')].map((element) => [element.id, element]));
+  const elements = [...document.querySelectorAll('[id]')];
+  return Object.fromEntries(elements.map((element) => [element.id, element]));
 }
 
 class Viewer {
@@ -40,7 +42,8 @@ class Viewer {
     this.transcript = null;
     this.table = new GamesTable(page.games, (game) => this.chooseGame(game));
     this.strays = new LongList(page.strays, strayItem);
-    this.panel = new GamePanel(page, (game) => this.table.markChosen(game), (fault) => this.tell(fault));
+    this.panel = new GamePanel(
+      page, (game) => this.table.markChosen(game), (fault) => this.tell(fault));
     this.setState('empty');
   }
 
@@ -65,7 +68,8 @@ class Viewer {
     try {
       const file = await reading;
       this.page.progress.max = Math.max(1, file.size);
-      const transcript = await findTranscript(file, (reached) => this.showProgress(reached, file.size), isWanted);
+      const onProgress = (reached) => this.showProgress(reached, file.size);
+      const transcript = await findTranscript(file, onProgress, isWanted);
       const endings = transcript && await endingsOf(transcript);
       if (isWanted()) {
         this.show(transcript, endings, file.size);
@@ -73,7 +77,9 @@ class Viewer {
     } catch (fault) {
       if (isWanted()) {
         this.setState('fault');
-        this.tell(fault instanceof TranscriptFault ? new TranscriptFault(`${name} can't be shown. ${fault.message}`) : fault);
+        const isOfFile = fault instanceof TranscriptFault;
+        const said = `${name} can't be shown. ${fault.message}`;
+        this.tell(isOfFile ? new TranscriptFault(said) : fault);
       }
     }
   }
@@ -95,7 +101,8 @@ class Viewer {
 
   show(transcript, endings, size) {
     this.transcript = transcript;
-    this.page.size.textContent = `${megabytes(size)}, ${transcript.starts.length.toLocaleString('en')} lines`;
+    const lines = transcript.starts.length.toLocaleString('en');
+    this.page.size.textContent = `${megabytes(size)}, ${lines} lines`;
     this.panel.open(transcript);
     this.table.show(endings);
     this.strays.show(transcript.strays);
@@ -127,7 +134,9 @@ class Viewer {
     }
   }
 
-  /** Goes to the turn that the address names; says whether it names one that the transcript holds. */
+  /**
+   * Goes to the turn that the address names; says whether it names one that the transcript holds.
+   */
   goToAddress() {
     const place = placeInAddress(location.hash);
     if (!place || !this.transcript) {
@@ -151,13 +160,15 @@ class Viewer {
 /** Whether a key is meant for the element that has the focus. */
 function isKeyOfElement(event) {
   const takesKeys = event.target.closest?.('input, select') ?? null;
-  return takesKeys !== null || (event.key === ' ' && event.target.closest?.('button, a, summary') !== null);
+  const takesSpace = event.target.closest?.('button, a, summary') !== null;
+  return takesKeys !== null || (event.key === ' ' && takesSpace);
 }
 
 function listenToKeys(viewer) {
   document.addEventListener('keydown', (event) => {
     const answer = KEYS[event.key];
-    if (!answer || event.ctrlKey || event.altKey || event.metaKey || isKeyOfElement(event) || !viewer.transcript) {
+    const isCommand = event.ctrlKey || event.altKey || event.metaKey;
+    if (!answer || isCommand || isKeyOfElement(event) || !viewer.transcript) {
       return;
     }
     event.preventDefault();

@@ -14,7 +14,8 @@ PACKAGES = {
     "chromium": ["chromium", "fonts-dejavu-core"],
     "chromedriver": ["chromium-driver"],
 }  # what each program comes with
-ELEMENT = "element-6066-11e4-a52e-4f735466cecf"  # the key of an element's reference, as the protocol names it
+# The key of an element's reference, as the protocol names it.
+ELEMENT = "element-6066-11e4-a52e-4f735466cecf"
 PATIENCE = [
     "-o",
     "Acquire::Retries=1",

@@ -6,7 +6,10 @@ TOURNAMENT = ROOT / "examples" / "six_games.transcript"
 CASES = sorted((ROOT / "examples").glob("*.transcript"))
 
 GAMES = """
-const textOf = (cell) => (cell.querySelector('.chip') ? [...cell.querySelectorAll('.chip')].map((chip) => chip.textContent) : cell.textContent);
+const textOf = (cell) => {
+  const chips = [...cell.querySelectorAll('.chip')].map((chip) => chip.textContent);
+  return chips.length ? chips : cell.textContent;
+};
 return [...document.querySelectorAll('#games tbody tr')].map((row) => [...row.cells].map(textOf));
 """
 
@@ -15,15 +18,19 @@ BOARD = """
 // it.
 const looks = (head) => {
   const { a, b } = head.transform.baseVal.consolidate().matrix;
-  const forward = [...head.querySelectorAll('.eye')].reduce((sum, eye) => sum + eye.cx.baseVal.value, 0);
-  return { '1,0': 'right', '-1,0': 'left', '0,-1': 'up', '0,1': 'down', '0,0': 'nowhere' }[[a, b].map((part) => Math.round(Math.sign(forward) * part) || 0)];
+  const eyes = [...head.querySelectorAll('.eye')];
+  const forward = eyes.reduce((sum, eye) => sum + eye.cx.baseVal.value, 0);
+  const names = { '1,0': 'right', '-1,0': 'left', '0,-1': 'up', '0,1': 'down', '0,0': 'nowhere' };
+  return names[[a, b].map((part) => Math.round(Math.sign(forward) * part) || 0)];
 };
-const cells = (path) => [...path.matchAll(/[ML]([-.0-9]+) ([-.0-9]+)/g)].map((match) => [Number(match[1]), Number(match[2])]);
+const places = /[ML]([-.0-9]+) ([-.0-9]+)/g;
+const cells = (path) => [...path.matchAll(places)].map(([, x, y]) => [Number(x), Number(y)]);
 return {
   turn: document.getElementById('turn').textContent,
   facts: document.getElementById('facts').textContent,
   view: document.getElementById('board').getAttribute('viewBox'),
-  food: [...document.querySelectorAll('#board .food')].map((disc) => [disc.cx.baseVal.value, disc.cy.baseVal.value]),
+  food: [...document.querySelectorAll('#board .food')].map(
+    (disc) => [disc.cx.baseVal.value, disc.cy.baseVal.value]),
   snakes: [...document.querySelectorAll('#board .snake')].map((snake) => ({
     seat: Number(snake.dataset.seat),
     out: snake.classList.contains('out'),
@@ -42,7 +49,9 @@ return {
 """
 
 PLOTS = """
-const points = (path) => [...path.getAttribute('d').matchAll(/[ML]([-.0-9]+) ([-.0-9]+)/g)].map((match) => [Number(match[1]), Number(match[2])]);
+const places = /[ML]([-.0-9]+) ([-.0-9]+)/g;
+const pointOf = ([, x, y]) => [Number(x), Number(y)];
+const points = (path) => [...path.getAttribute('d').matchAll(places)].map(pointOf);
 return [...document.querySelectorAll('#snakes .plot')].map((plot) => ({
   health: plot.querySelector('.health') ? points(plot.querySelector('.health')) : [],
   length: plot.querySelector('.length') ? points(plot.querySelector('.length')) : [],
@@ -87,7 +96,8 @@ class Page:
 
     def texts(self, selector):
         return self.browser.run(
-            "return [...document.querySelectorAll(arguments[0])].map((element) => element.textContent)",
+            "const found = [...document.querySelectorAll(arguments[0])];"
+            "return found.map((element) => element.textContent)",
             selector,
         )
 
@@ -105,7 +115,9 @@ class Page:
         self.browser.run(
             """
             const rows = [...document.querySelectorAll('#games tbody tr')];
-            rows.find((row) => row.dataset.game === arguments[0] && row.dataset.stay === arguments[1]).querySelector('button').click();
+            const [game, stay] = arguments;
+            const isWanted = (row) => row.dataset.game === game && row.dataset.stay === stay;
+            rows.find(isWanted).querySelector('button').click();
         """,
             name,
             str(stay),
@@ -113,7 +125,9 @@ class Page:
         self.browser.wait(
             """
             const marked = document.querySelector('#games [aria-current]');
-            return document.getElementById('name').textContent === arguments[0] && marked.dataset.game === arguments[0] && marked.dataset.stay === arguments[1];
+            const [game, stay] = arguments;
+            const isMarked = marked.dataset.game === game && marked.dataset.stay === stay;
+            return isMarked && document.getElementById('name').textContent === game;
         """,
             name,
             str(stay),
@@ -145,7 +159,9 @@ class Page:
         cells."""
         return self.browser.run(
             """
-            const painted = (selector, property) => [...document.querySelectorAll(selector)].map((element) => getComputedStyle(element)[property]);
+            const all = (selector) => [...document.querySelectorAll(selector)];
+            const painted = (selector, property) =>
+              all(selector).map((element) => getComputedStyle(element)[property]);
             return [...painted('#board .body', 'stroke'), ...painted('#board .cells', 'fill')];
         """
         )

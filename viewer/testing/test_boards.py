@@ -83,10 +83,11 @@ def expected(board, last, with_earlier=False):
         if snake["cause"] is not None and (with_earlier or snake["out"] == board["turn"])
     ]
     living = [(seat, snake) for seat, snake in snakes if snake["cause"] is None]
+    sides = f"{board['width']} by {board['height']}"
+    food = f"food at least {board['min_food']}, chance {board['food_chance']}"
     return {
         "turn": f"Turn {board['turn']} of {last}",
-        "facts": f"{board['mode']}, {board['width']} by {board['height']}, food at least {board['min_food']}, chance {board['food_chance']}"
-        + (", over" if board["over"] else ""),
+        "facts": f"{board['mode']}, {sides}, {food}" + (", over" if board["over"] else ""),
         "view": f"-1 -1 {board['width'] + 2} {board['height'] + 2}",
         "food": middles(board["food"], board["height"]),
         "snakes": [drawn_snake(seat, snake, board) for seat, snake in out + living],

@@ -70,7 +70,8 @@ class LargeTest(PageCase):
         turn_took = time.monotonic() - began
         self.assertEqual(self.page.board(), expected(boards[-1], last))
         print(
-            f"\n{path.stat().st_size / 1e6:.1f} MB, {GAMES} games: open after {took:.2f} s, at most {silence * 1000:.0f} ms without an answer,"
+            f"\n{path.stat().st_size / 1e6:.1f} MB, {GAMES} games: open after {took:.2f} s,"
+            f" at most {silence * 1000:.0f} ms without an answer,"
             f" the last turn of the last game after {turn_took * 1000:.0f} ms"
         )
         self.assertLess(silence, MOST_SILENCE)
@@ -98,7 +99,8 @@ class LargeTest(PageCase):
         )
         self.assertLess(len(plot["health"]), 2 * 240 + 2)
         print(
-            f"\n{path.stat().st_size / 1e6:.1f} MB, one game of {LONG} turns: open after {took:.2f} s,"
-            f" at most {silence * 1000:.0f} ms without an answer, its plot read as well"
+            f"\n{path.stat().st_size / 1e6:.1f} MB, one game of {LONG} turns:"
+            f" open after {took:.2f} s, at most {silence * 1000:.0f} ms without an answer,"
+            " its plot read as well"
         )
         self.assertLess(silence, MOST_SILENCE)

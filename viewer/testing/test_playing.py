@@ -45,7 +45,10 @@ class PlayingTest(PageCase):
         self.page.wait_for_turn(self.last, self.last)
         self.browser.press(SPACE)
         self.browser.wait(
-            "return parseInt(document.getElementById('turn').textContent.split(' ')[1]) < arguments[0]",
+            """
+            const turn = document.getElementById('turn').textContent.split(' ')[1];
+            return parseInt(turn) < arguments[0];
+        """,
             self.last,
         )
 
@@ -59,8 +62,11 @@ class PlayingTest(PageCase):
         self.assertEqual(self.page.text("#play"), "Play")
         held = self.browser.run(
             """
-            const turnAfter = (rest) => new Promise((done) => setTimeout(() => done(document.getElementById('turn').textContent), rest));
-            return Promise.all([turnAfter(150), turnAfter(450)]); // a board that was being read at the pause is shown before the first
+            const turn = () => document.getElementById('turn').textContent;
+            const turnAfter = (rest) =>
+              new Promise((done) => setTimeout(() => done(turn()), rest));
+            // A board that was being read at the pause is shown before the first.
+            return Promise.all([turnAfter(150), turnAfter(450)]);
         """
         )
         self.assertEqual(held[0], held[1])
@@ -106,7 +112,10 @@ class PlayingTest(PageCase):
             const read = Blob.prototype.text;
             Blob.prototype.text = function () {
               Blob.prototype.text = read;
-              return new Promise((done) => setTimeout(() => read.call(this).then(done).finally(() => { window.isReadLate = true; }), 200));
+              const isRead = () => { window.isReadLate = true; };
+              return new Promise((done) => {
+                setTimeout(() => read.call(this).then(done).finally(isRead), 200);
+              });
             };
         """
         )
@@ -221,10 +230,8 @@ class AddressTest(PageCase):
         for page in (f"{shared['server'].root}/viewer/index.html", PAGE.as_uri()):
             self.browser.go(f"{page}?{urlencode({'file': name})}")
             self.page.wait_until_read(name)
-            self.assertEqual(
-                self.page.text("#notice"),
-                f"{name} can't be shown. An address can name a file only of the server that the page comes from.",
-            )
+            why = "An address can name a file only of the server that the page comes from."
+            self.assertEqual(self.page.text("#notice"), f"{name} can't be shown. {why}")
         self.browser.go(self.address(TOURNAMENT, game="hungry", turn=1))
         self.page.wait_for_turn(1, 100)
         asked = self.browser.run(

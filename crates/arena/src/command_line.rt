@@ -1,5 +1,10 @@
 //! The command line: what its words ask for.
-use clap::error::ErrorKind;
+ghost use Rattle.std.specs.Prelude.{◌≡◌, ◌≤◌, ◌∷◌, [], codes, length, map, None, Some, IfOk, IsOk, option_map, false, true};
+ghost use Rattle.std.specs.Prelude.{Bool};
+ghost use Rattle.clap.specs.Words.{App, FailsBy, app_of, found_of, rows_of, rule_of, with_rule};
+ghost use Rattle.arena.specs.Words.{alone_app, alone_asked, arena_app, asked_of, blocks_at, blocks_rule, file_rule, game_rule, live_app, serve_app, serve_asked, stay_rule, workers_rule, workers_at, stay_at, text_at, top_app, IsArgOf, IsCommandOf, command_in, mistakes_in, asked_for, asked_in};
+ghost use Rattle.clap.specs.Words.{subcommand_rows_of};
+
 use clap::{Arg, ArgAction, ArgMatches, Command, Error, value_parser};
 use std::alloc::{AllocError, Global};
 
@@ -14,26 +19,45 @@ const FIRST_STAY: u32 = 1;
 
 const VERSION: &str = "1.0.0";
 
-/// What a command line asks for.
+/// `arena serve`.
 #[derive(Clone, Copy, Debug)]
-pub struct Request<'a> {
+pub struct Serving<'a> {
     pub file: &'a str,
-    /// The game whose own lines alone are served.
-    pub game: Option<&'a str>,
-    /// Which stay of that game, from 1 on.
-    pub stay: u32,
     pub blocks: u16,
     pub workers: u16,
 }
 
-fn file_word<'a>(alloc: Global) -> Arg<'a> {
+/// `arena alone`.
+#[derive(Clone, Copy, Debug)]
+pub struct Solo<'a> {
+    pub file: &'a str,
+    pub game: &'a str,
+    /// Which stay of that game, from 1 on.
+    pub stay: u32,
+    pub blocks: u16,
+}
+
+/// What a command line asks for.
+#[derive(Clone, Copy, Debug)]
+pub enum Request<'a> {
+    Serve(Serving<'a>),
+    Alone(Solo<'a>),
+    /// The number of blocks.
+    Live(u16),
+}
+
+fn file_word<'a>(alloc: Global) -> Arg<'a>
+    ensures { IsArgOf file_rule result }
+{
     Arg::new(alloc, "FILE")
         .required(true)
         .action(ArgAction::Set)
         .help("The command file, or - for the standard input")
 }
 
-fn blocks_option<'a>(alloc: Global) -> Arg<'a> {
+fn blocks_option<'a>(alloc: Global) -> Arg<'a>
+    ensures { IsArgOf blocks_rule result }
+{
     Arg::new(alloc, "blocks")
         .long("blocks")
         .value_name("N")
@@ -43,93 +67,186 @@ fn blocks_option<'a>(alloc: Global) -> Arg<'a> {
         .help("Blocks of 2 MiB that the games may reserve, 1 to 4096")
 }
 
-fn serve_command<'a>(alloc: Global) -> Result<Command<'a>, AllocError> {
-    let workers = Arg::new(alloc, "workers")
+fn workers_option<'a>(alloc: Global) -> Arg<'a>
+    ensures { IsArgOf workers_rule result }
+{
+    Arg::new(alloc, "workers")
         .long("workers")
         .value_name("N")
         .action(ArgAction::Set)
         .value_parser(value_parser!(u16).range(1..=4))
         .default_value("2")
-        .help("Workers that play the games, 1 to 4");
-    Command::new(alloc, "serve")
-        .about("Plays the games of a command file and writes their transcript")
-        .arg(file_word(alloc))?
-        .arg(blocks_option(alloc))?
-        .arg(workers)
+        .help("Workers that play the games, 1 to 4")
 }
 
-fn alone_command<'a>(alloc: Global) -> Result<Command<'a>, AllocError> {
-    let game = Arg::new(alloc, "game")
+fn game_option<'a>(alloc: Global) -> Arg<'a>
+    ensures { IsArgOf game_rule result }
+{
+    Arg::new(alloc, "game")
         .long("game")
         .value_name("NAME")
         .required(true)
         .action(ArgAction::Set)
-        .help("The game to play");
-    let stay = Arg::new(alloc, "stay")
+        .help("The game to play")
+}
+
+fn stay_option<'a>(alloc: Global) -> Arg<'a>
+    ensures { IsArgOf stay_rule result }
+{
+    Arg::new(alloc, "stay")
         .long("stay")
         .value_name("N")
         .action(ArgAction::Set)
         .value_parser(value_parser!(u32).range(1..))
         .default_value("1")
-        .help("Which stay of that game to play, from 1 on");
+        .help("Which stay of that game to play, from 1 on")
+}
+
+#[tactic(auto, using(crate::proofs::Commands::adds_arg))]
+fn serve_command<'a>(alloc: Global) -> Result<Command<'a>, AllocError>
+    ensures { IfOk result (IsCommandOf serve_app) }
+{
+    Command::new(alloc, "serve")
+        .about("Plays the games of a command file and writes their transcript")
+        .arg(file_word(alloc))?
+        .arg(blocks_option(alloc))?
+        .arg(workers_option(alloc))
+}
+
+#[tactic(auto, using(crate::proofs::Commands::adds_arg))]
+fn alone_command<'a>(alloc: Global) -> Result<Command<'a>, AllocError>
+    ensures { IfOk result (IsCommandOf alone_app) }
+{
     Command::new(alloc, "alone")
         .about("Plays one game of a command file by its own lines alone, on one worker")
         .arg(file_word(alloc))?
-        .arg(game)?
-        .arg(stay)?
+        .arg(game_option(alloc))?
+        .arg(stay_option(alloc))?
         .arg(blocks_option(alloc))
 }
 
-fn arena_command<'a>(alloc: Global) -> Result<Command<'a>, AllocError> {
+#[tactic(auto, using(crate::proofs::Commands::adds_arg))]
+fn live_command<'a>(alloc: Global) -> Result<Command<'a>, AllocError>
+    ensures { IfOk result (IsCommandOf live_app) }
+{
+    Command::new(alloc, "live")
+        .about("Answers the lines of the standard input as they come")
+        .arg(blocks_option(alloc))
+}
+
+/// The program's own name and version, with no command yet.
+fn top_command<'a>(alloc: Global) -> Command<'a>
+    ensures { IsCommandOf top_app result }
+{
     Command::new(alloc, "arena")
         .about("A host for many Battlesnake games")
         .version(VERSION)
         .subcommand_required(true)
+}
+
+#[tactic(auto, using(crate::proofs::Commands::adds_subcommand), unfolding(crate::specs::Words::arena_app))]
+fn arena_command<'a>(alloc: Global) -> Result<Command<'a>, AllocError>
+    ensures { IfOk result (IsCommandOf arena_app) }
+{
+    top_command(alloc)
         .subcommand(serve_command(alloc)?)?
-        .subcommand(alone_command(alloc)?)
+        .subcommand(alone_command(alloc)?)?
+        .subcommand(live_command(alloc)?)
 }
 
-fn serve_request<'a>(matches: &ArgMatches<'a>) -> Request<'a> {
-    Request {
-        file: matches.get_str("FILE").unwrap_or(STANDARD_INPUT),
-        game: None,
-        stay: FIRST_STAY,
-        blocks: matches.get_one::<u16>("blocks").unwrap_or(DEFAULT_BLOCKS),
-        workers: matches.get_one::<u16>("workers").unwrap_or(DEFAULT_WORKERS),
+/// The number of blocks that was found for `--blocks`.
+fn blocks_of(matches: &ArgMatches<'_>) -> u16
+    ensures { result ≡ blocks_at (rows_of (found_of matches.now)) }
+{
+    matches.get_one::<u16>("blocks").unwrap_or(DEFAULT_BLOCKS)
+}
+
+/// The number that was found for `--workers`.
+fn workers_of(matches: &ArgMatches<'_>) -> u16
+    ensures { result ≡ workers_at (rows_of (found_of matches.now)) }
+{
+    matches.get_one::<u16>("workers").unwrap_or(DEFAULT_WORKERS)
+}
+
+/// The number that was found for `--stay`.
+fn stay_of(matches: &ArgMatches<'_>) -> u32
+    ensures { result ≡ stay_at (rows_of (found_of matches.now)) }
+{
+    matches.get_one::<u32>("stay").unwrap_or(FIRST_STAY)
+}
+
+/// The text that was found for that name.
+#[tactic(auto, using(crate::proofs::Numbers::text_read))]
+fn text_of<'a>(matches: &ArgMatches<'a>, name: &str, otherwise: &'a str) -> &'a str
+    ensures { result.now ≡ text_at name.now otherwise.now (rows_of (found_of matches.now)) }
+{
+    matches.get_str(name).unwrap_or(otherwise)
+}
+
+fn serve_request<'a>(matches: &ArgMatches<'a>) -> Request<'a>
+    ensures { asked_for result ≡ serve_asked (rows_of (found_of matches.now)) }
+{
+    Request::Serve(Serving {
+        file: text_of(matches, "FILE", STANDARD_INPUT),
+        blocks: blocks_of(matches),
+        workers: workers_of(matches),
+    })
+}
+
+fn alone_request<'a>(matches: &ArgMatches<'a>) -> Request<'a>
+    ensures { asked_for result ≡ alone_asked (rows_of (found_of matches.now)) }
+{
+    Request::Alone(Solo {
+        file: text_of(matches, "FILE", STANDARD_INPUT),
+        game: text_of(matches, "game", ""),
+        stay: stay_of(matches),
+        blocks: blocks_of(matches),
+    })
+}
+
+/// With no command the standard input is served.
+fn default_request<'a>() -> Request<'a>
+    ensures { asked_for result ≡ serve_asked [] }
+{
+    Request::Serve(Serving {
+        file: STANDARD_INPUT,
+        blocks: DEFAULT_BLOCKS,
+        workers: DEFAULT_WORKERS,
+    })
+}
+
+fn request_of<'a>(matches: &ArgMatches<'a>) -> Request<'a>
+    ensures { asked_for result ≡ asked_in (subcommand_rows_of matches.now) }
+{
+    match matches.subcommand() {
+        Some(("alone", alone)) => alone_request(alone),
+        Some(("live", live)) => Request::Live(blocks_of(live)),
+        Some((_, serve)) => serve_request(serve),
+        None => default_request(),
     }
 }
 
-fn alone_request<'a>(matches: &ArgMatches<'a>) -> Request<'a> {
-    Request {
-        file: matches.get_str("FILE").unwrap_or(STANDARD_INPUT),
-        game: matches.get_str("game"),
-        stay: matches.get_one::<u32>("stay").unwrap_or(FIRST_STAY),
-        blocks: matches.get_one::<u16>("blocks").unwrap_or(DEFAULT_BLOCKS),
-        workers: 1,
-    }
+fn match_words<'a>(alloc: Global, words: &'a [&'a str]) -> Result<ArgMatches<'a>, Error>
+    ensures rows { IfOk result (λ matches. subcommand_rows_of matches ≡ command_in (map (λ word. word.now) words.now)) }
+    ensures refused { FailsBy (mistakes_in (map (λ word. word.now) words.now)) result }
+{
+    let command = arena_command(alloc)?;
+    command.try_get_matches_from(words)
 }
 
 /// Reads the words of a command line, the program's name first. With no word behind it the standard
 /// input is served.
-pub fn read_words<'a>(alloc: Global, words: &'a [&'a str]) -> Result<Request<'a>, Error> {
+#[tactic(auto, using(crate::proofs::Requests::few_words, crate::proofs::Requests::more_words))]
+pub fn read_words<'a>(alloc: Global, words: &'a [&'a str]) -> Result<Request<'a>, Error>
+    ensures asked { IfOk result (λ request. asked_for request ≡ asked_of (map (λ word. word.now) words.now)) }
+    ensures refused { 2 ≤ length words.now → FailsBy (mistakes_in (map (λ word. word.now) words.now)) result }
+    ensures few { length words.now ≤ 1 → IsOk result }
+{
     if words.len() <= 1 {
-        return Ok(Request {
-            file: STANDARD_INPUT,
-            game: None,
-            stay: FIRST_STAY,
-            blocks: DEFAULT_BLOCKS,
-            workers: DEFAULT_WORKERS,
-        });
+        return Ok(default_request());
     }
-    let matches = arena_command(alloc)?.try_get_matches_from(words)?;
-    match matches.subcommand() {
-        Some(("alone", alone)) => Ok(alone_request(alone)),
-        Some((_, serve)) => Ok(serve_request(serve)),
-        None => Ok(serve_request(&matches)),
+    match match_words(alloc, words) {
+        Ok(matches) => Ok(request_of(&matches)),
+        Err(error) => Err(error),
     }
-}
-
-/// Whether the words were not judged for want of memory.
-pub fn is_memory(error: &Error) -> bool {
-    matches!(error.kind(), ErrorKind::OutOfMemory)
 }

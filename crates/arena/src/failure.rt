@@ -1,42 +1,45 @@
-//! Why a run fails, and the exit status of each reason.
-use bs_host::{Cut, Fault, ReadFault};
-use thiserror::Error;
+//! Why a request failed, by the call that failed.
+ghost use Rattle.std.specs.Prelude.{◌≡◌};
+ghost use Rattle.arena.specs.Reasons.{reason_of};
 
-/// Why a run ended with a status other than 0 once its command line was understood.
-#[derive(Debug, Drop, Error)]
+use crate::reason::Reason;
+use bs_host::{Cut, Fault, LiveFault, ReadFault};
+
+/// The fault of a request whose command line was understood.
+#[derive(Debug, Drop)]
 pub enum Failure {
-    #[error(transparent)]
     Read(ReadFault),
-    #[error(transparent)]
     Cut(Cut),
-    #[error(transparent)]
     Serve(Fault),
-    #[error("flush failed")]
+    Live(LiveFault),
     Flush,
-    #[error("out of memory")]
-    Memory,
 }
 
 impl Failure {
-    /// The exit status: 3 where the file was not read, 4 where its plan was refused or has no such
-    /// game, 5 for want of memory, 6 where the
-    /// output failed, 7 where the run was broken off.
-    pub fn status(&self) -> u8 {
+    /// The reason, which has the status and the line.
+    pub fn reason(&self) -> Reason
+        ensures { result ≡ reason_of self.now }
+    {
         match self {
-            Failure::Read(ReadFault::Device) => 3,
-            Failure::Read(ReadFault::TooLong) => 3,
-            Failure::Read(ReadFault::Memory) => 5,
-            Failure::Cut(Cut::TooLong) => 3,
-            Failure::Cut(Cut::Plan(_)) => 4,
-            Failure::Cut(Cut::NoSuchGame) => 4,
-            Failure::Cut(Cut::Memory) => 5,
-            Failure::Serve(Fault::TooLong) => 3,
-            Failure::Serve(Fault::Plan(_)) => 4,
-            Failure::Serve(Fault::Memory) => 5,
-            Failure::Serve(Fault::Broken) => 7,
-            Failure::Serve(Fault::Write(_)) => 6,
-            Failure::Flush => 6,
-            Failure::Memory => 5,
+            Failure::Read(ReadFault::Device) => Reason::CannotRead,
+            Failure::Read(ReadFault::TooLong) => Reason::FileTooLong,
+            Failure::Read(ReadFault::Memory) => Reason::OutOfMemory,
+            Failure::Cut(Cut::TooLong) => Reason::FileTooLong,
+            Failure::Cut(Cut::Plan(refusal)) => Reason::Plan(*refusal),
+            Failure::Cut(Cut::NoSuchGame) => Reason::NoSuchGame,
+            Failure::Cut(Cut::Memory) => Reason::OutOfMemory,
+            Failure::Serve(Fault::TooLong) => Reason::FileTooLong,
+            Failure::Serve(Fault::Plan(refusal)) => Reason::Plan(*refusal),
+            Failure::Serve(Fault::Memory) => Reason::OutOfMemory,
+            Failure::Serve(Fault::Broken) => Reason::Broken,
+            Failure::Serve(Fault::Write(written)) => Reason::WriteFailed(*written),
+            Failure::Live(LiveFault::Device) => Reason::CannotRead,
+            Failure::Live(LiveFault::Plan(refusal)) => Reason::Plan(*refusal),
+            Failure::Live(LiveFault::Memory) => Reason::OutOfMemory,
+            Failure::Live(LiveFault::Broken) => Reason::Broken,
+            Failure::Live(LiveFault::Write(written)) => Reason::WriteFailed(*written),
+            Failure::Live(LiveFault::Flush) => Reason::FlushFailed,
+            Failure::Flush => Reason::FlushFailed,
         }
     }
 }

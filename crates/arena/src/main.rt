@@ -1,17 +1,15 @@
-//! The program `arena`: reads a command file, serves it and writes its transcript to the standard
-//! output.
+//! The program `arena`: reads the command line and the file, serves it, and writes the transcript to
+//! the standard output.
 #![tactic(auto)]
 
 mod command_line;
 mod failure;
-#[cfg(test)]
-mod games_tests;
 mod program;
-#[cfg(test)]
-mod tests;
+mod reason;
+mod stream;
 
-use failure::Failure;
 use program::{arena_run, reported, unread_words};
+use reason::Reason;
 use std::alloc::{AllocError, Global};
 use std::io::{Read, Write};
 use std::process::ExitCode;
@@ -19,6 +17,7 @@ use std::rt::Files;
 use std::sync::Wait;
 use std::thread::Threads;
 use std::{env, io};
+use stream::Output;
 
 /// The words of the command line, the program's name first.
 fn words_of(rt: &HostRuntime) -> io::Result<Vec<String>> {
@@ -30,19 +29,20 @@ fn status_on<H: Files + Threads + Wait + Sync, R: Read, W: Write, E: Write>(
     alloc: Global,
     words: &[String],
     input: &mut R,
-    output: &mut W,
-    errors: &mut E,
+    output: &mut Output<W>,
+    errors: &mut Output<E>,
 ) -> Result<u8, AllocError> {
     let texts: Vec<&str> = words.iter().map(|word| word.as_str()).collect(alloc)?;
     Ok(arena_run(rt, alloc, texts.as_slice(), input, output, errors))
 }
 
 fn main(rt: HostRuntime) -> ExitCode {
+    let mut errors = Output::new(rt.stderr());
     let words = match words_of(&rt) {
         Ok(words) => words,
-        Err(error) => return ExitCode::from(unread_words(&error, &mut rt.stderr())),
+        Err(error) => return ExitCode::from(unread_words(&error, &mut errors)),
     };
-    let (mut input, mut output, mut errors) = (rt.stdin(), rt.stdout(), rt.stderr());
+    let (mut input, mut output) = (rt.stdin(), Output::new(rt.stdout()));
     let status = status_on(
         &rt,
         rt.alloc(),
@@ -53,6 +53,6 @@ fn main(rt: HostRuntime) -> ExitCode {
     );
     match status {
         Ok(status) => ExitCode::from(status),
-        Err(AllocError) => ExitCode::from(reported(&Failure::Memory, &mut errors)),
+        Err(AllocError) => ExitCode::from(reported(Reason::OutOfMemory, &mut errors)),
     }
 }

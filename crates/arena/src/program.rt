@@ -1,8 +1,18 @@
 //! A run of the program, over any reader and writers.
-use crate::command_line::{Request, STANDARD_INPUT, is_memory, read_words};
+ghost use Rattle.std.specs.Prelude.{◌≡◌, ◌⊎◌, true, map, IfOk, IfErr, OnOk};
+ghost use Rattle.arena.specs.Outcome.{Concludes, Does, Finishes, IsInput, IsReadFault, IsDone, IsRefused, Explains, PlaysAlone, Serves, ServesFile, ServesLive, Tells};
+ghost use Rattle.arena.specs.Reasons.{reason_of_words};
+ghost use Rattle.arena.specs.Words.{asked_for};
+ghost use Rattle.std.specs.IoError.{error_kind};
+ghost use Rattle.clap.specs.Words.{kind_of};
+
+use crate::command_line::{Request, STANDARD_INPUT, Serving, Solo, read_words};
 use crate::failure::Failure;
-use bs_host::{ReadFault, cut, read_input, serve};
+use crate::reason::Reason;
+use crate::stream::Output;
+use bs_host::{ReadFault, cut, read_input, serve, serve_live};
 use bs_workers::OpenGate;
+use clap::error::ErrorKind;
 use std::alloc::Global;
 use std::fs;
 use std::io::{self, Read, Write};
@@ -10,20 +20,33 @@ use std::rt::Files;
 use std::sync::Wait;
 use std::thread::Threads;
 
-/// The status of a refused command line.
+/// The status of a command line that `clap` refuses.
 const REFUSED: u8 = 2;
 
-/// All bytes of the file that a request names.
-fn input_of<F: Files, R: Read>(
+/// `alone` plays on one worker.
+const LONE_WORKER: u16 = 1;
+
+/// What a file is served with.
+#[derive(Clone, Copy)]
+struct Resources {
+    blocks: u16,
+    workers: u16,
+}
+
+/// Reads all bytes of the file of that name; `-` is the standard input.
+fn read_file<F: Files, R: Read>(
     rt: &F,
     alloc: Global,
-    file: &str,
+    name: &str,
     input: &mut R,
-) -> Result<Vec<u8>, ReadFault> {
-    if file == STANDARD_INPUT {
+) -> Result<Vec<u8>, ReadFault>
+    ensures bytes { IfOk result (λ bytes. IsInput (R.remaining input.old) name.now bytes.items) }
+    ensures fault { IfErr result (IsReadFault (R.remaining input.old) name.now) }
+{
+    if name == STANDARD_INPUT {
         return read_input(alloc, input);
     }
-    match fs::open(rt, file) {
+    match fs::open(rt, name) {
         Ok(mut opened) => read_input(alloc, &mut opened),
         Err(error) => Err(if error.kind() == io::ErrorKind::OutOfMemory {
             ReadFault::Memory
@@ -33,69 +56,144 @@ fn input_of<F: Files, R: Read>(
     }
 }
 
-/// The file to be served: all of it, or the lines of one stay of one of its games.
-fn asked_of(alloc: Global, bytes: Vec<u8>, request: Request<'_>) -> Result<Vec<u8>, Failure> {
-    let Some(game) = request.game else {
-        return Ok(bytes);
-    };
-    let blocks = usize::from(request.blocks);
-    cut(alloc, &bytes, blocks, game, request.stay as usize).map_err(Failure::Cut)
+/// Flushes the output.
+fn finish<W: Write>(output: &mut Output<W>) -> Result<(), Failure>
+    ensures { Finishes W.contents output.old output.new result }
+{
+    output.flush().map_err(|_| Failure::Flush)
 }
 
+/// Writes the transcript of a file, and flushes the output. The core is freed after that.
+fn serve_bytes<H: Threads + Wait + Sync, W: Write>(
+    rt: &H,
+    alloc: Global,
+    bytes: &[u8],
+    with: Resources,
+    output: &mut Output<W>,
+) -> Result<(), Failure>
+    ensures { Serves W.contents with.blocks bytes.now output.old output.new result }
+{
+    let blocks = usize::from(with.blocks);
+    let workers = usize::from(with.workers);
+    let served = serve(rt, alloc, bytes, blocks, workers, &OpenGate, output);
+    let _core = served.map_err(Failure::Serve)?;
+    finish(output)
+}
+
+/// Serves a file whole.
+fn serve_file<H: Files + Threads + Wait + Sync, R: Read, W: Write>(
+    rt: &H,
+    alloc: Global,
+    request: Serving<'_>,
+    input: &mut R,
+    output: &mut Output<W>,
+) -> Result<(), Failure>
+    ensures { ServesFile W.contents (R.remaining input.old) request.entry.file.now request.entry.blocks output.old output.new result }
+{
+    let bytes = read_file(rt, alloc, request.file, input).map_err(Failure::Read)?;
+    let with = Resources {
+        blocks: request.blocks,
+        workers: request.workers,
+    };
+    serve_bytes(rt, alloc, &bytes, with, output)
+}
+
+/// Serves the own lines of one stay of one game of a file.
+fn play_alone<H: Files + Threads + Wait + Sync, R: Read, W: Write>(
+    rt: &H,
+    alloc: Global,
+    request: Solo<'_>,
+    input: &mut R,
+    output: &mut Output<W>,
+) -> Result<(), Failure>
+    ensures { PlaysAlone W.contents (R.remaining input.old) request.entry.file.now (record { game = request.entry.game.now; nth = request.entry.stay }) request.entry.blocks output.old output.new result }
+{
+    let bytes = read_file(rt, alloc, request.file, input).map_err(Failure::Read)?;
+    let blocks = usize::from(request.blocks);
+    let lines = cut(alloc, &bytes, blocks, request.game, request.stay as usize);
+    let lines = lines.map_err(Failure::Cut)?;
+    let with = Resources {
+        blocks: request.blocks,
+        workers: LONE_WORKER,
+    };
+    serve_bytes(rt, alloc, &lines, with, output)
+}
+
+/// Answers the lines of the standard input as they come.
+fn play_live<R: Read, W: Write>(
+    alloc: Global,
+    blocks: u16,
+    input: &mut R,
+    output: &mut Output<W>,
+) -> Result<(), Failure>
+    ensures { ServesLive W.contents (R.remaining input.old) blocks output.old output.new result }
+{
+    serve_live(alloc, input, usize::from(blocks), output).map_err(Failure::Live)?;
+    finish(output)
+}
+
+/// Does what a request asks for.
 fn run<H: Files + Threads + Wait + Sync, R: Read, W: Write>(
     rt: &H,
     alloc: Global,
     request: Request<'_>,
     input: &mut R,
-    output: &mut W,
-) -> Result<(), Failure> {
-    let bytes = input_of(rt, alloc, request.file, input).map_err(Failure::Read)?;
-    let bytes = asked_of(alloc, bytes, request)?;
-    // The core is freed after the flush.
-    let _core = serve(
-        rt,
-        alloc,
-        &bytes,
-        usize::from(request.blocks),
-        usize::from(request.workers),
-        &OpenGate,
-        output,
-    )
-    .map_err(Failure::Serve)?;
-    output.flush().map_err(|_| Failure::Flush)
+    output: &mut Output<W>,
+) -> Result<(), Failure>
+    ensures { Does W.contents (R.remaining input.old) (asked_for request.entry) output.old output.new result }
+{
+    match request {
+        Request::Serve(request) => serve_file(rt, alloc, request, input, output),
+        Request::Alone(request) => play_alone(rt, alloc, request, input, output),
+        Request::Live(blocks) => play_live(alloc, blocks, input, output),
+    }
 }
 
-/// Writes the one line of a fault, and gives its exit status.
-pub fn reported<E: Write>(failure: &Failure, errors: &mut E) -> u8 {
-    // Where the line itself can't be written, the status still tells.
-    let _ = writeln!(errors, "arena: {failure}");
-    failure.status()
+/// Writes the line of a reason, and gives its status.
+pub fn reported<E: Write>(reason: Reason, errors: &mut Output<E>) -> u8
+    ensures { Tells E.contents reason result errors.old errors.new }
+{
+    errors.report(reason);
+    reason.status()
 }
 
-/// Tells why the words of the command line were not read: one of them is no UTF-8, so that the
-/// command line is refused, or memory ran out.
-pub fn unread_words<E: Write>(error: &io::Error, errors: &mut E) -> u8 {
-    if error.kind() != io::ErrorKind::InvalidData {
-        return reported(&Failure::Memory, errors);
+/// The status of an answer to a request. Writes the line of a failure.
+fn concluded<E: Write>(answer: Result<(), Failure>, errors: &mut Output<E>) -> u8
+    ensures { Concludes E.contents answer result errors.old errors.new }
+{
+    match answer {
+        Ok(()) => 0,
+        Err(failure) => reported(failure.reason(), errors),
     }
-    let _ = writeln!(errors, "arena: a word of the command line is no UTF-8");
-    REFUSED
 }
 
-/// The text of a command line that asks for nothing to be served: a mistake, or a request for help.
-fn explained<W: Write, E: Write>(error: &clap::Error, output: &mut W, errors: &mut E) -> u8 {
-    if is_memory(error) {
-        return reported(&Failure::Memory, errors);
-    }
-    if error.use_stderr() {
-        let _ = write!(errors, "{error}");
-        return REFUSED;
-    }
-    let shown = write!(output, "{error}").and_then(|()| output.flush());
-    if shown.is_err() {
-        reported(&Failure::Flush, errors)
-    } else {
-        0
+/// Writes `clap`'s text to the output, and flushes it.
+fn show<W: Write>(error: &clap::Error, output: &mut Output<W>) -> io::Result<()>
+    ensures { OnOk result (output.new.is_flushed ≡ true) }
+{
+    write!(output, "{error}")?;
+    output.flush()
+}
+
+/// Writes `clap`'s text on words that ask for nothing to be served: help or the version to the
+/// output, a mistake to the errors. Gives the status.
+fn explained<W: Write, E: Write>(
+    error: &clap::Error,
+    output: &mut Output<W>,
+    errors: &mut Output<E>,
+) -> u8
+    ensures { Explains E.contents (kind_of error.now) result output.old output.new errors.old errors.new }
+{
+    match error.kind() {
+        ErrorKind::OutOfMemory => reported(Reason::OutOfMemory, errors),
+        ErrorKind::DisplayHelp | ErrorKind::DisplayVersion => match show(error, output) {
+            Ok(()) => 0,
+            Err(_) => reported(Reason::FlushFailed, errors),
+        },
+        _ => {
+            let _ = write!(errors, "{error}");
+            REFUSED
+        }
     }
 }
 
@@ -106,14 +204,26 @@ pub fn arena_run<H: Files + Threads + Wait + Sync, R: Read, W: Write, E: Write>(
     alloc: Global,
     words: &[&str],
     input: &mut R,
-    output: &mut W,
-    errors: &mut E,
-) -> u8 {
+    output: &mut Output<W>,
+    errors: &mut Output<E>,
+) -> u8
+    ensures { IsDone W.contents E.contents (R.remaining input.old) (map (λ word. word.now) words.now) result output.old output.new errors.old errors.new
+        ⊎ IsRefused E.contents (map (λ word. word.now) words.now) result output.old output.new errors.old errors.new }
+{
     match read_words(alloc, words) {
         Err(error) => explained(&error, output, errors),
-        Ok(request) => match run(rt, alloc, request, input, output) {
-            Ok(()) => 0,
-            Err(failure) => reported(&failure, errors),
-        },
+        Ok(request) => concluded(run(rt, alloc, request, input, output), errors),
     }
+}
+
+/// Tells why the words of the command line were not read: one of them is no UTF-8, so that the
+/// command line is refused, or memory ran out.
+pub fn unread_words<E: Write>(error: &io::Error, errors: &mut Output<E>) -> u8
+    ensures { Tells E.contents (reason_of_words (error_kind error.now)) result errors.old errors.new }
+{
+    let reason = match error.kind() {
+        io::ErrorKind::InvalidData => Reason::NoText,
+        _ => Reason::OutOfMemory,
+    };
+    reported(reason, errors)
 }

@@ -3,6 +3,7 @@ pub mod BoardRecord
 pub mod Fields
 pub mod FitSnake
 pub mod KeptRecord
+pub mod LayoutBytes
 pub mod Lengths
 pub mod Parts
 pub mod Repeats

@@ -2,5 +2,6 @@
 pub mod Decoder
 pub mod FitSnake
 pub mod Kept
+pub mod Layout
 pub mod Record
 pub mod Writing

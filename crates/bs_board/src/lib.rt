@@ -33,6 +33,7 @@ pub use records::decoding::decode;
 pub use records::encoding::{encode, encode_into};
 pub use records::kept::{kept_board, kept_ground, kept_snakes};
 pub use records::kept_board::KeptBoard;
+pub use records::layout::{BoardBytes, SnakeBytes, split_board, split_snake};
 pub use records::over::over_of_record;
 pub use records::sizes::size;
 pub use records::snake::{decode_snake, encode_snake_into, snake_size};

@@ -5,6 +5,7 @@ pub mod decoding;
 pub mod encoding;
 pub mod kept;
 pub mod kept_board;
+pub mod layout;
 pub mod over;
 pub mod sizes;
 pub mod snake;

@@ -8,8 +8,6 @@ mod parted;
 mod plays;
 mod steps;
 mod tally;
-#[cfg(test)]
-mod tests;
 mod views;
 
 pub use finish::{Finish, Spent};

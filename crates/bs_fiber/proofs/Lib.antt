@@ -6,6 +6,5 @@ pub mod Gathered
 pub mod Joined
 pub mod Seats
 pub mod Seen
-pub mod ThreeSeats
 pub mod Unseen
 pub mod Written

@@ -130,11 +130,6 @@ both_expected one two expected fit_one fit_two is_one is_two =
     (numbers one two (a.job ∙ sym b.job) (a.worker ∙ sym b.worker) (a.seq ∙ sym b.seq) (a.quota ∙ sym b.quota) (a.charge ∙ sym b.charge)
     (a.kept ∙ sym b.kept) (c.last ∙ sym d.last) (c.asked ∙ sym d.asked) (c.command ∙ sym d.command))
 
--- what is fit for the one view that is seen is fit
-pub fit_for_one_view : (input : Input) (view : View) → IsFitGame input → IsSeen view input → IsFitJob input.job.kind input view → IsFitInput input
-fit_for_one_view input view game seen job =
-    record { game = game; job = λ other too. rw (seen_once input other view too seen) job }
-
 -- what a command comes to in the view that was seen, it comes to in all
 pub begun_once : (input : Input) (view : View) (out : Out) → IsSeen view input → out ≡ begun view input.command
     → (other : View) → IsSeen other input → out ≡ begun other input.command

@@ -19,8 +19,6 @@ mod parts;
 mod piece;
 mod shared;
 mod stopped;
-#[cfg(test)]
-mod tests;
 mod ticket;
 mod viewing;
 

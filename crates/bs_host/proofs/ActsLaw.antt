@@ -48,7 +48,7 @@ IsAcceptable capacity registry (route.Act a) = is_acceptable capacity registry a
 IsAcceptable capacity registry (route.Stray kind) = Unit {0}
 IsAcceptable capacity registry route.Nowhere = Unit {0}
 
-named_is_in : (registry : List Stay) (name : List ℕ) (stay : ℕ) → stay_named registry name ≡ Some stay → is_in registry stay ≡ true
+pub named_is_in : (registry : List Stay) (name : List ℕ) (stay : ℕ) → stay_named registry name ≡ Some stay → is_in registry stay ≡ true
 named_is_in registry name stay is =
     let (within, hit, before) = position-Some (has_name name) registry stay no_stay is in
     and_from _ _ (lt-ltb stay (length registry) within) (and_parts (stay_at registry stay).is_open (is_same_text name (stay_at registry stay).row.game) hit).0
@@ -89,7 +89,7 @@ commands_step stay (route.Stray kind) acts = refl
 commands_step stay route.Nowhere acts = refl
 
 module _ (capacity : Capacity) (version : Version) where
-  rows_made : (registry : List Stay) (number : ℕ) (lines : List (List ℕ))
+  pub rows_made : (registry : List Stay) (number : ℕ) (lines : List (List ℕ))
       → rows_in_registry (registry_behind capacity version registry lines) ≡ rows_in_registry registry ++ rows_admitted (acts_in (routes_from capacity version registry number lines))
   rows_made registry number [] = sym (append-nil (rows_in_registry registry))
   rows_made registry number (text ∷ lines) =

@@ -69,7 +69,7 @@ later_are_lines [] all = refl
 later_are_lines (line ∷ lines) all = (and_parts (is_line line) (are_lines lines) all).1
 
 -- with a line feed for each
-abbrev bytes_of : List (List ℕ) → ℕ
+abbrev pub bytes_of : List (List ℕ) → ℕ
 bytes_of = sum_by (λ line. suc (length line))
 
 length_of_joined : (first : List ℕ) (lines : List (List ℕ)) → length (join_with_byte LINE_FEED (first ∷ lines)) ≡ length first + bytes_of lines
@@ -77,7 +77,7 @@ length_of_joined first lines =
     ap length (joined_behind first lines) ∙ length-append first (behind_feeds lines)
     ∙ ap (λ n. length first + n) (length-flat_map (λ line. LINE_FEED ∷ line) lines)
 
-later_fit : (lines : List (List ℕ)) → bytes_of (later_pieces lines) ≤ length (join_with_byte LINE_FEED lines)
+pub later_fit : (lines : List (List ℕ)) → bytes_of (later_pieces lines) ≤ length (join_with_byte LINE_FEED lines)
 later_fit [] = omega arith
 later_fit (first ∷ lines) = let all = length_of_joined first lines in omega (arith, all)
 

@@ -25,13 +25,13 @@ module _ {X : Type 0} (p : X → Bool) where
   ]
 
   -- the search found no place
-  fails_everywhere : (xs : List X) → position p xs ≡ None → All (λ x. p x ≡ false) xs
+  pub fails_everywhere : (xs : List X) → position p xs ≡ None → All (λ x. p x ≡ false) xs
   fails_everywhere xs none = elim (cases_Bool (ltb (position_or_len p xs) (length xs))) [
     | inl within ↦ let wrong = sym (cond-true _ (Some (position_or_len p xs)) None within) ∙ none in cc
     | inr past ↦ all_fail xs (ltb-false _ _ past)
   ]
 
-abbrev is_feed : ℕ → Bool
+abbrev pub is_feed : ℕ → Bool
 is_feed byte = eqb byte LINE_FEED
 
 -- the first of all bytes that is that one, if there is one, is where a search for it stops
@@ -74,7 +74,7 @@ onto_first_append byte (part ∷ parts) more some = refl
 some_pieces : (text : List ℕ) → 0 < length (pieces_of text)
 some_pieces text = omega (arith, length-slice_split is_feed text)
 
-pieces_between : (front : List ℕ) (feed : ℕ) (back : List ℕ) → is_feed feed ≡ true → pieces_of (front ++ feed ∷ back) ≡ pieces_of front ++ pieces_of back
+pub pieces_between : (front : List ℕ) (feed : ℕ) (back : List ℕ) → is_feed feed ≡ true → pieces_of (front ++ feed ∷ back) ≡ pieces_of front ++ pieces_of back
 pieces_between [] feed back hit = slice_split-cons_yes is_feed feed back hit
 pieces_between (byte ∷ front) feed back hit = elim (cases_Bool (is_feed byte)) [
   | inl hits ↦

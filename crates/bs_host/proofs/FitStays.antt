@@ -1,6 +1,6 @@
 -- Each stay's row is within the limits, and its blocks are no more than the pool has.
 use Rattle.std.proofs.Common.{◌≡◌, ℕ, ◌≤◌, ◌-◌, Bool, true, false, ◌&&◌, not, if◌then◌else◌, nat_lt, List, [], ◌∷◌, Option, Some, None, length, codes, zero, suc, All, inl, inr, refl, arith}
-use Rattle.std.specs.Prelude.{is_some}
+use Rattle.std.specs.Prelude.{is_some, nat_le}
 use Rattle.std.specs.List.{list_all, list_any}
 use Rattle.std.proofs.lemmas.Bool.{cases_Bool, and_parts, leb-true}
 use Rattle.std.proofs.lemmas.List.Elements.{All-push, All-set}
@@ -21,18 +21,30 @@ use Rattle.bs_json.specs.Line.{admit_line, command_line, does, is_space, line_fo
 use Rattle.bs_json.specs.PlanLine.{row_from}
 use Rattle.bs_json.specs.Values.{text_at, value_of}
 use Rattle.bs_sched.specs.PlanBlocks.{blocks_of}
-use Rattle.bs_sched.specs.Stays.{Capacity, Stay, blocks_in_registry, closed_stay, has_name, has_room, is_full, may_admit_in, no_stay, open_stay, stay_at}
+use Rattle.bs_sched.specs.declared.stays.Admit.TheVariants as admit
+use Rattle.bs_sched.specs.Stays.{Capacity, Stay, blocks_in_registry, closed_stay, has_name, has_room, is_full, may_admit_in, no_stay, open_stay, refusal_in_order, stay_at}
 use Rattle.bs_workers.specs.Acts.{opened, stay_named}
-use Rattle.bs_host.specs.Routing.{admit_refusal, admit_route, registry_behind, registry_then, hand_route, leave_route, next_registry, route_of}
+use Rattle.bs_host.specs.Routing.{admit_refusal, admit_route, registry_behind, registry_then, hand_route, leave_route, next_registry, route_of, stray_for}
 use Rattle.bs_host.proofs.CutRows.{IsFitIfRead, row_from_is_fit}
 
 -- the row of a line that admits
+
+-- the reasons that the stays decide
+abbrev pub is_of_stays : Stray → Bool
+is_of_stays stray.Json = false
+is_of_stays stray.Game = false
+is_of_stays stray.Long = false
+is_of_stays stray.BadRow = true
+is_of_stays stray.NameOpen = true
+is_of_stays stray.Full = true
+is_of_stays stray.Short = true
+is_of_stays stray.NoStay = true
 
 abbrev pub IsFitLine : Line → Type 0
 IsFitLine line.Blank = Unit {0}
 IsFitLine (line.Command game command) = Unit {0}
 IsFitLine (line.Bad game) = Unit {0}
-IsFitLine (line.Stray kind) = Unit {0}
+IsFitLine (line.Stray kind) = is_of_stays kind ≡ false
 IsFitLine (line.Admit row) = is_fit_row row ≡ true
 IsFitLine line.BadAdmit = Unit {0}
 IsFitLine (line.Leave game) = Unit {0}
@@ -46,7 +58,7 @@ line_for_is_fit game None = tt
 line_for_is_fit game (Some command) = tt
 
 command_line_is_fit : (version : Version) (d : Data) (name : Option (List ℕ)) → IsFitLine (command_line version d name)
-command_line_is_fit version d None = tt
+command_line_is_fit version d None = refl
 command_line_is_fit version d (Some game) = line_for_is_fit game (command_of version d)
 
 line_in_is_fit : (version : Version) (d : Data) → IsFitLine (line_in version d)
@@ -59,16 +71,16 @@ line_in_is_fit version d = elim (cases_Bool (does (codes "admit") d && has_stays
 ]
 
 line_from_is_fit : (version : Version) (d : Option Data) → IsFitLine (line_from version d)
-line_from_is_fit version None = tt
+line_from_is_fit version None = refl
 line_from_is_fit version (Some d) = elim (cases_Bool (is_some (as_object d))) [
   | inl object ↦ rw object (line_in_is_fit version d)
-  | inr other ↦ rw other tt
+  | inr other ↦ rw other refl
 ]
 
 pub line_is_fit : (version : Version) (text : List ℕ) → IsFitLine (line_of version text)
 unfolding line_of
 line_is_fit version text = elim (cases_Bool (nat_lt MAX_LINE (length text))) [
-  | inl long ↦ rw long tt
+  | inl long ↦ rw long refl
   | inr short ↦ elim (cases_Bool (list_all is_space text)) [
     | inl blank ↦ rw (short, blank) tt
     | inr some ↦ rw (short, some) (line_from_is_fit version (value_of text))
@@ -77,14 +89,18 @@ line_is_fit version text = elim (cases_Bool (nat_lt MAX_LINE (length text))) [
 
 -- who is not refused may come
 
-all_three : (a b c : Bool) → (if a then Some stray.NameOpen else (if b then Some stray.Full else (if c then None else Some stray.Short))) ≡ None → (not a && (not b && c)) ≡ true
-all_three true b c none = absurd cc
-all_three false true c none = absurd cc
-all_three false false true none = refl
-all_three false false false none = absurd cc
+has_room_for : (c : Bool) (left : ℕ) → stray_for (if c then None else Some (admit.Short left)) ≡ None → c ≡ true
+has_room_for true left none = refl
+has_room_for false left none = absurd cc
+
+all_three : (a b : Bool) (needed left : ℕ) → stray_for (refusal_in_order a b needed left) ≡ None → (not a && (not b && nat_le needed left)) ≡ true
+all_three true b needed left none = absurd cc
+all_three false true needed left none = absurd cc
+all_three false false needed left none = has_room_for (nat_le needed left) left none
 
 pub may_come : (capacity : Capacity) (registry : List Stay) (row : GameRow) → admit_refusal capacity registry row ≡ None → may_admit_in capacity registry row ≡ true
-may_come capacity registry row none = all_three (list_any (has_name row.game) registry) (is_full registry) (has_room capacity registry row) none
+may_come capacity registry row none =
+    all_three (list_any (has_name row.game) registry) (is_full registry) (blocks_of capacity.cap row) (capacity.blocks - blocks_in_registry capacity.cap registry) none
 
 pub fits_pool : (capacity : Capacity) (registry : List Stay) (row : GameRow) → admit_refusal capacity registry row ≡ None → blocks_of capacity.cap row ≤ capacity.blocks
 fits_pool capacity registry row none =

@@ -30,7 +30,7 @@ same_refusal capacity registry row =
     let any = told.any row.game in
     rw (any, told.many, told.blocks) refl
 
-same_route : (capacity : Capacity) (registry : List Stay) (l : Line) → route_of capacity registry l ≡ route_by capacity (guests_of registry) l
+pub same_route : (capacity : Capacity) (registry : List Stay) (l : Line) → route_of capacity registry l ≡ route_by capacity (guests_of registry) l
 same_route capacity registry line.Blank = refl
 same_route capacity registry (line.Command game command) = ap (λ o. hand_route o command) ((open_law capacity.cap registry).named game)
 same_route capacity registry (line.Bad game) = ap (λ o. hand_route o command.Bad) ((open_law capacity.cap registry).named game)
@@ -43,7 +43,7 @@ same_route capacity registry (line.Leave (Some game)) = ap leave_route ((open_la
 abbrev pub guests_with : ℕ → List (ℕ × GameRow) → GuestList
 guests_with made stays = record { made = made; stays = stays }
 
-same_next : (capacity : Capacity) (registry : List Stay) (r : Route) → guests_of (registry_then registry r) ≡ guests_then (guests_of registry) r
+pub same_next : (capacity : Capacity) (registry : List Stay) (r : Route) → guests_of (registry_then registry r) ≡ guests_then (guests_of registry) r
 same_next capacity registry (route.Act (act.Hand stay command)) = refl
 same_next capacity registry (route.Act (act.Admit row)) =
     let many : length (registry ++ open_stay row ∷ []) ≡ length registry + 1 = omega (arith, length-append registry (open_stay row ∷ [])) in

@@ -1,6 +1,6 @@
 -- The open stays as the code keeps them: each with the number of its row, and how many rows were
 -- made. They tell all that the routing asks of the registry.
-use Rattle.std.specs.Prelude.{◌≡◌, ℕ, ◌+◌, ◌-◌, Bool, ◌&&◌, not, if◌then◌else◌, List, [], ◌∷◌, ◌++◌, length, count_by, sum_by, nat_eq, nat_lt, nat_le, Option, Some, None, is_some}
+use Rattle.std.specs.Prelude.{◌≡◌, ℕ, ◌+◌, ◌-◌, Bool, ◌&&◌, not, if◌then◌else◌, List, [], ◌∷◌, ◌++◌, length, count_by, sum_by, nat_eq, nat_lt, Option, Some, None, is_some}
 use Rattle.std.specs.List.{filter, list_any}
 use Rattle.bs_board.specs.declared.commands.command.Command.TheVariants as command
 use Rattle.bs_board.specs.declared.limits.TheConstants.{MOST_ROWS}
@@ -15,12 +15,12 @@ use Rattle.bs_json.specs.Line.{line_of}
 use Rattle.bs_sched.specs.PlanBlocks.{blocks_of}
 use Rattle.bs_workers.specs.declared.act.Act.TheVariants as act
 use Rattle.bs_sched.specs.declared.plan_blocks.TheConstants.{MOST_STAYS}
-use Rattle.bs_sched.specs.Stays.{Capacity, Stay, blocks_in_registry, has_name}
+use Rattle.bs_sched.specs.Stays.{Capacity, Stay, blocks_in_registry, has_name, refusal_in_order}
 use Rattle.bs_workers.specs.Acts.{registry_after, stay_named}
 use Rattle.bs_host.specs.declared.guests.Guests.TheInside.{Inside}
 use Rattle.bs_host.specs.declared.route.Route.{Route}
 use Rattle.bs_host.specs.declared.route.Route.TheVariants as route
-use Rattle.bs_host.specs.Routing.{admit_route, command_to, hand_route, leave_route}
+use Rattle.bs_host.specs.Routing.{admit_route, command_to, hand_route, leave_route, stray_for}
 
 pub record GuestList : Type 0 where
   pub made : ℕ
@@ -67,9 +67,9 @@ OpenLaw = (cap : ℕ) (registry : List Stay) → IsToldByOpen cap registry
 
 abbrev pub refusal_by : Capacity → GuestList → GameRow → Option Stray
 refusal_by capacity guests row =
-    if list_any (bears row.game) guests.stays then Some stray.NameOpen
-    else (if not (nat_lt (length guests.stays) MOST_ROWS && nat_lt guests.made MOST_STAYS) then Some stray.Full
-    else (if nat_le (blocks_of capacity.cap row) (capacity.blocks - blocks_in capacity.cap guests.stays) then None else Some stray.Short))
+    stray_for (refusal_in_order (list_any (bears row.game) guests.stays)
+    (not (nat_lt (length guests.stays) MOST_ROWS && nat_lt guests.made MOST_STAYS))
+    (blocks_of capacity.cap row) (capacity.blocks - blocks_in capacity.cap guests.stays))
 
 abbrev pub route_by : Capacity → GuestList → Line → Route
 route_by capacity guests line.Blank = route.Nowhere

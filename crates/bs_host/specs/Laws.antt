@@ -1,16 +1,30 @@
 -- What is known of the stays of a file, and of their lines.
-use Rattle.std.specs.Prelude.{◌≡◌, ◌≢◌, ℕ, ◌<◌, true, List, ◌++◌, length, Some}
+use Rattle.std.specs.Prelude.{◌≡◌, ◌≢◌, ℕ, ◌<◌, ◌≤◌, true, List, ◌∷◌, ◌++◌, length, count_by, Some, None}
 use Rattle.std.specs.List.{filter, filter_map}
+use Rattle.bs_board.specs.declared.commands.command.Command.{Command}
+use Rattle.bs_board.specs.declared.limits.TheConstants.{MOST_ROWS}
 use Rattle.bs_board.specs.declared.plans.version.Version.{Version}
 use Rattle.bs_board.specs.declared.plans.version.Version.TheVariants.{Three}
+use Rattle.bs_board.specs.plans.Plan.{GameRow}
 use Rattle.bs_board.specs.Texts.{is_same_text}
+use Rattle.bs_json.specs.declared.line.Stray.{Stray}
+use Rattle.bs_json.specs.declared.line.Stray.TheVariants as stray
 use Rattle.bs_json.specs.Line.{line_of}
+use Rattle.bs_sched.specs.declared.event.Event.TheVariants as event
+use Rattle.bs_sched.specs.declared.stays.Admit.{Admit}
+use Rattle.bs_sched.specs.declared.stays.Leave.TheVariants as leave
+use Rattle.bs_sched.specs.Coming.{RefusesAdmit, RefusesLeave}
+use Rattle.bs_sched.specs.Lane.{Lane, is_quiet}
+use Rattle.bs_sched.specs.Machine.{Setting, is_enabled, lane_of}
+use Rattle.bs_sched.specs.Registry.{capacity_of as capacity_in, registry_of}
 use Rattle.bs_sched.specs.Stays.{Capacity, Stay}
-use Rattle.bs_workers.specs.Acts.{are_acceptable, command_in, opened, rows_admitted}
+use Rattle.bs_workers.specs.Acts.{are_acceptable, command_in, opened, rows_admitted, stay_named}
 use Rattle.bs_host.specs.Cut.{nth_stay, own_lines_in, own_lines_of, row_at}
 use Rattle.bs_host.specs.File.{pieces_of, later_pieces, rows_of, version_of}
 use Rattle.bs_host.specs.Guests.{guests_of, own_by_guests, routes_by_guests}
-use Rattle.bs_host.specs.Routing.{acts_of, behind_admit, commands_of, capacity_of, is_command_for, routes_from, stays_of, until_leave}
+use Rattle.bs_host.specs.declared.limits.TheConstants.{MOST_FILE_BYTES}
+use Rattle.bs_host.specs.declared.route.Route.TheVariants as route
+use Rattle.bs_host.specs.Routing.{acts_of, admit_refusal, behind_admit, commands_of, capacity_of, is_command_for, registry_behind, route_at, routes_from, stays_of, stray_for, until_leave}
 use Rattle.bs_host.specs.Transcript.{transcript_of}
 
 -- A stay's own lines are those between its `admit` and its `leave` that name its game.
@@ -60,3 +74,31 @@ abbrev pub GuestLinesLaw : Type 0
 GuestLinesLaw =
     (capacity : Capacity) (version : Version) (stay : ℕ) (registry : List Stay) (lines : List (List ℕ))
     → own_lines_in capacity version registry stay lines ≡ own_by_guests capacity version (guests_of registry) stay lines
+
+-- Whatever stays a core has, the host refuses an admission where the core does, and for the core's
+-- reason. A command or a leave goes to the open stay of its name, which takes it, and is refused
+-- where each stay of the name is closed: there the core has none that takes it.
+pub record RefusesAsCore (setting : Setting) (lanes : List Lane) : Type 0 where
+  pub refused : (row : GameRow) (kind : Stray) → admit_refusal (capacity_in setting) (registry_of lanes) row ≡ Some kind
+      → (refusal : Admit) × ((stray_for (Some refusal) ≡ Some kind) × RefusesAdmit setting lanes row refusal)
+  pub reason : (row : GameRow) (refusal : Admit) → RefusesAdmit setting lanes row refusal
+      → admit_refusal (capacity_in setting) (registry_of lanes) row ≡ stray_for (Some refusal)
+  pub admitted : (row : GameRow) → admit_refusal (capacity_in setting) (registry_of lanes) row ≡ None → is_enabled setting lanes (event.Admit row) ≡ true
+  pub hands : (name : List ℕ) (stay : ℕ) (command : Command) → stay_named (registry_of lanes) name ≡ Some stay
+      → is_enabled setting lanes (event.Hand stay command) ≡ true
+  pub leaves : (name : List ℕ) (stay : ℕ) → stay_named (registry_of lanes) name ≡ Some stay → is_quiet (lane_of lanes stay) ≡ true
+      → is_enabled setting lanes (event.Leave stay) ≡ true
+  pub closed : (name : List ℕ) (stay : ℕ) → stay_named (registry_of lanes) name ≡ None → stay < length lanes
+      → is_same_text name (lane_of lanes stay).row.game ≡ true → RefusesLeave (lane_of lanes stay) leave.Closed
+
+abbrev pub CoreLaw : Type 0
+CoreLaw = (setting : Setting) (lanes : List Lane) → RefusesAsCore setting lanes
+
+-- In a file that is not too long, an admission is told to be one too many only where as many stays
+-- are open as a plan may have games. How many have left decides nothing.
+abbrev pub FullLaw : Type 0
+FullLaw =
+    (blocks : ℕ) (file text : List ℕ) (earlier later : List (List ℕ)) → length file ≤ MOST_FILE_BYTES
+    → later_pieces (pieces_of file) ≡ earlier ++ text ∷ later
+    → route_at (capacity_of blocks) (version_of file) (registry_behind (capacity_of blocks) (version_of file) (opened (rows_of file)) earlier) text ≡ route.Stray stray.Full
+    → MOST_ROWS ≤ count_by (λ entry. entry.is_open) (registry_behind (capacity_of blocks) (version_of file) (opened (rows_of file)) earlier)

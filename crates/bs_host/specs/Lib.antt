@@ -4,6 +4,8 @@ pub mod File
 pub mod Guests
 pub mod Hosted
 pub mod Laws
+pub mod Live
+pub mod LiveFaults
 pub mod Parsed
 pub mod Routing
 pub mod Transcript

@@ -1,7 +1,7 @@
 -- Where each line of a command file goes: to the core as an act, to the strays, or nowhere. The
 -- registry of stays goes along.
-use Rattle.std.specs.Prelude.{◌≡◌, ℕ, ◌+◌, nat_lt, Bool, List, [], ◌∷◌, ◌++◌, length, fold, Option, Some, None, option_map, if◌then◌else◌}
-use Rattle.std.specs.List.{filter_map, list_any}
+use Rattle.std.specs.Prelude.{◌≡◌, ℕ, ◌+◌, nat_lt, Bool, List, [], ◌∷◌, length, fold, Option, Some, None, option_map, if◌then◌else◌}
+use Rattle.std.specs.List.{filter_map}
 use Rattle.bs_board.specs.declared.commands.command.Command.{Command}
 use Rattle.bs_board.specs.declared.commands.command.Command.TheVariants as command
 use Rattle.bs_board.specs.declared.plans.version.Version.{Version}
@@ -14,7 +14,9 @@ use Rattle.bs_json.specs.declared.line.Stray.TheVariants as stray
 use Rattle.bs_json.specs.Line.{line_of}
 use Rattle.bs_workers.specs.declared.act.Act.{Act}
 use Rattle.bs_workers.specs.declared.act.Act.TheVariants as act
-use Rattle.bs_sched.specs.Stays.{Capacity, Stay, has_name, has_room, is_full}
+use Rattle.bs_sched.specs.declared.stays.Admit.{Admit}
+use Rattle.bs_sched.specs.declared.stays.Admit.TheVariants as admit
+use Rattle.bs_sched.specs.Stays.{Capacity, Stay, first_refusal}
 use Rattle.bs_workers.specs.Acts.{stay_named, registry_after, command_in, opened, rows_in_registry}
 use Rattle.bs_host.specs.declared.limits.TheConstants.{BLOCK_BYTES}
 use Rattle.bs_host.specs.declared.route.Requests.{Requests}
@@ -24,12 +26,17 @@ use Rattle.bs_host.specs.File.{pieces_of, later_pieces, rows_of, version_of}
 
 -- One line.
 
--- the first reason against admitting a row
+-- A core's refusal of an admission among the stray lines. The host refuses none for want of memory.
+abbrev pub stray_for : Option Admit → Option Stray
+stray_for None = None
+stray_for (Some admit.NameOpen) = Some stray.NameOpen
+stray_for (Some admit.Full) = Some stray.Full
+stray_for (Some (admit.Short free)) = Some stray.Short
+stray_for (Some admit.Memory) = None
+
+-- the first reason against admitting a row is the core's
 abbrev pub admit_refusal : Capacity → List Stay → GameRow → Option Stray
-admit_refusal capacity registry row =
-    if list_any (has_name row.game) registry then Some stray.NameOpen
-    else (if is_full registry then Some stray.Full
-    else (if has_room capacity registry row then None else Some stray.Short))
+admit_refusal capacity registry row = stray_for (first_refusal capacity registry row)
 
 abbrev pub hand_route : Option ℕ → Command → Route
 hand_route None command = route.Stray stray.Game

@@ -10,7 +10,7 @@ ghost use Rattle.bs_workers.specs.Acts.{opened};
 ghost use Rattle.bs_host.specs.Cut.{row_data, lone_plan_data, lone_plan_of, is_too_small, nth_from, nth_stay, own_lines_in, behind_feeds, cut_of, cut_refusal_of, IsCutRefusal, SectionLaw};
 ghost use Rattle.bs_host.specs.File.{pieces_after};
 ghost use Rattle.bs_host.specs.Guests.{guests_of, guests_then, route_by, rows_by_guests, rows_in_route};
-ghost use Rattle.bs_host.specs.Laws.{EarlyLaw, FoundLaw, OwnLinesLaw};
+ghost use Rattle.bs_host.specs.Laws.{CoreLaw, EarlyLaw, FoundLaw, FullLaw, OwnLinesLaw};
 ghost use Rattle.bs_host.specs.Routing.{command_to, capacity_of, stays_behind};
 
 use crate::cut_fault::Cut;
@@ -266,10 +266,14 @@ pub fn cut(
 /// States that each stay of each file is answered by its own lines alone as it is in the file; that
 /// its own lines are those between its `admit` and its `leave` that name its game; that a stay that
 /// is found by name and number is one of the file's; and that in versions 1 and 2 the number of
-/// blocks changes nothing. Does nothing.
+/// blocks changes nothing. A line is refused exactly where the core would refuse its act, and an
+/// admission for the core's first reason; no row is refused as one too many while fewer stays are
+/// open than a plan may have games. Does nothing.
 pub fn section_law()
     ensures cut { SectionLaw }
     ensures own { OwnLinesLaw }
     ensures found { FoundLaw }
     ensures early { EarlyLaw }
+    ensures core { CoreLaw }
+    ensures full { FullLaw }
 {}

@@ -36,7 +36,8 @@ fn remove_stay(stays: &mut Vec<(usize, Row)>, stay: usize)
 }
 
 impl Guests {
-    ghost use Rattle.std.specs.Prelude.{◌≡◌, ◌-◌, ◌&&◌, not, nat_lt, length, Some, None, IfOk, OnOk};
+    ghost use Rattle.std.specs.Prelude.{◌≡◌, ◌-◌, ◌<◌, [], ◌&&◌, not, nat_lt, length, slice_index_or, Some, None, IfOk, OnOk};
+    ghost use Rattle.bs_board.specs.plans.Plan.{row_of};
     ghost use Rattle.std.specs.List.{list_any, position};
     ghost use Rattle.bs_workers.specs.Acts.{opened};
     ghost use Rattle.bs_host.specs.declared.route.Route.TheVariants as route;
@@ -65,6 +66,21 @@ impl Guests {
         ensures { result ≡ self.now.made }
     {
         self.made
+    }
+
+    /// How many stays are open.
+    pub(crate) fn len(&self) -> usize
+        ensures { result ≡ length self.now.stays }
+    {
+        self.stays.len()
+    }
+
+    /// The number of the open stay at that place.
+    pub(crate) fn number(&self, place: usize) -> usize
+        requires { place < length self.now.stays }
+        ensures { result ≡ (slice_index_or self.now.stays place (0, row_of [] 0)).0 }
+    {
+        self.stays[place].0
     }
 
     /// The place of that name among the open stays.

@@ -1,15 +1,16 @@
 //! The lines of a file, split off one after the other.
-ghost use Rattle.std.specs.Prelude.{◌≡◌, ◌==◌, ◌+◌, ◌<◌, ◌≤◌, ◌^◌, ◌∷◌, ◌++◌, length, option_copied, IfSome};
+ghost use Rattle.std.specs.Prelude.{◌≡◌, ◌==◌, ◌+◌, ◌<◌, ◌≤◌, ◌^◌, [], ◌∷◌, ◌++◌, length, option_copied, IfSome, IsNone, None};
+ghost use Rattle.bs_host.specs.Live.{IsCutFirst, IsCutLast};
 ghost use Rattle.std.specs.List.{position};
 ghost use Rattle.bs_host.specs.File.{pieces_of, pieces_after};
 
-use memchr::memchr;
+use memchr::{memchr, memrchr};
 
 /// The byte between two lines.
 const LINE_FEED: u8 = b'\n';
 
 #[tactic(auto, using(crate::proofs::CutPieces::first_byte_is_position))]
-fn first_feed(text: &[u8]) -> Option<usize>
+pub(crate) fn first_feed(text: &[u8]) -> Option<usize>
     ensures { result ≡ position (λ byte. byte == LINE_FEED) text.now }
 {
     memchr(LINE_FEED, text)
@@ -35,5 +36,24 @@ pub(crate) fn split_from(text: &[u8], place: usize) -> Option<(&[u8], &[u8])>
     ensures bytes { IfSome result (λ cut. length cut.0.now + 1 + length cut.1.now ≡ length text.now) }
 {
     let at = place + first_feed(&text[place..])?;
+    Some((&text[..at], &text[at + 1..]))
+}
+
+/// Splits a text at its first line feed, if there is one.
+#[tactic(auto, using(crate::proofs::LivePieces::first_cut))]
+pub(crate) fn split_first(text: &[u8]) -> Option<(&[u8], &[u8])>
+    ensures some { IfSome result (λ cut. IsCutFirst text.now cut.0.now cut.1.now) }
+    ensures none { IsNone result → position (λ byte. byte == LINE_FEED) text.now ≡ None }
+{
+    let at = first_feed(text)?;
+    Some((&text[..at], &text[at + 1..]))
+}
+
+/// Splits a text at its last line feed, if there is one.
+#[tactic(auto, using(crate::proofs::LivePieces::last_cut))]
+pub(crate) fn split_last(text: &[u8]) -> Option<(&[u8], &[u8])>
+    ensures { IfSome result (λ cut. IsCutLast text.now cut.0.now cut.1.now) }
+{
+    let at = memrchr(LINE_FEED, text)?;
     Some((&text[..at], &text[at + 1..]))
 }

@@ -6,4 +6,8 @@ pub mod Floats
 pub mod Lines
 pub mod Lists
 pub mod ShortLines
+pub mod ShownBoard
+pub mod ShownCells
+pub mod ShownSnakes
+pub mod ShownText
 pub mod Texts

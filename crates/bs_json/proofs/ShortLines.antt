@@ -32,7 +32,7 @@ escape_reason Limit = refl
 escape_reason NoRecord = refl
 escape_reason Quota = refl
 
-escape_word : (w : Word) → escape (word_text w) ≡ word_text w
+pub escape_word : (w : Word) → escape (word_text w) ≡ word_text w
 unfolding escape_byte
 escape_word word.New = refl
 escape_word word.Move = refl

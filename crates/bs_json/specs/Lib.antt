@@ -1,3 +1,4 @@
+pub mod BoardText
 pub mod Boards
 pub mod Commands
 pub mod Compact

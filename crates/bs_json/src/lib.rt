@@ -14,12 +14,11 @@ mod replies;
 mod setups;
 mod short_lines;
 mod shown;
-#[cfg(test)]
-mod tests;
+mod shown_bytes;
 mod values;
 
 pub use boards::board_value;
-pub use limits::MAX_LINE;
+pub use limits::{MAX_LINE, MOST_WORD, USUAL_CHANCE, USUAL_MIN_FOOD};
 pub use line::{Line, Stray, read_line};
 pub use plan::{PlanFault, read_plan};
 pub use replies::{final_line, reply_line, stray_line};

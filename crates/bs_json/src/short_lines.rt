@@ -1,5 +1,4 @@
-//! Lines of answers without a board, in a game whose name is plain: pieces one after the other,
-//! with no JSON between.
+//! Lines of answers in a game whose name is plain: pieces one after the other, with no JSON between.
 ghost use Rattle.std.specs.Prelude.{◌≡◌, ◌++◌, decimal, true, OnOk};
 ghost use Rattle.bs_json.specs.Compact.{are_plain};
 ghost use Rattle.bs_json.specs.Replies.{reply_line_of};
@@ -7,24 +6,35 @@ ghost use Rattle.bs_json.specs.ShortLines.{done_text, refused_text};
 
 use crate::compact::is_plain;
 use crate::replies::{refusal_code, refusal_text, reply_line, word_text};
+use crate::shown_bytes::{plain_board, push_shown_line};
 use bs_board::{Id, Refusal, Reply, Word};
 use itoa::Buffer;
 use std::alloc::{AllocError, Global};
 
-fn are_plain(text: &[u8]) -> bool
+pub(crate) fn are_plain(text: &[u8]) -> bool
     ensures { result ≡ are_plain text.now }
 {
     text.iter().all(|byte| is_plain(*byte))
 }
 
-fn push_number(number: u64, text: &mut Vec<u8>) -> Result<(), AllocError>
+/// Appends the digits of a number.
+#[tactic(auto, using(crate::proofs::ShownCells::one_digit, crate::proofs::ShownCells::two_digits))]
+pub(crate) fn push_number(number: u64, text: &mut Vec<u8>) -> Result<(), AllocError>
     ensures { OnOk result (text.new.items ≡ text.old.items ++ decimal number) }
 {
-    text.extend_from_slice(Buffer::new().format(number).as_bytes())
+    if number < 10 {
+        text.extend_from_slice(&[b'0' + number as u8])
+    } else if number < 100 {
+        let tens = b'0' + (number / 10) as u8;
+        let ones = b'0' + (number % 10) as u8;
+        text.extend_from_slice(&[tens, ones])
+    } else {
+        text.extend_from_slice(Buffer::new().format(number).as_bytes())
+    }
 }
 
 /// Three pieces, one behind the other.
-fn push_three(
+pub(crate) fn push_three(
     first: &[u8],
     second: &[u8],
     third: &[u8],
@@ -93,14 +103,17 @@ fn push_of_plain(
     ensures { OnOk result (text.new.items ≡ text.old.items ++ reply_line_of game.now seq reply.now) }
 {
     match reply {
-        Reply::Shown(_, _, _) => push_whole(alloc, game, seq, reply, text),
+        Reply::Shown(word, kept, charge) => match plain_board(kept) {
+            Some(board) => push_shown_line(game, seq, *word, &board, *charge, text),
+            None => push_whole(alloc, game, seq, reply, text),
+        },
         Reply::Plain(word, charge) => push_done(game, seq, *word, *charge, text),
         Reply::Refused(refusal) => push_refused(game, seq, *refusal, text),
     }
 }
 
-/// What `reply_line` gives, behind the text. Where the answer shows no board and the game's name is
-/// plain it asks for no memory but room in the text.
+/// What `reply_line` gives, behind the text. Where the game's name and the ids on the board are plain
+/// it asks for no memory but room in the text.
 pub fn push_reply_line(
     alloc: Global,
     game: &Id,

@@ -32,10 +32,12 @@ pub mod OpenedGames
 pub mod OwnJobs
 pub mod OwnParts
 pub mod Parts
+pub mod Progress
 pub mod PlacedRecords
 pub mod PlanBlocks
 pub mod ReadGames
 pub mod Reframed
+pub mod RegistryRefusals
 pub mod Reserved
 pub mod RightLanes
 pub mod RightRuns

@@ -1,62 +1,26 @@
 -- Which stays are open, and what they have answered.
-use Rattle.std.proofs.Common.{◌≡◌, ℕ, ◌-◌, Bool, true, false, ◌&&◌, if◌then◌else◌, List, [], ◌∷◌, ◌++◌, length, refl, sym, ap, ◌∙◌, arith, inl, inr}
-use Rattle.std.specs.Prelude.{nat_eq, nat_le, nat_lt, fold, count_by, slice_set, slice_index_or}
-use Rattle.std.specs.List.{list_any}
+use Rattle.std.proofs.Common.{◌≡◌, ℕ, Bool, true, false, ◌&&◌, if◌then◌else◌, List, [], ◌∷◌, ◌++◌, length, refl, sym, ap, ◌∙◌, inl, inr}
+use Rattle.std.specs.Prelude.{nat_eq, nat_lt, fold, slice_set, slice_index_or}
 use Rattle.std.proofs.Math.ListN.{get_or-map}
 use Rattle.std.proofs.Math.Seq.{map-set_same}
-use Rattle.std.proofs.lemmas.Bool.{cases_Bool, cond-true, cond-false, and_from, and_left, eq-eqb}
+use Rattle.std.proofs.lemmas.Bool.{cases_Bool, cond-true, cond-false, and_from, and_left}
 use Rattle.std.proofs.lemmas.List.{length-map, map_push, map-set}
-use Rattle.std.proofs.lemmas.List.Sums.{sum_by-cons}
 use Rattle.bs_board.proofs.Chains.{and_both}
 use Rattle.bs_board.specs.declared.commands.command.Command.{Command}
-use Rattle.bs_board.specs.declared.commands.command.Command.TheVariants as command
-use Rattle.bs_board.specs.declared.commands.reply.Reply.TheVariants.{Refused}
-use Rattle.bs_board.specs.declared.commands.reply.Refusal.TheVariants as refusal
-use Rattle.bs_board.specs.plans.Plan.{GameRow}
-use Rattle.bs_board.specs.Texts.{is_same_text}
 use Rattle.bs_fiber.specs.declared.job.JobKind.{JobKind}
 use Rattle.bs_fiber.specs.declared.job.JobKind.TheVariants as kind
-use Rattle.bs_game.specs.Answer.{answer_to}
-use Rattle.bs_game.specs.Reasons.{reason_against}
-use Rattle.bs_game.specs.View.{reply_to}
-use Rattle.bs_sched.specs.PlanBlocks.{blocks_of}
 use Rattle.bs_sched.specs.declared.event.Event.{Event}
 use Rattle.bs_sched.specs.declared.event.Event.TheVariants as event
-use Rattle.bs_sched.specs.Registry.{stay_of, registry_of, capacity_of, registry_after, RegistryLaw, ServedLaw, ProgressExample, JournalLaw, rows_in, commands_to, begin_of_only, coming_and_going}
-use Rattle.bs_sched.specs.Stays.{Stay, blocks_in_registry, closed_stay, is_in, may_admit_in, no_stay}
+use Rattle.bs_sched.specs.Registry.{stay_of, registry_of, registry_after, RegistryLaw, ServedLaw, JournalLaw, rows_in, commands_to}
+use Rattle.bs_sched.specs.Stays.{Stay, closed_stay, is_in, no_stay}
 use Rattle.bs_sched.specs.Isolation.{alone_event, accepted, is_accepted, admitted, are_enabled, opened_lanes, own_events, commands_in, shared_run}
 use Rattle.bs_sched.specs.Lane.{Lane, empty_lane, no_lane, is_quiet, goes_on, forked, answered, with_taken, with_put, with_waiting, closed_lane}
-use Rattle.bs_sched.specs.Machine.{Setting, lane_of, is_named, is_enabled, may_admit, has_name, blocks_in, open_blocks, lane_effect, step, run_of}
+use Rattle.bs_sched.specs.Machine.{Setting, lane_of, is_named, is_enabled, lane_effect, step, run_of}
 use Rattle.bs_sched.proofs.HandedCommands.{one_more_event, served}
 use Rattle.bs_sched.proofs.Isolation.{keeps_commands, rows_run, opened_rows}
+use Rattle.bs_sched.proofs.RegistryRefusals.{admits_by_registry}
 use Rattle.bs_sched.proofs.LoneLanes.{step_enabled, step_refused}
 use Rattle.bs_sched.proofs.RightRuns.{well_run, well_opened}
-
--- the registry tells who may come
-
-named_in : (row : GameRow) (lanes : List Lane)
-    → list_any (has_name row) lanes ≡ list_any (λ (entry : Stay). entry.is_open && is_same_text row.game entry.row.game) (registry_of lanes)
-named_in row [] = refl
-named_in row (x ∷ lanes) = rw (named_in row lanes) refl
-
-counted_in : (lanes : List Lane) → count_by (λ (x : Lane). x.is_open) lanes ≡ count_by (λ (entry : Stay). entry.is_open) (registry_of lanes)
-counted_in [] = refl
-counted_in (x ∷ lanes) =
-    let one = sum_by-cons (λ (y : Lane). if y.is_open then 1 else 0) x lanes in
-    let other = sum_by-cons (λ (entry : Stay). if entry.is_open then 1 else 0) (stay_of x) (registry_of lanes) in
-    let rest = counted_in lanes in
-    omega (arith, one, other, rest)
-
-blocks_told : (cap : ℕ) (lanes : List Lane) → open_blocks cap lanes ≡ blocks_in_registry cap (registry_of lanes)
-blocks_told cap [] = refl
-blocks_told cap (x ∷ lanes) =
-    let one = sum_by-cons (blocks_in cap) x lanes in
-    let other = sum_by-cons (λ (entry : Stay). if entry.is_open then blocks_of cap entry.row else 0) (stay_of x) (registry_of lanes) in
-    let rest = blocks_told cap lanes in
-    omega (arith, one, other, rest)
-
-pub admits_by_registry : (setting : Setting) (lanes : List Lane) (row : GameRow) → may_admit setting lanes row ≡ may_admit_in (capacity_of setting) (registry_of lanes) row
-admits_by_registry setting lanes row = rw (named_in row lanes, counted_in lanes, blocks_told setting.cap lanes, length-map lanes stay_of) refl
 
 -- a job and a command leave it
 
@@ -213,80 +177,3 @@ pub served_law : ServedLaw
 served_law setting rows events game plan fit there quiet =
     served (lane_of (shared_run setting rows events) game) (commands_in (own_events setting rows events game))
     (well_run setting (opened_lanes rows) events fit (well_opened rows plan) game there).right quiet (keeps_commands setting rows events game there)
-
--- stays do come and go
-
-abbrev Goes : Setting → List Lane → List Event → List Lane → Type 0
-Goes setting lanes events last = (are_enabled setting lanes events ≡ true) × (run_of setting lanes events ≡ last)
-
-one_more : (setting : Setting) (lanes next last : List Lane) (e : Event) (events : List Event) → is_enabled setting lanes e ≡ true → lane_effect lanes e ≡ next
-    → Goes setting next events last → Goes setting lanes (e ∷ events) last
-one_more setting lanes next last e events on effect rest =
-    let is : step setting lanes e ≡ next = step_enabled setting lanes e on ∙ effect in
-    let later : are_enabled setting (step setting lanes e) events ≡ true = ap (λ (ls : List Lane). are_enabled setting ls events) is ∙ rest.0 in
-    (and_from _ _ on later, ap (λ (ls : List Lane). run_of setting ls events) is ∙ rest.1)
-
-module _ (setting : Setting) (worker : ℕ) (row : GameRow) (known : nat_le worker setting.workers ≡ true) (room : nat_le (blocks_of setting.cap row) setting.blocks ≡ true) where
-  abbrev come : Lane
-  come = empty_lane row
-
-  abbrev handed : Lane
-  handed = with_waiting command.Show come
-
-  abbrev begun : Lane
-  begun = with_taken worker kind.Begin 0 handed
-
-  abbrev done : Lane
-  done = answered begun
-
-  abbrev gone : Lane
-  gone = closed_lane done
-
-  all_left : setting.blocks - 0 ≡ setting.blocks
-  all_left = omega arith
-
-  first_comes : is_enabled setting [] (event.Admit row) ≡ true
-  first_comes = rw (all_left, room) refl
-
-  takes : is_enabled setting (handed ∷ []) (event.Take worker begin_of_only) ≡ true
-  takes = rw known refl
-
-  puts : is_enabled setting (begun ∷ []) (event.Put worker begin_of_only) ≡ true
-  puts = let self : nat_eq worker worker ≡ true = eq-eqb worker worker refl in rw self refl
-
-  put_is : with_put kind.Begin 0 begun ≡ done
-  unfolding reason_against
-  put_is = refl
-
-  leaves : is_enabled setting (done ∷ []) (event.Leave 0) ≡ true
-  leaves = refl
-
-  next_comes : is_enabled setting (gone ∷ []) (event.Admit row) ≡ true
-  next_comes = rw (all_left, room) refl
-
-  goes : Goes setting [] (coming_and_going worker row) (gone ∷ empty_lane row ∷ [])
-  goes =
-      let last = gone ∷ empty_lane row ∷ [] in
-      let after_admit = event.Hand 0 command.Show ∷ event.Take worker begin_of_only ∷ event.Put worker begin_of_only ∷ event.Leave 0 ∷ event.Admit row ∷ [] in
-      let after_hand = event.Take worker begin_of_only ∷ event.Put worker begin_of_only ∷ event.Leave 0 ∷ event.Admit row ∷ [] in
-      let after_take = event.Put worker begin_of_only ∷ event.Leave 0 ∷ event.Admit row ∷ [] in
-      let after_put = event.Leave 0 ∷ event.Admit row ∷ [] in
-      one_more setting [] (come ∷ []) last (event.Admit row) after_admit first_comes refl
-      (one_more setting (come ∷ []) (handed ∷ []) last (event.Hand 0 command.Show) after_hand refl refl
-      (one_more setting (handed ∷ []) (begun ∷ []) last (event.Take worker begin_of_only) after_take takes refl
-      (one_more setting (begun ∷ []) (done ∷ []) last (event.Put worker begin_of_only) after_put puts (ap (λ (y : Lane). y ∷ []) put_is)
-      (one_more setting (done ∷ []) (gone ∷ []) last (event.Leave 0) (event.Admit row ∷ []) leaves refl
-      (one_more setting (gone ∷ []) last last (event.Admit row) [] next_comes refl (refl, refl))))))
-
-  answer : gone.replies ≡ Refused refusal.NoGame ∷ []
-  unfolding answer_to reply_to reason_against
-  answer = refl
-
-pub progress_example : ProgressExample
-progress_example setting worker row known room =
-    let is = goes setting worker row known room in
-    record {
-      enabled = is.0;
-      replies = ap (λ (ls : List Lane). (lane_of ls 0).replies) is.1 ∙ answer setting worker row known room;
-      stays = ap length is.1;
-    }

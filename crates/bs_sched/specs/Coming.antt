@@ -1,6 +1,5 @@
 -- What `admit` and `leave` answer, and make of a core.
-use Rattle.std.specs.Prelude.{◌≡◌, ℕ, ◌<◌, ◌-◌, true, false, List, length, Result, MatchResult}
-use Rattle.std.specs.List.{list_any}
+use Rattle.std.specs.Prelude.{◌≡◌, ℕ, true, false, List, length, Option, Some, None, Result, MatchResult}
 use Rattle.bs_board.specs.plans.Plan.{GameRow}
 use Rattle.bs_sched.specs.declared.event.Event.TheVariants as event
 use Rattle.bs_sched.specs.declared.stays.Admit.{Admit}
@@ -10,16 +9,19 @@ use Rattle.bs_sched.specs.declared.stays.Leave.TheVariants as leave
 use Rattle.bs_sched.specs.Core.{CoreView, core_after}
 use Rattle.bs_sched.specs.Games.{setting_of}
 use Rattle.bs_sched.specs.Lane.{Lane, is_quiet, may_leave}
-use Rattle.bs_sched.specs.Machine.{Setting, has_name, is_full, lane_of, may_admit, open_blocks}
-use Rattle.bs_sched.specs.PlanBlocks.{blocks_of}
+use Rattle.bs_sched.specs.Machine.{Setting, lane_of, may_admit}
+use Rattle.bs_sched.specs.Registry.{capacity_of, registry_of}
+use Rattle.bs_sched.specs.Stays.{first_refusal}
 
--- the reasons in the order in which they are judged
+-- the first reason against the row; want of memory comes only where there is none
+abbrev pub IsFirstRefusal : Option Admit → Admit → Type 0
+IsFirstRefusal found admit.NameOpen = found ≡ Some admit.NameOpen
+IsFirstRefusal found admit.Full = found ≡ Some admit.Full
+IsFirstRefusal found (admit.Short free) = found ≡ Some (admit.Short free)
+IsFirstRefusal found admit.Memory = found ≡ None
+
 abbrev pub RefusesAdmit : Setting → List Lane → GameRow → Admit → Type 0
-RefusesAdmit setting lanes row admit.NameOpen = list_any (has_name row) lanes ≡ true
-RefusesAdmit setting lanes row admit.Full = (list_any (has_name row) lanes ≡ false) × (is_full lanes ≡ true)
-RefusesAdmit setting lanes row (admit.Short free) =
-    (list_any (has_name row) lanes ≡ false) × (is_full lanes ≡ false) × (free < blocks_of setting.cap row) × (free ≡ setting.blocks - open_blocks setting.cap lanes)
-RefusesAdmit setting lanes row admit.Memory = may_admit setting lanes row ≡ true
+RefusesAdmit setting lanes row = IsFirstRefusal (first_refusal (capacity_of setting) (registry_of lanes) row)
 
 -- the stay has the next row, and its event was enabled; or the core is as before
 abbrev pub Admits : ℕ → CoreView → GameRow → Result ℕ Admit → CoreView → Type 0

@@ -1,12 +1,15 @@
 -- Which stays are open, and what of a list of events decides that: admissions and leaves, and no
 -- job.
-use Rattle.std.specs.Prelude.{◌≡◌, ◌≢◌, ℕ, ◌<◌, ◌≤◌, true, ◌&&◌, if◌then◌else◌, List, [], ◌∷◌, ◌++◌, length, map, fold, count_by, nat_eq, nat_le, All}
+use Rattle.std.specs.Prelude.{◌≡◌, ◌≢◌, ℕ, ◌<◌, ◌≤◌, true, ◌&&◌, if◌then◌else◌, List, [], ◌∷◌, ◌++◌, codes, length, map, fold, count_by, nat_eq, nat_le, pos, All}
+use Rattle.bs_board.specs.declared.boards.board.Board.{Board}
+use Rattle.bs_board.specs.declared.boards.board.Mode.TheVariants.{Solo}
 use Rattle.bs_board.specs.declared.limits.TheConstants.{MOST_ROWS}
 use Rattle.bs_board.specs.declared.commands.command.Command.{Command}
-use Rattle.bs_board.specs.declared.commands.reply.Reply.TheVariants.{Refused}
-use Rattle.bs_board.specs.declared.commands.reply.Refusal.TheVariants as refusal
 use Rattle.bs_board.specs.declared.commands.command.Command.TheVariants as command
+use Rattle.bs_board.specs.commands.Orders.{orders_of}
+use Rattle.bs_board.specs.commands.Setup.{Setup, setup_of}
 use Rattle.bs_board.specs.plans.Plan.{GameRow, IsFitPlan}
+use Rattle.bs_fiber.specs.declared.job.JobKind.{JobKind}
 use Rattle.bs_fiber.specs.declared.job.JobKind.TheVariants as kind
 use Rattle.bs_fiber.specs.declared.job.JobName.{JobName}
 use Rattle.bs_game.specs.Alone.{alone}
@@ -91,23 +94,41 @@ ServedLaw =
     → game < length (shared_run setting rows events) → is_quiet (lane_of (shared_run setting rows events) game) ≡ true
     → IsServedAlone (row_made setting rows events game) (commands_in (own_events setting rows events game)) (lane_of (shared_run setting rows events) game)
 
--- Stays do come and go: one is admitted into an empty setting, handed a command, answered, and
--- leaves; then one of the same name comes.
+-- Stays do come and go: one is admitted into an empty setting, plays a turn by all of a move's jobs,
+-- is answered as alone, and leaves; then one of the same name comes.
 
-abbrev pub begin_of_only : JobName
-begin_of_only = record { game = 0; kind = kind.Begin; part = 0 }
+abbrev pub only_job : JobKind → JobName
+only_job kind = record { game = 0; kind = kind; part = 0 }
+
+-- a game of one snake, and a turn of it
+abbrev pub solo_setup : Setup
+solo_setup = setup_of Solo 5 5 ((codes "s", record { x = pos 1; y = pos 1 }) ∷ []) [] 0 0
+
+abbrev pub solo_commands : List Command
+solo_commands = command.New solo_setup ∷ command.Move (orders_of [] []) ∷ []
+
+-- a job is taken and brought back, and these events follow
+abbrev pub job_then : ℕ → JobKind → List Event → List Event
+job_then worker kind events = event.Take worker (only_job kind) ∷ event.Put worker (only_job kind) ∷ events
 
 abbrev pub coming_and_going : ℕ → GameRow → List Event
 coming_and_going worker row =
-    event.Admit row ∷ event.Hand 0 command.Show ∷ event.Take worker begin_of_only ∷ event.Put worker begin_of_only ∷ event.Leave 0 ∷ event.Admit row ∷ []
+    event.Admit row ∷ event.Hand 0 (command.New solo_setup) ∷ event.Hand 0 (command.Move (orders_of [] []))
+    ∷ job_then worker kind.Begin (job_then worker kind.Begin (job_then worker kind.Part (job_then worker kind.Join (event.Leave 0 ∷ event.Admit row ∷ []))))
 
 pub record ComesAndGoes (setting : Setting) (worker : ℕ) (row : GameRow) : Type 0 where
   pub enabled : are_enabled setting [] (coming_and_going worker row) ≡ true
-  pub replies : (lane_of (run_of setting [] (coming_and_going worker row)) 0).replies ≡ Refused refusal.NoGame ∷ []
+  pub replies : (lane_of (run_of setting [] (coming_and_going worker row)) 0).replies ≡ (alone row solo_commands).replies
+  pub boards : (lane_of (run_of setting [] (coming_and_going worker row)) 0).game ≡ (alone row solo_commands).game
+  -- both commands were accepted
+  pub turns : map (λ (board : Board). board.turn) (lane_of (run_of setting [] (coming_and_going worker row)) 0).game ≡ 0 ∷ 1 ∷ []
   pub stays : length (run_of setting [] (coming_and_going worker row)) ≡ 2
 
+-- two records of that game have 64 bytes
 abbrev pub ProgressExample : Type 0
-ProgressExample = (setting : Setting) (worker : ℕ) (row : GameRow) → nat_le worker setting.workers ≡ true → nat_le (blocks_of setting.cap row) setting.blocks ≡ true → ComesAndGoes setting worker row
+ProgressExample =
+    (setting : Setting) (worker : ℕ) (row : GameRow) → nat_le worker setting.workers ≡ true → nat_le (blocks_of setting.cap row) setting.blocks ≡ true
+    → nat_le 64 row.quota ≡ true → ComesAndGoes setting worker row
 
 -- No two open stays have one name, no more are open than a plan may have games, and no more rows
 -- are made than a number has room for.

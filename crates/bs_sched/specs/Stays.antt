@@ -1,11 +1,13 @@
 -- A registry of stays: of each the row, and whether it is open. It decides which rows may be
 -- admitted; what the games do meanwhile decides nothing.
-use Rattle.std.specs.Prelude.{ℕ, ◌-◌, Bool, true, false, ◌&&◌, not, if◌then◌else◌, List, [], ◌∷◌, ◌++◌, length, count_by, sum_by, nat_lt, nat_le, slice_index_or, slice_set}
+use Rattle.std.specs.Prelude.{ℕ, ◌-◌, Bool, true, false, ◌&&◌, not, if◌then◌else◌, List, [], ◌∷◌, ◌++◌, length, count_by, sum_by, nat_lt, nat_le, slice_index_or, slice_set, Option, Some, None}
 use Rattle.std.specs.List.{list_any}
 use Rattle.bs_board.specs.declared.limits.TheConstants.{MOST_ROWS}
 use Rattle.bs_board.specs.plans.Plan.{GameRow, row_of}
 use Rattle.bs_board.specs.Texts.{is_same_text}
 use Rattle.bs_sched.specs.PlanBlocks.{blocks_of}
+use Rattle.bs_sched.specs.declared.stays.Admit.{Admit}
+use Rattle.bs_sched.specs.declared.stays.Admit.TheVariants as admit
 use Rattle.bs_sched.specs.declared.plan_blocks.TheConstants.{MOST_STAYS}
 
 -- the memory that a core is opened with: so many blocks of `cap` bytes
@@ -60,3 +62,17 @@ has_room capacity registry row =
 abbrev pub may_admit_in : Capacity → List Stay → GameRow → Bool
 may_admit_in capacity registry row =
     not (list_any (has_name row.game) registry) && (not (is_full registry) && has_room capacity registry row)
+
+-- The reasons against a row in the one order in which they are judged, by the core and by who asks
+-- it: an open stay has the name, no more stays can be opened, fewer blocks are left than it needs.
+abbrev pub refusal_in_order : Bool → Bool → ℕ → ℕ → Option Admit
+refusal_in_order named full needed left =
+    if named then Some admit.NameOpen
+    else (if full then Some admit.Full
+    else (if nat_le needed left then None else Some (admit.Short left)))
+
+-- the first reason against admitting a row
+abbrev pub first_refusal : Capacity → List Stay → GameRow → Option Admit
+first_refusal capacity registry row =
+    refusal_in_order (list_any (has_name row.game) registry) (is_full registry) (blocks_of capacity.cap row)
+    (capacity.blocks - blocks_in_registry capacity.cap registry)

@@ -13,8 +13,8 @@ ghost use Rattle.bs_sched.specs.SharedMemory.{MemoryLaw};
 /// and of one stay. A move has four frame blocks at most, a stay that plays no move has none, and
 /// where a block is needed there is one. A stay that has left holds no block, and the reservations
 /// are those of the open stays. Whether a stay is admitted depends on the stays that came and left,
-/// and on no job. No two open stays have one name. A command that is handed to a new stay is begun
-/// and answered, and a stay can be admitted, answered and closed.
+/// and on no job. No two open stays have one name. A stay can be admitted, play a turn by all the
+/// jobs of a move, with the replies and boards that it has alone, and be closed.
 pub fn isolation_law()
     ensures isolation { IsolationLaw }
     ensures memory { MemoryLaw }

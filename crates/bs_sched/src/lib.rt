@@ -5,8 +5,6 @@
 mod busy;
 mod completing;
 mod cores;
-#[cfg(test)]
-mod drawn_tests;
 mod event;
 mod fiber;
 mod frames;
@@ -20,12 +18,8 @@ mod putting;
 mod records;
 mod shared_row;
 mod stage;
-#[cfg(test)]
-mod stay_tests;
 mod stays;
 mod taking;
-#[cfg(test)]
-mod tests;
 
 pub use completing::Strays;
 pub use cores::{Core, Counts, LEAST_CAPACITY, MOST_WORKERS};

@@ -5,8 +5,6 @@
 mod lines;
 mod render;
 mod shares;
-#[cfg(test)]
-mod tests;
 mod write;
 
 pub use lines::{Section, text};

@@ -27,7 +27,7 @@ use Rattle.bs_workers.specs.Run.{HasEnded, HasRows, IsRunOf, acts_of, rows_made}
 
 -- the rows of the stays
 
-row_there : (lanes : List Lane) (game : ℕ) → row_at (rows_made lanes) game ≡ (lane_of lanes game).row
+pub row_there : (lanes : List Lane) (game : ℕ) → row_at (rows_made lanes) game ≡ (lane_of lanes game).row
 row_there lanes game = get_or-map (λ (x : Lane). x.row) lanes game no_lane
 
 pub all_rows : (lanes : List Lane) → take (length lanes) (rows_made lanes) ≡ rows_made lanes
@@ -106,7 +106,7 @@ rows_fresh cap blocks workers rows core fresh = ap (λ (c : CoreView). rows_made
 -- a quiet core whose journal makes the acts has served each stay
 
 -- one stay of a core
-served_one : (cap : ℕ) (core : CoreView) (stay : ℕ) → KeepsApart cap core → list_all is_quiet core.games.lanes ≡ true → stay < length core.games.lanes
+pub served_one : (cap : ℕ) (core : CoreView) (stay : ℕ) → KeepsApart cap core → list_all is_quiet core.games.lanes ≡ true → stay < length core.games.lanes
     → IsServedAlone (lane_of core.games.lanes stay).row (filter_map (command_in stay) (acts_of core.journal)) (lane_of core.games.lanes stay)
 served_one cap core stay apart quiet there =
     let x = lane_of core.games.lanes stay in
@@ -118,7 +118,7 @@ served_one cap core stay apart quiet there =
     served x (filter_map (command_in stay) (acts_of core.journal)) well.right still told
 
 -- the rows are those of the plan, and those that the acts admit
-made_of : (cap : ℕ) (core : CoreView) → KeepsApart cap core → rows_made core.games.lanes ≡ core.games.rows ++ rows_admitted (acts_of core.journal)
+pub made_of : (cap : ℕ) (core : CoreView) → KeepsApart cap core → rows_made core.games.lanes ≡ core.games.rows ++ rows_admitted (acts_of core.journal)
 made_of cap core apart =
     ap (λ (ls : List Lane). rows_made ls) (sym apart.lanes) ∙ apart.told.rows ∙ ap (λ more. core.games.rows ++ more) (rows_of_acts core.journal)
 

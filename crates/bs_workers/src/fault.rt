@@ -1,5 +1,6 @@
 //! Why a run was stopped.
 ghost use Rattle.std.specs.Prelude.{◌≡◌};
+ghost use Rattle.bs_workers.specs.Faults.{kept_fault};
 ghost use Rattle.bs_workers.specs.declared.fault.Run.TheVariants as cause;
 
 use std::alloc::AllocError;
@@ -14,6 +15,19 @@ pub enum Run {
     /// finished core is not that of a complete run.
     #[error("broken")]
     Broken,
+}
+
+impl Run {
+    /// The fault that a run keeps where this one comes after `earlier`.
+    pub(crate) fn after(self, earlier: Option<Run>) -> Run
+        ensures { result ≡ kept_fault earlier self }
+    {
+        match earlier {
+            Some(Run::Memory) => Run::Memory,
+            Some(Run::Broken) => self,
+            None => self,
+        }
+    }
 }
 
 impl From<AllocError> for Run {

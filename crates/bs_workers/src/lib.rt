@@ -7,13 +7,15 @@ mod compare;
 mod executor;
 mod fault;
 mod gate;
+mod law;
 mod runs;
+mod single;
 mod state;
-#[cfg(test)]
-mod tests;
 mod worker;
 
 pub use act::Act;
 pub use fault::Run;
 pub use gate::{Gate, OpenGate};
-pub use runs::run;
+pub use law::acts_law;
+pub use runs::{run, run_any};
+pub use single::{is_settled, run_command};

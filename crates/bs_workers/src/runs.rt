@@ -18,7 +18,7 @@ use std::thread::Threads;
 
 /// Like `run`, for any acts. An act that the core refuses for another reason than want of memory
 /// stops the run with `Broken`.
-pub(crate) fn run_any<const CAP: usize, R: Threads + Wait + Sync, G: Gate>(
+pub fn run_any<const CAP: usize, R: Threads + Wait + Sync, G: Gate>(
     rt: &R,
     alloc: Global,
     core: Core<CAP>,

@@ -1,4 +1,7 @@
 //! What the threads of a run share: the core, and how far the run is.
+ghost use Rattle.std.specs.Prelude.{◌≡◌, Some, None, IfErr, OnOk};
+ghost use Rattle.bs_workers.specs.Faults.{kept_fault};
+
 use crate::act::HeldAct;
 use crate::fault::Run;
 use crate::worker::{Job, MOST_PARTS, Worker};
@@ -56,10 +59,10 @@ impl<const CAP: usize> State<CAP> {
     }
 
     /// Records the fault and stops the run. Once `Memory` is recorded it stays.
-    pub(crate) fn fail(&mut self, fault: Run) {
-        if self.fault != Some(Run::Memory) {
-            self.fault = Some(fault);
-        }
+    pub(crate) fn fail(&mut self, fault: Run)
+        ensures { self.new.fault ≡ Some (kept_fault self.old.fault fault) }
+    {
+        self.fault = Some(fault.after(self.fault));
         self.core.fail();
     }
 
@@ -234,7 +237,10 @@ impl<const CAP: usize> State<CAP> {
     }
 
     /// Returns the core, or why the run was stopped.
-    pub(crate) fn into_core(self) -> Result<Core<CAP>, Run> {
+    pub(crate) fn into_core(self) -> Result<Core<CAP>, Run>
+        ensures ok { OnOk result (self.entry.fault ≡ None) }
+        ensures err { IfErr result (λ fault. self.entry.fault ≡ Some fault) }
+    {
         match self.fault {
             None => Ok(self.core),
             Some(fault) => Err(fault),

@@ -107,13 +107,13 @@ fn cause_from_byte(byte: u8) -> Result<Option<Cause>, Decode>
     }
 }
 
-fn killer_from_byte(byte: u8) -> Option<usize>
+pub(crate) fn killer_from_byte(byte: u8) -> Option<usize>
     ensures { result ≡ killer_from_byte byte }
 {
     usize::from(byte).checked_sub(1)
 }
 
-fn out_from_number(number: u16) -> Option<u16>
+pub(crate) fn out_from_number(number: u16) -> Option<u16>
     ensures { result ≡ out_from_number number }
 {
     if number == 0 { None } else { Some(number) }

@@ -70,6 +70,15 @@ impl KeptBoard {
         kept_board(alloc, self.bytes.as_slice())
     }
 
+    /// The record of the board, which is legal.
+    #[tactic(auto, using(crate::proofs::records::KeptRecord::record_of_board_in))]
+    pub fn record(&self) -> &[u8]
+        ensures value { result.now ≡ record_of self.now }
+        ensures legal { IsLegal self.now }
+    {
+        self.bytes.as_slice()
+    }
+
     /// The same value in memory of its own.
     pub fn copy(&self, alloc: Global) -> Result<KeptBoard, AllocError>
         ensures { IfOk result (λ kept. kept ≡ self.now) }

@@ -1,7 +1,9 @@
 use Rattle.bs_host.proofs.CutLaw.{section_law}
 use Rattle.bs_host.proofs.FoundStays.{found_law}
+use Rattle.bs_host.proofs.FullStays.{full_law}
 use Rattle.bs_host.proofs.OwnLines.{own_lines_law}
 use Rattle.bs_host.proofs.PlainLines.{early_law}
+use Rattle.bs_host.proofs.RefusedLines.{core_law}
 use Rattle.bs_host.proofs.cutting.section_law.Goals as goal
 
 pub returns-clause-cut : goal.returns-clause-cut
@@ -15,3 +17,9 @@ returns-clause-found c = found_law
 
 pub returns-clause-early : goal.returns-clause-early
 returns-clause-early c = early_law
+
+pub returns-clause-core : goal.returns-clause-core
+returns-clause-core c = core_law
+
+pub returns-clause-full : goal.returns-clause-full
+returns-clause-full c = full_law

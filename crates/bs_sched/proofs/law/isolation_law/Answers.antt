@@ -1,8 +1,9 @@
 -- What holds of all events is the law itself.
-use Rattle.bs_sched.proofs.Registry.{registry_law, journal_law, served_law, progress_example}
+use Rattle.bs_sched.proofs.Registry.{registry_law, journal_law, served_law}
 use Rattle.bs_sched.proofs.Isolation.{isolation_law}
 use Rattle.bs_sched.proofs.MemoryLaw.{memory_law}
 use Rattle.bs_sched.proofs.Names.{names_law}
+use Rattle.bs_sched.proofs.Progress.{progress_example}
 use Rattle.bs_sched.proofs.law.isolation_law.Goals as goal
 
 pub returns-clause-isolation : goal.returns-clause-isolation

@@ -1,0 +1,28 @@
+use Rattle.std.proofs.Common.{ap, ap₂, ◌∙◌, arith}
+use Rattle.std.specs.Prelude.{unwrap_or}
+use Rattle.bs_board.specs.declared.boards.board.Mode.TheVariants.{Standard}
+use Rattle.bs_board.specs.records.Decoder.{mode_from_bytes}
+use Rattle.bs_board.proofs.records.Fields.{mode_again}
+use Rattle.bs_board.proofs.records.LayoutBytes.{cut_cells, head_parts}
+use Rattle.bs_board.proofs.records.TurnBytes.{record_reaches_seats}
+use Rattle.bs_board.proofs.records.layout.split_board.Goals as goal
+
+pub returns-in_default : goal.returns-in_default
+returns-in_default c b is = let some = record_reaches_seats b c.args.bytes.now is in absurd (let none = c.in_default.len_below in omega arith)
+
+pub returns-in-len11-up : goal.returns-in-len11-up
+returns-in-len11-up c b is =
+    let found = head_parts b c.args.bytes.now is in
+    let cut = cut_cells 0 b.food _ _ c.cut.result.0.now c.cut.result.1.now c.from-count.result found.left (c.from-count.ensures ∙ c.from_two_bytes.ensures ∙ found.food) c.cut.ensures.front c.cut.ensures.rest in
+    record {
+      mode = c.known_mode.ensures ∙ ap₂ (λ version byte. unwrap_or (mode_from_bytes version byte) Standard) found.version found.mode ∙ ap (λ o. unwrap_or o Standard) (mode_again b.mode);
+      width = found.width;
+      height = found.height;
+      turn = c.from_two_bytes-in-len11-up.ensures ∙ found.turn;
+      min_food = found.min_food;
+      chance = found.chance;
+      food = cut.0;
+      over = c.over_of_record.ensures b is;
+      seats = c.from.ensures ∙ found.seats;
+      snakes = cut.1;
+    }

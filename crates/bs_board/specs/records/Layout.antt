@@ -1,0 +1,30 @@
+-- When a view shows the parts of a record.
+use Rattle.std.specs.Prelude.{◌≡◌, ℕ, length, flat_map}
+use Rattle.bs_board.specs.declared.boards.board.Board.{Board}
+use Rattle.bs_board.specs.declared.boards.snake.Snake.{Snake}
+use Rattle.bs_board.specs.declared.records.layout.SnakeBytes.{SnakeBytes}
+use Rattle.bs_board.specs.declared.records.layout.BoardBytes.{BoardBytes}
+use Rattle.bs_board.specs.boards.Over.{is_over}
+use Rattle.bs_board.specs.records.Record.{cell_bytes, snake_record}
+
+-- The view shows that snake's record.
+pub record IsSnakeBytes (s : Snake) (parts : SnakeBytes) : Type 0 where
+  pub id : parts.id.now ≡ s.id
+  pub health : parts.health ≡ s.health
+  pub cause : parts.cause ≡ s.cause
+  pub killer : parts.killer ≡ s.killer
+  pub out : parts.out ≡ s.out
+  pub body : parts.body.now ≡ flat_map (cell_bytes 1) s.body
+
+-- The view shows that board's record.
+pub record IsBoardBytes (b : Board) (parts : BoardBytes) : Type 0 where
+  pub mode : parts.mode ≡ b.mode
+  pub width : parts.width ≡ b.width
+  pub height : parts.height ≡ b.height
+  pub turn : parts.turn ≡ b.turn
+  pub min_food : parts.min_food ≡ b.min_food
+  pub chance : parts.chance ≡ b.chance
+  pub food : parts.food.now ≡ flat_map (cell_bytes 0) b.food
+  pub over : parts.over ≡ is_over b
+  pub seats : parts.seats ≡ length b.snakes
+  pub snakes : parts.snakes.now ≡ flat_map snake_record b.snakes

@@ -1,0 +1,185 @@
+//! Views of a record's parts, borrowed from its bytes. Nothing is decoded or judged.
+ghost use Rattle.std.specs.Prelude.{◌≡◌, ◌++◌, ℕ, List, MatchOption, None, drop, flat_map, take, unwrap_or};
+ghost use Rattle.bs_board.specs.declared.boards.board.Board.{Board as AnyBoard};
+ghost use Rattle.bs_board.specs.declared.boards.board.Mode.TheVariants.{Standard};
+ghost use Rattle.bs_board.specs.declared.boards.snake.Snake.{Snake as AnySnake};
+ghost use Rattle.bs_board.specs.records.Layout.{IsSnakeBytes, IsBoardBytes};
+ghost use Rattle.bs_board.specs.records.Decoder.{cause_from_byte, mode_from_bytes};
+ghost use Rattle.bs_board.specs.records.Record.{cell_bytes, record_of, snake_record, state_bytes};
+ghost use Rattle.bs_board.specs.records.Writing.{IsWritable};
+
+use crate::boards::board::Mode;
+use crate::boards::snake::Cause;
+use crate::records::decoding::{from_two_bytes, killer_from_byte, out_from_number};
+use crate::records::over::over_of_record;
+
+/// The number of bytes of a cell.
+const CELL: usize = 2;
+
+/// A view of a snake's record.
+#[derive(Clone, Copy)]
+pub struct SnakeBytes<'r> {
+    pub id: &'r [u8],
+    pub health: u8,
+    pub cause: Option<Cause>,
+    pub killer: Option<usize>,
+    pub out: Option<u16>,
+    /// Its cells, two bytes each.
+    pub body: &'r [u8],
+}
+
+/// A view of a board's record.
+#[derive(Clone, Copy)]
+pub struct BoardBytes<'r> {
+    pub mode: Mode,
+    pub width: u8,
+    pub height: u8,
+    pub turn: u16,
+    pub min_food: u8,
+    pub chance: u8,
+    /// The cells of the food, two bytes each.
+    pub food: &'r [u8],
+    /// Whether the game is over.
+    pub over: bool,
+    /// The number of snakes.
+    pub seats: usize,
+    /// The records of the snakes, one after the other.
+    pub snakes: &'r [u8],
+}
+
+/// Splits the bytes at `count`, or at their end if there are fewer.
+fn cut(count: usize, bytes: &[u8]) -> (&[u8], &[u8])
+    ensures front { result.0.now ≡ take count bytes.now }
+    ensures rest { result.1.now ≡ drop count bytes.now }
+{
+    if count <= bytes.len() {
+        bytes.split_at(count)
+    } else {
+        (bytes, &[])
+    }
+}
+
+/// Splits off an id, whose length comes first.
+fn split_id(bytes: &[u8]) -> (&[u8], &[u8])
+    ensures { (s : AnySnake) (rest : List ℕ) → bytes.now ≡ snake_record s ++ rest
+        → (result.0.now ≡ s.id) × (result.1.now ≡ state_bytes s ++ (flat_map (cell_bytes 1) s.body ++ rest)) }
+{
+    match bytes {
+        [len, rest @ ..] => cut(usize::from(*len), rest),
+        [] => (&[], &[]),
+    }
+}
+
+/// The cause that a record's byte stands for.
+fn known_cause(byte: u8) -> Option<Cause>
+    ensures { result ≡ unwrap_or (cause_from_byte byte) None }
+{
+    match byte {
+        1 => Some(Cause::OutOfHealth),
+        2 => Some(Cause::WallCollision),
+        3 => Some(Cause::SelfCollision),
+        4 => Some(Cause::BodyCollision),
+        5 => Some(Cause::HeadCollision),
+        _ => None,
+    }
+}
+
+/// The mode that a record's version and byte stand for.
+fn known_mode(version: u8, byte: u8) -> Mode
+    ensures { result ≡ unwrap_or (mode_from_bytes version byte) Standard }
+{
+    match (version, byte) {
+        (1, 1) => Mode::Solo,
+        (1, 2) => Mode::Constrictor,
+        (2, 3) => Mode::Wrapped,
+        _ => Mode::Standard,
+    }
+}
+
+/// Splits what follows a snake's id into the snake's parts and the rest.
+fn split_state<'r>(id: &'r [u8], bytes: &'r [u8]) -> (SnakeBytes<'r>, &'r [u8])
+    ensures { (s : AnySnake) (rest : List ℕ) → IsWritable s → id.now ≡ s.id → bytes.now ≡ state_bytes s ++ (flat_map (cell_bytes 1) s.body ++ rest)
+        → IsSnakeBytes s result.0 × (result.1.now ≡ rest) }
+{
+    match bytes {
+        [
+            health,
+            cause,
+            killer,
+            out_high,
+            out_low,
+            parts_high,
+            parts_low,
+            cells @ ..,
+        ] => {
+            let parts = usize::from(from_two_bytes(*parts_high, *parts_low));
+            let (body, rest) = cut(CELL * parts, cells);
+            let snake = SnakeBytes {
+                id,
+                health: *health,
+                cause: known_cause(*cause),
+                killer: killer_from_byte(*killer),
+                out: out_from_number(from_two_bytes(*out_high, *out_low)),
+                body,
+            };
+            (snake, rest)
+        }
+        _ => {
+            let nobody = SnakeBytes {
+                id,
+                health: 0,
+                cause: None,
+                killer: None,
+                out: None,
+                body: &[],
+            };
+            (nobody, &[])
+        }
+    }
+}
+
+/// Splits off the first of several snakes' records.
+pub fn split_snake(bytes: &[u8]) -> (SnakeBytes<'_>, &[u8])
+    ensures { (s : AnySnake) (rest : List ℕ) → IsWritable s → bytes.now ≡ snake_record s ++ rest → IsSnakeBytes s result.0 × (result.1.now ≡ rest) }
+{
+    let (id, rest) = split_id(bytes);
+    split_state(id, rest)
+}
+
+/// Splits the record of a board. `None` if the bytes are too few for one.
+pub fn split_board(bytes: &[u8]) -> Option<BoardBytes<'_>>
+    ensures { (b : AnyBoard) → bytes.now ≡ record_of b → MatchOption result ⊥ (IsBoardBytes b) }
+{
+    match bytes {
+        [
+            version,
+            mode,
+            width,
+            height,
+            turn_high,
+            turn_low,
+            min_food,
+            chance,
+            seats,
+            food_high,
+            food_low,
+            rest @ ..,
+        ] => {
+            let count = usize::from(from_two_bytes(*food_high, *food_low));
+            let (food, snakes) = cut(CELL * count, rest);
+            Some(BoardBytes {
+                mode: known_mode(*version, *mode),
+                width: *width,
+                height: *height,
+                turn: from_two_bytes(*turn_high, *turn_low),
+                min_food: *min_food,
+                chance: *chance,
+                food,
+                over: over_of_record(bytes),
+                seats: usize::from(*seats),
+                snakes,
+            })
+        }
+        _ => None,
+    }
+}

@@ -1,0 +1,11 @@
+-- The final lines so far, and those that are left.
+use Rattle.std.proofs.Common.{◌≡◌, ℕ, List, ◌++◌, drop}
+use Rattle.bs_board.specs.plans.Plan.{GameRow}
+use Rattle.bs_host.specs.Live.{HasAnswered, acts_behind, closing_behind, closing_of}
+use Rattle.bs_host.proofs.live_host.LiveHost.close.Given as goal
+
+abbrev pub invariant-loop-index : goal.invariant-loop-index
+invariant-loop-index l =
+    (plan : List GameRow) (lines : List (List ℕ)) → HasAnswered l.self.blocks l.self.version plan lines l.self.cores.open.items l.self.guests l.self.number
+    → l.text.items ++ closing_of (acts_behind l.self.blocks l.self.version plan lines) (drop l.index l.self.guests.stays)
+    ≡ l.fn.text.items ++ closing_behind l.self.blocks l.self.version plan lines

@@ -1,0 +1,11 @@
+use Rattle.std.proofs.Common.{[], ◌∷◌, ◌++◌, sym, subst}
+use Rattle.bs_workers.specs.declared.act.Act.TheVariants as act
+use Rattle.bs_host.specs.Live.{ArePlayed}
+use Rattle.bs_host.proofs.LivePlays.{plays_admitted}
+use Rattle.bs_host.proofs.stay_cores.StayCores.admit.Goals as goal
+
+pub returns : goal.returns
+returns c =
+    λ plan acts next are.
+    subst (λ games. ArePlayed plan (acts ++ act.Admit c.args.row.now ∷ []) games) (sym c.in_ok-push_core.ensures)
+    (plays_admitted plan acts c.args.stay c.args.row.now c.in_ok-core.core c.args.self.now.open.items next c.in_ok-core.ensures are)

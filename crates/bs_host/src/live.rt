@@ -1,0 +1,227 @@
+//! Serves a command file while it is read: answers each line as soon as it is complete. What is
+//! written is a function of the lines alone, each line's answer in the order of the lines.
+ghost use Rattle.std.specs.Prelude.{◌≡◌, ◌≢◌, ◌↔◌, ◌==◌, ◌+◌, ◌<◌, ◌≤◌, None, IsTrue, ℕ, true, false, List, [], ◌++◌, length, Option, IfOk, IfErr, IfSome, OnOk};
+ghost use Rattle.std.specs.Io.KnownBytes.{Appends, Consumes, IsAtEnd};
+ghost use Rattle.std.specs.List.{position};
+ghost use Rattle.bs_board.specs.plans.Plan.{GameRow};
+ghost use Rattle.bs_host.specs.declared.lines.TheConstants.{LINE_FEED};
+ghost use Rattle.bs_json.specs.declared.limits.TheConstants.{MAX_LINE};
+ghost use Rattle.bs_host.specs.File.{pieces_of};
+ghost use Rattle.bs_host.specs.Live.{HasAnswered, IsSameText, IsServing, LiveLaw, PrefixLaw, TranscriptLaw, live_lines_of, live_of};
+ghost use Rattle.bs_host.specs.LiveFaults.{IsLiveFault, IsReadFault, LeavesLines, LeavesLive, LeavesText, live_refusal_of};
+
+use crate::lines::{first_feed, split_first, split_last};
+use crate::live_fault::LiveFault;
+use crate::live_host::LiveHost;
+use bs_json::MAX_LINE;
+use bs_transcript::write_all_of;
+use std::alloc::{AllocError, Global};
+use std::io::{Read, Write};
+
+/// The most bytes of one read.
+const BLOCK: usize = 65_536;
+
+/// Writes the text and flushes the writer. Counts in `written` the bytes that it took.
+fn write_out<W: Write>(text: &[u8], written: &mut usize, output: &mut W) -> Result<(), LiveFault>
+    ensures text { OnOk result (Appends (W.contents output.old) (W.contents output.new) text.now) }
+    ensures count { OnOk result (written.new ≡ written.old + length text.now) }
+    ensures left { IfErr result (LeavesText text.now written.old (W.contents output.old) (W.contents output.new)) }
+{
+    let after = written.checked_add(text.len()).ok_or(AllocError)?;
+    if let Err(fault) = write_all_of(text, output) {
+        return Err(LiveFault::Write(*written + fault.written));
+    }
+    if output.flush().is_err() {
+        return Err(LiveFault::Flush);
+    }
+    *written = after;
+    Ok(())
+}
+
+/// Answers the complete lines of what is pending, and writes their answers. The rest stays pending.
+fn answer_ready<W: Write>(
+    alloc: Global,
+    host: &mut LiveHost,
+    pending: &mut Vec<u8>,
+    written: &mut usize,
+    output: &mut W,
+) -> Result<(), LiveFault>
+    ensures blocks { OnOk result (host.new.blocks ≡ host.old.blocks) }
+    ensures version { OnOk result (host.new.version ≡ host.old.version) }
+    ensures serving { (plan : List GameRow) (after : List ℕ) (first : Option (List ℕ))
+        → IsServing host.old.blocks host.old.version plan after pending.old.items first (W.contents output.old) written.old host.old.cores.open.items host.old.guests host.old.number
+        → OnOk result (IsServing host.old.blocks host.old.version plan after pending.new.items first (W.contents output.new) written.new host.new.cores.open.items host.new.guests host.new.number) }
+    ensures left { IfErr result (λ fault. (plan : List GameRow) (after : List ℕ) (first : Option (List ℕ))
+        → IsServing host.old.blocks host.old.version plan after pending.old.items first (W.contents output.old) written.old host.old.cores.open.items host.old.guests host.old.number
+        → (more : List ℕ) → LeavesLines host.old.blocks host.old.version plan (pieces_of (after ++ more)) first (W.contents output.new) fault) }
+{
+    let Some((front, back)) = split_last(pending) else {
+        return Ok(());
+    };
+    let mut rest = Vec::new(alloc);
+    rest.extend_from_slice(back)?;
+    let mut text = Vec::new(alloc);
+    host.answer_all(alloc, front, &mut text)?;
+    write_out(&text, written, output)?;
+    *pending = rest;
+    Ok(())
+}
+
+/// Whether no line feed is in the text.
+fn lacks_feed(text: &[u8]) -> bool
+    ensures { IsTrue result ↔ position (λ byte. byte == LINE_FEED) text.now ≡ None }
+{
+    first_feed(text).is_none()
+}
+
+/// Drops what is pending beyond 65,537 bytes where no line feed is among them: the line is too long,
+/// whatever follows.
+#[tactic(auto, using(crate::proofs::LiveHeld::same_text))]
+fn hold_line(pending: &mut Vec<u8>)
+    ensures { IsSameText pending.old.items pending.new.items }
+{
+    if pending.len() > MAX_LINE && lacks_feed(pending) {
+        pending.truncate(MAX_LINE + 1);
+    }
+}
+
+/// Waits until a byte can be read, reads once, and appends what was read. Returns false at the end
+/// of the input.
+fn read_more<R: Read>(input: &mut R, pending: &mut Vec<u8>) -> Result<bool, LiveFault>
+    ensures bytes { OnOk result
+        ((bytes : List ℕ) × Consumes (R.remaining input.old) (R.remaining input.new) bytes × (pending.new.items ≡ pending.old.items ++ bytes)) }
+    ensures more { IfOk result (λ more. more ≡ true → length pending.old.items < length pending.new.items) }
+    ensures end { IfOk result (λ more. more ≡ false → IsAtEnd (R.remaining input.new)) }
+    ensures fault { IfErr result IsReadFault }
+{
+    let mut block = [0u8; BLOCK];
+    let Ok(count) = input.read(&mut block) else {
+        return Err(LiveFault::Device);
+    };
+    pending.extend_from_slice(&block[..count])?;
+    Ok(count > 0)
+}
+
+/// Reads until the first line is complete or longer than 65,536 bytes, or to the end of the input.
+#[tactic(auto, using(crate::proofs::LiveBytes::consumes_none, crate::proofs::LiveBytes::reads_more))]
+fn read_first<R: Read>(alloc: Global, input: &mut R) -> Result<Vec<u8>, LiveFault>
+    ensures bytes { IfOk result (λ bytes. Consumes (R.remaining input.old) (R.remaining input.new) bytes.items) }
+    ensures end { IfOk result (λ bytes. position (λ byte. byte == LINE_FEED) bytes.items ≡ None → length bytes.items ≤ MAX_LINE → IsAtEnd (R.remaining input.new)) }
+    ensures fault { IfErr result IsReadFault }
+{
+    let mut bytes = Vec::new(alloc);
+    'reads: while bytes.len() <= MAX_LINE && lacks_feed(&bytes) {
+        if !read_more(input, &mut bytes)? {
+            return Ok(bytes);
+        }
+    }
+    Ok(bytes)
+}
+
+/// Answers what is pending at the end of the input; writes the answers, and the final lines of the
+/// open stays.
+fn end_live<W: Write>(
+    alloc: Global,
+    host: &mut LiveHost,
+    pending: &[u8],
+    written: &mut usize,
+    output: &mut W,
+) -> Result<(), LiveFault>
+    ensures written { (plan : List GameRow) (after : List ℕ) (first : Option (List ℕ))
+        → IsServing host.old.blocks host.old.version plan after pending.now first (W.contents output.old) written.old host.old.cores.open.items host.old.guests host.old.number
+        → OnOk result (Appends first (W.contents output.new) (live_lines_of host.old.blocks host.old.version plan (pieces_of after))) }
+    ensures left { IfErr result (λ fault. (plan : List GameRow) (after : List ℕ) (first : Option (List ℕ))
+        → IsServing host.old.blocks host.old.version plan after pending.now first (W.contents output.old) written.old host.old.cores.open.items host.old.guests host.old.number
+        → LeavesLines host.old.blocks host.old.version plan (pieces_of after) first (W.contents output.new) fault) }
+{
+    let mut text = Vec::new(alloc);
+    host.answer_all(alloc, pending, &mut text)?;
+    host.close(alloc, &mut text)?;
+    write_out(&text, written, output)?;
+    Ok(())
+}
+
+/// Answers the lines behind the plan as they are read. Some of their bytes are pending.
+fn serve_lines<R: Read, W: Write>(
+    alloc: Global,
+    host: &mut LiveHost,
+    pending: &mut Vec<u8>,
+    input: &mut R,
+    output: &mut W,
+) -> Result<(), LiveFault>
+    ensures written { (plan : List GameRow) → HasAnswered host.old.blocks host.old.version plan [] host.old.cores.open.items host.old.guests host.old.number
+        → OnOk result (IfSome (R.remaining input.old) (λ left. Appends (W.contents output.old) (W.contents output.new) (live_lines_of host.old.blocks host.old.version plan (pieces_of (pending.old.items ++ left))))) }
+    ensures left { IfErr result (λ fault. (plan : List GameRow) → HasAnswered host.old.blocks host.old.version plan [] host.old.cores.open.items host.old.guests host.old.number
+        → IfSome (R.remaining input.old) (λ left. LeavesLines host.old.blocks host.old.version plan (pieces_of (pending.old.items ++ left)) (W.contents output.old) (W.contents output.new) fault)) }
+{
+    let mut written = 0;
+    for _ in 0..u64::MAX {
+        answer_ready(alloc, host, pending, &mut written, output)?;
+        hold_line(pending);
+        if !read_more(input, pending)? {
+            end_live(alloc, host, pending, &mut written, output)?;
+            return Ok(());
+        }
+    }
+    Err(LiveFault::Broken)
+}
+
+/// Writes the final lines of the stays of a file that is its plan alone.
+fn end_plan<W: Write>(alloc: Global, host: &LiveHost, output: &mut W) -> Result<(), LiveFault>
+    ensures written { (plan : List GameRow) → HasAnswered host.now.blocks host.now.version plan [] host.now.cores.open.items host.now.guests host.now.number
+        → OnOk result (Appends (W.contents output.old) (W.contents output.new) (live_lines_of host.now.blocks host.now.version plan [])) }
+    ensures left { IfErr result (λ fault. (plan : List GameRow) → HasAnswered host.now.blocks host.now.version plan [] host.now.cores.open.items host.now.guests host.now.number
+        → LeavesLines host.now.blocks host.now.version plan [] (W.contents output.old) (W.contents output.new) fault) }
+{
+    let mut text = Vec::new(alloc);
+    host.close(alloc, &mut text)?;
+    let mut written = 0;
+    write_out(&text, &mut written, output)?;
+    Ok(())
+}
+
+/// Serves a command file with `blocks` blocks of memory while it is read. After each read it answers
+/// the complete lines, writes their answers, and flushes the writer. At the end of the input it
+/// answers what follows the last line feed, and writes the final lines of the open stays. The input
+/// may have any length; of a line at most 65,537 bytes are held.
+///
+/// A plan that is refused is a fault as soon as its line is complete or too long, and nothing is
+/// written for it. After any other fault the answers to the first lines stay written.
+pub fn serve_live<R: Read, W: Write>(
+    alloc: Global,
+    input: &mut R,
+    blocks: usize,
+    output: &mut W,
+) -> Result<(), LiveFault>
+    ensures served { OnOk result (IfSome (R.remaining input.old) (λ file. live_refusal_of blocks file ≡ None)) }
+    ensures written { OnOk result (IfSome (R.remaining input.old) (λ file. Appends (W.contents output.old) (W.contents output.new) (live_of blocks file))) }
+    ensures fault { IfErr result (λ fault. IfSome (R.remaining input.old) (λ file. IsLiveFault (live_refusal_of blocks file) fault)) }
+    ensures left { IfErr result (λ fault. IfSome (R.remaining input.old) (λ file. LeavesLive blocks file (W.contents output.old) (W.contents output.new) fault)) }
+    ensures refused { IfSome (R.remaining input.old) (λ file. live_refusal_of blocks file ≢ None → output.new ≡ output.old) }
+{
+    let bytes = read_first(alloc, input)?;
+    match split_first(&bytes) {
+        Some((first, rest)) => {
+            let mut host = LiveHost::open(alloc, first, blocks)?;
+            let mut pending = Vec::new(alloc);
+            pending.extend_from_slice(rest)?;
+            serve_lines(alloc, &mut host, &mut pending, input, output)?;
+            Ok(())
+        }
+        None => {
+            let host = LiveHost::open(alloc, &bytes, blocks)?;
+            end_plan(alloc, &host, output)?;
+            Ok(())
+        }
+    }
+}
+
+/// States that what a live host writes of a stay is the stay's section of the transcript, for every
+/// file, number of blocks and stay, and that it writes the same stray lines; so the transcript is what
+/// it writes, sorted by stays; and that what is written for some lines stays written, whatever comes
+/// behind them. Does nothing.
+pub fn live_law()
+    ensures sections { LiveLaw }
+    ensures transcript { TranscriptLaw }
+    ensures prefix { PrefixLaw }
+{}

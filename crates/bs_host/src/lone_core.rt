@@ -1,0 +1,105 @@
+//! A core that one stay has to itself: it is opened, given commands, and shown.
+ghost use Rattle.std.specs.Prelude.{◌≡◌, [], ◌∷◌, ◌++◌, List, IfOk, OnOk};
+ghost use Rattle.bs_board.specs.declared.commands.command.Command.{Command};
+ghost use Rattle.bs_board.specs.plans.Plan.{GameRow};
+ghost use Rattle.bs_host.specs.Live.{IsCoreOf, closing_line, next_line};
+
+use crate::limits::BLOCK_BYTES;
+use bs_board::{Plan, Row, Rows, Version};
+use bs_fiber::{Contents, SharedCommand};
+use bs_json::{final_line, push_reply_line};
+use bs_sched::{Core, Open, blocks_of};
+use bs_workers::{Run, is_settled, run_command};
+use std::alloc::{AllocError, Global};
+
+/// The only stay of such a core.
+const STAY: usize = 0;
+
+/// Appends the last reply of the core's stay.
+fn push_reply(alloc: Global, core: &Core<BLOCK_BYTES>, text: &mut Vec<u8>) -> Result<(), Run>
+    ensures { (row : GameRow) (commands : List Command) (command : Command) → IsCoreOf row (commands ++ command ∷ []) core.now → OnOk result
+        (text.new.items ≡ text.old.items ++ next_line row commands command) }
+{
+    if core.rows() == 0 {
+        return Err(Run::Broken);
+    }
+    let replies = core.replies(STAY);
+    let count = replies.len();
+    if count == 0 {
+        return Err(Run::Broken);
+    }
+    push_reply_line(
+        alloc,
+        &core.row(STAY).game,
+        count as u64,
+        &replies[count - 1],
+        text,
+    )?;
+    Ok(())
+}
+
+/// Appends the final line of the core's stay.
+pub(crate) fn push_final(
+    alloc: Global,
+    core: &Core<BLOCK_BYTES>,
+    text: &mut Vec<u8>,
+) -> Result<(), Run>
+    ensures { (row : GameRow) (commands : List Command) → IsCoreOf row commands core.now → OnOk result
+        (text.new.items ≡ text.old.items ++ closing_line row commands) }
+{
+    if core.rows() == 0 {
+        return Err(Run::Broken);
+    }
+    let board = core.board(alloc, STAY)?;
+    let charge = core.charge(STAY);
+    let line = final_line(alloc, &core.row(STAY).game, board.as_ref(), charge)?;
+    text.extend_from_slice(&line)?;
+    Ok(())
+}
+
+fn rows_of_one(alloc: Global, row: &Row) -> Result<Rows, AllocError>
+    ensures { IfOk result (λ rows. rows ≡ row.now ∷ []) }
+{
+    let mut rows = Vec::with_capacity(alloc, 1)?;
+    rows.push(row.copy(alloc)?)?;
+    Ok(Rows::from_vec(rows))
+}
+
+/// Opens a core for that row alone, with the blocks that its quota reserves.
+pub(crate) fn open_core(
+    alloc: Global,
+    version: Version,
+    row: &Row,
+) -> Result<Core<BLOCK_BYTES>, Run>
+    ensures { IfOk result (λ core. IsCoreOf row.now [] core) }
+{
+    let rows = rows_of_one(alloc, row)?;
+    let plan = Plan { rows, version };
+    let core = match Core::open(alloc, plan, blocks_of(BLOCK_BYTES, row), 0) {
+        Ok(core) => core,
+        Err(Open::Memory) => return Err(Run::Memory),
+        Err(Open::Short) => return Err(Run::Broken),
+    };
+    if !is_settled(&core) {
+        return Err(Run::Broken);
+    }
+    Ok(core)
+}
+
+/// Gives the command to the core's stay, and appends its reply.
+pub(crate) fn answer_command(
+    alloc: Global,
+    core: &mut Core<BLOCK_BYTES>,
+    command: &SharedCommand,
+    spent: &mut Option<Box<Contents<BLOCK_BYTES>>>,
+    text: &mut Vec<u8>,
+) -> Result<(), Run>
+    ensures core { (row : GameRow) (commands : List Command) → IsCoreOf row commands core.old
+        → OnOk result (IsCoreOf row (commands ++ command.now ∷ []) core.new) }
+    ensures text { (row : GameRow) (commands : List Command) → IsCoreOf row commands core.old
+        → OnOk result (text.new.items ≡ text.old.items ++ next_line row commands command.now) }
+{
+    run_command(alloc, core, STAY, command, spent)?;
+    push_reply(alloc, core, text)?;
+    Ok(())
+}

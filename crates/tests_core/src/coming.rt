@@ -1,0 +1,220 @@
+//! Runs in which games come and go, and whose acts are refused.
+use crate::player::CAP;
+use crate::runs::{TWO, push, run_games};
+use bs_board::{Command, Direction};
+use bs_fiber::{JobName, SharedCommand};
+use bs_samples::{holds, new_of_three, new_solo, row, same, third_goes};
+use bs_sched::Core;
+use bs_workers::{Act, Gate, OpenGate, Run};
+use std::alloc::{AllocError, Global};
+use std::hint::spin_loop;
+use std::process::Abort;
+use std::sync::Wait;
+use std::sync::atomic::AtomicBool;
+use std::sync::atomic::Ordering::SeqCst;
+use std::test::Fail;
+use std::thread;
+use std::thread::Threads;
+use std::time::{Clock, Duration};
+
+/// A game that is admitted, plays and leaves while another plays, and one of its name after it.
+/// There are blocks for either only once another has left.
+pub(crate) fn coming_and_going(alloc: Global) -> Result<Vec<Act>, Fail> {
+    let mut acts = Vec::new(alloc);
+    push(alloc, &mut acts, 0, new_of_three(alloc)?)?;
+    acts.push(Act::Leave(1))?;
+    acts.push(Act::Admit(row(alloc, "c", 64)?))?;
+    push(alloc, &mut acts, 2, new_of_three(alloc)?)?;
+    push(alloc, &mut acts, 2, third_goes(alloc, Direction::Down)?)?;
+    acts.push(Act::Leave(2))?;
+    acts.push(Act::Admit(row(alloc, "c", 64)?))?;
+    push(alloc, &mut acts, 3, Command::Show)?;
+    push(alloc, &mut acts, 0, Command::Show)?;
+    Ok(acts)
+}
+
+/// Whether the stay is open, how many replies it has, and whether it has a board.
+fn check_stay(
+    alloc: Global,
+    core: &Core<CAP>,
+    game: usize,
+    is_open: bool,
+    (replies, has_board): (usize, bool),
+) -> Result<(), Fail> {
+    holds("a stay", game < core.rows())?;
+    same("open", core.is_open(game), is_open)?;
+    same("replies", core.replies(game).len(), replies)?;
+    same("a board", core.board(alloc, game)?.is_some(), has_board)
+}
+
+/// Each game leaves once it has answered, however many threads there are, and its answers stay.
+#[test]
+fn games_come_and_go(rt: HostRuntime) -> Result<(), Fail> {
+    let alloc = rt.alloc();
+    let acts = coming_and_going(alloc)?;
+    for threads in [1usize, 2, 4] {
+        let core = run_games(&rt, &TWO, acts.as_slice(), threads, &OpenGate)??;
+        same("stays", core.rows(), 4)?;
+        check_stay(alloc, &core, 0, true, (2, true))?;
+        check_stay(alloc, &core, 1, false, (0, false))?;
+        check_stay(alloc, &core, 2, false, (2, true))?;
+        check_stay(alloc, &core, 3, true, (1, false))?;
+    }
+    Ok(())
+}
+
+fn check_broken<R: Threads + Wait + Sync + AllocGlobal>(
+    rt: &R,
+    acts: &[Act],
+    threads: usize,
+) -> Result<(), Fail> {
+    let ran = run_games(rt, &TWO, acts, threads, &OpenGate)?;
+    same("fault", ran.err(), Some(Run::Broken))
+}
+
+/// A command for a row that the plan does not have stops the run, alone and among others.
+#[test]
+fn a_command_for_no_row_breaks_the_run(rt: HostRuntime) -> Result<(), Fail> {
+    let alloc = rt.alloc();
+    let mut acts = crate::runs::commands(alloc)?;
+    push(alloc, &mut acts, 2, Command::Show)?;
+    for threads in [0usize, 1, 2, 4] {
+        check_broken(&rt, acts.as_slice(), threads)?;
+    }
+    let mut alone = Vec::new(alloc);
+    push(alloc, &mut alone, usize::MAX, Command::Show)?;
+    check_broken(&rt, alone.as_slice(), 2)
+}
+
+/// Lists of acts, the last of which is refused: an admission of a name that is taken and one whose
+/// blocks are not left; a leave and a command of a game that has left; a leave of a game that never
+/// came.
+fn refused(alloc: Global) -> Result<Vec<Vec<Act>>, Fail> {
+    let named = vec![in alloc; Act::Leave(0), Act::Admit(row(alloc, "b", 64)?)]?;
+    let short = vec![in alloc; Act::Admit(row(alloc, "c", 64)?)]?;
+    let closed = vec![in alloc; Act::Leave(1), Act::Leave(1)]?;
+    let mut handed = vec![in alloc; Act::Leave(1)]?;
+    push(alloc, &mut handed, 1, Command::Show)?;
+    let absent = vec![in alloc; Act::Leave(2)]?;
+    Ok(vec![in alloc; named, short, closed, handed, absent]?)
+}
+
+/// A refused act stops the run, as the last one and before others.
+#[test]
+fn a_refused_act_breaks_the_run(rt: HostRuntime) -> Result<(), Fail> {
+    let alloc = rt.alloc();
+    for threads in [1usize, 2, 4] {
+        for mut acts in refused(alloc)? {
+            check_broken(&rt, acts.as_slice(), threads)?;
+            push(alloc, &mut acts, 0, Command::Show)?;
+            check_broken(&rt, acts.as_slice(), threads)?;
+        }
+    }
+    Ok(())
+}
+
+/// How many acts are made one after the other: more than four times 1,024.
+const MANY: usize = 5_000;
+
+/// A setup, and `show` for both games in turn.
+fn many_acts(alloc: Global) -> Result<Vec<Act>, Fail> {
+    let show = SharedCommand::new(alloc, Command::Show)?;
+    let mut acts = Vec::new(alloc);
+    push(alloc, &mut acts, 0, new_solo(alloc, 3)?)?;
+    for number in 1..MANY {
+        acts.push(Act::Hand(number % 2, show.share()?))?;
+    }
+    Ok(acts)
+}
+
+/// All acts of a long list are made, and all its commands answered.
+#[test]
+fn all_acts_of_a_long_list_are_made(rt: HostRuntime) -> Result<(), Fail> {
+    let acts = many_acts(rt.alloc())?;
+    for threads in [1usize, 2] {
+        let core = run_games(&rt, &TWO, acts.as_slice(), threads, &OpenGate)??;
+        holds("two games", core.rows() == 2)?;
+        same("replies", core.replies(0).len(), 2_500)?;
+        same("replies", core.replies(1).len(), 2_500)?;
+    }
+    Ok(())
+}
+
+/// Lets the thread that makes the acts pass once another thread is at a job, which takes a while.
+#[derive(Drop)]
+struct Slow {
+    is_other_here: AtomicBool,
+}
+
+impl Gate for Slow {
+    fn at(&self, worker: usize, _job: JobName) -> bool {
+        if worker > 0 {
+            self.is_other_here.store(true, SeqCst);
+            for _ in 0..100_000u32 {
+                spin_loop();
+            }
+            return true;
+        }
+        for _ in 0..1_000_000_000u32 {
+            if self.is_other_here.load(SeqCst) {
+                return true;
+            }
+        }
+        false
+    }
+}
+
+/// Both games are set up and leave. One of them is done by a thread that is slow, so that the
+/// thread that makes the acts has nothing to run and waits.
+fn leaving(alloc: Global) -> Result<Vec<Act>, Fail> {
+    let mut acts = Vec::new(alloc);
+    push(alloc, &mut acts, 0, new_of_three(alloc)?)?;
+    push(alloc, &mut acts, 1, new_of_three(alloc)?)?;
+    acts.push(Act::Leave(0))?;
+    acts.push(Act::Leave(1))?;
+    Ok(acts)
+}
+
+/// How many of the runs in which a leave waits for another thread end with a core.
+fn count_left<R: Threads + Wait + Sync + AllocGlobal>(
+    rt: &R,
+    acts: &[Act],
+    runs: usize,
+) -> Result<usize, Fail> {
+    let mut count = 0usize;
+    for _ in 0..runs {
+        let gate = Slow {
+            is_other_here: AtomicBool::new(false),
+        };
+        let core = run_games(rt, &TWO, acts, 2, &gate)??;
+        if core.is_quiet() {
+            count = count.saturating_add(1);
+        }
+    }
+    Ok(count)
+}
+
+/// Ends the test where the work is not done after 20 seconds.
+fn watch<R: Abort + Clock>(rt: &R, is_done: &AtomicBool) {
+    for _ in 0..2_000u32 {
+        if is_done.load(SeqCst) {
+            return;
+        }
+        thread::sleep(rt, Duration::from_millis(10));
+    }
+    assert!(rt; false, "a run has not ended after 20 seconds");
+}
+
+/// A thread that completes what a leave waits for wakes the thread that makes the acts.
+#[test]
+fn a_waiting_leave_is_woken(rt: HostRuntime) -> Result<(), Fail> {
+    let acts = leaving(rt.alloc())?;
+    let is_done = AtomicBool::new(false);
+    let left = thread::scope(thread::scope_env(), &rt, |scope| {
+        let _watch = scope.spawn(|| watch(&rt, &is_done));
+        let left = count_left(&rt, acts.as_slice(), 20);
+        is_done.store(true, SeqCst);
+        left
+    });
+    same("runs", left?, 20)
+}

@@ -1,0 +1,428 @@
+//! Cores of small plans, played job by job.
+use crate::player::{
+    CAP, DoneParts, core_of, finish, hand, play_all, play_one, put, put_parts, take, take_done,
+    take_part,
+};
+use arrayvec::ArrayVec;
+use bs_board::{Command, Direction, Refusal, Reply, TurnNumber, Word};
+use bs_counter::{PartKey, Parted};
+use bs_fiber::{Done, Handles, JobKind, JobName, SharedCommand, Ticket, work};
+use bs_samples::{holds, new_of_three, new_solo, plan_of, same, straight_on, third_goes};
+use bs_sched::{Core, Counts, Open, Taken, blocks_of, blocks_of_all};
+use std::alloc::Global;
+use std::sync::Wait;
+use std::test::Fail;
+
+/// A core of one game and six blocks.
+fn core_of_one(alloc: Global, name: &str, quota: u32) -> Result<Core<CAP>, Fail> {
+    core_of(alloc, &[(name, quota)], 6)
+}
+
+/// The ticket of `show`, the second command, after the first one left one record.
+fn check_second_ticket(core: &Core<CAP>, ticket: &Ticket<CAP>) -> Result<(), Fail> {
+    same("number of the command", ticket.seq(), 2)?;
+    same("kept records", ticket.kept(), 1)?;
+    same("worker", ticket.worker(), 0)?;
+    holds("show", matches!(ticket.command(), Command::Show))?;
+    holds("a game", core.rows() == 1)?;
+    holds("one record", core.count(0) == 1)?;
+    let last = ticket.last().ok_or("a newest record")?;
+    same("newest record", last.as_slice(), core.records(0, 0))?;
+    holds("no parts", ticket.parts().is_empty())
+}
+
+/// A ticket that was spent on `new` becomes that of `show`: all of it is the second command's.
+#[test]
+fn a_ticket_takes_the_place_of_a_spent_one(rt: HostRuntime) -> Result<(), Fail> {
+    let alloc = rt.alloc();
+    let mut core = core_of_one(alloc, "a", 4096)?;
+    hand(alloc, &mut core, 0, new_of_three(alloc)?)?;
+    hand(alloc, &mut core, 0, Command::Show)?;
+    let done = take_done(alloc, &mut core, 0)?;
+    let spent = core.put_back(0, done).map_err(|_| Fail::from("a stray"))?;
+    same("number of the command", spent.input.seq, 1)?;
+    same("kept records", spent.input.kept, 0)?;
+    holds("no newest record", spent.input.last.is_none())?;
+    holds("two workers", core.workers() == 2)?;
+    let Taken::Job(ticket) = core.take_over(alloc, 0, Some(spent))? else {
+        return Err(Fail::from("no job"));
+    };
+    check_second_ticket(&core, &ticket)?;
+    put(&mut core, 0, work(alloc, ticket)?)?;
+    holds("quiet", core.is_quiet())
+}
+
+fn check_job(done: &Done<CAP>, kind: JobKind, part: u8) -> Result<(), Fail> {
+    let wanted = JobName {
+        game: 0,
+        kind,
+        part,
+    };
+    same("job", done.ticket().job(), wanted)
+}
+
+fn check_free(core: &Core<CAP>, free: usize) -> Result<(), Fail> {
+    let counts = Counts {
+        free,
+        held: 6usize.saturating_sub(free),
+        size: 6,
+    };
+    same("blocks", core.counts(), counts)
+}
+
+const TWO: [(&str, u32); 2] = [("a", 64), ("b", 64)];
+
+#[test]
+fn opens_within_its_blocks(rt: HostRuntime) -> Result<(), Fail> {
+    let alloc = rt.alloc();
+    let short = Core::<CAP>::open(alloc, plan_of(alloc, &TWO)?, 11, 3);
+    same("11 blocks", short.err(), Some(Open::Short))?;
+
+    let plan = plan_of(alloc, &TWO)?;
+    same("blocks", blocks_of_all(CAP, plan.rows.as_slice()), 12)?;
+    let core = Core::<CAP>::open(alloc, plan, 12, 3)?;
+    let counts = Counts {
+        free: 12,
+        held: 0,
+        size: 12,
+    };
+    same("counts", core.counts(), counts)?;
+    same("workers", core.workers(), 3)?;
+    check_opened(alloc, &core)
+}
+
+/// A core of two games that were not played.
+fn check_opened(alloc: Global, core: &Core<CAP>) -> Result<(), Fail> {
+    holds("quiet", core.is_quiet())?;
+    holds("two games", core.rows() == 2)?;
+    same("quota", core.row(1).quota, 64)?;
+    same("blocks", blocks_of(CAP, core.row(1)), 6)?;
+    same("records", core.count(0), 0)?;
+    same("charge", core.charge(0), 0)?;
+    holds("no board", core.board(alloc, 0)?.is_none())
+}
+
+/// What the readers of a core of one game show.
+#[derive(Clone, Copy, Debug, PartialEq, Eq)]
+struct Readings {
+    events: usize,
+    counts: Counts,
+    taken: usize,
+    replies: usize,
+    records: usize,
+    charge: u32,
+    is_quiet: bool,
+}
+
+fn read_all(core: &Core<CAP>) -> Result<Readings, Fail> {
+    holds("a game", core.rows() == 1)?;
+    Ok(Readings {
+        events: core.journal().len(),
+        counts: core.counts(),
+        taken: core.taken(0).len(),
+        replies: core.replies(0).len(),
+        records: core.count(0),
+        charge: core.charge(0),
+        is_quiet: core.is_quiet(),
+    })
+}
+
+/// The turn of the board of a core of one game.
+fn check_turn(alloc: Global, core: &Core<CAP>, turn: u16) -> Result<(), Fail> {
+    holds("a game", core.rows() == 1)?;
+    let board = core.board(alloc, 0)?.ok_or("a board")?;
+    same("turn", board.turn, turn)
+}
+
+/// While a second command is worked, what is brought back of another core is a stray, and so is the
+/// job from a worker that has not taken it.
+fn check_two_strays(alloc: Global, core: &mut Core<CAP>, foreign: Done<CAP>) -> Result<(), Fail> {
+    hand(alloc, core, 0, Command::Show)?;
+    let done = take_done(alloc, core, 0)?;
+    let before = read_all(core)?;
+    holds("of another core", core.put(0, foreign).is_err())?;
+    holds("of another worker", core.put(1, done).is_err())?;
+    same("readings", read_all(core)?, before)?;
+    check_free(core, 5)?;
+    same("commands taken", before.taken, 2)?;
+    check_turn(alloc, core, 0)
+}
+
+#[test]
+fn results_of_another_core_are_strays(rt: HostRuntime) -> Result<(), Fail> {
+    let alloc = rt.alloc();
+    let mut core = core_of_one(alloc, "a", 4096)?;
+    let mut other = core_of_one(alloc, "a", 4096)?;
+    hand(alloc, &mut core, 0, new_solo(alloc, 3)?)?;
+    hand(alloc, &mut other, 0, new_solo(alloc, 3)?)?;
+    let done = take_done(alloc, &mut core, 0)?;
+    let foreign = take_done(alloc, &mut other, 0)?;
+    check_job(&done, JobKind::Begin, 0)?;
+    check_nothing(alloc, &mut core, 1)?;
+    let is_busy = matches!(take(alloc, &mut core, 0)?, Taken::Busy);
+    holds("busy", is_busy)?;
+    put(&mut core, 0, done)?;
+    let foreign = check_stray(&mut core, foreign)?;
+    check_job(&foreign, JobKind::Begin, 0)?;
+    same("replies", read_all(&core)?.replies, 1)?;
+    check_two_strays(alloc, &mut core, foreign)
+}
+
+fn check_nothing(alloc: Global, core: &mut Core<CAP>, worker: usize) -> Result<(), Fail> {
+    let is_nothing = matches!(take(alloc, core, worker)?, Taken::Nothing);
+    holds("nothing to take", is_nothing)
+}
+
+/// The result is none of the core's, and leaves it as it was.
+fn check_stray(core: &mut Core<CAP>, done: Done<CAP>) -> Result<Done<CAP>, Fail> {
+    let before = read_all(core)?;
+    let Err(stray) = core.put(0, done) else {
+        return Err(Fail::from("no stray"));
+    };
+    same("readings", read_all(core)?, before)?;
+    Ok(stray.done)
+}
+
+/// The list is none of the core's, and leaves it as it was.
+fn check_strays(core: &mut Core<CAP>, parts: DoneParts) -> Result<DoneParts, Fail> {
+    let before = read_all(core)?;
+    let Err(strays) = core.put_parts(parts) else {
+        return Err(Fail::from("not all parts of the move"));
+    };
+    same("readings", read_all(core)?, before)?;
+    Ok(strays.parts)
+}
+
+/// A part is a stray by itself, and so is a list of it alone where the move has two.
+fn check_part_strays(core: &mut Core<CAP>, done: Done<CAP>) -> Result<Done<CAP>, Fail> {
+    let done = check_stray(core, done)?;
+    drop(check_strays(core, ArrayVec::new())?);
+    let mut one = ArrayVec::new();
+    one.push(Some(done));
+    let mut one = check_strays(core, one)?;
+    holds("the list of one part", one.len() == 1)?;
+    Ok(one.remove(0).ok_or("the part")?)
+}
+
+/// The part that the worker gets is of that number.
+fn take_part_of(
+    alloc: Global,
+    core: &mut Core<CAP>,
+    worker: usize,
+    part: u8,
+) -> Result<(Done<CAP>, PartKey<Done<CAP>>), Fail> {
+    let (done, key) = take_part(alloc, core, worker)?;
+    check_job(&done, JobKind::Part, part)?;
+    Ok((done, key))
+}
+
+/// Both parts are out with one worker. The second is finished first, and the parts come back at
+/// once.
+fn play_parts(alloc: Global, core: &mut Core<CAP>) -> Result<(), Fail> {
+    let (one, first_key) = take_part_of(alloc, core, 0, 0)?;
+    let (two, second_key) = take_part_of(alloc, core, 0, 1)?;
+    check_nothing(alloc, core, 1)?;
+    let one = check_part_strays(core, one)?;
+    holds("one part is missing", finish(second_key, two)?.is_none())?;
+    check_nothing(alloc, core, 1)?;
+    let parts = finish(first_key, one)?.ok_or("the last part")?;
+    check_in_order(&parts)?;
+    put_parts(core, parts)
+}
+
+fn check_in_order(parts: &DoneParts) -> Result<(), Fail> {
+    same("parts", parts.len(), 2)?;
+    for (place, part) in parts.as_slice().iter().enumerate() {
+        let done = part.as_ref().ok_or("a part")?;
+        same("part", done.part(), place)?;
+    }
+    Ok(())
+}
+
+fn play_join(alloc: Global, core: &mut Core<CAP>) -> Result<(), Fail> {
+    let join = take_done(alloc, core, 1)?;
+    check_job(&join, JobKind::Join, 0)?;
+    check_nothing(alloc, core, 0)?;
+    holds("not quiet", !core.is_quiet())?;
+    put(core, 1, join)?;
+    holds("quiet", core.is_quiet())
+}
+
+/// Plays the Begin of a command as that worker.
+fn play_begin(alloc: Global, core: &mut Core<CAP>, worker: usize) -> Result<(), Fail> {
+    let done = take_done(alloc, core, worker)?;
+    check_job(&done, JobKind::Begin, 0)?;
+    put(core, worker, done)
+}
+
+#[test]
+fn a_move_goes_in_parts(rt: HostRuntime) -> Result<(), Fail> {
+    let alloc = rt.alloc();
+    let mut core = core_of_one(alloc, "b", 4096)?;
+    hand(alloc, &mut core, 0, new_of_three(alloc)?)?;
+    hand(alloc, &mut core, 0, third_goes(alloc, Direction::Down)?)?;
+    play_begin(alloc, &mut core, 1)?;
+    play_begin(alloc, &mut core, 0)?;
+    check_free(&core, 5)?;
+    play_parts(alloc, &mut core)?;
+    play_join(alloc, &mut core)?;
+    check_free(&core, 5)?;
+    let readings = read_all(&core)?;
+    same("charge", readings.charge, 128)?;
+    same("records", readings.records, 2)?;
+    same("replies", readings.replies, 2)?;
+    check_turn(alloc, &core, 1)
+}
+
+/// Each part that is taken draws a block. They stay drawn while the parts come back.
+fn play_counted_parts(alloc: Global, core: &mut Core<CAP>) -> Result<(), Fail> {
+    let (one, first_key) = take_part(alloc, core, 0)?;
+    check_free(core, 4)?;
+    let (two, second_key) = take_part(alloc, core, 1)?;
+    check_free(core, 3)?;
+    holds("one part is missing", finish(second_key, two)?.is_none())?;
+    check_free(core, 3)?;
+    let parts = finish(first_key, one)?.ok_or("the last part")?;
+    check_free(core, 3)?;
+    put_parts(core, parts)?;
+    check_free(core, 3)
+}
+
+/// The answer gives back the blocks of both parts.
+fn play_counted_join(alloc: Global, core: &mut Core<CAP>) -> Result<(), Fail> {
+    let join = take_done(alloc, core, 0)?;
+    check_job(&join, JobKind::Join, 0)?;
+    check_free(core, 3)?;
+    put(core, 0, join)?;
+    check_free(core, 5)?;
+    same("charge", read_all(core)?.charge, 128)
+}
+
+#[test]
+fn each_part_holds_a_block_until_the_answer(rt: HostRuntime) -> Result<(), Fail> {
+    let alloc = rt.alloc();
+    let mut core = core_of_one(alloc, "b", 4096)?;
+    hand(alloc, &mut core, 0, new_of_three(alloc)?)?;
+    play_begin(alloc, &mut core, 0)?;
+    check_free(&core, 5)?;
+    hand(alloc, &mut core, 0, third_goes(alloc, Direction::Down)?)?;
+    check_free(&core, 5)?;
+    play_begin(alloc, &mut core, 0)?;
+    check_free(&core, 5)?;
+    play_counted_parts(alloc, &mut core)?;
+    play_counted_join(alloc, &mut core)
+}
+
+/// The reply to the command of that number shows a board: its word, its turn and the charge.
+fn check_shown(
+    alloc: Global,
+    core: &Core<CAP>,
+    number: usize,
+    (word, turn, charge): (Word, u16, u32),
+) -> Result<(), Fail> {
+    holds("a game", core.rows() == 1)?;
+    let Some(Reply::Shown(said, kept, charged)) = core.replies(0).get(number) else {
+        return Err(Fail::from("not shown"));
+    };
+    same("word", *said, word)?;
+    same("charge", *charged, charge)?;
+    same("turn", kept.board(alloc)?.turn, turn)
+}
+
+/// The reply to the command of that number is that refusal.
+fn check_refused(core: &Core<CAP>, number: usize, reason: Refusal) -> Result<(), Fail> {
+    holds("a game", core.rows() == 1)?;
+    let Some(Reply::Refused(why)) = core.replies(0).get(number) else {
+        return Err(Fail::from("not refused"));
+    };
+    same("reason", *why, reason)
+}
+
+fn hand_turn(alloc: Global, core: &mut Core<CAP>, turn: u16) -> Result<(), Fail> {
+    let turn = TurnNumber::new(turn).ok_or("a turn")?;
+    hand(alloc, core, 0, Command::Turn(turn))
+}
+
+/// A game whose quota is that of two records is asked for a third one, frees one, and goes on.
+fn hand_over_quota(alloc: Global, core: &mut Core<CAP>) -> Result<(), Fail> {
+    hand(alloc, core, 0, new_solo(alloc, 5)?)?;
+    hand(alloc, core, 0, straight_on(alloc))?;
+    hand(alloc, core, 0, straight_on(alloc))?;
+    hand(alloc, core, 0, Command::Free)?;
+    hand(alloc, core, 0, straight_on(alloc))?;
+    hand_turn(alloc, core, 0)?;
+    hand_turn(alloc, core, 1)
+}
+
+fn check_over_quota(alloc: Global, core: &Core<CAP>) -> Result<(), Fail> {
+    holds("a game", core.rows() == 1)?;
+    same("replies", core.replies(0).len(), 7)?;
+    check_shown(alloc, core, 0, (Word::New, 0, 32))?;
+    check_shown(alloc, core, 1, (Word::Move, 1, 64))?;
+    check_refused(core, 2, Refusal::Quota)?;
+    let freed = core.replies(0).get(3);
+    holds("freed", matches!(freed, Some(Reply::Plain(Word::Free, 32))))?;
+    check_shown(alloc, core, 4, (Word::Move, 2, 64))?;
+    check_refused(core, 5, Refusal::NoRecord)?;
+    check_shown(alloc, core, 6, (Word::Turn, 1, 64))?;
+    same("records", core.count(0), 2)
+}
+
+#[test]
+fn quota_of_two_records(rt: HostRuntime) -> Result<(), Fail> {
+    let alloc = rt.alloc();
+    let mut core = core_of_one(alloc, "a", 64)?;
+    hand_over_quota(alloc, &mut core)?;
+    play_all(&rt, alloc, &mut core, 2)?;
+    holds("quiet", core.is_quiet())?;
+    check_over_quota(alloc, &core)
+}
+
+/// A core of that game, which was handed the same command twice.
+fn core_with_shared(alloc: Global, name: &str, shared: &SharedCommand) -> Result<Core<CAP>, Fail> {
+    let mut core = core_of_one(alloc, name, 4096)?;
+    holds("a game", core.rows() == 1)?;
+    holds("an open game", core.is_open(0))?;
+    core.hand_shared(0, shared)?;
+    holds("a game", core.rows() == 1)?;
+    holds("an open game", core.is_open(0))?;
+    core.hand_handles(0, Handles::new(shared)?)?;
+    Ok(core)
+}
+
+/// A command that two cores hold is answered in each of them.
+#[test]
+fn two_cores_hold_one_command(rt: HostRuntime) -> Result<(), Fail> {
+    let alloc = rt.alloc();
+    let shared = SharedCommand::new(alloc, new_solo(alloc, 3)?)?;
+    for name in ["a", "b"] {
+        let mut core = core_with_shared(alloc, name, &shared)?;
+        play_all(&rt, alloc, &mut core, 0)?;
+        same("replies", read_all(&core)?.replies, 2)?;
+        check_shown(alloc, &core, 0, (Word::New, 0, 32))?;
+        check_refused(&core, 1, Refusal::Running)?;
+    }
+    Ok(())
+}
+
+fn check_failed(alloc: Global, core: &mut Core<CAP>, worker: usize) -> Result<(), Fail> {
+    let has_failed = matches!(take(alloc, core, worker)?, Taken::Failed);
+    holds("failed", has_failed)
+}
+
+#[test]
+fn jobs_come_back_after_a_failure(rt: HostRuntime) -> Result<(), Fail> {
+    let alloc = rt.alloc();
+    let mut core = core_of_one(alloc, "a", 64)?;
+    hand(alloc, &mut core, 0, new_solo(alloc, 5)?)?;
+    hand(alloc, &mut core, 0, Command::End)?;
+    let done = take_done(alloc, &mut core, 0)?;
+    holds("not failed", !core.has_failed())?;
+    core.fail();
+    holds("failed", core.has_failed())?;
+    check_failed(alloc, &mut core, 0)?;
+    check_failed(alloc, &mut core, 1)?;
+    put(&mut core, 0, done)?;
+    same("replies", read_all(&core)?.replies, 1)?;
+    check_failed(alloc, &mut core, 0)
+}

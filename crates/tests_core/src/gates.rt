@@ -1,0 +1,113 @@
+//! The gate of a run: which jobs it is asked about, and what becomes of a run where it is shut.
+use crate::coming::coming_and_going;
+use crate::runs::{TWO, commands, run_with};
+use bs_fiber::{JobKind, JobName};
+use bs_samples::same;
+use bs_sched::Event;
+use bs_workers::{Act, Gate, Run};
+use std::alloc::Global;
+use std::sync::{Mutex, Wait};
+use std::test::Fail;
+use std::thread::Threads;
+
+/// Refuses the jobs of one kind.
+#[derive(Clone, Copy)]
+struct Refusing {
+    kind: JobKind,
+}
+
+impl Gate for Refusing {
+    fn at(&self, _worker: usize, job: JobName) -> bool {
+        job.kind != self.kind
+    }
+}
+
+fn check_refused<R: Threads + Wait + Sync + AllocGlobal>(
+    rt: &R,
+    acts: &[Act],
+    kind: JobKind,
+) -> Result<(), Fail> {
+    for threads in [1usize, 2, 4] {
+        let ran = run_with(rt, &TWO, acts, (threads, threads), &Refusing { kind })?;
+        same("fault", ran.err(), Some(Run::Broken))?;
+    }
+    Ok(())
+}
+
+/// A gate that refuses a Begin, a part or a Join breaks the run.
+#[test]
+fn a_shut_gate_breaks_the_run(rt: HostRuntime) -> Result<(), Fail> {
+    let acts = commands(rt.alloc())?;
+    for kind in [JobKind::Begin, JobKind::Part, JobKind::Join] {
+        check_refused(&rt, acts.as_slice(), kind)?;
+    }
+    Ok(())
+}
+
+/// A run ends though the game that is to leave is never done.
+#[test]
+fn a_shut_gate_breaks_the_run_at_a_leave(rt: HostRuntime) -> Result<(), Fail> {
+    let acts = coming_and_going(rt.alloc())?;
+    for kind in [JobKind::Begin, JobKind::Part, JobKind::Join] {
+        check_refused(&rt, acts.as_slice(), kind)?;
+    }
+    Ok(())
+}
+
+/// Notes each job that it is asked about, with the number of the thread.
+#[derive(Drop)]
+struct Noting {
+    noted: Mutex<Vec<(usize, JobName)>>,
+}
+
+impl Noting {
+    fn new(alloc: Global) -> Noting {
+        Noting {
+            noted: Mutex::new(Vec::new(alloc)),
+        }
+    }
+}
+
+impl Gate for Noting {
+    fn at(&self, worker: usize, job: JobName) -> bool {
+        for _ in 0..1_000_000_000u32 {
+            if let Some(mut noted) = self.noted.try_lock() {
+                return noted.push((worker, job)).is_ok();
+            }
+        }
+        false
+    }
+}
+
+/// Each job that the journal says was taken was noted once, with the number of the thread that has
+/// the worker's number; no other job was.
+fn check_noted(
+    journal: &[Event],
+    mut noted: Vec<(usize, JobName)>,
+    numbers: usize,
+) -> Result<(), Fail> {
+    for event in journal {
+        if let Event::Take(worker, job) = event {
+            let thread = (*worker as usize).checked_div(numbers).ok_or("numbers")?;
+            let place = noted
+                .iter()
+                .position(|note| *note == (thread, *job))
+                .ok_or("a job that was not noted")?;
+            noted.swap_remove(place);
+        }
+    }
+    same("jobs too many", noted.len(), 0)
+}
+
+/// The gate is asked about each job once, by the thread that takes it.
+#[test]
+fn the_gate_is_asked_about_each_job(rt: HostRuntime) -> Result<(), Fail> {
+    let acts = commands(rt.alloc())?;
+    for (threads, workers) in [(1usize, 1usize), (2, 2), (4, 4), (2, 8)] {
+        let gate = Noting::new(rt.alloc());
+        let core = run_with(&rt, &TWO, acts.as_slice(), (threads, workers), &gate)??;
+        let numbers = workers.checked_div(threads).ok_or("threads")?;
+        check_noted(core.journal(), gate.noted.into_inner(), numbers)?;
+    }
+    Ok(())
+}

@@ -1,0 +1,23 @@
+//! Tests of bs_counter, bs_fiber, bs_sched and bs_workers, over their public calls.
+#![tactic(auto)]
+
+#[cfg(test)]
+mod coming;
+#[cfg(test)]
+mod cores;
+#[cfg(test)]
+mod counters;
+#[cfg(test)]
+mod drawn;
+#[cfg(test)]
+mod fibers;
+#[cfg(test)]
+mod gates;
+#[cfg(test)]
+mod player;
+#[cfg(test)]
+mod runs;
+#[cfg(test)]
+mod stays;
+#[cfg(test)]
+mod threads;

@@ -1,0 +1,86 @@
+//! Runs of two games of three snakes: their acts, and the replies that they end with.
+use crate::player::CAP;
+use bs_board::{Command, Direction, TurnNumber};
+use bs_fiber::SharedCommand;
+use bs_samples::{holds, new_of_three, plan_of, same, third_goes};
+use bs_sched::{Core, MOST_WORKERS};
+use bs_workers::{Act, Gate, Run, run_any};
+use std::alloc::{AllocError, Global};
+use std::sync::Wait;
+use std::test::Fail;
+use std::thread::Threads;
+
+/// The result of a run.
+pub(crate) type Ran = Result<Core<CAP>, Run>;
+
+/// The two games of a run.
+pub(crate) const TWO: [(&str, u32); 2] = [("a", 4096), ("b", 4096)];
+
+/// Adds a command for that game.
+pub(crate) fn push(
+    alloc: Global,
+    acts: &mut Vec<Act>,
+    game: usize,
+    command: Command,
+) -> Result<(), AllocError> {
+    acts.push(Act::Hand(game, SharedCommand::new(alloc, command)?))?;
+    Ok(())
+}
+
+/// Six moves of the third snake, three in each game, and each time `show` in the other game.
+fn push_moves(alloc: Global, acts: &mut Vec<Act>) -> Result<(), Fail> {
+    for (game, direction) in [
+        (0usize, Direction::Down),
+        (1, Direction::Left),
+        (1, Direction::Down),
+        (0, Direction::Right),
+        (1, Direction::Right),
+        (0, Direction::Up),
+    ] {
+        push(alloc, acts, game, third_goes(alloc, direction)?)?;
+        push(alloc, acts, 1 - game, Command::Show)?;
+    }
+    Ok(())
+}
+
+/// The commands of both games in turn, nine for each.
+pub(crate) fn commands(alloc: Global) -> Result<Vec<Act>, Fail> {
+    let mut acts = Vec::new(alloc);
+    for game in 0..2usize {
+        push(alloc, &mut acts, game, new_of_three(alloc)?)?;
+    }
+    push_moves(alloc, &mut acts)?;
+    let turn = TurnNumber::new(1).ok_or("a turn")?;
+    push(alloc, &mut acts, 0, Command::Turn(turn))?;
+    push(alloc, &mut acts, 1, Command::End)?;
+    push(alloc, &mut acts, 1, Command::Show)?;
+    push(alloc, &mut acts, 0, Command::Bad)?;
+    Ok(acts)
+}
+
+/// Runs the acts in a core of those games with six blocks for each, on that many threads.
+pub(crate) fn run_games<R: Threads + Wait + Sync + AllocGlobal, G: Gate>(
+    rt: &R,
+    games: &[(&str, u32)],
+    acts: &[Act],
+    threads: usize,
+    gate: &G,
+) -> Result<Ran, Fail> {
+    run_with(rt, games, acts, (threads, threads), gate)
+}
+
+/// Runs the acts in a core of those games with six blocks for each, on that many threads and
+/// workers.
+pub(crate) fn run_with<R: Threads + Wait + Sync + AllocGlobal, G: Gate>(
+    rt: &R,
+    games: &[(&str, u32)],
+    acts: &[Act],
+    (threads, workers): (usize, usize),
+    gate: &G,
+) -> Result<Ran, Fail> {
+    holds("few workers", workers <= MOST_WORKERS)?;
+    let alloc = rt.alloc();
+    let blocks = games.len().saturating_mul(6);
+    let core = Core::<CAP>::open(alloc, plan_of(alloc, games)?, blocks, workers)?;
+    Ok(run_any(rt, alloc, core, acts, threads, gate))
+}

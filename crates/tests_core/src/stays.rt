@@ -1,0 +1,145 @@
+//! Stays that come and go, call by call.
+use crate::player::{CAP, core_of, hand, play_one};
+use bs_board::{Command, Refusal, Reply};
+use bs_samples::{holds, new_solo, row, same};
+use bs_sched::{Admit, Core, Counts, Leave};
+use std::alloc::Global;
+use std::test::Fail;
+
+/// Blocks for two stays of quota 64.
+const BLOCKS: usize = 12;
+
+fn core_with_a(alloc: Global) -> Result<Core<CAP>, Fail> {
+    core_of(alloc, &[("a", 64)], BLOCKS)
+}
+
+/// The answer to the admission of a stay of that name, whose quota is 64.
+fn check_admit(
+    alloc: Global,
+    core: &mut Core<CAP>,
+    name: &str,
+    answer: Result<usize, Admit>,
+) -> Result<(), Fail> {
+    same(name, core.admit(alloc, row(alloc, name, 64)?), answer)
+}
+
+/// The answer to the leave of that stay.
+fn check_leave(
+    alloc: Global,
+    core: &mut Core<CAP>,
+    game: usize,
+    answer: Result<(), Leave>,
+) -> Result<(), Fail> {
+    holds("a stay", game < core.rows())?;
+    same("leave", core.leave(alloc, game), answer)
+}
+
+fn check_free(core: &Core<CAP>, free: usize) -> Result<(), Fail> {
+    let counts = Counts {
+        free,
+        held: BLOCKS.saturating_sub(free),
+        size: BLOCKS,
+    };
+    same("blocks", core.counts(), counts)
+}
+
+/// Whether the stay is open, its charge, and how many records and replies it has.
+fn check_stay(
+    core: &Core<CAP>,
+    game: usize,
+    is_open: bool,
+    charge: u32,
+    replies: usize,
+) -> Result<(), Fail> {
+    holds("a stay", game < core.rows())?;
+    same("open", core.is_open(game), is_open)?;
+    same("charge", core.charge(game), charge)?;
+    same("records", core.count(game), 0)?;
+    same("replies", core.replies(game).len(), replies)
+}
+
+/// The turn of the stay's last board.
+fn check_turn(alloc: Global, core: &Core<CAP>, game: usize, turn: Option<u16>) -> Result<(), Fail> {
+    holds("a stay", game < core.rows())?;
+    let board = core.board(alloc, game)?;
+    same("turn", board.as_ref().map(|board| board.turn), turn)
+}
+
+/// A core that a second stay came to, played in and left.
+fn core_left_by_b(alloc: Global) -> Result<Core<CAP>, Fail> {
+    let mut core = core_with_a(alloc)?;
+    check_admit(alloc, &mut core, "b", Ok(1))?;
+    let short = Admit::Short { free_to_reserve: 0 };
+    check_admit(alloc, &mut core, "c", Err(short))?;
+    same("rows", core.rows(), 2)?;
+
+    hand(alloc, &mut core, 1, new_solo(alloc, 3)?)?;
+    check_leave(alloc, &mut core, 1, Err(Leave::Busy))?;
+    play_one(alloc, &mut core, 0)?;
+    check_free(&core, BLOCKS - 1)?;
+    check_leave(alloc, &mut core, 1, Ok(()))?;
+    check_free(&core, BLOCKS)?;
+    Ok(core)
+}
+
+#[test]
+fn a_stay_comes_and_goes(rt: HostRuntime) -> Result<(), Fail> {
+    let alloc = rt.alloc();
+    let mut core = core_left_by_b(alloc)?;
+    check_admit(alloc, &mut core, "c", Ok(2))?;
+    check_leave(alloc, &mut core, 1, Err(Leave::Closed))?;
+    check_turn(alloc, &core, 1, Some(0))?;
+    same("rows", core.rows(), 3)?;
+    check_stay(&core, 1, false, 32, 1)?;
+    check_stay(&core, 2, true, 0, 0)?;
+    check_admit(alloc, &mut core, "c", Err(Admit::NameOpen))?;
+    // Three stays came or left, one command was handed in, and its job was taken and completed.
+    same("events", core.journal().len(), 6)
+}
+
+fn check_no_game(core: &Core<CAP>, game: usize) -> Result<(), Fail> {
+    holds("a stay", game < core.rows())?;
+    let replies = core.replies(game);
+    holds("one reply", replies.len() == 1)?;
+    holds(
+        "no game",
+        matches!(replies[0], Reply::Refused(Refusal::NoGame)),
+    )
+}
+
+/// A stay of a name that left begins from nothing, also after the core was told to fail.
+#[test]
+fn a_name_comes_again(rt: HostRuntime) -> Result<(), Fail> {
+    let alloc = rt.alloc();
+    let mut core = core_with_a(alloc)?;
+    hand(alloc, &mut core, 0, new_solo(alloc, 5)?)?;
+    play_one(alloc, &mut core, 0)?;
+    check_leave(alloc, &mut core, 0, Ok(()))?;
+    check_admit(alloc, &mut core, "a", Ok(1))?;
+    hand(alloc, &mut core, 1, Command::Show)?;
+    play_one(alloc, &mut core, 0)?;
+    same("rows", core.rows(), 2)?;
+    check_stay(&core, 0, false, 32, 1)?;
+    check_stay(&core, 1, true, 0, 1)?;
+    check_turn(alloc, &core, 1, None)?;
+    check_no_game(&core, 1)?;
+    core.fail();
+    check_leave(alloc, &mut core, 1, Ok(()))?;
+    check_admit(alloc, &mut core, "b", Ok(2))?;
+    check_free(&core, BLOCKS)
+}
+
+/// 64 stays can be open: the next one is refused, and comes once another has left.
+#[test]
+fn sixty_four_are_open(rt: HostRuntime) -> Result<(), Fail> {
+    let alloc = rt.alloc();
+    let mut core = core_of(alloc, &[("a", 64)], 64 * 6 + 6)?;
+    for number in 1..64 {
+        let name = format!(in alloc; "n{number}")?;
+        check_admit(alloc, &mut core, name.as_str(), Ok(number))?;
+    }
+    check_admit(alloc, &mut core, "a", Err(Admit::NameOpen))?;
+    check_admit(alloc, &mut core, "more", Err(Admit::Full))?;
+    check_leave(alloc, &mut core, 7, Ok(()))?;
+    check_admit(alloc, &mut core, "more", Ok(64))
+}

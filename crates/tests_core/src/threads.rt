@@ -1,0 +1,258 @@
+//! Runs on several threads: the replies are the same for each number of threads.
+use crate::player::CAP;
+use crate::runs::{TWO, commands, push, run_games, run_with};
+use bs_board::Direction;
+use bs_fiber::{JobKind, JobName};
+use bs_samples::{holds, new_of_three, same, third_goes};
+use bs_sched::{Core, Event};
+use bs_workers::{Act, Gate, OpenGate, Run};
+use std::alloc::Global;
+use std::sync::Wait;
+use std::sync::atomic::AtomicBool;
+use std::sync::atomic::Ordering::SeqCst;
+use std::test::Fail;
+use std::thread::Threads;
+
+/// The replies of that game and of the one behind it, nine each, as text.
+fn replies(alloc: Global, core: &Core<CAP>, game: usize) -> Result<String, Fail> {
+    holds("quiet", core.is_quiet())?;
+    holds("two games", core.rows() > 1)?;
+    holds("not the last game", game < core.rows() - 1)?;
+    let (first, second) = (core.replies(game), core.replies(game + 1));
+    same("replies", first.len(), 9)?;
+    same("replies", second.len(), 9)?;
+    Ok(format!(in alloc; "{first:?} {second:?}")?)
+}
+
+fn replies_by<R: Threads + Wait + Sync + AllocGlobal>(
+    rt: &R,
+    threads: usize,
+) -> Result<String, Fail> {
+    let acts = commands(rt.alloc())?;
+    let core = run_games(rt, &TWO, acts.as_slice(), threads, &OpenGate)??;
+    replies(rt.alloc(), &core, 0)
+}
+
+#[test]
+fn any_number_of_threads_gives_the_same_replies(rt: HostRuntime) -> Result<(), Fail> {
+    let alone = replies_by(&rt, 1)?;
+    for threads in [0usize, 2, 4] {
+        let others = replies_by(&rt, threads)?;
+        same("replies", others.as_str(), alone.as_str())?;
+    }
+    Ok(())
+}
+
+const SIXTEEN: [(&str, u32); 16] = [
+    ("a", 4096),
+    ("b", 4096),
+    ("c", 4096),
+    ("d", 4096),
+    ("e", 4096),
+    ("f", 4096),
+    ("g", 4096),
+    ("h", 4096),
+    ("i", 4096),
+    ("j", 4096),
+    ("k", 4096),
+    ("l", 4096),
+    ("m", 4096),
+    ("n", 4096),
+    ("o", 4096),
+    ("p", 4096),
+];
+
+/// The commands of both games, for each pair of sixteen games in turn.
+fn commands_of_pairs(alloc: Global) -> Result<Vec<Act>, Fail> {
+    let mut all = Vec::new(alloc);
+    for act in commands(alloc)?.as_slice() {
+        if let Act::Hand(game, command) = act {
+            for pair in 0..8usize {
+                all.push(Act::Hand(2 * pair + (*game).min(1), command.share()?))?;
+            }
+        }
+    }
+    Ok(all)
+}
+
+/// Each pair of sixteen games has these replies.
+fn check_pairs(alloc: Global, core: &Core<CAP>, alone: &str) -> Result<(), Fail> {
+    for pair in 0..8usize {
+        let others = replies(alloc, core, 2 * pair)?;
+        same("replies", others.as_str(), alone)?;
+    }
+    Ok(())
+}
+
+/// Each pair of sixteen games is as it is alone, also where the workers are fewer than the threads
+/// or no multiple of them.
+#[test]
+fn threads_with_batches_give_the_same_replies(rt: HostRuntime) -> Result<(), Fail> {
+    let alone = replies_by(&rt, 1)?;
+    let acts = commands_of_pairs(rt.alloc())?;
+    for (threads, workers) in [
+        (0usize, 3usize),
+        (1, 8),
+        (2, 8),
+        (2, 16),
+        (3, 3),
+        (3, 8),
+        (4, 8),
+        (4, 3),
+        (4, 0),
+    ] {
+        let ran = run_with(
+            &rt,
+            &SIXTEEN,
+            acts.as_slice(),
+            (threads, workers),
+            &OpenGate,
+        )?;
+        check_pairs(rt.alloc(), &ran?, alone.as_str())?;
+    }
+    Ok(())
+}
+
+/// Whether the event queues the command that the act hands to a game.
+fn hands(event: &Event, act: &Act) -> bool {
+    match (event, act) {
+        (Event::Hand(row, queued), Act::Hand(game, command)) => {
+            *row as usize == *game && queued.get().is_same(command.get())
+        }
+        _ => false,
+    }
+}
+
+/// The commands of the journal are those of the acts, in their order.
+fn check_journal(journal: &[Event], acts: &[Act]) -> Result<(), Fail> {
+    let mut made = 0usize;
+    for event in journal {
+        if matches!(event, Event::Hand(_, _)) {
+            let act = acts.get(made).ok_or("a command too many")?;
+            holds("the next command", hands(event, act))?;
+            made = made.saturating_add(1);
+        }
+    }
+    same("commands", made, acts.len())
+}
+
+/// The core of a run has its plan, its blocks and its commands, and has not failed.
+#[test]
+fn a_run_has_its_plan_and_commands(rt: HostRuntime) -> Result<(), Fail> {
+    let acts = commands(rt.alloc())?;
+    let core = run_games(&rt, &TWO, acts.as_slice(), 2, &OpenGate)??;
+    same("blocks", core.counts().size, 12)?;
+    holds("not failed", !core.has_failed())?;
+    holds("quiet", core.is_quiet())?;
+    holds("two games", core.rows() == 2)?;
+    same("first game", core.row(0).game.as_str(), "a")?;
+    same("second game", core.row(1).game.as_str(), "b")?;
+    check_journal(core.journal(), acts.as_slice())
+}
+
+/// Lets no part go before both are out.
+#[derive(Drop)]
+struct Meeting {
+    first: AtomicBool,
+    second: AtomicBool,
+}
+
+/// Sets its own flag and waits for the other's. False where that does not come.
+fn meet(own: &AtomicBool, other: &AtomicBool) -> bool {
+    own.store(true, SeqCst);
+    for _ in 0..1_000_000_000u32 {
+        if other.load(SeqCst) {
+            return true;
+        }
+    }
+    false
+}
+
+impl Gate for Meeting {
+    fn at(&self, _worker: usize, job: JobName) -> bool {
+        match (job.kind, job.part) {
+            (JobKind::Part, 0) => meet(&self.first, &self.second),
+            (JobKind::Part, 1) => meet(&self.second, &self.first),
+            _ => true,
+        }
+    }
+}
+
+#[test]
+fn two_threads_are_at_one_move(rt: HostRuntime) -> Result<(), Fail> {
+    let alloc = rt.alloc();
+    let mut acts = Vec::new(alloc);
+    push(alloc, &mut acts, 0, new_of_three(alloc)?)?;
+    push(alloc, &mut acts, 0, third_goes(alloc, Direction::Down)?)?;
+    let gate = Meeting {
+        first: AtomicBool::new(false),
+        second: AtomicBool::new(false),
+    };
+    let core = run_games(&rt, &TWO, acts.as_slice(), 2, &gate)??;
+    holds("quiet", core.is_quiet())?;
+    holds("part 0", gate.first.load(SeqCst))?;
+    holds("part 1", gate.second.load(SeqCst))
+}
+
+/// Lets no job go before so many threads are at one.
+#[derive(Drop)]
+struct Together {
+    wanted: usize,
+    /// For each number of a thread whether that thread is at a job.
+    here: [AtomicBool; 5],
+}
+
+impl Together {
+    fn new(wanted: usize) -> Together {
+        Together {
+            wanted,
+            here: [
+                AtomicBool::new(false),
+                AtomicBool::new(false),
+                AtomicBool::new(false),
+                AtomicBool::new(false),
+                AtomicBool::new(false),
+            ],
+        }
+    }
+
+    /// How many threads have been at a job.
+    fn count(&self) -> usize {
+        self.here
+            .iter()
+            .filter(|thread| thread.load(SeqCst))
+            .count()
+    }
+}
+
+impl Gate for Together {
+    fn at(&self, worker: usize, _job: JobName) -> bool {
+        let Some(own) = self.here.get(worker) else {
+            return false;
+        };
+        own.store(true, SeqCst);
+        for _ in 0..100_000_000u32 {
+            if self.count() >= self.wanted {
+                return true;
+            }
+        }
+        false
+    }
+}
+
+/// As many threads work as are asked for, each with a number of its own.
+#[test]
+fn as_many_threads_work_as_are_asked(rt: HostRuntime) -> Result<(), Fail> {
+    let alloc = rt.alloc();
+    let mut acts = Vec::new(alloc);
+    for game in 0..4usize {
+        push(alloc, &mut acts, game, new_of_three(alloc)?)?;
+    }
+    for threads in 1..5usize {
+        let gate = Together::new(threads);
+        let ran = run_games(&rt, &SIXTEEN, acts.as_slice(), threads, &gate)?;
+        same("fault", ran.err(), None::<Run>)?;
+        same("threads", gate.count(), threads)?;
+    }
+    Ok(())
+}

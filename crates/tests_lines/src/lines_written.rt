@@ -1,0 +1,276 @@
+//! What is written for replies, final boards and strays.
+use bs_board::{Board, Cause, Id, KeptBoard, Mode, Refusal, Reply, Snake, Snakes, Word, is_legal};
+use bs_json::{Stray, board_value, final_line, push_reply_line, reply_line, stray_line};
+use bs_samples::{cells, holds, same, snake, solo_after};
+use std::alloc::{AllocError, Global};
+use std::test::Fail;
+
+/// Compares what was written with a text.
+fn is_text(what: &str, written: Vec<u8>, wanted: &str) -> Result<(), Fail> {
+    let text = String::from_utf8(written).ok().ok_or("text")?;
+    same(what, text.as_str(), wanted)
+}
+
+// The line of each reply with its number, made by itself.
+fn lines_of(alloc: Global, game: &Id, replies: &[(u64, Reply)]) -> Result<Vec<u8>, AllocError> {
+    let mut text = Vec::new(alloc);
+    for (seq, reply) in replies {
+        text.extend_from_slice(&reply_line(alloc, game, *seq, reply)?)?;
+    }
+    Ok(text)
+}
+
+// The same lines, pushed behind each other.
+fn pushed_lines_of(
+    alloc: Global,
+    game: &Id,
+    replies: &[(u64, Reply)],
+) -> Result<Vec<u8>, AllocError> {
+    let mut text = Vec::new(alloc);
+    for (seq, reply) in replies {
+        push_reply_line(alloc, game, *seq, reply, &mut text)?;
+    }
+    Ok(text)
+}
+
+// Compares the lines of replies, made in both ways, with a text.
+fn are_written(
+    alloc: Global,
+    game: &str,
+    replies: &[(u64, Reply)],
+    wanted: &str,
+) -> Result<(), Fail> {
+    let game = Id::from_str(alloc, game)?;
+    is_text("lines", lines_of(alloc, &game, replies)?, wanted)?;
+    is_text(
+        "pushed lines",
+        pushed_lines_of(alloc, &game, replies)?,
+        wanted,
+    )
+}
+
+// The replies to a game of one snake that goes up until it is off the board.
+const SOLO_REPLIES: &str =
+    r#"{"board":{"food":[],"food_chance":0,"height":3,"min_food":0,"mode":"solo","over":false,"snakes":[{"body":[{"x":1,"y":1},{"x":1,"y":1},{"x":1,"y":1}],"by":null,"cause":null,"health":100,"id":"s","out":null}],"turn":0,"width":3},"charge":32,"do":"new","game":"a","seq":1}
+{"board":{"food":[],"food_chance":0,"height":3,"min_food":0,"mode":"solo","over":false,"snakes":[{"body":[{"x":1,"y":2},{"x":1,"y":1},{"x":1,"y":1}],"by":null,"cause":null,"health":99,"id":"s","out":null}],"turn":1,"width":3},"charge":64,"do":"move","game":"a","seq":2}
+{"board":{"food":[],"food_chance":0,"height":3,"min_food":0,"mode":"solo","over":true,"snakes":[{"body":[{"x":1,"y":3},{"x":1,"y":2},{"x":1,"y":1}],"by":null,"cause":"wall-collision","health":98,"id":"s","out":2}],"turn":2,"width":3},"charge":96,"do":"move","game":"a","seq":3}
+{"game":"a","no":"G4","seq":4,"why":"over"}
+"#;
+
+const SOLO_END: &str =
+    r#"{"board":{"food":[],"food_chance":0,"height":3,"min_food":0,"mode":"solo","over":true,"snakes":[{"body":[{"x":1,"y":3},{"x":1,"y":2},{"x":1,"y":1}],"by":null,"cause":"wall-collision","health":98,"id":"s","out":2}],"turn":2,"width":3},"charge":96,"final":true,"game":"a"}
+"#;
+
+fn shown(alloc: Global, word: Word, board: &Board, charge: u32) -> Result<Reply, Fail> {
+    holds("the board is legal", is_legal(board))?;
+    Ok(Reply::Shown(word, KeptBoard::of(alloc, board)?, charge))
+}
+
+#[test]
+fn a_solo_game_is_written(rt: HostRuntime) -> Result<(), Fail> {
+    let alloc = rt.alloc();
+    let replies = [
+        (1, shown(alloc, Word::New, &solo_after(alloc, 3, 0)?, 32)?),
+        (2, shown(alloc, Word::Move, &solo_after(alloc, 3, 1)?, 64)?),
+        (3, shown(alloc, Word::Move, &solo_after(alloc, 3, 2)?, 96)?),
+        (4, Reply::Refused(Refusal::Over)),
+    ];
+    are_written(alloc, "a", &replies, SOLO_REPLIES)
+}
+
+#[test]
+fn a_last_board_is_written(rt: HostRuntime) -> Result<(), Fail> {
+    let alloc = rt.alloc();
+    let game = Id::from_str(alloc, "a")?;
+    let board = solo_after(alloc, 3, 2)?;
+    let end = final_line(alloc, &game, Some(&board), 96)?;
+    is_text("the last board", end, SOLO_END)?;
+    let game = Id::from_str(alloc, "a\"")?;
+    let end = final_line(alloc, &game, None, 0)?;
+    is_text("no board", end, NO_BOARD)
+}
+
+const NO_BOARD: &str = r#"{"board":null,"charge":0,"final":true,"game":"a\""}
+"#;
+
+// A board of two digits a side: a snake that left it, one that collided with it, and one that lives.
+fn wide_board(alloc: Global, first: &str) -> Result<Board, AllocError> {
+    let mut outside = snake(alloc, first, 7, &[(-1, 12), (0, 12), (1, 12)])?;
+    outside.cause = Some(Cause::WallCollision);
+    outside.out = Some(100);
+    let mut struck = snake(alloc, "b", 100, &[(10, 9), (9, 9), (9, 10), (10, 10)])?;
+    struck.cause = Some(Cause::BodyCollision);
+    struck.killer = Some(0);
+    struck.out = Some(10_000);
+    let living = snake(alloc, "c", 10, &[(18, 0), (17, 0), (17, 0)])?;
+    Ok(Board {
+        mode: Mode::Standard,
+        width: 19,
+        height: 19,
+        turn: 10_000,
+        min_food: 0,
+        chance: 10,
+        food: cells(alloc, &[(0, 0), (9, 10), (18, 18)])?,
+        snakes: Snakes::from_vec(vec![in alloc; outside, struck, living]?),
+    })
+}
+
+const WIDE_REPLY: &str =
+    r#"{"board":{"food":[{"x":0,"y":0},{"x":9,"y":10},{"x":18,"y":18}],"food_chance":10,"height":19,"min_food":0,"mode":"standard","over":true,"snakes":[{"body":[{"x":-1,"y":12},{"x":0,"y":12},{"x":1,"y":12}],"by":null,"cause":"wall-collision","health":7,"id":"q","out":100},{"body":[{"x":10,"y":9},{"x":9,"y":9},{"x":9,"y":10},{"x":10,"y":10}],"by":"q","cause":"snake-collision","health":100,"id":"b","out":10000},{"body":[{"x":18,"y":0},{"x":17,"y":0},{"x":17,"y":0}],"by":null,"cause":null,"health":10,"id":"c","out":null}],"turn":10000,"width":19},"charge":4294967295,"do":"move","game":"a","seq":12}
+"#;
+
+const WIDE_REPLY_ESCAPED: &str =
+    r#"{"board":{"food":[{"x":0,"y":0},{"x":9,"y":10},{"x":18,"y":18}],"food_chance":10,"height":19,"min_food":0,"mode":"standard","over":true,"snakes":[{"body":[{"x":-1,"y":12},{"x":0,"y":12},{"x":1,"y":12}],"by":null,"cause":"wall-collision","health":7,"id":"q\"","out":100},{"body":[{"x":10,"y":9},{"x":9,"y":9},{"x":9,"y":10},{"x":10,"y":10}],"by":"q\"","cause":"snake-collision","health":100,"id":"b","out":10000},{"body":[{"x":18,"y":0},{"x":17,"y":0},{"x":17,"y":0}],"by":null,"cause":null,"health":10,"id":"c","out":null}],"turn":10000,"width":19},"charge":4294967295,"do":"move","game":"a","seq":12}
+"#;
+
+// The same board with an id that needs no escape, and with one that does.
+#[test]
+fn a_wide_board_is_written(rt: HostRuntime) -> Result<(), Fail> {
+    let alloc = rt.alloc();
+    let plain = [(
+        12,
+        shown(alloc, Word::Move, &wide_board(alloc, "q")?, u32::MAX)?,
+    )];
+    are_written(alloc, "a", &plain, WIDE_REPLY)?;
+    let escaped = [(
+        12,
+        shown(alloc, Word::Move, &wide_board(alloc, "q\"")?, u32::MAX)?,
+    )];
+    are_written(alloc, "a", &escaped, WIDE_REPLY_ESCAPED)
+}
+
+// The replies that show no board, of a game whose name has a mark that is escaped, and the same of
+// one whose name has none.
+const PLAIN_REPLIES: &str = r#"{"charge":0,"do":"end","game":"a\"","seq":3}
+{"charge":32,"do":"free","game":"a\"","seq":3}
+{"game":"a\"","no":"G1","seq":3,"why":"command"}
+{"game":"a\"","no":"G2","seq":3,"why":"none"}
+{"game":"a\"","no":"G3","seq":3,"why":"running"}
+{"game":"a\"","no":"G5","seq":3,"why":"limit"}
+{"game":"a\"","no":"G6","seq":3,"why":"record"}
+{"game":"a\"","no":"G7","seq":3,"why":"quota"}
+"#;
+
+const UNMARKED_REPLIES: &str = r#"{"charge":0,"do":"end","game":"a","seq":3}
+{"charge":32,"do":"free","game":"a","seq":3}
+{"game":"a","no":"G1","seq":3,"why":"command"}
+{"game":"a","no":"G2","seq":3,"why":"none"}
+{"game":"a","no":"G3","seq":3,"why":"running"}
+{"game":"a","no":"G5","seq":3,"why":"limit"}
+{"game":"a","no":"G6","seq":3,"why":"record"}
+{"game":"a","no":"G7","seq":3,"why":"quota"}
+"#;
+
+fn plain_replies() -> [(u64, Reply); 8] {
+    [
+        (3, Reply::Plain(Word::End, 0)),
+        (3, Reply::Plain(Word::Free, 32)),
+        (3, Reply::Refused(Refusal::Unknown)),
+        (3, Reply::Refused(Refusal::NoGame)),
+        (3, Reply::Refused(Refusal::Running)),
+        (3, Reply::Refused(Refusal::Limit)),
+        (3, Reply::Refused(Refusal::NoRecord)),
+        (3, Reply::Refused(Refusal::Quota)),
+    ]
+}
+
+#[test]
+fn replies_without_a_board_are_written(rt: HostRuntime) -> Result<(), Fail> {
+    are_written(rt.alloc(), "a\"", &plain_replies(), PLAIN_REPLIES)?;
+    are_written(rt.alloc(), "a", &plain_replies(), UNMARKED_REPLIES)
+}
+
+// Replies with the greatest numbers.
+const GREATEST: &str = r#"{"charge":4294967295,"do":"end","game":"a\"","seq":18446744073709551615}
+{"game":"a\"","no":"G4","seq":18446744073709551615,"why":"over"}
+"#;
+
+#[test]
+fn the_greatest_numbers_are_written(rt: HostRuntime) -> Result<(), Fail> {
+    let replies = [
+        (u64::MAX, Reply::Plain(Word::End, u32::MAX)),
+        (u64::MAX, Reply::Refused(Refusal::Over)),
+    ];
+    are_written(rt.alloc(), "a\"", &replies, GREATEST)
+}
+
+const STRAYS: &str = r#"{"line":2,"no":"L1","why":"json"}
+{"line":4,"no":"L2","why":"game"}
+{"line":18446744073709551615,"no":"L3","why":"long"}
+{"line":3,"no":"A1","why":"admit"}
+{"line":5,"no":"A2","why":"open"}
+{"line":6,"no":"A3","why":"games"}
+{"line":7,"no":"A4","why":"pool"}
+{"line":8,"no":"A5","why":"none"}
+"#;
+
+#[test]
+fn strays_are_written(rt: HostRuntime) -> Result<(), Fail> {
+    let mut text = Vec::new(rt.alloc());
+    for (line, stray) in [
+        (2, Stray::Json),
+        (4, Stray::Game),
+        (u64::MAX, Stray::Long),
+        (3, Stray::BadRow),
+        (5, Stray::NameOpen),
+        (6, Stray::Full),
+        (7, Stray::Short),
+        (8, Stray::NoStay),
+    ] {
+        text.extend_from_slice(&stray_line(rt.alloc(), line, stray)?)?;
+    }
+    is_text("strays", text, STRAYS)
+}
+
+fn out(
+    alloc: Global,
+    id: &str,
+    health: u8,
+    (cause, killer): (Cause, Option<usize>),
+    turn: u16,
+) -> Result<Snake, AllocError> {
+    let mut snake = snake(alloc, id, health, &[(-1, 2), (0, 2), (1, 2)])?;
+    snake.cause = Some(cause);
+    snake.killer = killer;
+    snake.out = Some(turn);
+    Ok(snake)
+}
+
+// A snake for each way in which one is out, and one that lives.
+fn seats_of_all_causes(alloc: Global) -> Result<Vec<Snake>, AllocError> {
+    let mut seats = Vec::new(alloc);
+    seats.push(out(alloc, "a", 0, (Cause::OutOfHealth, None), 9)?)?;
+    seats.push(out(alloc, "b", 90, (Cause::WallCollision, None), 10)?)?;
+    seats.push(out(alloc, "c", 91, (Cause::SelfCollision, Some(2)), 11)?)?;
+    seats.push(out(alloc, "d", 92, (Cause::BodyCollision, Some(0)), 11)?)?;
+    seats.push(out(alloc, "e", 93, (Cause::HeadCollision, Some(3)), 11)?)?;
+    seats.push(snake(alloc, "f", 94, &[(4, 0), (4, 1)])?)?;
+    Ok(seats)
+}
+
+const ALL_CAUSES: &str = concat!(
+    r#"{"food":[{"x":0,"y":3},{"x":2,"y":0}],"food_chance":15,"height":4,"min_food":3,"mode":"standard","over":true,"snakes":["#,
+    r#"{"body":[{"x":-1,"y":2},{"x":0,"y":2},{"x":1,"y":2}],"by":null,"cause":"out-of-health","health":0,"id":"a","out":9},"#,
+    r#"{"body":[{"x":-1,"y":2},{"x":0,"y":2},{"x":1,"y":2}],"by":null,"cause":"wall-collision","health":90,"id":"b","out":10},"#,
+    r#"{"body":[{"x":-1,"y":2},{"x":0,"y":2},{"x":1,"y":2}],"by":"c","cause":"snake-self-collision","health":91,"id":"c","out":11},"#,
+    r#"{"body":[{"x":-1,"y":2},{"x":0,"y":2},{"x":1,"y":2}],"by":"a","cause":"snake-collision","health":92,"id":"d","out":11},"#,
+    r#"{"body":[{"x":-1,"y":2},{"x":0,"y":2},{"x":1,"y":2}],"by":"d","cause":"head-collision","health":93,"id":"e","out":11},"#,
+    r#"{"body":[{"x":4,"y":0},{"x":4,"y":1}],"by":null,"cause":null,"health":94,"id":"f","out":null}],"turn":11,"width":5}"#
+);
+
+#[test]
+fn a_board_is_shown(rt: HostRuntime) -> Result<(), Fail> {
+    let alloc = rt.alloc();
+    let board = Board {
+        mode: Mode::Standard,
+        width: 5,
+        height: 4,
+        turn: 11,
+        min_food: 3,
+        chance: 15,
+        food: cells(alloc, &[(0, 3), (2, 0)])?,
+        snakes: Snakes::from_vec(seats_of_all_causes(alloc)?),
+    };
+    let shown = board_value(alloc, &board)?.to_string(alloc)?;
+    same("the board", shown.as_str(), ALL_CAUSES)
+}

@@ -1,0 +1,115 @@
+"""Plays the games of a folder again by `arena serve`, and compares."""
+
+from __future__ import annotations
+
+import hashlib
+import json
+import os
+import subprocess
+from collections.abc import Callable
+from concurrent.futures import ThreadPoolExecutor
+from dataclasses import dataclass
+from pathlib import Path
+
+from ladder.config import Config, config_again
+from ladder.draws import words_of
+from ladder.game import opening
+from ladder.game_files import command_file
+from ladder.host import BLOCKS_OF_GAME, PLAN, line_of
+from ladder.outcome import Outcome, finishes_of
+from ladder.pairing import Fixture, fixtures_of
+from ladder.store import StoreFault, open_store
+
+SERVE_SECONDS = 600
+
+
+@dataclass(frozen=True)
+class Checked:
+    """What a check found: the number of games, and the faults of those that do not agree."""
+
+    games: int
+    faults: dict[str, str]
+
+
+def check(folder: Path, program: Path, note: Callable[[int], None]) -> Checked:
+    """Checks every game of a folder that is done; `note` takes the number of those checked.
+
+    A game agrees where its bots, places, food and words are those that the seed gives, where
+    `arena serve` writes for its file the very lines that the live host wrote, and where its last
+    board is the one in the results.
+    """
+    store = open_store(folder)
+    try:
+        store.names()
+        outcomes = list(store.outcomes())
+        identity = store.identity()
+    finally:
+        store.close()
+    if identity is None:
+        raise StoreFault(f"{folder} has no results of a ladder")
+    config = config_again(identity, folder, max((it.round for it in outcomes), default=1))
+    drawn = {fixture.name: fixture for fixture in fixtures_of(config)}
+
+    def fault(outcome: Outcome) -> str | None:
+        return fault_of(outcome, config, drawn.get(outcome.name), program)
+
+    faults = {}
+    with ThreadPoolExecutor(os.cpu_count()) as pool:
+        for at, (outcome, why) in enumerate(zip(outcomes, pool.map(fault, outcomes)), 1):
+            if why is not None:
+                faults[outcome.name] = why
+            note(at)
+    return Checked(len(outcomes), faults)
+
+
+def fault_of(
+    outcome: Outcome, config: Config, fixture: Fixture | None, program: Path
+) -> str | None:
+    """Why a game does not agree, or None where it does."""
+    if fixture is None:
+        return "the pairings have no such game"
+    path = command_file(config.folder, outcome.name)
+    try:
+        lines = path.read_bytes().splitlines(keepends=True)
+    except OSError as fault:
+        return f"its file can't be read: {fault.strerror}"
+    return fault_of_lines(lines, config, fixture) or fault_of_replies(path, outcome, program)
+
+
+def fault_of_lines(lines: list[bytes], config: Config, fixture: Fixture) -> str | None:
+    """Why lines are not those of this game: its opening, moves with the drawn words, its leave."""
+    first = [PLAN, *opening(config, fixture)]
+    if lines[: len(first)] != first or lines[-1:] != [line_of(game=fixture.name, do="leave")]:
+        return "its file does not begin as the seed says, or has no end"
+    turn = 0
+    for line in lines[len(first) : -1]:
+        try:
+            said = json.loads(line)
+            do, words = said["do"], said.get("words")
+        except (ValueError, LookupError, TypeError):
+            return "a line of its file is no command"
+        if do == "move":
+            if words != words_of(config.seed, fixture.name, turn, config.rules.words):
+                return f"the words of the move after turn {turn} are not those that are drawn"
+            turn += 1
+        elif do != "free":
+            return f"its file has the command {do}"
+    return None
+
+
+def fault_of_replies(path: Path, outcome: Outcome, program: Path) -> str | None:
+    """Why what `arena serve` writes is not what the live host wrote, or not this outcome."""
+    words = [str(program), "serve", str(path), "--blocks", str(BLOCKS_OF_GAME), "--workers", "1"]
+    try:
+        ran = subprocess.run(words, capture_output=True, timeout=SERVE_SECONDS)
+    except (OSError, subprocess.TimeoutExpired) as fault:
+        return f"arena serve did not run: {fault}"
+    if ran.returncode != 0:
+        return f"arena serve ended with status {ran.returncode}: {ran.stderr.decode().strip()}"
+    lines = ran.stdout.splitlines()
+    if hashlib.sha256(ran.stdout).hexdigest() != outcome.digest or len(lines) != outcome.lines:
+        return "arena serve writes other lines than the live host wrote"
+    board = json.loads(lines[-1])["board"]
+    if finishes_of(board) != outcome.finishes or board["turn"] != outcome.turns:
+        return "its last board is not the one in the results"
+    return None

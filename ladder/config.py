@@ -1,0 +1,219 @@
+"""Reads what a ladder plays from a TOML file, and checks it."""
+
+from __future__ import annotations
+
+import re
+import tomllib
+from collections.abc import Sequence
+from dataclasses import asdict, dataclass
+from pathlib import Path
+from typing import Any
+from urllib.parse import urlsplit
+
+from ladder.starts import most_snakes
+
+BOT_NAME = re.compile(r"[A-Za-z0-9][A-Za-z0-9_.-]{0,31}")
+MODES = ("standard", "solo", "constrictor", "wrapped")
+PAIRINGS = ("round_robin", "duels", "tables")
+MOST_BOTS = 200
+MOST_AT_ONCE = 64  # games that are open in a host
+MOST_TURNS = 10_000
+LONGEST_FOOD = 32  # words of a move, so that many foods can be missing in a turn
+
+
+class ConfigFault(ValueError):
+    """Something that the file says and a ladder can't play."""
+
+
+@dataclass(frozen=True)
+class Bot:
+    """A Battlesnake server."""
+
+    name: str
+    url: str
+
+
+@dataclass(frozen=True)
+class Rules:
+    """What each game is played by."""
+
+    mode: str
+    width: int
+    height: int
+    min_food: int
+    food_chance: int
+    turns: int  # after which a game ends undecided
+
+    @property
+    def words(self) -> int:
+        """How many words a move can need."""
+        return max(2, self.min_food)
+
+
+@dataclass(frozen=True)
+class Config:
+    """A ladder: its bots, rules and pairings, and where its results are kept."""
+
+    folder: Path
+    bots: tuple[Bot, ...]
+    rules: Rules
+    pairing: str
+    snakes: int  # a game
+    rounds: int
+    seed: int
+    timeout: int  # milliseconds
+    at_once: int  # games
+
+    @property
+    def identity(self) -> dict[str, Any]:
+        """What decides the games: in a folder with results of another identity nothing is played.
+
+        The addresses of the bots, the number of rounds and of games at once may change.
+        """
+        return {
+            "bots": [bot.name for bot in self.bots],
+            "rules": asdict(self.rules),
+            "pairing": self.pairing,
+            "snakes": self.snakes,
+            "seed": self.seed,
+            "timeout": self.timeout,
+        }
+
+
+def config_again(identity: dict[str, Any], folder: Path, rounds: int) -> Config:
+    """The configuration of an identity, whose bots have no addresses."""
+    return Config(
+        folder=folder,
+        bots=tuple(Bot(name, "") for name in identity["bots"]),
+        rules=Rules(**identity["rules"]),
+        pairing=identity["pairing"],
+        snakes=identity["snakes"],
+        rounds=rounds,
+        seed=identity["seed"],
+        timeout=identity["timeout"],
+        at_once=1,
+    )
+
+
+class Members:
+    """Takes the members of a table one after the other; what is left over is a fault."""
+
+    def __init__(self, table: dict[str, Any], place: str) -> None:
+        self.table = dict(table)
+        self.place = place
+
+    def fault(self, why: str) -> ConfigFault:
+        return ConfigFault(f"{self.place}: {why}")
+
+    def number(self, name: str, default: int, least: int, most: int) -> int:
+        value = self.table.pop(name, default)
+        if type(value) is not int or not least <= value <= most:
+            raise self.fault(f"{name} is {value!r}, and has to be a number from {least} to {most}")
+        return value
+
+    def word(self, name: str, choices: Sequence[str]) -> str:
+        """One of the choices, of which the first is taken where the member is missing."""
+        value = self.table.pop(name, choices[0])
+        if not isinstance(value, str) or value not in choices:
+            raise self.fault(f"{name} is {value!r}, and has to be one of {', '.join(choices)}")
+        return value
+
+    def text(self, name: str) -> str:
+        value = self.table.pop(name, None)
+        if not isinstance(value, str) or not value:
+            raise self.fault(f"{name} is missing or no text")
+        return value
+
+    def finish(self) -> None:
+        if self.table:
+            raise self.fault(f"nobody knows {', '.join(sorted(self.table))}")
+
+
+def read_config(path: Path) -> Config:
+    """Reads a file; raises `ConfigFault` with the reason where it can't be played."""
+    try:
+        table = tomllib.loads(path.read_text())
+    except (OSError, ValueError) as fault:
+        raise ConfigFault(f"{path}: {fault}") from None
+    return config_of(table, str(path))
+
+
+def config_of(table: dict[str, Any], place: str) -> Config:
+    """Makes a configuration of a table that was read."""
+    members = Members(table, place)
+    bots = bots_of(members)
+    folder = Path(members.text("folder"))
+    rules = rules_of(members)
+    pairing = members.word("pairing", PAIRINGS)
+    config = Config(
+        folder=folder,
+        bots=bots,
+        rules=rules,
+        pairing=pairing,
+        snakes=snakes_of(members, rules, pairing),
+        rounds=members.number("rounds", 1, 1, 100_000),
+        seed=members.number("seed", 1, 0, 2**63 - 1),
+        timeout=members.number("timeout", 500, 10, 60_000),
+        at_once=members.number("at_once", MOST_AT_ONCE, 1, MOST_AT_ONCE),
+    )
+    members.finish()
+    if len(bots) < config.snakes:
+        raise members.fault(f"a game of {config.snakes} snakes wants as many bots")
+    return config
+
+
+def rules_of(members: Members) -> Rules:
+    return Rules(
+        mode=members.word("mode", MODES),
+        width=members.number("width", 11, 3, 25),
+        height=members.number("height", 11, 3, 25),
+        min_food=members.number("min_food", 1, 0, LONGEST_FOOD),
+        food_chance=members.number("food_chance", 15, 0, 100),
+        turns=members.number("turns", MOST_TURNS, 1, MOST_TURNS),
+    )
+
+
+def snakes_of(members: Members, rules: Rules, pairing: str) -> int:
+    """The number of snakes of a game; one alone plays only in solo."""
+    usual = {"tables": 4}.get(pairing, 1 if rules.mode == "solo" else 2)
+    most = min(8, most_snakes(rules.width, rules.height))
+    snakes = members.number("snakes", usual, 1 if rules.mode == "solo" else 2, most)
+    if pairing == "duels" and snakes != 2:
+        raise members.fault("a duel has 2 snakes")
+    return snakes
+
+
+def bots_of(members: Members) -> tuple[Bot, ...]:
+    """The bots of the tables [[bot]], whose names are checked and differ."""
+    tables = members.table.pop("bot", [])
+    if not isinstance(tables, list) or not 1 <= len(tables) <= MOST_BOTS:
+        raise members.fault(f"there have to be 1 to {MOST_BOTS} tables [[bot]]")
+    bots = tuple(bot_of(table, members.place) for table in tables)
+    names = [bot.name for bot in bots]
+    twice = sorted({name for name in names if names.count(name) > 1})
+    if twice:
+        raise members.fault(f"two bots are named {twice[0]}")
+    return bots
+
+
+def bot_of(table: Any, place: str) -> Bot:
+    if not isinstance(table, dict):
+        raise ConfigFault(f"{place}: a bot is a table")
+    members = Members(table, f"{place}: a bot")
+    name, url = members.text("name"), members.text("url")
+    members.finish()
+    if not BOT_NAME.fullmatch(name):
+        raise members.fault(f"the name {name!r} is not 1 to 32 letters, digits, _, . and -")
+    return Bot(name, checked_url(url, members))
+
+
+def checked_url(url: str, members: Members) -> str:
+    """The address without a slash at its end; its parts are those that a bot's address can have."""
+    try:
+        parts = urlsplit(url)
+        is_fit = parts.scheme in ("http", "https") and bool(parts.hostname) and parts.port != 0
+    except ValueError:
+        is_fit = False
+    if not is_fit or parts.query or parts.fragment or re.search(r"[\x00-\x20\x7f]", url):
+        raise members.fault(f"{url!r} is no address such as http://127.0.0.1:8001/name")
+    return url.rstrip("/")

@@ -1,0 +1,44 @@
+"""Numbers drawn from a seed: the same on every machine, and easy to draw again."""
+
+from __future__ import annotations
+
+import hashlib
+from collections.abc import Iterable
+from typing import TypeVar
+
+Item = TypeVar("Item")
+
+
+class Draw:
+    """A list of drawn numbers, which depends on the given words alone.
+
+    Number n, from 0, is the first eight bytes of the SHA-256 of the words and n, with slashes
+    between them, the higher byte first.
+    """
+
+    def __init__(self, *words: str | int) -> None:
+        self.text = "/".join(str(word) for word in words)
+        self.drawn = 0
+
+    def number(self) -> int:
+        """The next number, below 2**64."""
+        digest = hashlib.sha256(f"{self.text}/{self.drawn}".encode()).digest()
+        self.drawn += 1
+        return int.from_bytes(digest[:8], "big")
+
+    def below(self, bound: int) -> int:
+        return self.number() % bound
+
+    def shuffled(self, items: Iterable[Item]) -> list[Item]:
+        """The items in a drawn order: from the last place on, each changes with one before it."""
+        order = list(items)
+        for at in range(len(order) - 1, 0, -1):
+            other = self.below(at + 1)
+            order[at], order[other] = order[other], order[at]
+        return order
+
+
+def words_of(seed: int, game: str, turn: int, count: int) -> list[int]:
+    """The words of the move that follows a turn, each below 2**32."""
+    draw = Draw(seed, game, turn)
+    return [draw.number() >> 32 for _ in range(count)]

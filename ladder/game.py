@@ -1,0 +1,157 @@
+"""Plays one game: asks its bots, hands their moves to the host, and keeps all in its files."""
+
+from __future__ import annotations
+
+from collections.abc import Mapping
+from dataclasses import dataclass
+from pathlib import Path
+
+from ladder.bots import Answer, BotClient
+from ladder.config import Config
+from ladder.draws import Draw, words_of
+from ladder.game_files import GameFiles
+from ladder.host import QUOTA, Board, Host, Stay, line_of
+from ladder.outcome import Outcome, Tally, finishes_of, tallies_of
+from ladder.pairing import Fixture
+from ladder.payloads import Look, Seat, bodies, game_text, living_of
+from ladder.starts import first_food, start_cells
+from ladder.watch import Watch
+
+FREE_AT = 1_000_000  # bytes of records, beyond which all but the last are freed
+
+
+class GameFault(Exception):
+    """A file of a game that is not of this ladder."""
+
+
+@dataclass(frozen=True)
+class Surroundings:
+    """What all games of a run share."""
+
+    config: Config
+    folder: Path
+    client: BotClient
+    urls: Mapping[str, str]
+    looks: Mapping[str, Look]
+    watch: Watch
+
+
+def opening(config: Config, fixture: Fixture) -> list[bytes]:
+    """The lines by which a game is admitted and begun, which its name, bots and seed decide."""
+    rules = config.rules
+    draw = Draw(config.seed, fixture.name, "start")
+    heads = start_cells(draw, rules.width, rules.height, len(fixture.bots))
+    food = first_food(draw, rules.width, rules.height, heads)
+    snakes = [{"id": bot, **head._asdict()} for bot, head in zip(fixture.bots, heads)]
+    begin = line_of(
+        game=fixture.name,
+        do="new",
+        mode=rules.mode,
+        width=rules.width,
+        height=rules.height,
+        snakes=snakes,
+        food=[] if rules.mode == "constrictor" else [cell._asdict() for cell in food],
+        min_food=rules.min_food,
+        food_chance=rules.food_chance,
+    )
+    return [line_of(game=fixture.name, do="admit", quota=QUOTA), begin]
+
+
+class Game:
+    """A game between some bots, from its first request to its outcome."""
+
+    def __init__(self, around: Surroundings, fixture: Fixture) -> None:
+        self.around = around
+        self.fixture = fixture
+        self.text = game_text(around.config, fixture.name)
+        self.seats = {bot: Seat(bot, around.looks.get(bot, Look())) for bot in fixture.bots}
+        self.tallies: dict[str, Tally] = {}
+        self.answered_at: float | None = None
+        self.stay: Stay
+
+    async def play(self, host: Host) -> None:
+        """Plays the game to its end, from where its files end.
+
+        What it does next depends on the last board, the charge and the lines so far alone. So a
+        game that was cut off goes on as it would have done.
+        """
+        with GameFiles(self.around.folder, self.fixture.name) as files:
+            self.stay = stay = await self.enter(host, files)
+            if stay.board["turn"] == 0:
+                await self.tell_all("start", stay.board)
+            while not self.is_done(stay.board):
+                if stay.charge > FREE_AT:
+                    await stay.free()
+                await self.play_turn(stay, files)
+            if stay.is_open:
+                await self.tell_all("end", stay.board)
+                await stay.leave()
+
+    async def enter(self, host: Host, files: GameFiles) -> Stay:
+        """Admits and begins the game, and plays again what its file has."""
+        first = opening(self.around.config, self.fixture)
+        old = files.old_lines
+        if old[:2] != first[: len(old)]:
+            raise GameFault(f"the file of {self.fixture.name} has not begun as this ladder begins")
+        turns = files.old_answers()
+        self.tallies = tallies_of(self.fixture.bots, turns)
+        for answers in turns:
+            self.hear(answers)
+        for line in first[len(old) :]:
+            files.commands.write(line)
+        stay = await host.admit(self.fixture.name, QUOTA)
+        await stay.replay([*first[1:], *old[2:]])
+        stay.log = files.commands
+        self.around.watch.show(self.fixture, stay.board)
+        return stay
+
+    def is_done(self, board: Board) -> bool:
+        return bool(board["over"]) or board["turn"] >= self.around.config.rules.turns
+
+    async def play_turn(self, stay: Stay, files: GameFiles) -> None:
+        """Asks the living for their moves, and plays them."""
+        config, board = self.around.config, stay.board
+        answers = await self.ask_all(board)
+        self.hear(answers)
+        for name, answer in answers.items():
+            self.tallies[name].add(answer)
+        files.add_answers(answers)
+        moves = {name: answer.move for name, answer in answers.items() if answer.move is not None}
+        words = words_of(config.seed, self.fixture.name, board["turn"], config.rules.words)
+        self.around.watch.show(self.fixture, await stay.move(moves, words))
+
+    async def ask_all(self, board: Board) -> dict[str, Answer]:
+        """Asks all living snakes at once; each has an answer, be it that there is none."""
+        names = living_of(board)
+        urls = [self.around.urls[name] for name in names]
+        requests = list(zip(urls, bodies(self.text, board, self.seats, names)))
+        answers = dict(zip(names, await self.around.client.moves(requests)))
+        asked_at = min(answer.asked_at for answer in answers.values())
+        own = None if self.answered_at is None else asked_at - self.answered_at
+        self.answered_at = max(answer.answered_at for answer in answers.values())
+        self.around.watch.count(answers, own)
+        return answers
+
+    def hear(self, answers: Mapping[str, Answer]) -> None:
+        """Keeps what the others will be told of each bot."""
+        for name, answer in answers.items():
+            self.seats[name].latency = answer.latency
+            self.seats[name].shout = answer.shout
+
+    async def tell_all(self, what: str, board: Board) -> None:
+        """Tells all bots that the game begins or ends; what they answer says nothing."""
+        names = self.fixture.bots
+        urls = [f"{self.around.urls[name]}/{what}" for name in names]
+        await self.around.client.tell(list(zip(urls, bodies(self.text, board, self.seats, names))))
+
+    def outcome(self) -> Outcome:
+        """What the game came to, once it was played."""
+        stay = self.stay
+        return Outcome(
+            name=self.fixture.name,
+            round=self.fixture.round,
+            turns=stay.board["turn"],
+            lines=stay.replies,
+            digest=stay.digest,
+            finishes=finishes_of(stay.board),
+        )

@@ -1,0 +1,158 @@
+"""The command line of the ladder."""
+
+from __future__ import annotations
+
+import argparse
+import asyncio
+import signal
+import sqlite3
+import sys
+from collections.abc import Sequence
+from contextlib import AsyncExitStack
+from pathlib import Path
+from typing import Any
+
+from rich.console import Console
+
+from ladder.check import check
+from ladder.config import ConfigFault, read_config
+from ladder.feed import Feed
+from ladder.game import GameFault
+from ladder.game_files import make_folders
+from ladder.host import PROGRAM, HostDied, HostFault
+from ladder.merge import merge
+from ladder.page import address_of, page
+from ladder.pairing import Part, part_of
+from ladder.play import Job, locked, play
+from ladder.progress import Counts, ProgressBar
+from ladder.standings import as_csv, as_json, as_table, standings_of
+from ladder.store import Store, StoreFault, open_store
+from ladder.watch import Watch
+
+INTERRUPTED = 130
+FAULTS = (ConfigFault, GameFault, HostDied, HostFault, StoreFault, OSError, sqlite3.Error)
+
+
+def program_of(given: argparse.Namespace) -> Path:
+    """The program that plays; it has to be there."""
+    program = Path(given.program)
+    if not program.is_file():
+        raise StoreFault(f"there is no program {program}: ./arena --help proves and builds it")
+    return program.resolve()
+
+
+async def play_job(job: Job, counts: Counts, given: argparse.Namespace) -> None:
+    """Plays a job with its progress and, where one is asked for, its page."""
+    store = Store(job.folder)
+    async with AsyncExitStack() as stack:
+        stack.callback(store.close)
+        bar = stack.enter_context(ProgressBar(counts))
+        watches: list[Watch] = [counts, bar]
+        if given.page is not None:
+            feed = Feed(lambda: rows_of(job.folder), counts.line)
+            bar.say(f"the page is {await stack.enter_async_context(page(feed, given.page))}")
+            watches.append(feed)
+        await play(job, store, watches)
+
+
+def rows_of(folder: Path) -> list[dict[str, Any]]:
+    """The standings of a folder, read anew: another thread may ask for them."""
+    store = open_store(folder)
+    try:
+        return [standing.row() for standing in standings_of(store)]
+    finally:
+        store.close()
+
+
+def run_play(given: argparse.Namespace) -> int:
+    """Plays what is missing of a ladder."""
+    config = read_config(given.config)
+    part = given.part or Part(1, 1)
+    folder = config.folder / str(part) if given.part else config.folder
+    job = Job(config, folder, part, program_of(given))
+    counts = Counts()
+    make_folders(folder)
+    with locked(folder):
+        asyncio.run(play_job(job, counts, given))
+    print(f"ladder: {counts.summary()}")
+    return 0
+
+
+def run_standings(given: argparse.Namespace) -> int:
+    """Prints the standings of a folder."""
+    store = open_store(given.folder)
+    try:
+        standings = standings_of(store)
+    finally:
+        store.close()
+    if given.csv or given.json:
+        print(as_csv(standings) if given.csv else as_json(standings), end="")
+    else:
+        Console(width=None if sys.stdout.isatty() else 160).print(as_table(standings))
+    return 0
+
+
+def run_check(given: argparse.Namespace) -> int:
+    """Plays all games of a folder again; the status is 1 where one does not agree."""
+    console = Console(stderr=True)
+    with console.status("checking") as status:
+        checked = check(
+            given.folder, program_of(given), lambda games: status.update(f"{games} games checked")
+        )
+    for name, why in checked.faults.items():
+        print(f"{name}: {why}")
+    print(f"{checked.games - len(checked.faults)} of {checked.games} games agree")
+    return 1 if checked.faults else 0
+
+
+def run_merge(given: argparse.Namespace) -> int:
+    """Joins folders."""
+    added = merge(given.into, given.folders)
+    print(f"ladder: {added} games were added to {given.into}")
+    return 0
+
+
+def parser() -> argparse.ArgumentParser:
+    words = argparse.ArgumentParser(prog="ladder", description=__doc__)
+    commands = words.add_subparsers(required=True, metavar="COMMAND")
+    one = commands.add_parser("play", help="plays the games that are not done yet")
+    one.add_argument("config", metavar="CONFIG.toml", type=Path)
+    one.add_argument("--part", metavar="K/N", type=part_of, help="one part of the games")
+    help = "a page with the standings and the running games; on 127.0.0.1 if no host is named"
+    one.add_argument("--page", metavar="[HOST:]PORT", type=address_of, help=help)
+    add_program(one)
+    one.set_defaults(run=run_play)
+    one = commands.add_parser("standings", help="prints the standings of a folder")
+    one.add_argument("folder", metavar="FOLDER", type=Path)
+    form = one.add_mutually_exclusive_group()
+    form.add_argument("--csv", action="store_true")
+    form.add_argument("--json", action="store_true")
+    one.set_defaults(run=run_standings)
+    one = commands.add_parser("check", help="plays all games of a folder again, and compares")
+    one.add_argument("folder", metavar="FOLDER", type=Path)
+    add_program(one)
+    one.set_defaults(run=run_check)
+    one = commands.add_parser("merge", help="joins the folders of the parts of a ladder")
+    one.add_argument("into", metavar="INTO", type=Path)
+    one.add_argument("folders", metavar="FOLDER", type=Path, nargs="+")
+    one.set_defaults(run=run_merge)
+    return words
+
+
+def add_program(words: argparse.ArgumentParser) -> None:
+    usual = "arena, if not the built one"
+    words.add_argument("--program", metavar="PATH", default=PROGRAM, help=usual)
+
+
+def main(words: Sequence[str] | None = None) -> int:
+    """Runs a command; a fault is said in a line on the standard error, with status 1."""
+    given = parser().parse_args(words)
+    signal.signal(signal.SIGTERM, signal.getsignal(signal.SIGINT))
+    try:
+        return int(given.run(given))
+    except FAULTS as fault:
+        print(f"ladder: {fault}", file=sys.stderr)
+        return 1
+    except KeyboardInterrupt:
+        print("ladder: stopped; the same command goes on", file=sys.stderr)
+        return INTERRUPTED

@@ -1,0 +1,64 @@
+"""Joins the folders of the parts of a ladder into one."""
+
+from __future__ import annotations
+
+import os
+import shutil
+from collections.abc import Iterator, Mapping, Sequence
+from pathlib import Path
+
+from ladder.game_files import command_file, make_folders
+from ladder.outcome import Outcome, Tally
+from ladder.store import Store, StoreFault, open_store
+
+
+def merge(into: Path, folders: Sequence[Path]) -> int:
+    """Adds the games of some folders to another, and returns how many were added.
+
+    All have to be of one ladder, and a game that two of them have has to be the same there.
+    """
+    for folder in folders:
+        open_store(folder).close()
+    make_folders(into)
+    store = Store(into)
+    try:
+        return sum(add_folder(into, store, folder) for folder in folders)
+    finally:
+        store.close()
+
+
+def add_folder(into: Path, store: Store, folder: Path) -> int:
+    """Adds the games of a folder that are missing, files first."""
+    part = open_store(folder)
+    try:
+        part.names()
+        identity = part.identity()
+        if identity is None:
+            return 0
+        store.begin(identity, part.bots())
+        known = {outcome.name: outcome for outcome in store.outcomes()}
+        found = list(part.outcomes())
+        for outcome in found:
+            if known.get(outcome.name, outcome) != outcome:
+                raise StoreFault(f"{outcome.name} of {folder} is another game in {into}")
+        missing = [outcome for outcome in found if outcome.name not in known]
+        for outcome in missing:
+            copy(command_file(folder, outcome.name), command_file(into, outcome.name))
+        store.add(with_tallies(part, missing))
+        return len(missing)
+    finally:
+        part.close()
+
+
+def with_tallies(
+    store: Store, outcomes: Sequence[Outcome]
+) -> Iterator[tuple[Outcome, Mapping[str, Tally]]]:
+    for outcome in outcomes:
+        yield outcome, store.tallies(outcome.name)
+
+
+def copy(source: Path, target: Path) -> None:
+    """Copies a file; under its name it is whole or not there."""
+    unfinished = target.with_suffix(".unfinished")
+    shutil.copyfile(source, unfinished)
+    os.replace(unfinished, target)

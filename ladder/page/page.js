@@ -1,0 +1,95 @@
+// The page of a running ladder: shows the standings and each running game as the events tell them.
+// All that comes from bots is put in as text.
+'use strict';
+
+/** The numbers of a row of the standings, as the page writes them. */
+function cellsOf(row) {
+  const inMs = (value) => (value === null ? '-' : `${value} ms`);
+  return [row.games, row.wins, row.draws, row.losses, `${row.elo} ± ${row.error}`, inMs(row.median_ms), inMs(row.p99_ms), row.missed];
+}
+
+function showStandings(body, rows) {
+  body.replaceChildren(...rows.map((row) => made('tr', {},
+    made('th', { scope: 'row' }, row.bot),
+    ...cellsOf(row).map((cell) => made('td', { className: 'number' }, String(cell))))));
+}
+
+/** A running game: its board, and its snakes in the order of their seats. */
+class GameCard {
+  constructor(name) {
+    this.turn = made('span', { className: 'turn' });
+    this.board = drawn('svg', { role: 'img' });
+    this.snakes = made('ul');
+    this.item = made('article', {}, made('h3', {}, name, ' ', this.turn), this.board, this.snakes);
+    this.item.dataset.game = name;
+  }
+
+  show(board) {
+    if (faultOfBoard(board) !== null) {
+      return;
+    }
+    this.turn.textContent = `turn ${board.turn}`;
+    drawBoard(this.board, board, false);
+    this.snakes.replaceChildren(...board.snakes.map((snake, seat) => made('li', { className: isLiving(snake) ? '' : 'out' },
+      swatchPicture(seat, isLiving(snake)), `${snake.id} ${isLiving(snake) ? `${snake.health}, ${snake.body.length}` : 'out'}`)));
+  }
+}
+
+class LadderPage {
+  constructor() {
+    this.summary = document.getElementById('summary');
+    this.standings = document.querySelector('#standings tbody');
+    this.games = document.getElementById('games');
+    this.cards = new Map();
+  }
+
+  setState(state) {
+    document.body.dataset.state = state;
+  }
+
+  /** Shows what an event tells; `gone` are the games that are done. */
+  show(told) {
+    this.summary.textContent = told.summary;
+    showStandings(this.standings, told.standings);
+    Object.entries(told.boards).forEach(([name, board]) => this.showBoard(name, board));
+    (told.gone ?? []).forEach((name) => this.remove(name));
+  }
+
+  showBoard(name, board) {
+    if (!this.cards.has(name)) {
+      const card = new GameCard(name);
+      this.cards.set(name, card);
+      this.games.append(card.item);
+    }
+    this.cards.get(name).show(board);
+  }
+
+  remove(name) {
+    this.cards.get(name)?.item.remove();
+    this.cards.delete(name);
+  }
+
+  /** Forgets all games, since all that run are told next. */
+  clear() {
+    [...this.cards.keys()].forEach((name) => this.remove(name));
+  }
+}
+
+function beginPage() {
+  const page = new LadderPage();
+  const events = new EventSource('events');
+  events.addEventListener('all', (event) => {
+    page.setState('running');
+    page.clear();
+    page.show(JSON.parse(event.data));
+  });
+  events.addEventListener('changes', (event) => page.show(JSON.parse(event.data)));
+  events.addEventListener('end', (event) => {
+    events.close();
+    page.setState('ended');
+    page.show(JSON.parse(event.data));
+  });
+  events.addEventListener('error', () => page.setState('waiting'));
+}
+
+beginPage();

@@ -1,0 +1,80 @@
+"""Who meets whom: the games of a ladder, which depend on its bots and its seed alone."""
+
+from __future__ import annotations
+
+import re
+from collections.abc import Iterable, Iterator, Sequence
+from dataclasses import dataclass
+from itertools import combinations, islice
+
+from ladder.config import Config, ConfigFault
+from ladder.draws import Draw
+
+GAME_NAME = re.compile(r"r[0-9]{4,6}-t[0-9]{3,7}")
+MOST_GAMES = 1_000_000
+
+
+@dataclass(frozen=True)
+class Fixture:
+    """A game to be played: its name, and the bots in the order of their seats."""
+
+    name: str
+    round: int
+    bots: tuple[str, ...]
+
+
+@dataclass(frozen=True)
+class Part:
+    """Part `number` of `parts`, counted from 1: of the games in their order every so many-th."""
+
+    number: int
+    parts: int
+
+    def __str__(self) -> str:
+        return f"part-{self.number}-of-{self.parts}"
+
+
+def part_of(word: str) -> Part:
+    """Reads `K/N`."""
+    found = re.fullmatch(r"([0-9]{1,5})/([0-9]{1,5})", word)
+    part = Part(int(found[1]), int(found[2])) if found else Part(0, 0)
+    if not 1 <= part.number <= part.parts:
+        raise ValueError(f"{word!r} is no part such as 2/4")
+    return part
+
+
+def fixtures_of(config: Config, part: Part = Part(1, 1)) -> list[Fixture]:
+    """The games of a ladder, round by round, or a part of them."""
+    games = list(islice(all_fixtures(config), MOST_GAMES + 1))
+    if len(games) > MOST_GAMES:
+        raise ConfigFault(f"the pairings have more than {MOST_GAMES:,} games")
+    return games[part.number - 1 :: part.parts]
+
+
+def all_fixtures(config: Config) -> Iterator[Fixture]:
+    names = [bot.name for bot in config.bots]
+    paired = every_table if config.pairing == "round_robin" else drawn_tables
+    rounds: Iterator[Iterable[Iterable[str]]] = paired(names, config)
+    for number, tables in enumerate(rounds, 1):
+        for at, table in enumerate(tables, 1):
+            name = f"r{number:04}-t{at:03}"
+            yield Fixture(name, number, tuple(Draw(config.seed, name, "seats").shuffled(table)))
+
+
+def every_table(names: Sequence[str], config: Config) -> Iterator[Iterable[Iterable[str]]]:
+    """Each so many bots once a round."""
+    for _ in range(config.rounds):
+        yield combinations(names, config.snakes)
+
+
+def drawn_tables(names: Sequence[str], config: Config) -> Iterator[Iterable[Iterable[str]]]:
+    """As many drawn tables a round as can be filled; who has played most sits out."""
+    size = config.snakes
+    played = dict.fromkeys(names, 0)
+    for number in range(1, config.rounds + 1):
+        draw = Draw(config.seed, "round", number)
+        order = sorted(draw.shuffled(names), key=played.__getitem__)
+        seated = draw.shuffled(order[: len(order) // size * size])
+        for name in seated:
+            played[name] += 1
+        yield [seated[at : at + size] for at in range(0, len(seated), size)]

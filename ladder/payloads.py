@@ -1,0 +1,95 @@
+"""The bodies of requests to a bot, as the official API has them (version 1)."""
+
+from __future__ import annotations
+
+import json
+from collections.abc import Iterable
+from dataclasses import dataclass, field
+from typing import Any
+
+from ladder.config import Config
+from ladder.host import Board
+
+
+@dataclass(frozen=True)
+class Look:
+    """How a bot wants to be drawn, which the others are told."""
+
+    color: str = "#888888"
+    head: str = "default"
+    tail: str = "default"
+
+
+@dataclass
+class Seat:
+    """A bot in a game, with what it last did."""
+
+    name: str
+    look: Look = field(default_factory=Look)
+    latency: int = 0  # milliseconds
+    shout: str = ""
+
+
+def text_of(value: Any) -> str:
+    return json.dumps(value, separators=(",", ":"))
+
+
+def game_text(config: Config, name: str) -> str:
+    """The member `game`, the same in all requests of a game."""
+    rules = config.rules
+    settings = {
+        "foodSpawnChance": rules.food_chance,
+        "minimumFood": rules.min_food,
+        "hazardDamagePerTurn": 0,
+    }
+    return text_of(
+        {
+            "id": name,
+            "ruleset": {"name": rules.mode, "version": "v1.0.0", "settings": settings},
+            "map": "empty" if rules.mode == "constrictor" else "standard",
+            "timeout": config.timeout,
+            "source": "league",
+        }
+    )
+
+
+def snake_text(snake: dict[str, Any], seat: Seat) -> str:
+    """A snake of a board with what the API tells of its bot."""
+    return text_of(
+        {
+            "id": snake["id"],
+            "name": seat.name,
+            "health": snake["health"],
+            "body": snake["body"],
+            "latency": str(seat.latency),
+            "head": snake["body"][0],
+            "length": len(snake["body"]),
+            "shout": seat.shout,
+            "squad": "",
+            "customizations": vars(seat.look),
+        }
+    )
+
+
+def is_living(snake: dict[str, Any]) -> bool:
+    return snake["cause"] is None
+
+
+def living_of(board: Board) -> list[str]:
+    """The names of the bots whose snakes live, in the order of their seats."""
+    return [snake["id"] for snake in board["snakes"] if is_living(snake)]
+
+
+def bodies(game: str, board: Board, seats: dict[str, Seat], names: Iterable[str]) -> list[bytes]:
+    """The body for each of the named bots.
+
+    The board has the living snakes alone; a bot whose snake is out sees it as it went.
+    """
+    texts = {snake["id"]: snake_text(snake, seats[snake["id"]]) for snake in board["snakes"]}
+    snakes = ",".join(texts[name] for name in living_of(board))
+    shared = (
+        f'{{"game":{game},"turn":{board["turn"]},"board":{{"height":{board["height"]},'
+        f'"width":{board["width"]},"food":{text_of(board["food"])},"hazards":[],'
+        f'"snakes":[{snakes}]}},"you":'
+    )
+    return [f"{shared}{texts[name]}}}".encode() for name in names]

@@ -1,0 +1,127 @@
+"""Plays the games of a ladder that are not done yet, many at once."""
+
+from __future__ import annotations
+
+import asyncio
+import fcntl
+from collections.abc import Iterator, Sequence
+from contextlib import contextmanager
+from dataclasses import dataclass
+from pathlib import Path
+
+from ladder.bots import BotClient, NoAnswer
+from ladder.config import Bot, Config
+from ladder.game import Game, GameFault, Surroundings
+from ladder.game_files import forget_answers, make_folders, running_games
+from ladder.host import BLOCKS_OF_GAME, HostDied, Refused
+from ladder.keeper import HostKeeper
+from ladder.pairing import Fixture, Part, fixtures_of
+from ladder.payloads import Look
+from ladder.store import Store, StoreFault
+from ladder.watch import Watch, Watches
+
+
+@dataclass(frozen=True)
+class Job:
+    """What is to be played, where, and by which program."""
+
+    config: Config
+    folder: Path
+    part: Part
+    program: Path
+
+
+@contextmanager
+def locked(folder: Path) -> Iterator[None]:
+    """Holds a folder, so that no other ladder plays in it meanwhile."""
+    with open(folder / "lock", "w") as file:
+        try:
+            fcntl.flock(file, fcntl.LOCK_EX | fcntl.LOCK_NB)
+        except OSError:
+            raise StoreFault(f"another ladder is playing in {folder}") from None
+        yield
+
+
+async def play(job: Job, store: Store, watches: Sequence[Watch]) -> None:
+    """Plays what is missing in the folder of a job, whose results are in the store."""
+    store.begin(job.config.identity, job.config.bots)
+    config = job.config
+    fixtures = fixtures_of(config, job.part)
+    done = store.names()
+    for name in running_games(job.folder) & done:
+        forget_answers(job.folder, name)
+    async with (
+        BotClient(config.timeout / 1000) as client,
+        HostKeeper(job.program, BLOCKS_OF_GAME * config.at_once) as keeper,
+    ):
+        watch = Watches([*watches, keeper])
+        watch.begin(len(done), len(fixtures))
+        around = await surroundings(job, client, watch)
+        run = Run(around, store, keeper)
+        await run.play([fixture for fixture in fixtures if fixture.name not in done])
+
+
+async def surroundings(job: Job, client: BotClient, watch: Watch) -> Surroundings:
+    """Asks all bots how they look; one that does not say gets the usual look."""
+
+    async def look(bot: Bot) -> Look:
+        try:
+            return await client.look(bot.url)
+        except NoAnswer as fault:
+            watch.say(f"{bot.name} did not say how it looks ({fault.cause}): {bot.url}")
+            return Look()
+
+    bots = job.config.bots
+    looks = await asyncio.gather(*map(look, bots))
+    return Surroundings(
+        config=job.config,
+        folder=job.folder,
+        client=client,
+        urls={bot.name: bot.url for bot in bots},
+        looks={bot.name: look for bot, look in zip(bots, looks)},
+        watch=watch,
+    )
+
+
+class Run:
+    """The games that one call of a ladder plays."""
+
+    def __init__(self, around: Surroundings, store: Store, keeper: HostKeeper) -> None:
+        self.around = around
+        self.store = store
+        self.keeper = keeper
+        self.storing = asyncio.Lock()
+
+    async def play(self, fixtures: Sequence[Fixture]) -> None:
+        """Plays games, as many at once as the configuration says. The first fault ends all."""
+        waiting = iter(fixtures)
+        try:
+            async with asyncio.TaskGroup() as group:
+                for _ in range(min(len(fixtures), self.around.config.at_once)):
+                    group.create_task(self.play_some(waiting))
+        except BaseExceptionGroup as faults:
+            raise faults.exceptions[0] from None
+
+    async def play_some(self, waiting: Iterator[Fixture]) -> None:
+        """Plays games one after the other while there are any."""
+        for fixture in waiting:
+            game = await self.play_one(fixture)
+            outcome = game.outcome()
+            async with self.storing:
+                await asyncio.to_thread(self.store.add, [(outcome, game.tallies)])
+            forget_answers(self.around.folder, fixture.name)
+            self.around.watch.end(outcome)
+
+    async def play_one(self, fixture: Fixture) -> Game:
+        """Plays a game, with another host where one dies."""
+        while True:
+            host = await self.keeper.host()
+            game = Game(self.around, fixture)
+            try:
+                await game.play(host)
+                return game
+            except HostDied as death:
+                if await self.keeper.bury(host, death):
+                    self.around.watch.say(f"{death}; its games go on in another")
+            except Refused as fault:
+                raise GameFault(f"the host refused a line of {fixture.name}: {fault}") from None

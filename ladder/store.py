@@ -1,0 +1,149 @@
+"""The results of a ladder, in a database of SQLite: one transaction for each game that is done."""
+
+from __future__ import annotations
+
+import json
+import sqlite3
+from collections import Counter
+from collections.abc import Iterable, Iterator, Mapping
+from pathlib import Path
+from typing import Any
+
+from ladder.config import Bot
+from ladder.outcome import Finish, Outcome, Tally
+from ladder.pairing import GAME_NAME
+
+BUSY_SECONDS = 60.0
+SCHEMA = """
+CREATE TABLE IF NOT EXISTS ladder (identity TEXT NOT NULL);
+CREATE TABLE IF NOT EXISTS bot (name TEXT PRIMARY KEY, url TEXT NOT NULL);
+CREATE TABLE IF NOT EXISTS game (
+    name TEXT PRIMARY KEY, round INTEGER NOT NULL, turns INTEGER NOT NULL,
+    lines INTEGER NOT NULL, digest TEXT NOT NULL);
+CREATE TABLE IF NOT EXISTS seat (
+    game TEXT NOT NULL REFERENCES game, seat INTEGER NOT NULL, bot TEXT NOT NULL REFERENCES bot,
+    result TEXT NOT NULL, out INTEGER, cause TEXT, killer TEXT, length INTEGER NOT NULL,
+    turns INTEGER NOT NULL, PRIMARY KEY (game, seat)) WITHOUT ROWID;
+CREATE TABLE IF NOT EXISTS missed (
+    game TEXT NOT NULL, seat INTEGER NOT NULL, cause TEXT NOT NULL, moves INTEGER NOT NULL,
+    PRIMARY KEY (game, seat, cause)) WITHOUT ROWID;
+CREATE TABLE IF NOT EXISTS latency (
+    game TEXT NOT NULL, seat INTEGER NOT NULL, ms INTEGER NOT NULL, moves INTEGER NOT NULL,
+    PRIMARY KEY (game, seat, ms)) WITHOUT ROWID;
+"""
+
+
+class StoreFault(Exception):
+    """A folder whose results are not those of this ladder, or that has none."""
+
+
+class Store:
+    """The database of a ladder's folder."""
+
+    def __init__(self, folder: Path) -> None:
+        self.path = folder / "results.sqlite"
+        # Games are added by a thread of their own, one after the other.
+        self.base = sqlite3.connect(self.path, timeout=BUSY_SECONDS, check_same_thread=False)
+        self.base.executescript(SCHEMA)
+
+    def close(self) -> None:
+        self.base.close()
+
+    def identity(self) -> dict[str, Any] | None:
+        """What decides the games of this folder; None where nothing was played yet."""
+        row = self.base.execute("SELECT identity FROM ladder").fetchone()
+        return json.loads(row[0]) if row else None
+
+    def begin(self, identity: Mapping[str, Any], bots: Iterable[Bot]) -> None:
+        """Makes the folder that of a ladder, unless it is another's; addresses may change."""
+        known = self.identity()
+        if known is not None and known != dict(identity):
+            other = sorted(key for key in identity if known.get(key) != identity[key])
+            raise StoreFault(f"{self.path} is of another ladder: {', '.join(other)} differ")
+        with self.base:
+            if known is None:
+                self.base.execute("INSERT INTO ladder VALUES (?)", (json.dumps(dict(identity)),))
+            rows = [(bot.name, bot.url) for bot in bots]
+            self.base.executemany("INSERT OR REPLACE INTO bot VALUES (?, ?)", rows)
+
+    def add(self, played: Iterable[tuple[Outcome, Mapping[str, Tally]]]) -> None:
+        """Adds games that are done, with all that is known of them, in one transaction."""
+        with self.base:
+            for outcome, tallies in played:
+                name = outcome.name
+                row = (name, outcome.round, outcome.turns, outcome.lines, outcome.digest)
+                self.base.execute("INSERT INTO game VALUES (?, ?, ?, ?, ?)", row)
+                for seat, finish in enumerate(outcome.finishes):
+                    self.add_seat(name, seat, finish, tallies[finish.bot])
+
+    def add_seat(self, game: str, seat: int, it: Finish, tally: Tally) -> None:
+        row = (game, seat, it.bot, it.result, it.out, it.cause, it.killer, it.length, it.turns)
+        missed = [(game, seat, *item) for item in tally.missed.items()]
+        latencies = [(game, seat, *item) for item in tally.latencies.items()]
+        self.base.execute("INSERT INTO seat VALUES (?, ?, ?, ?, ?, ?, ?, ?, ?)", row)
+        self.base.executemany("INSERT INTO missed VALUES (?, ?, ?, ?)", missed)
+        self.base.executemany("INSERT INTO latency VALUES (?, ?, ?, ?)", latencies)
+
+    def names(self) -> set[str]:
+        """The names of the games that are done; one that is no game's name is a fault."""
+        names = {name for (name,) in self.base.execute("SELECT name FROM game")}
+        wrong = sorted(name for name in names if not GAME_NAME.fullmatch(name))
+        if wrong:
+            raise StoreFault(f"{self.path} has a game named {wrong[0]!r}")
+        return names
+
+    def bots(self) -> list[Bot]:
+        rows = self.base.execute("SELECT name, url FROM bot ORDER BY name")
+        return [Bot(*row) for row in rows]
+
+    def outcomes(self) -> Iterator[Outcome]:
+        """The games that are done, by their names."""
+        finishes: dict[str, list[Finish]] = {}
+        seats = self.base.execute(
+            "SELECT game, bot, result, out, cause, killer, length, turns FROM seat"
+            " ORDER BY game, seat"
+        )
+        for game, *values in seats:
+            finishes.setdefault(game, []).append(Finish(*values))
+        games = self.base.execute(
+            "SELECT name, round, turns, lines, digest FROM game ORDER BY name"
+        )
+        for name, number, turns, lines, digest in games:
+            yield Outcome(name, number, turns, lines, digest, tuple(finishes.get(name, ())))
+
+    def tallies(self, game: str) -> dict[str, Tally]:
+        """The tally of each bot of a game that is done."""
+        rows = self.base.execute("SELECT seat, bot FROM seat WHERE game = ?", (game,)).fetchall()
+        tallies = {seat: Tally() for seat, _ in rows}
+        missed = "SELECT seat, cause, moves FROM missed WHERE game = ?"
+        for seat, cause, moves in self.base.execute(missed, (game,)):
+            tallies[seat].missed[cause] = moves
+        latencies = "SELECT seat, ms, moves FROM latency WHERE game = ?"
+        for seat, ms, moves in self.base.execute(latencies, (game,)):
+            tallies[seat].latencies[ms] = moves
+        return {bot: tallies[seat] for seat, bot in rows}
+
+    def counts(self, table: str, key: str) -> dict[str, Counter[Any]]:
+        """Of each bot how many of its moves were of each kind: of `missed` by cause, or of
+        `latency` by milliseconds."""
+        found: dict[str, Counter[Any]] = {}
+        rows = self.base.execute(
+            f"SELECT bot, {table}.{key}, SUM(moves) FROM {table} JOIN seat USING (game, seat)"
+            f" GROUP BY bot, {table}.{key}"
+        )
+        for bot, value, moves in rows:
+            found.setdefault(bot, Counter())[value] = moves
+        return found
+
+    def missed(self) -> dict[str, Counter[str]]:
+        return self.counts("missed", "cause")
+
+    def latencies(self) -> dict[str, Counter[int]]:
+        return self.counts("latency", "ms")
+
+
+def open_store(folder: Path) -> Store:
+    """Opens the results of a folder that has some."""
+    if not (folder / "results.sqlite").is_file():
+        raise StoreFault(f"{folder} has no results of a ladder")
+    return Store(folder)

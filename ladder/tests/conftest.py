@@ -1,0 +1,48 @@
+"""What the tests share: the program, bots on the loopback, and a folder for results."""
+
+from __future__ import annotations
+
+import subprocess
+from collections.abc import Iterator
+from pathlib import Path
+
+import pytest
+from served import Served, serve_faulty, serve_small
+
+from ladder.host import PROGRAM
+
+
+def pytest_addoption(parser: pytest.Parser) -> None:
+    parser.addoption("--program", default=str(PROGRAM), help="arena, if not the built one")
+    parser.addoption("--all", action="store_true", help="ten kills of each kind in place of two")
+
+
+@pytest.fixture(scope="session")
+def program(request: pytest.FixtureRequest) -> Path:
+    """The program, which has to be there and to know `live`."""
+    path = Path(request.config.getoption("--program")).resolve()
+    if not path.is_file():
+        pytest.exit(f"there is no program {path}: ./arena --help proves and builds it", 1)
+    if subprocess.run([path, "live", "--help"], capture_output=True).returncode != 0:
+        pytest.exit(f"{path} has no command live", 1)
+    return path
+
+
+@pytest.fixture(scope="session")
+def kills(request: pytest.FixtureRequest) -> int:
+    """How often a kind of process is killed."""
+    return 10 if request.config.getoption("--all") else 2
+
+
+@pytest.fixture(scope="session")
+def small_bots() -> Iterator[Served]:
+    """The bots of ladder/bots."""
+    with serve_small() as served:
+        yield served
+
+
+@pytest.fixture
+def faulty_bots() -> Iterator[Served]:
+    """The bots of faulty.py, which fail as planned."""
+    with serve_faulty() as served:
+        yield served

@@ -1,0 +1,159 @@
+"""Bots that fail in planned turns, each in a way of its own, served on the loopback.
+
+    faulty.py --port PORT
+
+Below the port each bot has its name: good, slow, error, cut, garbage, text, huge, redirect, hanging,
+gone. In the turns that `is_planned` names they fail; else they answer as the bot seeker does. `gone`
+answers its first moves alone, and from then on closes each connection without an answer. Another
+bot, calm, takes its time for each answer and never fails. GET /counts tells how often each bot
+answered, and how often somebody followed a redirect.
+"""
+
+from __future__ import annotations
+
+import argparse
+import asyncio
+import json
+import sys
+from collections import Counter
+from collections.abc import Awaitable, Callable
+from pathlib import Path
+from typing import Any
+
+sys.path.insert(0, str(Path(__file__).resolve().parent.parent / "bots"))
+
+import seeker  # noqa: E402
+
+NAMES = (
+    *("good", "slow", "error", "cut", "garbage", "text", "huge", "redirect", "hanging", "gone"),
+)
+CAUSES = {  # of each bot that fails as planned
+    "slow": "late",
+    "error": "status",
+    "cut": "cut",
+    "garbage": "cut",
+    "text": "json",
+    "huge": "long",
+    "redirect": "status",
+    "hanging": "late",
+}
+SLOW_SECONDS = 10.0
+CALM_SECONDS = 0.25
+HANGING_SECONDS = 600.0
+MOVES_OF_GONE = 100
+COUNTS: Counter[str] = Counter()
+
+
+def is_planned(turn: int) -> bool:
+    """Whether the faulty bots fail in a turn."""
+    return turn % 9 == 4
+
+
+def response(status: str, body: bytes, *headers: str) -> bytes:
+    lines = [f"HTTP/1.1 {status}", f"Content-Length: {len(body)}", *headers, "", ""]
+    return "\r\n".join(lines).encode() + body
+
+
+def moved(state: dict[str, Any]) -> bytes:
+    """A good answer to a request for a move."""
+    return response("200 OK", json.dumps({"move": seeker.choose(state)}).encode())
+
+
+async def slow(state: dict[str, Any], _: asyncio.StreamWriter) -> bytes:
+    await asyncio.sleep(SLOW_SECONDS)
+    return moved(state)
+
+
+async def error(*_: object) -> bytes:
+    return response("500 Internal Server Error", b'{"move":"up"}')
+
+
+async def cut(_: object, writer: asyncio.StreamWriter) -> bytes:
+    writer.write(response("200 OK", b'{"move":"up"}')[:-3])
+    await writer.drain()
+    raise ConnectionError
+
+
+async def garbage(*_: object) -> bytes:
+    return b"\x00\xff\xfe this is no HTTP\r\n\r\n"
+
+
+async def text(*_: object) -> bytes:
+    return response("200 OK", b"[" * 60_000)
+
+
+async def huge(*_: object) -> bytes:
+    return response("200 OK", json.dumps({"move": "up", "shout": "x" * 70_000}).encode())
+
+
+async def redirect(*_: object) -> bytes:
+    return response("302 Found", b"", "Location: /trap/move")
+
+
+async def hanging(*_: object) -> bytes:
+    await asyncio.sleep(HANGING_SECONDS)
+    raise ConnectionError
+
+
+FAULTS: dict[str, Callable[..., Awaitable[bytes]]] = {
+    "slow": slow,
+    "error": error,
+    "cut": cut,
+    "garbage": garbage,
+    "text": text,
+    "huge": huge,
+    "redirect": redirect,
+    "hanging": hanging,
+}
+
+
+async def answer(path: str, body: bytes, writer: asyncio.StreamWriter) -> bytes:
+    """What the bot that a path names answers; raises ConnectionError where it cuts."""
+    _, name, *rest = path.split("/")
+    if name == "counts":
+        return response("200 OK", json.dumps(COUNTS).encode())
+    if name == "gone" and COUNTS["gone"] >= MOVES_OF_GONE:
+        raise ConnectionError
+    if name == "trap":
+        COUNTS["trap"] += 1
+    if rest != ["move"]:
+        return response("200 OK", b'{"apiversion":"1","color":"<script>","head":"../../etc"}')
+    state = json.loads(body)
+    if name == "calm":
+        await asyncio.sleep(CALM_SECONDS)
+    if name in FAULTS and is_planned(state["turn"]):
+        return await FAULTS[name](state, writer)
+    COUNTS[name] += 1
+    return moved(state)
+
+
+async def serve(reader: asyncio.StreamReader, writer: asyncio.StreamWriter) -> None:
+    """Answers the requests of a connection, one after the other."""
+    try:
+        while head := (await reader.readuntil(b"\r\n\r\n")).decode():
+            length = next(
+                (
+                    int(it[15:])
+                    for it in head.split("\r\n")
+                    if it.lower().startswith("content-length")
+                ),
+                0,
+            )
+            body = await reader.readexactly(length)
+            writer.write(await answer(head.split(" ")[1], body, writer))
+            await writer.drain()
+    except (ConnectionError, asyncio.IncompleteReadError):
+        pass
+    finally:
+        writer.close()
+
+
+async def main() -> None:
+    words = argparse.ArgumentParser(description=__doc__)
+    words.add_argument("--port", type=int, required=True)
+    server = await asyncio.start_server(serve, "127.0.0.1", words.parse_args().port, backlog=512)
+    await server.serve_forever()
+
+
+if __name__ == "__main__":
+    asyncio.run(main())

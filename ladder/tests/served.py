@@ -1,0 +1,135 @@
+"""Bots in processes of their own, and ladders that play them."""
+
+from __future__ import annotations
+
+import json
+import os
+import socket
+import subprocess
+import sys
+import time
+import urllib.request
+from collections.abc import Iterable, Iterator, Sequence
+from contextlib import contextmanager
+from dataclasses import dataclass
+from pathlib import Path
+from typing import Any
+
+HERE = Path(__file__).resolve().parent
+LADDER = HERE.parent / "ladder"
+START_SECONDS = 30
+SMALL = ("seeker", "fleer", "hungry", "careful", "lazy")
+
+
+@dataclass(frozen=True)
+class Served:
+    """Bots that are served below one port."""
+
+    port: int
+
+    def url(self, name: str) -> str:
+        return f"http://127.0.0.1:{self.port}/{name}"
+
+    def counts(self) -> dict[str, int]:
+        """What the faulty bots have counted."""
+        with urllib.request.build_opener(urllib.request.ProxyHandler({})).open(
+            self.url("counts"), timeout=START_SECONDS
+        ) as answer:
+            return json.load(answer)
+
+
+def free_port() -> int:
+    with socket.socket() as found:
+        found.bind(("127.0.0.1", 0))
+        return found.getsockname()[1]
+
+
+@contextmanager
+def serving(words: Sequence[str | Path], port: int) -> Iterator[Served]:
+    """Runs a server until it is left; entered once it answers."""
+    process = subprocess.Popen([*words, "--port", str(port)])
+    try:
+        ends = time.monotonic() + START_SECONDS
+        while True:
+            try:
+                socket.create_connection(("127.0.0.1", port), timeout=1).close()
+                break
+            except OSError:
+                assert process.poll() is None and time.monotonic() < ends, "no server"
+                time.sleep(0.05)
+        yield Served(port)
+    finally:
+        process.terminate()
+        process.wait()
+
+
+def serve_small() -> Any:
+    return serving([sys.executable, HERE.parent / "bots" / "serve"], free_port())
+
+
+def serve_faulty() -> Any:
+    return serving([sys.executable, HERE / "faulty.py"], free_port())
+
+
+def write_config(path: Path, bots: Iterable[tuple[str, str]], **members: Any) -> Path:
+    """Writes a configuration; bots are names with their addresses."""
+    lines = [f"{key} = {json.dumps(value)}" for key, value in members.items()]
+    for name, url in bots:
+        lines += ["[[bot]]", f"name = {json.dumps(name)}", f"url = {json.dumps(url)}"]
+    path.write_text("\n".join(lines) + "\n")
+    return path
+
+
+def start_play(config: Path, program: Path, *words: str) -> subprocess.Popen[str]:
+    """Begins to play a ladder in a process of its own."""
+    return subprocess.Popen(
+        [LADDER, "play", config, "--program", program, *words],
+        stdout=subprocess.PIPE,
+        stderr=subprocess.PIPE,
+        text=True,
+    )
+
+
+def run_ladder(*words: str | Path) -> subprocess.CompletedProcess[str]:
+    """Runs a command of the ladder to its end."""
+    return subprocess.run([LADDER, *words], capture_output=True, text=True)
+
+
+def children_of(pid: int) -> list[int]:
+    """The processes that a process has started and that run."""
+    found = []
+    for entry in Path("/proc").iterdir():
+        if entry.name.isdigit():
+            try:
+                after_name = (entry / "stat").read_text().rpartition(")")[2].split()
+            except OSError:
+                continue
+            if int(after_name[1]) == pid and after_name[0] != "Z":
+                found.append(int(entry.name))
+    return found
+
+
+def bytes_played(folder: Path) -> int:
+    """The size of all command files of a folder."""
+    return sum(path.stat().st_size for path in (folder / "games").glob("*.jsonl"))
+
+
+def files_of(folder: Path) -> dict[str, bytes]:
+    """The command files of a folder by their names."""
+    return {path.name: path.read_bytes() for path in (folder / "games").iterdir()}
+
+
+def standings_without_times(folder: Path) -> list[dict[str, Any]]:
+    """The standings of a folder without the columns that differ from run to run."""
+    rows: list[dict[str, Any]] = json.loads(run_ladder("standings", folder, "--json").stdout)
+    for row in rows:
+        del row["median_ms"], row["p99_ms"]
+    return rows
+
+
+def is_running(pid: int) -> bool:
+    try:
+        os.kill(pid, 0)
+    except ProcessLookupError:
+        return False
+    return True

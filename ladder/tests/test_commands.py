@@ -1,0 +1,181 @@
+"""The commands of the ladder: parts, checks, standings, and what they refuse."""
+
+from __future__ import annotations
+
+import csv
+import json
+import shutil
+import sqlite3
+from pathlib import Path
+
+import pytest
+from served import SMALL, Served, files_of, run_ladder, standings_without_times, write_config
+
+
+@pytest.fixture(scope="module")
+def config(small_bots: Served, tmp_path_factory: pytest.TempPathFactory) -> Path:
+    """Games of every mode's rules that matter: wrapped, three snakes, more food than usual."""
+    folder = tmp_path_factory.mktemp("commands")
+    return write_config(
+        folder / "small.toml",
+        [(name, small_bots.url(name)) for name in SMALL],
+        folder=str(folder / "results"),
+        mode="wrapped",
+        snakes=3,
+        width=9,
+        height=7,
+        min_food=3,
+        turns=40,
+        timeout=5000,
+    )
+
+
+@pytest.fixture(scope="module")
+def played(program: Path, config: Path) -> Path:
+    """The folder of ten games that were played."""
+    ran = run_ladder("play", config, "--program", program)
+    assert (ran.returncode, ran.stderr) == (0, "")
+    return config.parent / "results"
+
+
+def test_parts_are_merged_to_the_whole(program: Path, config: Path, played: Path) -> None:
+    for part in ("1/3", "2/3", "3/3"):
+        assert run_ladder("play", config, "--part", part, "--program", program).returncode == 0
+    parts = sorted(played.glob("part-*"))
+    assert [part.name for part in parts] == ["part-1-of-3", "part-2-of-3", "part-3-of-3"]
+    joined = config.parent / "joined"
+    assert (
+        run_ladder("merge", joined, *parts).stdout == f"ladder: 10 games were added to {joined}\n"
+    )
+    assert files_of(joined) == files_of(played)
+    assert standings_without_times(joined) == standings_without_times(played)
+    assert run_ladder("check", joined, "--program", program).stdout == "10 of 10 games agree\n"
+
+
+def test_played_again_nothing_is_played(program: Path, config: Path, played: Path) -> None:
+    before = files_of(played)
+    again = run_ladder("play", config, "--program", program)
+    assert again.stdout.startswith("ladder: 10 of 10 games are done, 0 of them now; 0 turns")
+    assert files_of(played) == before
+
+
+def test_more_rounds_are_added(program: Path, config: Path, played: Path, tmp_path: Path) -> None:
+    folder = tmp_path / "results"
+    shutil.copytree(played, folder)
+    text = config.read_text().replace(json.dumps(str(played)), json.dumps(str(folder)))
+    more = tmp_path / "more.toml"
+    more.write_text("rounds = 2\n" + text)
+    assert run_ladder("play", more, "--program", program).returncode == 0
+    assert len(files_of(folder)) == 20
+    assert files_of(played).items() <= files_of(folder).items()
+
+
+def test_standings_have_three_forms(played: Path) -> None:
+    table = run_ladder("standings", played).stdout.splitlines()
+    rows = json.loads(run_ladder("standings", played, "--json").stdout)
+    texts = list(csv.DictReader(run_ladder("standings", played, "--csv").stdout.splitlines()))
+    assert table[0].split() == [
+        *("bot games won drawn lost turns Elo ± median 99 % missed by cause".split())
+    ]
+    assert [line.split()[0] for line in table[1:]] == [row["bot"] for row in rows]
+    assert [{key: str(value) for key, value in row.items()} for row in rows] == texts
+    assert sum(row["games"] for row in rows) == 30
+    assert sum(row["wins"] for row in rows) <= 10
+
+
+TAMPERED = [
+    ("a move", lambda text: text.replace(b'"up"', b'"down"', 1), "other lines than the live host"),
+    ("a word", lambda text: text.replace(b'"words":[', b'"words":[1', 1), "words of the move"),
+    ("the start", lambda text: text.replace(b'"x":', b'"x":1', 1), "does not begin as the seed"),
+    ("an end", lambda text: text[: text.rindex(b"{")], "has no end"),
+    ("a line", lambda text: text + b"x", "has no end"),
+]
+
+
+@pytest.mark.parametrize(("what", "tamper", "why"), TAMPERED, ids=[row[0] for row in TAMPERED])
+def test_file_that_was_changed_is_found(
+    program: Path, played: Path, tmp_path: Path, what: str, tamper, why: str
+) -> None:
+    folder = tmp_path / "results"
+    shutil.copytree(played, folder)
+    path = folder / "games" / "r0001-t004.jsonl"
+    changed = tamper(path.read_bytes())
+    assert changed != path.read_bytes()
+    path.write_bytes(changed)
+    checked = run_ladder("check", folder, "--program", program)
+    assert checked.returncode == 1
+    first, last = checked.stdout.splitlines()
+    assert first.startswith("r0001-t004: ") and why in first
+    assert last == "9 of 10 games agree"
+
+
+def test_result_that_was_changed_is_found(program: Path, played: Path, tmp_path: Path) -> None:
+    folder = tmp_path / "results"
+    shutil.copytree(played, folder)
+    base = sqlite3.connect(folder / "results.sqlite")
+    base.execute("UPDATE seat SET result = 'win' WHERE game = 'r0001-t002' AND seat = 1")
+    base.execute("UPDATE seat SET result = 'loss' WHERE game = 'r0001-t002' AND seat != 1")
+    base.execute("UPDATE game SET name = 'r0009-t001' WHERE name = 'r0001-t003'")
+    base.commit()
+    base.close()
+    checked = run_ladder("check", folder, "--program", program)
+    assert "r0001-t002: its last board is not the one in the results" in checked.stdout
+    assert "r0009-t001: the pairings have no such game" in checked.stdout
+    assert checked.stdout.endswith("8 of 10 games agree\n")
+
+
+def test_another_ladder_is_not_played_in_the_folder(
+    program: Path, config: Path, played: Path, tmp_path: Path
+) -> None:
+    other = tmp_path / "other.toml"
+    other.write_text("seed = 7\n" + config.read_text())
+    ran = run_ladder("play", other, "--program", program)
+    assert ran.returncode == 1
+    assert ran.stderr == f"ladder: {played / 'results.sqlite'} is of another ladder: seed differ\n"
+
+
+def test_file_of_another_game_is_not_gone_on_with(
+    program: Path, config: Path, played: Path, tmp_path: Path
+) -> None:
+    folder = tmp_path / "results"
+    (folder / "games").mkdir(parents=True)
+    path = folder / "games" / "r0001-t001.jsonl"
+    path.write_bytes((played / "games" / "r0001-t002.jsonl").read_bytes())
+    text = config.read_text().replace(json.dumps(str(played)), json.dumps(str(folder)))
+    mine = tmp_path / "mine.toml"
+    mine.write_text(text)
+    ran = run_ladder("play", mine, "--program", program)
+    assert ran.returncode == 1
+    assert ran.stderr.startswith("ladder: the file of r0001-t001 has not begun as this ladder")
+
+
+def test_hosts_that_die_at_once_are_given_up(config: Path, tmp_path: Path) -> None:
+    """A program that is broken is started six times, and no seventh time."""
+    program, starts = tmp_path / "broken", tmp_path / "starts"
+    program.write_text(f"#!/bin/sh\necho x >> {starts}\nexit 7\n")
+    program.chmod(0o755)
+    mine = tmp_path / "mine.toml"
+    mine.write_text(config.read_text().replace("results", "given-up"))
+    ran = run_ladder("play", mine, "--program", program)
+    assert ran.returncode == 1
+    death = "ladder: arena live ended with status 7"
+    assert ran.stderr.splitlines() == [f"{death}; its games go on in another"] * 5 + [death]
+    assert len(starts.read_text().splitlines()) == 6
+
+
+def test_faults_are_one_line(program: Path, config: Path, tmp_path: Path) -> None:
+    text = config.read_text().replace("results", "faults")
+    config = tmp_path / "faults.toml"
+    config.write_text(text)
+    cases = [
+        (("play", tmp_path / "none.toml"), "No such file or directory"),
+        (("play", config, "--program", tmp_path / "none"), "there is no program"),
+        (("play", config, "--program", shutil.which("false")), "arena live ended with status 1"),
+        (("standings", tmp_path), "has no results of a ladder"),
+        (("check", tmp_path, "--program", program), "has no results of a ladder"),
+        (("merge", tmp_path / "x", tmp_path), "has no results of a ladder"),
+    ]
+    for words, why in cases:
+        ran = run_ladder(*words)
+        assert ran.returncode == 1 and why in ran.stderr
+        assert ran.stderr.startswith("ladder: ") and "Traceback" not in ran.stderr

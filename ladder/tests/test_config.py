@@ -1,0 +1,85 @@
+"""What a configuration may say, and what is refused, with its reason."""
+
+from __future__ import annotations
+
+from pathlib import Path
+from typing import Any
+
+import pytest
+
+from ladder.config import ConfigFault, Rules, config_again, config_of, read_config
+
+BOTS = [{"name": f"bot{at}", "url": f"http://127.0.0.1:80{at:02}/"} for at in range(8)]
+
+
+def table(**members: Any) -> dict[str, Any]:
+    return {"folder": "out/x", "bot": BOTS, **members}
+
+
+def test_what_is_left_out_is_usual() -> None:
+    config = config_of(table(), "here")
+    assert config.rules == Rules("standard", 11, 11, 1, 15, 10_000)
+    assert (config.pairing, config.snakes, config.rounds) == ("round_robin", 2, 1)
+    assert (config.at_once, config.timeout, config.seed) == (64, 500, 1)
+    assert config.bots[3].url == "http://127.0.0.1:8003"
+    assert config_of(table(pairing="tables"), "here").snakes == 4
+    assert config_of(table(mode="solo"), "here").snakes == 1
+
+
+@pytest.mark.parametrize(
+    ("members", "why"),
+    [
+        ({"width": 2}, "width is 2, and has to be a number from 3 to 25"),
+        ({"rounds": True}, "rounds is True"),
+        ({"rounds": 1.0}, "rounds is 1.0"),
+        ({"mode": "royale"}, "mode is 'royale', and has to be one of standard, solo"),
+        ({"mode": ["solo"]}, "mode is"),
+        ({"snakes": 1}, "snakes is 1, and has to be a number from 2 to 8"),
+        ({"snakes": 9}, "snakes is 9"),
+        ({"width": 3, "height": 3, "snakes": 5}, "snakes is 5, and has to be a number from 2 to 4"),
+        ({"pairing": "duels", "snakes": 4}, "a duel has 2 snakes"),
+        ({"at_once": 65}, "at_once is 65"),
+        ({"sead": 4}, "nobody knows sead"),
+        ({"folder": ""}, "folder is missing or no text"),
+        ({"bot": []}, "1 to 200 tables"),
+        ({"bot": BOTS[:1]}, "a game of 2 snakes wants as many bots"),
+        ({"bot": [BOTS[0], BOTS[0]]}, "two bots are named bot0"),
+        ({"bot": [{**BOTS[0], "key": 1}]}, "nobody knows key"),
+        ({"bot": [{**BOTS[0], "name": "../up"}]}, "the name '../up' is not"),
+        ({"bot": [{**BOTS[0], "name": "<b>"}]}, "the name '<b>' is not"),
+        ({"bot": [{**BOTS[0], "name": "x" * 33}]}, "is not 1 to 32 letters"),
+        ({"bot": [{**BOTS[0], "name": "a\n"}]}, "is not 1 to 32 letters"),
+        ({"bot": [{**BOTS[0], "url": "file:///etc/passwd"}]}, "is no address"),
+        ({"bot": [{**BOTS[0], "url": "http://"}]}, "is no address"),
+        ({"bot": [{**BOTS[0], "url": "http://a:99999/"}]}, "is no address"),
+        ({"bot": [{**BOTS[0], "url": "http://a/?x=1"}]}, "is no address"),
+        ({"bot": [{**BOTS[0], "url": "http://a/ b"}]}, "is no address"),
+    ],
+)
+def test_faults_are_told(members: dict[str, Any], why: str) -> None:
+    with pytest.raises(ConfigFault, match="^here: ") as fault:
+        config_of(table(**members), "here")
+    assert why in str(fault.value)
+
+
+def test_file_that_is_no_toml_is_told(tmp_path: Path) -> None:
+    path = tmp_path / "x.toml"
+    with pytest.raises(ConfigFault, match="No such file"):
+        read_config(path)
+    path.write_text("folder = ")
+    with pytest.raises(ConfigFault, match="x.toml: "):
+        read_config(path)
+
+
+def test_identity_is_what_decides_the_games() -> None:
+    config = config_of(table(rounds=3), "here")
+    same = config_of(table(rounds=9, at_once=2, bot=[{**it, "url": "http://b"} for it in BOTS]), "")
+    assert same.identity == config.identity
+    assert config_of(table(seed=2), "").identity != config.identity
+    assert config_of(table(timeout=100), "").identity != config.identity
+    assert config_again(config.identity, Path("x"), 3).identity == config.identity
+
+
+def test_the_example_can_be_read() -> None:
+    config = read_config(Path(__file__).parent.parent / "five.toml")
+    assert len(config.bots) == 5

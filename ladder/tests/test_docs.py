@@ -1,0 +1,46 @@
+"""What docs/LADDER.md shows, done as it stands."""
+
+from __future__ import annotations
+
+import re
+import subprocess
+import sys
+from pathlib import Path
+
+from served import Served, run_ladder
+
+from ladder.config import read_config
+
+ROOT = Path(__file__).resolve().parent.parent.parent
+PAGE = (ROOT / "docs" / "LADDER.md").read_text()
+
+
+def test_simulator_prints_what_the_page_says(program: Path) -> None:
+    code = re.search(r"```python\n(.*?)```", PAGE, re.DOTALL)[1]
+    assert len([line for line in code.splitlines() if line]) <= 20
+    code = code.replace("Host(blocks=384)", f"Host(blocks=384, program={str(program)!r})")
+    ran = subprocess.run(
+        [sys.executable, "-"], input=code, capture_output=True, text=True, cwd=ROOT
+    )
+    assert ran.stderr == ""
+    assert f"`{ran.stdout.strip()}`" in PAGE
+
+
+def test_five_bots_come_to_the_standings_of_the_page(
+    program: Path, small_bots: Served, tmp_path: Path
+) -> None:
+    """Games, results, turns and ratings are those of the page; times are not compared."""
+    example = ROOT / "ladder" / "five.toml"
+    bots = read_config(example).bots
+    text = example.read_text().replace(
+        "http://127.0.0.1:8001", f"http://127.0.0.1:{small_bots.port}"
+    )
+    config = tmp_path / "five.toml"
+    config.write_text("timeout = 5000\n" + text.replace("out/five", str(tmp_path / "five")))
+    ran = run_ladder("play", config, "--program", program)
+    assert ran.returncode == 0, ran.stderr
+    table = run_ladder("standings", tmp_path / "five").stdout.splitlines()
+    assert len(table) == len(bots) + 1
+    for line in table[1:]:
+        numbers = " +".join(line.split()[:7])
+        assert re.search(rf"^    {numbers} ", PAGE, re.MULTILINE), line

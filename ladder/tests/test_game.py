@@ -1,0 +1,190 @@
+"""Games in this process: what bots are asked, and games that go on from files cut anywhere."""
+
+from __future__ import annotations
+
+import asyncio
+import json
+import random
+from collections.abc import Sequence
+from dataclasses import dataclass, field
+from pathlib import Path
+from typing import Any
+
+import pytest
+from aiohttp import web
+
+from ladder import game
+from ladder.config import Config, config_of
+from ladder.game_files import GameFiles, LineFile, make_folders
+from ladder.host import Board
+from ladder.outcome import Outcome
+from ladder.pairing import Fixture, Part
+from ladder.play import Job, play
+from ladder.store import Store
+from ladder.watch import Watch
+
+NAMES = ("left", "right")
+NAME = "r0001-t001"
+STEPS = ("up", "left", "down", "right")  # a bot that goes round a square
+CUTS = 12
+
+
+@dataclass
+class Bots:
+    """Bots in this process that go round in squares, say so, and keep what they are asked."""
+
+    asked: list[tuple[str, str, dict[str, Any]]] = field(default_factory=list)
+    port: int = 0
+
+    async def answer(self, request: web.Request) -> web.Response:
+        bot, what = request.match_info["bot"], request.match_info["what"]
+        state = json.loads(await request.text()) if request.can_read_body else {}
+        self.asked.append((bot, what, state))
+        if what != "move":
+            return web.json_response({"apiversion": "1", "color": "#123456"})
+        turn = state["turn"]
+        return web.json_response({"move": STEPS[turn % 4], "shout": f"{bot} in turn {turn}"})
+
+    async def __aenter__(self) -> Bots:
+        app = web.Application()
+        app.add_routes([web.route("*", "/{bot}/{what:.*}", self.answer)])
+        self.runner = web.AppRunner(app, access_log=None)
+        await self.runner.setup()
+        await web.TCPSite(self.runner, "127.0.0.1", 0).start()
+        self.port = self.runner.addresses[0][1]
+        return self
+
+    async def __aexit__(self, *_: object) -> None:
+        await self.runner.cleanup()
+
+    def requests(self, bot: str, what: str) -> list[dict[str, Any]]:
+        return [state for name, path, state in self.asked if (name, path) == (bot, what)]
+
+
+def config_for(folder: Path, port: int, **members: Any) -> Config:
+    bots = [{"name": name, "url": f"http://127.0.0.1:{port}/{name}"} for name in NAMES]
+    usual = {"folder": str(folder), "bot": bots, "turns": 30, "timeout": 5000, "food_chance": 60}
+    return config_of({**usual, **members}, "here")
+
+
+async def played(config: Config, program: Path, watches: Sequence[Watch] = ()) -> list[Outcome]:
+    """Plays a ladder in this process, and returns its games."""
+    make_folders(config.folder)
+    store = Store(config.folder)
+    try:
+        await play(Job(config, config.folder, Part(1, 1), program), store, watches)
+        return list(store.outcomes())
+    finally:
+        store.close()
+
+
+class Breaks(Watch):
+    """Breaks a run off when a turn has been played."""
+
+    def __init__(self, turn: int) -> None:
+        self.turn = turn
+
+    def show(self, fixture: Fixture, board: Board) -> None:
+        if board["turn"] == self.turn:
+            raise InterruptedError
+
+
+def run(work: Any) -> Any:
+    return asyncio.run(asyncio.wait_for(work, 120))
+
+
+def test_bots_are_told_what_the_api_says(program: Path, tmp_path: Path) -> None:
+    """A start, a request a turn with what all did last, and an end, for each bot."""
+
+    async def work() -> None:
+        async with Bots() as bots:
+            (outcome,) = await played(config_for(tmp_path / "x", bots.port), program)
+            for name in NAMES:
+                moves = bots.requests(name, "move")
+                assert len(bots.requests(name, "")) == 1
+                assert [it["turn"] for it in bots.requests(name, "start")] == [0]
+                assert [it["turn"] for it in moves] == list(range(outcome.turns))
+                (end,) = bots.requests(name, "end")
+                assert end["turn"] == outcome.turns == 30
+                assert {it["game"]["id"] for it in moves} == {NAME}
+                assert {it["you"]["id"] for it in moves} == {name}
+                shouts = [
+                    {it["id"]: it["shout"] for it in each["board"]["snakes"]} for each in moves
+                ]
+                assert shouts[0] == {bot: "" for bot in NAMES}
+                for turn, told in enumerate(shouts[1:]):
+                    assert told == {bot: f"{bot} in turn {turn}" for bot in NAMES}
+                looks = [it["customizations"]["color"] for it in end["board"]["snakes"]]
+                assert looks == ["#123456"] * 2
+
+    run(work())
+
+
+def test_resumed_game_tells_what_was_said_before(program: Path, tmp_path: Path) -> None:
+    """After a break bots hear the shouts of the turn before it, and no second start."""
+
+    async def work() -> None:
+        async with Bots() as bots:
+            config = config_for(tmp_path / "x", bots.port)
+            with pytest.raises(InterruptedError):
+                await played(config, program, [Breaks(11)])
+            await played(config, program)
+            moves = bots.requests("left", "move")
+            assert [it["turn"] for it in moves] == list(range(30))
+            snakes = {it["id"]: it for it in moves[11]["board"]["snakes"]}
+            assert snakes["right"]["shout"] == "right in turn 10"
+            assert len(bots.requests("left", "start")) == len(bots.requests("left", "end")) == 1
+
+    run(work())
+
+
+@pytest.mark.parametrize("free_at", [10_000_000, 400])
+def test_game_goes_on_from_a_file_that_was_cut_anywhere(
+    program: Path, tmp_path: Path, monkeypatch: pytest.MonkeyPatch, free_at: int
+) -> None:
+    """Cut at drawn bytes, also within a line, the file becomes what it was, records freed or not."""
+    monkeypatch.setattr(game, "FREE_AT", free_at)
+
+    async def work() -> None:
+        async with Bots() as bots:
+            whole = await played(config_for(tmp_path / "whole", bots.port), program)
+            text = (tmp_path / "whole" / "games" / f"{NAME}.jsonl").read_bytes()
+            assert (b'"do":"free"' in text) == (free_at == 400)
+            draw = random.Random(5)
+            ends = [at + 1 for at, byte in enumerate(text) if byte == 10]
+            cuts = [draw.randrange(len(text)) for _ in range(CUTS)] + draw.sample(ends, CUTS)
+            for cut in cuts:
+                config = config_for(tmp_path / str(cut), bots.port)
+                make_folders(config.folder)
+                path = config.folder / "games" / f"{NAME}.jsonl"
+                path.write_bytes(text[:cut])
+                assert await played(config, program) == whole
+                assert path.read_bytes() == text
+
+    run(work())
+
+
+def test_quota_is_never_exceeded(program: Path, tmp_path: Path) -> None:
+    """Eight snakes that fill a board of 25 by 25 for long are freed before the quota is full."""
+    assert game.FREE_AT + 161_885 < 1_835_007  # the longest record, docs/FORMATS.md
+
+
+def test_line_files_have_whole_lines_alone(tmp_path: Path) -> None:
+    path = tmp_path / "lines"
+    path.write_bytes(b"one\ntwo\nthr")
+    file = LineFile(path)
+    assert file.lines == [b"one\n", b"two\n"]
+    file.write(b"three\n")
+    file.cut(1)
+    file.close()
+    assert path.read_bytes() == b"one\n"
+
+
+def test_answers_of_turns_without_a_move_are_forgotten(tmp_path: Path) -> None:
+    make_folders(tmp_path)
+    with GameFiles(tmp_path, NAME) as files:
+        files.commands.write(b'{"game":"x","do":"move","moves":{},"words":[]}\n')
+        for _ in range(2):
+            files.add_answers({})
+    with GameFiles(tmp_path, NAME) as files:
+        assert (len(files.old_lines), files.old_answers()) == (1, [{}])

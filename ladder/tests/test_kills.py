@@ -1,0 +1,177 @@
+"""Ladders, hosts and bots that are killed at drawn moments, and ladders that are called again."""
+
+from __future__ import annotations
+
+import os
+import random
+import signal
+import subprocess
+import time
+from collections.abc import Callable
+from dataclasses import dataclass
+from pathlib import Path
+from typing import Any
+
+import pytest
+from served import (
+    SMALL,
+    Served,
+    bytes_played,
+    children_of,
+    files_of,
+    is_running,
+    run_ladder,
+    serve_small,
+    standings_without_times,
+    start_play,
+    write_config,
+)
+
+SEED = 20261127
+LONGEST = 120  # seconds of a run
+GAMES = 10
+
+
+@dataclass(frozen=True)
+class Undisturbed:
+    """What a run came to that nobody disturbed."""
+
+    files: dict[str, bytes]
+    standings: list[dict[str, Any]]
+
+    @property
+    def size(self) -> int:
+        return sum(map(len, self.files.values()))
+
+
+def config_in(folder: Path, bots: Served, **members: Any) -> Path:
+    """The configuration of ten games, four at once, with results in a folder of that folder."""
+    return write_config(
+        folder / "small.toml",
+        [(name, bots.url(name)) for name in SMALL],
+        **{
+            "folder": str(folder / "results"),
+            "at_once": 4,
+            "turns": 80,
+            "timeout": 5000,
+            **members,
+        },
+    )
+
+
+@pytest.fixture(scope="module")
+def undisturbed(
+    program: Path, small_bots: Served, tmp_path_factory: pytest.TempPathFactory
+) -> Undisturbed:
+    folder = tmp_path_factory.mktemp("undisturbed")
+    ran = run_ladder("play", config_in(folder, small_bots), "--program", program)
+    assert ran.returncode == 0, ran.stderr
+    return Undisturbed(files_of(folder / "results"), standings_without_times(folder / "results"))
+
+
+def wait_for(process: subprocess.Popen[str], is_so: Callable[[], bool]) -> None:
+    """Waits until something is so; the process has to run meanwhile."""
+    ends = time.monotonic() + LONGEST
+    while not is_so():
+        assert process.poll() is None and time.monotonic() < ends
+        time.sleep(0.001)
+
+
+def drawn_moments(kind: str, count: int, size: int) -> list[int]:
+    """Drawn numbers of bytes of command files, from nothing to nearly all."""
+    draw = random.Random(f"{SEED} {kind}")
+    return [draw.randrange(size * 19 // 20) for _ in range(count)]
+
+
+def assert_same(folder: Path, expected: Undisturbed, program: Path) -> None:
+    """Files and standings are those of the undisturbed run, and all games agree."""
+    assert files_of(folder) == expected.files
+    assert standings_without_times(folder) == expected.standings
+    assert not list((folder / "running").iterdir())
+    assert run_ladder("check", folder, "--program", program).returncode == 0
+
+
+def test_ladder_that_is_killed_goes_on(
+    program: Path, small_bots: Served, undisturbed: Undisturbed, kills: int, tmp_path: Path
+) -> None:
+    for at, moment in enumerate(drawn_moments("ladder", kills, undisturbed.size)):
+        folder = tmp_path / str(at)
+        folder.mkdir()
+        config = config_in(folder, small_bots)
+        process = start_play(config, program)
+        wait_for(process, lambda: bytes_played(folder / "results") > moment)
+        hosts = children_of(process.pid)
+        process.kill()
+        process.communicate()
+        again = run_ladder("play", config, "--program", program)
+        assert (again.returncode, again.stderr) == (0, "")
+        assert again.stdout.startswith(f"ladder: {GAMES} of {GAMES} games are done, ")
+        assert_same(folder / "results", undisturbed, program)
+        assert not any(map(is_running, hosts)), "a host outlived its ladder"
+
+
+def test_host_that_is_killed_is_followed_by_another(
+    program: Path, small_bots: Served, undisturbed: Undisturbed, kills: int, tmp_path: Path
+) -> None:
+    for at, moment in enumerate(drawn_moments("host", kills, undisturbed.size)):
+        folder = tmp_path / str(at)
+        folder.mkdir()
+        process = start_play(config_in(folder, small_bots), program)
+        wait_for(process, lambda: bytes_played(folder / "results") > moment)
+        (host,) = children_of(process.pid)
+        os.kill(host, signal.SIGKILL)
+        out, error = process.communicate(timeout=LONGEST)
+        assert process.returncode == 0, error
+        assert error == "ladder: arena live ended with status -9; its games go on in another\n"
+        assert_same(folder / "results", undisturbed, program)
+
+
+def test_ladder_that_is_interrupted_says_so(
+    program: Path, small_bots: Served, undisturbed: Undisturbed, tmp_path: Path
+) -> None:
+    config = config_in(tmp_path, small_bots)
+    process = start_play(config, program)
+    wait_for(process, lambda: bytes_played(tmp_path / "results") > undisturbed.size // 3)
+    process.send_signal(signal.SIGTERM)
+    _, error = process.communicate(timeout=LONGEST)
+    assert (process.returncode, error) == (130, "ladder: stopped; the same command goes on\n")
+    assert run_ladder("play", config, "--program", program).returncode == 0
+    assert_same(tmp_path / "results", undisturbed, program)
+
+
+def test_second_ladder_in_a_folder_is_refused(
+    program: Path, small_bots: Served, tmp_path: Path
+) -> None:
+    config = config_in(tmp_path, small_bots)
+    process = start_play(config, program)
+    wait_for(process, lambda: bytes_played(tmp_path / "results") > 0)
+    second = run_ladder("play", config, "--program", program)
+    assert second.returncode == 1
+    assert second.stderr == f"ladder: another ladder is playing in {tmp_path / 'results'}\n"
+    process.kill()
+    process.communicate()
+
+
+def test_bots_that_die_lose_and_hold_up_no_game(
+    program: Path, small_bots: Served, tmp_path: Path
+) -> None:
+    """Once the process of two bots has died, their moves are refused, and all games end."""
+    with serve_small() as mortal:
+        bots = [("dying1", mortal.url("fleer")), ("dying2", mortal.url("seeker"))]
+        bots += [(name, small_bots.url(name)) for name in SMALL[:3]]
+        config = write_config(
+            tmp_path / "dying.toml", bots, folder=str(tmp_path / "results"), timeout=5000, turns=60
+        )
+        process = start_play(config, program)
+        wait_for(process, lambda: bytes_played(tmp_path / "results") > 20_000)
+    out, error = process.communicate(timeout=LONGEST)
+    assert (process.returncode, error) == (0, "")
+    rows = {row["bot"]: row for row in standings_without_times(tmp_path / "results")}
+    for name, row in rows.items():
+        if name.startswith("dying"):
+            assert row["refused"] > 0 and row["missed"] == row["refused"] + row["cut"]
+            assert row["losses"] > 0
+        else:
+            assert row["missed"] == 0
+    checked = run_ladder("check", tmp_path / "results", "--program", program)
+    assert checked.stdout == "10 of 10 games agree\n"

@@ -1,0 +1,173 @@
+"""The page of a run: its events, its addresses, and what a browser shows of it."""
+
+from __future__ import annotations
+
+import asyncio
+import json
+import re
+import shutil
+import socket
+import subprocess
+import time
+import urllib.error
+import urllib.request
+from collections.abc import Iterator
+from contextlib import contextmanager
+from pathlib import Path
+from typing import Any
+
+import pytest
+from served import Served, start_play, write_config
+from testing import chromium  # of viewer/
+
+from ladder.feed import MOST_READERS, MOST_WAITING, Feed
+from ladder.page import Address, address_of, page
+from ladder.pairing import Fixture
+
+GAME = Fixture("r0001-t001", 1, ("a", "b"))
+DRAWN = """
+const article = document.querySelector('article');
+return article && [article.dataset.game, article.querySelector('.turn').textContent, article.querySelector('.body').getAttribute('d')];
+"""
+
+
+def test_addresses_are_of_this_machine_unless_another_is_named() -> None:
+    assert address_of("8080") == Address("127.0.0.1", 8080)
+    assert address_of("0.0.0.0:8080") == Address("0.0.0.0", 8080)
+    assert address_of("[::1]:8080") == Address("::1", 8080)
+    for word in ("", "port", "127.0.0.1", "1.2.3.4:", "70000", "-1", "127.0.0.1:x"):
+        with pytest.raises(ValueError, match="no port"):
+            address_of(word)
+
+
+def told(raw: bytes | None) -> tuple[str, Any]:
+    """The kind of an event and what it tells."""
+    assert raw is not None
+    kind, data = re.fullmatch(rb"event: (\w+)\ndata: (.*)\n\n", raw).groups()
+    return kind.decode(), json.loads(data)
+
+
+def test_readers_are_told_what_changed() -> None:
+    async def work() -> None:
+        feed = Feed(lambda: [{"bot": "a"}], lambda: "one <line>\nand more")
+        feed.show(GAME, {"turn": 0})
+        reader = feed.join()
+        kind, state = told(reader.events.get_nowait())
+        assert (kind, state["boards"]) == ("all", {GAME.name: {"turn": 0}})
+        feed.show(GAME, {"turn": 1})
+        feed.show(GAME, {"turn": 2})
+        await feed.tick()
+        kind, state = told(reader.events.get_nowait())
+        assert (kind, state["boards"]) == ("changes", {GAME.name: {"turn": 2}})
+        assert state["standings"] == [{"bot": "a"}]
+        await feed.tick()
+        assert told(reader.events.get_nowait())[1]["boards"] == {}
+        await feed.close()
+        assert told(reader.events.get_nowait())[0] == "end"
+        assert reader.events.get_nowait() is None
+
+    asyncio.run(work())
+
+
+def test_slow_readers_are_let_go_and_too_many_are_refused() -> None:
+    async def work() -> None:
+        feed = Feed(list, str)
+        readers = [feed.join() for _ in range(MOST_READERS)]
+        assert None not in readers and feed.join() is None
+        for _ in range(MOST_WAITING):
+            await feed.tick()
+        assert not feed.readers
+        assert readers[0].events.get_nowait() is None
+
+    asyncio.run(work())
+
+
+def test_only_the_files_of_the_page_are_served() -> None:
+    async def get(url: str) -> tuple[int, dict[str, str]]:
+        opener = urllib.request.build_opener(urllib.request.ProxyHandler({}))
+
+        def ask() -> tuple[int, dict[str, str]]:
+            try:
+                with opener.open(url, timeout=20) as answer:
+                    return answer.status, dict(answer.headers)
+            except urllib.error.HTTPError as fault:
+                return fault.code, dict(fault.headers)
+
+        return await asyncio.to_thread(ask)
+
+    async def work() -> None:
+        async with page(Feed(list, str), Address("127.0.0.1", 0)) as address:
+            for path in ("", "page.js", "page.css", "drawing/boards.js", "drawing/drawing.css"):
+                status, headers = await get(f"{address}{path}")
+                assert status == 200
+                assert "default-src 'none'; script-src 'self'" in headers["Content-Security-Policy"]
+            for path in ("page.py", "drawing/../viewer.js", "drawing/%2e%2e/viewer.js", "drawing/"):
+                assert (await get(f"{address}{path}"))[0] in (403, 404)
+
+    asyncio.run(work())
+
+
+def test_page_is_on_this_machine_alone() -> None:
+    async def work() -> list[str]:
+        async with page(Feed(list, str), Address("127.0.0.1", 0)) as address:
+            listening = await asyncio.to_thread(Path("/proc/net/tcp").read_text)
+            return re.findall(rf"\d: (\w+):{address.port:04X} \w+:0000 0A", listening)
+
+    assert asyncio.run(work()) == ["0100007F"]
+
+
+@pytest.fixture(scope="module")
+def browser() -> Iterator[chromium.Browser]:
+    try:
+        chromium.install()
+    except chromium.NotToBeHad as fault:
+        pytest.skip(f"Chromium is missing and can't be installed ({fault})")
+    opened = chromium.Browser()
+    yield opened
+    opened.close()
+
+
+@contextmanager
+def playing(program: Path, config: Path) -> Iterator[tuple[subprocess.Popen[str], str]]:
+    """Plays a ladder with a page; entered with its address."""
+    process = start_play(config, program, "--page", "0")
+    try:
+        assert process.stderr is not None
+        line = process.stderr.readline()
+        yield process, re.fullmatch(r"ladder: the page is (http://127\.0\.0\.1:\d+/)\n", line)[1]
+    finally:
+        process.kill()
+        process.communicate()
+
+
+def test_board_moves_while_its_game_runs(
+    program: Path, faulty_bots: Served, browser: chromium.Browser, tmp_path: Path
+) -> None:
+    """Bots whose colour and head are markup move on the page; then the page tells the end."""
+    config = write_config(
+        tmp_path / "slow.toml",
+        [(name, faulty_bots.url("calm")) for name in ("one", "two", "three")],
+        folder=str(tmp_path / "results"),
+        timeout=5000,
+        turns=60,
+    )
+    with playing(program, config) as (process, address):
+        browser.complaints()
+        browser.go(address)
+        seen = [browser.wait(f"return (() => {{ {DRAWN} }})()")]
+        for _ in range(2):
+            last = json.dumps(seen[-1])
+            moved = f"const it = (() => {{ {DRAWN} }})(); return it && it[0] === {last}[0] && it[2] !== {last}[2] && it"
+            seen.append(browser.wait(moved))
+        turns = [int(turn.removeprefix("turn ")) for _, turn, _ in seen]
+        assert turns == sorted(set(turns))
+        browser.wait("return document.body.dataset.state === 'ended'", seconds=90)
+        rows = browser.run(
+            "return [...document.querySelectorAll('#standings tbody tr')].map((row) => [...row.cells].map((cell) => cell.textContent))"
+        )
+        assert sorted(row[0] for row in rows) == ["one", "three", "two"]
+        assert [row[1] for row in rows] == ["2"] * 3
+        assert browser.run("return document.querySelectorAll('article').length") == 0
+        assert browser.run("return document.querySelectorAll('script').length") == 5
+        assert browser.complaints() == []
+        assert process.wait(timeout=60) == 0

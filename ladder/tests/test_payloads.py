@@ -1,0 +1,88 @@
+"""The bodies of requests, held against the official API's members."""
+
+from __future__ import annotations
+
+import json
+from typing import Any
+
+from ladder.config import config_of
+from ladder.payloads import Look, Seat, bodies, game_text
+
+BOARD: dict[str, Any] = {
+    "food": [{"x": 5, "y": 5}],
+    "food_chance": 15,
+    "height": 11,
+    "min_food": 1,
+    "mode": "standard",
+    "over": False,
+    "snakes": [
+        {
+            "body": [{"x": 0, "y": 0}, {"x": 1, "y": 0}, {"x": 2, "y": 0}],
+            "by": None,
+            "cause": None,
+            "health": 54,
+            "id": "one",
+            "out": None,
+        },
+        {
+            "body": [{"x": 5, "y": 11}, {"x": 5, "y": 10}, {"x": 5, "y": 9}],
+            "by": None,
+            "cause": "wall-collision",
+            "health": 16,
+            "id": "two",
+            "out": 14,
+        },
+    ],
+    "turn": 14,
+    "width": 11,
+}
+
+
+def test_bodies_are_those_of_the_official_api() -> None:
+    bots = [{"name": name, "url": "http://127.0.0.1:1"} for name in ("one", "two")]
+    config = config_of({"folder": "x", "bot": bots, "timeout": 400}, "here")
+    seats = {
+        "one": Seat("one", Look("#FF0000", "smart", "curled"), 123, 'why "are" we <shouting>??'),
+        "two": Seat("two", latency=400),
+    }
+    found = [
+        json.loads(body)
+        for body in bodies(game_text(config, "r0001-t001"), BOARD, seats, ["one", "two"])
+    ]
+    one = {
+        "id": "one",
+        "name": "one",
+        "health": 54,
+        "body": [{"x": 0, "y": 0}, {"x": 1, "y": 0}, {"x": 2, "y": 0}],
+        "latency": "123",
+        "head": {"x": 0, "y": 0},
+        "length": 3,
+        "shout": 'why "are" we <shouting>??',
+        "squad": "",
+        "customizations": {"color": "#FF0000", "head": "smart", "tail": "curled"},
+    }
+    assert found[0] == {
+        "game": {
+            "id": "r0001-t001",
+            "ruleset": {
+                "name": "standard",
+                "version": "v1.0.0",
+                "settings": {"foodSpawnChance": 15, "minimumFood": 1, "hazardDamagePerTurn": 0},
+            },
+            "map": "standard",
+            "timeout": 400,
+            "source": "league",
+        },
+        "turn": 14,
+        "board": {
+            "height": 11,
+            "width": 11,
+            "food": [{"x": 5, "y": 5}],
+            "hazards": [],
+            "snakes": [one],
+        },
+        "you": one,
+    }
+    assert found[1]["board"] == found[0]["board"]
+    assert found[1]["you"]["head"] == {"x": 5, "y": 11}
+    assert found[1]["you"]["latency"] == "400"

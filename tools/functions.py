@@ -1,0 +1,48 @@
+"""Which function of a source file a place lies in, and the files by which it is proved by hand."""
+import re
+
+BY_HAND = ("Answers.antt", "Proof.antt", "Invariants.antt")
+FUNCTION = re.compile(
+    r"^( *)(?:pub(?:\([a-z]+\))? +)?(?:const +)?(?:unsafe +)?fn +([a-z_0-9]+)", re.M
+)
+IMPL = re.compile(
+    r"^(?:unsafe )?impl(?:<[^{]*?>)? +(?:[A-Za-z:]+(?:<[^{]*?>)? +for +)?([A-Za-z]+)", re.M
+)
+
+
+def function_at(text, place):
+    """The type, or "", and the name of the function around a place of a file."""
+    before = text[:place]
+    heads, impls = list(FUNCTION.finditer(before)), list(IMPL.finditer(before))
+    is_open = impls and not re.search(r"^}", before[impls[-1].end() :], re.M)
+    return impls[-1][1] if is_open else "", heads[-1][2] if heads else ""
+
+
+def function_on(text, line):
+    """The type, or "", and the name of the function that the line of that number is part of, from
+    its first word to its last bracket, or None."""
+    starts = [0] + [found.end() for found in re.finditer("\n", text)]
+    if not 1 <= line <= len(starts):
+        return None
+    start = starts[line - 1]
+    end = text.find("\n", start)
+    heads = list(FUNCTION.finditer(text[: end if end >= 0 else len(text)]))
+    if not heads:
+        return None
+    close = re.compile(rf"^{heads[-1][1]}}}", re.M).search(text, heads[-1].end())
+    is_within = not close or start <= close.start()
+    return function_at(text, heads[-1].end()) if is_within else None
+
+
+def proofs_of(crate, source, kind, name):
+    """The files by which a function of a source file is proved by hand. The folder of one with
+    closures ends with its name."""
+    module = source.relative_to(crate / "src").with_suffix("")
+    folder = crate / "proofs" if module.name == "lib" else crate / "proofs" / module
+    found = [
+        f
+        for file in BY_HAND
+        for f in folder.glob(f"**/{file}")
+        if f.parent.name == name or f.parent.name.endswith(f"+{name}")
+    ]
+    return [f for f in found if not kind or kind in f.parts or f.parent.parent == folder]

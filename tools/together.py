@@ -1,0 +1,204 @@
+"""Tries the edits of a crate side by side: in one check all those whose functions differ.
+
+A check goes on after a function that it refuses, and says where each refusal is. So an edit counts
+as refused only by a refusal of its own function: a place inside it, its own line among what is not
+proved, or an error in the proof that is written for it by hand. An edit whose own refusal is not
+shown, such as one whose callee was refused and whose own goals therefore waited, is tried again
+beside others of that kind, and at last alone.
+"""
+import os
+import re
+import subprocess
+from dataclasses import dataclass, field
+from pathlib import Path
+
+from copies import pairs
+from functions import function_on, proofs_of
+
+PLACE = re.compile(r"^(?:note: )?(?:\./)?((?:src|proofs)/\S+?):(\d+):\d+: (.*)$")
+LISTED = re.compile(r"^fn (\S+): (?:not proved|no proof)(.*)$", re.M)
+NOT_PROVED = re.compile(r"^logic=not-proved", re.M)
+# Words by which a text could not be read, or not be proved for a fault of the prover's own.
+UNREAD = re.compile(
+    r"is not in scope|has no field|is no name|operand is missing|expected the end|a bug in rattle"
+)
+
+
+@dataclass
+class Edit:
+    """An edit of function bodies."""
+
+    file: Path
+    path: str
+    pairs: list
+    functions: set  # file, and type and name, of each that is changed
+    touched: set  # with those in which only spaces change
+
+
+@dataclass
+class Group:
+    """Edits of functions that all differ, and the texts with all of them applied."""
+
+    edits: list = field(default_factory=list)
+    texts: dict = field(default_factory=dict)
+
+    def add(self, edit, crate):
+        """Adds the edit where its functions are free and its words still stand once."""
+        if any(edit.touched & other.touched for other in self.edits):
+            return False
+        text = self.texts.get(edit.path) or (crate / edit.path).read_text()
+        for old, new in edit.pairs:
+            if text.count(old) != 1:
+                return False
+            text = text.replace(old, new)
+        self.texts[edit.path] = text
+        self.edits.append(edit)
+        return True
+
+
+def read(file, crate):
+    """The edit, or None where it changes something else than the body of a function."""
+    path, changes = pairs(file)
+    if not path.startswith("src/"):
+        return None
+    text, functions, touched = (crate / path).read_text(), set(), set()
+    for old, new in changes:
+        at = text.find(old) + len(old) - len(old.lstrip())
+        here = function_on(text, text.count("\n", 0, at) + 1)
+        is_change = old.strip() != new.strip()
+        if here is None and is_change:
+            return None
+        touched.add((path, here))
+        functions |= {(path, here)} if is_change else set()
+        text = text.replace(old, new)
+    return Edit(file, path, changes, functions, touched)
+
+
+def groups_of(edits, crate, is_shared=True):
+    """A few groups, of edits whose functions differ; or a group for each edit."""
+    groups = []
+    for edit in edits:
+        if not (is_shared and any(group.add(edit, crate) for group in groups)):
+            groups.append(Group())
+            groups[-1].add(edit, crate)
+    return groups
+
+
+def check(folder, texts):
+    """What rt says of the crate in the folder with these texts in place of its own."""
+    kept = {path: (folder / path).read_text() for path in texts}
+    for path, text in texts.items():
+        (folder / path).write_text(text)
+    how = {"stdout": subprocess.PIPE, "stderr": subprocess.STDOUT, "text": True}
+    ran = subprocess.run(["rt", "check", "--jobs", "1"], cwd=folder, **how)
+    for path, text in kept.items():
+        (folder / path).write_text(text)
+    return ran.returncode == 0, ran.stdout
+
+
+def is_listed(edit, function):
+    """Whether a line of rt that lists this function means one that the edit changes."""
+    parts = re.split(r"::", re.sub(r"<.*?>", "", function))
+    for path, (kind, name) in edit.functions:
+        modules = [it for it in Path(path).with_suffix("").parts[1:] if it not in ("lib", "main")]
+        if parts[-1] == name and all(it in parts for it in [*modules, *[kind] * bool(kind)]):
+            return True
+    return False
+
+
+def refusal(edit, said, texts, crate):
+    """The first words by which one of the edit's own functions is refused, or None."""
+    by_hand = [
+        str(file.relative_to(crate))
+        for path, (kind, name) in edit.functions
+        for file in proofs_of(crate, crate / path, kind, name)
+    ]
+    for line in said.splitlines():
+        found = PLACE.match(line)
+        if not found:
+            continue
+        path, number, words = found[1], int(found[2]), found[3]
+        is_error = words.startswith("error")
+        if path in by_hand and is_error:
+            return line
+        if path not in texts or UNREAD.search(words):
+            continue
+        is_refusal = is_error or line.startswith("note: ")
+        if is_refusal and (path, function_on(texts[path], number)) in edit.functions:
+            return line
+    for function, words in LISTED.findall(said):
+        is_own = " did not prove " in words or "it calls" not in words
+        if is_own and is_listed(edit, function) and not UNREAD.search(words):
+            return f"fn {function}{words}"
+    return None
+
+
+def seconds():
+    """The processor time of all that this process has run."""
+    times = os.times()
+    return times.children_user + times.children_system
+
+
+class Trial:
+    """The edits of one crate, tried in a copy of it. What is found is printed line by line."""
+
+    def __init__(self, name, folder):
+        self.name, self.folder, self.refused = name, folder, 0
+
+    def run(self, edits):
+        """Tries the edits, and returns those whose own functions were not seen to be refused."""
+        is_proved, said = self.check({}, "no edit")
+        if not is_proved:
+            print(f"{self.name}: NOT PROVED without an edit, so none was tried")
+            print("\n".join(f"    {line}" for line in said.splitlines()[-6:]), flush=True)
+            return edits
+        unseen, left, is_helping = [], edits, True
+        while left:
+            groups = groups_of(left, self.folder, is_helping)
+            found = [(edit, len(group.edits)) for group in groups for edit in self.try_group(group)]
+            unseen += [edit for edit, size in found if size == 1]
+            is_helping = len(found) < len(left)
+            left = [edit for edit, size in found if size > 1]
+        return unseen
+
+    def try_group(self, group):
+        """Tries a group in one check, and returns the edits whose own refusal is not shown."""
+        is_proved, said = self.check(group.texts, f"{len(group.edits)} edits")
+        is_reached = is_proved or NOT_PROVED.search(said) is not None
+        if not is_reached and len(group.edits) > 1:
+            return self.try_halves(group.edits)
+        left = []
+        for edit in group.edits:
+            why = refusal(edit, said, group.texts, self.folder) if is_reached else None
+            if why:
+                self.refused += 1
+                print(f"{self.name}/{edit.file.stem}: refused: {why[:160]}", flush=True)
+            else:
+                left.append(edit)
+        if len(group.edits) == 1 and left:
+            why = verdict(is_proved, is_reached, said)
+            print(f"{self.name}/{left[0].file.stem}: {why}", flush=True)
+        return left
+
+    def try_halves(self, edits):
+        """Tries the edits in two parts, where one of them keeps all from the prover."""
+        middle = len(edits) // 2
+        halves = [groups_of(part, self.folder) for part in (edits[:middle], edits[middle:])]
+        return [edit for half in halves for group in half for edit in self.try_group(group)]
+
+    def check(self, texts, what):
+        """Checks the crate with these texts, and prints what that took."""
+        began = seconds()
+        is_proved, said = check(self.folder, texts)
+        spent = f"{seconds() - began:.0f} s of a processor"
+        print(f"{self.name}: a check with {what}, {spent}", flush=True)
+        return is_proved, said
+
+
+def verdict(is_proved, is_reached, said):
+    """What is wrong where an edit alone is not refused by its own function."""
+    if is_proved:
+        return "NOT REFUSED"
+    lines = [line for line in said.splitlines() if PLACE.match(line)]
+    first = lines[0][:160] if lines else said.strip()[-160:]
+    return f"{'REFUSED ELSEWHERE' if is_reached else 'DID NOT REACH THE PROVER'}: {first}"

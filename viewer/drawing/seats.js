@@ -1,0 +1,37 @@
+// How the eight seats look: a colour and a mark along the body for each, so that no two are told
+// apart by hue alone.
+'use strict';
+
+/**
+ * The colours differ in lightness as well as hue; the test measures how far apart they are for
+ * colour-blind eyes.
+ */
+const SEATS = [
+  { colour: '#d17700', mark: 'plain' },
+  { colour: '#07059c', mark: 'line' },
+  { colour: '#4b998b', mark: 'dots' },
+  { colour: '#d4a2ff', mark: 'dashes' },
+  { colour: '#ad0000', mark: 'dots' },
+  { colour: '#03ff99', mark: 'plain' },
+  { colour: '#8456de', mark: 'dashes' },
+  { colour: '#673847', mark: 'line' },
+];
+
+const SVG = 'http://www.w3.org/2000/svg';
+
+/** An SVG element with its attributes and children. */
+function drawn(name, attributes = {}, ...children) {
+  const element = document.createElementNS(SVG, name);
+  for (const [key, value] of Object.entries(attributes)) {
+    element.setAttribute(key, value);
+  }
+  element.append(...children);
+  return element;
+}
+
+/** An HTML element with its properties and children; text comes in as text, whatever it holds. */
+function made(name, properties = {}, ...children) {
+  const element = Object.assign(document.createElement(name), properties);
+  element.append(...children);
+  return element;
+}
