@@ -1,7 +1,7 @@
 //! Blocks, a pool and the heap of a tag.
 use crate::fault::Fault;
 use crate::page::Page;
-use crate::scene::{Act, Question, ask, look, tried};
+use crate::scene::{Act, Question, look, tried};
 use bs_block::Block;
 use bs_heap::TagHeap;
 use bs_pool::Pool;
@@ -9,23 +9,8 @@ use std::alloc::Global;
 
 const CAP: usize = 524_288;
 
-/// Plays the scenes of this file.
-pub fn scenes(page: &mut Page) {
-    ask::<NewBlock>(page, "block", Ok(()));
-    ask::<OpenPool>(page, "pool", Ok(12));
-    if page.wants("reserve") {
-        let end = reserve(page);
-        page.ended(end);
-    }
-    ask::<NewHeap>(page, "heap", Ok(4096));
-    if page.wants("grow_index") {
-        let end = grow_index(page);
-        page.ended(end);
-    }
-}
-
 /// `Block::new`: its length and its room.
-struct NewBlock;
+pub struct NewBlock;
 
 impl Question for NewBlock {
     type On = ();
@@ -40,7 +25,7 @@ impl Question for NewBlock {
 
 /// What the readers of a pool give, of the whole, of the first tag and of another.
 #[derive(Debug, Drop)]
-struct PoolSeen {
+pub struct PoolSeen {
     size: usize,
     free: usize,
     unreserved: usize,
@@ -59,7 +44,7 @@ fn seen_pool(pool: &Pool<64>, tag: u32) -> PoolSeen {
 }
 
 /// `Pool::open`, of so many blocks.
-struct OpenPool;
+pub struct OpenPool;
 
 impl Question for OpenPool {
     type On = usize;
@@ -114,7 +99,7 @@ fn reserve_all(page: &mut Page, state: &mut PoolAt) -> Result<(), Fault> {
     Ok(())
 }
 
-fn reserve(page: &mut Page) -> Result<(), Fault> {
+pub fn play_reserve(page: &mut Page) -> Result<(), Fault> {
     let pool = Pool::<64>::open(page.alloc(), 12)?;
     reserve_all(page, &mut PoolAt { pool, tag: 0 })
 }
@@ -125,7 +110,7 @@ fn seen_heap(heap: &TagHeap<CAP>) -> (usize, u32, usize) {
 }
 
 /// `TagHeap::new`, with that quota.
-struct NewHeap;
+pub struct NewHeap;
 
 impl Question for NewHeap {
     type On = u32;
@@ -162,7 +147,7 @@ fn grow_in(page: &mut Page, heap: &mut TagHeap<CAP>) -> Result<(), Fault> {
     look::<GrowIndex>(page, "answer", heap)
 }
 
-fn grow_index(page: &mut Page) -> Result<(), Fault> {
+pub fn play_grow_index(page: &mut Page) -> Result<(), Fault> {
     let mut heap = TagHeap::<CAP>::new(page.alloc(), 7, 4096)?;
     grow_in(page, &mut heap)
 }

@@ -1,7 +1,6 @@
 //! Boards as records and back, and copies of all that a board, a command and a plan are made of.
 use crate::fault::Fault;
-use crate::page::Page;
-use crate::scene::{Question, ask};
+use crate::scene::Question;
 use crate::values::{
     LONG_NAME, TWO_HEADS, bytes_of, kept_of, new_solo, plan_of, shown_reply, two_heads, two_orders,
 };
@@ -11,45 +10,20 @@ use bs_board::{
 };
 use std::alloc::Global;
 
-/// Plays the scenes of this file.
-pub fn scenes(page: &mut Page) {
-    let alloc = page.alloc();
-    ask::<MakeId>(page, "id", Ok(LONG_NAME));
-    ask::<PushCells>(page, "cells", Ok(5));
-    ask::<Decoding>(page, "decode", bytes_of(alloc, &TWO_HEADS));
-    ask::<DecodeSnake>(page, "decode_snake", bytes_of(alloc, &TWO_HEADS[13..28]));
-    ask::<Encoding>(page, "encode", two_heads(alloc));
-    ask::<Keep>(page, "keep", two_heads(alloc));
-    ask::<Unkeep>(page, "unkeep", kept_of(alloc));
-    copies(page);
-}
-
-/// Copies of values with all that they are made of.
-fn copies(page: &mut Page) {
-    let alloc = page.alloc();
-    ask::<CopyId>(page, "copy_id", id_of(alloc));
-    ask::<CopyBoard>(page, "copy_board", two_heads(alloc));
-    ask::<CopyKept>(page, "copy_kept", kept_of(alloc));
-    ask::<CopyReply>(page, "copy_reply", shown_reply(alloc));
-    ask::<CopyCommand>(page, "copy_new", new_of(alloc));
-    ask::<CopyCommand>(page, "copy_move", orders_of(alloc));
-    ask::<CopyPlan>(page, "copy_plan", plan_of(alloc, LONG_NAME));
-}
-
-fn id_of(alloc: Global) -> Result<Id, Fault> {
+pub fn id_of(alloc: Global) -> Result<Id, Fault> {
     Ok(Id::from_str(alloc, LONG_NAME)?)
 }
 
-fn new_of(alloc: Global) -> Result<Command, Fault> {
+pub fn new_of(alloc: Global) -> Result<Command, Fault> {
     Ok(Command::New(new_solo(alloc, Mode::Solo)?))
 }
 
-fn orders_of(alloc: Global) -> Result<Command, Fault> {
+pub fn orders_of(alloc: Global) -> Result<Command, Fault> {
     Ok(Command::Move(two_orders(alloc)?))
 }
 
 /// `Id::from_str`.
-struct MakeId;
+pub struct MakeId;
 
 impl Question for MakeId {
     type On = &'static str;
@@ -62,7 +36,7 @@ impl Question for MakeId {
 }
 
 /// `Cells::push`, so many times.
-struct PushCells;
+pub struct PushCells;
 
 impl Question for PushCells {
     type On = i16;
@@ -79,7 +53,7 @@ impl Question for PushCells {
 }
 
 /// `decode`.
-struct Decoding;
+pub struct Decoding;
 
 impl Question for Decoding {
     type On = Vec<u8>;
@@ -92,7 +66,7 @@ impl Question for Decoding {
 }
 
 /// `decode_snake`.
-struct DecodeSnake;
+pub struct DecodeSnake;
 
 impl Question for DecodeSnake {
     type On = Vec<u8>;
@@ -105,7 +79,7 @@ impl Question for DecodeSnake {
 }
 
 /// `encode`.
-struct Encoding;
+pub struct Encoding;
 
 impl Question for Encoding {
     type On = Board;
@@ -121,7 +95,7 @@ impl Question for Encoding {
 }
 
 /// `KeptBoard::of`.
-struct Keep;
+pub struct Keep;
 
 impl Question for Keep {
     type On = Board;
@@ -137,7 +111,7 @@ impl Question for Keep {
 }
 
 /// `KeptBoard::board`.
-struct Unkeep;
+pub struct Unkeep;
 
 impl Question for Unkeep {
     type On = KeptBoard;
@@ -150,7 +124,7 @@ impl Question for Unkeep {
 }
 
 /// `Id::copy`.
-struct CopyId;
+pub struct CopyId;
 
 impl Question for CopyId {
     type On = Id;
@@ -163,7 +137,7 @@ impl Question for CopyId {
 }
 
 /// `Board::copy`, which copies snakes, cells and ids.
-struct CopyBoard;
+pub struct CopyBoard;
 
 impl Question for CopyBoard {
     type On = Board;
@@ -176,7 +150,7 @@ impl Question for CopyBoard {
 }
 
 /// `KeptBoard::copy`.
-struct CopyKept;
+pub struct CopyKept;
 
 impl Question for CopyKept {
     type On = KeptBoard;
@@ -189,7 +163,7 @@ impl Question for CopyKept {
 }
 
 /// `Reply::copy`.
-struct CopyReply;
+pub struct CopyReply;
 
 impl Question for CopyReply {
     type On = Reply;
@@ -202,7 +176,7 @@ impl Question for CopyReply {
 }
 
 /// `Command::copy`, with all that the command has.
-struct CopyCommand;
+pub struct CopyCommand;
 
 impl Question for CopyCommand {
     type On = Command;
@@ -215,7 +189,7 @@ impl Question for CopyCommand {
 }
 
 /// `Plan::copy`, which copies rows and names.
-struct CopyPlan;
+pub struct CopyPlan;
 
 impl Question for CopyPlan {
     type On = Plan;

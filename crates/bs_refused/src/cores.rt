@@ -2,31 +2,19 @@
 //! put.
 use crate::fault::Fault;
 use crate::page::Page;
-use crate::play::{CAP, Job, commands, hand, new_of_three, opened, put_job, take};
-use crate::scene::{Act, Question, ask, look, tried};
+use crate::play::{CAP, Job, commands, hand, opened, put_job, take};
+use crate::scene::{Act, Question, look, tried};
 use crate::values::{bytes_of, row_of};
 use bs_board::{Board, Command, Row};
 use bs_counter::{PartKey, Tally};
 use bs_fiber::Done;
+use bs_samples::new_of_three;
 use bs_sched::{Core, Counts};
 use std::alloc::Global;
-
-/// Plays the scenes of this file.
-pub fn scenes(page: &mut Page) {
-    ask::<OpenTally>(page, "tally", Ok(4));
-    ask::<OpenCore>(page, "open", Ok(6));
-    if page.wants("core") {
-        let end = core(page);
-        page.ended(end);
-    }
-    if page.wants("stays") {
-        let end = stays(page);
-        page.ended(end);
-    }
-}
+use std::test::Fail;
 
 /// `Tally::open`, for so many parts: the parts of its keys.
-struct OpenTally;
+pub struct OpenTally;
 
 impl Question for OpenTally {
     type On = usize;
@@ -116,7 +104,7 @@ fn seen_core(alloc: Global, core: &Core<CAP>) -> Result<Seen, Fault> {
 }
 
 /// `Core::open`, with so many blocks.
-struct OpenCore;
+pub struct OpenCore;
 
 impl Question for OpenCore {
     type On = usize;
@@ -275,21 +263,21 @@ fn hand_all(page: &mut Page, core: &mut Core<CAP>, commands: &[Command]) -> Resu
     Ok(())
 }
 
-fn play_commands(page: &mut Page, core: &mut Core<CAP>) -> Result<(), Fault> {
+fn play_commands(page: &mut Page, core: &mut Core<CAP>) -> Result<(), Fail> {
     let commands = commands(page.alloc())?;
     hand_all(page, core, commands.as_slice())?;
     play_on(page, core)?;
-    try_board(page, core, 0)
+    Ok(try_board(page, core, 0)?)
 }
 
 /// `Core::hand`, `take` and `board`: all commands, job by job, until none is left.
-fn core(page: &mut Page) -> Result<(), Fault> {
+pub fn play_core(page: &mut Page) -> Result<(), Fail> {
     let mut core = opened(page.alloc(), 6)?;
     play_commands(page, &mut core)
 }
 
 /// A game in the stay.
-fn play_stay(page: &mut Page, core: &mut Core<CAP>, game: usize) -> Result<(), Fault> {
+fn play_stay(page: &mut Page, core: &mut Core<CAP>, game: usize) -> Result<(), Fail> {
     let new = new_of_three(page.alloc())?;
     tried(
         page,
@@ -299,11 +287,11 @@ fn play_stay(page: &mut Page, core: &mut Core<CAP>, game: usize) -> Result<(), F
         },
         core,
     )?;
-    play_on(page, core)
+    Ok(play_on(page, core)?)
 }
 
 /// `Core::admit`, and a game in that stay, which is the result.
-fn try_stay(page: &mut Page, core: &mut Core<CAP>) -> Result<usize, Fault> {
+fn try_stay(page: &mut Page, core: &mut Core<CAP>) -> Result<usize, Fail> {
     let game = tried(page, &Admitting, core)?;
     page.line("answer", &game);
     play_stay(page, core, game)?;
@@ -317,17 +305,17 @@ fn try_leave(page: &mut Page, core: &mut Core<CAP>, game: usize) -> Result<(), F
 }
 
 /// A game comes, goes and comes again, and then all go.
-fn come_and_go(page: &mut Page, core: &mut Core<CAP>) -> Result<(), Fault> {
+fn come_and_go(page: &mut Page, core: &mut Core<CAP>) -> Result<(), Fail> {
     let first = try_stay(page, core)?;
     try_leave(page, core, first)?;
     let second = try_stay(page, core)?;
     try_leave(page, core, 0)?;
     try_leave(page, core, second)?;
-    look::<Taking>(page, "answer", core)
+    Ok(look::<Taking>(page, "answer", core)?)
 }
 
 /// `Core::admit` and `leave`.
-fn stays(page: &mut Page) -> Result<(), Fault> {
+pub fn play_stays(page: &mut Page) -> Result<(), Fail> {
     let mut core = opened(page.alloc(), 12)?;
     come_and_go(page, &mut core)
 }

@@ -6,46 +6,22 @@ ghost use Rattle.bs_rules.specs.Motion.{moved_board, IsMovable};
 
 use crate::fault::Fault;
 use crate::page::Page;
-use crate::scene::{Act, Question, ask, look, tried};
+use crate::scene::{Act, Question, look, tried};
 use crate::values::{RECORD, new_solo, solo};
 use bs_board::{Board, Command, Mode, Move, Moves, TurnNumber, Words, is_legal};
 use bs_game::{Answer, Record, View, answer, check, joined};
 use bs_rules::move_snakes;
 use std::alloc::Global;
 
-/// Plays the scenes of this file.
-pub fn scenes(page: &mut Page) {
-    let alloc = page.alloc();
-    answers(page);
-    ask::<Joined>(page, "joined", solo(alloc));
-    if page.wants("refill") {
-        let end = refill(page);
-        page.ended(end);
-    }
-}
-
-/// Each command where it is accepted, and one that is refused.
-fn answers(page: &mut Page) {
-    let alloc = page.alloc();
-    ask::<Answered>(page, "answer_new", first_new(alloc));
-    ask::<Answered>(page, "answer_running", new_while_running(alloc));
-    let orders = Command::Move(no_orders(alloc));
-    ask::<Answered>(page, "answer_move", of_running(alloc, orders));
-    ask::<Answered>(page, "answer_show", of_running(alloc, Command::Show));
-    ask::<Answered>(page, "answer_free", of_running(alloc, Command::Free));
-    ask::<Answered>(page, "answer_end", of_running(alloc, Command::End));
-    ask::<Answered>(page, "answer_turn", first_turn(alloc));
-}
-
 /// A command, and what its answer sees of the game.
 #[derive(Debug, Drop)]
-struct Asked {
+pub struct Asked {
     view: View,
     command: Command,
 }
 
 /// `answer`.
-struct Answered;
+pub struct Answered;
 
 impl Question for Answered {
     type On = Asked;
@@ -60,7 +36,7 @@ impl Question for Answered {
     }
 }
 
-fn first_new(alloc: Global) -> Result<Asked, Fault> {
+pub fn first_new(alloc: Global) -> Result<Asked, Fault> {
     let view = View {
         quota: 4096,
         charge: 0,
@@ -85,16 +61,16 @@ fn running(alloc: Global, asked: Option<Board>) -> Result<View, Fault> {
     })
 }
 
-fn of_running(alloc: Global, command: Command) -> Result<Asked, Fault> {
+pub fn of_running(alloc: Global, command: Command) -> Result<Asked, Fault> {
     let view = running(alloc, None)?;
     Ok(Asked { view, command })
 }
 
-fn new_while_running(alloc: Global) -> Result<Asked, Fault> {
+pub fn new_while_running(alloc: Global) -> Result<Asked, Fault> {
     of_running(alloc, Command::New(new_solo(alloc, Mode::Solo)?))
 }
 
-fn first_turn(alloc: Global) -> Result<Asked, Fault> {
+pub fn first_turn(alloc: Global) -> Result<Asked, Fault> {
     let turn = TurnNumber::new(0).ok_or(Fault::NoTurn)?;
     let view = running(alloc, Some(solo(alloc)?))?;
     Ok(Asked {
@@ -122,7 +98,7 @@ impl Act for Refilling {
     }
 }
 
-fn refill(page: &mut Page) -> Result<(), Fault> {
+pub fn play_refill(page: &mut Page) -> Result<(), Fault> {
     let mut record = Record::from_vec(Vec::new(page.alloc()));
     tried(page, &Refilling, &mut record)?;
     look::<Refilling>(page, "answer", &record)
@@ -184,7 +160,7 @@ fn joined_answer(alloc: Global, board: &Board) -> Result<Answer, Fault> {
 }
 
 /// `joined`.
-struct Joined;
+pub struct Joined;
 
 impl Question for Joined {
     type On = Board;

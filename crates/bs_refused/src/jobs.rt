@@ -10,21 +10,10 @@ use bs_fiber::{Done, Stopped, Ticket, work};
 use bs_pool::Owned;
 use bs_sched::{Core, Taken};
 use std::alloc::Global;
+use std::test::Fail;
 
 /// How many jobs the commands of the game are.
 const JOBS: usize = 10;
-
-/// Plays the scenes of this file.
-pub fn scenes(page: &mut Page) {
-    if page.wants("work") {
-        let end = worked(page);
-        page.ended(end);
-    }
-    if page.wants("failed") {
-        let end = failed(page);
-        page.ended(end);
-    }
-}
 
 /// The tags and the numbers of blocks.
 fn names_of(alloc: Global, frames: &[Owned<CAP>]) -> Result<Vec<(u32, usize)>, Fault> {
@@ -42,9 +31,9 @@ fn tell_frames(page: &mut Page, what: &str, frames: &[Owned<CAP>]) -> Result<(),
 }
 
 /// The job behind that many others.
-fn job_behind(alloc: Global, jobs: usize) -> Result<Job, Fault> {
+fn job_behind(alloc: Global, jobs: usize) -> Result<Job, Fail> {
     let mut core = played(alloc, jobs)?;
-    next_job(alloc, &mut core)
+    Ok(next_job(alloc, &mut core)?)
 }
 
 fn tell_done(page: &mut Page, done: &Done<CAP>) {
@@ -54,12 +43,12 @@ fn tell_done(page: &mut Page, done: &Done<CAP>) {
 
 /// A stopped job gives the blocks of its ticket back. The same job of another core, which was
 /// played the same way, is then worked in its place.
-fn work_again(page: &mut Page, jobs: usize, stopped: Stopped<CAP>) -> Result<Done<CAP>, Fault> {
+fn work_again(page: &mut Page, jobs: usize, stopped: Stopped<CAP>) -> Result<Done<CAP>, Fail> {
     tell_frames(page, "memory", stopped.blocks.as_slice())?;
     let Job { ticket, key: _key } = job_behind(page.alloc(), jobs)?;
     match work(page.alloc(), ticket) {
         Ok(done) => Ok(done),
-        Err(_stopped) => Err(Fault::Memory),
+        Err(_stopped) => Err(Fail::from(Fault::Memory)),
     }
 }
 
@@ -72,7 +61,7 @@ fn marked_work(page: &mut Page, ticket: Ticket<CAP>) -> Result<Done<CAP>, Stoppe
     first
 }
 
-fn try_work(page: &mut Page, jobs: usize) -> Result<(), Fault> {
+fn try_work(page: &mut Page, jobs: usize) -> Result<(), Fail> {
     let Job { ticket, key: _key } = job_behind(page.alloc(), jobs)?;
     tell_frames(page, "before", ticket.frames())?;
     let done = match marked_work(page, ticket) {
@@ -84,7 +73,7 @@ fn try_work(page: &mut Page, jobs: usize) -> Result<(), Fault> {
 }
 
 /// `work` of each job in turn.
-fn worked(page: &mut Page) -> Result<(), Fault> {
+pub fn worked(page: &mut Page) -> Result<(), Fail> {
     for jobs in 0..JOBS {
         try_work(page, jobs)?;
     }
@@ -138,14 +127,14 @@ fn fail_out(page: &mut Page, core: &mut Core<CAP>) -> Result<(), Fault> {
 }
 
 /// After `fail`, with each job out in turn: no worker gets a job, and what is out is brought back.
-fn fail_behind(page: &mut Page, jobs: usize) -> Result<(), Fault> {
+fn fail_behind(page: &mut Page, jobs: usize) -> Result<(), Fail> {
     let mut core = played(page.alloc(), jobs)?;
     fail_out(page, &mut core)?;
     look::<Taking>(page, "answer", &core)?;
-    tell_failed(page, &mut core)
+    Ok(tell_failed(page, &mut core)?)
 }
 
-fn failed(page: &mut Page) -> Result<(), Fault> {
+pub fn play_failed(page: &mut Page) -> Result<(), Fail> {
     for jobs in 0..JOBS {
         fail_behind(page, jobs)?;
     }

@@ -1,44 +1,37 @@
-//! What the scenes write: their readers and answers, line by line, and the marks about a call that
-//! is tried.
-use crate::fault::Fault;
+//! What a scene writes: its readers and answers, line by line, and the marks about a call that is
+//! tried.
 use std::alloc::Global;
 use std::fmt::Debug;
-use std::io::{Stderr, Write};
+use std::io::{Stderr, Stdout, Write};
+use std::test::Fail;
 
-/// The lines of the scenes that are wanted, and where the marks go.
+/// The lines of a scene, and where they and the marks go.
 #[derive(Drop)]
 pub struct Page {
     alloc: Global,
     told: String,
+    output: Stdout,
     marks: Stderr,
-    /// The only scene that is played, with its calls marked. All are, unmarked, where it is empty.
-    wanted: String,
-    /// A scene ended before its end, or a line is missing.
+    /// Lines and marks are written: somebody refuses requests.
+    is_watched: bool,
+    /// A line is missing.
     has_failed: bool,
 }
 
 impl Page {
-    pub fn new(alloc: Global, marks: Stderr, wanted: String) -> Page {
+    pub fn new(alloc: Global, output: Stdout, marks: Stderr, is_watched: bool) -> Page {
         Page {
             alloc,
             told: String::new(alloc),
+            output,
             marks,
-            wanted,
+            is_watched,
             has_failed: false,
         }
     }
 
     pub fn alloc(&self) -> Global {
         self.alloc
-    }
-
-    /// All lines.
-    pub fn told(&self) -> &[u8] {
-        self.told.as_bytes()
-    }
-
-    pub fn has_failed(&self) -> bool {
-        self.has_failed
     }
 
     fn push(&mut self, text: &str) {
@@ -64,7 +57,7 @@ impl Page {
     }
 
     fn mark(&mut self, mark: &[u8]) {
-        if !self.wanted.is_empty() {
+        if self.is_watched {
             let _ = self.marks.write(mark);
         }
     }
@@ -79,20 +72,15 @@ impl Page {
         self.mark(b"]");
     }
 
-    /// Whether the scene of that name is wanted, whose name is then told where all are.
-    pub fn wants(&mut self, name: &str) -> bool {
-        if self.wanted.is_empty() {
-            self.say("scene", name);
-            return true;
+    /// Ends a scene that has come to its end: its lines are written where it is watched.
+    pub fn close(&mut self) -> Result<(), Fail> {
+        if self.has_failed {
+            return Err(Fail::new("a line is missing"));
         }
-        self.wanted.as_str() == name
-    }
-
-    /// Tells how a scene ended, where it ended before its end.
-    pub fn ended(&mut self, end: Result<(), Fault>) {
-        if let Err(fault) = end {
-            self.line("fault", &fault);
-            self.has_failed = true;
+        if self.is_watched {
+            self.output.write_all(self.told.as_bytes())?;
+            self.output.flush()?;
         }
+        Ok(())
     }
 }

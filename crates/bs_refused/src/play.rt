@@ -2,12 +2,14 @@
 ghost use Rattle.bs_fiber.specs.Tickets.{IsFresh};
 
 use crate::fault::Fault;
-use crate::values::{move_of, plan_of};
-use bs_board::{Cells, Command, Direction, Id, Mode, New, Point, Starts, TurnNumber};
+use crate::values::plan_of;
+use bs_board::{Command, Direction, TurnNumber};
 use bs_counter::{Finish, PartKey, Parted};
 use bs_fiber::{Done, Ticket, work};
+use bs_samples::{new_of_three, straight_on, third_goes};
 use bs_sched::{Core, Taken};
 use std::alloc::Global;
+use std::test::Fail;
 
 pub const CAP: usize = 524_288;
 
@@ -20,33 +22,10 @@ pub fn opened(alloc: Global, blocks: usize) -> Result<Core<CAP>, Fault> {
     Ok(Core::<CAP>::open(alloc, plan, blocks, WORKERS)?)
 }
 
-fn start_at(alloc: Global, name: &str, x: i16, y: i16) -> Result<(Id, Point), Fault> {
-    Ok((Id::from_str(alloc, name)?, Point { x, y }))
-}
-
-/// Three snakes, the first of them below the only food: two parts.
-pub fn new_of_three(alloc: Global) -> Result<Command, Fault> {
-    let (s, t) = (start_at(alloc, "s", 1, 1)?, start_at(alloc, "t", 5, 1)?);
-    let starts = vec![in alloc; s, t, start_at(alloc, "u", 3, 5)?]?;
-    let mut food = Cells::new(alloc);
-    food.push(Point { x: 1, y: 2 })?;
-    let new = New::new(Mode::Standard, 7, 7, Starts::from_vec(starts), food, 0, 0);
-    Ok(Command::New(new.ok_or(Fault::NoSetup)?))
-}
-
-/// A move in which the third snake goes down, or all go straight on.
-fn move_down(alloc: Global, goes_down: bool) -> Result<Command, Fault> {
-    let mut moves = Vec::new(alloc);
-    if goes_down {
-        moves.push((Id::from_str(alloc, "u")?, Direction::Down))?;
-    }
-    Ok(Command::Move(move_of(moves, Vec::new(alloc))?))
-}
-
 /// The commands of the game: a move of two parts among them.
-pub fn commands(alloc: Global) -> Result<Vec<Command>, Fault> {
+pub fn commands(alloc: Global) -> Result<Vec<Command>, Fail> {
     let turn = TurnNumber::new(0).ok_or(Fault::NoTurn)?;
-    let (down, on) = (move_down(alloc, true)?, move_down(alloc, false)?);
+    let (down, on) = (third_goes(alloc, Direction::Down)?, straight_on(alloc));
     let new = new_of_three(alloc)?;
     Ok(vec![in alloc; new, down, Command::Turn(turn), Command::Free, on]?)
 }
@@ -149,14 +128,14 @@ fn play_jobs(alloc: Global, core: &mut Core<CAP>, jobs: usize) -> Result<(), Fau
     Ok(())
 }
 
-fn play_behind(alloc: Global, core: &mut Core<CAP>, jobs: usize) -> Result<(), Fault> {
+fn play_behind(alloc: Global, core: &mut Core<CAP>, jobs: usize) -> Result<(), Fail> {
     let commands = commands(alloc)?;
     hand_all(alloc, core, commands.as_slice())?;
-    play_jobs(alloc, core, jobs)
+    Ok(play_jobs(alloc, core, jobs)?)
 }
 
 /// A core that was handed all commands, and has that many of its jobs behind it.
-pub fn played(alloc: Global, jobs: usize) -> Result<Core<CAP>, Fault> {
+pub fn played(alloc: Global, jobs: usize) -> Result<Core<CAP>, Fail> {
     let mut core = opened(alloc, 6)?;
     play_behind(alloc, &mut core, jobs)?;
     Ok(core)

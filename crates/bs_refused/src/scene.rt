@@ -4,6 +4,7 @@ use crate::fault::Fault;
 use crate::page::Page;
 use std::alloc::Global;
 use std::fmt::Debug;
+use std::test::Fail;
 
 /// A call that only reads what it is made on.
 pub trait Question {
@@ -42,24 +43,11 @@ fn asked<Q: Question>(page: &mut Page, on: &Q::On) -> Result<Q::Answer, Fault> {
     }
 }
 
-fn ask_on<Q: Question>(page: &mut Page, on: &Q::On) -> Result<(), Fault> {
-    let answer = asked::<Q>(page, on)?;
+/// The scene of a call.
+pub fn ask<Q: Question>(mut page: Page, on: Q::On) -> Result<(), Fail> {
+    let answer = asked::<Q>(&mut page, &on)?;
     page.line("answer", &answer);
-    Ok(())
-}
-
-/// The scene of a call, where it is wanted.
-pub fn ask<Q: Question>(page: &mut Page, name: &str, on: Result<Q::On, Fault>) {
-    if !page.wants(name) {
-        return;
-    }
-    match on {
-        Ok(on) => {
-            let end = ask_on::<Q>(page, &on);
-            page.ended(end);
-        }
-        Err(fault) => page.ended(Err(fault)),
-    }
+    page.close()
 }
 
 /// Tells what the readers give.

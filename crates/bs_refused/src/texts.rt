@@ -1,7 +1,6 @@
 //! Lines that are read and written, the text of a transcript, and the cut of a file.
 use crate::fault::Fault;
-use crate::page::Page;
-use crate::scene::{Question, ask};
+use crate::scene::Question;
 use crate::values::{shown_reply, solo};
 use bs_board::{Board, Id, Plan, Refusal, Reply, Version, Word};
 use bs_host::cut;
@@ -16,7 +15,7 @@ use std::alloc::Global;
 const BLOCKS: usize = 24;
 
 /// Games that come and go, and a line of each kind.
-const FILE: &str = r#"{"games":[{"game":"a","quota":64},{"game":"b","quota":4096}],"version":3}
+pub const FILE: &str = r#"{"games":[{"game":"a","quota":64},{"game":"b","quota":4096}],"version":3}
 {"game":"a","do":"new","mode":"solo","width":5,"height":5,"snakes":[{"id":"s","x":1,"y":1}],"food":[],"min_food":0,"food_chance":0}
 {"game":"b","do":"new","mode":"wrapped","width":7,"height":7,"snakes":[{"id":"s","x":1,"y":1},{"id":"t","x":5,"y":1}],"food":[{"x":1,"y":2}]}
 {"game":"a","do":"move","moves":{"s":"up","t":"left"},"words":[5,4294967295]}
@@ -31,31 +30,6 @@ const FILE: &str = r#"{"games":[{"game":"a","quota":64},{"game":"b","quota":4096
 {"game":"z","do":"show"}
 {oops"#;
 
-/// Plays the scenes of this file.
-pub fn scenes(page: &mut Page) {
-    ask::<ReadPlan>(page, "read_plan", FILE.lines().next().ok_or(Fault::NoLine));
-    ask::<ReadLines>(page, "read_line", Ok(FILE));
-    ask::<Cutting>(page, "cut_planned", Ok(("a", 1)));
-    ask::<Cutting>(page, "cut_admitted", Ok(("b", 2)));
-    lines(page);
-}
-
-/// The lines of a transcript, and its text.
-fn lines(page: &mut Page) {
-    let alloc = page.alloc();
-    ask::<ShowBoard>(page, "board_value", solo(alloc));
-    ask::<ReplyLine>(page, "reply_shown", shown_reply(alloc));
-    ask::<ReplyLine>(page, "reply_plain", Ok(Reply::Plain(Word::End, 0)));
-    ask::<ReplyLine>(page, "reply_refused", Ok(Reply::Refused(Refusal::Over)));
-    ask::<PushReply>(page, "push_shown", shown_reply(alloc));
-    ask::<PushReply>(page, "push_refused", Ok(Reply::Refused(Refusal::Over)));
-    ask::<FinalLine>(page, "final_line", last_board(alloc));
-    ask::<FinalLine>(page, "final_none", Ok(None));
-    ask::<StrayLine>(page, "stray_line", Ok(Stray::Json));
-    ask::<StrayLine>(page, "stray_admit", Ok(Stray::NameOpen));
-    ask::<WholeText>(page, "text", two_replies(alloc));
-}
-
 fn text_of(bytes: Vec<u8>) -> Result<String, Fault> {
     match String::from_utf8(bytes) {
         Ok(text) => Ok(text),
@@ -63,17 +37,17 @@ fn text_of(bytes: Vec<u8>) -> Result<String, Fault> {
     }
 }
 
-fn two_replies(alloc: Global) -> Result<Vec<Reply>, Fault> {
+pub fn two_replies(alloc: Global) -> Result<Vec<Reply>, Fault> {
     let shown = shown_reply(alloc)?;
     Ok(vec![in alloc; shown, Reply::Refused(Refusal::Over)]?)
 }
 
-fn last_board(alloc: Global) -> Result<Option<Board>, Fault> {
+pub fn last_board(alloc: Global) -> Result<Option<Board>, Fault> {
     Ok(Some(solo(alloc)?))
 }
 
 /// `read_plan`.
-struct ReadPlan;
+pub struct ReadPlan;
 
 impl Question for ReadPlan {
     type On = &'static str;
@@ -86,7 +60,7 @@ impl Question for ReadPlan {
 }
 
 /// `read_line`, of each line of the file.
-struct ReadLines;
+pub struct ReadLines;
 
 impl Question for ReadLines {
     type On = &'static str;
@@ -103,7 +77,7 @@ impl Question for ReadLines {
 }
 
 /// `board_value`.
-struct ShowBoard;
+pub struct ShowBoard;
 
 impl Question for ShowBoard {
     type On = Board;
@@ -116,7 +90,7 @@ impl Question for ShowBoard {
 }
 
 /// `reply_line`.
-struct ReplyLine;
+pub struct ReplyLine;
 
 impl Question for ReplyLine {
     type On = Reply;
@@ -130,7 +104,7 @@ impl Question for ReplyLine {
 }
 
 /// `push_reply_line`.
-struct PushReply;
+pub struct PushReply;
 
 impl Question for PushReply {
     type On = Reply;
@@ -146,7 +120,7 @@ impl Question for PushReply {
 }
 
 /// `final_line`.
-struct FinalLine;
+pub struct FinalLine;
 
 impl Question for FinalLine {
     type On = Option<Board>;
@@ -160,7 +134,7 @@ impl Question for FinalLine {
 }
 
 /// `stray_line`.
-struct StrayLine;
+pub struct StrayLine;
 
 impl Question for StrayLine {
     type On = Stray;
@@ -185,7 +159,7 @@ fn whole_text(alloc: Global, replies: &[Reply]) -> Result<Vec<u8>, Fault> {
 }
 
 /// `text`.
-struct WholeText;
+pub struct WholeText;
 
 impl Question for WholeText {
     type On = Vec<Reply>;
@@ -198,7 +172,7 @@ impl Question for WholeText {
 }
 
 /// `cut`, to that stay of the game.
-struct Cutting;
+pub struct Cutting;
 
 impl Question for Cutting {
     type On = (&'static str, usize);

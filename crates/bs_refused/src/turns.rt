@@ -1,7 +1,6 @@
 //! First boards, growth, food, and the steps of a turn.
 use crate::fault::Fault;
-use crate::page::Page;
-use crate::scene::{Question, ask};
+use crate::scene::Question;
 use crate::values::{new_solo, solo, two_heads, two_orders};
 use bs_board::limits::{LAST_TURN, MOST_SNAKES};
 use bs_board::{Board, Direction, Mode, New, Point, Snake, Snakes, is_legal};
@@ -10,34 +9,8 @@ use bs_modes::{grow, start};
 use bs_rules::{feed, finish_turn, move_snake, move_snakes, turn};
 use std::alloc::Global;
 
-/// Plays the scenes of this file.
-pub fn scenes(page: &mut Page) {
-    let alloc = page.alloc();
-    ask::<FirstBoard>(page, "start_solo", new_solo(alloc, Mode::Solo));
-    ask::<FirstBoard>(
-        page,
-        "start_constrictor",
-        new_solo(alloc, Mode::Constrictor),
-    );
-    ask::<Growing>(page, "grow", two_heads(alloc));
-    ask::<FreeCells>(page, "free_cells", two_heads(alloc));
-    ask::<Spawning>(page, "spawn", two_heads(alloc));
-    steps(page);
-}
-
-/// The steps of a turn, and whole turns.
-fn steps(page: &mut Page) {
-    let alloc = page.alloc();
-    ask::<MoveSnake>(page, "move_snake", two_heads(alloc));
-    ask::<MoveSnakes>(page, "move_snakes", two_heads(alloc));
-    ask::<Feeding>(page, "feed", meeting(alloc));
-    ask::<FinishTurn>(page, "finish_turn", meeting(alloc));
-    ask::<NextBoard>(page, "turn_solo", solo(alloc));
-    ask::<NextBoard>(page, "turn", two_heads(alloc));
-}
-
 /// `start`.
-struct FirstBoard;
+pub struct FirstBoard;
 
 impl Question for FirstBoard {
     type On = New;
@@ -50,7 +23,7 @@ impl Question for FirstBoard {
 }
 
 /// `grow`, of a copy in constrictor mode: after want of memory its board is given up.
-struct Growing;
+pub struct Growing;
 
 impl Question for Growing {
     type On = Board;
@@ -66,7 +39,7 @@ impl Question for Growing {
 }
 
 /// `free_cells`.
-struct FreeCells;
+pub struct FreeCells;
 
 impl Question for FreeCells {
     type On = Board;
@@ -79,7 +52,7 @@ impl Question for FreeCells {
 }
 
 /// `spawn` of five foods, on a copy.
-struct Spawning;
+pub struct Spawning;
 
 impl Question for Spawning {
     type On = Board;
@@ -106,7 +79,7 @@ fn first_moved(alloc: Global, board: &Board) -> Result<Snake, Fault> {
 }
 
 /// `move_snake`.
-struct MoveSnake;
+pub struct MoveSnake;
 
 impl Question for MoveSnake {
     type On = Board;
@@ -127,7 +100,7 @@ fn all_moved(alloc: Global, board: &Board) -> Result<Snakes, Fault> {
 }
 
 /// `move_snakes`.
-struct MoveSnakes;
+pub struct MoveSnakes;
 
 impl Question for MoveSnakes {
     type On = Board;
@@ -140,14 +113,14 @@ impl Question for MoveSnakes {
 }
 
 /// The two snakes with their heads on the food.
-fn meeting(alloc: Global) -> Result<Board, Fault> {
+pub fn meeting(alloc: Global) -> Result<Board, Fault> {
     let mut board = two_heads(alloc)?;
     board.snakes = all_moved(alloc, &board)?;
     Ok(board)
 }
 
 /// `feed`, of a copy: after want of memory its board is given up.
-struct Feeding;
+pub struct Feeding;
 
 impl Question for Feeding {
     type On = Board;
@@ -162,7 +135,7 @@ impl Question for Feeding {
 }
 
 /// `finish_turn`, of a copy.
-struct FinishTurn;
+pub struct FinishTurn;
 
 impl Question for FinishTurn {
     type On = Board;
@@ -180,7 +153,7 @@ impl Question for FinishTurn {
 }
 
 /// `turn`.
-struct NextBoard;
+pub struct NextBoard;
 
 impl Question for NextBoard {
     type On = Board;

@@ -1,0 +1,31 @@
+//! Scenes that make the calls of the libraries one by one, each a second time where it was answered
+//! want of memory. Each is a test, which passes where nothing is refused. `tests/refused_calls`
+//! refuses the requests of each call in turn.
+#![tactic(auto)]
+
+#[cfg(test)]
+mod blocks;
+#[cfg(test)]
+mod boards;
+#[cfg(test)]
+mod cores;
+#[cfg(test)]
+mod fault;
+#[cfg(test)]
+mod games;
+#[cfg(test)]
+mod jobs;
+#[cfg(test)]
+mod page;
+#[cfg(test)]
+mod play;
+#[cfg(test)]
+mod scene;
+#[cfg(test)]
+mod scenes;
+#[cfg(test)]
+mod texts;
+#[cfg(test)]
+mod turns;
+#[cfg(test)]
+mod values;
