@@ -477,7 +477,7 @@ module _ {T : Type 0} (part : T → ℕ) (n : ℕ) where
       );
       finish = λ id p w at spent q. (finish_takes id p w at spent q, finish_leaves id p w at q);
       one_last = λ no_part.
-      let last = r.some_last (none_counted no_part) in
-      (last.0, ((last.1, last.2), λ j other. r.one_last j last.0 other.0 last.1 other.1 last.2));
+          let last = r.some_last (none_counted no_part) in
+          (last.0, ((last.1, last.2), λ j other. r.one_last j last.0 other.0 last.1 other.1 last.2));
       none_last = λ p missing i last. all_finished s.views p (r.last i last.0 last.1).0 missing.0 missing.1 missing.2 missing.3;
     }
