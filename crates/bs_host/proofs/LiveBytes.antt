@@ -1,15 +1,13 @@
 -- What a live host read and wrote.
-use Rattle.std.proofs.Common.{◌≡◌, ℕ, ◌+◌, List, [], ◌∷◌, ◌++◌, Option, Some, None, length, map, refl, sym, ap, subst, ◌∙◌, arith, append-nil, append_assoc, length-append}
+use Rattle.std.proofs.Common.{◌≡◌, ℕ, ◌+◌, List, [], ◌++◌, Option, Some, None, length, map, refl, sym, ap, subst, ◌∙◌, arith, append-nil, append_assoc, length-append}
 use Rattle.std.specs.Io.KnownBytes.{Appends, Consumes, IsAtEnd, Keeps}
-use Rattle.std.specs.Prelude.{IfSome, Ok}
-use Rattle.bs_board.specs.declared.plans.plan.Plan.{Plan}
+use Rattle.std.specs.Prelude.{IfSome}
 use Rattle.bs_board.specs.declared.plans.version.Version.{Version}
 use Rattle.bs_board.specs.plans.Plan.{GameRow}
-use Rattle.bs_json.specs.PlanLine.{plan_line_of}
 use Rattle.bs_sched.specs.Core.{CoreView}
-use Rattle.bs_host.specs.File.{first_piece, later_pieces, pieces_of, plan_of, rows_in, version_in}
+use Rattle.bs_host.specs.File.{pieces_of}
 use Rattle.bs_host.specs.Guests.{GuestList}
-use Rattle.bs_host.specs.Live.{HasAnswered, HasOpened, IsCutFirst, IsCutLast, IsSameText, IsServing, answers_from, closing_behind, held_of, live_lines_of, live_of}
+use Rattle.bs_host.specs.Live.{HasAnswered, IsCutLast, IsSameText, IsServing, answers_from, closing_behind, held_of, live_lines_of}
 use Rattle.bs_host.proofs.LiveHeld.{live_same, map_both}
 use Rattle.bs_host.proofs.LiveTexts.{answers_append}
 

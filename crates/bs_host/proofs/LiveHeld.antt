@@ -1,5 +1,5 @@
 -- What is kept of a line that is too long.
-use Rattle.std.proofs.Common.{◌≡◌, ℕ, zero, suc, ◌+◌, ◌<◌, ◌≤◌, Bool, true, false, List, [], ◌∷◌, ◌++◌, Some, None, All, length, map, take, refl, sym, ap, subst, ◌∙◌, arith, append_assoc, length-append, length-take}
+use Rattle.std.proofs.Common.{◌≡◌, ℕ, zero, suc, ◌+◌, ◌<◌, ◌≤◌, false, List, [], ◌∷◌, ◌++◌, None, All, length, map, take, refl, sym, ap, ◌∙◌, arith, length-take}
 use Rattle.std.specs.Prelude.{nat_lt}
 use Rattle.std.specs.List.{cons_option, onto_first, position}
 use Rattle.std.proofs.lemmas.Bool.{cond-true, lt-ltb}
@@ -11,7 +11,6 @@ use Rattle.bs_board.specs.plans.Plan.{GameRow}
 use Rattle.bs_json.specs.declared.limits.TheConstants.{MAX_LINE}
 use Rattle.bs_json.specs.Line.{line_of}
 use Rattle.bs_sched.specs.Stays.{Capacity, Stay}
-use Rattle.bs_workers.specs.declared.act.Act.{Act}
 use Rattle.bs_workers.specs.Acts.{opened}
 use Rattle.bs_host.specs.File.{pieces_of}
 use Rattle.bs_host.specs.Guests.{open_of}

@@ -1,8 +1,8 @@
 -- One line more of a live host: where it goes, what is written for it, and the state behind it.
-use Rattle.std.proofs.Common.{◌≡◌, ℕ, suc, ◌+◌, ◌-◌, ◌<◌, true, get_or, List, [], ◌∷◌, ◌++◌, Option, Some, None, length, map, refl, sym, ap, subst, ◌∙◌, arith, append-nil, append_assoc, length-append}
+use Rattle.std.proofs.Common.{◌≡◌, ℕ, ◌+◌, ◌-◌, ◌<◌, true, get_or, List, [], ◌∷◌, ◌++◌, Option, Some, None, length, map, refl, sym, ap, subst, ◌∙◌, arith, length-append}
 use Rattle.std.specs.Prelude.{nat_eq, option_to_list}
 use Rattle.std.proofs.lemmas.Bool.{eq-eqb}
-use Rattle.std.specs.List.{cons_option, filter_map, flat_map}
+use Rattle.std.specs.List.{cons_option}
 use Rattle.std.proofs.lemmas.List.{get_or_push, length-map}
 use Rattle.std.proofs.lemmas.List.Elements.{filter_map-append}
 use Rattle.bs_board.specs.declared.commands.command.Command.{Command}
@@ -14,7 +14,7 @@ use Rattle.bs_json.specs.Replies.{final_line_of, reply_line_of}
 use Rattle.bs_board.specs.declared.boards.board.Board.{Board}
 use Rattle.bs_board.specs.declared.commands.reply.Reply.{Reply}
 use Rattle.bs_game.specs.Game.{game_charge, last_board}
-use Rattle.bs_game.specs.Alone.{alone, course_of}
+use Rattle.bs_game.specs.Alone.{alone}
 use Rattle.bs_game.specs.Answer.{answer_to}
 use Rattle.bs_game.proofs.Courses.{course_snoc, course_replies}
 use Rattle.bs_sched.specs.Core.{CoreView}
@@ -29,10 +29,9 @@ use Rattle.bs_workers.specs.Run.{acts_of, rows_made}
 use Rattle.bs_workers.specs.Single.{IsActed}
 use Rattle.bs_workers.proofs.Compared.{row_there}
 use Rattle.bs_host.specs.declared.route.Route.{Route}
-use Rattle.bs_host.specs.declared.route.Route.TheVariants as route
 use Rattle.bs_host.specs.Cut.{row_at}
 use Rattle.bs_host.specs.Guests.{GuestList, guests_of, guests_then, route_by}
-use Rattle.bs_host.specs.Live.{ArePlayed, HasAnswered, IsCoreOf, act_line, acts_behind, answer_behind, answers_from, closing_line, commands_given, next_line, route_behind, route_line, rows_behind, stays_left}
+use Rattle.bs_host.specs.Live.{ArePlayed, HasAnswered, IsCoreOf, acts_behind, answer_behind, closing_line, commands_given, next_line, route_line, stays_left}
 use Rattle.bs_host.specs.Routing.{act_in, acts_in, capacity_of, next_registry, registry_behind, registry_then, route_at, route_of, routes_from}
 use Rattle.bs_host.proofs.GuestRoutes.{same_next, same_route}
 

@@ -1,13 +1,10 @@
 -- A text cut at a line feed, with more behind it.
-use Rattle.std.proofs.Common.{◌≡◌, ℕ, suc, ◌+◌, ◌-◌, ◌<◌, ◌≤◌, true, false, List, [], ◌∷◌, ◌++◌, Some, None, All, length, take, drop, get_or, sym, ap, ◌∙◌, arith, append_assoc, length-take, take-append-drop, add-one}
+use Rattle.std.proofs.Common.{◌≡◌, ℕ, suc, ◌+◌, ◌-◌, ◌<◌, true, false, List, [], ◌∷◌, ◌++◌, Some, None, All, length, take, drop, get_or, sym, ap, ◌∙◌, arith, append_assoc, length-take, take-append-drop, add-one}
 use Rattle.std.proofs.Math.Seq.{drop-cons}
-use Rattle.std.proofs.Math.Dec.{eqb}
 use Rattle.std.proofs.lemmas.List.{get_or-take, take_rest}
 use Rattle.std.proofs.lemmas.List.Quantifiers.{position-Some}
 use Rattle.std.proofs.lemmas.List.Splits.{slice_split_at, slice_split_none}
 use Rattle.std.specs.List.{position}
-use Rattle.memchr.specs.Find.{IsLastByte, is_byte}
-use Rattle.bs_host.specs.declared.lines.TheConstants.{LINE_FEED}
 use Rattle.bs_host.specs.File.{pieces_of}
 use Rattle.bs_host.specs.Live.{IsCutFirst, IsCutLast}
 use Rattle.bs_host.proofs.CutPieces.{fails_everywhere, is_feed, pieces_between}

@@ -1,8 +1,5 @@
 -- Several lines of a live host, its opening and its end.
-use Rattle.std.proofs.Common.{◌≡◌, ℕ, zero, suc, ◌+◌, ◌<◌, ◌≤◌, Bool, true, false, List, [], ◌∷◌, ◌++◌, Option, Some, None, Ok, drop, length, get_or, refl, sym, ap, subst, ◌∙◌, arith, append-nil, append_assoc, length-append}
-use Rattle.std.specs.Borrow.{Bor}
-use Rattle.std.specs.Prelude.{option_copied}
-use Rattle.std.specs.List.{flat_map}
+use Rattle.std.proofs.Common.{◌≡◌, ℕ, zero, suc, ◌+◌, ◌<◌, ◌≤◌, Bool, true, false, List, [], ◌∷◌, ◌++◌, Ok, drop, length, get_or, refl, sym, ap, subst, ◌∙◌, arith, append-nil, append_assoc}
 use Rattle.std.proofs.Math.ListN.{get_or-map}
 use Rattle.std.specs.Prelude.{if◌then◌else◌}
 use Rattle.std.proofs.lemmas.List.{drop_all, drop_more, length-map}
@@ -17,7 +14,6 @@ use Rattle.bs_sched.specs.Stays.{Stay, no_stay, stay_at}
 use Rattle.bs_workers.specs.Acts.{opened, rows_admitted, rows_in_registry}
 use Rattle.bs_host.specs.declared.limits.TheConstants.{BLOCK_BYTES}
 use Rattle.bs_host.specs.Cut.{row_at}
-use Rattle.bs_host.specs.File.{pieces_after, pieces_of}
 use Rattle.bs_host.specs.Guests.{GuestList, guests_of, open_from, open_of}
 use Rattle.bs_host.specs.Live.{AreAnswered, ArePlayed, HasAnswered, HasOpened, acts_behind, answer_behind, answers_from, closing_behind, closing_line, closing_of, commands_given, rows_behind, stays_left}
 use Rattle.bs_host.specs.Routing.{capacity_of}

@@ -39,21 +39,21 @@ pub(crate) fn split_from(text: &[u8], place: usize) -> Option<(&[u8], &[u8])>
     Some((&text[..at], &text[at + 1..]))
 }
 
-/// Splits a text at its first line feed, if there is one.
+/// Splits bytes at their first line feed, if there is one.
 #[tactic(auto, using(crate::proofs::LivePieces::first_cut))]
-pub(crate) fn split_first(text: &[u8]) -> Option<(&[u8], &[u8])>
-    ensures some { IfSome result (λ cut. IsCutFirst text.now cut.0.now cut.1.now) }
-    ensures none { IsNone result → position (λ byte. byte == LINE_FEED) text.now ≡ None }
+pub(crate) fn split_first(bytes: &[u8]) -> Option<(&[u8], &[u8])>
+    ensures some { IfSome result (λ cut. IsCutFirst bytes.now cut.0.now cut.1.now) }
+    ensures none { IsNone result → position (λ byte. byte == LINE_FEED) bytes.now ≡ None }
 {
-    let at = first_feed(text)?;
-    Some((&text[..at], &text[at + 1..]))
+    let at = first_feed(bytes)?;
+    Some((&bytes[..at], &bytes[at + 1..]))
 }
 
-/// Splits a text at its last line feed, if there is one.
+/// Splits bytes at their last line feed, if there is one.
 #[tactic(auto, using(crate::proofs::LivePieces::last_cut))]
-pub(crate) fn split_last(text: &[u8]) -> Option<(&[u8], &[u8])>
-    ensures { IfSome result (λ cut. IsCutLast text.now cut.0.now cut.1.now) }
+pub(crate) fn split_last(bytes: &[u8]) -> Option<(&[u8], &[u8])>
+    ensures { IfSome result (λ cut. IsCutLast bytes.now cut.0.now cut.1.now) }
 {
-    let at = memrchr(LINE_FEED, text)?;
-    Some((&text[..at], &text[at + 1..]))
+    let at = memrchr(LINE_FEED, bytes)?;
+    Some((&bytes[..at], &bytes[at + 1..]))
 }

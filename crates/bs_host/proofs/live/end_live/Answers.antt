@@ -1,5 +1,4 @@
 use Rattle.std.proofs.Common.{◌≡◌, ◌++◌, List, ℕ, Option, [], sym, ◌∙◌, append-nil, rules, inr}
-use Rattle.std.specs.Io.KnownBytes.{Appends}
 use Rattle.bs_board.specs.plans.Plan.{GameRow}
 use Rattle.bs_host.specs.File.{pieces_of}
 use Rattle.bs_host.specs.Live.{IsServing, answers_from, live_lines_of}

@@ -1,6 +1,6 @@
-use Rattle.std.proofs.Common.{◌≡◌, ℕ, List, Err, [], ◌++◌, refl, sym, subst, ◌∙◌, append-nil, append_assoc, rules}
+use Rattle.std.proofs.Common.{◌≡◌, List, Err, [], ◌++◌, refl, sym, subst, ◌∙◌, append-nil, append_assoc, rules}
 use Rattle.std.specs.Prelude.{IfSome}
-use Rattle.std.specs.Io.KnownBytes.{Appends, Consumes, IsAtEnd}
+use Rattle.std.specs.Io.KnownBytes.{Appends, IsAtEnd}
 use Rattle.bs_board.specs.plans.Plan.{GameRow}
 use Rattle.bs_host.specs.declared.live_fault.LiveFault.TheVariants as live
 use Rattle.bs_host.specs.File.{pieces_of}

@@ -1,7 +1,7 @@
-use Rattle.std.proofs.Common.{◌≡◌, ℕ, List, Option, None, [], ◌∷◌, ◌++◌, refl, rules}
+use Rattle.std.proofs.Common.{◌≡◌, None, [], ◌++◌, refl, rules}
 use Rattle.std.specs.List.{position}
 use Rattle.std.specs.Prelude.{IfSome}
-use Rattle.std.specs.Io.KnownBytes.{Appends, IsAtEnd}
+use Rattle.std.specs.Io.KnownBytes.{Appends}
 use Rattle.bs_host.specs.File.{pieces_of}
 use Rattle.bs_host.specs.Live.{IsCutFirst, live_lines_of}
 use Rattle.bs_host.specs.LiveFaults.{IsLiveFault, LeavesLines, LeavesLive, live_refusal_of}

@@ -1,4 +1,4 @@
-use Rattle.std.proofs.Common.{◌≡◌, ◌<◌, ◌++◌, length, arith, rules}
+use Rattle.std.proofs.Common.{◌≡◌, ◌++◌, rules}
 use Rattle.bs_json.specs.Replies.{final_line_of}
 use Rattle.bs_sched.specs.Machine.{lane_of}
 use Rattle.bs_host.proofs.LiveLines.{last_line}

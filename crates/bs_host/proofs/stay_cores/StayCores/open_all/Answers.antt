@@ -1,4 +1,4 @@
-use Rattle.std.proofs.Common.{◌≡◌, ◌+◌, ◌<◌, ◌++◌, [], ◌∷◌, length, sym, subst, arith}
+use Rattle.std.proofs.Common.{◌+◌, ◌<◌, length, sym, subst, arith}
 use Rattle.bs_host.proofs.LivePlays.{AreOpened, none_opened, one_more_opened}
 use Rattle.bs_host.proofs.stay_cores.StayCores.open_all.Goals as goal
 
