@@ -24,6 +24,10 @@ UNREAD = re.compile(
 )
 
 
+# Words by which a proof no longer fits the text, whatever the edit means. Its twin shows the rest.
+NAMES = re.compile(r"has no `|has no field|is not in scope|was not admitted")
+
+
 @dataclass
 class Edit:
     """An edit of function bodies."""
@@ -107,12 +111,14 @@ def is_listed(edit, function):
 
 
 def refusal(edit, said, texts, crate):
-    """The first words by which one of the edit's own functions is refused, or None."""
+    """The first words by which one of the edit's own functions is refused, or None. An error by
+    which the proof only names what the edit took away is the last choice."""
     by_hand = [
         str(file.relative_to(crate))
         for path, (kind, name) in edit.functions
         for file in proofs_of(crate, crate / path, kind, name)
     ]
+    misfit = None
     for line in said.splitlines():
         found = PLACE.match(line)
         if not found:
@@ -120,12 +126,16 @@ def refusal(edit, said, texts, crate):
         path, number, words = found[1], int(found[2]), found[3]
         is_error = words.startswith("error")
         if path in by_hand and is_error:
-            return line
+            if not NAMES.search(words):
+                return line
+            misfit = misfit or f"by names of its proof alone: {line}"
         if path not in texts or UNREAD.search(words):
             continue
         is_refusal = is_error or line.startswith("note: ")
         if is_refusal and (path, function_on(texts[path], number)) in edit.functions:
             return line
+    if misfit:
+        return misfit
     for function, words in LISTED.findall(said):
         is_own = " did not prove " in words or "it calls" not in words
         if is_own and is_listed(edit, function) and not UNREAD.search(words):
