@@ -9,6 +9,7 @@ from pathlib import Path
 
 from ladder.game_files import command_file, make_folders
 from ladder.outcome import Outcome, Tally
+from ladder.play import locked
 from ladder.store import Store, StoreFault, open_store
 
 
@@ -20,11 +21,12 @@ def merge(into: Path, folders: Sequence[Path]) -> int:
     for folder in folders:
         open_store(folder).close()
     make_folders(into)
-    store = Store(into)
-    try:
-        return sum(add_folder(into, store, folder) for folder in folders)
-    finally:
-        store.close()
+    with locked(into):
+        store = Store(into)
+        try:
+            return sum(add_folder(into, store, folder) for folder in folders)
+        finally:
+            store.close()
 
 
 def add_folder(into: Path, store: Store, folder: Path) -> int:

@@ -20,7 +20,7 @@ import pytest
 from served import Served, start_play, write_config
 from testing import chromium  # of viewer/
 
-from ladder.feed import MOST_READERS, MOST_WAITING, Feed
+from ladder.feed import MOST_READERS, MOST_WAITING, Feed, Reader
 from ladder.page import Address, address_of, page
 from ladder.pairing import Fixture
 
@@ -43,15 +43,22 @@ def test_addresses_are_of_this_machine_unless_another_is_named() -> None:
 def told(raw: bytes | None) -> tuple[str, Any]:
     """The kind of an event and what it tells."""
     assert raw is not None
-    kind, data = re.fullmatch(rb"event: (\w+)\ndata: (.*)\n\n", raw).groups()
+    ((kind, data),) = re.findall(rb"\Aevent: (\w+)\ndata: (.*)\n\n\Z", raw)
     return kind.decode(), json.loads(data)
+
+
+def joined(feed: Feed) -> Reader:
+    """A new reader of a feed that has room for one."""
+    reader = feed.join()
+    assert reader is not None
+    return reader
 
 
 def test_readers_are_told_what_changed() -> None:
     async def work() -> None:
         feed = Feed(lambda: [{"bot": "a"}], lambda: "one <line>\nand more")
         feed.show(GAME, {"turn": 0})
-        reader = feed.join()
+        reader = joined(feed)
         kind, state = told(reader.events.get_nowait())
         assert (kind, state["boards"]) == ("all", {GAME.name: {"turn": 0}})
         feed.show(GAME, {"turn": 1})
@@ -72,8 +79,8 @@ def test_readers_are_told_what_changed() -> None:
 def test_slow_readers_are_let_go_and_too_many_are_refused() -> None:
     async def work() -> None:
         feed = Feed(list, str)
-        readers = [feed.join() for _ in range(MOST_READERS)]
-        assert None not in readers and feed.join() is None
+        readers = [joined(feed) for _ in range(MOST_READERS)]
+        assert feed.join() is None
         for _ in range(MOST_WAITING):
             await feed.tick()
         assert not feed.readers
@@ -134,7 +141,8 @@ def playing(program: Path, config: Path) -> Iterator[tuple[subprocess.Popen[str]
     try:
         assert process.stderr is not None
         line = process.stderr.readline()
-        yield process, re.fullmatch(r"ladder: the page is (http://127\.0\.0\.1:\d+/)\n", line)[1]
+        (address,) = re.findall(r"\Aladder: the page is (http://127\.0\.0\.1:\d+/)\n\Z", line)
+        yield process, address
     finally:
         process.kill()
         process.communicate()
