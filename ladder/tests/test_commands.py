@@ -168,7 +168,7 @@ def test_progress_is_shown_on_a_terminal(program: Path, config: Path, tmp_path: 
     mine = tmp_path / "mine.toml"
     mine.write_text(config.read_text().replace("results", "terminal"))
     ours, theirs = pty.openpty()
-    words = [LADDER, "play", mine, "--program", program]
+    words: list[str | Path] = [LADDER, "play", mine, "--program", program]
     environment = {**os.environ, "TERM": "xterm", "COLUMNS": "120"}
     process = subprocess.Popen(words, stdout=subprocess.DEVNULL, stderr=theirs, env=environment)
     os.close(theirs)

@@ -25,9 +25,19 @@ from ladder.page import Address, address_of, page
 from ladder.pairing import Fixture
 
 GAME = Fixture("r0001-t001", 1, ("a", "b"))
-DRAWN = """
-const article = document.querySelector('article');
-return article && [article.dataset.game, article.querySelector('.turn').textContent, article.querySelector('.body').getAttribute('d')];
+WATCH = """
+// Keeps what each board was drawn as, by its game and its turn.
+window.seen = {};
+new MutationObserver(() => document.querySelectorAll('article').forEach((article) => {
+  const body = article.querySelector('.body');
+  if (body) {
+    const turns = window.seen[article.dataset.game] ??= {};
+    turns[article.querySelector('.turn').textContent] = body.getAttribute('d');
+  }
+})).observe(document.getElementById('games'), { subtree: true, childList: true, characterData: true });
+"""
+MOVED = """
+return Object.values(window.seen).find((turns) => new Set(Object.values(turns)).size > 2) ?? null;
 """
 
 
@@ -158,23 +168,21 @@ def test_board_moves_while_its_game_runs(
         folder=str(tmp_path / "results"),
         timeout=5000,
         turns=60,
+        rounds=3,
+        at_once=3,
     )
     with playing(program, config) as (process, address):
         browser.complaints()
         browser.go(address)
-        seen = [browser.wait(f"return (() => {{ {DRAWN} }})()")]
-        for _ in range(2):
-            last = json.dumps(seen[-1])
-            moved = f"const it = (() => {{ {DRAWN} }})(); return it && it[0] === {last}[0] && it[2] !== {last}[2] && it"
-            seen.append(browser.wait(moved))
-        turns = [int(turn.removeprefix("turn ")) for _, turn, _ in seen]
-        assert turns == sorted(set(turns))
+        browser.run(WATCH)
+        turns = browser.wait(MOVED, seconds=60)
+        assert all(re.fullmatch("turn [0-9]+", turn) for turn in turns)
         browser.wait("return document.body.dataset.state === 'ended'", seconds=90)
         rows = browser.run(
             "return [...document.querySelectorAll('#standings tbody tr')].map((row) => [...row.cells].map((cell) => cell.textContent))"
         )
         assert sorted(row[0] for row in rows) == ["one", "three", "two"]
-        assert [row[1] for row in rows] == ["2"] * 3
+        assert [row[1] for row in rows] == ["6"] * 3
         assert browser.run("return document.querySelectorAll('article').length") == 0
         assert browser.run("return document.querySelectorAll('script').length") == 5
         assert browser.complaints() == []
