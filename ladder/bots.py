@@ -194,7 +194,9 @@ def answer_of(said: dict[str, Any]) -> Answer:
 
 
 def look_of(said: dict[str, Any]) -> Look:
-    """The look that a bot asked for, as far as it is one."""
+    """The look that a bot asked for, as far as it is one; its API has to be version 1."""
+    if said.get("apiversion") != "1":
+        raise NoAnswer("apiversion")
 
     def part(name: str, pattern: str, usual: str) -> str:
         value = said.get(name)

@@ -8,6 +8,7 @@ import os
 import subprocess
 from collections.abc import Callable
 from concurrent.futures import ThreadPoolExecutor
+from contextlib import closing
 from dataclasses import dataclass
 from pathlib import Path
 
@@ -38,13 +39,10 @@ def check(folder: Path, program: Path, note: Callable[[int], None]) -> Checked:
     `arena serve` writes for its file the very lines that the live host wrote, and where its last
     board is the one in the results.
     """
-    store = open_store(folder)
-    try:
+    with closing(open_store(folder)) as store:
         store.names()
         outcomes = list(store.outcomes())
         identity = store.identity()
-    finally:
-        store.close()
     if identity is None:
         raise StoreFault(f"{folder} has no results of a ladder")
     config = config_again(identity, folder, max((it.round for it in outcomes), default=1))

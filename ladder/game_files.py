@@ -6,7 +6,9 @@ moment goes on from its files: what follows the last line feed was not sent, and
 
 from __future__ import annotations
 
+import errno
 import json
+import os
 from pathlib import Path
 from typing import Any
 
@@ -30,7 +32,9 @@ class LineFile:
         self.file.truncate(sum(map(len, self.lines)))
 
     def write(self, line: bytes) -> None:
-        self.file.write(line)
+        """Writes a line; raises OSError where not all of it could be written."""
+        if self.file.write(line) != len(line):
+            raise OSError(errno.ENOSPC, os.strerror(errno.ENOSPC), self.file.name)
 
     def close(self) -> None:
         self.file.close()

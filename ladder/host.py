@@ -205,6 +205,7 @@ class Host:
             stdout=asyncio.subprocess.PIPE,
             stderr=asyncio.subprocess.PIPE,
             limit=LONGEST_LINE,
+            start_new_session=True,  # Ctrl-C is for this program alone
         )
         self._reader = asyncio.create_task(self._read())
         with suppress(HostDied):  # which the first call raises

@@ -8,7 +8,7 @@ import signal
 import sqlite3
 import sys
 from collections.abc import Sequence
-from contextlib import AsyncExitStack
+from contextlib import AsyncExitStack, closing
 from pathlib import Path
 from typing import Any
 
@@ -21,7 +21,7 @@ from ladder.game import GameFault
 from ladder.game_files import make_folders
 from ladder.host import PROGRAM, HostDied, HostFault
 from ladder.merge import merge
-from ladder.page import address_of, page
+from ladder.page import Address, address_of, page
 from ladder.pairing import Part, part_of
 from ladder.play import Job, locked, play
 from ladder.progress import Counts, ProgressBar
@@ -41,27 +41,22 @@ def program_of(given: argparse.Namespace) -> Path:
     return program.resolve()
 
 
-async def play_job(job: Job, counts: Counts, given: argparse.Namespace) -> None:
-    """Plays a job with its progress and, where one is asked for, its page."""
-    store = Store(job.folder)
+async def play_job(job: Job, store: Store, counts: Counts, address: Address | None) -> None:
+    """Plays a job with its progress and, where it has an address, its page."""
     async with AsyncExitStack() as stack:
-        stack.callback(store.close)
         bar = stack.enter_context(ProgressBar(counts))
         watches: list[Watch] = [counts, bar]
-        if given.page is not None:
+        if address is not None:
             feed = Feed(lambda: rows_of(job.folder), counts.line)
-            bar.say(f"the page is {await stack.enter_async_context(page(feed, given.page))}")
+            bar.say(f"the page is {await stack.enter_async_context(page(feed, address))}")
             watches.append(feed)
         await play(job, store, watches)
 
 
 def rows_of(folder: Path) -> list[dict[str, Any]]:
     """The standings of a folder, read anew: another thread may ask for them."""
-    store = open_store(folder)
-    try:
+    with closing(open_store(folder)) as store:
         return [standing.row() for standing in standings_of(store)]
-    finally:
-        store.close()
 
 
 def run_play(given: argparse.Namespace) -> int:
@@ -72,19 +67,16 @@ def run_play(given: argparse.Namespace) -> int:
     job = Job(config, folder, part, program_of(given))
     counts = Counts()
     make_folders(folder)
-    with locked(folder):
-        asyncio.run(play_job(job, counts, given))
+    with locked(folder), closing(Store(folder)) as store:
+        asyncio.run(play_job(job, store, counts, given.page))  # which waits for its threads
     print(f"ladder: {counts.summary()}")
     return 0
 
 
 def run_standings(given: argparse.Namespace) -> int:
     """Prints the standings of a folder."""
-    store = open_store(given.folder)
-    try:
+    with closing(open_store(given.folder)) as store:
         standings = standings_of(store)
-    finally:
-        store.close()
     if given.csv or given.json:
         print(as_csv(standings) if given.csv else as_json(standings), end="")
     else:

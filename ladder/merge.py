@@ -5,10 +5,12 @@ from __future__ import annotations
 import os
 import shutil
 from collections.abc import Iterator, Mapping, Sequence
+from contextlib import closing
 from pathlib import Path
 
 from ladder.game_files import command_file, make_folders
 from ladder.outcome import Outcome, Tally
+from ladder.play import locked
 from ladder.store import Store, StoreFault, open_store
 
 
@@ -20,17 +22,13 @@ def merge(into: Path, folders: Sequence[Path]) -> int:
     for folder in folders:
         open_store(folder).close()
     make_folders(into)
-    store = Store(into)
-    try:
+    with locked(into), closing(Store(into)) as store:
         return sum(add_folder(into, store, folder) for folder in folders)
-    finally:
-        store.close()
 
 
 def add_folder(into: Path, store: Store, folder: Path) -> int:
     """Adds the games of a folder that are missing, files first."""
-    part = open_store(folder)
-    try:
+    with closing(open_store(folder)) as part:
         part.names()
         identity = part.identity()
         if identity is None:
@@ -46,8 +44,6 @@ def add_folder(into: Path, store: Store, folder: Path) -> int:
             copy(command_file(folder, outcome.name), command_file(into, outcome.name))
         store.add(with_tallies(part, missing))
         return len(missing)
-    finally:
-        part.close()
 
 
 def with_tallies(

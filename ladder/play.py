@@ -47,7 +47,7 @@ async def play(job: Job, store: Store, watches: Sequence[Watch]) -> None:
     store.begin(job.config.identity, job.config.bots)
     config = job.config
     fixtures = fixtures_of(config, job.part)
-    done = store.names()
+    done = store.names() & {fixture.name for fixture in fixtures}
     for name in running_games(job.folder) & done:
         forget_answers(job.folder, name)
     async with (

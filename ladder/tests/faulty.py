@@ -38,7 +38,7 @@ CAUSES = {  # of each bot that fails as planned
     "hanging": "late",
 }
 SLOW_SECONDS = 10.0
-CALM_SECONDS = 0.25
+CALM_SECONDS = 0.1
 HANGING_SECONDS = 600.0
 MOVES_OF_GONE = 100
 COUNTS: Counter[str] = Counter()

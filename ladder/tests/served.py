@@ -35,13 +35,14 @@ class Served:
         with urllib.request.build_opener(urllib.request.ProxyHandler({})).open(
             self.url("counts"), timeout=START_SECONDS
         ) as answer:
-            return json.load(answer)
+            counts: dict[str, int] = json.load(answer)
+        return counts
 
 
 def free_port() -> int:
     with socket.socket() as found:
         found.bind(("127.0.0.1", 0))
-        return found.getsockname()[1]
+        return int(found.getsockname()[1])
 
 
 @contextmanager

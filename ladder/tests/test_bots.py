@@ -15,7 +15,7 @@ import pytest
 from ladder.bots import Answer, BotClient, NoAnswer
 from ladder.payloads import Look
 
-TIMEOUT = 1.0
+TIMEOUT = 2.0
 Serve = Callable[[asyncio.StreamReader, asyncio.StreamWriter], Awaitable[None]]
 
 
@@ -80,7 +80,7 @@ def test_each_answer_has_its_cause(serve: Serve, cause: str | None) -> None:
     (answer,) = run(asked(serve))
     assert answer.cause == cause
     assert answer.move == ("up" if cause is None else None)
-    assert answer.latency == 1000 if cause == "late" else answer.latency < 1000
+    assert answer.latency == 2000 if cause == "late" else answer.latency < 2000
 
 
 def test_bot_that_nobody_serves_refuses() -> None:
@@ -198,6 +198,9 @@ def test_looks_are_taken_as_far_as_they_are_looks() -> None:
 
     fit = {"apiversion": "1", "color": "#00ff7F", "head": "trans-rights", "tail": "bolt"}
     assert run(look(fit)) == Look("#00ff7F", "trans-rights", "bolt")
-    assert run(look({"color": "red; x", "head": "../../etc", "tail": 7})) == Look()
+    harmful = {"apiversion": "1", "color": "red; x", "head": "../../etc", "tail": 7}
+    assert run(look(harmful)) == Look()
     with pytest.raises(NoAnswer, match="json"):
         run(look("no object"))
+    with pytest.raises(NoAnswer, match="apiversion"):
+        run(look({"color": "#00ff7F"}))

@@ -4,12 +4,25 @@ from __future__ import annotations
 
 import csv
 import json
+import os
+import pty
+import re
 import shutil
 import sqlite3
+import subprocess
+from collections.abc import Callable
 from pathlib import Path
 
 import pytest
-from served import SMALL, Served, files_of, run_ladder, standings_without_times, write_config
+from served import (
+    LADDER,
+    SMALL,
+    Served,
+    files_of,
+    run_ladder,
+    standings_without_times,
+    write_config,
+)
 
 
 @pytest.fixture(scope="module")
@@ -83,7 +96,8 @@ def test_standings_have_three_forms(played: Path) -> None:
     assert sum(row["wins"] for row in rows) <= 10
 
 
-TAMPERED = [
+Tamper = Callable[[bytes], bytes]
+TAMPERED: list[tuple[str, Tamper, str]] = [
     ("a move", lambda text: text.replace(b'"up"', b'"down"', 1), "other lines than the live host"),
     ("a word", lambda text: text.replace(b'"words":[', b'"words":[1', 1), "words of the move"),
     ("the start", lambda text: text.replace(b'"x":', b'"x":1', 1), "does not begin as the seed"),
@@ -94,7 +108,7 @@ TAMPERED = [
 
 @pytest.mark.parametrize(("what", "tamper", "why"), TAMPERED, ids=[row[0] for row in TAMPERED])
 def test_file_that_was_changed_is_found(
-    program: Path, played: Path, tmp_path: Path, what: str, tamper, why: str
+    program: Path, played: Path, tmp_path: Path, what: str, tamper: Tamper, why: str
 ) -> None:
     folder = tmp_path / "results"
     shutil.copytree(played, folder)
@@ -149,6 +163,32 @@ def test_file_of_another_game_is_not_gone_on_with(
     assert ran.stderr.startswith("ladder: the file of r0001-t001 has not begun as this ladder")
 
 
+def test_progress_is_shown_on_a_terminal(program: Path, config: Path, tmp_path: Path) -> None:
+    """On a terminal the games done, those running, the rate and the missed moves are shown."""
+    mine = tmp_path / "mine.toml"
+    mine.write_text(config.read_text().replace("results", "terminal"))
+    ours, theirs = pty.openpty()
+    words: list[str | Path] = [LADDER, "play", mine, "--program", program]
+    environment = {**os.environ, "TERM": "xterm", "COLUMNS": "120"}
+    process = subprocess.Popen(words, stdout=subprocess.DEVNULL, stderr=theirs, env=environment)
+    os.close(theirs)
+    shown = b""
+    while piece := read_terminal(ours):
+        shown += piece
+    assert process.wait() == 0
+    os.close(ours)
+    assert b"10/10" in shown and b" moves missed" in shown
+    assert re.search(rb"[1-9][0-9]* running, [0-9]+ turns a second, 0 of", shown)
+
+
+def read_terminal(terminal: int) -> bytes:
+    """What was written to a terminal, or nothing once its other end is closed."""
+    try:
+        return os.read(terminal, 65_536)
+    except OSError:
+        return b""
+
+
 def test_hosts_that_die_at_once_are_given_up(config: Path, tmp_path: Path) -> None:
     """A program that is broken is started six times, and no seventh time."""
     program, starts = tmp_path / "broken", tmp_path / "starts"
@@ -167,10 +207,10 @@ def test_faults_are_one_line(program: Path, config: Path, tmp_path: Path) -> Non
     text = config.read_text().replace("results", "faults")
     config = tmp_path / "faults.toml"
     config.write_text(text)
-    cases = [
+    cases: list[tuple[tuple[str | Path, ...], str]] = [
         (("play", tmp_path / "none.toml"), "No such file or directory"),
         (("play", config, "--program", tmp_path / "none"), "there is no program"),
-        (("play", config, "--program", shutil.which("false")), "arena live ended with status 1"),
+        (("play", config, "--program", Path("/bin/false")), "arena live ended with status 1"),
         (("standings", tmp_path), "has no results of a ladder"),
         (("check", tmp_path, "--program", program), "has no results of a ladder"),
         (("merge", tmp_path / "x", tmp_path), "has no results of a ladder"),

@@ -16,7 +16,7 @@ PAGE = (ROOT / "docs" / "LADDER.md").read_text()
 
 
 def test_simulator_prints_what_the_page_says(program: Path) -> None:
-    code = re.search(r"```python\n(.*?)```", PAGE, re.DOTALL)[1]
+    (code,) = re.findall(r"```python\n(.*?)```", PAGE, re.DOTALL)
     assert len([line for line in code.splitlines() if line]) <= 20
     code = code.replace("Host(blocks=384)", f"Host(blocks=384, program={str(program)!r})")
     ran = subprocess.run(

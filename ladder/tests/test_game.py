@@ -5,6 +5,8 @@ from __future__ import annotations
 import asyncio
 import json
 import random
+import subprocess
+import sys
 from collections.abc import Sequence
 from dataclasses import dataclass, field
 from pathlib import Path
@@ -178,6 +180,20 @@ def test_line_files_have_whole_lines_alone(tmp_path: Path) -> None:
     file.cut(1)
     file.close()
     assert path.read_bytes() == b"one\n"
+
+
+def test_line_that_was_written_in_part_is_a_fault(tmp_path: Path) -> None:
+    """Where a disk is full, the line is not sent; what was written of it is removed later."""
+    code = (
+        "import resource, sys; from pathlib import Path; from ladder.game_files import LineFile\n"
+        "resource.setrlimit(resource.RLIMIT_FSIZE, (10, 10))\n"
+        "file = LineFile(Path(sys.argv[1])); file.write(b'12345\\n'); file.write(b'12345\\n')\n"
+    )
+    path = tmp_path / "lines"
+    ran = subprocess.run([sys.executable, "-c", code, path], capture_output=True, text=True)
+    assert ran.returncode == 1 and "No space left on device" in ran.stderr
+    assert path.read_bytes() == b"12345\n1234"
+    assert LineFile(path).lines == [b"12345\n"]
 
 
 def test_answers_of_turns_without_a_move_are_forgotten(tmp_path: Path) -> None:

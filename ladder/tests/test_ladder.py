@@ -10,7 +10,7 @@ from served import Served, run_ladder, start_play, write_config
 from ladder.store import open_store
 
 GAMES = 64
-TIMEOUT = 1500  # milliseconds: long, since the bots' process may wait for a processor
+TIMEOUT = 4000  # milliseconds: long, since the bots' process may wait for a processor
 
 
 def test_64_games_of_four_with_every_fault(

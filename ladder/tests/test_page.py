@@ -20,14 +20,24 @@ import pytest
 from served import Served, start_play, write_config
 from testing import chromium  # of viewer/
 
-from ladder.feed import MOST_READERS, MOST_WAITING, Feed
+from ladder.feed import MOST_READERS, MOST_WAITING, Feed, Reader
 from ladder.page import Address, address_of, page
 from ladder.pairing import Fixture
 
 GAME = Fixture("r0001-t001", 1, ("a", "b"))
-DRAWN = """
-const article = document.querySelector('article');
-return article && [article.dataset.game, article.querySelector('.turn').textContent, article.querySelector('.body').getAttribute('d')];
+WATCH = """
+// Keeps what each board was drawn as, by its game and its turn.
+window.seen = {};
+new MutationObserver(() => document.querySelectorAll('article').forEach((article) => {
+  const body = article.querySelector('.body');
+  if (body) {
+    const turns = window.seen[article.dataset.game] ??= {};
+    turns[article.querySelector('.turn').textContent] = body.getAttribute('d');
+  }
+})).observe(document.getElementById('games'), { subtree: true, childList: true, characterData: true });
+"""
+MOVED = """
+return Object.values(window.seen).find((turns) => new Set(Object.values(turns)).size > 2) ?? null;
 """
 
 
@@ -43,15 +53,22 @@ def test_addresses_are_of_this_machine_unless_another_is_named() -> None:
 def told(raw: bytes | None) -> tuple[str, Any]:
     """The kind of an event and what it tells."""
     assert raw is not None
-    kind, data = re.fullmatch(rb"event: (\w+)\ndata: (.*)\n\n", raw).groups()
+    ((kind, data),) = re.findall(rb"\Aevent: (\w+)\ndata: (.*)\n\n\Z", raw)
     return kind.decode(), json.loads(data)
+
+
+def joined(feed: Feed) -> Reader:
+    """A new reader of a feed that has room for one."""
+    reader = feed.join()
+    assert reader is not None
+    return reader
 
 
 def test_readers_are_told_what_changed() -> None:
     async def work() -> None:
         feed = Feed(lambda: [{"bot": "a"}], lambda: "one <line>\nand more")
         feed.show(GAME, {"turn": 0})
-        reader = feed.join()
+        reader = joined(feed)
         kind, state = told(reader.events.get_nowait())
         assert (kind, state["boards"]) == ("all", {GAME.name: {"turn": 0}})
         feed.show(GAME, {"turn": 1})
@@ -72,8 +89,8 @@ def test_readers_are_told_what_changed() -> None:
 def test_slow_readers_are_let_go_and_too_many_are_refused() -> None:
     async def work() -> None:
         feed = Feed(list, str)
-        readers = [feed.join() for _ in range(MOST_READERS)]
-        assert None not in readers and feed.join() is None
+        readers = [joined(feed) for _ in range(MOST_READERS)]
+        assert feed.join() is None
         for _ in range(MOST_WAITING):
             await feed.tick()
         assert not feed.readers
@@ -134,7 +151,8 @@ def playing(program: Path, config: Path) -> Iterator[tuple[subprocess.Popen[str]
     try:
         assert process.stderr is not None
         line = process.stderr.readline()
-        yield process, re.fullmatch(r"ladder: the page is (http://127\.0\.0\.1:\d+/)\n", line)[1]
+        (address,) = re.findall(r"\Aladder: the page is (http://127\.0\.0\.1:\d+/)\n\Z", line)
+        yield process, address
     finally:
         process.kill()
         process.communicate()
@@ -150,23 +168,21 @@ def test_board_moves_while_its_game_runs(
         folder=str(tmp_path / "results"),
         timeout=5000,
         turns=60,
+        rounds=3,
+        at_once=3,
     )
     with playing(program, config) as (process, address):
         browser.complaints()
         browser.go(address)
-        seen = [browser.wait(f"return (() => {{ {DRAWN} }})()")]
-        for _ in range(2):
-            last = json.dumps(seen[-1])
-            moved = f"const it = (() => {{ {DRAWN} }})(); return it && it[0] === {last}[0] && it[2] !== {last}[2] && it"
-            seen.append(browser.wait(moved))
-        turns = [int(turn.removeprefix("turn ")) for _, turn, _ in seen]
-        assert turns == sorted(set(turns))
+        browser.run(WATCH)
+        turns = browser.wait(MOVED, seconds=60)
+        assert all(re.fullmatch("turn [0-9]+", turn) for turn in turns)
         browser.wait("return document.body.dataset.state === 'ended'", seconds=90)
         rows = browser.run(
             "return [...document.querySelectorAll('#standings tbody tr')].map((row) => [...row.cells].map((cell) => cell.textContent))"
         )
         assert sorted(row[0] for row in rows) == ["one", "three", "two"]
-        assert [row[1] for row in rows] == ["2"] * 3
+        assert [row[1] for row in rows] == ["6"] * 3
         assert browser.run("return document.querySelectorAll('article').length") == 0
         assert browser.run("return document.querySelectorAll('script').length") == 5
         assert browser.complaints() == []

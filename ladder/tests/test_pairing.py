@@ -92,7 +92,7 @@ EDGES = {(1, 5), (5, 1), (5, 9), (9, 5)}
 
 def test_starts_on_the_usual_board() -> None:
     """Up to four start all in corners or all at edges, eight on all these; both occur."""
-    kinds = Counter()
+    kinds: Counter[bool] = Counter()
     for seed in range(40):
         cells = start_cells(Draw(seed), 11, 11, 4)
         assert set(cells) in (CORNERS, EDGES)
