@@ -41,6 +41,12 @@ def program_of(given: argparse.Namespace) -> Path:
     return program.resolve()
 
 
+def pass_over_lost_connections(loop: asyncio.AbstractEventLoop, context: dict[str, Any]) -> None:
+    """Says nothing where a task of aiohttp's own loses its bot: the request is told as well."""
+    if not isinstance(context.get("exception"), ConnectionError):
+        loop.default_exception_handler(context)
+
+
 async def play_job(job: Job, store: Store, counts: Counts, address: Address | None) -> None:
     """Plays a job with its progress and, where it has an address, its page.
 
@@ -49,6 +55,7 @@ async def play_job(job: Job, store: Store, counts: Counts, address: Address | No
     task = asyncio.current_task()
     assert task is not None
     asyncio.get_running_loop().add_signal_handler(signal.SIGTERM, task.cancel)
+    asyncio.get_running_loop().set_exception_handler(pass_over_lost_connections)
     async with AsyncExitStack() as stack:
         bar = stack.enter_context(ProgressBar(counts))
         watches: list[Watch] = [counts, bar]
