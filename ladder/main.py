@@ -41,8 +41,21 @@ def program_of(given: argparse.Namespace) -> Path:
     return program.resolve()
 
 
+def pass_over_lost_connections(loop: asyncio.AbstractEventLoop, context: dict[str, Any]) -> None:
+    """Says nothing where a task of aiohttp's own loses its bot: the request is told as well."""
+    if not isinstance(context.get("exception"), ConnectionError):
+        loop.default_exception_handler(context)
+
+
 async def play_job(job: Job, store: Store, counts: Counts, address: Address | None) -> None:
-    """Plays a job with its progress and, where it has an address, its page."""
+    """Plays a job with its progress and, where it has an address, its page.
+
+    A signal to end cancels it, as Ctrl-C does; raised anywhere in the libraries it might be lost.
+    """
+    task = asyncio.current_task()
+    assert task is not None
+    asyncio.get_running_loop().add_signal_handler(signal.SIGTERM, task.cancel)
+    asyncio.get_running_loop().set_exception_handler(pass_over_lost_connections)
     async with AsyncExitStack() as stack:
         bar = stack.enter_context(ProgressBar(counts))
         watches: list[Watch] = [counts, bar]
@@ -139,12 +152,11 @@ def add_program(words: argparse.ArgumentParser) -> None:
 def main(words: Sequence[str] | None = None) -> int:
     """Runs a command; a fault is said in a line on the standard error, with status 1."""
     given = parser().parse_args(words)
-    signal.signal(signal.SIGTERM, signal.getsignal(signal.SIGINT))
     try:
         return int(given.run(given))
     except FAULTS as fault:
         print(f"ladder: {fault}", file=sys.stderr)
         return 1
-    except KeyboardInterrupt:
+    except (KeyboardInterrupt, asyncio.CancelledError):
         print("ladder: stopped; the same command goes on", file=sys.stderr)
         return INTERRUPTED

@@ -3,7 +3,6 @@
 from __future__ import annotations
 
 import json
-import os
 import socket
 import subprocess
 import sys
@@ -129,8 +128,9 @@ def standings_without_times(folder: Path) -> list[dict[str, Any]]:
 
 
 def is_running(pid: int) -> bool:
+    """Whether a process runs; one that has ended and that nobody has asked for does not."""
     try:
-        os.kill(pid, 0)
-    except ProcessLookupError:
+        stat = Path(f"/proc/{pid}/stat").read_text()
+    except OSError:
         return False
-    return True
+    return stat.rpartition(")")[2].split()[0] != "Z"

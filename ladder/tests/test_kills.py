@@ -107,7 +107,7 @@ def test_ladder_that_is_killed_goes_on(
         assert (again.returncode, again.stderr) == (0, "")
         assert again.stdout.startswith(f"ladder: {GAMES} of {GAMES} games are done, ")
         assert_same(folder / "results", undisturbed, program)
-        assert not any(map(is_running, hosts)), "a host outlived its ladder"
+        assert len(hosts) == 1 and not is_running(hosts[0]), "a host outlived its ladder"
 
 
 def test_host_that_is_killed_is_followed_by_another(

@@ -168,7 +168,7 @@ def test_board_moves_while_its_game_runs(
         folder=str(tmp_path / "results"),
         timeout=5000,
         turns=60,
-        rounds=3,
+        rounds=1000,
         at_once=3,
     )
     with playing(program, config) as (process, address):
@@ -177,13 +177,13 @@ def test_board_moves_while_its_game_runs(
         browser.run(WATCH)
         turns = browser.wait(MOVED, seconds=60)
         assert all(re.fullmatch("turn [0-9]+", turn) for turn in turns)
-        browser.wait("return document.body.dataset.state === 'ended'", seconds=90)
+        browser.wait("return document.querySelector('#standings tbody tr')", seconds=60)
+        process.terminate()
+        browser.wait("return document.body.dataset.state === 'ended'", seconds=60)
         rows = browser.run(
-            "return [...document.querySelectorAll('#standings tbody tr')].map((row) => [...row.cells].map((cell) => cell.textContent))"
+            "return [...document.querySelectorAll('#standings tbody th')].map((cell) => cell.textContent)"
         )
-        assert sorted(row[0] for row in rows) == ["one", "three", "two"]
-        assert [row[1] for row in rows] == ["6"] * 3
-        assert browser.run("return document.querySelectorAll('article').length") == 0
+        assert sorted(rows) == ["one", "three", "two"]
         assert browser.run("return document.querySelectorAll('script').length") == 5
         assert browser.complaints() == []
-        assert process.wait(timeout=60) == 0
+        assert process.wait(timeout=60) == 130
