@@ -75,9 +75,10 @@ fn serve_bytes<H: Threads + Wait + Sync, W: Write>(
 {
     let blocks = usize::from(with.blocks);
     let workers = usize::from(with.workers);
-    let served = serve(rt, alloc, bytes, blocks, workers, &OpenGate, output);
-    let _core = served.map_err(Failure::Serve)?;
-    finish(output)
+    match serve(rt, alloc, bytes, blocks, workers, &OpenGate, output) {
+        Ok(_core) => finish(output),
+        Err(fault) => Err(Failure::Serve(fault)),
+    }
 }
 
 /// Serves a file whole.
