@@ -42,20 +42,37 @@ fn cause(word: &str) -> Option<Cause> {
     }
 }
 
+/// What a word says.
+#[derive(Clone, Copy)]
+enum Field {
+    Cause,
+    Seat,
+    Turn,
+}
+
+/// What the word behind this one says.
+fn field_after(word: &str) -> Field {
+    match word {
+        "by" => Field::Seat,
+        "in" => Field::Turn,
+        _ => Field::Cause,
+    }
+}
+
 /// The cause, the killer and the turn of "CELLS CAUSE by SEAT in TURN", as far as they are there.
 fn put_out(snake: &mut Snake, text: &str) -> Result<(), Fail> {
-    let mut before = "";
+    let mut field = Field::Cause;
     for word in text.split(' ') {
-        match before {
-            "by" => snake.killer = Some(usize::from(small(word)?)),
-            "in" => snake.out = Some(u16::from(small(word)?)),
-            _ => {
+        match field {
+            Field::Seat => snake.killer = Some(usize::from(small(word)?)),
+            Field::Turn => snake.out = Some(u16::from(small(word)?)),
+            Field::Cause => {
                 if let Some(cause) = cause(word) {
                     snake.cause = Some(cause);
                 }
             }
         }
-        before = word;
+        field = field_after(word);
     }
     Ok(())
 }
