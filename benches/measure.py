@@ -32,35 +32,43 @@ def plan(names, quota, **more):
     return line(games=[{"game": name, "quota": quota} for name in names], **more)
 
 
+def new(name, mode, side, snakes, **more):
+    """A line that begins a game on a square board without food."""
+    members = {"mode": mode, "width": side, "height": side, "snakes": snakes, "food": []}
+    return line(game=name, do="new", **members, **more)
+
+
+def rounds_of(games, rounds, turns, moves):
+    """The lines of games that are begun, played for so many turns side by side and ended, round by
+    round. games are the members of `new`, by name; moves gives the members of a turn's moves."""
+    for _ in range(rounds):
+        for name, members in games.items():
+            yield new(name, **members)
+        for turn in range(turns):
+            members = moves(turn)
+            for name in games:
+                yield line(game=name, do="move", **members)
+        for name in games:
+            yield line(game=name, do="end")
+
+
+NO_FOOD = {"min_food": 0, "food_chance": 0}
 ROUND = 95  # turns, fewer than a snake lives without food
 
 
 def many_games(rounds):
     """64 games of four snakes each, which go round in squares of two by two cells. Each game is
     ended and begun anew, round by round."""
-    names = [f"g{index}" for index in range(64)]
     starts = {"a": (2, 2), "b": (7, 2), "c": (2, 7), "d": (7, 7)}
     snakes = [{"id": id, "x": x, "y": y} for id, (x, y) in starts.items()]
-    yield plan(names, 16_384)
-    for _ in range(rounds):
-        for name in names:
-            yield line(
-                game=name,
-                do="new",
-                mode="standard",
-                width=11,
-                height=11,
-                snakes=snakes,
-                food=[],
-                min_food=0,
-                food_chance=0,
-            )
-        for turn in range(ROUND):
-            direction = ("up", "right", "down", "left")[turn % 4]
-            for name in names:
-                yield line(game=name, do="move", moves={id: direction for id in starts})
-        for name in names:
-            yield line(game=name, do="end")
+    game = {"mode": "standard", "side": 11, "snakes": snakes, **NO_FOOD}
+    games = {f"g{index}": game for index in range(64)}
+
+    def moves(turn):
+        return {"moves": dict.fromkeys(starts, ("up", "right", "down", "left")[turn % 4])}
+
+    yield plan(games, 16_384)
+    yield from rounds_of(games, rounds, ROUND, moves)
 
 
 def tour(width, height):
@@ -79,22 +87,13 @@ DIRECTIONS = {(0, 1): "up", (0, -1): "down", (1, 0): "right", (-1, 0): "left"}
 def long_game(turns):
     """One snake that goes on a tour of a board of 20 by 20 cells. The words of every 90th move put
     food before its head."""
-    width = height = 20
-    cells = tour(width, height)
+    side = 20
+    cells = tour(side, side)
     length, food = 3, None
     body = [cells[0]] * 3
     yield plan(["g"], 16_777_216)
-    yield line(
-        game="g",
-        do="new",
-        mode="solo",
-        width=width,
-        height=height,
-        snakes=[{"id": "s", "x": 0, "y": 0}],
-        food=[],
-        min_food=0,
-        food_chance=100,
-    )
+    snakes = [{"id": "s", "x": 0, "y": 0}]
+    yield new("g", "solo", side, snakes, min_food=0, food_chance=100)
     for turn in range(turns):
         here, there = cells[turn % len(cells)], cells[(turn + 1) % len(cells)]
         body = [there] + body[:-1]
@@ -104,7 +103,7 @@ def long_game(turns):
         words = []
         if turn % 90 == 60:
             taken = set(body) | {food}
-            free = [(x, y) for y in range(height) for x in range(width) if (x, y) not in taken]
+            free = [(x, y) for y in range(side) for x in range(side) if (x, y) not in taken]
             food = cells[(turn + 2) % len(cells)]
             words = [0, free.index(food)]
         yield line(
@@ -164,28 +163,17 @@ def feeding_words(side, tours):
 def growing_snakes(rounds):
     """Eight games on large boards, in each of which four snakes go on tours of a quarter and grow.
     Each is ended and begun anew, round by round."""
-    names = [f"g{index}" for index in range(8)]
     tours = corner_tours(LARGE, 2, 2)
     words = list(feeding_words(LARGE, tours))
-    yield plan(names, 1_048_576)
-    for _ in range(rounds):
-        for name in names:
-            yield line(
-                game=name,
-                do="new",
-                mode="standard",
-                width=LARGE,
-                height=LARGE,
-                snakes=starts(tours),
-                food=[],
-                min_food=0,
-                food_chance=100,
-            )
-        for turn in range(GROWING):
-            for name in names:
-                yield line(game=name, do="move", moves=orders(tours, turn), words=words[turn])
-        for name in names:
-            yield line(game=name, do="end")
+    fed = {"min_food": 0, "food_chance": 100}
+    game = {"mode": "standard", "side": LARGE, "snakes": starts(tours), **fed}
+    games = {f"g{index}": game for index in range(8)}
+
+    def moves(turn):
+        return {"moves": orders(tours, turn), "words": words[turn]}
+
+    yield plan(games, 1_048_576)
+    yield from rounds_of(games, rounds, GROWING, moves)
 
 
 FILLING = 64  # turns, after which eight snakes of a constrictor game fill most of a large board
@@ -194,55 +182,25 @@ FILLING = 64  # turns, after which eight snakes of a constrictor game fill most 
 def constrictor(rounds):
     """Eight games of constrictor, in each of which eight snakes fill an eighth of a large board.
     Each is ended and begun anew, round by round."""
-    names = [f"g{index}" for index in range(8)]
     tours = corner_tours(LARGE, 2, 4)
-    yield plan(names, 1_048_576)
-    for _ in range(rounds):
-        for name in names:
-            yield line(
-                game=name,
-                do="new",
-                mode="constrictor",
-                width=LARGE,
-                height=LARGE,
-                snakes=starts(tours),
-                food=[],
-            )
-        for turn in range(FILLING):
-            for name in names:
-                yield line(game=name, do="move", moves=orders(tours, turn))
-        for name in names:
-            yield line(game=name, do="end")
+    game = {"mode": "constrictor", "side": LARGE, "snakes": starts(tours)}
+    games = {f"g{index}": game for index in range(8)}
+    yield plan(games, 1_048_576)
+    yield from rounds_of(games, rounds, FILLING, lambda turn: {"moves": orders(tours, turn)})
 
 
 def wrapped(rounds):
     """Eight wrapped games, in each of which eight snakes go to the right, each in a row of its own
     and again and again across the edge."""
-    names = [f"g{index}" for index in range(8)]
     snakes = [{"id": id, "x": 0, "y": 3 * index} for index, id in enumerate("abcdefgh")]
-    yield plan(names, 16_384, version=2)
-    for _ in range(rounds):
-        for name in names:
-            yield line(
-                game=name,
-                do="new",
-                mode="wrapped",
-                width=LARGE,
-                height=LARGE,
-                snakes=snakes,
-                food=[],
-                min_food=0,
-                food_chance=0,
-            )
-        for turn in range(ROUND):
-            for name in names:
-                yield line(
-                    game=name,
-                    do="move",
-                    moves={} if turn else {snake["id"]: "right" for snake in snakes},
-                )
-        for name in names:
-            yield line(game=name, do="end")
+    game = {"mode": "wrapped", "side": LARGE, "snakes": snakes, **NO_FOOD}
+    games = {f"g{index}": game for index in range(8)}
+
+    def moves(turn):
+        return {"moves": {} if turn else {snake["id"]: "right" for snake in snakes}}
+
+    yield plan(games, 16_384, version=2)
+    yield from rounds_of(games, rounds, ROUND, moves)
 
 
 STAYED = 20  # turns of a stay
@@ -259,17 +217,7 @@ def stays(count):
         for name in itertools.islice(names, min(COMING, 64 - len(turns_of))):
             turns_of[name] = 0
             yield line(game=name, do="admit", quota=16_384)
-            yield line(
-                game=name,
-                do="new",
-                mode="standard",
-                width=11,
-                height=11,
-                snakes=snakes,
-                food=[],
-                min_food=0,
-                food_chance=0,
-            )
+            yield new(name, "standard", 11, snakes, **NO_FOOD)
         if not turns_of:
             return
         for name, turn in list(turns_of.items()):
@@ -285,17 +233,7 @@ def short_commands(count):
     """Commands that are short and change nothing: turns that are not kept, of a game of one
     record."""
     yield plan(["g"], 4096)
-    yield line(
-        game="g",
-        do="new",
-        mode="solo",
-        width=3,
-        height=3,
-        snakes=[{"id": "s", "x": 1, "y": 1}],
-        food=[],
-        min_food=0,
-        food_chance=0,
-    )
+    yield new("g", "solo", 3, [{"id": "s", "x": 1, "y": 1}], **NO_FOOD)
     for _ in range(count):
         yield line(game="g", do="turn", at=9)
 

@@ -94,7 +94,7 @@ class BotClient:
         return [answer or late for answer in found]
 
     async def tell(self, requests: Sequence[Request]) -> None:
-        """Sends requests whose answers say nothing, such as /end, for no longer than the timeout."""
+        """Sends requests whose answers say nothing, such as /end, within the timeout."""
         await self._all(self._tell, requests)
 
     async def _all(self, call: Call[Given], requests: Sequence[Request]) -> list[Given | None]:

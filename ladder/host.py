@@ -119,7 +119,9 @@ class Stay:
         return self._digest.hexdigest()
 
     async def new(self, **members: Any) -> Board:
-        """Begins the game; the members are those of docs/FORMATS.md, without food if none is named."""
+        """Begins the game; the members are those of docs/FORMATS.md, and without `food` there is
+        none.
+        """
         members.setdefault("food", [])
         return await self._command(do="new", **members)
 

@@ -34,6 +34,11 @@ def line(**members):
     return json.dumps(members, ensure_ascii=False, separators=(",", ":"))
 
 
+def text_of(lines):
+    """The text of these lines, each with its line feed."""
+    return "".join(f"{line}\n" for line in lines)
+
+
 def argument_parser(about):
     """A parser of a test's command line that reads --program."""
     raw = argparse.RawDescriptionHelpFormatter

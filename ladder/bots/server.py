@@ -1,4 +1,4 @@
-"""A small Battlesnake server: many bots, each a function of what it is asked, under its own path."""
+"""A small Battlesnake server: many bots, each a function of its request, under its own path."""
 
 from __future__ import annotations
 

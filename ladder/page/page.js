@@ -5,13 +5,22 @@
 /** The numbers of a row of the standings, as the page writes them. */
 function cellsOf(row) {
   const inMs = (value) => (value === null ? '-' : `${value} ms`);
-  return [row.games, row.wins, row.draws, row.losses, `${row.elo} ± ${row.error}`, inMs(row.median_ms), inMs(row.p99_ms), row.missed];
+  const rating = `${row.elo} ± ${row.error}`;
+  const times = [inMs(row.median_ms), inMs(row.p99_ms)];
+  return [row.games, row.wins, row.draws, row.losses, rating, ...times, row.missed];
 }
 
 function showStandings(body, rows) {
   body.replaceChildren(...rows.map((row) => made('tr', {},
     made('th', { scope: 'row' }, row.bot),
     ...cellsOf(row).map((cell) => made('td', { className: 'number' }, String(cell))))));
+}
+
+/** A snake's line below its board: its colour, and while it lives its health and length. */
+function snakeItem(snake, seat) {
+  const lives = isLiving(snake);
+  return made('li', { className: lives ? '' : 'out' }, swatchPicture(seat, lives),
+    `${snake.id} ${lives ? `${snake.health}, ${snake.body.length}` : 'out'}`);
 }
 
 /** A running game: its board, and its snakes in the order of their seats. */
@@ -30,8 +39,7 @@ class GameCard {
     }
     this.turn.textContent = `turn ${board.turn}`;
     drawBoard(this.board, board, false);
-    this.snakes.replaceChildren(...board.snakes.map((snake, seat) => made('li', { className: isLiving(snake) ? '' : 'out' },
-      swatchPicture(seat, isLiving(snake)), `${snake.id} ${isLiving(snake) ? `${snake.health}, ${snake.body.length}` : 'out'}`)));
+    this.snakes.replaceChildren(...board.snakes.map(snakeItem));
   }
 }
 

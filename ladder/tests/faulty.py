@@ -2,11 +2,11 @@
 
     faulty.py --port PORT
 
-Below the port each bot has its name: good, slow, error, cut, garbage, text, huge, redirect, hanging,
-gone. In the turns that `is_planned` names they fail; else they answer as the bot seeker does. `gone`
-answers its first moves alone, and from then on closes each connection without an answer. Another
-bot, calm, takes its time for each answer and never fails. GET /counts tells how often each bot
-answered, and how often somebody followed a redirect.
+Below the port each bot has its name: good, slow, error, cut, garbage, text, huge, redirect,
+hanging, gone. In the turns that `is_planned` names they fail; else they answer as the bot seeker
+does. `gone` answers its first moves alone, and from then on closes each connection without an
+answer. Another bot, calm, takes its time for each answer and never fails. GET /counts tells how
+often each bot answered, and how often somebody followed a redirect.
 """
 
 from __future__ import annotations

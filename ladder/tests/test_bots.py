@@ -43,7 +43,7 @@ def saying(value: Any, status: str = "200 OK") -> Serve:
     return answering(f"HTTP/1.1 {status}\r\nContent-Length: {len(body)}\r\n\r\n".encode() + body)
 
 
-async def asked(serve: Serve, count: int = 1) -> list[Answer]:
+async def ask(serve: Serve, count: int = 1) -> list[Answer]:
     """What a client makes of a bot that is served so."""
     server = await asyncio.start_server(serve, "127.0.0.1", 0)
     url = f"http://127.0.0.1:{server.sockets[0].getsockname()[1]}/bot"
@@ -77,7 +77,7 @@ async def asked(serve: Serve, count: int = 1) -> list[Answer]:
     ],
 )
 def test_each_answer_has_its_cause(serve: Serve, cause: str | None) -> None:
-    (answer,) = run(asked(serve))
+    (answer,) = run(ask(serve))
     assert answer.cause == cause
     assert answer.move == ("up" if cause is None else None)
     assert answer.latency == 2000 if cause == "late" else answer.latency < 2000
@@ -92,9 +92,9 @@ def test_bot_that_nobody_serves_refuses() -> None:
 
 
 def test_shouts_are_cut_and_no_other_type_is_taken() -> None:
-    (answer,) = run(asked(saying({"move": "left", "shout": "x" * 300})))
+    (answer,) = run(ask(saying({"move": "left", "shout": "x" * 300})))
     assert (answer.move, answer.shout) == ("left", "x" * 256)
-    (answer,) = run(asked(saying({"move": "left", "shout": {"x": 1}})))
+    (answer,) = run(ask(saying({"move": "left", "shout": {"x": 1}})))
     assert (answer.move, answer.shout) == ("left", "")
 
 
@@ -114,7 +114,7 @@ def test_no_body_is_read_past_its_limit() -> None:
         except ConnectionError:
             pass
 
-    assert run(asked(flood))[0].cause == "long"
+    assert run(ask(flood))[0].cause == "long"
     assert sent < 32 * 1024 * 1024
 
 
@@ -129,14 +129,14 @@ def test_headers_without_end_are_cut_off() -> None:
         except ConnectionError:
             pass
 
-    assert run(asked(flood))[0].cause in ("cut", "late")
+    assert run(ask(flood))[0].cause in ("cut", "late")
 
 
 def test_compressed_answers_are_not_unpacked() -> None:
     """A small answer that would unpack to a large one is no JSON; none is asked for."""
     packed = b"\x1f\x8b\x08\x00\x00\x00\x00\x00\x00\x03\xabV\xca\xcd/KU\xb2R*-P\xaa\x05\x00"
     head = f"HTTP/1.1 200 OK\r\nContent-Encoding: gzip\r\nContent-Length: {len(packed)}\r\n\r\n"
-    assert run(asked(answering(head.encode() + packed)))[0].cause == "json"
+    assert run(ask(answering(head.encode() + packed)))[0].cause == "json"
 
 
 def test_connection_that_was_closed_while_idle_is_no_missed_move() -> None:
@@ -148,7 +148,7 @@ def test_connection_that_was_closed_while_idle_is_no_missed_move() -> None:
         served += 1
         await (answering() if served == 1 else saying({"move": "down"}))(reader, writer)
 
-    assert run(asked(closes_first))[0].move == "down"
+    assert run(ask(closes_first))[0].move == "down"
     assert served == 2
 
 
@@ -158,7 +158,7 @@ def test_all_are_asked_at_once() -> None:
         await saying({"move": "down"})(reader, writer)
 
     began = time.monotonic()
-    assert [answer.move for answer in run(asked(slow, 40))] == ["down"] * 40
+    assert [answer.move for answer in run(ask(slow, 40))] == ["down"] * 40
     assert time.monotonic() - began < 10 * TIMEOUT
 
 

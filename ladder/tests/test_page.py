@@ -34,7 +34,11 @@ new MutationObserver(() => document.querySelectorAll('article').forEach((article
     const turns = window.seen[article.dataset.game] ??= {};
     turns[article.querySelector('.turn').textContent] = body.getAttribute('d');
   }
-})).observe(document.getElementById('games'), { subtree: true, childList: true, characterData: true });
+})).observe(document.getElementById('games'),
+  { subtree: true, childList: true, characterData: true });
+"""
+BOTS_SHOWN = """
+return [...document.querySelectorAll('#standings tbody th')].map((cell) => cell.textContent);
 """
 MOVED = """
 return Object.values(window.seen).find((turns) => new Set(Object.values(turns)).size > 2) ?? null;
@@ -50,14 +54,14 @@ def test_addresses_are_of_this_machine_unless_another_is_named() -> None:
             address_of(word)
 
 
-def told(raw: bytes | None) -> tuple[str, Any]:
+def parse_event(raw: bytes | None) -> tuple[str, Any]:
     """The kind of an event and what it tells."""
     assert raw is not None
     ((kind, data),) = re.findall(rb"\Aevent: (\w+)\ndata: (.*)\n\n\Z", raw)
     return kind.decode(), json.loads(data)
 
 
-def joined(feed: Feed) -> Reader:
+def join_feed(feed: Feed) -> Reader:
     """A new reader of a feed that has room for one."""
     reader = feed.join()
     assert reader is not None
@@ -68,19 +72,19 @@ def test_readers_are_told_what_changed() -> None:
     async def work() -> None:
         feed = Feed(lambda: [{"bot": "a"}], lambda: "one <line>\nand more")
         feed.show(GAME, {"turn": 0})
-        reader = joined(feed)
-        kind, state = told(reader.events.get_nowait())
+        reader = join_feed(feed)
+        kind, state = parse_event(reader.events.get_nowait())
         assert (kind, state["boards"]) == ("all", {GAME.name: {"turn": 0}})
         feed.show(GAME, {"turn": 1})
         feed.show(GAME, {"turn": 2})
         await feed.tick()
-        kind, state = told(reader.events.get_nowait())
+        kind, state = parse_event(reader.events.get_nowait())
         assert (kind, state["boards"]) == ("changes", {GAME.name: {"turn": 2}})
         assert state["standings"] == [{"bot": "a"}]
         await feed.tick()
-        assert told(reader.events.get_nowait())[1]["boards"] == {}
+        assert parse_event(reader.events.get_nowait())[1]["boards"] == {}
         await feed.close()
-        assert told(reader.events.get_nowait())[0] == "end"
+        assert parse_event(reader.events.get_nowait())[0] == "end"
         assert reader.events.get_nowait() is None
 
     asyncio.run(work())
@@ -89,7 +93,7 @@ def test_readers_are_told_what_changed() -> None:
 def test_slow_readers_are_let_go_and_too_many_are_refused() -> None:
     async def work() -> None:
         feed = Feed(list, str)
-        readers = [joined(feed) for _ in range(MOST_READERS)]
+        readers = [join_feed(feed) for _ in range(MOST_READERS)]
         assert feed.join() is None
         for _ in range(MOST_WAITING):
             await feed.tick()
@@ -180,10 +184,7 @@ def test_board_moves_while_its_game_runs(
         browser.wait("return document.querySelector('#standings tbody tr')", seconds=60)
         process.terminate()
         browser.wait("return document.body.dataset.state === 'ended'", seconds=60)
-        rows = browser.run(
-            "return [...document.querySelectorAll('#standings tbody th')].map((cell) => cell.textContent)"
-        )
-        assert sorted(rows) == ["one", "three", "two"]
+        assert sorted(browser.run(BOTS_SHOWN)) == ["one", "three", "two"]
         assert browser.run("return document.querySelectorAll('script').length") == 5
         assert browser.complaints() == []
         assert process.wait(timeout=60) == 130

@@ -1,4 +1,4 @@
--- What a typed getter reads of an option, as a number.
+-- The number that a typed getter reads from an option.
 use Rattle.std.proofs.Common.{◌≡◌, ◌∙◌, ◌<◌, ◌^◌, ◌&&◌, ℕ, Bool, true, false, refl, sym, ap, List, [], ◌∷◌, length, Option, Some, None, Result, Ok, Err, true≢false, nat_lt, lt-ltb, ltb-true}
 use Rattle.std.specs.List.{list_all}
 use Rattle.std.specs.Option.{option_map, unwrap_or}

@@ -1,4 +1,4 @@
--- What the words ask for, by what clap says of a simple command.
+-- The request of the words, by clap's definition of a simple command.
 use Rattle.std.proofs.Common.{◌≡◌, ◌∙◌, ◌<◌, ◌≤◌, List, ap, refl, map, subst, inl, true, false, length, [], ◌∷◌}
 use Rattle.std.specs.Borrow.{Bor}
 use Rattle.std.proofs.lemmas.Bool.{le-leb, lt-leb}
@@ -42,7 +42,7 @@ unfolding mistakes_in
 fails_by words command r is fails =
     subst (λ app. FailsBy (fault_of app words) r) is.made (fails (ap is_simple_and_free is.made ∙ is_arena_free))
 
--- where memory runs out before the words are judged
+-- when memory runs out before the words are judged
 
 pub kind_of_spent : {T : Type 0} (kinds : Kinds) (r : Result T Error) → IsErrAnd r (λ e. kind_of e ≡ OutOfMemory) → FailsBy kinds r
 kind_of_spent kinds (Ok x) h = absurd h

@@ -1,4 +1,4 @@
--- What the program answers to a request, and what the output then has.
+-- The answer of the program to a request, and what its output then has.
 use Rattle.std.specs.Prelude.{◌≡◌, ◌≢◌, ◌⊎◌, ℕ, [], ◌<◌, ◌≤◌, List, length, codes, true, false, Option, Some, None, Result, Ok, Err, IfSome}
 use Rattle.std.specs.Io.KnownBytes.{Appends, Keeps}
 use Rattle.clap.specs.Words.{HasKind, kind_of}
@@ -21,21 +21,21 @@ use Rattle.arena.specs.declared.stream.Output.{Output}
 use Rattle.arena.specs.Reasons.{line_of, reason_of, status_of}
 use Rattle.arena.specs.Words.{Asked, serve, alone, live, asked_of, mistakes_in}
 
--- A request is answered by nothing, or by why it failed.
+-- The answer to a request: success, or why it failed.
 abbrev pub Answer : Type 0
 Answer = Result (Unit {0}) Failure
 
--- the bytes that an output has, where its writer says
+-- the bytes of an output, if its writer says them
 abbrev pub held_by : {W : Type 0} → (W → Option (List ℕ)) → Output W → Option (List ℕ)
 held_by contents output = contents output.writer
 
--- The bytes of the file: of the standard input those that the reader had left; of another file some
--- bytes, since no promise of the system says which.
+-- The bytes of the file. For the standard input they are those that the reader had left; for
+-- another file any bytes, since no contract of the system says which.
 pub record IsInput (left : Option (List ℕ)) (name file : List ℕ) : Type 0 where
   pub bytes : name ≡ codes "-" → IfSome left (λ bytes. file ≡ bytes)
   pub short : length file ≤ MOST_FILE_BYTES
 
--- the standard input is too long only where it has more bytes than a file may have
+-- the standard input is too long only if it has more bytes than a file may have
 abbrev pub IsReadFault : Option (List ℕ) → List ℕ → ReadFault → Type 0
 IsReadFault left name read.Device = Unit {0}
 IsReadFault left name read.TooLong = name ≡ codes "-" → IfSome left (λ bytes. MOST_FILE_BYTES < length bytes)
@@ -50,12 +50,12 @@ Finishes contents old new (Err (Serve fault)) = ⊥
 Finishes contents old new (Err (Live fault)) = ⊥
 Finishes contents old new (Err Flush) = Keeps (held_by contents old) (held_by contents new)
 
--- The output has these bytes more.
+-- These bytes were appended to the output.
 abbrev pub Gains : {W : Type 0} → (W → Option (List ℕ)) → Output W → Output W → List ℕ → Type 0
 Gains contents old new = Appends (held_by contents old) (held_by contents new)
 
--- A file that is served from that many blocks: the whole transcript, flushed; or a fault of `serve`,
--- and what that leaves; or the whole transcript, and a flush that failed.
+-- A file is served with that many blocks: the whole transcript, flushed; or a fault of `serve`, and
+-- what it leaves; or the whole transcript, and a flush that failed.
 abbrev pub Serves : {W : Type 0} → (W → Option (List ℕ)) → ℕ → List ℕ → Output W → Output W → Answer → Type 0
 Serves contents blocks file old new (Ok done) =
     (refusal_of blocks file ≡ None) × Gains contents old new (transcript_of blocks file) × (new.is_flushed ≡ true)
@@ -76,7 +76,7 @@ ServesFile contents left name blocks old new (Err (Serve fault)) =
 ServesFile contents left name blocks old new (Err (Live fault)) = ⊥
 ServesFile contents left name blocks old new (Err Flush) = (file : List ℕ) × IsInput left name file × Serves contents blocks file old new (Err Flush)
 
--- which stay of which game
+-- a game, and which of its stays
 pub record Wanted : Type 0 where
   pub game : List ℕ
   pub nth : ℕ
@@ -89,8 +89,8 @@ pub record PlaysStay {W : Type 0} (contents : W → Option (List ℕ)) (left : O
   pub found : nth_stay blocks file wanted.game wanted.nth ≡ Some stay
   pub served : Serves contents blocks (cut_of blocks file stay) old new answer
 
--- `arena alone`: the file was not read, or can't be cut to that stay, and nothing is written; or the
--- stay's own lines are served.
+-- `arena alone`: the file was not read, or cannot be cut to that stay, and nothing is written; or
+-- the stay's own lines are served.
 abbrev pub PlaysAlone : {W : Type 0} → (W → Option (List ℕ)) → Option (List ℕ) → List ℕ → Wanted → ℕ → Output W → Output W → Answer → Type 0
 PlaysAlone contents left name wanted blocks old new (Err (Read fault)) = IsReadFault left name fault × (new ≡ old)
 PlaysAlone contents left name wanted blocks old new (Err (Cut fault)) =
@@ -100,9 +100,9 @@ PlaysAlone contents left name wanted blocks old new (Err (Serve fault)) = PlaysS
 PlaysAlone contents left name wanted blocks old new (Err (Live fault)) = ⊥
 PlaysAlone contents left name wanted blocks old new (Err Flush) = PlaysStay contents left name wanted blocks old new (Err Flush)
 
--- `arena live`: the answers to all lines, flushed; or a fault of `serve_live`, and what that leaves;
--- or all answers, and a last flush that failed. Where the reader's bytes are not known, nothing is
--- said of what is written.
+-- `arena live`: the answers to all lines, flushed; or a fault of `serve_live`, and what it leaves;
+-- or all answers, and a last flush that failed. If the reader's bytes are not known, nothing is
+-- claimed of what is written.
 abbrev pub ServesLive : {W : Type 0} → (W → Option (List ℕ)) → Option (List ℕ) → ℕ → Output W → Output W → Answer → Type 0
 ServesLive contents left blocks old new (Ok done) =
     IfSome left (λ file. (live_refusal_of blocks file ≡ None) × Gains contents old new (live_of blocks file)) × (new.is_flushed ≡ true)
@@ -114,7 +114,7 @@ ServesLive contents left blocks old new (Err (Live fault)) =
 ServesLive contents left blocks old new (Err Flush) =
     IfSome left (λ file. (live_refusal_of blocks file ≡ None) × Gains contents old new (live_of blocks file))
 
--- what is asked for is done
+-- the request is done
 abbrev pub Does : {W : Type 0} → (W → Option (List ℕ)) → Option (List ℕ) → Asked → Output W → Output W → Answer → Type 0
 Does contents left (serve name blocks workers) = ServesFile contents left name blocks
 Does contents left (alone name game nth blocks) = PlaysAlone contents left name (record { game = game; nth = nth }) blocks
@@ -126,20 +126,21 @@ Does contents left (live blocks) = ServesLive contents left blocks
 abbrev pub Tells : {E : Type 0} → (E → Option (List ℕ)) → Reason → ℕ → Output E → Output E → Type 0
 Tells contents reason status old new = (status ≡ status_of reason) × (new.has_failed ≡ false → Gains contents old new (line_of reason))
 
--- success is status 0 and no line; a failure has its reason's
+-- success has status 0 and no line; a failure has the status and line of its reason
 abbrev pub Concludes : {E : Type 0} → (E → Option (List ℕ)) → Answer → ℕ → Output E → Output E → Type 0
 Concludes contents (Ok done) status old new = (status ≡ 0) × (new ≡ old)
 Concludes contents (Err failure) status old new = Tells contents (reason_of failure) status old new
 
--- A command line that clap does not take, by the kind of its error: memory ran out; it asks for a
--- text, which was written and flushed, or could not be; or it is refused. The texts are clap's.
+-- A command line that clap does not accept, by the kind of its error: memory ran out; or clap's
+-- text was asked for, and was written and flushed or could not be; or it is refused. The texts are
+-- clap's.
 pub record Explains {W E : Type 0} (contents : E → Option (List ℕ)) (kind : ErrorKind) (status : ℕ) (output after : Output W) (old new : Output E) : Type 0 where
   pub memory : kind ≡ clap.OutOfMemory → Tells contents OutOfMemory status old new × (after ≡ output)
   pub shown : (kind ≡ clap.DisplayHelp) ⊎ (kind ≡ clap.DisplayVersion)
       → ((status ≡ 0) × (after.is_flushed ≡ true)) ⊎ Tells contents FlushFailed status old new
   pub refused : kind ≢ clap.OutOfMemory → kind ≢ clap.DisplayHelp → kind ≢ clap.DisplayVersion → (status ≡ 2) × (after ≡ output)
 
--- The words, of which the first is the program's own name, were taken, and what they ask for is
+-- The words, the first of which is the program's own name, were accepted, and their request is
 -- done.
 pub record IsDone {W E : Type 0} (contents : W → Option (List ℕ)) (told : E → Option (List ℕ)) (left : Option (List ℕ)) (words : List (List ℕ)) (status : ℕ) (output after : Output W) (old new : Output E) : Type 0 where
   pub answer : Answer
@@ -147,7 +148,7 @@ pub record IsDone {W E : Type 0} (contents : W → Option (List ℕ)) (told : E 
   pub done : Does contents left (asked_of words) output after answer
   pub concluded : Concludes told answer status old new
 
--- They were not taken.
+-- The words were not accepted.
 pub record IsRefused {W E : Type 0} (told : E → Option (List ℕ)) (words : List (List ℕ)) (status : ℕ) (output after : Output W) (old new : Output E) : Type 0 where
   pub error : Error
   pub some : 2 ≤ length words

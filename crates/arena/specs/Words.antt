@@ -1,5 +1,5 @@
--- What the words of a command line ask for: clap's own definitions say what a command makes of
--- words, and this page says which commands there are and what is read of their matches.
+-- The request that the words of a command line make. clap's own definitions say how a command reads
+-- words; here are the commands, and what is read from their matches.
 use Rattle.std.specs.Prelude.{◌≡◌, false, ℕ, ◌∷◌, [], List, Bool, true, Option, Some, None, codes, option_and_then, unwrap_or, length, nat_le, nat_lt, if◌then◌else◌, pos, ◌^◌, map, ◌&&◌}
 use Rattle.std.specs.List.{list_all}
 use Rattle.std.specs.Char.{digit_value}
@@ -24,7 +24,7 @@ file_rule = record (new_rule (codes "FILE")) { required = true; action = Some Se
 abbrev pub option_rule : Text → Rule
 option_rule name = record (new_rule name) { long = Some name; value_names = 1; action = Some Set }
 
--- an option for a whole number from `least` to `most`, and its text where it is left out
+-- an option for a whole number from `least` to `most`, and its text if it is left out
 abbrev pub number_rule : Text → ℕ → ℕ → Text → Rule
 number_rule name least most otherwise =
     record (option_rule name) { parser = Some (Signed (pos least) (pos most)); defaults = otherwise ∷ [] }
@@ -56,7 +56,7 @@ top_app = record { top = record (new_app (codes "arena")).top { has_version = tr
 unfoldable pub arena_app : App
 arena_app = with_subcommand (with_subcommand (with_subcommand top_app serve_app.top) alone_app.top) live_app.top
 
--- What is asked for.
+-- The requests.
 
 pub data Asked : Type 0 where
   -- the file, the blocks and the workers
@@ -69,11 +69,11 @@ pub data Asked : Type 0 where
 abbrev pub is_number : ℕ → Text → Bool
 is_number bits text = nat_lt 0 (length text) && (list_all (λ digit. nat_lt (digit_value digit) 10) text && nat_lt (digits_value 10 text) (2 ^ bits))
 
--- the number of so many bits that a text says in decimal digits
+-- the number of that many bits that a text says in decimal digits
 abbrev pub number_of : ℕ → Text → Option ℕ
 number_of bits text = if is_number bits (without_leading_plus text) then Some (digits_value 10 (without_leading_plus text)) else None
 
--- the number that was found for an option, and otherwise this one
+-- the number given for an option, else this one
 abbrev pub number_at : ℕ → Text → ℕ → List Row → ℕ
 number_at bits name otherwise rows = unwrap_or (option_and_then (number_of bits) (one_of name rows)) otherwise
 
@@ -107,19 +107,19 @@ abbrev pub asked_in : Option (Text × List Row) → Asked
 asked_in None = serve_asked []
 asked_in (Some (command, rows)) = asked_by command rows
 
--- the command that the words name, and what was found for its arguments
+-- the command that the words name, and the values of its arguments
 unfoldable pub command_in : List Text → Option (Text × List Row)
 command_in words = subcommand_of arena_app words
 
--- what the words ask for, the program's name first
+-- the request of the words, the program's name first
 unfoldable pub asked_of : List Text → Asked
 asked_of words = if nat_le (length words) 1 then serve_asked [] else asked_in (command_in words)
 
--- the kinds of error that clap may give at the words, none where it takes them
+-- the kinds of error that clap may give for the words; none if it accepts them
 unfoldable pub mistakes_in : List Text → Kinds
 mistakes_in words = fault_of arena_app words
 
--- what a request says
+-- the request as a value
 abbrev pub asked_for : Request → Asked
 asked_for (Serve request) = serve request.file.now request.blocks request.workers
 asked_for (Alone request) = alone request.file.now request.game.now request.stay request.blocks

@@ -1,4 +1,4 @@
-//! The command line: what its words ask for.
+//! The command line: the request that its words make.
 ghost use Rattle.std.specs.Prelude.{◌≡◌, ◌≤◌, ◌∷◌, [], codes, length, map, None, Some, IfOk, IsOk, option_map, false, true};
 ghost use Rattle.std.specs.Prelude.{Bool};
 ghost use Rattle.clap.specs.Words.{App, FailsBy, app_of, found_of, rows_of, rule_of, with_rule};
@@ -8,7 +8,7 @@ ghost use Rattle.clap.specs.Words.{subcommand_rows_of};
 use clap::{Arg, ArgAction, ArgMatches, Command, Error, value_parser};
 use std::alloc::{AllocError, Global};
 
-/// A file name that stands for the standard input.
+/// The file name of the standard input.
 pub const STANDARD_INPUT: &str = "-";
 
 const DEFAULT_BLOCKS: u16 = 64;
@@ -32,12 +32,12 @@ pub struct Serving<'a> {
 pub struct Solo<'a> {
     pub file: &'a str,
     pub game: &'a str,
-    /// Which stay of that game, from 1 on.
+    /// The stay of that game, from 1 on.
     pub stay: u32,
     pub blocks: u16,
 }
 
-/// What a command line asks for.
+/// The request of a command line.
 #[derive(Clone, Copy, Debug)]
 pub enum Request<'a> {
     Serve(Serving<'a>),
@@ -154,28 +154,28 @@ fn arena_command<'a>(alloc: Global) -> Result<Command<'a>, AllocError>
         .subcommand(live_command(alloc)?)
 }
 
-/// The number of blocks that was found for `--blocks`.
+/// The value of `--blocks`.
 fn blocks_of(matches: &ArgMatches<'_>) -> u16
     ensures { result ≡ blocks_at (rows_of (found_of matches.now)) }
 {
     matches.get_one::<u16>("blocks").unwrap_or(DEFAULT_BLOCKS)
 }
 
-/// The number that was found for `--workers`.
+/// The value of `--workers`.
 fn workers_of(matches: &ArgMatches<'_>) -> u16
     ensures { result ≡ workers_at (rows_of (found_of matches.now)) }
 {
     matches.get_one::<u16>("workers").unwrap_or(DEFAULT_WORKERS)
 }
 
-/// The number that was found for `--stay`.
+/// The value of `--stay`.
 fn stay_of(matches: &ArgMatches<'_>) -> u32
     ensures { result ≡ stay_at (rows_of (found_of matches.now)) }
 {
     matches.get_one::<u32>("stay").unwrap_or(FIRST_STAY)
 }
 
-/// The text that was found for that name.
+/// The value of that argument.
 #[tactic(auto, using(crate::proofs::Numbers::text_read))]
 fn text_of<'a>(matches: &ArgMatches<'a>, name: &str, otherwise: &'a str) -> &'a str
     ensures { result.now ≡ text_at name.now otherwise.now (rows_of (found_of matches.now)) }
@@ -204,7 +204,7 @@ fn alone_request<'a>(matches: &ArgMatches<'a>) -> Request<'a>
     })
 }
 
-/// With no command the standard input is served.
+/// The request of a command line without a command: it serves the standard input.
 fn default_request<'a>() -> Request<'a>
     ensures { asked_for result ≡ serve_asked [] }
 {
@@ -234,8 +234,8 @@ fn match_words<'a>(alloc: Global, words: &'a [&'a str]) -> Result<ArgMatches<'a>
     command.try_get_matches_from(words)
 }
 
-/// Reads the words of a command line, the program's name first. With no word behind it the standard
-/// input is served.
+/// Reads the words of a command line, the program's name first. If there is no other word, the
+/// standard input is served.
 #[tactic(auto, using(crate::proofs::Requests::few_words, crate::proofs::Requests::more_words))]
 pub fn read_words<'a>(alloc: Global, words: &'a [&'a str]) -> Result<Request<'a>, Error>
     ensures asked { IfOk result (λ request. asked_for request ≡ asked_of (map (λ word. word.now) words.now)) }

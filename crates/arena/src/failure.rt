@@ -16,7 +16,7 @@ pub enum Failure {
 }
 
 impl Failure {
-    /// The reason, which has the status and the line.
+    /// The reason, which has a status and a line.
     pub fn reason(&self) -> Reason
         ensures { result ≡ reason_of self.now }
     {

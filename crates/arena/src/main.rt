@@ -1,5 +1,5 @@
-//! The program `arena`: reads the command line and the file, serves it, and writes the transcript to
-//! the standard output.
+//! The program `arena`: reads the command line and the file, serves it, and writes the transcript
+//! to the standard output.
 #![tactic(auto)]
 
 mod command_line;

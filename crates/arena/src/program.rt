@@ -23,10 +23,10 @@ use std::thread::Threads;
 /// The status of a command line that `clap` refuses.
 const REFUSED: u8 = 2;
 
-/// `alone` plays on one worker.
+/// The number of workers of `arena alone`.
 const LONE_WORKER: u16 = 1;
 
-/// What a file is served with.
+/// The memory and the workers that a file is served with.
 #[derive(Clone, Copy)]
 struct Resources {
     blocks: u16,
@@ -63,7 +63,7 @@ fn finish<W: Write>(output: &mut Output<W>) -> Result<(), Failure>
     output.flush().map_err(|_| Failure::Flush)
 }
 
-/// Writes the transcript of a file, and flushes the output. The core is freed after that.
+/// Writes the transcript of a file, then flushes the output. The core is freed after that.
 fn serve_bytes<H: Threads + Wait + Sync, W: Write>(
     rt: &H,
     alloc: Global,
@@ -99,7 +99,7 @@ fn serve_file<H: Files + Threads + Wait + Sync, R: Read, W: Write>(
     serve_bytes(rt, alloc, &bytes, with, output)
 }
 
-/// Serves the own lines of one stay of one game of a file.
+/// Serves one stay's own lines of a file.
 fn play_alone<H: Files + Threads + Wait + Sync, R: Read, W: Write>(
     rt: &H,
     alloc: Global,
@@ -120,7 +120,7 @@ fn play_alone<H: Files + Threads + Wait + Sync, R: Read, W: Write>(
     serve_bytes(rt, alloc, &lines, with, output)
 }
 
-/// Answers the lines of the standard input as they come.
+/// Answers the lines of the standard input as they arrive.
 fn play_live<R: Read, W: Write>(
     alloc: Global,
     blocks: u16,
@@ -133,7 +133,7 @@ fn play_live<R: Read, W: Write>(
     finish(output)
 }
 
-/// Does what a request asks for.
+/// Executes a request.
 fn run<H: Files + Threads + Wait + Sync, R: Read, W: Write>(
     rt: &H,
     alloc: Global,
@@ -150,7 +150,7 @@ fn run<H: Files + Threads + Wait + Sync, R: Read, W: Write>(
     }
 }
 
-/// Writes the line of a reason, and gives its status.
+/// Writes the line of a reason, and returns its status.
 pub fn reported<E: Write>(reason: Reason, errors: &mut Output<E>) -> u8
     ensures { Tells E.contents reason result errors.old errors.new }
 {
@@ -158,7 +158,7 @@ pub fn reported<E: Write>(reason: Reason, errors: &mut Output<E>) -> u8
     reason.status()
 }
 
-/// The status of an answer to a request. Writes the line of a failure.
+/// Returns the status of an answer to a request. Writes the line of a failure.
 fn concluded<E: Write>(answer: Result<(), Failure>, errors: &mut Output<E>) -> u8
     ensures { Concludes E.contents answer result errors.old errors.new }
 {
@@ -176,8 +176,8 @@ fn show<W: Write>(error: &clap::Error, output: &mut Output<W>) -> io::Result<()>
     output.flush()
 }
 
-/// Writes `clap`'s text on words that ask for nothing to be served: help or the version to the
-/// output, a mistake to the errors. Gives the status.
+/// Writes `clap`'s text for words that are no request: help or the version to the output, a mistake
+/// to the errors. Returns the status.
 fn explained<W: Write, E: Write>(
     error: &clap::Error,
     output: &mut Output<W>,
@@ -198,8 +198,9 @@ fn explained<W: Write, E: Write>(
     }
 }
 
-/// Runs the program on these words, of which the first is its own name, and gives its exit status.
-/// The transcript goes to `output`, which is flushed at the end; a fault is one line on `errors`.
+/// Runs the program on these words, the first of which is its own name, and returns its exit
+/// status. The transcript goes to `output`, which is flushed at the end; a fault is one line on
+/// `errors`.
 pub fn arena_run<H: Files + Threads + Wait + Sync, R: Read, W: Write, E: Write>(
     rt: &H,
     alloc: Global,
@@ -217,8 +218,8 @@ pub fn arena_run<H: Files + Threads + Wait + Sync, R: Read, W: Write, E: Write>(
     }
 }
 
-/// Tells why the words of the command line were not read: one of them is no UTF-8, so that the
-/// command line is refused, or memory ran out.
+/// Reports why the words of the command line were not read: one of them is not UTF-8, or memory ran
+/// out. Returns the status.
 pub fn unread_words<E: Write>(error: &io::Error, errors: &mut Output<E>) -> u8
     ensures { Tells E.contents (reason_of_words (error_kind error.now)) result errors.old errors.new }
 {

@@ -6,10 +6,10 @@ use bs_host::PlanRefusal;
 use std::error::Error;
 use std::fmt::{self, Display, Formatter, Write};
 
-/// Why the program failed, where its line is its own and not `clap`'s.
+/// Why the program failed, if the line is its own and not `clap`'s.
 #[derive(Clone, Copy, Debug)]
 pub enum Reason {
-    /// A word of the command line is no UTF-8.
+    /// A word of the command line is not UTF-8.
     NoText,
     CannotRead,
     FileTooLong,

@@ -1,4 +1,4 @@
-//! A writer that notes whether its last call flushed it, and whether a line failed.
+//! A writer that records whether its last call flushed it, and whether a line failed.
 ghost use Rattle.std.specs.Prelude.{◌≡◌, false, true, OnOk, OnErr, IfOk};
 ghost use Rattle.std.specs.Io.{WritesAtMost};
 ghost use Rattle.std.specs.Io.KnownBytes.{Appends, Keeps, WriteAppends};
@@ -7,8 +7,8 @@ ghost use Rattle.arena.specs.Reasons.{line_of};
 use crate::reason::Reason;
 use std::io::{self, Write};
 
-/// An output of the program. Contracts can name a writer's bytes and no flush of it, so this type
-/// notes the flush.
+/// An output of the program. Contracts can name a writer's bytes but not its flushes, so this type
+/// records the flush.
 #[derive(Drop)]
 pub struct Output<W> {
     writer: W,

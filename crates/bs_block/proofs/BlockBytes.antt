@@ -1,4 +1,4 @@
--- What keeps a block a block, and which bytes it then holds.
+-- Each step keeps `IsBlock`; which bytes the block then holds.
 use Rattle.std.proofs.Common.{◌≡◌, ℕ, ◌+◌, ◌≤◌, List, ◌++◌, subst, map, length, take, drop, Some, refl, sym, ap, ◌∙◌, arith, length-take, length-drop}
 use Rattle.std.proofs.lemmas.List.{length-map}
 use Rattle.std.specs.List.{refill, length_refill}
@@ -21,14 +21,14 @@ module _ {most : ℕ} (b : Inside most) (ok : IsBlock most b) where
       let long : len ≡ length xs = omega (arith, ap length holds, length-map xs Some, length-take len p.slots, region, ok.base.1, le) in
       (record { capacity = ok.capacity; base = (ok.base.0 ∙ sym at, region ∙ ok.base.1); deed = ok.deed; len = (le, long ∙ sym (ap length is)); written = holds ∙ ap (map Some) (sym is) }, is)
 
-  -- bytes are written behind the last
+  -- bytes are appended
   pub grown : (p : Region) (n : ℕ) (ws : List ℕ) → p.at ≡ b.region.at → p.slots ≡ spliced b.region.slots b.len n ws → length ws ≡ n → b.len + n ≤ most
       → let b' = record b { len = b.len + n; region = p } in IsBlock most b' × (bytes_of b' ≡ bytes_of b ++ ws)
   grown p n ws at slots long le =
       kept (b.len + n) p (bytes_of b ++ ws) at (ap length slots ∙ length-spliced b.region.slots b.len n ws long (omega (arith, le, ok.base.1)))
       (ap (take (b.len + n)) slots ∙ appended b.region.slots b.len (bytes_of b) ok.written n ws fits long) le
 
-  -- the same, where place and length are found equal by arithmetic
+  -- `grown`, where place and length are equal by arithmetic
   pub appended_bytes : (p : Region) (n at len : ℕ) (ws : List ℕ) → p.slots ≡ spliced b.region.slots at n ws → p.at ≡ b.region.at → at ≡ b.len → len ≡ b.len + n → length ws ≡ n → b.len + n ≤ most
       → let b' = record b { len = len; region = p } in IsBlock most b' × (bytes_of b' ≡ bytes_of b ++ ws)
   appended_bytes p n at len ws slots base at_is len_is long le =
@@ -46,11 +46,11 @@ module _ {most : ℕ} (b : Inside most) (ok : IsBlock most b) where
     pub run_is : (xs : List ℕ) → take n (drop at b.region.slots) ≡ map Some xs → xs ≡ range at n (bytes_of b)
     run_is xs e = sym (somes_map xs) ∙ ap somes (sym e ∙ run) ∙ somes_map (range at n (bytes_of b))
 
-    -- the same, where its place is found equal by arithmetic
+    -- `run_is`, where place and length are equal by arithmetic
     pub run_reads : (at' n' : ℕ) (xs : List ℕ) → take n' (drop at' b.region.slots) ≡ map Some xs → at' ≡ at → n' ≡ n → xs ≡ range at n (bytes_of b)
     run_reads at' n' xs e at_is n_is = run_is xs ((λ i. take (sym n_is i) (drop (sym at_is i) b.region.slots)) ∙ e)
 
-    -- a run is written over
+    -- a run is overwritten
     pub lent : (ws : List ℕ) → let b' = record b { region = written_over b.region at n ws } in IsBlock most b' × (bytes_of b' ≡ with_range (bytes_of b) at n ws)
     lent ws =
         let xs = bytes_of b in let old = somes (take n (drop at b.region.slots)) in let new = refill n old ws in

@@ -4,8 +4,8 @@
 --     run_out, run_in      a run of places is taken out of the row, and put back, with whatever it
 --                          then holds
 --     one_room      one place is room for a byte, whatever it holds
---     of_room, to_room      room for an array of bytes is a row of unwritten places, and a row of any
---                           places is room
+--     of_room, to_room      room for an array of bytes is a row of unwritten places, and a row of
+--                           any places is room
 --     to_cells, of_cells      a row of written places is the elements of a slice
 --     run_seen      the elements of a `&` to a run, of a `&` to the row
 use mathlib.Core.Path.{◌≡◌, refl, sym, ap, subst, ◌∙◌}
@@ -79,7 +79,7 @@ module _ {M : Type 1} {𝓤 : Ura M} (𝓛 : Logic 𝓤) (b : ℕ) where
     front : i + o ≡ length (take i cs) + o
     front = omega (arith, length-take i cs)
 
-    -- the places but for the n from the i-th on
+    -- the places except the n from the i-th on
     abbrev pub Around : Fml
     Around = fsep (row b o (take i cs)) (row b (n + (i + o)) (drop (i + n) cs))
 

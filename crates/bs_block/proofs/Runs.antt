@@ -34,7 +34,7 @@ module _ (cs : List (Option ℕ)) (at n : ℕ) (ws : List ℕ) (long : length ws
     back_spliced : (k : ℕ) → at + n ≤ k → drop k (spliced cs at n ws) ≡ drop k cs
     back_spliced k past = ap (drop k) parts ∙ drop-append-drop (at + n) cs (take at cs ++ map Some ws) k past front
 
-    -- a run is written behind a run
+    -- two runs are written, the second right after the first
     pub spliced_more : (m : ℕ) (vs : List ℕ) → spliced (spliced cs at n ws) (at + n) m vs ≡ spliced cs at (n + m) (ws ++ vs)
     spliced_more m vs = let rest = drop (at + n + m) cs in
         (λ i. front_spliced i ++ (map Some vs ++ back_spliced (at + n + m) (omega arith) i)) ∙ append_assoc (take at cs) (map Some ws) (map Some vs ++ rest)
@@ -60,15 +60,15 @@ module _ (cs : List (Option ℕ)) (len : ℕ) (xs : List ℕ) (holds : take len 
       sym (drop-take at n cs) ∙ ap (drop at) (sym (take-take (at + n) len cs le) ∙ ap (take (at + n)) holds) ∙ drop-take at n (map Some xs)
       ∙ ap (take n) (drop-map Some at xs) ∙ take-map Some n (drop at xs)
 
-  -- bytes are written behind them
+  -- bytes are appended
   pub appended : (n : ℕ) (ws : List ℕ) → len ≤ length cs → length ws ≡ n → take (len + n) (spliced cs len n ws) ≡ map Some (xs ++ ws)
   appended n ws le long = front_spliced cs len n ws long le ∙ ap (λ l. l ++ map Some ws) holds ∙ sym (map-append Some xs ws)
 
-  -- bytes are written over some of them
+  -- some of the bytes are overwritten
   pub overwritten : (at n : ℕ) (ws : List ℕ) → len ≤ length cs → at + n ≤ len → length ws ≡ n → take len (spliced cs at n ws) ≡ map Some (take at xs ++ (ws ++ drop (at + n) xs))
   overwritten at n ws le within long = take_spliced cs at n ws long (omega (arith, le, within)) len within ∙ ap (λ l. spliced l at n ws) holds ∙ spliced_map xs at n ws
 
--- to write over the first n of the fresh zeros
+-- the first n of the new zeros are overwritten
 pub extended_is : (xs : List ℕ) (n : ℕ) (ws : List ℕ) → with_range (xs ++ replicate (rounded n) 0) (length xs) n ws ≡ extended xs n ws
 extended_is xs n ws =
     let at = length xs in let m = rounded n in let zs = replicate m 0 in
@@ -77,11 +77,11 @@ extended_is xs n ws =
     let new = refill n (replicate n 0) ws in let long : length new ≡ n = sym (length_refill n (replicate n 0) ws (sym (length-replicate n 0))) in
     (λ i. take_at xs zs at refl i ++ (refill n (run i) ws ++ rest i)) ∙ ap (λ k. xs ++ (new ++ replicate (rounded k - k) 0)) (sym long)
 
--- the same splice, where its place is found equal by arithmetic
+-- `ds`, a splice at `k`, is the splice at any place equal to `k`
 pub spliced_at : (cs ds : List (Option ℕ)) (k at n : ℕ) (ws : List ℕ) → ds ≡ spliced cs k n ws → k ≡ at → ds ≡ spliced cs at n ws
 spliced_at cs ds k at n ws is at_is = is ∙ ap (λ j. spliced cs j n ws) at_is
 
--- what `fill` lends of ys, which are xs and fresh zeros
+-- what `fill` makes of ys, which are xs and new zeros
 pub extended_by : (xs ys : List ℕ) (at n : ℕ) (ws : List ℕ) → ys ≡ xs ++ replicate (rounded n) 0 → at ≡ length xs → with_range ys at n ws ≡ extended xs n ws
 extended_by xs ys at n ws is at_is = (λ i. with_range (is i) (at_is i) n ws) ∙ extended_is xs n ws
 
@@ -103,13 +103,13 @@ length-with_range xs at n ws le =
 pub length-padded : (ws : List ℕ) → length (padded ws) ≡ rounded (length ws)
 length-padded ws = let n = length ws in omega (arith, rounded_above n, length-append ws (replicate (rounded n - n) 0), length-replicate {A = ℕ} (rounded n - n) 0)
 
--- so do the bytes that `fill` lends
+-- and so does the loan of `fill`
 pub length-extended : (xs : List ℕ) (n : ℕ) (ws : List ℕ) → length (extended xs n ws) ≡ length xs + rounded n
 length-extended xs n ws =
     let new = refill n (replicate n 0) ws in let long : n ≡ length new = length_refill n (replicate n 0) ws (sym (length-replicate {A = ℕ} n 0)) in
     omega (arith, length-append xs (padded new), length-padded new, ap rounded long)
 
--- bytes that fill the whole piece stand there, and zeros behind them
+-- where the bytes are as many as the loan, they are followed by zeros
 pub extended_whole : (xs : List ℕ) (n : ℕ) (ws : List ℕ)
     → length ws ≡ n → extended xs n ws ≡ xs ++ padded ws
 extended_whole xs n ws whole =

@@ -8,7 +8,7 @@ use Rattle.bs_block.specs.declared.block.Block.TheInside.{Inside}
 abbrev pub bytes_of : {most : ℕ} → Inside most → List ℕ
 bytes_of b = somes (take b.len b.region.slots)
 
--- what is so of every block
+-- the invariant of a block
 pub record IsBlock (most : ℕ) (b : Inside most) : Type 0 where
   pub capacity : IsCapacity most
   pub base : (b.base.ptr ≡ b.region.at) × (length b.region.slots ≡ most)

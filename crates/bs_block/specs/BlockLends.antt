@@ -1,19 +1,19 @@
--- What a block ends as, once a `&mut` into it has ended.
+-- The bytes of a block once a `&mut` into it has ended.
 use Rattle.std.specs.Prelude.{ℕ, List, Option}
 use Rattle.std.specs.Borrow.{Fml, Bor, MutBor, RattleType, Array, Lends, follows_if, name_if_some, u8}
 use Rattle.bs_block.specs.Bytes.{with_range, extended}
 use Rattle.bs_block.specs.contracts.block.Block.{the_row}
 
 module _ (CAP : RattleType) (b : MutBor (List ℕ)) where
-  -- the bytes outside the range are as before
+  -- the bytes outside the range are unchanged
   abbrev pub lends_range : ℕ → ℕ → MutBor (List ℕ) → Fml
   lends_range at n r = Lends (the_row CAP) (Array u8 0) b r (with_range b.now at n)
 
-  -- the old bytes are as before, and those behind the n are zeros
+  -- the old bytes are unchanged, and those after the n new ones are zeros
   abbrev pub lends_fresh : ℕ → MutBor (List ℕ) → Fml
   lends_fresh n r = Lends (the_row CAP) (Array u8 0) b r (extended b.now n)
 
-  -- at `Some` as after the loan of `fill`, and at `None` as before
+  -- `Some`: as after `fill`; `None`: unchanged
   abbrev pub lends_fresh_if : ℕ → Option (Bor (List ℕ) × MutBor (List ℕ)) → Fml
   lends_fresh_if n parts =
       follows_if (the_row CAP) (Array u8 0) b.ghost_name

@@ -9,11 +9,11 @@ use Rattle.bs_block.specs.declared.rounding.TheConstants.{UNIT}
 abbrev pub IsCapacity : ℕ → Type 0
 IsCapacity cap = (cap % UNIT ≡ 0) × (UNIT ≤ cap) × (cap ≤ MOST_CAPACITY)
 
--- n more bytes, rounded up, fit behind xs in a block of most bytes
+-- n bytes, rounded up, fit after xs in a block of `most` bytes
 abbrev pub HasRoom : ℕ → List ℕ → ℕ → Type 0
 HasRoom most xs n = length xs + rounded n ≤ most
 
--- they do not
+-- n bytes, rounded up, do not fit after xs
 abbrev pub Overflows : ℕ → List ℕ → ℕ → Type 0
 Overflows most xs n = most < length xs + rounded n
 
@@ -25,16 +25,16 @@ padded ws = ws ++ replicate (rounded (length ws) - length ws) 0
 abbrev pub range : ℕ → ℕ → List ℕ → List ℕ
 range at n xs = take n (drop at xs)
 
--- xs, with ws in place of the n bytes from at on; a list of another length than n is cut, or
--- extended up with the old bytes
+-- xs, with ws in place of the n bytes from `at` on; a ws of another length is cut to n bytes, or
+-- filled up with the old bytes
 abbrev pub with_range : List ℕ → ℕ → ℕ → List ℕ → List ℕ
 with_range xs at n ws = take at xs ++ (refill n (range at n xs) ws ++ drop (at + n) xs)
 
--- xs, and behind them ws in n zeros, rounded up
+-- xs, then ws, cut or filled with zeros to n bytes, then zeros up to the rounded size
 abbrev pub extended : List ℕ → ℕ → List ℕ → List ℕ
 extended xs n ws = xs ++ padded (refill n (replicate n 0) ws)
 
--- what `push` answers, and makes of xs
+-- what `push` returns, and the bytes after it
 abbrev pub Pushes : ℕ → List ℕ → List ℕ → Option ℕ → List ℕ → Type 0
 Pushes most xs bytes answer ys =
     MatchOption answer

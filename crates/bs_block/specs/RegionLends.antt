@@ -1,4 +1,4 @@
--- What the places end as, once a `&mut` into them has ended.
+-- The places once a `&mut` into them has ended.
 use Rattle.std.specs.Prelude.{ℕ, List, take, drop, Option}
 use Rattle.std.specs.Borrow.{Fml, MutBor, Array, Lends, u8}
 use Rattle.std.specs.List.{refill}
@@ -14,6 +14,6 @@ with_slots p cs = record { mark = p.mark; at = p.at; slots = cs }
 abbrev pub written_over : Region → ℕ → ℕ → List ℕ → Region
 written_over p at n ws = with_slots p (spliced p.slots at n (refill n (somes (take n (drop at p.slots))) ws))
 
--- all places but the n from the place at on stay
+-- all places except the n from `at` on are unchanged
 abbrev pub lends_run : MutBor Region → ℕ → ℕ → MutBor (List ℕ) → Fml
 lends_run p at n r = Lends the_row (Array u8 0) p r (written_over p.now at n)

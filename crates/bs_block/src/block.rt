@@ -13,8 +13,8 @@ use std::marker::Model;
 pub const MOST_CAPACITY: usize = 1_073_741_824;
 
 /// One allocation of `CAP` bytes, seen as the list of those in use. `CAP` is a multiple of `UNIT`,
-/// not 0, of at most `MOST_CAPACITY`. Each append takes its size rounded up to a multiple of
-/// `UNIT`. The block alone owns its bytes, and its drop frees them.
+/// from `UNIT` to `MOST_CAPACITY`. Each append takes its size rounded up to a multiple of `UNIT`.
+/// The block alone owns its bytes; dropping it frees them.
 pub struct Block<const CAP: usize> {
     base: Base,
     len: usize,
@@ -38,8 +38,8 @@ impl<const CAP: usize> Model for Block<CAP> {
 impl<const CAP: usize> Block<CAP> {
     ghost use Rattle.bs_block.specs.BlockLends.{lends_range, lends_fresh, lends_fresh_if};
 
-    /// An empty block. Only this call takes memory, `CAP` bytes at once, and it touches none of
-    /// them. An error is the allocator's.
+    /// Makes an empty block. Only this call allocates: `CAP` bytes at once, of which it writes
+    /// none. The error is the allocator's.
     pub fn new(alloc: Global) -> Result<Self, AllocError>
         requires { IsCapacity CAP }
         ensures { IfOk result (λ b. b ≡ []) }
@@ -61,7 +61,7 @@ impl<const CAP: usize> Block<CAP> {
         self.len
     }
 
-    /// The number of bytes that are left.
+    /// The number of bytes not in use.
     pub fn room(&self) -> usize
         ensures room { result + length self.now ≡ CAP }
         ensures most { result ≤ MOST_CAPACITY }
@@ -153,8 +153,8 @@ impl<const CAP: usize> Block<CAP> {
         self.fitting(n).is_none()
     }
 
-    /// Appends the bytes, then zeros up to a multiple of `UNIT`, and answers the old length: where
-    /// the bytes now lie. `None` where the rounded size exceeds the room.
+    /// Appends the bytes, then zeros up to a multiple of `UNIT`. Returns the old length, which is
+    /// where the bytes begin, or `None` if their rounded size exceeds the room.
     #[tactic(auto, using(crate::proofs::Rounded::rounded_above))]
     pub fn push(&mut self, bytes: &[u8]) -> Option<usize>
         ensures { Pushes CAP self.old bytes.now result self.new }
@@ -166,8 +166,8 @@ impl<const CAP: usize> Block<CAP> {
         Some(at)
     }
 
-    /// Appends `n` zeros, rounded up, and lends at once all the old bytes, to read, and the `n`
-    /// zeros, to write. Test first that it fits: `round_up(n) <= room()`.
+    /// Appends `n` zeros, rounded up to a multiple of `UNIT`. Lends the old bytes, to read, and at
+    /// the same time the `n` zeros, to write. Requires `round_up(n) <= room()`.
     #[tactic(auto, using(crate::proofs::Rounded::rounded_above, crate::proofs::Runs::extended_by, crate::proofs::Runs::old_by, crate::proofs::Runs::fresh_by))]
     pub fn fill(&mut self, n: usize) -> (&[u8], &mut [u8])
         requires { HasRoom CAP self.old n }
@@ -181,8 +181,7 @@ impl<const CAP: usize> Block<CAP> {
         self.lend(old, n)
     }
 
-    /// Appends and lends as `fill` does. `None` where the rounded size exceeds the room, and then
-    /// the block is unchanged.
+    /// Like `fill`; `None` if the rounded size exceeds the room, and then the block is unchanged.
     pub fn split_fill(&mut self, n: usize) -> Option<(&[u8], &mut [u8])>
         ensures* writes_back { sem 𝓛 (lends_fresh_if CAP.row self.entry n result) }
         ensures parts { MatchOption result (Overflows CAP self.old n)

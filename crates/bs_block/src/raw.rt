@@ -1,5 +1,4 @@
-//! The places of a block, each unwritten or holding a byte. Here, and nowhere else, stand the
-//! pointers.
+//! The places of a block, each unwritten or holding a byte. All raw pointers of the crate are here.
 ghost use Rattle.std.specs.Prelude.{◌≡◌, ℕ, ◌+◌, ◌<◌, ◌≤◌, ◌^◌, List, [], ◌∷◌, Option, Some, None, map, length, take, drop, replicate, IfOk, ⊤};
 ghost use Rattle.std.specs.Borrow.{sem};
 ghost use base.Fml.{ftrue};
@@ -49,7 +48,7 @@ unsafe impl Send for Region {}
 
 unsafe impl Sync for Region {}
 
-/// The right to give `len` bytes at `at` back to `alloc`. It takes no space.
+/// The right to free the `len` bytes at `at`. It takes no space.
 pub struct Deed<A: Allocator> {
     mark: PhantomData<*const A>,
     ghost at: { Ptr },
@@ -68,7 +67,7 @@ unsafe impl<A: Allocator + Send> Send for Deed<A> {}
 // A `&` to it holds nothing.
 unsafe impl<A: Allocator> Sync for Deed<A> {}
 
-/// `len` places, none of them written, so no page of theirs is touched.
+/// Allocates `len` places. None of them is written, so no page of them is touched.
 pub(crate) fn allocate<A: Allocator>(
     alloc: &A,
     len: usize,

@@ -1,8 +1,8 @@
-//! The sizes that a block gives out.
+//! The unit of sizes in a block.
 ghost use Rattle.std.specs.Prelude.{◌≡◌, ◌+◌, ◌≤◌, ◌^◌};
 ghost use Rattle.bs_block.specs.Rounding.{rounded, IsLeastMultiple};
 
-/// What a block gives out, and its capacity, are multiples of so many bytes.
+/// The unit, in bytes, of sizes in a block and of its capacity.
 pub const UNIT: usize = 16;
 
 /// The size that `n` bytes take in a block: the least multiple of `UNIT` not below `n`.

@@ -1,4 +1,4 @@
--- Lists in which nothing stands twice, and what a filter leaves of a list.
+-- Lists without duplicates, and the elements that a filter leaves.
 use Rattle.std.proofs.Common.{◌≡◌, suc, Bool, true, false, not, List, [], ◌∷◌, length, map, refl, ap, inl, inr}
 use Rattle.std.specs.List.{filter, list_any, list_all}
 use Rattle.std.proofs.lemmas.Bool.{cases_Bool, not-true}
@@ -9,20 +9,20 @@ pub list_any_map : {X Y : Type 0} (p : Y → Bool) (f : X → Y) (xs : List X) �
 list_any_map p f [] = refl
 list_any_map p f (x ∷ xs) = rw (list_any_map p f xs) refl
 
--- only what is compared counts
+-- only the compared values matter
 pub are_distinct_map : {X Y : Type 0} (same : Y → Y → Bool) (f : X → Y) (xs : List X)
     → are_distinct same (map f xs) ≡ are_distinct (λ a b. same (f a) (f b)) xs
 are_distinct_map same f [] = refl
 are_distinct_map same f (x ∷ xs) = rw (list_any_map (same (f x)) f xs, are_distinct_map same f xs) refl
 
--- a test that all pass leaves all
+-- a test that all elements pass removes none
 pub filter_all : {X : Type 0} (p : X → Bool) (xs : List X) → list_all p xs ≡ true → length (filter p xs) ≡ length xs
 filter_all p [] all = refl
 filter_all p (x ∷ xs) all =
     let parts : (p x ≡ true) × (list_all p xs ≡ true) = and_both _ _ all in
     rw parts.0 (ap suc (filter_all p xs parts.1))
 
--- what is left has passed
+-- the remaining elements pass
 pub filter_passes : {X : Type 0} (p : X → Bool) (xs : List X) → list_all p (filter p xs) ≡ true
 filter_passes p [] = refl
 filter_passes p (x ∷ xs) =
@@ -31,7 +31,7 @@ filter_passes p (x ∷ xs) =
       | inr not_in ↦ rw not_in (filter_passes p xs)
     ]
 
--- what holds of all holds of those that are left
+-- what holds of all holds of the remaining ones
 pub all_of_filter : {X : Type 0} (p q : X → Bool) (xs : List X) → list_all q xs ≡ true → list_all q (filter p xs) ≡ true
 all_of_filter p q [] all = refl
 all_of_filter p q (x ∷ xs) all =

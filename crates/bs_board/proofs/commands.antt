@@ -1,3 +1,3 @@
--- Lemmas on what commands ask for.
+-- Lemmas on the contents of commands.
 pub mod Ascending
 pub mod SameValues

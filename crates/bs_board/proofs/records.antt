@@ -1,4 +1,4 @@
--- Lemmas on the bytes that a board is kept as.
+-- Lemmas on the bytes of a board.
 pub mod BoardRecord
 pub mod Fields
 pub mod FitSnake

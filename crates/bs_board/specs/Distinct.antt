@@ -1,4 +1,4 @@
--- Lists in which nothing stands twice.
+-- Lists without duplicates.
 use Rattle.std.specs.Prelude.{Bool, true, not, ◌&&◌, List, [], ◌∷◌}
 use Rattle.std.specs.List.{list_any}
 

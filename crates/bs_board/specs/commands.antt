@@ -1,3 +1,3 @@
--- What a command asks for.
+-- The contents of a command.
 pub mod Orders
 pub mod Setup

@@ -1,4 +1,4 @@
--- The bytes that a board is kept as.
+-- The bytes of a board.
 pub mod Decoder
 pub mod FitSnake
 pub mod Kept

@@ -1,4 +1,4 @@
-//! Commands, what they ask for, and replies.
+//! Commands, their contents, and replies.
 
 pub mod command;
 pub mod equality;

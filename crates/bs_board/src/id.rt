@@ -6,21 +6,21 @@ use arrayvec::ArrayString;
 use std::alloc::{AllocError, Global};
 use std::marker::Model;
 
-/// The most bytes that lie in the value itself. A UUID has 36, an id that the game's own server
-/// gives 27; where room for 64 was kept in each value, a file took more memory and more time.
+/// The most bytes stored in the value itself. A UUID has 36, an id of the game's own server 27;
+/// with room for 64 in each value, a file took more memory and more time.
 const LONGEST_INSIDE: usize = 40;
 
-/// Where the bytes of a text lie.
+/// The storage of a text.
 #[derive(Debug, Drop)]
 pub(crate) enum Text {
-    /// In the value itself: a copy asks for no memory.
+    /// In the value itself: a copy allocates nothing.
     Inside(ArrayString<LONGEST_INSIDE>),
-    /// Apart: a longer one.
+    /// In an allocation: a longer text.
     Apart(String),
 }
 
-/// A text that names a snake or a game: in a setup, on a board and in a plan of 1 to 64 bytes, in a
-/// move of any length. Clauses see its bytes.
+/// A text that names a snake or a game: of 1 to 64 bytes in a setup, on a board and in a plan, of
+/// any length in a move. Clauses see its bytes.
 #[derive(Debug, Drop)]
 pub struct Id {
     text: Text,
@@ -35,7 +35,7 @@ impl Model for Id {
     ghost view = { λ i. bytes_of i.text };
 }
 
-/// The text, where it is short enough to lie in a value.
+/// Stores the text in the value, if it is short enough.
 fn inside(text: &str) -> Option<ArrayString<LONGEST_INSIDE>>
     ensures { IfSome result (λ short. short.bytes ≡ text.now) }
 {
@@ -47,7 +47,7 @@ impl Id {
     ghost use Rattle.std.specs.Str.{is_utf8};
     ghost use Rattle.bs_board.specs.Texts.{is_same_text, is_short_text, is_text_below};
 
-    /// The id that is this text.
+    /// Makes the id of this text.
     pub fn from_string(text: String) -> Id
         ensures { result ≡ string_bytes text }
     {
@@ -58,8 +58,7 @@ impl Id {
         Id { text }
     }
 
-    /// The id that is a copy of this text. It asks for memory only where the text has more than 40
-    /// bytes.
+    /// Makes an id from a copy of this text. Allocates only if the text has more than 40 bytes.
     pub fn from_str(alloc: Global, text: &str) -> Result<Id, AllocError>
         ensures { IfOk result (λ id. id ≡ text.now) }
     {
@@ -70,7 +69,7 @@ impl Id {
         Ok(Id { text })
     }
 
-    /// Its text.
+    /// The text.
     pub fn as_str(&self) -> &str
         ensures { result.now ≡ self.now }
     {
@@ -81,7 +80,7 @@ impl Id {
     }
 
     #[tactic(auto, using(crate::proofs::Utf8::is_text))]
-    /// Its bytes, which are UTF-8.
+    /// The bytes, which are UTF-8.
     pub fn as_bytes(&self) -> &[u8]
         ensures value { result.now ≡ self.now }
         ensures text { is_utf8 self.now ≡ true }
@@ -104,21 +103,21 @@ impl Id {
         1 <= bytes.len() && bytes.len() <= LONGEST_ID
     }
 
-    /// Whether it is the other one, byte for byte.
+    /// Whether both have the same bytes.
     pub fn is_same(&self, other: &Id) -> bool
         ensures { result ≡ is_same_text self.now other.now }
     {
         self.as_str() == other.as_str()
     }
 
-    /// Whether this id comes before the other one, by their bytes.
+    /// Whether this id is below the other one, by bytes.
     pub fn is_below(&self, other: &Id) -> bool
         ensures { result ≡ is_text_below self.now other.now }
     {
         self.as_str() < other.as_str()
     }
 
-    /// The same value. It asks for memory only where the text has more than 40 bytes.
+    /// Copies the id. Allocates only if the text has more than 40 bytes.
     pub fn copy(&self, alloc: Global) -> Result<Id, AllocError>
         ensures { IfOk result (λ id. id ≡ self.now) }
     {

@@ -1,6 +1,6 @@
-//! A Battlesnake board, its snakes, and the plain values that the crates above pass to one another:
-//! what a command asks, what a reply tells, what a plan holds. Beside the types stand their copies,
-//! whether a board is legal, and its record: how long it is, and how it is written and read.
+//! A Battlesnake board, its snakes, and the values that the crates above pass to one another: the
+//! contents of commands, replies and plans. Each type has a copy; a board can be tested for
+//! legality, and written to and read from its record.
 #![tactic(auto)]
 
 pub mod boards;
@@ -31,10 +31,10 @@ pub use plans::version::Version;
 pub use records::decode_error::Decode;
 pub use records::decoding::decode;
 pub use records::encoding::{encode, encode_into};
-pub use records::kept::{kept_board, kept_ground, kept_snakes};
 pub use records::kept_board::KeptBoard;
 pub use records::layout::{BoardBytes, SnakeBytes, split_board, split_snake};
 pub use records::over::over_of_record;
+pub use records::record::Record;
 pub use records::sizes::size;
 pub use records::snake::{decode_snake, encode_snake_into, snake_size};
-pub use records::turn::{seats_of_record, turn_of_record, wrap_of_record};
+pub use records::turn::{seats_of_record, turn_of_record};

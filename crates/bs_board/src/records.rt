@@ -1,4 +1,4 @@
-//! Records: the bytes that a board is kept as.
+//! Records: the bytes of a board.
 
 pub mod decode_error;
 pub mod decoding;
@@ -7,6 +7,7 @@ pub mod kept;
 pub mod kept_board;
 pub mod layout;
 pub mod over;
+pub mod record;
 pub mod sizes;
 pub mod snake;
 pub mod turn;

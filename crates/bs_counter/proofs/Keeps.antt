@@ -122,7 +122,7 @@ module _ {T : Type 0} (part : T → ℕ) (n : ℕ) where
 
   -- A seat's view v becomes w, which covers no more.
   module _ (s : St) (r : Tallied part n s) (id : ℕ) (v w : View) (at : get_elem? s.views id ≡ some v) (less : (p : ℕ) → Covers w p → Covers v p) where
-    -- what a seat covers afterwards it covered before
+    -- what a seat covers after the step it covered before
     before : (i p : ℕ) (u : View) → get_elem? (set s.views id w) i ≡ some u → Covers u p → (u' : View) × (get_elem? s.views i ≡ some u') × Covers u' p
     before i p u e c =
         ⊎_elim (λ t. (v, subst (λ (j : ℕ). get_elem? s.views j ≡ some v) (sym t.0) at, less p (subst (λ (x : View). Covers x p) (sym t.1) c)))
@@ -138,22 +138,22 @@ module _ {T : Type 0} (part : T → ℕ) (n : ℕ) where
     apart : (i p q : ℕ) (u : View) → i ≢ id → get_elem? s.views i ≡ some u → Covers u q → Covers v p → q ≢ p
     apart i p q u other e c d same = other (r.disjoint i id q u v e at c (subst (λ (x : ℕ). Covers v x) (sym same) d))
 
-    -- nobody was last while a part was missing
+    -- no seat was last while a part was missing
     none_last : 0 < weight v → (i k : ℕ) → get_elem? s.views i ≡ some (Last k) → ⊥
     none_last some_left i k e = let no_more = (r.last i k e).0 in let left = owing_at s.views id v at in omega arith
 
-    -- nor is another afterwards
+    -- nor is another one after the step
     none_last_after : 0 < weight v → ((k : ℕ) → w ≡ Last k → ⊥) → (i k : ℕ) → get_elem? (set s.views id w) i ≡ some (Last k) → ⊥
     none_last_after some_left not i k e = ⊎_elim (λ t. not k t.1) (λ t. none_last some_left i k t.1) (at_set s.views id i w (Last k) e)
 
-    -- a part that is finished afterwards was finished before, or was one of this seat's
+    -- a part that is finished after the step was finished before, or was one of this seat's
     finished_before : (q : ℕ) → ¬ Covers v q → IsFinished (set s.views id w) q → IsFinished s.views q
     finished_before q mine done i u e c =
         dite (ℕ_discrete i id)
         (λ same. mine (subst (λ (x : View). Covers x q) (some-injective u v (sym e ∙ subst (λ (j : ℕ). get_elem? s.views j ≡ some v) (sym same) at)) c))
         (λ other. done i u (at_new_other s.views id i u w other e) c)
 
-    -- an empty slot of another seat is empty afterwards
+    -- an empty slot of another seat is still empty
     empty_after : (p : ℕ) (h : maybe.Option (Option T)) → Covers v p → ((q : ℕ) → ¬ Waits w q) → (i q : ℕ) (u : View) → get_elem? (set s.views id w) i ≡ some u → Waits u q
         → get_elem? (set s.homes p h) q ≡ some (some None)
     empty_after p h mine waits i q u e c =
@@ -167,7 +167,7 @@ module _ {T : Type 0} (part : T → ℕ) (n : ℕ) where
   word_after : (s : St) → Tallied part n s → (k : ℕ) → get_or (set s.words 0 k) 0 0 ≡ k
   word_after s r k = let wide = r.wide in get_or-set_same s.words 0 k 0 (omega arith)
 
-  -- a slot goes out to the seat that is to finish its part
+  -- a slot is taken out by the seat that has to finish its part
 
   alone : (p q : ℕ) → Covers (Owes p (p + 1)) q → q ≡ p
   alone p q c = let l = c.0 in let h = c.1 in omega arith
@@ -208,9 +208,9 @@ module _ {T : Type 0} (part : T → ℕ) (n : ℕ) where
   pub starts : (slots id p : ℕ) (me : M) → me ≡ (Owes p (p + 1), []) → Allows (Tallied part n) slots id me 0 (λ x. x) (started (step slots 0 0 0 none) me)
   starts slots id p me is = subst (λ (m : M). Allows (Tallied part n) slots id m 0 (λ x. x) (started (step slots 0 0 0 none) m)) (sym is) (starts_from slots id p)
 
-  -- a slot goes home with the outcome of its part
+  -- a slot is put back with the outcome of its part
 
-  -- the part that goes home is filled, and so is each other that was finished before
+  -- the part whose slot is put back is filled, and so is each other that was finished before
   filled_after : (s : St) (id p q : ℕ) (x : T) (w : View) → Tallied part n s → get_elem? s.views id ≡ some (Writes p) → part x ≡ p → q < n
       → ((p' : ℕ) → Covers w p' → Covers (Writes p) p') → IsFinished (set s.views id w) q → IsFilled part (set s.homes p (some (Some x))) q
   filled_after s id p q x w r at is within less done =
@@ -245,7 +245,7 @@ module _ {T : Type 0} (part : T → ℕ) (n : ℕ) where
         some_last = λ e. absurd (omega arith);
       }
 
-  -- where no part is missing each is finished
+  -- if no part is missing, each is finished
   all_finished : (views : List View) (q : ℕ) → owing views ≡ 0 → IsFinished views q
   all_finished views q none_left i u e c = let l = owing_at views i u e in let m = covers_weighs u q c in absurd (omega arith)
 
@@ -369,11 +369,11 @@ module _ {T : Type 0} (part : T → ℕ) (n : ℕ) where
         let one : owing views' ≡ owing (set s.views id w) + (a + 1 - a) = e in
         omega arith
 
-    -- a seat other than the new one is as after the step; the new one stands at the end
+    -- a seat other than the new one is as after the step; the new one is the last
     old_or_new : (i : ℕ) (x : View) → get_elem? views' i ≡ some x → (get_elem? (set s.views id w) i ≡ some x) ⊎ ((i ≡ length s.views) × (u ≡ x))
     old_or_new i x e = ⊎_elim (λ t. inl t) (λ t. inr (t.0 ∙ length-set s.views id w, t.1)) (at_end (set s.views id w) u x i e)
 
-    -- no seat but the new one covers its part
+    -- only the new seat covers its part
     not_first : (i p : ℕ) (x : View) → get_elem? (set s.views id w) i ≡ some x → Covers x p → Covers u p → ⊥
     not_first i p x e c d =
         ⊎_elim (λ t. let m : Covers w p = subst (λ (y : View). Covers y p) (sym t.1) c in let l = m.0 in let h = d.1 in absurd (omega arith))
@@ -461,7 +461,7 @@ module _ {T : Type 0} (part : T → ℕ) (n : ℕ) where
         let other : i ≢ id = λ same. missing.1 (subst (λ (x : View). Covers x q) (some-injective v (Writes p) (sym e ∙ subst (λ (j : ℕ). get_elem? s.views j ≡ some (Writes p)) (sym same) at)) c) in
         (i, v, at_new_other s.views id i v w other e, c)
 
-    -- where no seat is to finish a part, none is missing in number
+    -- if no seat has to finish a part, the word is 0
     none_counted : ((p : ℕ) → ¬ IsMissing s.views p) → owing s.views ≡ 0
     none_counted no_part =
         elim (eq-zero-or-pos (owing s.views)) [

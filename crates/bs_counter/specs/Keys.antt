@@ -5,18 +5,22 @@ use Rattle.atomic_table.specs.declared.shared.Seat.{Seat}
 use Rattle.bs_counter.specs.declared.views.View.{View}
 use Rattle.bs_counter.specs.declared.views.View.TheVariants.{Owes}
 
+-- which tally it is
+abbrev pub TallyId : Type 0
+TallyId = TableId
+
 pub record Key : Type 0 where
   pub part : ℕ
-  -- of how many parts
+  -- the number of parts of its tally
   pub parts : ℕ
-  -- which tally, and which seat there
+  -- its tally, and its seat there
   pub tally : TableId
   pub seat : ℕ
 
 abbrev pub key_at : {T : Type 0} → ℕ → ℕ → Seat (Option T) View → Key
 key_at part parts s = record { part = part; parts = parts; tally = s.table_id; seat = s.id }
 
--- the seat at the tally of so many parts owes that part alone
+-- the seat, at that tally of `parts` parts, owes the one part
 pub record IsKeyAt {T : Type 0} (tally : TableId) (key part parts : ℕ) (s : Seat (Option T) View) : Type 0 where
   pub table : s.table_id ≡ tally
   pub word : tally.words ≡ 1
@@ -25,11 +29,11 @@ pub record IsKeyAt {T : Type 0} (tally : TableId) (key part parts : ℕ) (s : Se
   pub few : parts ≤ 4
   pub owes : s.me ≡ (Owes part (part + 1), [])
 
--- the first so many keys of a tally of n parts, in their order
+-- the first `many` keys of a tally of n parts, in order
 pub record AreFirstKeys (many n : ℕ) (tally : TableId) (keys : List Key) : Type 0 where
   pub all : length keys ≡ many
   pub each : (p : ℕ) → p < many → (key : Key) × (slice_get keys p ≡ Some key) × (key.part ≡ p) × (key.parts ≡ n) × (key.tally ≡ tally)
 
--- the keys of one tally of n parts, in their order
+-- the keys of one tally of n parts, in order
 abbrev pub AreKeys : ℕ → List Key → Type 0
 AreKeys n keys = (tally : TableId) × AreFirstKeys n n tally keys

@@ -1,13 +1,13 @@
 -- The tally as a set: the parts that are missing, from which each finish takes its own away.
-use Rattle.std.specs.Prelude.{◌≡◌, ◌≢◌, ◌↔◌, ℕ, ◌<◌, List, Option, slice_index, slice_set}
+use Rattle.std.specs.Prelude.{◌≡◌, ◌≢◌, ◌↔◌, ℕ, List, Option, slice_index, slice_set}
 use mathlib.Core.Option.{some}
 use lib.ListN.{get_elem?}
 use Rattle.atomic_table.specs.Table.{State}
 use Rattle.bs_counter.specs.declared.views.View.{View}
-use Rattle.bs_counter.specs.declared.views.View.TheVariants.{Writes, Past, Last}
-use Rattle.bs_counter.specs.Tally.{Covers, Tallied}
+use Rattle.bs_counter.specs.declared.views.View.TheVariants.{Writes, Last}
+use Rattle.bs_counter.specs.Tally.{Covers}
 
--- some seat is to finish the part
+-- some seat still has to finish the part
 abbrev pub IsMissing : List View → ℕ → Type 0
 IsMissing views p = (i : ℕ) × (v : View) × (get_elem? views i ≡ some v) × Covers v p
 
@@ -15,9 +15,9 @@ IsMissing views p = (i : ℕ) × (v : View) × (get_elem? views i ≡ some v) ×
 abbrev pub IsLast : List View → ℕ → Type 0
 IsLast views i = (k : ℕ) × (get_elem? views i ≡ some (Last k))
 
--- A state of the rule is a set of missing parts. The word is 0 exactly where it is empty, and a
--- seat that finishes its part takes that part away and no other, whether it is the last or not.
--- Where no part is missing exactly one seat is the last, else none.
+-- A state of the rule is a set of missing parts. The word is 0 exactly if the set is empty. A seat
+-- that finishes its part removes that part and no other, whether it is the last or not. If no part
+-- is missing, exactly one seat is the last, else none.
 pub record IsSet {T : Type 0} (s : State (Option T) View) : Type 0 where
   pub empty : slice_index s.words 0 ≡ 0 ↔ ((p : ℕ) → ¬ IsMissing s.views p)
   pub finish : (id p : ℕ) (w : View) → get_elem? s.views id ≡ some (Writes p) → ((q : ℕ) → ¬ Covers w q)

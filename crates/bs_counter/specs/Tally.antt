@@ -1,5 +1,5 @@
--- What the seats of a tally know, the rule that ties this to its word and its slots, and what each
--- step tells.
+-- What each seat of a tally knows, the invariant that ties this to the word and the slots, and the
+-- effect of each step.
 use Rattle.std.specs.Prelude.{◌≡◌, ◌≢◌, ℕ, ◌+◌, ◌-◌, ◌<◌, ◌≤◌, List, [], ◌∷◌, length, slice_index, Option, Some, None}
 use mathlib.Core.Option.{some}
 use mathlib.Core.Option as maybe
@@ -10,21 +10,21 @@ use Rattle.atomic_table.specs.declared.shared.Seat.{Seat}
 use Rattle.bs_counter.specs.declared.views.View.{View}
 use Rattle.bs_counter.specs.declared.views.View.TheVariants.{Owes, Writes, Past, Last}
 
--- the part is missing, and the seat is to finish it
+-- the part is missing, and the seat has to finish it
 abbrev pub Covers : View → ℕ → Type 0
 Covers (Owes a b) p = (a ≤ p) × (p < b)
 Covers (Writes q) p = p ≡ q
 Covers Past p = ⊥
 Covers (Last k) p = ⊥
 
--- nobody has begun to finish it
+-- the seat has not begun to finish it
 abbrev pub Waits : View → ℕ → Type 0
 Waits (Owes a b) p = (a ≤ p) × (p < b)
 Waits (Writes q) p = ⊥
 Waits Past p = ⊥
 Waits (Last k) p = ⊥
 
--- how many missing parts the seat is to finish
+-- how many missing parts the seat has to finish
 abbrev pub weight : View → ℕ
 weight (Owes a b) = b - a
 weight (Writes q) = 1
@@ -36,15 +36,15 @@ abbrev pub owing : List View → ℕ
 owing [] = 0
 owing (v ∷ vs) = weight v + owing vs
 
--- the slot is at home, with the outcome of its part
+-- the slot is in place, with the outcome of its part
 abbrev pub IsFilled : {T : Type 0} → (T → ℕ) → List (maybe.Option (Option T)) → ℕ → Type 0
 IsFilled {T} part homes p = (x : T) × (get_elem? homes p ≡ some (some (Some x))) × (part x ≡ p)
 
--- no seat is to finish it
+-- no seat has to finish it any more
 abbrev pub IsFinished : List View → ℕ → Type 0
 IsFinished views p = (i : ℕ) (v : View) → get_elem? views i ≡ some v → ¬ Covers v p
 
--- the tally of n parts
+-- the invariant of a tally of n parts
 pub record Tallied {T : Type 0} (part : T → ℕ) (n : ℕ) (s : State (Option T) View) : Type 0 where
   pub wide : length s.words ≡ 1
   pub deep : length s.homes ≡ n
@@ -57,7 +57,7 @@ pub record Tallied {T : Type 0} (part : T → ℕ) (n : ℕ) (s : State (Option 
   pub one_last : (i j k l : ℕ) → get_elem? s.views i ≡ some (Last k) → get_elem? s.views j ≡ some (Last l) → i ≡ j
   pub some_last : owing s.views ≡ 0 → (i : ℕ) × (k : ℕ) × (get_elem? s.views i ≡ some (Last k))
 
--- What the steps tell.
+-- The effect of the steps.
 
 abbrev pub first_of_view : View → ℕ
 first_of_view (Owes a b) = a
@@ -65,7 +65,7 @@ first_of_view (Writes q) = q
 first_of_view Past = 0
 first_of_view (Last k) = k
 
--- the first part gets a seat of its own
+-- without its first part, which got a seat of its own
 abbrev pub without_first : View → View
 without_first (Owes a b) = Owes (a + 1) b
 without_first (Writes q) = Past
@@ -79,19 +79,19 @@ first_alone Past = Past
 first_alone (Last k) = Past
 
 module _ {T : Type 0} where
-  -- the slot of the part is out, and empty
+  -- the slot of the part is taken out, and is empty
   abbrev pub started : Step (Option T) → Me (Option T) View → ℕ → Me (Option T) View → Type 0
   started st m r m' = m' ≡ (Writes (first_of_view m.0), (first_of_view m.0, None) ∷ m.1)
 
-  -- it is home again; who found 1 is the last
+  -- the slot is back in place; the seat that found 1 in the word is the last
   abbrev pub ended : Step (Option T) → Me (Option T) View → ℕ → Me (Option T) View → Type 0
   ended st m r m' = (0 < r) × (r ≡ 1 → m' ≡ (Last 0, rest m.1)) × (r ≢ 1 → m' ≡ (Past, rest m.1))
 
-  -- the next slot is out, with the outcome of its part
+  -- the next slot is taken out, with the outcome of its part
   abbrev pub fetched : (T → ℕ) → Step (Option T) → Me (Option T) View → ℕ → Me (Option T) View → Type 0
   fetched part st m r m' = (m'.0 ≡ Last (first_of_view m.0 + 1)) × ((x : T) × (m'.1 ≡ (first_of_view m.0, Some x) ∷ m.1) × (part x ≡ first_of_view m.0))
 
-  -- the seat is one at that tally, which has one word
+  -- the seat is at that tally, which has one word
   pub record IsSeatAt (tally : TableId) (seat : Seat (Option T) View) : Type 0 where
     pub table : seat.table_id ≡ tally
     pub word : tally.words ≡ 1

@@ -4,6 +4,7 @@
 mod finish;
 mod key;
 mod law;
+mod name;
 mod parted;
 mod plays;
 mod steps;
@@ -13,6 +14,7 @@ mod views;
 pub use finish::{Finish, Spent};
 pub use key::PartKey;
 pub use law::tally_law;
+pub use name::TallyName;
 pub use parted::Parted;
 pub use tally::Tally;
 #[doc(hidden)]

@@ -1,8 +1,9 @@
 //! Opening a tally.
 ghost use Rattle.std.specs.Prelude.{◌≤◌, IfOk};
-ghost use Rattle.bs_counter.specs.Keys.{AreKeys};
+ghost use Rattle.bs_counter.specs.Keys.{AreFirstKeys, AreKeys};
 
 use crate::key::PartKey;
+use crate::name::TallyName;
 use crate::parted::Parted;
 use crate::steps::{TallyTable, split};
 use atomic_table::Table;
@@ -20,6 +21,19 @@ impl Tally {
         requires few { n ≤ 4 }
         ensures { IfOk result (λ keys. AreKeys n keys.items) }
     {
+        let (_name, keys) = Tally::open_named(alloc, n)?;
+        Ok(keys)
+    }
+
+    /// Like `open`, with the name of the tally.
+    pub fn open_named<T: Parted + Drop>(
+        alloc: Global,
+        n: usize,
+    ) -> Result<(TallyName<T>, Vec<PartKey<T>>), AllocError>
+        requires some { 1 ≤ n }
+        requires few { n ≤ 4 }
+        ensures { IfOk result (λ opened. AreFirstKeys n n opened.0 opened.1.items) }
+    {
         let mut keys = Vec::with_capacity(alloc, n)?;
         let (table, mut seat) = Table::vacant(alloc, &[n as u64], n, &n)?;
         let tally: Arc<TallyTable<T>, Global> = Arc::new(alloc, table)?;
@@ -32,12 +46,13 @@ impl Tally {
                 parts: n,
             });
         }
+        let last = split(&tally, &mut seat, n as u64 - 1, n as u64);
         keys.push_reserved(PartKey {
             tally,
-            seat,
+            seat: last,
             part: n - 1,
             parts: n,
         });
-        Ok(keys)
+        Ok((TallyName { seat }, keys))
     }
 }

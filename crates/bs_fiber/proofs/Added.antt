@@ -1,4 +1,4 @@
--- Where the record that a Join adds lies.
+-- The place of the record that a Join adds.
 use Rattle.std.proofs.Common.{◌≡◌, ℕ, zero, suc, ◌+◌, ◌-◌, ◌<◌, ◌≤◌, List, [], ◌∷◌, ◌++◌, length, map, take, drop, replicate, get_or, Option, Some, None, refl, sym, ap, subst, ◌∙◌, arith, append_assoc, length-append, take_at, drop_at, inl, inr}
 use Rattle.std.proofs.lemmas.Bool.{cases_Bool}
 use Rattle.std.proofs.lemmas.List.{append-nil}
@@ -27,7 +27,7 @@ use Rattle.bs_fiber.proofs.Joined.{fit_join}
 use Rattle.bs_fiber.proofs.Seen.{some_view}
 use Rattle.bs_fiber.proofs.Written.{some_parts, first_of}
 
--- ---- only a Join comes to that
+-- ---- only a Join has this outcome
 
 begun_is_no_join : (view : View) (command : Command) (answer : Answer) (piece : Option Piece) → Joined answer piece ≡ begun view command → ⊥
 begun_is_no_join view command answer piece is =
@@ -46,7 +46,7 @@ joined_both : (view : View) (command : Command) (answer : Answer) (piece : Optio
     → (answer ≡ answer_of view command) × (piece ≡ piece_added (answer_of view command).effect (moved_part 0 view command))
 joined_both view command answer piece is = (cc, cc)
 
--- what a Join that is worked says
+-- the input of a Join with this outcome
 pub record IsJoined (input : Input) (answer : Answer) (piece : Option Piece) : Type 0 where
   pub kind : input.job.kind ≡ Join
   pub some : 1 ≤ length input.parts
@@ -101,7 +101,7 @@ added_first (effect.Add bytes) (part ∷ parts) p is some =
 added_first effect.Trim parts p is some = absurd cc
 added_first effect.Drop parts p is some = absurd cc
 
--- the same of a ticket's own blocks
+-- the same for a ticket's own blocks
 pub added_at : {most : ℕ} (frames : List (Owned most)) (f : Owned most) (e : Effect) (parts : List (List Snake)) (p : Piece)
     → bytes_of (frames_in frames) ≡ with_added e (map frame_of parts) → Some p ≡ piece_added e (get_or parts 0 []) → 1 ≤ length parts
     → f ≡ get_or frames 0 f → IsAddedAt e p f.block
@@ -118,7 +118,7 @@ some_frames [] e parts p same is some =
     absurd (omega arith)
 some_frames (f ∷ frames) e parts p same is some = omega arith
 
--- ---- a Join that is done
+-- ---- a Join that was run
 
 pub record HasAdded {most : ℕ} (t : TicketView) (frames : List (Owned most)) (answer : Answer) (p : Piece) : Type 0 where
   pub some : 0 < length frames

@@ -73,7 +73,7 @@ head_is_near false width height p near = near
 some_side : (n : ℕ) → is_side n ≡ true → 1 ≤ n
 some_side n fits = let least = leb-true 3 n (and_parts (nat_le 3 n) (nat_le n 25) fits).0 in omega arith
 
--- the head and the parts behind it
+-- the head and the parts after it
 all_near : (P : Point → Type 0) (body : List Point) → 3 ≤ length body → P (head_of body) → All P (drop 1 body) → All P body
 all_near P [] long head rest = absurd (omega arith)
 all_near P (p ∷ ps) long head rest = All-cons P p ps head rest
@@ -119,7 +119,7 @@ module _ (b : Board) (legal : IsLegal b) where
         near = movable.near;
       }
 
-  -- each seat one step on, whatever directions are given
+  -- each seat moved one step, whatever directions are given
   pub moved_are_fit : (given : Snake → Option Direction) → All (λ s. IsFitSnake (moved (wrap_of b) (given s) s)) b.snakes
   moved_are_fit given seat d within =
       let s = get_or b.snakes seat d in
@@ -144,7 +144,7 @@ pub moved_part_few : (view : View) (command : Command) (part : ℕ) → length (
 moved_part_few view command part =
     omega (arith, length-map (take 2 (drop (2 * part) (snakes_in view.last))) (λ s. moved (wrap_in view.last) (given_to (moves_in command) s.id) s), length-take 2 (drop (2 * part) (snakes_in view.last)))
 
--- what a part of a fit game moves, by whichever view is seen
+-- the snakes that a part of a fit game moves, in whichever view is read
 pub moved_fits : (input : Input) (moved : List Snake) → IsFitGame input
     → ((view : View) → IsSeen view input → moved ≡ moved_part input.job.part view input.command) → (length moved ≤ 2) × All IsFitSnake moved
 moved_fits input moved fit is =

@@ -62,7 +62,7 @@ pub frame_length_more : (snakes : List Snake) (i : ℕ) (s : Snake) → i < leng
 frame_length_more snakes i s within is =
     omega (arith, ap length (frame_more snakes i s within is), length-append (frame_of (take i snakes)) (padded (snake_record s)), length-padded (snake_record s))
 
--- what the snakes up to that one take
+-- the length of the bytes of the snakes up to that one
 pub next_fits : (snakes : List Snake) (i : ℕ) (s : Snake) → length snakes ≤ 2 → All IsFitSnake snakes → i < length snakes → s ≡ get_or snakes i s
     → length (frame_of (take i snakes)) + rounded (length (snake_record s)) ≤ 40160
 next_fits snakes i s few fit within is =
@@ -139,7 +139,7 @@ pub piece_holds : (snakes : List Snake) (i : ℕ) (p : Piece) (s : Snake) → i 
     → IsPieceOf (frame_of snakes) (get_or (pieces_from 0 snakes) i p) (get_or snakes i s)
 piece_holds snakes i p s within = piece_from [] 0 snakes i p s refl within
 
--- ---- what a loan leaves
+-- ---- the block after a loan
 
 pub filled : (xs bytes : List ℕ) (n : ℕ) → n ≡ length bytes → extended xs n bytes ≡ xs ++ padded bytes
 filled xs bytes n is = ap (λ (l : List ℕ). xs ++ padded l) (take_at bytes (drop (length bytes) (replicate n 0)) n (sym is))

@@ -1,4 +1,4 @@
--- What the parts moved, put together.
+-- The moved snakes of all parts together.
 use Rattle.std.proofs.Common.{◌≡◌, ℕ, ◌*◌, ◌<◌, suc, Bool, true, false, ◌&&◌, List, [], ◌∷◌, length, take, drop, map, Option, Some, None, slice_get, refl, ◌∙◌, arith}
 use Rattle.std.specs.Prelude.{flat_map, is_none, option_map}
 use Rattle.bs_board.specs.declared.boards.board.Board.{Board}
@@ -45,7 +45,7 @@ joined_board view orders board parts seats is all_moved e =
     let whole = gathered (λ s. moved (wrap_of board) (given_to orders.moves s.id) s) board.snakes parts all each in
     some_gathered view.last board orders seats is (e ∙ whole)
 
--- nothing speaks against a move that goes
+-- no reason refuses an accepted move
 pub nothing_speaks : {X : Type 0} (is_it : Bool) (reason : Option X) → (is_it && is_none reason) ≡ true → reason ≡ None
 nothing_speaks true None goes = refl
 nothing_speaks true (Some reason) goes = let wrong : false ≡ true = goes in cc

@@ -23,7 +23,7 @@ use Rattle.bs_fiber.proofs.Seen.{fit_job, seen_is_fit, some_view}
 pub fit_join : (input : Input) (view : View) → IsFitInput input → input.job.kind ≡ Join → IsSeen view input → IsFitJoin input.parts view input.command
 fit_join input view fit kind seen = rw kind at (fit_job input view fit seen)
 
--- the board that is seen of a record
+-- the board of a record
 pub seen_board : (bytes : List ℕ) (board : Option Board) → IsBoardOf (Some bytes) board → (b : Board) × (board ≡ Some b) × IsLegal b × (bytes ≡ record_of b)
 seen_board bytes None is = absurd is
 seen_board bytes (Some board) is = (board, refl, is.0, is.1)
@@ -31,7 +31,7 @@ seen_board bytes (Some board) is = (board, refl, is.0, is.1)
 module _ (input : Input) (orders : Orders) (bytes : List ℕ) (fit : IsFitInput input) (kind : input.job.kind ≡ Join)
     (orders_are : input.command ≡ command.Move orders) (last_is : input.last ≡ Some bytes) (moved : Board)
     (is : (b : Board) → IsLegal b → bytes ≡ record_of b → moved ≡ record b { snakes = flat_map (λ part. part) input.parts }) where
-  -- the parts put together are the last board of each view that is seen, with all its seats moved
+  -- the snakes of all parts are those of the last board of each view, with all seats moved
   pub moved_from_seen : (view : View) → IsSeen view input → IsMovedFrom input.quota input.charge orders moved view
   moved_from_seen view seen =
       let join = rw orders_are at (fit_join input view fit kind seen) in
@@ -51,7 +51,7 @@ module _ (input : Input) (orders : Orders) (bytes : List ℕ) (fit : IsFitInput 
       let seen = some_view input fit.game in
       (seen.0, moved_from_seen seen.0 seen.1)
 
--- a Join is of a move, in a game that runs
+-- a Join is of a move, in a running game
 pub join_is_of_a_move : (input : Input) → IsFitInput input → input.job.kind ≡ Join → is_move input.command ≡ true
 join_is_of_a_move input fit kind =
     let seen = some_view input fit.game in

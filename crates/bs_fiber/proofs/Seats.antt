@@ -1,5 +1,5 @@
 -- The seats that a part moves.
-use Rattle.std.proofs.Common.{◌≡◌, ℕ, ◌≤◌, List, Option, length, take, drop, All, sym, subst, arith}
+use Rattle.std.proofs.Common.{◌≡◌, ℕ, List, Option, take, drop, All, sym, subst}
 use Rattle.std.proofs.lemmas.List.Elements.{All-take, All-drop}
 use Rattle.bs_board.specs.declared.boards.board.Board.{Board}
 use Rattle.bs_board.specs.declared.boards.snake.Snake.{Snake}
@@ -7,7 +7,6 @@ use Rattle.bs_board.specs.boards.Legal.{IsLegal}
 use Rattle.bs_board.specs.boards.Wrap.{wrap_of, AreSides}
 use Rattle.bs_board.specs.records.Kept.{IsLegalRecord}
 use Rattle.bs_board.specs.records.Record.{record_of}
-use Rattle.bs_board.proofs.records.TurnBytes.{record_reaches_seats}
 use Rattle.bs_rules.specs.Motion.{IsMovable}
 use Rattle.bs_rules.proofs.Movable.{legal_is_movable, legal_has_sides}
 
@@ -16,9 +15,6 @@ pub some_movable : (b : Board) (from count : ℕ) (seats : List Snake) → IsLeg
 some_movable b from count seats legal are =
     rw are (All-take IsMovable count (drop from b.snakes) (All-drop IsMovable from b.snakes (legal_is_movable b legal)))
 
--- a legal board's record reaches behind the sides, and these are a board's
-pub reaches_sides : (bytes : List ℕ) → IsLegalRecord bytes → 4 ≤ length bytes
-reaches_sides bytes kept = let whole = record_reaches_seats kept.board bytes kept.is in omega arith
-
+-- the sides in a legal board's record are those of a board
 pub kept_sides : (bytes : List ℕ) (wrap : Option (ℕ × ℕ)) → IsLegalRecord bytes → ((b : Board) → bytes ≡ record_of b → wrap ≡ wrap_of b) → AreSides wrap
 kept_sides bytes wrap kept tells = subst AreSides (sym (tells kept.board kept.is)) (legal_has_sides kept.board kept.legal)

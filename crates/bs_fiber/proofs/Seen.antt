@@ -1,4 +1,4 @@
--- A job sees one view alone, and what it needs of that.
+-- A job reads one view, and its outcome depends on what it needs of that.
 use Rattle.std.proofs.Common.{◌≡◌, ℕ, suc, ◌<◌, List, [], ◌∷◌, Option, Some, None, length, slice_get, refl, sym, ap, ◌∙◌, arith}
 use Rattle.std.specs.Prelude.{IfSome}
 use Rattle.bs_board.specs.declared.boards.board.Board.{Board}
@@ -19,7 +19,7 @@ use Rattle.bs_fiber.specs.Fit.{IsFitGame, IsFitInput, IsFitJob, AreMovedParts}
 use Rattle.bs_fiber.specs.Seeing.{IsBoardOf, IsSeen}
 use Rattle.bs_fiber.specs.Work.{begun}
 
--- bytes are the record of one board at most
+-- bytes are the record of at most one board
 pub same_board : (bytes : Option (List ℕ)) (a b : Option Board) → IsBoardOf bytes a → IsBoardOf bytes b → a ≡ b
 same_board None None None is_a is_b = refl
 same_board None None (Some b) is_a is_b = absurd is_b
@@ -37,7 +37,7 @@ seen_once input view other one two =
     let asked : view.asked ≡ other.asked = same_board input.asked view.asked other.asked one.asked two.asked in
     rw (← quota, ← charge, ← kept, ← last, ← asked) refl
 
--- there is one
+-- a legal record is that of some board
 some_board : (bytes : Option (List ℕ)) → IfSome bytes IsLegalRecord → (board : Option Board) × IsBoardOf bytes board
 some_board None legal = (None, tt)
 some_board (Some bytes) legal = (Some legal.board, (legal.legal, legal.is))
@@ -72,7 +72,7 @@ seen_is_fit input view fit seen =
 pub fit_job : (input : Input) (view : View) → IsFitInput input → IsSeen view input → IsFitJob input.job.kind input view
 fit_job input view fit seen = fit.job view seen
 
--- the parts are determined by the rest
+-- the parts are determined by the other fields
 
 same_members : {X : Type 0} (xs ys : List X) → length xs ≡ length ys → ((k : ℕ) → k < length xs → slice_get xs k ≡ slice_get ys k) → xs ≡ ys
 same_members [] [] size each = refl
@@ -98,7 +98,7 @@ same_parts_of Begin input others view one two = one ∙ sym two
 same_parts_of Part input others view one two = one.0 ∙ sym two.0
 same_parts_of Join input others view one two = moved_parts_once view input.command input.parts others one.moved two.moved
 
--- of two fit inputs that differ in their parts alone
+-- two fit inputs that differ only in their parts
 pub same_parts : (input : Input) (others : List (List Snake)) → IsFitInput input → IsFitInput (record input { parts = others }) → input.parts ≡ others
 same_parts input others one two =
     let seen = some_view input one.game in
@@ -119,7 +119,7 @@ numbers : (one two : Input) → one.job ≡ two.job → one.worker ≡ two.worke
 numbers one two job worker seq quota charge kept last asked command =
     rw (job, worker, seq, quota, charge, kept, last, asked, command) refl
 
--- two fit inputs that are both what was expected are one
+-- two fit inputs that are both the expected one are equal
 pub both_expected : (one two : Input) (expected : Expected) → IsFitInput one → IsFitInput two → IsOf one expected → IsOf two expected → one ≡ two
 both_expected one two expected fit_one fit_two is_one is_two =
     let a = is_one.numbers in
@@ -130,7 +130,7 @@ both_expected one two expected fit_one fit_two is_one is_two =
     (numbers one two (a.job ∙ sym b.job) (a.worker ∙ sym b.worker) (a.seq ∙ sym b.seq) (a.quota ∙ sym b.quota) (a.charge ∙ sym b.charge)
     (a.kept ∙ sym b.kept) (c.last ∙ sym d.last) (c.asked ∙ sym d.asked) (c.command ∙ sym d.command))
 
--- what a command comes to in the view that was seen, it comes to in all
+-- a command has the same outcome in every view of the input
 pub begun_once : (input : Input) (view : View) (out : Out) → IsSeen view input → out ≡ begun view input.command
     → (other : View) → IsSeen other input → out ≡ begun other input.command
 begun_once input view out seen is other too = is ∙ ap (λ (v : View). begun v input.command) (seen_once input view other seen too)

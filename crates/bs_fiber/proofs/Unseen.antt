@@ -1,42 +1,44 @@
--- What is told of a command with no board seen.
+-- The refusals of a command that need no board.
 use Rattle.std.proofs.Common.{◌≡◌, Bool, true, false, ◌&&◌, Option, Some, None, refl, sym, ap, ◌∙◌, inl, inr}
-use Rattle.std.specs.Prelude.{ℕ, List, nat_le, is_some, is_none, if◌then◌else◌}
+use Rattle.std.specs.Prelude.{ℕ, List, Result, Ok, Err, IfOk, nat_le, is_some, is_none, if◌then◌else◌}
 use Rattle.std.proofs.lemmas.Bool.{cases_Bool}
 use Rattle.bs_board.specs.declared.boards.board.Board.{Board}
 use Rattle.bs_board.specs.declared.commands.command.Command.{Command}
 use Rattle.bs_board.specs.declared.commands.command.Command.TheVariants as command
+use Rattle.bs_board.specs.declared.commands.command.Word.TheVariants as word
 use Rattle.bs_board.specs.declared.commands.reply.Refusal.{Refusal}
 use Rattle.bs_board.specs.declared.commands.reply.Refusal.TheVariants as refusal
 use Rattle.bs_board.specs.declared.limits.TheConstants.{LAST_TURN}
+use Rattle.bs_board.specs.boards.Legal.{IsLegal}
 use Rattle.bs_board.specs.boards.Over.{is_over}
 use Rattle.bs_board.specs.commands.Orders.{Orders}
 use Rattle.bs_board.specs.records.Record.{record_of}
 use Rattle.bs_board.specs.declared.commands.reply.Reply.TheVariants.{Refused}
 use Rattle.bs_game.specs.declared.view.View.{View}
-use Rattle.bs_game.specs.Reasons.{first_reason, is_move}
-use Rattle.bs_game.specs.View.{answer_of, answer_with}
+use Rattle.bs_game.specs.Reasons.{first_reason, is_move, reason_against}
+use Rattle.bs_game.specs.View.{answer_of, answer_with, reply_to}
 use Rattle.bs_game.proofs.Acceptance.{early_reason}
 use Rattle.bs_fiber.specs.declared.input.Input.{Input}
 use Rattle.bs_fiber.specs.declared.out.Out.{Out}
 use Rattle.bs_fiber.specs.declared.out.Out.TheVariants.{Goes, Answered}
 use Rattle.bs_fiber.specs.Seeing.{IsBoardOf, IsSeen}
-use Rattle.bs_fiber.specs.Work.{begun, move_begun}
+use Rattle.bs_fiber.specs.Work.{begun, move_begun, shown}
 use Rattle.bs_fiber.proofs.Joined.{seen_board}
 
--- a board is seen exactly where there is a record
+-- there is a board exactly if there is a record
 seen_where_kept : (bytes : Option (List ℕ)) (board : Option Board) → IsBoardOf bytes board → is_some board ≡ is_some bytes
 seen_where_kept None None is = refl
 seen_where_kept None (Some board) is = absurd is
 seen_where_kept (Some bytes) None is = absurd is
 seen_where_kept (Some bytes) (Some board) is = refl
 
--- a command that anything speaks against is answered by its Begin
+-- a command that some reason refuses is answered by its Begin
 refused_at_once : (move : Bool) (view : View) (command : Command) (reason : Refusal) → first_reason view command ≡ Some reason
     → (if move && is_none (first_reason view command) then Goes else Answered (answer_of view command)) ≡ Answered (answer_with (Refused reason))
 refused_at_once false view command reason some = ap Answered (early_reason view command reason some)
 refused_at_once true view command reason some = rw some (ap Answered (early_reason view command reason some))
 
--- what is told unseen of a command is told of it by each view that is seen
+-- a refusal that needs no board is that of each view of the input
 pub refused_unseen : (input : Input) (command : Command) (runs kept : Bool) (told : Option Refusal) (reason : Refusal)
     → command ≡ input.command → runs ≡ is_some input.last → kept ≡ is_some input.asked
     → ((view : View) → is_some view.last ≡ runs → is_some view.asked ≡ kept → (is_move command && runs) ≡ false → told ≡ first_reason view command)
@@ -72,7 +74,7 @@ begun_by_reason : (view : View) (orders : Orders) (reason : Option Refusal) → 
 begun_by_reason view orders None none = rw none refl
 begun_by_reason view orders (Some reason) some = refused_at_once true view (command.Move orders) reason some
 
--- what the record tells is told of the board that is seen
+-- the refusal of a move by its record is that of the record's board
 pub move_is_begun : (input : Input) (orders : Orders) (bytes : List ℕ) (out : Out) → input.command ≡ command.Move orders → input.last ≡ Some bytes
     → ((b : Board) → bytes ≡ record_of b → out ≡ move_begun (if is_over b then Some refusal.Over else (if nat_le LAST_TURN b.turn then Some refusal.Limit else None)))
     → (view : View) → IsSeen view input → out ≡ begun view input.command
@@ -80,3 +82,33 @@ move_is_begun input orders bytes out is last told view seen =
     let there : IsBoardOf (Some bytes) view.last = rw last at seen.last in
     let b = seen_board bytes view.last there in
     told b.0 b.3 ∙ sym (begun_by_reason view orders _ (reason_of_move view orders b.0 b.1)) ∙ ap (begun view) (sym is)
+
+-- ---- a board that is shown
+
+show_is_begun : (view : View) (b : Board) → view.last ≡ Some b → shown word.Show b view.charge ≡ begun view command.Show
+unfolding first_reason reason_against reply_to answer_of
+show_is_begun view b last = rw last refl
+
+turn_is_begun : (view : View) (at : ℕ) (last b : Board) → view.last ≡ Some last → view.asked ≡ Some b → shown word.Turn b view.charge ≡ begun view (command.Turn at)
+unfolding first_reason reason_against reply_to answer_of
+turn_is_begun view at last b is there = rw (is, there) refl
+
+pub last_is_shown : {E : Type 0} (input : Input) (bytes : List ℕ) (result : Result Out E) → input.command ≡ command.Show → input.last ≡ Some bytes
+    → IfOk result (λ out. (b : Board) → IsLegal b → bytes ≡ record_of b → out ≡ shown word.Show b input.charge)
+    → IfOk result (λ out. (view : View) → IsSeen view input → out ≡ begun view input.command)
+last_is_shown input bytes (Err error) is last told = tt
+last_is_shown input bytes (Ok out) is last told = λ view seen.
+    let there : IsBoardOf (Some bytes) view.last = rw last at seen.last in
+    let b = seen_board bytes view.last there in
+    told b.0 b.2 b.3 ∙ ap (shown word.Show b.0) (sym seen.charge) ∙ show_is_begun view b.0 b.1 ∙ ap (begun view) (sym is)
+
+pub asked_is_shown : {E : Type 0} (input : Input) (at : ℕ) (last bytes : List ℕ) (result : Result Out E) → input.command ≡ command.Turn at → input.last ≡ Some last
+    → input.asked ≡ Some bytes → IfOk result (λ out. (b : Board) → IsLegal b → bytes ≡ record_of b → out ≡ shown word.Turn b input.charge)
+    → IfOk result (λ out. (view : View) → IsSeen view input → out ≡ begun view input.command)
+asked_is_shown input at last bytes (Err error) is newest asked told = tt
+asked_is_shown input at last bytes (Ok out) is newest asked told = λ view seen.
+    let here : IsBoardOf (Some last) view.last = rw newest at seen.last in
+    let there : IsBoardOf (Some bytes) view.asked = rw asked at seen.asked in
+    let a = seen_board last view.last here in
+    let b = seen_board bytes view.asked there in
+    told b.0 b.2 b.3 ∙ ap (shown word.Turn b.0) (sym seen.charge) ∙ turn_is_begun view at a.0 b.0 a.1 b.1 ∙ ap (begun view) (sym is)

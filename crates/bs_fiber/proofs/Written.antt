@@ -1,4 +1,4 @@
--- What a Join writes, and that it is what it comes to.
+-- A Join writes the outcome that is defined for it.
 use Rattle.std.proofs.Common.{◌≡◌, ℕ, ◌+◌, ◌/◌, ◌<◌, ◌≤◌, true, List, [], ◌∷◌, length, get_or, Option, Some, None, slice_get, refl, sym, ap, subst, ◌∙◌, arith, All, inl, inr}
 use Rattle.std.specs.Prelude.{is_some, Result, Ok, Err, IfOk}
 use Rattle.std.proofs.lemmas.Bool.{cases_Bool}
@@ -36,7 +36,7 @@ record_is_small quota charge bytes fit =
     let small = board_charge_small fit.board fit.legal in
     rw fit.is (omega (arith, small))
 
--- behind what a part wrote there is room for a record
+-- after the bytes of a part there is room for a record
 pub record_has_room : (quota charge : ℕ) (e : Effect) (bytes block : List ℕ) (moved : List Snake) → IsFitEffect quota charge e → e ≡ effect.Add bytes
     → length moved ≤ 2 → All IsFitSnake moved → block ≡ frame_of moved → length block + rounded (length bytes) ≤ 262144
 record_has_room quota charge e bytes block moved fits is few fit block_is =
@@ -66,7 +66,7 @@ first_of (y ∷ xs) x d is = let same : Some y ≡ Some x = is in cc
 same_out : (a b : Answer) (p q : Option Piece) → a ≡ b → p ≡ q → Joined a p ≡ Joined b q
 same_out a b p q a_is p_is = rw (a_is, p_is) refl
 
--- the answer that is the one of each view, and where its record lies behind the first part
+-- the answer is that of each view, and its record is after the first part's bytes
 pub join_is_worked : (input : Input) (answer : Answer) (piece : Option Piece) (parts : List (List Snake)) → IsFitInput input → input.job.kind ≡ Join
     → ((view : View) → IsSeen view input → answer ≡ answer_of view input.command) → parts ≡ input.parts
     → piece ≡ piece_added answer.effect (get_or parts 0 []) → IsWorked input (Joined answer piece)

@@ -1,4 +1,4 @@
--- What the job that begins a command needs of it.
+-- What the Begin of a command needs of it.
 use Rattle.std.specs.Prelude.{◌≡◌, ℕ, true, false, Option, Some, None}
 use Rattle.bs_board.specs.declared.commands.command.Command.{Command}
 use Rattle.bs_board.specs.declared.commands.command.Command.TheVariants as command
@@ -6,7 +6,7 @@ use Rattle.bs_game.specs.Reasons.{is_move}
 use Rattle.bs_fiber.specs.declared.handed.Wanted.{Wanted}
 use Rattle.bs_fiber.specs.declared.handed.Wanted.TheVariants as wanted
 
--- the turn whose board a command asks for
+-- the turn whose board a command names
 abbrev pub asked_turn : Command → Option ℕ
 asked_turn (command.New setup) = None
 asked_turn (command.Move orders) = None
@@ -16,8 +16,7 @@ asked_turn command.Free = None
 asked_turn command.End = None
 asked_turn command.Bad = None
 
--- the handle is the command's; the turn is the one it asks for; a move is told from all other
--- commands
+-- the handle is the command's; the turn is the one that it names; moves are marked as such
 abbrev pub IsWantedOf : Command → Wanted → Type 0
 IsWantedOf c wanted.Nothing = (asked_turn c ≡ None) × (is_move c ≡ false)
 IsWantedOf c (wanted.Setup handle) = (handle ≡ c) × (asked_turn c ≡ None) × (is_move c ≡ false)

@@ -1,9 +1,9 @@
--- Commands that bring nothing with them.
+-- Commands without contents.
 use Rattle.std.specs.Prelude.{Bool, true, false}
 use Rattle.bs_board.specs.declared.commands.command.Command.{Command}
 use Rattle.bs_board.specs.declared.commands.command.Command.TheVariants as command
 
--- it brings no setup and no moves
+-- it has neither a setup nor moves
 abbrev pub is_bare : Command → Bool
 is_bare (command.New new) = false
 is_bare (command.Move orders) = false

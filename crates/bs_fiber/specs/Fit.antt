@@ -1,4 +1,4 @@
--- When an input is such as a game hands out.
+-- Inputs that a game can give to a job.
 use Rattle.std.specs.Prelude.{◌≡◌, ℕ, ◌<◌, ◌≤◌, true, List, [], length, Option, Some, None, slice_get, IfSome}
 use Rattle.bs_board.specs.declared.commands.command.Command.{Command}
 use Rattle.bs_board.specs.declared.commands.command.Command.TheVariants as command
@@ -12,7 +12,7 @@ use Rattle.bs_fiber.specs.declared.job.JobKind.TheVariants.{Begin, Part, Join}
 use Rattle.bs_fiber.specs.Seeing.{IsSeen}
 use Rattle.bs_fiber.specs.Work.{goes, parts_of, snakes_in, moved_part}
 
--- a record is asked for by `turn` alone
+-- only `turn` names another record
 abbrev pub IsAskedBy : Command → Option (List ℕ) → Type 0
 IsAskedBy (command.New setup) asked = asked ≡ None
 IsAskedBy (command.Move orders) asked = asked ≡ None
@@ -30,12 +30,12 @@ pub record IsFitGame (i : Input) : Type 0 where
   pub within : i.charge ≤ i.quota
   pub small : i.quota ≤ MOST_QUOTA
 
--- a part of a move that goes
+-- a part of an accepted move
 pub record IsFitPart (part : ℕ) (view : View) (command : Command) : Type 0 where
   pub goes : goes view command ≡ true
   pub there : part < parts_of (length (snakes_in view.last))
 
--- what each part of the move comes to
+-- the snakes moved by each part of the move
 pub record AreMovedParts (view : View) (command : Command) (parts : List (List Snake)) : Type 0 where
   pub all : length parts ≡ parts_of (length (snakes_in view.last))
   pub each : (part : ℕ) → part < length parts → slice_get parts part ≡ Some (moved_part part view command)
@@ -44,7 +44,7 @@ pub record IsFitJoin (parts : List (List Snake)) (view : View) (command : Comman
   pub goes : goes view command ≡ true
   pub moved : AreMovedParts view command parts
 
--- a Begin needs nothing of a view
+-- a Begin requires nothing of the view
 abbrev pub IsFitJob : JobKind → Input → View → Type 0
 IsFitJob Begin i view = i.parts ≡ []
 IsFitJob Part i view = (i.parts ≡ []) × IsFitPart i.job.part view i.command

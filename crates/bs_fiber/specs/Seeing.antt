@@ -1,4 +1,4 @@
--- What a job sees of its game.
+-- What a job reads of its game.
 use Rattle.std.specs.Prelude.{◌≡◌, ℕ, List, Option, Some, None}
 use Rattle.bs_board.specs.declared.boards.board.Board.{Board}
 use Rattle.bs_board.specs.boards.Legal.{IsLegal}
@@ -6,7 +6,7 @@ use Rattle.bs_board.specs.records.Record.{record_of}
 use Rattle.bs_game.specs.declared.view.View.{View}
 use Rattle.bs_fiber.specs.declared.input.Input.{Input}
 
--- the legal board that the bytes are the record of; none where there are no bytes
+-- the legal board whose record these bytes are; none if there are no bytes
 abbrev pub IsBoardOf : Option (List ℕ) → Option Board → Type 0
 IsBoardOf None None = Unit {0}
 IsBoardOf None (Some board) = ⊥

@@ -34,26 +34,26 @@ frames_in = map frame_in
 abbrev pub ticket_in : {most : ℕ} → Contents most → TicketView
 ticket_in c = record { input = c.input; frames = frames_in c.frames.items }
 
--- whose the blocks are, whatever they hold
+-- the owners and numbers of the blocks, without their bytes
 abbrev pub names_of : List Frame → List (ℕ × ℕ)
 names_of = map (λ f. (f.tag, f.number))
 
 abbrev pub bytes_of : List Frame → List (List ℕ)
 bytes_of = map (λ f. f.bytes)
 
--- what is so of every ticket, worked or not
+-- the invariant of a ticket, before and after its job is run
 pub record IsTicket (cap : ℕ) (c : Contents cap) : Type 0 where
   pub wide : LEAST_CAPACITY ≤ cap
   pub fit : IsFitInput c.input
 
--- the bytes of the blocks that a job is given: a part one without any, a Join those that the parts
--- wrote
+-- the bytes of a job's blocks before it is run: a part has an empty one, a Join those that the
+-- parts wrote
 abbrev pub fresh_bytes : JobKind → List (List Snake) → List (List ℕ)
 fresh_bytes Begin parts = []
 fresh_bytes Part parts = [] ∷ []
 fresh_bytes Join parts = map frame_of parts
 
--- nobody has worked it yet
+-- its job was not run yet
 abbrev pub IsFresh : TicketView → Type 0
 IsFresh t = bytes_of t.frames ≡ fresh_bytes t.input.job.kind t.input.parts
 
@@ -61,14 +61,14 @@ abbrev pub behind_first : List ℕ → List (List ℕ) → List (List ℕ)
 behind_first bytes [] = []
 behind_first bytes (first ∷ rest) = (first ++ bytes) ∷ rest
 
--- a record that is added goes behind what part 0 wrote
+-- an added record is appended to what part 0 wrote
 abbrev pub with_added : Effect → List (List ℕ) → List (List ℕ)
 with_added effect.Keep blocks = blocks
 with_added (effect.Add bytes) blocks = behind_first (padded bytes) blocks
 with_added effect.Trim blocks = blocks
 with_added effect.Drop blocks = blocks
 
--- the bytes of the blocks of a job that is done
+-- the bytes of the blocks of a job that was run
 abbrev pub worked_bytes : List (List Snake) → Out → List (List ℕ)
 worked_bytes parts Goes = []
 worked_bytes parts (Answered answer) = []

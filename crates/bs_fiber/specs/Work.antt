@@ -1,11 +1,12 @@
--- What each job comes to.
+-- The outcome of each job.
 use Rattle.std.specs.Prelude.{◌≡◌, ℕ, ◌+◌, ◌*◌, ◌/◌, Bool, ◌&&◌, List, [], length, take, drop, map, Option, Some, None, is_none, if◌then◌else◌}
 use Rattle.bs_board.specs.declared.boards.board.Board.{Board}
 use Rattle.bs_board.specs.boards.Wrap.{wrap_of}
 use Rattle.bs_board.specs.declared.commands.command.Command.{Command}
 use Rattle.bs_board.specs.declared.commands.command.Command.TheVariants as command
 use Rattle.bs_board.specs.declared.commands.reply.Refusal.{Refusal}
-use Rattle.bs_board.specs.declared.commands.reply.Reply.TheVariants.{Refused}
+use Rattle.bs_board.specs.declared.commands.command.Word.{Word}
+use Rattle.bs_board.specs.declared.commands.reply.Reply.TheVariants.{Refused, Shown}
 use Rattle.bs_board.specs.declared.boards.point.Direction.{Direction}
 use Rattle.bs_board.specs.declared.boards.snake.Snake.{Snake}
 use Rattle.bs_rules.specs.Motion.{moved, given_to}
@@ -23,17 +24,21 @@ use Rattle.bs_fiber.specs.declared.piece.Piece.{Piece}
 use Rattle.bs_fiber.specs.Frames.{frame_of}
 use Rattle.bs_fiber.specs.Seeing.{IsSeen}
 
--- a move that no reason speaks against before there is a new board
+-- a move that no reason refuses before the new board is known
 abbrev pub goes : View → Command → Bool
 goes view command = is_move command && is_none (first_reason view command)
 
 abbrev pub begun : View → Command → Out
 begun view command = if goes view command then Goes else Answered (answer_of view command)
 
--- the same of a move, by the reason that speaks against it
+-- `begun` of a move, by the reason that refuses it
 abbrev pub move_begun : Option Refusal → Out
 move_begun None = Goes
 move_begun (Some reason) = Answered (answer_with (Refused reason))
+
+-- a board that is shown
+abbrev pub shown : Word → Board → ℕ → Out
+shown word board charge = Answered (record { reply = Shown word board charge; effect = effect.Keep })
 
 -- two seats a part; where the number of seats is odd the last part has one
 abbrev pub parts_of : ℕ → ℕ
@@ -46,12 +51,12 @@ abbrev pub snakes_in : Option Board → List Snake
 snakes_in None = []
 snakes_in (Some board) = board.snakes
 
--- the sides that a step is taken modulo
+-- the sides of a wrapped board, which each step is taken modulo
 abbrev pub wrap_in : Option Board → Option (ℕ × ℕ)
 wrap_in None = None
 wrap_in (Some board) = wrap_of board
 
--- the directions that a move gives by ids
+-- the directions that a move gives, by id
 abbrev pub moves_in : Command → List (List ℕ × Direction)
 moves_in (command.Move orders) = orders.moves
 moves_in _ = []
@@ -60,7 +65,7 @@ moves_in _ = []
 abbrev pub moved_part : ℕ → View → Command → List Snake
 moved_part part view command = map (λ s. moved (wrap_in view.last) (given_to (moves_in command) s.id) s) (seats_of part (snakes_in view.last))
 
--- where a record that is added lies: behind what part 0 wrote into its block
+-- where an added record lies: after what part 0 wrote into its block
 abbrev pub piece_added : Effect → List Snake → Option Piece
 piece_added effect.Keep first = None
 piece_added (effect.Add bytes) first = Some (record { at = length (frame_of first); len = length bytes })
@@ -85,6 +90,6 @@ out_seen Begin part view command = begun view command
 out_seen Part part view command = Moved (moved_part part view command)
 out_seen Join part view command = Joined (answer_of view command) (piece_added (answer_of view command).effect (moved_part 0 view command))
 
--- what the job comes to from all that it sees, which is one view alone
+-- the outcome of the job, from all that it reads, which is one view
 abbrev pub IsWorked : Input → Out → Type 0
 IsWorked input out = (view : View) → IsSeen view input → out ≡ out_seen input.job.kind input.job.part view input.command

@@ -2,8 +2,7 @@
 use crate::input::Input;
 use bs_pool::Owned;
 
-/// The least capacity of a block in bytes: room for the moved snakes of a part and a record behind
-/// them.
+/// The least capacity of a block in bytes: room for the moved snakes of a part, then a record.
 pub const LEAST_CAPACITY: usize = 524_288;
 
 /// The input of a job, and its frame blocks.

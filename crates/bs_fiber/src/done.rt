@@ -121,7 +121,7 @@ fn work_in<const CAP: usize>(alloc: Global, contents: &mut Contents<CAP>) -> Res
     out_of(alloc, &contents.input, &mut contents.frames)
 }
 
-/// Runs the job. Where memory runs out, `Stopped` returns its frame blocks.
+/// Runs the job. If memory runs out, `Stopped` returns its frame blocks.
 pub fn work<const CAP: usize>(alloc: Global, ticket: Ticket<CAP>) -> Result<Done<CAP>, Stopped<CAP>>
     requires { IsFresh ticket }
     ensures input { IfOk result (λ done. done.input ≡ ticket.entry.input) }

@@ -1,66 +1,62 @@
 //! The input that a core expects of a job.
 ghost use Rattle.std.specs.Prelude.{◌≡◌, option_map, IfOk, IfSome, OnOk};
+ghost use Rattle.bs_board.specs.records.Kept.{IsLegalRecord};
 
 use crate::contents::Contents;
 use crate::input::Input;
 use crate::job::JobName;
 use crate::parts::Parts;
 use crate::shared::SharedCommand;
-use bs_game::Record;
+use bs_board::Record;
 use std::alloc::{AllocError, Global};
 
-/// All that a job's input holds but for its parts, which the rest determines.
+/// All fields of a job's input except its parts, which the others determine.
 #[derive(Clone, Copy, Debug)]
 pub struct Expected<'a> {
     /// The job.
     pub job: JobName,
-    /// The worker that took it, as a core's journal names it.
+    /// The worker that took it, by its number in a core's journal.
     pub worker: u32,
     /// The number of the command in its game, from 1.
     pub seq: u64,
-    /// What the game's records may be charged at most, in bytes.
+    /// The largest charge of the game's records, in bytes.
     pub quota: u32,
-    /// What the kept records are charged, in bytes.
+    /// The charge of the kept records, in bytes.
     pub charge: u32,
-    /// How many turns are kept.
+    /// The number of kept turns.
     pub kept: usize,
     /// The record of the newest board.
-    pub last: Option<&'a [u8]>,
-    /// The record of the turn that the command asks for, where that is kept.
+    pub last: Option<&'a Record>,
+    /// The record of the turn that the command names, if it is kept.
     pub asked: Option<&'a [u8]>,
     /// The command.
     pub command: &'a SharedCommand,
 }
 
+fn share_record(kept: Option<&Record>) -> Result<Option<Record>, AllocError>
+    ensures { IfOk result (λ shared. shared ≡ option_map (λ kept. kept.now) kept.entry) }
+{
+    match kept {
+        None => Ok(None),
+        Some(kept) => Ok(Some(kept.share()?)),
+    }
+}
+
 fn copy_record(alloc: Global, bytes: Option<&[u8]>) -> Result<Option<Record>, AllocError>
+    requires { IfSome (option_map (λ bytes. bytes.now) bytes) IsLegalRecord }
     ensures { IfOk result (λ kept. kept ≡ option_map (λ bytes. bytes.now) bytes.entry) }
 {
     match bytes {
         None => Ok(None),
-        Some(bytes) => Ok(Some(Record::from_vec(Vec::from_slice(alloc, bytes)?))),
+        Some(bytes) => Ok(Some(Record::of_bytes(alloc, bytes)?)),
     }
-}
-
-/// Like `copy_record`, but reuses the memory of the record in `kept`, if there is one.
-fn copy_record_over(
-    alloc: Global,
-    bytes: &Option<&[u8]>,
-    kept: &mut Option<Record>,
-) -> Result<(), AllocError>
-    ensures { OnOk result (kept.new ≡ option_map (λ bytes. bytes.now) bytes.now) }
-{
-    if let (Some(bytes), Some(record)) = (bytes, kept.as_mut()) {
-        return record.refill(bytes);
-    }
-    *kept = copy_record(alloc, *bytes)?;
-    Ok(())
 }
 
 impl Expected<'_> {
     ghost use Rattle.std.specs.Prelude.{[]};
-    ghost use Rattle.bs_fiber.specs.Expected.{IsOf};
+    ghost use Rattle.bs_fiber.specs.Expected.{IsLegalAsked, IsOf};
 
-    /// A handle to the command: the given one, or else a new one.
+    /// Returns the given handle to the command, or else a new one.
     fn held(&self, handle: Option<SharedCommand>) -> Result<SharedCommand, AllocError>
         requires { IfSome handle (λ handle. handle ≡ self.now.command.now) }
         ensures { IfOk result (λ shared. shared ≡ self.now.command.now) }
@@ -71,9 +67,10 @@ impl Expected<'_> {
         }
     }
 
-    /// All of it, the records copied and the command held: an input that has no parts yet.
+    /// Makes the input without parts: shares the records, and takes the handle or a new one.
     fn new_input(&self, alloc: Global, handle: Option<SharedCommand>) -> Result<Input, AllocError>
-        requires { IfSome handle (λ handle. handle ≡ self.now.command.now) }
+        requires handle { IfSome handle (λ handle. handle ≡ self.now.command.now) }
+        requires asked { IsLegalAsked self.now }
         ensures expected { IfOk result (λ input. IsOf input self.now) }
         ensures parts { IfOk result (λ input. input.parts ≡ []) }
     {
@@ -84,20 +81,21 @@ impl Expected<'_> {
             quota: self.quota,
             charge: self.charge,
             kept: self.kept,
-            last: copy_record(alloc, self.last)?,
+            last: share_record(self.last)?,
             asked: copy_record(alloc, self.asked)?,
             command: self.held(handle)?,
             parts: Parts::from_vec(Vec::new(alloc)),
         })
     }
 
-    /// The input in new contents, with no blocks.
+    /// Makes new contents with the input and without blocks.
     fn new_contents<const CAP: usize>(
         &self,
         alloc: Global,
         handle: Option<SharedCommand>,
     ) -> Result<Box<Contents<CAP>>, AllocError>
-        requires { IfSome handle (λ handle. handle ≡ self.now.command.now) }
+        requires handle { IfSome handle (λ handle. handle ≡ self.now.command.now) }
+        requires asked { IsLegalAsked self.now }
         ensures expected { IfOk result (λ contents. IsOf contents.value.input self.now) }
         ensures parts { IfOk result (λ contents. contents.value.input.parts ≡ []) }
         ensures frames { IfOk result (λ contents. contents.value.frames.items ≡ []) }
@@ -109,15 +107,15 @@ impl Expected<'_> {
         Ok(Box::new(alloc, contents)?)
     }
 
-    /// Writes the input over a spent one, field by field, since an input has more than a hundred
-    /// bytes.
+    /// Writes the input over a spent one, field by field, since an input has more than 100 bytes.
     fn write_over(
         &self,
         alloc: Global,
         handle: Option<SharedCommand>,
         input: &mut Input,
     ) -> Result<(), AllocError>
-        requires { IfSome handle (λ handle. handle ≡ self.now.command.now) }
+        requires handle { IfSome handle (λ handle. handle ≡ self.now.command.now) }
+        requires asked { IsLegalAsked self.now }
         ensures expected { OnOk result (IsOf input.new self.now) }
         ensures parts { OnOk result (input.new.parts ≡ []) }
     {
@@ -127,8 +125,8 @@ impl Expected<'_> {
         input.quota = self.quota;
         input.charge = self.charge;
         input.kept = self.kept;
-        copy_record_over(alloc, &self.last, &mut input.last)?;
-        copy_record_over(alloc, &self.asked, &mut input.asked)?;
+        input.last = share_record(self.last)?;
+        input.asked = copy_record(alloc, self.asked)?;
         input.command.hold_by(handle, self.command)?;
         input.parts = Parts::from_vec(Vec::new(alloc));
         Ok(())
@@ -140,7 +138,8 @@ impl Expected<'_> {
         handle: Option<SharedCommand>,
         mut contents: Box<Contents<CAP>>,
     ) -> Result<Box<Contents<CAP>>, AllocError>
-        requires { IfSome handle (λ handle. handle ≡ self.now.command.now) }
+        requires handle { IfSome handle (λ handle. handle ≡ self.now.command.now) }
+        requires asked { IsLegalAsked self.now }
         ensures expected { IfOk result (λ contents. IsOf contents.value.input self.now) }
         ensures parts { IfOk result (λ contents. contents.value.input.parts ≡ []) }
         ensures frames { IfOk result (λ contents. contents.value.frames.items ≡ []) }
@@ -150,16 +149,17 @@ impl Expected<'_> {
         Ok(contents)
     }
 
-    /// Makes the contents of a ticket: copies the records, and takes `handle` or a new handle to the
-    /// command. There are no parts and no blocks yet. Reuses the memory of `spent`; then memory is
-    /// requested only for longer records.
+    /// Makes the contents of a ticket, without parts and blocks: shares the newest record, copies
+    /// the one that the command names, and takes `handle` or a new handle to the command. Reuses
+    /// the memory of `spent`; then memory is requested only for a named record.
     pub fn to_contents<const CAP: usize>(
         &self,
         alloc: Global,
         handle: Option<SharedCommand>,
         spent: Option<Box<Contents<CAP>>>,
     ) -> Result<Box<Contents<CAP>>, AllocError>
-        requires { IfSome handle (λ handle. handle ≡ self.now.command.now) }
+        requires handle { IfSome handle (λ handle. handle ≡ self.now.command.now) }
+        requires asked { IsLegalAsked self.now }
         ensures expected { IfOk result (λ contents. IsOf contents.value.input self.now) }
         ensures parts { IfOk result (λ contents. contents.value.input.parts ≡ []) }
         ensures frames { IfOk result (λ contents. contents.value.frames.items ≡ []) }

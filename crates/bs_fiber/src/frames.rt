@@ -1,5 +1,5 @@
 //! Frame blocks: a part writes its moved snakes into its own; a Join reads those of all parts, and
-//! writes the new record behind those of part 0.
+//! writes the new record after those of part 0.
 ghost use Rattle.std.specs.Prelude.{◌≡◌, ℕ, ◌+◌, ◌≤◌, [], ◌++◌, length, map, flat_map, IfOk, OnOk};
 ghost use Rattle.bs_block.specs.Bytes.{HasRoom, padded, range};
 ghost use Rattle.bs_board.specs.declared.boards.snake.Snake.{Snake as AnySnake};
@@ -15,7 +15,7 @@ use bs_board::{Decode, Snake, Snakes, decode_snake, encode_snake_into, snake_siz
 use bs_pool::Owned;
 use std::alloc::{AllocError, Global};
 
-/// Writes the snake's bytes behind those of the block.
+/// Appends the snake's record to the block.
 #[tactic(auto, using(crate::proofs::Framed::fit_size, crate::proofs::Framed::filled))]
 fn write_snake<const CAP: usize>(owned: &mut Owned<CAP>, snake: &Snake)
     requires fit { IsFitSnake snake.now }
@@ -39,7 +39,7 @@ pub(crate) fn write_moved<const CAP: usize>(owned: &mut Owned<CAP>, moved: &Move
     }
 }
 
-/// Writes a record behind the bytes of the block.
+/// Appends a record to the block.
 #[tactic(auto, using(crate::proofs::Framed::filled))]
 pub(crate) fn write_record<const CAP: usize>(owned: &mut Owned<CAP>, record: &[u8])
     requires { HasRoom CAP owned.old.block (length record.now) }
@@ -49,7 +49,7 @@ pub(crate) fn write_record<const CAP: usize>(owned: &mut Owned<CAP>, record: &[u
     piece.copy_from_slice(record);
 }
 
-/// Reads the snake whose bytes lie at that piece of the block.
+/// Reads the snake whose record is at that piece of the block.
 fn snake_at<const CAP: usize>(
     alloc: Global,
     owned: &Owned<CAP>,
@@ -65,7 +65,7 @@ fn snake_at<const CAP: usize>(
     }
 }
 
-/// Reads the moved snakes of a part from its block, and adds them to the seats.
+/// Reads the moved snakes of a part from its block, and appends them to the seats.
 fn read_moved<const CAP: usize>(
     alloc: Global,
     owned: &Owned<CAP>,

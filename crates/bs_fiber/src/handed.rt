@@ -1,4 +1,4 @@
-//! A command as its game keeps it, with what the job that begins it needs of it.
+//! A command as its game keeps it, with what its Begin needs of it.
 ghost use Rattle.std.specs.Prelude.{◌≡◌, IfOk, IfSome};
 ghost use Rattle.bs_board.specs.declared.commands.command.Command.{Command};
 ghost use Rattle.bs_fiber.specs.Asking.{IsWantedOf, asked_turn};
@@ -10,18 +10,18 @@ use std::alloc::AllocError;
 use std::marker::Model;
 use std::mem::replace;
 
-/// What the job that begins a command needs of it.
+/// What the Begin of a command needs of it.
 #[derive(Debug, Drop)]
 pub(crate) enum Wanted {
-    /// Nothing: a bare command that asks for no turn, or a setup whose handle was taken.
+    /// Nothing: a bare command that names no turn, or a setup whose handle was taken.
     Nothing,
     /// A handle of its own to a setup.
     Setup(SharedCommand),
     /// A handle of its own to a move.
     Orders(SharedCommand),
-    /// Nothing more of a move: its handle was taken.
+    /// No more of a move: its handle was taken.
     Moves,
-    /// The turn whose board is asked for.
+    /// The turn that the command names.
     Turn(TurnNumber),
 }
 
@@ -39,7 +39,7 @@ fn wanted_of(command: &SharedCommand) -> Result<Wanted, AllocError>
     }
 }
 
-/// The handle that was made for the job that begins the command, if it is still there.
+/// The handle that was made for the Begin, if it is still there.
 fn handle_in(wanted: Wanted) -> Option<SharedCommand>
     ensures { (command : Command) → IsWantedOf command wanted → IfSome result (λ handle. handle ≡ command) }
 {
@@ -52,9 +52,9 @@ fn handle_in(wanted: Wanted) -> Option<SharedCommand>
     }
 }
 
-/// A command that a game was handed, with what the job that begins it needs of it. The job is taken
-/// while a lock is held, when the command is in no cache of the processor; so the command is not
-/// read then. Contracts see the command.
+/// A queued command, with what its Begin needs of it. The Begin is taken while a lock is held, when
+/// the command is in no cache of the processor; so the command is not read then. Contracts see the
+/// command.
 #[derive(Debug, Drop)]
 pub struct Handed {
     command: SharedCommand,
@@ -75,8 +75,7 @@ impl Model for Handed {
 const _: () = prove!(size_of::<Handed>() == 24);
 
 impl Handed {
-    /// Keeps one or two handles to the command. An error means that its handles can't be counted
-    /// any more.
+    /// Makes one or two handles to the command. Fails if the number of its handles would overflow.
     pub fn new(command: &SharedCommand) -> Result<Handed, AllocError>
         ensures { IfOk result (λ handed. handed ≡ command.now) }
     {
@@ -93,7 +92,7 @@ impl Handed {
         &self.command
     }
 
-    /// The turn whose board it asks for.
+    /// The turn that it names.
     pub fn asks(&self) -> Option<TurnNumber>
         ensures { result ≡ asked_turn self.now }
     {
@@ -106,7 +105,7 @@ impl Handed {
         }
     }
 
-    /// Whether it is a move. The command itself is not read.
+    /// Whether it is a move. Does not read the command.
     pub fn is_move(&self) -> bool
         ensures { result ≡ is_move self.now }
     {
@@ -119,7 +118,7 @@ impl Handed {
         }
     }
 
-    /// Takes the handle for the job that begins a setup or a move, once.
+    /// Takes the handle that a setup's or move's Begin needs, once.
     pub fn take_handle(&mut self) -> Option<SharedCommand>
         ensures same { self.new ≡ self.old }
         ensures handle { IfSome result (λ handle. handle ≡ self.old) }
@@ -134,8 +133,8 @@ impl Handed {
     }
 }
 
-/// A command with all handles that a core keeps of it: its game's and the journal's. They are made
-/// before the core is locked. Contracts see the command.
+/// A command with all handles that a core keeps of it: its game's and the journal's. The caller
+/// makes them before it locks the core. Contracts see the command.
 #[derive(Debug, Drop)]
 pub struct Handles {
     handed: Handed,
@@ -154,7 +153,7 @@ impl Model for Handles {
 }
 
 impl Handles {
-    /// Makes the handles. An error means that they can't be counted any more.
+    /// Makes the handles. Fails if their number would overflow.
     pub fn new(command: &SharedCommand) -> Result<Handles, AllocError>
         ensures { IfOk result (λ handles. handles ≡ command.now) }
     {

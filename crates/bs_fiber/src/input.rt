@@ -2,29 +2,29 @@
 use crate::job::JobName;
 use crate::parts::Parts;
 use crate::shared::SharedCommand;
-use bs_game::Record;
+use bs_board::Record;
 
 /// All that a job reads.
 #[derive(Debug, Drop)]
 pub struct Input {
     /// The job.
     pub job: JobName,
-    /// The worker that took the job, as a core's journal names it.
+    /// The worker that took the job, by its number in a core's journal.
     pub worker: u32,
     /// The number of the command in its game, from 1.
     pub seq: u64,
-    /// What the game's records may be charged at most, in bytes.
+    /// The largest charge of the game's records, in bytes.
     pub quota: u32,
-    /// What the kept records are charged, in bytes.
+    /// The charge of the kept records, in bytes.
     pub charge: u32,
-    /// How many turns are kept.
+    /// The number of kept turns.
     pub kept: usize,
     /// The record of the newest board.
     pub last: Option<Record>,
-    /// The record of the turn that the command asks for, where that is kept.
+    /// The record of the turn that the command names, if it is kept.
     pub asked: Option<Record>,
-    /// The command that the game is at.
+    /// The command in progress.
     pub command: SharedCommand,
-    /// What the parts moved; read by a Join alone.
+    /// The moved snakes of the parts; only a Join reads them.
     pub parts: Parts,
 }

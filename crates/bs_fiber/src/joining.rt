@@ -22,13 +22,13 @@ use crate::input::Input;
 use crate::moved::Moved;
 use crate::out::Out;
 use crate::piece::Piece;
-use bs_board::{Board, Command, Move, kept_ground};
-use bs_game::{Answer, Effect, Record, joined_within};
+use bs_board::{Board, Command, Move, Record};
+use bs_game::{Answer, Effect, joined_within};
 use bs_pool::Owned;
 use std::alloc::{AllocError, Global};
 
-/// The newest board with all seats moved. The snakes are read from the parts' blocks, all else from
-/// the record.
+/// Makes the newest board with all seats moved, from the snakes in the parts' blocks and from the
+/// record.
 fn moved_board<const CAP: usize>(
     alloc: Global,
     last: &Record,
@@ -40,7 +40,7 @@ fn moved_board<const CAP: usize>(
     ensures { IfOk result (λ moved. (board : AnyBoard) → IsLegal board → last.now ≡ record_of board
         → moved ≡ record board { snakes = flat_map (λ part. part) parts.now }) }
 {
-    let mut board = kept_ground(alloc, last.as_slice())?;
+    let mut board = last.without_snakes(alloc)?;
     board.snakes = read_all(alloc, frames, parts)?;
     Ok(board)
 }
@@ -64,7 +64,7 @@ fn join_move<const CAP: usize>(
     joined_within(alloc, input.quota, input.charge, orders, moved)
 }
 
-/// The answer to a move that goes, from what its parts moved.
+/// Answers an accepted move from the moved snakes of its parts.
 fn join<const CAP: usize>(
     alloc: Global,
     input: &Input,
@@ -84,7 +84,7 @@ fn join<const CAP: usize>(
     }
 }
 
-/// Writes the record that the answer adds behind the bytes of part 0. The result is its piece.
+/// Appends the record that the answer adds to part 0's block, and returns its piece.
 fn write_added<const CAP: usize>(
     frames: &mut Vec<Owned<CAP>>,
     parts: &[Moved],
@@ -117,7 +117,7 @@ fn write_added<const CAP: usize>(
     }
 }
 
-/// Joins the parts: the answer to the move, and its record in part 0's block.
+/// Joins the parts: answers the move, and writes its record into part 0's block.
 #[tactic(auto, using(crate::proofs::Joined::join_is_of_a_move, crate::proofs::Joined::join_has_a_board))]
 pub(crate) fn join_parts<const CAP: usize>(
     alloc: Global,

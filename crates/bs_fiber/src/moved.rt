@@ -9,8 +9,8 @@ use bs_board::{Snake, Snakes, snake_size};
 use std::alloc::{AllocError, Global};
 use std::marker::Model;
 
-/// The moved snakes of a part, in seat order, and the piece of the part's frame block that holds
-/// the bytes of each: one behind the other, from the start of the block. Contracts see the snakes.
+/// The moved snakes of a part, in seat order, and the piece of the part's frame block for the
+/// record of each: one after the other, from the start of the block. Contracts see the snakes.
 #[derive(Debug, Drop)]
 pub struct Moved {
     snakes: Snakes,
@@ -29,7 +29,7 @@ impl Model for Moved {
     ghost invariant = { λ m. AreFramed m.snakes m.pieces.items };
 }
 
-/// The pieces for the bytes of the snakes, one behind the other.
+/// Makes the pieces for the records of the snakes, one after the other.
 #[tactic(auto, using(crate::proofs::Framed::piece_added, crate::proofs::Framed::fit_size))]
 fn pieces_of(alloc: Global, snakes: &[Snake]) -> Result<Vec<Piece>, AllocError>
     requires few { length snakes.now ≤ SEATS }
@@ -75,7 +75,7 @@ impl Moved {
         let _pieces = &self.pieces;
     }
 
-    /// The piece of the part's frame block that holds each snake's bytes.
+    /// The piece of the part's frame block for each snake's record.
     pub fn pieces(&self) -> &[Piece]
         ensures value { result.now ≡ pieces_from 0 self.now }
         ensures fit { All IsFitSnake self.now }

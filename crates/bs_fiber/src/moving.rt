@@ -16,14 +16,13 @@ use crate::frames::write_moved;
 use crate::input::Input;
 use crate::moved::Moved;
 use crate::piece::SEATS;
-use bs_board::{Command, Direction, Id, Snakes, kept_snakes, wrap_of_record};
-use bs_game::Record;
+use bs_board::{Command, Direction, Id, Record, Snakes};
 use bs_pool::Owned;
 use bs_rules::move_snakes;
 use std::alloc::{AllocError, Global};
 
-/// The seats of a part of the newest board, none where there is no such part. The other seats are
-/// not read.
+/// The seats of a part of the newest board; none if there is no such part. Does not read the other
+/// seats.
 fn seats_of(alloc: Global, last: &Option<Record>, part: usize) -> Result<Snakes, AllocError>
     requires { IfSome last.now IsLegalRecord }
     ensures value { IfOk result (λ seats. (board : Option AnyBoard) → IsBoardOf last.now board → seats ≡ seats_of part (snakes_in board)) }
@@ -33,13 +32,13 @@ fn seats_of(alloc: Global, last: &Option<Record>, part: usize) -> Result<Snakes,
         None => Ok(Snakes::from_vec(Vec::new(alloc))),
         Some(record) => {
             let from = part.saturating_mul(SEATS);
-            kept_snakes(alloc, record.as_slice(), from, SEATS)
+            record.snakes(alloc, from, SEATS)
         }
     }
 }
 
-/// The sides that the steps of the newest board are taken modulo.
-#[tactic(auto, using(crate::proofs::Seats::reaches_sides, crate::proofs::Seats::kept_sides))]
+/// The width and height of the newest board, if it is wrapped.
+#[tactic(auto, using(crate::proofs::Seats::kept_sides))]
 fn wrap_in(last: &Option<Record>) -> Option<(u8, u8)>
     requires { IfSome last.now IsLegalRecord }
     ensures value { (board : Option AnyBoard) → IsBoardOf last.now board → result ≡ wrap_in board }
@@ -47,7 +46,7 @@ fn wrap_in(last: &Option<Record>) -> Option<(u8, u8)>
 {
     match last {
         None => None,
-        Some(record) => wrap_of_record(record.as_slice()),
+        Some(record) => record.wrap(),
     }
 }
 
@@ -60,7 +59,7 @@ fn moves_in(command: &Command) -> &[(Id, Direction)]
     }
 }
 
-/// Moves the snakes of a part; those that are out stay as they are.
+/// Moves the snakes of a part; eliminated ones are unchanged.
 fn move_seats(alloc: Global, input: &Input) -> Result<Snakes, AllocError>
     requires { IsFitGame input.now }
     ensures { IfOk result (λ moved. (view : AnyView) → IsSeen view input.now → moved ≡ moved_part input.now.job.part view input.now.command) }

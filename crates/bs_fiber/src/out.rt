@@ -6,9 +6,9 @@ use bs_game::Answer;
 /// The output of a job.
 #[derive(Debug, Drop)]
 pub enum Out {
-    /// Begin: a move that nothing speaks against. Its parts are next.
+    /// Begin: the move is accepted, and its parts are next.
     Goes,
-    /// Begin: any other command is answered at once.
+    /// Begin: any other command is answered.
     Answered(Answer),
     /// Part: its moved snakes, with their pieces of its block.
     Moved(Moved),

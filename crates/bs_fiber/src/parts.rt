@@ -1,8 +1,8 @@
-//! What the parts of a move hand to its Join.
+//! The moved snakes of all parts, for the Join.
 use crate::moved::Moved;
 use std::marker::Model;
 
-/// What each part moved, from part 0. Clauses see the snakes.
+/// The moved snakes of each part, from part 0. Clauses see the snakes.
 #[derive(Debug, Drop)]
 pub struct Parts {
     parts: Vec<Moved>,
@@ -20,14 +20,14 @@ impl Model for Parts {
 impl Parts {
     ghost use Rattle.std.specs.Prelude.{◌≡◌};
 
-    /// The list with those parts.
+    /// Makes the list of these parts.
     pub fn from_vec(parts: Vec<Moved>) -> Parts
         ensures { result ≡ parts.items }
     {
         Parts { parts }
     }
 
-    /// The parts in their order.
+    /// The parts, in order.
     pub fn as_slice(&self) -> &[Moved]
         ensures { result.now ≡ self.now }
     {

@@ -24,7 +24,7 @@ impl Model for SharedCommand {
 }
 
 impl SharedCommand {
-    /// Moves the command into memory of its own, with one handle to it.
+    /// Moves the command into an allocation of its own, with one handle to it.
     pub fn new(alloc: Global, command: Command) -> Result<SharedCommand, AllocError>
         ensures { IfOk result (λ shared. shared ≡ command) }
     {
@@ -34,8 +34,7 @@ impl SharedCommand {
         }
     }
 
-    /// Adds a handle, in no memory of its own. An error means that the handles can't be counted any
-    /// more.
+    /// Adds a handle without allocating. Fails if the number of handles would overflow.
     pub fn share(&self) -> Result<SharedCommand, AllocError>
         ensures { IfOk result (λ shared. shared ≡ self.now) }
     {
@@ -44,7 +43,7 @@ impl SharedCommand {
         })
     }
 
-    /// Whether the command brings no setup and no moves, and so is often asked again.
+    /// Whether the command has neither a setup nor moves, so that equal ones are frequent.
     pub fn is_bare(&self) -> bool
         ensures { result ≡ is_bare self.now }
     {
@@ -59,8 +58,8 @@ impl SharedCommand {
         }
     }
 
-    /// Becomes a handle to that command. Stays as it is where it is a handle to an equal bare
-    /// command: each handle made or dropped is an atomic step, which takes longer than to compare
+    /// Replaces this handle by one to that command, unless this is a handle to an equal bare
+    /// command: making or dropping a handle is an atomic step, which takes longer than comparing
     /// two bare commands.
     pub(crate) fn hold(&mut self, command: &SharedCommand) -> Result<(), AllocError>
         ensures { OnOk result (self.new ≡ command.now) }
@@ -72,7 +71,7 @@ impl SharedCommand {
         Ok(())
     }
 
-    /// Becomes a handle to that command: the given one, or else a new one.
+    /// Replaces this handle by the given one, or else by a new one to that command.
     pub(crate) fn hold_by(
         &mut self,
         handle: Option<SharedCommand>,

@@ -1,4 +1,4 @@
-//! Jobs to be worked.
+//! Jobs to be run.
 ghost use Rattle.std.specs.Prelude.{◌≡◌, ◌↔◌, IsTrue, option_map};
 ghost use Rattle.bs_fiber.specs.Expected.{HasNumbersOf, HasContentsOf, IsOf};
 
@@ -7,17 +7,25 @@ use crate::expected::Expected;
 use crate::input::Input;
 use crate::job::JobName;
 use crate::moved::Moved;
-use bs_board::Command;
-use bs_game::Record;
+use bs_board::{Command, Record};
 use bs_pool::Owned;
 use std::marker::Model;
 
-fn is_same_record(kept: &Option<Record>, expected: &Option<&[u8]>) -> bool
-    ensures { IsTrue result ↔ kept.now ≡ option_map (λ bytes. bytes.now) expected.now }
+fn bytes_in(kept: Option<&Record>) -> Option<&[u8]>
+    ensures { option_map (λ bytes. bytes.now) result ≡ option_map (λ kept. kept.now) kept.entry }
+{
+    match kept {
+        None => None,
+        Some(kept) => Some(kept.as_slice()),
+    }
+}
+
+fn is_same_record(kept: &Option<Record>, expected: Option<&[u8]>) -> bool
+    ensures { IsTrue result ↔ kept.now ≡ option_map (λ bytes. bytes.now) expected.entry }
 {
     match (kept, expected) {
         (None, None) => true,
-        (Some(record), Some(bytes)) => record.as_slice() == *bytes,
+        (Some(record), Some(bytes)) => record.as_slice() == bytes,
         (None, Some(_)) => false,
         (Some(_), None) => false,
     }
@@ -37,14 +45,13 @@ fn has_numbers_of(input: &Input, expected: &Expected) -> bool
 fn has_contents_of(input: &Input, expected: &Expected) -> bool
     ensures { IsTrue result ↔ HasContentsOf input.now expected.now }
 {
-    is_same_record(&input.last, &expected.last)
-        && is_same_record(&input.asked, &expected.asked)
+    is_same_record(&input.last, bytes_in(expected.last))
+        && is_same_record(&input.asked, expected.asked)
         && input.command.get().is_same(expected.command.get())
 }
 
-/// A job to be worked, with a copy of all that it reads and with its frame blocks. These lie behind
-/// a pointer, since a ticket is moved from hand to hand and they have more than a hundred bytes.
-/// Clauses see its input and its blocks.
+/// A job to be run, with all that it reads and its frame blocks. Boxed: a ticket is moved often,
+/// and its contents exceed 100 bytes. Clauses see its input and its blocks.
 #[derive(Debug, Drop)]
 pub struct Ticket<const CAP: usize> {
     contents: Box<Contents<CAP>>,
@@ -65,9 +72,9 @@ impl<const CAP: usize> Ticket<CAP> {
     ghost use Rattle.bs_fiber.specs.Fit.{IsFitInput};
     ghost use Rattle.bs_fiber.specs.Tickets.{IsFresh, IsTicket, ticket_in, frames_in};
 
-    /// Requires records of legal boards, an asked record only for a `turn`, a charge within the
-    /// quota, and for a Part or a Join a move that goes. A Part has one empty block. A Join has the
-    /// moved snakes and the written block of each part.
+    /// Makes a ticket. Requires records of legal boards, an asked record only for a `turn`, a
+    /// charge within the quota, and for a Part or a Join an accepted move. A Part has one empty
+    /// block; a Join has the moved snakes and the written block of each part.
     pub fn new(contents: Box<Contents<CAP>>) -> Ticket<CAP>
         requires wide { LEAST_CAPACITY ≤ CAP }
         requires fit { IsFitInput contents.value.input }
@@ -77,7 +84,7 @@ impl<const CAP: usize> Ticket<CAP> {
         Ticket { contents }
     }
 
-    /// A ticket again, whose blocks may have been written.
+    /// Rebuilds the ticket of a job that was run, whose blocks may be written.
     pub(crate) fn again(contents: Box<Contents<CAP>>) -> Ticket<CAP>
         requires { IsTicket CAP contents.value }
         ensures { result ≡ ticket_in contents.entry.value }
@@ -85,7 +92,7 @@ impl<const CAP: usize> Ticket<CAP> {
         Self { contents }
     }
 
-    /// What it holds, with the memory that holds it.
+    /// Converts the ticket into its contents, without copying them.
     pub fn into_contents(self) -> Box<Contents<CAP>>
         ensures value { ticket_in result.value ≡ self.entry }
         ensures fit { IsTicket CAP result.value }
@@ -94,7 +101,7 @@ impl<const CAP: usize> Ticket<CAP> {
         contents
     }
 
-    /// All that the job reads but for its blocks.
+    /// All that the job reads except its blocks.
     pub(crate) fn input(&self) -> &Input
         ensures value { result.now ≡ self.now.input }
         ensures fit { IsFitInput self.now.input }
@@ -110,7 +117,7 @@ impl<const CAP: usize> Ticket<CAP> {
         self.contents.frames.as_slice()
     }
 
-    /// What is to be done.
+    /// The name of the job.
     pub fn job(&self) -> JobName
         ensures { result ≡ self.now.input.job }
     {
@@ -131,21 +138,21 @@ impl<const CAP: usize> Ticket<CAP> {
         self.contents.input.seq
     }
 
-    /// What the game's records may be charged at most, in bytes.
+    /// The largest charge of the game's records, in bytes.
     pub fn quota(&self) -> u32
         ensures { result ≡ self.now.input.quota }
     {
         self.contents.input.quota
     }
 
-    /// What the kept records are charged, in bytes.
+    /// The charge of the kept records, in bytes.
     pub fn charge(&self) -> u32
         ensures { result ≡ self.now.input.charge }
     {
         self.contents.input.charge
     }
 
-    /// How many turns are kept.
+    /// The number of kept turns.
     pub fn kept(&self) -> usize
         ensures { result ≡ self.now.input.kept }
     {
@@ -159,28 +166,28 @@ impl<const CAP: usize> Ticket<CAP> {
         self.contents.input.last.as_ref()
     }
 
-    /// The record of the turn that the command asks for, where that is kept.
+    /// The record of the turn that the command names, if it is kept.
     pub fn asked(&self) -> Option<&Record>
         ensures { option_map (λ kept. kept.now) result ≡ self.now.input.asked }
     {
         self.contents.input.asked.as_ref()
     }
 
-    /// The command that the game is at.
+    /// The command in progress.
     pub fn command(&self) -> &Command
         ensures { result.now ≡ self.now.input.command }
     {
         self.contents.input.command.get()
     }
 
-    /// What each part moved, from part 0.
+    /// The moved snakes of each part, from part 0.
     pub fn parts(&self) -> &[Moved]
         ensures { result.now ≡ self.now.input.parts }
     {
         self.contents.input.parts.as_slice()
     }
 
-    /// Whether all that it holds but for its parts is what was expected.
+    /// Whether all fields except the parts are the expected ones.
     pub fn is_of(&self, expected: &Expected) -> bool
         ensures value { IsTrue result ↔ IsOf self.now.input expected.now }
         ensures fit { IsFitInput self.now.input }

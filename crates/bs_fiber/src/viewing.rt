@@ -1,4 +1,4 @@
-//! What a job sees of its game: the boards that its records are of.
+//! The view that a job reads: its game's boards, decoded from the records.
 ghost use Rattle.std.specs.Prelude.{IfOk, IfSome};
 ghost use Rattle.bs_board.specs.records.Kept.{IsLegalRecord};
 ghost use Rattle.bs_game.specs.View.{IsFitView};
@@ -6,8 +6,8 @@ ghost use Rattle.bs_fiber.specs.Fit.{IsFitGame};
 ghost use Rattle.bs_fiber.specs.Seeing.{IsBoardOf, IsSeen};
 
 use crate::input::Input;
-use bs_board::{Board, kept_board};
-use bs_game::{Record, View};
+use bs_board::{Board, Record};
+use bs_game::View;
 use std::alloc::{AllocError, Global};
 
 fn board_seen(alloc: Global, kept: &Option<Record>) -> Result<Option<Board>, AllocError>
@@ -16,11 +16,11 @@ fn board_seen(alloc: Global, kept: &Option<Record>) -> Result<Option<Board>, All
 {
     match kept {
         None => Ok(None),
-        Some(kept) => Ok(Some(kept_board(alloc, kept.as_slice())?)),
+        Some(kept) => Ok(Some(kept.board(alloc)?)),
     }
 }
 
-/// The view that a job sees.
+/// Decodes the view that a job reads.
 #[tactic(auto, using(crate::proofs::Seen::seen_is_fit))]
 pub(crate) fn view_seen(alloc: Global, input: &Input) -> Result<View, AllocError>
     requires { IsFitGame input.now }

@@ -9,7 +9,7 @@ use Rattle.bs_food.specs.Marks.{MarksCells, MarksSnakes, is_marked, unmarked}
 use Rattle.std.proofs.lemmas.List.Elements.{filter-append}
 use Rattle.bs_food.proofs.Rows.{row_more, flat_range_more}
 
--- two tests that agree on a row choose the same cells of it
+-- two tests that agree on a row select the same cells of it
 same_row : (p q : Point → Bool) (y : ℕ) (x : ℕ) → ((k : ℕ) → k < x → p (point_at k y) ≡ q (point_at k y))
     → filter p (row_of_cells x y) ≡ filter q (row_of_cells x y)
 same_row p q y zero agree = refl

@@ -25,7 +25,7 @@ same_cell x y p at ex ey =
     let iy : int_eq (pos y) p.y ≡ true = same_int _ _ (ap pos ey ∙ sym at.y_is) in
     rw (ix, iy) refl
 
--- a cell of another place is another cell
+-- a cell with another index is another cell
 other_cell : {height : ℕ} (width x y : ℕ) (p : Point) → StandsAt width height p → (y * width + x ≡ cell_index width p → ⊥)
     → is_same_cell (point_at x y) p ≡ false
 other_cell width x y p at other =

@@ -1,4 +1,4 @@
--- New food stands on the board, on no other food, and nothing else changes.
+-- New food is on the board and on no other food, and nothing else changes.
 use Rattle.std.proofs.Common.{◌≡◌, ℕ, zero, suc, ◌+◌, ◌-◌, ◌%◌, ◌<◌, ◌≤◌, Bool, true, false, not, ◌||◌, List, [], ◌∷◌, ◌++◌, length, take, refl, ap, sym, subst, ◌∙◌, arith, pos, inl, inr}
 use Rattle.std.specs.Prelude.{int_le, int_lt, nat_lt, ◌==◌}
 use Rattle.std.specs.Ordering.{int_eq}
@@ -64,7 +64,7 @@ or_both : (a b : Bool) → (a || b) ≡ false → (a ≡ false) × (b ≡ false)
 or_both false b h = (refl, h)
 or_both true b h = let wrong : true ≡ false = h in cc
 
--- a last one that none of the others is
+-- a cell that differs from all earlier ones is appended
 distinct_and_last : (xs : List Point) (c : Point) → are_distinct_cells xs ≡ true → list_any (is_same_cell c) xs ≡ false
     → are_distinct_cells (xs ++ c ∷ []) ≡ true
 distinct_and_last [] c distinct none = refl

@@ -1,4 +1,4 @@
--- Rows of cells, one more column or one more row.
+-- Rows of cells, with one more column or one more row.
 use Rattle.std.proofs.Common.{◌≡◌, ℕ, zero, suc, ◌+◌, Bool, not, List, [], ◌∷◌, ◌++◌, refl, ap, subst, ◌∙◌, arith, append_assoc, add-zero, append-nil}
 use Rattle.std.specs.Prelude.{if◌then◌else◌}
 use Rattle.std.specs.List.{filter, flat_map, range_with_len}
@@ -16,7 +16,7 @@ row_more p x y =
     let P : ℕ → Type 0 = λ n. filter p (row_of_cells n y) ≡ filter p (row_of_cells x y) ++ (if p (point_at x y) then point_at x y ∷ [] else []) in
     subst P next (filter_of_map_range_with_len_more p (λ k. point_at k y) 0 x x (omega arith))
 
--- the same behind a front
+-- the same column, appended to the cells of earlier rows
 pub unmarked_row_more : (width x y : ℕ) (marks : List Bool) (front back : List Point)
     → back ≡ front ++ filter (λ p. not (is_marked width marks p)) (row_of_cells x y)
     → back ++ unmarked_cell width x y marks ≡ front ++ filter (λ p. not (is_marked width marks p)) (row_of_cells (x + 1) y)

@@ -13,7 +13,7 @@ point_at x y = record { x = pos x; y = pos y }
 abbrev pub row_of_cells : ℕ → ℕ → List Point
 row_of_cells width y = map (λ x. point_at x y) (range_with_len 0 width)
 
--- by y, then by x
+-- ordered by y, then by x
 abbrev pub all_cells : ℕ → ℕ → List Point
 all_cells width height = flat_map (row_of_cells width) (range_with_len 0 height)
 

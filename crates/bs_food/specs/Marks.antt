@@ -1,5 +1,4 @@
--- Marks of a board's cells by their index. Only the contracts of private functions cite these
--- words.
+-- Marks of a board's cells by their index. Only the contracts of private functions cite them.
 use Rattle.std.specs.Prelude.{◌≡◌, ℕ, ◌<◌, Bool, false, not, ◌||◌, if◌then◌else◌, List, [], ◌∷◌, slice_index_or, filter, flat_map}
 use Rattle.std.specs.List.{list_any, range_with_len}
 use Rattle.bs_board.specs.declared.boards.point.Point.{Point}
@@ -10,7 +9,7 @@ use Rattle.bs_food.specs.Free.{point_at, row_of_cells, stands_on}
 abbrev pub is_marked : ℕ → List Bool → Point → Bool
 is_marked width marks p = slice_index_or marks (cell_index width p) false
 
--- the new marks are the old ones and those of the cells that pass the test
+-- the new marks are the old ones, and a mark for each cell that passes the test
 abbrev pub AddMarks : ℕ → ℕ → (Point → Bool) → List Bool → List Bool → Type 0
 AddMarks width height test old new =
     (x y : ℕ) → x < width → y < height → is_marked width new (point_at x y) ≡ (is_marked width old (point_at x y) || test (point_at x y))
@@ -24,7 +23,7 @@ pub record MarksCells (width height : ℕ) (cells : List Point) (old new : List 
 pub record MarksSnakes (width height : ℕ) (snakes : List Snake) (old new : List Bool) : Type 0 where
   pub adds : AddMarks width height (λ p. list_any (stands_on p) snakes) old new
 
--- the cell itself, where it has no mark
+-- the cell itself, if it has no mark
 abbrev pub unmarked_cell : ℕ → ℕ → ℕ → List Bool → List Point
 unmarked_cell width x y marks = if not (is_marked width marks (point_at x y)) then point_at x y ∷ [] else []
 

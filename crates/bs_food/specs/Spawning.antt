@@ -10,15 +10,15 @@ use Rattle.bs_food.specs.Free.{free_cells}
 abbrev pub with_new_food : Board → Point → Board
 with_new_food b cell = record b { food = b.food ++ cell ∷ [] }
 
--- the free cell that a word chooses
+-- the free cell that the word selects
 abbrev pub cell_by_word : ℕ → List Point → Point
 cell_by_word word free = slice_index_or free (word % length free) origin
 
--- one food on a free cell, where there is one
+-- one food on a free cell, if there is one
 unfoldable pub with_one_food : ℕ → Board → Board
 with_one_food word b = if length (free_cells b) == 0 then b else with_new_food b (cell_by_word word (free_cells b))
 
--- up to the minimum, a word for each that is missing
+-- one word for each food below the minimum
 abbrev pub with_food_up_to_minimum : List ℕ → Board → Board
 with_food_up_to_minimum words b = fold (λ c word. with_one_food word c) b (take (b.min_food - length b.food) words)
 

@@ -31,7 +31,7 @@ pub fn free_cells(alloc: Global, board: &Board) -> Result<Vec<Point>, AllocError
     Ok(cells)
 }
 
-/// Puts one cell behind the others where it is not marked.
+/// Appends the cell if it is not marked.
 fn push_unmarked(
     free: &mut Vec<Point>,
     taken: &[bool],

@@ -1,5 +1,4 @@
-//! Where food appears. It is a function of the board and of the words that a move brings, and of
-//! nothing else.
+//! Where food appears: a function of the board and of a move's words, and of nothing else.
 #![tactic(auto)]
 
 mod free;

@@ -1,4 +1,4 @@
-//! Marks of the cells that are taken.
+//! Marks of taken cells.
 
 ghost use Rattle.std.specs.Prelude.{◌≡◌, ◌<◌, ◌*◌, true, length};
 ghost use Rattle.bs_board.specs.boards.Cell.{is_on_board, cell_index};
@@ -6,7 +6,7 @@ ghost use Rattle.bs_food.specs.Marks.{MarksCell, MarksCells, MarksSnakes};
 
 use bs_board::{Point, Snake};
 
-/// A cell's place, counted row after row from the bottom left.
+/// The index of a cell, row after row from the bottom left.
 #[tactic(auto, using(crate::proofs::MarkedCells::place_fits))]
 fn cell_index(width: u8, height: u8, cell: Point) -> usize
     requires { is_on_board width height cell ≡ true }
@@ -16,7 +16,7 @@ fn cell_index(width: u8, height: u8, cell: Point) -> usize
     usize::from(cell.y.unsigned_abs()) * usize::from(width) + usize::from(cell.x.unsigned_abs())
 }
 
-/// Marks a cell's place, row after row; a cell off the board has none.
+/// Marks a cell by its index. A cell off the board is skipped.
 #[tactic(auto, using(crate::proofs::MarkedCells::marks_place, crate::proofs::MarkedCells::marks_nothing))]
 fn mark(marks: &mut [bool], width: u8, height: u8, cell: Point)
     requires { length marks.old ≡ width * height }
@@ -27,7 +27,7 @@ fn mark(marks: &mut [bool], width: u8, height: u8, cell: Point)
     }
 }
 
-/// Marks all of the cells that lie on the board.
+/// Marks all cells that are on the board.
 pub fn mark_all(marks: &mut [bool], width: u8, height: u8, cells: &[Point])
     requires { length marks.old ≡ width * height }
     ensures { MarksCells width height cells.now marks.old marks.new }
@@ -37,7 +37,7 @@ pub fn mark_all(marks: &mut [bool], width: u8, height: u8, cells: &[Point])
     }
 }
 
-/// Marks all cells that living snakes stand on.
+/// Marks all cells of living snakes.
 pub fn mark_snakes(marks: &mut [bool], width: u8, height: u8, snakes: &[Snake])
     requires { length marks.old ≡ width * height }
     ensures { MarksSnakes width height snakes.now marks.old marks.new }

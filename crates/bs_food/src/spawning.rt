@@ -8,7 +8,7 @@ use bs_board::Board;
 use bs_board::limits::MOST_CHANCE;
 use std::alloc::{AllocError, Global};
 
-/// One food on the free cell that the word chooses; nothing where no cell is free.
+/// Puts one food on the free cell that the word selects. Does nothing if no cell is free.
 #[tactic(auto, unfolding(crate::specs::Spawning::with_one_food))]
 fn place_food(alloc: Global, board: &mut Board, word: u32) -> Result<(), AllocError>
     ensures { OnOk result (board.new ≡ with_one_food word board.old) }
@@ -21,7 +21,7 @@ fn place_food(alloc: Global, board: &mut Board, word: u32) -> Result<(), AllocEr
     board.food.push(cell)
 }
 
-/// A word for each food that is missing; with fewer words, as many as there are.
+/// Uses a word for each food below the minimum, as far as there are words.
 #[tactic(auto, using(crate::proofs::Minimum::one_word_more))]
 fn make_up_food(alloc: Global, board: &mut Board, words: &[u32]) -> Result<(), AllocError>
     ensures { OnOk result (board.new ≡ with_food_up_to_minimum words.now board.old) }
@@ -47,9 +47,9 @@ fn add_by_chance(alloc: Global, board: &mut Board, words: &[u32]) -> Result<(), 
     }
 }
 
-/// Food is made up to the board's minimum, a word for each. Where there is enough already, the
-/// first word decides by the chance whether one more appears, and the second where. With no word
-/// left, or no free cell, nothing more does. After want of memory the board is given up.
+/// Adds food up to the board's minimum, a word for each. If there is enough already, the first word
+/// decides by the chance whether one more appears, and the second where. Stops when no word or no
+/// free cell is left. After an error the board is incomplete and must be dropped.
 #[tactic(auto, unfolding(crate::specs::Spawning::spawned))]
 pub fn spawn(alloc: Global, board: &mut Board, words: &[u32]) -> Result<(), AllocError>
     ensures { OnOk result (board.new ≡ spawned words.now board.old) }

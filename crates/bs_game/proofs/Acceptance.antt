@@ -1,4 +1,4 @@
--- What follows where no reason speaks against a command.
+-- What follows if no reason refuses a command.
 use Rattle.std.proofs.Common.{◌≡◌, ℕ, ◌<◌, Bool, true, false, List, [], ◌∷◌, Option, Some, None, refl, sym, ap, ◌∙◌, inl, inr}
 use Rattle.std.specs.Prelude.{nat_le, option_map, IfSome, if◌then◌else◌}
 use Rattle.std.specs.Option.{option_or}
@@ -38,7 +38,7 @@ quota_is_last view command none =
     find-append (speaks_against view command) early_refusals (refusal.Quota ∷ [])
     ∙ ap (λ early. option_or early (quota_against view (new_board view command))) none
 
--- a reason that comes before is the reason
+-- a reason that needs no new board is the one given
 pub early_reason : (view : View) (command : Command) (reason : Refusal) → first_reason view command ≡ Some reason
     → answer_of view command ≡ answer_with (Refused reason)
 unfolding answer_of reply_to first_reason reason_against
@@ -47,7 +47,7 @@ early_reason view command reason some =
     (find-append (speaks_against view command) early_refusals (refusal.Quota ∷ [])
     ∙ ap (λ early. option_or early (quota_against view (new_board view command))) some)
 
--- a command that brings no new board is answered at once
+-- a command without a new board is answered at once
 pub answered_at_once : (view : View) (command : Command) → first_reason view command ≡ None → new_board view command ≡ None
     → answer_of view command ≡ answer_with (accepted_reply view command)
 unfolding answer_of reply_to
@@ -79,7 +79,7 @@ next_is_shown view orders last none is =
     new_is_shown view (command.Move orders) word.Move (turn_of last orders) none (ap next is)
     (ap (λ b. told_of refusal.NoGame (next b) (shown_as_new view word.Move)) is)
 
--- a move is accepted of a last board whose turn has a next one
+-- a move is accepted on a last board that is not of the last turn
 
 early_last : (most charge kept : ℕ) (last asked : Option Board) (orders : Orders)
     → first_reason (record { quota = most; charge = charge; kept = kept; last = last; asked = asked }) (command.Move orders) ≡ None
@@ -99,7 +99,7 @@ early_last most charge kept (Some last) asked orders none =
 pub move_is_early : (view : View) (orders : Orders) → first_reason view (command.Move orders) ≡ None → IfSome view.last (λ last. last.turn < LAST_TURN)
 move_is_early view orders none = early_last view.quota view.charge view.kept view.last view.asked orders none
 
--- no game runs, and so nothing moves
+-- no game runs, so no move is accepted
 no_last : (most charge kept : ℕ) (last asked : Option Board) (orders : Orders) → last ≡ None
     → first_reason (record { quota = most; charge = charge; kept = kept; last = last; asked = asked }) (command.Move orders) ≡ None → ⊥
 unfolding first_reason
@@ -109,9 +109,9 @@ no_last most charge kept (Some board) asked orders is none = cc
 pub no_game_no_move : (view : View) (orders : Orders) → view.last ≡ None → first_reason view (command.Move orders) ≡ None → ⊥
 no_game_no_move view orders is none = no_last view.quota view.charge view.kept view.last view.asked orders is none
 
--- a turn of which all seats have moved
+-- a turn whose seats are all moved
 
--- the board that the seats moved on, of a view that a move is accepted of
+-- the board on which the seats are moved, in a view that accepts the move
 record IsMoved (view : View) (orders : Orders) (seats : Board) : Type 0 where
   before : Board
   last : view.last ≡ Some before

@@ -32,12 +32,12 @@ use Rattle.bs_game.specs.Reasons.{reason_against}
 use Rattle.bs_game.specs.View.{IsFitView, answer_of, answer_with, effect_of, reply_to}
 use Rattle.bs_game.proofs.Games.{charge_of_nothing, charge_of_one, charge_of_one_more, charge_of_last, nothing_is_a_game, one_board_is_a_game, first_is_a_game, newest_of_map, newest_is_last, next_is_a_game, legal_last}
 
--- the reply tells the effect
+-- the reply determines the effect
 pub reply_tells_effect : (view : View) (command : Command) → (answer_of view command).effect ≡ effect_of (answer_of view command).reply
 unfolding answer_of
 reply_tells_effect view command = refl
 
--- the records of the boards that are left
+-- the records of the remaining boards
 pub records_after : (reply : Reply) (game : Game) → effected (effect_of reply) (map record_of game) ≡ map record_of (after_reply reply game)
 records_after (Shown word.New board charge) game = sym (map-append record_of game (board ∷ []))
 records_after (Shown word.Move board charge) game = sym (map-append record_of game (board ∷ []))
@@ -53,7 +53,7 @@ records_after (Plain word.Free charge) game = newest_of_map record_of game
 records_after (Plain word.End charge) game = refl
 records_after (Refused reason) game = refl
 
--- what a reply leaves is a game again, within its quota
+-- the game after a reply is a game again, within its quota
 record IsRight (most : ℕ) (game : Game) (reply : Reply) : Type 0 where
   fits : IsFitEffect most (game_charge game) (effect_of reply)
   right : IsGame (after_reply reply game)
@@ -173,7 +173,7 @@ unfolding answer_to answer_of
 answers_the_game most game command right within fits =
     told most game (reply_to (view_of_game most game command) command) (right_reply most game command right within fits)
 
--- what a command leaves is a game again, within its quota
+-- the game after a command is a game again, within its quota
 pub stays_a_game : (most : ℕ) (game : Game) (command : Command) → IsGame game → game_charge game ≤ most → Fits command
     → IsGame (answer_to most game command).game × (game_charge (answer_to most game command).game ≤ most)
 stays_a_game most game command right within fits =
@@ -189,7 +189,7 @@ legal_if_some : (game : Game) (last : Option Board) → IsGame game → last ≡
 legal_if_some game None right is = tt
 legal_if_some game (Some last) right is = legal_last game last right is
 
--- each board of a game is legal, and so is the one that is asked for
+-- each board of a game is legal, and so is the one that the command names
 legal_if_found : (at : ℕ) (game : Game) → AllByRecursion IsLegal game → IfSome (board_of_turn at game) IsLegal
 unfolding board_of_turn
 legal_if_found at [] legal = tt
@@ -218,7 +218,7 @@ view_of_game_is_fit quota game command right within small =
       small = small;
     }
 
--- an answer from the view of a game, where there was memory for one
+-- an answer from the view of a game, if there was memory for one
 pub answered_as_the_game : {E : Type 0} (game : Game) (view : View) (most : ℕ) (command : Command) (result : Result Answer E) → IsGame game
     → game_charge game ≤ most → Fits command → view ≡ view_of_game most game command → IfOk result (λ answer. answer ≡ answer_of view command)
     → IfOk result (IsAnswerTo most game (answer_to most game command))

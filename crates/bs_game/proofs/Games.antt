@@ -1,4 +1,4 @@
--- Games that grow, and what they are charged.
+-- Games that grow, and their charges.
 use Rattle.std.proofs.Common.{◌≡◌, suc, ◌+◌, ◌-◌, ◌≤◌, List, [], ◌∷◌, ◌++◌, Some, length, map, drop, slice_get, ◌<◌, ◌^◌, lit<, refl, sym, ap, ◌∙◌, arith, true, false}
 use Rattle.std.proofs.Math.Seq.{drop-cons}
 use Rattle.std.proofs.Math.ListN.{drop_of_length-le}
@@ -47,7 +47,7 @@ legal_last game last right is =
     let same = get_or_from_slice_get game (length game - 1) last last there in
     rw same at (right.legal (length game - 1) last within)
 
--- no game runs where there is no newest board
+-- no game runs if there is no newest board
 pub nothing_runs : (game : Game) → is_some (last_board game) ≡ false → game ≡ []
 nothing_runs [] none = refl
 nothing_runs (first ∷ rest) none =
@@ -85,7 +85,7 @@ next_is_a_game game last board orders right is moved legal =
       turns = consecutive_and_next game last board right.turns is next;
     }
 
--- what records are charged
+-- the charge of records
 
 pub board_charge_small : (b : Board) → IsLegal b → board_charge b ≤ MOST_BOARD_CHARGE
 unfolding rounded

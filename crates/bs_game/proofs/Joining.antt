@@ -1,4 +1,4 @@
--- A move whose seats have moved already.
+-- A move whose seats are all moved.
 use Rattle.std.proofs.Common.{◌≡◌, ℕ, Some, None, refl}
 use Rattle.std.specs.Prelude.{option_map}
 use Rattle.bs_board.specs.declared.boards.board.Board.{Board}
@@ -11,12 +11,12 @@ use Rattle.bs_game.specs.Joining.{IsMovedFrom, view_within}
 use Rattle.bs_game.specs.Reasons.{first_reason}
 use Rattle.bs_game.specs.View.{IsFitView, shown_within_quota}
 
--- a view in which nothing speaks against the move is one of its own quota and charge
+-- a view that accepts the move has its own quota and charge
 pub moved_from : (view : View) (orders : Orders) (moved : Board) → IsFitView view → first_reason view (command.Move orders) ≡ None
     → option_map (moved_board orders.moves) view.last ≡ Some moved → IsMovedFrom view.quota view.charge orders moved view
 moved_from view orders moved fit none is = record { fit = fit; passes = none; quota = refl; charge = refl; moved = is }
 
--- the quota is judged by no more than quota and charge
+-- the quota is judged by quota and charge alone
 pub same_within : (quota charge : ℕ) (view : View) (word : Word) (board : Board) → view.quota ≡ quota → view.charge ≡ charge
     → shown_within_quota (view_within quota charge) word board ≡ shown_within_quota view word board
 same_within quota charge view word board same_quota same_charge = rw (same_quota, same_charge) refl

@@ -1,4 +1,4 @@
--- The boards of a game are those of the turns that end with the last one's.
+-- The boards of a game are those of its newest turns.
 use Rattle.std.proofs.Common.{◌≡◌, ℕ, suc, ◌+◌, ◌-◌, ◌≤◌, ◌<◌, false, [], ◌∷◌, Some, None, length, slice_get, refl, sym, ap, ◌∙◌, subst, inl, inr, arith}
 use Rattle.std.specs.Prelude.{nat_eq, nat_le}
 use Rattle.std.specs.List.{find}
@@ -55,7 +55,7 @@ last_turn (board ∷ second ∷ rest) first last starts is =
     let next = last_turn (second ∷ rest) (first + 1) last starts.1 (sym (last_behind board second rest) ∙ is) in
     omega arith
 
--- where the first turn's number stands for that of the last one
+-- the place of a turn, counted from the first kept turn
 by_place : (game : Game) (first at : ℕ) (last : Board) → StartAt first game → last_board game ≡ Some last
     → find (λ board. nat_eq board.turn at) game ≡ at_place (place_of_turn (length game) last.turn at) game
 by_place game first at last starts is =
@@ -81,7 +81,7 @@ unfolding board_of_turn
 places [] last at right is = let wrong : None ≡ Some last = is in absurd cc
 places (board ∷ rest) last at right is = by_place (board ∷ rest) board.turn at last (starts_at board rest right.turns) is
 
--- the turns that are kept begin no earlier than turn 0
+-- the kept turns begin at turn 0 or later
 pub few_turns : (game : Game) (last : Board) → IsGame game → last_board game ≡ Some last → length game ≤ last.turn + 1
 few_turns [] last right is = omega arith
 few_turns (board ∷ rest) last right is =

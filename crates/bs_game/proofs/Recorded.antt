@@ -1,4 +1,4 @@
--- Games and the records that are kept of them.
+-- Games and their kept records.
 use Rattle.std.proofs.Common.{◌≡◌, ℕ, zero, suc, ◌+◌, ◌-◌, ◌<◌, ◌≤◌, List, [], ◌∷◌, Some, None, length, map, slice_get, slice_index_or, refl, sym, ap, ◌∙◌, arith, inl, inr}
 use Rattle.std.specs.Prelude.{sum_by}
 use Rattle.std.proofs.lemmas.Bool.{cases_Bool, leb-true}
@@ -22,11 +22,11 @@ use Rattle.bs_game.proofs.KeptTurns.{places, few_turns}
 pub nothing_recorded : IsRecorded [] []
 nothing_recorded = record { right = nothing_is_a_game; is = refl }
 
--- so many records as boards
+-- there are as many records as boards
 pub as_many : (game : Game) (records : List (List ℕ)) → IsRecorded game records → length records ≡ length game
 as_many game records kept = ap length kept.is ∙ length-map game record_of
 
--- the records are charged what the game is
+-- the charge of the records is that of the game
 charge_of_records : (game : Game) → sum_by (λ bytes. rounded (length bytes)) (map record_of game) ≡ sum_by board_charge game
 charge_of_records [] = refl
 charge_of_records (board ∷ game) =
@@ -39,7 +39,7 @@ pub same_charge : (game : Game) (records : List (List ℕ)) → IsRecorded game 
 unfolding game_charge
 same_charge game records kept = ap (sum_by (λ bytes. rounded (length bytes))) kept.is ∙ charge_of_records game
 
--- an answer's effect leaves the records of the game after it
+-- the records after an answer's effect are those of the game after it
 pub recorded_after : (most : ℕ) (game : Game) (outcome : Outcome) (answer : Answer) (records : List (List ℕ)) → IsRecorded game records
     → IsAnswerTo most game outcome answer → IsRecorded outcome.game (effected answer.effect records)
 recorded_after most game outcome answer records kept told =

@@ -1,4 +1,4 @@
--- A game by itself: from nothing, its commands one after the other.
+-- A game by itself: its commands one after the other, from no game on.
 use Rattle.std.specs.Prelude.{ℕ, List, [], ◌∷◌, ◌++◌, fold}
 use Rattle.bs_board.specs.declared.commands.command.Command.{Command}
 use Rattle.bs_board.specs.declared.commands.reply.Reply.{Reply}
@@ -6,7 +6,7 @@ use Rattle.bs_board.specs.plans.Plan.{GameRow}
 use Rattle.bs_game.specs.Game.{Game}
 use Rattle.bs_game.specs.Answer.{Outcome, answer_to}
 
--- the replies so far, and the game that they leave
+-- the replies so far, and the game after them
 pub record Course : Type 0 where
   pub replies : List Reply
   pub game : Game

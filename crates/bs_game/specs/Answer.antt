@@ -1,4 +1,4 @@
--- What one command of a game is answered, and the game after it.
+-- The reply to one command of a game, and the game after it.
 use Rattle.std.specs.Prelude.{◌≡◌, ℕ, ◌≤◌, true, [], ◌∷◌, ◌++◌, Option, None, length}
 use Rattle.bs_board.specs.declared.boards.board.Board.{Board}
 use Rattle.bs_board.specs.declared.commands.command.Command.{Command}
@@ -14,7 +14,7 @@ use Rattle.bs_game.specs.declared.view.View.{View}
 use Rattle.bs_game.specs.Game.{Game, last_board, newest, board_of_turn, game_charge}
 use Rattle.bs_game.specs.View.{reply_to}
 
--- what a command holds is within the limits; each value of the type is
+-- the contents of a command are within the limits, as the type ensures
 abbrev pub Fits : Command → Type 0
 Fits (command.New setup) = is_fit_setup setup ≡ true
 Fits (command.Move orders) = IsFitOrders orders
@@ -24,12 +24,12 @@ Fits command.Free = Unit {0}
 Fits command.End = Unit {0}
 Fits command.Bad = Unit {0}
 
--- the kept board that a command asks for by its turn
+-- the kept board of the turn that a command names
 abbrev pub asked_board : Command → Game → Option Board
 asked_board (command.Turn at) game = board_of_turn at game
 asked_board _ game = None
 
--- what a game of that quota shows to an answer to that command
+-- the view of a game of that quota that the answer to that command reads
 abbrev pub view_of_game : ℕ → Game → Command → View
 view_of_game quota game command = record {
   quota = quota;
@@ -39,7 +39,7 @@ view_of_game quota game command = record {
   asked = asked_board command game;
 }
 
--- a board that is shown for `new` or `move` is added
+-- a board that a reply to `new` or `move` shows is added
 abbrev pub after_shown : Word → Board → Game → Game
 after_shown word.New board game = game ++ board ∷ []
 after_shown word.Move board game = game ++ board ∷ []
@@ -48,7 +48,7 @@ after_shown word.Turn board game = game
 after_shown word.Free board game = game
 after_shown word.End board game = game
 
--- `free` gives up all boards but the last, `end` all of them
+-- `free` drops all boards but the last, `end` all of them
 abbrev pub after_plain : Word → Game → Game
 after_plain word.New game = game
 after_plain word.Move game = game
@@ -57,7 +57,7 @@ after_plain word.Turn game = game
 after_plain word.Free game = newest game
 after_plain word.End game = []
 
--- the game after a command, of which the reply tells what was done
+-- the game after a command, determined by the reply
 abbrev pub after_reply : Reply → Game → Game
 after_reply (Shown word board charge) game = after_shown word board game
 after_reply (Plain word charge) game = after_plain word game

@@ -6,14 +6,14 @@ use Rattle.bs_board.specs.declared.boards.board.Board.{Board}
 use Rattle.bs_board.specs.boards.Legal.{IsLegal}
 use Rattle.bs_board.specs.records.Record.{record_of}
 
--- the empty list where no game runs; the newest board comes last
+-- the empty list if no game runs; the newest board comes last
 abbrev pub Game : Type 0
 Game = List Board
 
 abbrev pub last_board : Game → Option Board
 last_board game = slice_get game (length game - 1)
 
--- the last one alone; nothing of nothing
+-- the last one alone; the empty list of the empty list
 abbrev pub newest : {X : Type 0} → List X → List X
 newest xs = drop (length xs - 1) xs
 
@@ -21,14 +21,14 @@ newest xs = drop (length xs - 1) xs
 unfoldable pub board_of_turn : ℕ → Game → Option Board
 board_of_turn turn game = find (λ board. nat_eq board.turn turn) game
 
--- what a kept board is charged, in bytes
+-- the charge of a kept board, in bytes
 abbrev pub board_charge : Board → ℕ
 board_charge board = rounded (length (record_of board))
 
 unfoldable pub game_charge : Game → ℕ
 game_charge game = sum_by board_charge game
 
--- each board is of the turn after the one before it
+-- each board is one turn after the one before it
 abbrev pub AreConsecutive : List Board → Type 0
 AreConsecutive [] = Unit {0}
 AreConsecutive (_ ∷ []) = Unit {0}

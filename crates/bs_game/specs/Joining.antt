@@ -1,5 +1,4 @@
--- A move whose seats have moved already: no more than the quota and the charge is left to be seen
--- of its game.
+-- A move whose seats were all moved: of the game only its quota and its charge are still needed.
 use Rattle.std.specs.Prelude.{◌≡◌, ℕ, Some, None, option_map}
 use Rattle.bs_board.specs.declared.boards.board.Board.{Board}
 use Rattle.bs_board.specs.declared.commands.command.Command.TheVariants as command
@@ -9,12 +8,12 @@ use Rattle.bs_game.specs.declared.view.View.{View}
 use Rattle.bs_game.specs.Reasons.{first_reason}
 use Rattle.bs_game.specs.View.{IsFitView}
 
--- what is seen of a game but for its boards
+-- a view without boards
 abbrev pub view_within : ℕ → ℕ → View
 view_within quota charge = record { quota = quota; charge = charge; kept = 0; last = None; asked = None }
 
--- a view within that quota, of that charge, in which nothing speaks against the move, and of whose
--- last board that one has all seats moved
+-- a view with that quota and that charge that allows the move, and whose last board with all seats
+-- moved is `board`
 pub record IsMovedFrom (most charged : ℕ) (orders : Orders) (board : Board) (view : View) : Type 0 where
   pub fit : IsFitView view
   pub passes : first_reason view (command.Move orders) ≡ None

@@ -1,4 +1,4 @@
--- What holds of all answers and courses.
+-- Properties of all answers and courses.
 use Rattle.std.specs.Prelude.{◌≡◌, ℕ, ◌+◌, ◌≤◌, List, [], ◌∷◌, ◌++◌, length, map, All}
 use Rattle.bs_block.specs.Rounding.{rounded}
 use Rattle.bs_board.specs.declared.boards.board.Board.{Board}
@@ -20,7 +20,7 @@ effected (effect.Add bytes) records = records ++ bytes ∷ []
 effected effect.Trim records = newest records
 effected effect.Drop records = []
 
--- the record of a legal board, for which a quota has room beside what is charged already
+-- the record of a legal board that fits into a quota besides what is charged already
 pub record IsFitRecord (most charge : ℕ) (bytes : List ℕ) : Type 0 where
   pub board : Board
   pub legal : IsLegal board
@@ -33,7 +33,7 @@ IsFitEffect most charge (effect.Add bytes) = IsFitRecord most charge bytes
 IsFitEffect most charge effect.Trim = Unit {0}
 IsFitEffect most charge effect.Drop = Unit {0}
 
--- an answer and the records that it leaves, against the definition's reply and game
+-- an answer and the records after it, compared with the definition's reply and game
 pub record IsAnswerTo (most : ℕ) (game : Game) (outcome : Outcome) (answer : Answer) : Type 0 where
   pub reply : answer.reply ≡ outcome.reply
   pub told : answer.effect ≡ effect_of outcome.reply

@@ -33,23 +33,23 @@ abbrev pub is_board_over : Option Board → Bool
 is_board_over None = false
 is_board_over (Some board) = is_over board
 
--- no turn has a higher number
+-- the board has the highest turn number
 abbrev pub is_last_turn : Option Board → Bool
 is_last_turn None = false
 is_last_turn (Some board) = nat_le LAST_TURN board.turn
 
--- the board that a command is to add to the game
+-- the board that a command would add to the game
 abbrev pub new_board : View → Command → Option Board
 new_board view (command.New setup) = Some (first_board setup)
 new_board view (command.Move orders) = option_map (λ last. turn_of last orders) view.last
 new_board view _ = None
 
--- whether the quota has no room for the record of one more board
+-- whether the record of one more board would exceed the quota
 abbrev pub is_over_quota : View → Option Board → Bool
 is_over_quota view None = false
 is_over_quota view (Some board) = nat_lt view.quota (view.charge + board_charge board)
 
--- whether the reason speaks against the command
+-- whether the reason refuses the command
 abbrev pub speaks_against : View → Command → Refusal → Bool
 speaks_against view command refusal.Unknown = is_bad command
 speaks_against view command refusal.NoGame = not (is_new command) && is_none view.last
@@ -59,12 +59,12 @@ speaks_against view command refusal.Limit = is_move command && is_last_turn view
 speaks_against view command refusal.NoRecord = is_turn command && is_none view.asked
 speaks_against view command refusal.Quota = is_over_quota view (new_board view command)
 
--- the reasons that are judged before there is a new board, in their order
+-- the reasons that are judged before the new board is known, in order
 abbrev pub early_refusals : List Refusal
 early_refusals =
     refusal.Unknown ∷ refusal.NoGame ∷ refusal.Running ∷ refusal.Over ∷ refusal.Limit ∷ refusal.NoRecord ∷ []
 
--- all of them; the quota comes last
+-- all reasons, in order; the quota comes last
 abbrev pub refusals_in_order : List Refusal
 refusals_in_order = early_refusals ++ refusal.Quota ∷ []
 

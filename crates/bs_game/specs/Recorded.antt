@@ -1,4 +1,4 @@
--- A game as the records that are kept of it.
+-- A game as its kept records.
 use Rattle.std.specs.Prelude.{◌≡◌, ℕ, List, map}
 use Rattle.bs_board.specs.records.Record.{record_of}
 use Rattle.bs_game.specs.Game.{Game, IsGame}

@@ -1,9 +1,9 @@
--- Where the board of a turn stands among the kept ones.
+-- The place of a turn's board among the kept ones.
 use Rattle.std.specs.Prelude.{◌≡◌, ℕ, ◌+◌, ◌-◌, Bool, ◌&&◌, List, length, Option, Some, None, slice_get, nat_le, if◌then◌else◌}
 use Rattle.bs_board.specs.declared.boards.board.Board.{Board}
 use Rattle.bs_game.specs.Game.{Game, IsGame, board_of_turn, last_board}
 
--- so many turns are kept, and they end with the last one
+-- turn `at` is one of the `kept` newest turns, the last of which is `last`
 abbrev pub is_kept : ℕ → ℕ → ℕ → Bool
 is_kept kept last at = nat_le (last + 1) (at + kept) && nat_le at last
 

@@ -1,4 +1,4 @@
--- What a command is answered, and what becomes of the records, from what a view holds of a game.
+-- The reply to a command, and its effect on the records, from a view of the game.
 use Rattle.std.specs.Prelude.{◌+◌, ◌≤◌, Option, Some, None, if◌then◌else◌, IfSome}
 use Rattle.bs_board.specs.declared.boards.board.Board.{Board}
 use Rattle.bs_board.specs.declared.commands.command.Command.{Command}
@@ -19,16 +19,16 @@ use Rattle.bs_game.specs.declared.view.View.{View}
 use Rattle.bs_game.specs.Game.{board_charge}
 use Rattle.bs_game.specs.Reasons.{new_board, is_over_quota, reason_against}
 
--- what is told of a board, where it is there
+-- the reply for a board, if there is one; else the refusal
 abbrev pub told_of : Refusal → Option Board → (Board → Reply) → Reply
 told_of reason None reply = Refused reason
 told_of reason (Some board) reply = reply board
 
--- a board that is kept beside those that are charged already
+-- a new board is shown with the charge that includes it
 abbrev pub shown_as_new : View → Word → Board → Reply
 shown_as_new view word board = Shown word board (view.charge + board_charge board)
 
--- the reply to a command that no reason speaks against; its number is the charge after the command
+-- the reply to a command that no reason refuses; its number is the charge after the command
 abbrev pub accepted_reply : View → Command → Reply
 accepted_reply view (command.New setup) = told_of refusal.NoGame (new_board view (command.New setup)) (shown_as_new view word.New)
 accepted_reply view (command.Move orders) = told_of refusal.NoGame (new_board view (command.Move orders)) (shown_as_new view word.Move)
@@ -45,7 +45,7 @@ unless_refused None reply = reply
 unfoldable pub reply_to : View → Command → Reply
 reply_to view command = unless_refused (reason_against view command) (accepted_reply view command)
 
--- a board that is shown for `new` or `move` is added
+-- a board that a reply to `new` or `move` shows is added
 abbrev pub effect_of_shown : Word → Board → Effect
 effect_of_shown word.New board = effect.Add (record_of board)
 effect_of_shown word.Move board = effect.Add (record_of board)
@@ -62,7 +62,7 @@ effect_of_plain word.Turn = effect.Keep
 effect_of_plain word.Free = effect.Trim
 effect_of_plain word.End = effect.Drop
 
--- what becomes of the records, which the reply tells; a refusal keeps all
+-- the effect on the records, determined by the reply; a refusal keeps all
 abbrev pub effect_of : Reply → Effect
 effect_of (Shown word board charge) = effect_of_shown word board
 effect_of (Plain word charge) = effect_of_plain word
@@ -74,12 +74,12 @@ answer_with reply = record { reply = reply; effect = effect_of reply }
 unfoldable pub answer_of : View → Command → Answer
 answer_of view command = answer_with (reply_to view command)
 
--- what a new board comes to: refused where the quota has no room for its record
+-- the reply with a new board, or the refusal if the quota has no room for its record
 abbrev pub shown_within_quota : View → Word → Board → Reply
 shown_within_quota view word board =
     if is_over_quota view (Some board) then Refused refusal.Quota else shown_as_new view word board
 
--- of a game that is within its quota; no quota is above 16,777,216
+-- the view of a game within its quota; no quota is above 16,777,216
 pub record IsFitView (view : View) : Type 0 where
   pub legal : IfSome view.last IsLegal
   pub asked : IfSome view.asked IsLegal

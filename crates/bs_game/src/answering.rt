@@ -1,4 +1,4 @@
-//! What a command is answered, and what becomes of the records.
+//! The reply to a command, and its effect on the records.
 ghost use Rattle.std.specs.Prelude.{◌≡◌, ◌<◌, Some, None, IfOk, option_map};
 ghost use Rattle.bs_board.specs.declared.commands.command.Command.TheVariants as command;
 ghost use Rattle.bs_board.specs.declared.commands.command.Word.TheVariants as Word;
@@ -28,7 +28,7 @@ use bs_modes::start;
 use bs_rules::{finish_turn, turn};
 use std::alloc::{AllocError, Global};
 
-/// The answer to a command that is refused: nothing is done.
+/// Answers a command with a refusal, which changes nothing.
 pub fn refuse(reason: Refusal) -> Answer
     ensures { result ≡ answer_with (Reply.Refused reason) }
 {
@@ -38,17 +38,17 @@ pub fn refuse(reason: Refusal) -> Answer
     }
 }
 
-fn show(alloc: Global, word: Word, charge: u32, board: &Board) -> Result<Answer, AllocError>
-    requires { IsLegal board.now }
-    ensures { IfOk result (λ answer. answer ≡ record { reply = Reply.Shown word board.now charge; effect = Effect.Keep }) }
+/// Answers with a kept board, which changes nothing.
+pub fn show(word: Word, board: KeptBoard, charge: u32) -> Answer
+    ensures { result ≡ record { reply = Reply.Shown word board charge; effect = Effect.Keep } }
 {
-    Ok(Answer {
-        reply: Reply::Shown(word, KeptBoard::of(alloc, board)?, charge),
+    Answer {
+        reply: Reply::Shown(word, board, charge),
         effect: Effect::Keep,
-    })
+    }
 }
 
-/// The board of a game that begins.
+/// Starts a game with its first board.
 #[tactic(auto, using(crate::proofs::Acceptance::first_is_shown))]
 fn begin(alloc: Global, view: &View, new: &New) -> Result<Answer, AllocError>
     requires view { IsFitView view.now }
@@ -60,7 +60,7 @@ fn begin(alloc: Global, view: &View, new: &New) -> Result<Answer, AllocError>
     record_board(alloc, view.quota, view.charge, Word::New, board)
 }
 
-/// One turn of the last board.
+/// Plays one turn on the last board.
 #[tactic(auto, using(crate::proofs::Acceptance::move_is_early, crate::proofs::Acceptance::no_game_no_move, crate::proofs::Acceptance::next_is_shown))]
 fn advance(alloc: Global, view: &View, orders: &Move) -> Result<Answer, AllocError>
     requires view { IsFitView view.now }
@@ -84,7 +84,7 @@ fn show_last(alloc: Global, view: &View) -> Result<Answer, AllocError>
 {
     match &view.last {
         None => Ok(refuse(Refusal::NoGame)),
-        Some(last) => show(alloc, Word::Show, view.charge, last),
+        Some(last) => Ok(show(Word::Show, KeptBoard::of(alloc, last)?, view.charge)),
     }
 }
 
@@ -95,7 +95,7 @@ fn show_asked(alloc: Global, view: &View, at: TurnNumber) -> Result<Answer, Allo
 {
     match &view.asked {
         None => Ok(refuse(Refusal::NoRecord)),
-        Some(board) => show(alloc, Word::Turn, view.charge, board),
+        Some(board) => Ok(show(Word::Turn, KeptBoard::of(alloc, board)?, view.charge)),
     }
 }
 
@@ -122,7 +122,7 @@ fn end() -> Answer
     }
 }
 
-/// A command that `check` lets pass, which so finds each board that it needs.
+/// Answers a command that `check` allows, so each board that it needs is there.
 #[tactic(auto, using(crate::proofs::Acceptance::answered_at_once))]
 fn answer_passed(alloc: Global, view: &View, command: &Command) -> Result<Answer, AllocError>
     requires view { IsFitView view.now }
@@ -141,9 +141,9 @@ fn answer_passed(alloc: Global, view: &View, command: &Command) -> Result<Answer
     }
 }
 
-/// The reply to the command, with the charge after it, and what becomes of the records. It is
-/// refused for the first reason that `check` finds, and then where the quota has no room for the
-/// record of its new board.
+/// Answers a command: its reply, with the charge after it, and its effect on the records. The
+/// command is refused for the first reason that `check` finds, else for the quota if that has no
+/// room for the record of the new board.
 #[tactic(auto, using(crate::proofs::Acceptance::early_reason))]
 pub fn answer(alloc: Global, view: &View, command: &Command) -> Result<Answer, AllocError>
     requires { IsFitView view.now }
@@ -156,8 +156,8 @@ pub fn answer(alloc: Global, view: &View, command: &Command) -> Result<Answer, A
     }
 }
 
-/// The same answer to a move that `check` lets pass, of the last board with all its seats moved
-/// already.
+/// The same answer to a move that `check` allows, from the last board with all its seats already
+/// moved.
 #[tactic(auto, using(crate::proofs::Joining::moved_from))]
 pub fn joined(alloc: Global, view: &View, orders: &Move, moved: Board) -> Result<Answer, AllocError>
     requires view { IsFitView view.now }
@@ -169,8 +169,7 @@ pub fn joined(alloc: Global, view: &View, orders: &Move, moved: Board) -> Result
     joined_within(alloc, view.quota, view.charge, orders, moved)
 }
 
-/// What `joined` answers, from no more of the view than is asked of it: the quota, and what the
-/// kept records are charged. No board but the moved one has to be there.
+/// Like `joined`, from the quota and the charge alone. Needs no board but the moved one.
 pub fn joined_within(
     alloc: Global,
     quota: u32,

@@ -1,4 +1,4 @@
-//! Whether a command is refused before there is a new board.
+//! The refusals of a command that need no new board.
 ghost use Rattle.std.specs.Prelude.{◌≡◌, ◌&&◌, true, false, Some, None, is_some, nat_le, if◌then◌else◌};
 ghost use Rattle.bs_game.specs.declared.view.View.{View as AnyView};
 ghost use Rattle.bs_board.specs.declared.commands.reply.Refusal.TheVariants as Refusal;
@@ -10,8 +10,8 @@ use bs_board::limits::LAST_TURN;
 use bs_board::{Command, Refusal};
 use bs_modes::over;
 
-/// The reason against a move in a game that runs, by whether that is over and the number of its
-/// newest turn.
+/// The refusal of a move in a running game, by whether it is over and the number of its newest
+/// turn.
 pub fn check_move(is_over: bool, turn: u16) -> Option<Refusal>
     ensures { result ≡ (if is_over then Some Refusal.Over else (if nat_le LAST_TURN turn then Some Refusal.Limit else None)) }
 {
@@ -24,9 +24,8 @@ pub fn check_move(is_over: bool, turn: u16) -> Option<Refusal>
     }
 }
 
-/// The reason against a command that is told by whether a game runs, and whether the turn that the
-/// command asks for is kept. Of a move in a game that runs it tells none: that takes the last
-/// board.
+/// The first refusal that needs no board, by whether a game runs, and whether the turn that the
+/// command names is kept. `None` for a move in a running game, which `check_move` judges.
 #[tactic(auto, unfolding(crate::specs::Reasons::first_reason))]
 pub fn check_unseen(command: &Command, runs: bool, is_kept: bool) -> Option<Refusal>
     ensures told { (view : AnyView) → is_some view.last ≡ runs → is_some view.asked ≡ is_kept → (is_move command.now && runs) ≡ false → result ≡ first_reason view command.now }
@@ -46,8 +45,8 @@ pub fn check_unseen(command: &Command, runs: bool, is_kept: bool) -> Option<Refu
     }
 }
 
-/// The first reason against the command, in the order of `Refusal`. Its last one, `Quota`, is
-/// judged of a new board, by `answer` and `joined`.
+/// The first refusal of the command, in the order of `Refusal`. The last one, `Quota`, needs the
+/// new board; `answer` and `joined` judge it.
 #[tactic(auto, unfolding(crate::specs::Reasons::first_reason))]
 pub fn check(view: &View, command: &Command) -> Option<Refusal>
     ensures { result ≡ first_reason view.now command.now }

@@ -1,5 +1,4 @@
-//! One command of a game: whether it is accepted, what it is answered, and what becomes of the
-//! records that are kept.
+//! One command of a game: whether it is refused, its reply, and its effect on the kept records.
 #![tactic(auto)]
 
 mod answering;
@@ -10,9 +9,9 @@ mod reply;
 mod turns;
 mod view;
 
-pub use answering::{answer, joined, joined_within, refuse};
+pub use answering::{answer, joined, joined_within, refuse, show};
 pub use checking::{check, check_move, check_unseen};
 pub use law::{answer_law, course_law};
-pub use reply::{Answer, Effect, Record};
+pub use reply::{Answer, Effect};
 pub use turns::{place_law, place_of_turn};
 pub use view::View;

@@ -1,4 +1,4 @@
-//! The quota: whether it has room for the record of a new board, and what a board is charged.
+//! The quota: the charge of a board, and whether a new record fits.
 ghost use Rattle.std.specs.Prelude.{◌≡◌, ◌≤◌, IfOk};
 ghost use Rattle.bs_board.specs.declared.commands.reply.Reply.TheVariants as Reply;
 ghost use Rattle.bs_board.specs.boards.Legal.{IsLegal};
@@ -11,15 +11,15 @@ ghost use Rattle.bs_game.specs.Joining.{view_within};
 ghost use Rattle.bs_game.specs.View.{answer_with, effect_of_shown, shown_within_quota};
 
 use crate::answering::refuse;
-use crate::reply::{Answer, Effect, Record};
+use crate::reply::{Answer, Effect};
 use bs_block::round_up;
-use bs_board::{Board, KeptBoard, Refusal, Reply, Word, encode, size};
+use bs_board::{Board, KeptBoard, Record, Refusal, Reply, Word, size};
 use std::alloc::{AllocError, Global};
 
-/// The most that the record of one board is charged, in bytes: 161,885 rounded up.
+/// The largest charge of a board's record, in bytes: 161,885 rounded up.
 pub(crate) const MOST_BOARD_CHARGE: u32 = 161_888;
 
-/// What the board's record is charged, in bytes.
+/// The charge of the board's record, in bytes.
 #[tactic(auto, using(bs_board::proofs::records::Longest::legal_size_fits, crate::proofs::Games::legal_size_rounds, crate::proofs::Games::board_charge_small))]
 pub(crate) fn board_charge(board: &Board) -> u32
     requires { IsLegal board.now }
@@ -29,7 +29,8 @@ pub(crate) fn board_charge(board: &Board) -> u32
     round_up(size(board)) as u32
 }
 
-/// A new board is kept where the quota has room for its record.
+/// Adds a new board to the records if the quota has room for its record, else refuses it. The reply
+/// and the effect share the record.
 pub(crate) fn record_board(
     alloc: Global,
     quota: u32,
@@ -48,9 +49,9 @@ pub(crate) fn record_board(
     if charge > quota {
         return Ok(refuse(Refusal::Quota));
     }
-    let bytes = encode(alloc, &board)?;
+    let record = Record::of(alloc, &board)?;
     Ok(Answer {
-        reply: Reply::Shown(word, KeptBoard::of_record(alloc, bytes.as_slice())?, charge),
-        effect: Effect::Add(Record::from_vec(bytes)),
+        reply: Reply::Shown(word, KeptBoard::of_record(record.share()?), charge),
+        effect: Effect::Add(record),
     })
 }

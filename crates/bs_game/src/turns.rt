@@ -1,11 +1,11 @@
-//! Where the record of a turn stands.
+//! The place of a turn's record.
 ghost use Rattle.std.specs.Prelude.{◌≡◌, ◌+◌, ◌≤◌};
 ghost use Rattle.bs_game.specs.Turns.{place_of_turn, PlaceLaw};
 
 use bs_board::TurnNumber;
 
-/// Where the record of a turn stands among the kept ones, of which there are `kept`, the newest of
-/// turn `last`; None where it is not kept. A game keeps no more turns than it played, and turn 0.
+/// The index of a turn's record among the `kept` ones, the newest of which is of turn `last`;
+/// `None` if it is not kept. A game keeps at most one record for each turn from 0 to `last`.
 pub fn place_of_turn(kept: usize, last: u16, at: TurnNumber) -> Option<usize>
     requires { kept ≤ last + 1 }
     ensures { result ≡ place_of_turn kept last at }
@@ -19,7 +19,8 @@ pub fn place_of_turn(kept: usize, last: u16, at: TurnNumber) -> Option<usize>
     }
 }
 
-/// The place that `place_of_turn` tells is the board's of that turn, in each game.
+/// States that in each game the board at the index from `place_of_turn` is the one of that turn.
+/// Does nothing.
 #[tactic(auto, using(crate::proofs::KeptTurns::places))]
 pub fn place_law()
     ensures { PlaceLaw }

@@ -1,4 +1,4 @@
--- A record comes to a heap.
+-- A record is added to a heap.
 use Rattle.std.proofs.Common.{◌≡◌, ℕ, ◌+◌, ◌-◌, ◌<◌, ◌≤◌, false, List, [], ◌∷◌, ◌++◌, length, map, Some, sym, ap, subst, subst₂, ◌∙◌, arith, vec_len, vec_capacity}
 use Rattle.std.specs.Prelude.{All, option_map}
 use Rattle.std.proofs.lemmas.List.{length-map, length_push, map_push, get_or_push}
@@ -24,7 +24,7 @@ use Rattle.bs_heap.proofs.HeldBlocks.{holds_packed, leaves_packed, fresh_number}
 use Rattle.bs_heap.proofs.PackedPlaces.{apart_packed}
 use Rattle.bs_heap.proofs.PutRecord.{packed_behind}
 
--- the index has the record's entry more
+-- the index with the record's entry
 module _ (cap number : ℕ) (bytes : List ℕ) (old new : Blocks) (entry : Entry) (puts : PutsRecord cap number bytes old new entry) (index : List Entry) (within : All (IsWithin old) index) where
   pub records_more : records_in new (index ++ entry ∷ []) ≡ records_in old index ++ bytes ∷ []
   records_more =

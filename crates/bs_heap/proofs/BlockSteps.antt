@@ -8,7 +8,7 @@ use Rattle.bs_heap.specs.Blocks.{NumberedBlock, Blocks, all_blocks}
 abbrev pub with_empty : ℕ → Blocks → Blocks
 with_empty number blocks = record blocks { closed = all_blocks blocks; current = Some (record { number = number; bytes = [] }) }
 
--- bytes come behind those of the current block
+-- bytes are appended to the current block
 abbrev pub with_bytes : List ℕ → NumberedBlock → NumberedBlock
 with_bytes bytes b = record b { bytes = b.bytes ++ padded bytes }
 

@@ -1,4 +1,4 @@
--- What entries read stays the same while blocks come and grow.
+-- What entries read is unchanged when blocks are opened or appended to.
 use Rattle.std.proofs.Common.{◌≡◌, ℕ, ◌+◌, ◌-◌, ◌<◌, ◌≤◌, List, [], ◌∷◌, ◌++◌, length, map, take, drop, replicate, Some, None, refl, sym, ap, ◌∙◌, arith, inl, inr, length-append, length-drop, append-nil, take_at, drop_at}
 use Rattle.std.specs.Prelude.{All, Option, option_map, option_to_list}
 use Rattle.std.proofs.lemmas.Bool.{cases_lt}
@@ -14,13 +14,13 @@ use Rattle.bs_heap.specs.Entries.{entry_bytes, packing_in, IsWithin, ReadsTheSam
 use Rattle.bs_heap.specs.Packing.{with_block, with_place}
 use Rattle.bs_heap.proofs.BlockSteps.{with_empty, with_bytes, next_entry}
 
--- the blocks of `old` are there in `new`, with their bytes and perhaps more behind them
+-- `new` has the blocks of `old` with their bytes, possibly with more bytes after them
 record Grows (old new : Blocks) : Type 0 where
   longer : length (all_blocks old) ≤ length (all_blocks new)
   same : (i : ℕ) → i < length (all_blocks old) → (block_at new i).number ≡ (block_at old i).number
   more : (i : ℕ) → i < length (all_blocks old) → (xs : List ℕ) × ((block_at new i).bytes ≡ (block_at old i).bytes ++ xs)
 
--- bytes at the front of a list stay where more come behind
+-- a range within xs is unchanged when bytes are appended
 pub range_front : (xs ys : List ℕ) (at n : ℕ) → at + n ≤ length xs → range at n (xs ++ ys) ≡ range at n xs
 range_front xs ys at n le =
     ap (take n) (drop-append-le at xs ys (omega (arith, le))) ∙ take-append-le n (drop at xs) ys (omega (arith, le, length-drop at xs))

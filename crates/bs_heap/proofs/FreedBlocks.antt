@@ -1,4 +1,4 @@
--- The blocks of a heap go back to its pool.
+-- The blocks of a heap are given back to its pool.
 use Rattle.std.proofs.Common.{ℕ, List, [], ◌++◌, sym, subst, append-nil}
 use Rattle.std.specs.Prelude.{option_to_list}
 use Rattle.bs_pool.specs.Ledger.{Ledger}

@@ -68,11 +68,11 @@ full_by true cap charge number len p wide small is full = full_written cap charg
 full_by false cap charge number len p wide small is full =
     full_written cap charge len (uses p) (Some (record { number = number; used = 0 })) p.places (full_opened cap charge (rounded len) number p wide small is full)
 
--- a record comes
+-- a record is added
 pub full_packed : (cap charge number len : ℕ) (p : Packing) → MOST_RECORD_BYTES < cap → rounded len ≤ MOST_RECORD_BYTES → AreFull cap charge p → AreFull cap (charge + rounded len) (packed cap number len p)
 full_packed cap charge number len p wide small full = full_by (fits cap (rounded len) p.current) cap charge number len p wide small refl full
 
--- all records but the last are given up
+-- all records but the last are dropped
 none_after : (charge : ℕ) (o : Option Use) → used_after (option_to_list o) ≤ charge
 none_after charge None = omega arith
 none_after charge (Some u) = omega arith
@@ -80,7 +80,7 @@ none_after charge (Some u) = omega arith
 pub full_last : (cap charge : ℕ) (p : Packing) → AreFull cap charge (packing_of_last p)
 full_last cap charge p = record { closed = All-nil (λ u. cap - MOST_RECORD_BYTES < used u); charged = none_after charge p.current }
 
--- blocks that are full are no more than the quota needs
+-- full blocks are no more than the quota needs
 module _ (cap charge quota : ℕ) (wide : MOST_RECORD_BYTES < cap) (within : charge ≤ quota) where
   pub few_closed : (p : Packing) → AreFull cap charge p → length p.closed + 1 ≤ blocks_for cap quota
   few_closed p full =
@@ -95,6 +95,6 @@ module _ (cap charge quota : ℕ) (wide : MOST_RECORD_BYTES < cap) (within : cha
   pub few_blocks : (p : Packing) → AreFull cap charge p → length (uses p) ≤ blocks_for cap quota
   few_blocks p full = omega (arith, length-append p.closed (option_to_list p.current), one_at_most p.current, few_closed p full)
 
-  -- where a block has to be drawn, there is one less
+  -- while a block has to be drawn, the tag has fewer blocks than the quota needs
   pub may_draw : (p : Packing) (size : ℕ) → size ≤ MOST_RECORD_BYTES → fits cap size p.current ≡ false → AreFull cap charge p → length (uses p) + 1 ≤ blocks_for cap quota
   may_draw p size small no_room full = few_closed (with_block 0 p) (full_opened cap charge size 0 p wide small no_room full)

@@ -1,4 +1,4 @@
--- Blocks that go back to their pool.
+-- Blocks that are given back to their pool.
 use Rattle.std.proofs.Common.{◌≡◌, ◌≢◌, ℕ, ◌<◌, List, [], ◌∷◌, ◌++◌, length, map, slice_index_or, Option, Some, None, refl, sym, ap, subst, ◌∙◌, arith, inl, inr}
 use Rattle.std.specs.Prelude.{All, option_to_list}
 use Rattle.std.proofs.lemmas.Bool.{cases_eq}
@@ -11,7 +11,7 @@ use Rattle.bs_heap.specs.HeldBlocks.{AreOwned, all_given}
 use Rattle.bs_heap.specs.Lent.{AreLent, owned_numbers}
 use Rattle.bs_heap.specs.OwnedBlocks.{numbered_block}
 
--- the order in which two numbers are given does not count
+-- two numbers may be given in either order
 pub given_comm : (m n : ℕ) (pool : Ledger) → given m (given n pool) ≡ given n (given m pool)
 given_comm m n pool =
     elim (cases_eq n m) [

@@ -12,7 +12,7 @@ use Rattle.bs_block.specs.Rounding.{rounded}
 use Rattle.bs_heap.specs.Packing.{Use, Place, Packing, fits, with_block, with_place, packed, numbers_of}
 use Rattle.bs_heap.specs.HeldBlocks.{AreOwned, Holds, IsKeptIn, LeavesOthers, all_given}
 
--- a number that is drawn next is nobody's
+-- the number that is drawn next has no owner
 pub not_free : (tag m n : ℕ) (pool : Ledger) → least_free pool ≡ Some n → Owns tag m pool → m ≢ n
 not_free tag m n pool at owns same =
     let found = (position-Some is_unowned pool.owners n None at).1 in
@@ -108,7 +108,7 @@ owned_front tag xs ys pool o =
       once = λ i j d below h. let i' = same i d (omega arith) in let j' = same j d h in λ e. o.once i j d below (within j h) (i' ∙ e ∙ sym j');
     }
 
--- a record comes: its packing has a number more where it has to be drawn
+-- a record is added: the packing has one more number if a block has to be drawn
 numbers_by : (b : Bool) (number len : ℕ) (closed : List Use) (o : Option Use) (places : List Place)
     → let p : Packing = record { closed = closed; current = o; places = places } in
     numbers_of (with_place len (if b then p else with_block number p)) ≡ (if b then numbers_of p else numbers_of p ++ number ∷ [])
@@ -138,7 +138,7 @@ module _ (cap tag number len : ℕ) (p : Packing) (pool : Ledger) (at : fits cap
   pub leaves_packed : LeavesOthers tag pool (if fits cap (rounded len) p.current then pool else drawn tag number pool)
   leaves_packed = leaves_by (fits cap (rounded len) p.current) tag number pool at
 
-  -- a number that is drawn is none of the packing's
+  -- the number that is drawn is not in the packing
   pub fresh_number : Holds tag (numbers_of p) pool → fits cap (rounded len) p.current ≡ false → All (λ m. m ≢ number) (numbers_of p)
   fresh_number holds no_room = λ k d h. not_free tag (slice_index_or (numbers_of p) k d) number pool (at no_room) (holds.owned.each k d h)
 
@@ -154,6 +154,6 @@ kept_empty heap pool none nothing =
       all = nothing ∙ sym long;
     }
 
--- the index does not
+-- the room of the index does not matter
 pub kept_with_room : (n : ℕ) (heap : Heap) (pool : Ledger) → IsKeptIn heap pool → IsKeptIn (with_index_room n heap) pool
 kept_with_room n heap pool kept = kept

@@ -1,4 +1,4 @@
--- A heap gives up all records but the last.
+-- A heap drops all records but the last.
 use Rattle.std.proofs.Common.{◌≡◌, ℕ, ◌+◌, ◌-◌, ◌≤◌, List, [], ◌∷◌, ◌++◌, length, map, slice_index_or, Option, Some, None, refl, sym, ap, subst, subst₂, ◌∙◌, arith, zero-add, vec_len, vec_capacity}
 use Rattle.std.proofs.lemmas.List.{map_push, length-map, length_push, get_or_push, append-nil}
 use Rattle.std.proofs.lemmas.List.Elements.{All-nil, All-cons}
@@ -28,7 +28,7 @@ moved e = record e { position = 0 }
 abbrev pub current_alone : Blocks → Blocks
 current_alone blocks = record blocks { closed = [] }
 
--- the last record is left, where it was
+-- only the last record is kept, at its place
 pub record Leaves (blocks : Blocks) (front : List Entry) (last : Entry) : Type 0 where
   pub records : records_in (current_alone blocks) (moved last ∷ []) ≡ last_alone (records_in blocks (front ++ last ∷ []))
   pub packing : packing_in (current_alone blocks) (moved last ∷ []) ≡ packing_of_last (packing_in blocks (front ++ last ∷ []))
@@ -98,7 +98,7 @@ module _ {most : ℕ} (h : Inside most) (ok : IsHeap most h) (front : List Entry
   pub charged_less : rounded last.len ≤ h.charge
   charged_less = omega (arith, left.less, ok.charge, ap (λ (es : List Entry). charge_of (records_in h.blocks es)) popped)
 
-  -- and afterwards
+  -- and the fields after it
   module _ (h' : Inside most) (blocks : h'.blocks ≡ current_alone h.blocks) (index : h'.index.items ≡ moved last ∷ []) (charge : h'.charge ≡ rounded last.len) (quota : h'.quota ≡ h.quota) where
     packing_is : packing_in h'.blocks h'.index.items ≡ packing_of_last (packing_in h.blocks h.index.items)
     packing_is = (λ i. packing_in (blocks i) (index i)) ∙ left.packing ∙ ap (λ (es : List Entry). packing_of_last (packing_in h.blocks es)) (sym popped)

@@ -1,4 +1,4 @@
--- The places of a packing stay apart, however it grows.
+-- The places of a packing stay apart as records are added and dropped.
 use Rattle.std.proofs.Common.{◌≡◌, ◌≢◌, ℕ, ◌+◌, ◌-◌, ◌≤◌, Bool, true, false, if◌then◌else◌, List, [], ◌∷◌, ◌++◌, length, map, slice_index_or, Option, Some, None, IsSome, refl, sym, subst, ◌∙◌, arith, drop_at, length-drop}
 use Rattle.std.specs.Prelude.{All, AllPairs, Contains, option_to_list}
 use Rattle.std.proofs.lemmas.List.{map_push, length-map, length_push, get_or-map, get_or_append_left, get_or_push}
@@ -20,7 +20,7 @@ some_fits cap size (Some u) h = refl
 abbrev number_of_use : Use → ℕ
 number_of_use u = u.number
 
--- the last of different numbers is none of the others
+-- the last of distinct numbers differs from the others
 last_differs : (ms : List ℕ) (n : ℕ) → AllPairs (λ l m. l ≢ m) (ms ++ n ∷ []) → All (λ m. m ≢ n) ms
 last_differs ms n once = λ k d h e.
     let long = length_push ms n in
@@ -38,7 +38,7 @@ apart_none =
       last = All-nil (λ p. Contains (numbers_of (packing_of_last no_packing)) p.number);
     }
 
--- all but the last: it fails between the opening of a block and its first record
+-- `AreApart` without `last`, which fails between the opening of a block and its first record
 record AreApartSoFar (packing : Packing) : Type 0 where
   once : AllPairs (λ m n. m ≢ n) (numbers_of packing)
   inside : All (IsInside (uses packing)) packing.places
@@ -127,12 +127,12 @@ apart_by false number len closed o places some fresh apart =
     let p : Packing = record { closed = closed; current = o; places = places } in
     apart_written (uses p) (record { number = number; used = 0 }) places len (apart_opened number p (fresh refl) apart)
 
--- a record comes, whose block, where it needs a new one, has a number that is no other block's
+-- a record is added; if it needs a new block, the number of that block is not in the packing
 pub apart_packed : (cap number len : ℕ) (p : Packing) → (fits cap (rounded len) p.current ≡ false → All (λ m. m ≢ number) (numbers_of p)) → AreApart p → AreApart (packed cap number len p)
 apart_packed cap number len p fresh apart =
     apart_by (fits cap (rounded len) p.current) number len p.closed p.current p.places (some_fits cap (rounded len) p.current) fresh apart
 
--- all records but the last are given up
+-- all records but the last are dropped
 one_alone : (o : Option Use) → AllPairs (λ m n. m ≢ n) (map number_of_use (option_to_list o))
 one_alone None = λ i j d below h. absurd (omega (arith, h))
 one_alone (Some u) = λ i j d below h. absurd (omega (arith, below, h))

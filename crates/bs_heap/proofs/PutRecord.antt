@@ -59,7 +59,7 @@ puts_opened cap number bytes old not_here =
       packing = packing_written old.tag old.room mid.closed new bytes ∙ ap (with_place (length bytes)) (packing_opened number old) ∙ sym (packed_by false cap number (length bytes) (packing_in old []) not_here);
     }
 
--- the places that were there stay in front
+-- the old places stay first
 with_places : (b : Bool) (number len : ℕ) (closed : List Use) (o : Option Use) (places : List Place) → (b ≡ true → IsSome o)
     → let p : Packing = record { closed = closed; current = o; places = [] } in let q : Packing = record { closed = closed; current = o; places = places } in
     let r = with_place len (if b then p else with_block number p) in

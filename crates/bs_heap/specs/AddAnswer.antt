@@ -1,4 +1,4 @@
--- What `add` answers, and makes of a heap and its pool.
+-- What `add` returns, and the heap and the pool after it.
 use Rattle.std.specs.Prelude.{◌≡◌, ℕ, ◌+◌, ◌≤◌, ◌<◌, if◌then◌else◌, List, length, Result, MatchResult}
 use Rattle.bs_block.specs.Rounding.{rounded}
 use Rattle.bs_pool.specs.Ledger.{Ledger, drawn}
@@ -7,7 +7,7 @@ use Rattle.bs_heap.specs.Packing.{fits}
 use Rattle.bs_heap.specs.Heap.{Heap, with_record}
 use Rattle.bs_heap.specs.HeldBlocks.{next_number}
 
--- the charge, were the record added
+-- the charge with the record
 abbrev pub charge_with : List ℕ → Heap → ℕ
 charge_with bytes heap = charge_of heap.records + rounded (length bytes)
 
@@ -15,12 +15,11 @@ charge_with bytes heap = charge_of heap.records + rounded (length bytes)
 abbrev pub heap_with : ℕ → Ledger → List ℕ → Heap → Heap
 heap_with cap pool bytes heap = with_record cap (next_number pool) bytes heap
 
--- the pool, of which a block is drawn where the record does not fit into the current one
+-- the pool, from which a block is drawn if the record does not fit into the current one
 abbrev pub pool_with : ℕ → Heap → List ℕ → Ledger → Ledger
 pool_with cap heap bytes pool = if fits cap (rounded (length bytes)) heap.packing.current then pool else drawn heap.tag (next_number pool) pool
 
--- the record is added where the charge with it is within the quota; else heap and pool are as
--- before
+-- the record is added if the charge with it is within the quota; else heap and pool are unchanged
 abbrev pub AddsRecord : {U E : Type 0} → ℕ → List ℕ → Heap → Ledger → Result U E → Heap → Ledger → Type 0
 AddsRecord cap bytes heap pool answer heap' pool' =
     MatchResult answer

@@ -11,7 +11,7 @@ pub record NumberedBlock : Type 0 where
 -- the blocks of a tag in the order in which they were drawn
 pub record Blocks : Type 0 where
   pub tag : ℕ
-  -- so many blocks can be closed
+  -- how many closed blocks the list has memory for
   pub room : ℕ
   pub closed : List NumberedBlock
   pub current : Option NumberedBlock
@@ -22,7 +22,7 @@ no_blocks tag room = record { tag = tag; room = room; closed = []; current = Non
 abbrev pub all_blocks : Blocks → List NumberedBlock
 all_blocks blocks = blocks.closed ++ option_to_list blocks.current
 
--- the block at that position; one without bytes where there is none
+-- the block at that position; an empty one if there is none
 abbrev pub block_at : Blocks → ℕ → NumberedBlock
 block_at blocks position = slice_index_or (all_blocks blocks) position (record { number = 0; bytes = [] })
 

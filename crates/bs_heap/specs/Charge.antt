@@ -7,6 +7,6 @@ use Rattle.bs_heap.specs.declared.heap.TheConstants.{MOST_RECORD_BYTES}
 abbrev pub charge_of : List (List ℕ) → ℕ
 charge_of = sum_by (λ bytes. rounded (length bytes))
 
--- the most blocks that records of one tag within the quota take
+-- the most blocks that records of one tag can take within the quota
 abbrev pub blocks_for : ℕ → ℕ → ℕ
 blocks_for cap quota = quota / (cap - MOST_RECORD_BYTES) + 2

@@ -31,8 +31,8 @@ pub record ReadsTheSame (old new : Blocks) (e : Entry) : Type 0 where
   pub place : entry_place new e ≡ entry_place old e
 
 -- A record is put into the blocks: its entry reads its bytes, in the current block, and each other
--- entry reads the same as before. Where it lies, and whether a block of that number is opened for
--- it, is as the packing has it.
+-- entry reads the same as before. Its place, and whether a block of that number is opened for it,
+-- are those of the packing.
 pub record PutsRecord (cap number : ℕ) (bytes : List ℕ) (old new : Blocks) (entry : Entry) : Type 0 where
   pub tag : new.tag ≡ old.tag
   pub room : new.room ≡ old.room

@@ -7,7 +7,7 @@ pub record Heap : Type 0 where
   pub quota : ℕ
   pub records : List (List ℕ)
   pub packing : Packing
-  -- so many records more can be added before the index has to grow
+  -- how many records can be added before the index has to grow
   pub index_room : ℕ
 
 abbrev pub empty_heap : ℕ → ℕ → Heap
@@ -16,7 +16,7 @@ empty_heap tag quota = record { tag = tag; quota = quota; records = []; packing 
 abbrev pub with_index_room : ℕ → Heap → Heap
 with_index_room n heap = record heap { index_room = n }
 
--- a record comes, whose block, where it needs a new one, has that number
+-- the heap with a record more; if it needs a new block, that has this number
 abbrev pub with_record : ℕ → ℕ → List ℕ → Heap → Heap
 with_record cap number bytes heap =
     record heap {
@@ -25,7 +25,7 @@ with_record cap number bytes heap =
       index_room = heap.index_room - 1;
     }
 
--- the last record is left, where it was
+-- only the last record is kept, at its place
 abbrev pub with_last : Heap → Heap
 with_last heap =
     record heap {

@@ -10,7 +10,7 @@ use Rattle.bs_heap.specs.Fullness.{AreFull}
 use Rattle.bs_heap.specs.Heap.{Heap}
 use Rattle.bs_heap.specs.PackedPlaces.{AreApart}
 
--- a heap's value, of its fields
+-- the value of a heap, from its fields
 abbrev pub heap_in : {most : ℕ} → Inside most → Heap
 heap_in h =
     record {
@@ -27,7 +27,7 @@ pub record IsIndexed (blocks : Blocks) (index : List Entry) : Type 0 where
   pub last : (d : Entry) → 0 < length index → (slice_index_or index (length index - 1) d).position ≡ length blocks.closed
   pub none : length index ≡ 0 → length (all_blocks blocks) ≡ 0
 
--- what is so of every heap
+-- the invariant of a heap
 pub record IsHeap (cap : ℕ) {most : ℕ} (h : Inside most) : Type 0 where
   pub wide : MOST_RECORD_BYTES < cap
   pub indexed : IsIndexed h.blocks h.index.items

@@ -8,7 +8,7 @@ use Rattle.bs_heap.specs.Blocks.{NumberedBlock, Blocks}
 abbrev pub numbered_block : {most : ℕ} → Owned most → NumberedBlock
 numbered_block owned = record { number = owned.number; bytes = owned.block }
 
--- the blocks of a tag, of their fields
+-- the value of a tag's blocks, from their fields
 abbrev pub blocks_in : {most : ℕ} → Inside most → Blocks
 blocks_in b = record { tag = b.tag; room = vec_capacity b.closed; closed = map numbered_block b.closed.items; current = option_map numbered_block b.current }
 

@@ -2,7 +2,7 @@
 use Rattle.std.specs.Prelude.{◌≡◌, ◌≢◌, ◌+◌, ◌≤◌, List, map, All, AllPairs, Contains}
 use Rattle.bs_heap.specs.Packing.{Use, Place, Packing, uses, numbers_of, last_alone, packing_of_last}
 
--- where both are in one block, q begins behind p
+-- if both are in one block, q begins after the end of p
 abbrev pub IsBefore : Place → Place → Type 0
 IsBefore p q = p.number ≡ q.number → p.at + p.len ≤ q.at
 
@@ -13,10 +13,10 @@ pub record IsInside (blocks : List Use) (p : Place) : Type 0 where
 
 -- no two places share a byte
 pub record AreApart (packing : Packing) : Type 0 where
-  -- no block stands twice
+  -- no block occurs twice
   pub once : AllPairs (λ m n. m ≢ n) (numbers_of packing)
   pub inside : All (IsInside (uses packing)) packing.places
-  -- of two places the later one lies behind the earlier one
+  -- each place is before the later ones
   pub before : AllPairs IsBefore packing.places
   -- the last one is in the current block
   pub last : All (λ p. Contains (numbers_of (packing_of_last packing)) p.number) (last_alone packing.places)

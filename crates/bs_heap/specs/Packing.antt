@@ -28,7 +28,7 @@ numbers_of packing = map (λ u. u.number) (uses packing)
 abbrev pub no_packing : Packing
 no_packing = record { closed = []; current = None; places = [] }
 
--- so many more bytes fit into the current block
+-- the current block has room for `size` more bytes
 abbrev pub fits : ℕ → ℕ → Option Use → Bool
 fits cap size None = false
 fits cap size (Some u) = nat_le (u.used + size) cap
@@ -37,7 +37,7 @@ fits cap size (Some u) = nat_le (u.used + size) cap
 abbrev pub with_block : ℕ → Packing → Packing
 with_block number packing = record { closed = uses packing; current = Some (record { number = number; used = 0 }); places = packing.places }
 
--- len bytes go behind those of the current block
+-- len bytes are appended to the current block
 abbrev pub with_place_in : ℕ → Packing → Option Use → Packing
 with_place_in len packing None = packing
 with_place_in len packing (Some u) =
@@ -50,8 +50,8 @@ with_place_in len packing (Some u) =
 abbrev pub with_place : ℕ → Packing → Packing
 with_place len packing = with_place_in len packing packing.current
 
--- a record of len bytes goes behind those of the current block where its rounded size fits there,
--- else into a block of that number
+-- a record of len bytes is appended to the current block if its rounded size fits, else to a new
+-- block of that number
 abbrev pub packed : ℕ → ℕ → ℕ → Packing → Packing
 packed cap number len packing = with_place len (if fits cap (rounded len) packing.current then packing else with_block number packing)
 
@@ -59,7 +59,7 @@ packed cap number len packing = with_place len (if fits cap (rounded len) packin
 abbrev pub last_alone : {X : Type 0} → List X → List X
 last_alone xs = drop (length xs - 1) xs
 
--- the current block and the last place are kept
+-- only the current block and the last place are kept
 abbrev pub packing_of_last : Packing → Packing
 packing_of_last packing = record { closed = []; current = packing.current; places = last_alone packing.places }
 

@@ -1,4 +1,4 @@
-//! The blocks of one tag: those that are closed, and the current one, into which bytes go.
+//! The blocks of one tag: the closed ones, and the current one, to which records are appended.
 ghost use Rattle.std.specs.Prelude.{◌≡◌, ◌+◌, ◌^◌, ◌<◌, ◌≤◌, ◌++◌, true, false, if◌then◌else◌, Some, [], length, option_map, unwrap_or, IfOk, vec_capacity};
 ghost use Rattle.bs_block.specs.Bytes.{HasRoom, padded, range};
 ghost use Rattle.bs_block.specs.Rounding.{rounded};
@@ -40,7 +40,7 @@ impl<const CAP: usize> Model for TagBlocks<CAP> {
     ghost invariant = { λ b. AreTagged b };
 }
 
-/// Appends the bytes, and zeros up to a multiple of 16, and answers where they now lie.
+/// Appends the bytes, then zeros up to a multiple of 16, and returns where the bytes begin.
 fn append<const CAP: usize>(owned: &mut Owned<CAP>, bytes: &[u8]) -> usize
     requires { HasRoom CAP owned.old.block (length bytes.now) }
     ensures at { result ≡ length owned.old.block }
@@ -65,7 +65,7 @@ impl<const CAP: usize> TagBlocks<CAP> {
     ghost use Rattle.bs_heap.specs.Blocks.{NumberedBlock, no_blocks, all_blocks, block_at, block_numbers, fits_current};
     ghost use Rattle.bs_heap.specs.Entries.{PutsRecord};
 
-    /// No blocks, with memory for that many.
+    /// Makes an empty list of blocks, with memory for `room` closed ones.
     pub(crate) fn new(alloc: Global, tag: u32, room: usize) -> Result<Self, AllocError>
         ensures { IfOk result (λ blocks. blocks ≡ no_blocks tag room) }
     {
@@ -76,7 +76,7 @@ impl<const CAP: usize> TagBlocks<CAP> {
         })
     }
 
-    /// The bytes from `at` on of the block at that position.
+    /// The `n` bytes from `at` on of the block at that position.
     pub(crate) fn get(&self, position: usize, at: usize, n: usize) -> &[u8]
         requires position { position < length (all_blocks self.now) }
         requires range { at + n ≤ length (block_at self.now position).bytes }
@@ -98,7 +98,7 @@ impl<const CAP: usize> TagBlocks<CAP> {
         }
     }
 
-    /// Whether a record of that many bytes fits into the current block.
+    /// Whether a record of `len` bytes fits into the current block.
     fn fits(&self, len: usize) -> bool
         requires { len + 15 < 2 ^ 64 }
         ensures { result ≡ fits_current CAP len self.now }
@@ -125,7 +125,7 @@ impl<const CAP: usize> TagBlocks<CAP> {
         }
     }
 
-    /// Writes the bytes behind those of the current block.
+    /// Appends the bytes to the current block.
     fn write(&mut self, bytes: &[u8]) -> Entry
         requires { fits_current CAP (length bytes.now) self.old ≡ true }
         ensures blocks { self.new ≡ record self.old { current = option_map (λ (b : NumberedBlock). record b { bytes = b.bytes ++ padded bytes.now }) self.old.current } }
@@ -144,8 +144,7 @@ impl<const CAP: usize> TagBlocks<CAP> {
         }
     }
 
-    /// Writes the bytes behind those of the current block where they fit there, else into a block
-    /// that it draws.
+    /// Appends the bytes to the current block if they fit, else to a block that it draws.
     pub(crate) fn put(&mut self, pool: &mut Pool<CAP>, bytes: &[u8]) -> Entry
         requires size { rounded (length bytes.now) ≤ CAP }
         requires reserved { fits_current CAP (length bytes.now) self.old ≡ false → held self.old.tag pool.old < reserved self.old.tag pool.old }

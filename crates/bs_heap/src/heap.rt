@@ -20,10 +20,10 @@ use thiserror::Error;
 /// The largest rounded size of a record.
 pub const MOST_RECORD_BYTES: usize = 262_144;
 
-/// How many blocks of `cap` bytes the records of one tag can come to need within the quota. A block
-/// is closed where the next record does not fit, so it has more than `cap - MOST_RECORD_BYTES`
-/// bytes in use; two more are the oldest, which may hold bytes of records that were given up, and
-/// the newest, which may have room left.
+/// The most blocks of `cap` bytes that records of one tag can need within the quota. A block is
+/// closed when the next record does not fit, so it has more than `cap - MOST_RECORD_BYTES` bytes in
+/// use. Two blocks are added: the oldest, which may hold bytes of dropped records, and the newest,
+/// which may have room left.
 pub fn blocks_for(cap: usize, quota: u32) -> usize
     requires { MOST_RECORD_BYTES < cap }
     ensures { result ≡ blocks_for cap quota }
@@ -59,7 +59,7 @@ impl<const CAP: usize> Model for TagHeap<CAP> {
 }
 
 impl<const CAP: usize> TagHeap<CAP> {
-    /// A heap without records, with memory for the list of all blocks that it can come to own.
+    /// Makes a heap without records, with memory for the list of all blocks that it may own.
     pub fn new(alloc: Global, tag: u32, quota: u32) -> Result<Self, AllocError>
         requires { MOST_RECORD_BYTES < CAP }
         ensures { IfOk result (λ heap. heap ≡ empty_heap tag quota) }
@@ -81,7 +81,7 @@ impl<const CAP: usize> TagHeap<CAP> {
         self.index.len()
     }
 
-    /// The sum of the rounded sizes of the records. The blocks are no more than it needs.
+    /// The sum of the rounded sizes of the records, which also bounds the number of blocks.
     pub fn charge(&self) -> u32
         ensures value { result ≡ charge_of self.now.records }
         ensures within { result ≤ self.now.quota }
@@ -99,14 +99,15 @@ impl<const CAP: usize> TagHeap<CAP> {
         self.blocks.get(entry.position, entry.at, entry.len)
     }
 
-    /// How many records can be added before the index has to grow.
+    /// The number of records that can be added before the index has to grow.
     pub fn index_room(&self) -> usize
         ensures { result ≡ self.now.index_room }
     {
         self.index.capacity() - self.index.len()
     }
 
-    /// Makes room in the index for a record. An error is the allocator's, and leaves all as it was.
+    /// Makes room in the index for one more record. After an error, the allocator's, nothing has
+    /// changed.
     pub fn grow_index(&mut self) -> Result<(), AllocError>
         ensures heap { self.new ≡ with_index_room self.new.index_room self.old }
         ensures more { self.old.index_room ≤ self.new.index_room }
@@ -116,7 +117,7 @@ impl<const CAP: usize> TagHeap<CAP> {
         self.index.reserve(1)
     }
 
-    /// Appends a record. `Quota` where its rounded size and the charge together exceed the quota.
+    /// Appends a record. `Quota` if its rounded size and the charge together exceed the quota.
     pub fn add(&mut self, pool: &mut Pool<CAP>, bytes: &[u8]) -> Result<(), Quota>
         requires index { 0 < self.old.index_room }
         requires size { rounded (length bytes.now) ≤ MOST_RECORD_BYTES }
@@ -139,7 +140,7 @@ impl<const CAP: usize> TagHeap<CAP> {
         Ok(())
     }
 
-    /// Gives up all records but the last, and gives their blocks back. The last record stays where
+    /// Drops all records but the last and gives the closed blocks back. The last record stays where
     /// it is.
     pub fn keep_last(&mut self, pool: &mut Pool<CAP>)
         requires { IsKeptIn self.old pool.old }
@@ -160,7 +161,7 @@ impl<const CAP: usize> TagHeap<CAP> {
         }
     }
 
-    /// Gives up all records and gives all blocks back.
+    /// Drops all records and gives all blocks back.
     pub fn free(&mut self, pool: &mut Pool<CAP>)
         requires { IsKeptIn self.old pool.old }
         ensures heap { self.new ≡ without_records self.old }

@@ -1,4 +1,4 @@
-//! The records of one tag within a quota, kept in blocks that the heap draws from a pool by itself.
+//! The records of one tag within a quota, kept in blocks that the heap itself draws from a pool.
 #![tactic(auto)]
 
 mod blocks;

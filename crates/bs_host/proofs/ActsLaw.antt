@@ -1,4 +1,4 @@
--- The acts of a file may be made in their order, and make its stays.
+-- The acts of a file are acceptable in their order, and make its stays.
 use Rattle.std.proofs.Common.{◌≡◌, ℕ, ◌+◌, true, List, [], ◌∷◌, ◌++◌, Option, Some, None, length, refl, sym, ap, ◌∙◌, append_assoc, append-nil}
 use Rattle.std.specs.List.{cons_option, filter_map}
 use Rattle.std.proofs.Math.Seq.{map-set_same}
@@ -41,7 +41,7 @@ rows_step registry (route.Act (act.Leave stay)) acts =
 rows_step registry (route.Stray kind) acts = refl
 rows_step registry route.Nowhere acts = refl
 
--- each act may be made where it comes
+-- each act is acceptable in its place
 
 abbrev IsAcceptable : Capacity → List Stay → Route → Type 0
 IsAcceptable capacity registry (route.Act a) = is_acceptable capacity registry a ≡ true
@@ -123,7 +123,7 @@ acts_law blocks file =
       commands = λ stay. commands_acted capacity (version_of file) (opened (rows_of file)) 2 stay lines;
     }
 
--- the rows of the open stays' walk
+-- the rows that lines admit, by the open stays
 
 rows_of_act : (r : Route) (acts : List Act) → rows_admitted (cons_option (act_in r) acts) ≡ rows_in_route r ++ rows_admitted acts
 rows_of_act (route.Act (act.Hand stay command)) acts = refl

@@ -27,7 +27,7 @@ use Rattle.bs_host.proofs.FitStays.{may_come}
 pub Apart : List Stay → Type 0
 Apart registry = (i j : ℕ) (name : List ℕ) → i < length registry → j < length registry → has_name name (stay_at registry i) ≡ true → has_name name (stay_at registry j) ≡ true → i ≡ j
 
--- so the open stay of a name is found whichever way it is looked for
+-- so a search in either order finds the open stay of a name
 pub only_named : (registry : List Stay) (stay : ℕ) (name : List ℕ) → Apart registry → stay < length registry → has_name name (stay_at registry stay) ≡ true → stay_named registry name ≡ Some stay
 unfolding Apart
 only_named registry stay name apart within hit =
@@ -58,7 +58,7 @@ apart_left registry to inside apart i j name i_in j_in i_on j_on =
     ] in
     apart i j name (omega (arith, i_in, many)) (omega (arith, j_in, many)) (other i i_on) (other j j_on)
 
--- one more, whose name no open stay has
+-- one more stay, whose name no open stay has
 module _ (registry : List Stay) (row : GameRow) (new : list_any (has_name row.game) registry ≡ false) where
   clash : (i : ℕ) (name : List ℕ) → i < length registry → has_name name (stay_at registry i) ≡ true → is_same_text name row.game ≡ true → ⊥
   clash i name inside on same =

@@ -1,4 +1,4 @@
--- A file's cut, from the first line and the others, of which one after the other is looked at.
+-- The cut of a file, from its first line and the other lines, one after the other.
 use Rattle.std.proofs.Common.{◌≡◌, ℕ, suc, ◌<◌, ◌≤◌, true, false, List, [], ◌∷◌, ◌++◌, Option, Some, None, Ok, is_some, length, refl, sym, ap, ◌∙◌, arith, append-nil, append_assoc}
 use Rattle.std.proofs.lemmas.Bool.{lt-ltb, le-ltb, cond-true, cond-false}
 use Rattle.std.proofs.lemmas.List.Concat.{flat_map-cons}
@@ -35,7 +35,7 @@ refusal_of_first blocks file game first n rest short pieces =
     cond-false _ (Some TooLong) (cut_refusal_of_plan blocks file game n (plan_of file)) (le-ltb MOST_FILE_BYTES (length file) short)
     ∙ ap (λ all. cut_refusal_of_plan blocks file game n (plan_line_of (first_piece all))) pieces
 
--- of a plan and the lines behind it
+-- of a plan and the lines after it
 
 abbrev cut_from : ℕ → Plan → ℕ → List (List ℕ) → List ℕ
 cut_from blocks plan stay lines =
@@ -61,7 +61,7 @@ cut_of_first blocks file first rest plan stay pieces read =
     lone_plan_of (version_in found) (row_at (stays_behind (capacity_of blocks) plan.version plan.rows rest) stay)
     ++ behind_feeds (own_lines_in (capacity_of blocks) (version_in found) (opened (rows_in found)) stay rest)) read
 
--- what was written for the stay that was found is the file's cut
+-- the text made for the stay that was found is the file's cut
 pub cut_of_found : (blocks : ℕ) (file first game name text : List ℕ) (n : ℕ) (rest : List (List ℕ)) (plan : Plan) (found : ℕ × GameRow) → pieces_of file ≡ first ∷ rest
     → plan_line_of first ≡ Ok plan → name ≡ game → Some found ≡ nth_from 0 (stays_behind (capacity_of blocks) plan.version plan.rows rest) name n
     → text ≡ lone_plan_of plan.version found.1 ++ behind_feeds (own_lines_in (capacity_of blocks) plan.version (opened plan.rows) found.0 rest)
@@ -77,7 +77,7 @@ cut_of_found blocks file first game name text n rest plan found pieces read is l
     ap (λ o. option_map (cut_of blocks file) (option_map (λ (f : ℕ × GameRow). f.0) o)) nth
     ∙ ap Some (cut_of_first blocks file first rest plan found.0 pieces read ∙ sym same)
 
--- what is left of the file, in bytes and line feeds
+-- the bytes and line feeds that remain of the file
 abbrev pub bytes_left : Option (Bor (List ℕ)) → ℕ
 bytes_left left = unwrap_or (option_map (λ text. suc (length text.now)) left) 0
 
@@ -85,7 +85,7 @@ pub fewer_left : (left more : Option (Bor (List ℕ))) (text : Bor (List ℕ)) �
 fewer_left left None text is shorter = rw is (omega arith)
 fewer_left left (Some rest) text is shorter = rw is (omega (arith, shorter))
 
--- the line goes to the stay, behind what was written before; or it does not
+-- the line belongs to the stay and is appended; or it does not
 module _ (capacity : Capacity) (version : Version) (guests : GuestList) (stay : ℕ) (line written : List ℕ) (lines : List (List ℕ)) where
   abbrev goes : Route
   goes = route_by capacity guests (line_of version line)
@@ -103,7 +103,7 @@ module _ (capacity : Capacity) (version : Version) (guests : GuestList) (stay : 
       → written ++ behind_feeds own_behind ≡ written ++ behind_feeds (own_by_guests capacity version guests stay (line ∷ lines))
   other_line_goes other = rw other refl
 
--- when all lines were looked at
+-- when all lines are done
 pub none_left : (capacity : Capacity) (version : Version) (guests : GuestList) (stay : ℕ) (rows : List GameRow) (lines : List (List ℕ)) (written before : List ℕ)
     (left : Option (Bor (List ℕ))) → left ≡ None
     → written ++ behind_feeds (own_by_guests capacity version guests stay (pieces_after (option_copied left)))

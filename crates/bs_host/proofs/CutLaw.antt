@@ -1,5 +1,5 @@
 -- Each stay of each file is answered by its own lines alone as it is in the file.
-use Rattle.std.proofs.Common.{◌≡◌, ℕ, ◌+◌, ◌<◌, ◌≤◌, true, List, [], ◌∷◌, ◌++◌, Ok, All, length, sym, ap, ◌∙◌, arith, append-nil}
+use Rattle.std.proofs.Common.{◌≡◌, ℕ, ◌<◌, ◌≤◌, true, List, [], ◌∷◌, ◌++◌, Ok, All, length, sym, ap, ◌∙◌, arith, append-nil}
 use Rattle.std.proofs.lemmas.List.{length-map}
 use Rattle.std.proofs.lemmas.List.Concat.{flat_map-cons}
 use Rattle.std.proofs.lemmas.List.Sums.{sum_by-cons, get_or-le-sum_by}
@@ -16,10 +16,11 @@ use Rattle.bs_host.specs.Transcript.{section_of, transcript_of}
 use Rattle.bs_host.specs.declared.route.Route.{Route}
 use Rattle.bs_host.specs.Cut.{IsWrittenAlone, SectionLaw, cut_of, lone_plan_of, own_lines_of, row_at}
 use Rattle.bs_host.specs.Routing.{registry_behind, commands_to, capacity_of, routes_from, routes_of, stays_of, strays_in}
-use Rattle.bs_host.proofs.CutLines.{later_are_lines, pieces_are_lines, pieces_of_joined, joined_is_short, own_are_lines}
-use Rattle.bs_host.proofs.CutPlan.{fit_parts, lone_plan_has_no_feed, lone_plan_is_plan, lone_plan_is_short}
+use Rattle.bs_host.proofs.CutLines.{later_are_lines, pieces_are_lines, pieces_of_joined, own_are_lines}
+use Rattle.bs_host.proofs.CutPlan.{fit_parts, lone_plan_has_no_feed, lone_plan_is_plan}
 use Rattle.bs_host.proofs.CutRows.{file_is_fit}
 use Rattle.bs_host.proofs.FitStays.{all_behind, fits_pool, opened_all}
+use Rattle.bs_host.proofs.ShortCuts.{cut_fits}
 use Rattle.bs_host.proofs.StayLines.{lone_registry, own_registry, own_commands, own_strays}
 use Rattle.bs_host.proofs.StayRows.{row_in_registry}
 
@@ -78,10 +79,9 @@ module _ (blocks : ℕ) (file : List ℕ) (stay : ℕ) (within : stay < length (
       (lone_plan_has_no_feed (version_of file) row (fit_parts row row_is_fit))
       (own_are_lines (capacity_of blocks) (version_of file) stay (opened (rows_of file)) lines (later_are_lines (pieces_of file) (pieces_are_lines file)))
 
-  cut_is_short : length (cut_of blocks file stay) ≤ length file + 512
+  cut_is_short : length (cut_of blocks file stay) ≤ length file
   unfolding cut_of
-  cut_is_short = joined_is_short (capacity_of blocks) (version_of file) stay 512 (lone_plan_of (version_of file) row) (opened (rows_of file)) file
-      (lone_plan_is_short (version_of file) row (fit_parts row row_is_fit))
+  cut_is_short = cut_fits blocks file stay within
 
   pub served_alone : IsWrittenAlone blocks file stay row
   served_alone =

@@ -1,11 +1,10 @@
--- Lines that are joined by line feeds are the lines of what they are joined to, and how long that
--- is.
+-- The lines of a joined text are the lines that were joined, and the length of that text.
 use Rattle.std.proofs.Common.{◌≡◌, ℕ, zero, suc, ◌+◌, ◌≤◌, Bool, true, false, List, [], ◌∷◌, ◌++◌, length, All, inl, inr, refl, sym, ap, ◌∙◌, arith, append-nil, length-append}
 use Rattle.std.proofs.Math.Dec.{eqb}
 use Rattle.std.proofs.lemmas.Bool.{and_parts, cases_Bool}
 use Rattle.std.proofs.lemmas.List.Concat.{flat_map-cons, length-flat_map}
 use Rattle.std.proofs.lemmas.List.Sums.{sum_by-cons}
-use Rattle.std.proofs.lemmas.List.Splits.{slice_split_none, slice_split_at, join_with_byte-slice_split}
+use Rattle.std.proofs.lemmas.List.Splits.{slice_split_none, slice_split_at}
 use Rattle.std.specs.List.{join_with_byte, list_all, onto_first, sum_by}
 use Rattle.std.specs.Prelude.{not}
 use Rattle.bs_board.specs.declared.plans.version.Version.{Version}
@@ -68,11 +67,11 @@ pub later_are_lines : (lines : List (List ℕ)) → are_lines lines ≡ true →
 later_are_lines [] all = refl
 later_are_lines (line ∷ lines) all = (and_parts (is_line line) (are_lines lines) all).1
 
--- with a line feed for each
+-- with one line feed each
 abbrev pub bytes_of : List (List ℕ) → ℕ
 bytes_of = sum_by (λ line. suc (length line))
 
-length_of_joined : (first : List ℕ) (lines : List (List ℕ)) → length (join_with_byte LINE_FEED (first ∷ lines)) ≡ length first + bytes_of lines
+pub length_of_joined : (first : List ℕ) (lines : List (List ℕ)) → length (join_with_byte LINE_FEED (first ∷ lines)) ≡ length first + bytes_of lines
 length_of_joined first lines =
     ap length (joined_behind first lines) ∙ length-append first (behind_feeds lines)
     ∙ ap (λ n. length first + n) (length-flat_map (λ line. LINE_FEED ∷ line) lines)
@@ -93,7 +92,7 @@ module _ (capacity : Capacity) (version : Version) (stay : ℕ) where
         | inr other ↦ rw other rest
       ]
 
-  own_are_fewer : (registry : List Stay) (lines : List (List ℕ)) → bytes_of (own_lines_in capacity version registry stay lines) ≤ bytes_of lines
+  pub own_are_fewer : (registry : List Stay) (lines : List (List ℕ)) → bytes_of (own_lines_in capacity version registry stay lines) ≤ bytes_of lines
   own_are_fewer registry [] = omega arith
   own_are_fewer registry (text ∷ lines) =
       let next = next_registry capacity version registry text in
@@ -105,14 +104,3 @@ module _ (capacity : Capacity) (version : Version) (stay : ℕ) where
             rw own (omega (arith, rest, all, some))
         | inr other ↦ rw other (omega (arith, rest, all))
       ]
-
-  -- behind a short line
-  pub joined_is_short : (most : ℕ) (first : List ℕ) (registry : List Stay) (file : List ℕ) → length first ≤ most
-      → length (join_with_byte LINE_FEED (first ∷ own_lines_in capacity version registry stay (later_pieces (pieces_of file)))) ≤ length file + most
-  joined_is_short most first registry file short =
-      let later = later_pieces (pieces_of file) in
-      let all = length_of_joined first (own_lines_in capacity version registry stay later) in
-      let some = own_are_fewer registry later in
-      let fit = later_fit (pieces_of file) in
-      let whole = ap length (join_with_byte-slice_split LINE_FEED file) in
-      omega (arith, all, some, fit, whole, short)

@@ -1,4 +1,4 @@
--- A file cut at its line feeds.
+-- A file split at its line feeds.
 use Rattle.std.proofs.Common.{◌≡◌, Option, ℕ, zero, suc, ◌+◌, ◌-◌, ◌<◌, ◌≤◌, Bool, false, true, refl, List, [], ◌∷◌, ◌++◌, Some, None, length, take, drop, get_or, sym, ap, ◌∙◌, arith, All, length-take, length-drop, take-append-drop, add-one, inl, inr}
 use Rattle.std.proofs.Math.Dec.{eqb, ltb}
 use Rattle.std.proofs.Math.Seq.{drop-cons}
@@ -34,7 +34,7 @@ module _ {X : Type 0} (p : X → Bool) where
 abbrev pub is_feed : ℕ → Bool
 is_feed byte = eqb byte LINE_FEED
 
--- the first of all bytes that is that one, if there is one, is where a search for it stops
+-- the first position of a byte, if there is one, is where a search for it stops
 
 is_not : (b : Bool) → (b ≡ true → ⊥) → b ≡ false
 is_not true never = absurd (never refl)
@@ -87,7 +87,7 @@ pieces_between (byte ∷ front) feed back hit = elim (cases_Bool (is_feed byte))
 ]
 
 -- the bytes of `&text[..at]` and of `&text[at + 1..]`, where the feed at that place is the first
--- from an earlier one on
+-- one from an earlier place on
 pub pieces_around : (text : List ℕ) (place found : ℕ) → place ≤ length text → position is_feed (take (length text - place) (drop place text)) ≡ Some found
     → pieces_of text ≡ pieces_of (take (place + found) text) ++ pieces_of (take (length text - (place + found + 1)) (drop (place + found + 1) text))
 pieces_around text place found within is =

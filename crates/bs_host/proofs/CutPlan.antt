@@ -1,4 +1,4 @@
--- The plan of one game alone is written as one short line, and is read back as that plan.
+-- The plan of one game alone is written as one short line, and parsed as that plan again.
 use Rattle.std.proofs.Common.{◌≡◌, ℕ, zero, suc, ◌*◌, ◌^◌, ◌<◌, ◌≤◌, Bool, true, false, ◌&&◌, nat_le, nat_lt, List, [], ◌∷◌, ◌++◌, Some, Ok, option_and_then, codes, decimal, length, get_or, inl, inr, refl, sym, ap, ◌∙◌, arith, append_assoc, append-nil, length-append}
 use Rattle.std.proofs.Math.Dec.{eqb}
 use Rattle.std.proofs.lemmas.Bool.{and_parts, and_from, cases_lt, cases_eq, ne_eqb, leb-true, le-ltb, cond-false}
@@ -57,7 +57,7 @@ fit_parts row fit =
     let most = leb-true row.quota MOST_QUOTA outer.1 in
     record { text = text.0; short = leb-true (length row.game) LONGEST_ID name.1; most = outer.1; small = omega (arith, most) }
 
--- a text is read back where its numbers are
+-- a text is parsed as its data again if its numbers are
 
 reads_back : (d : Data) → ArePrintable (tree.json_tokens (outline d)) → of_json (outline d) ≡ Some d → tree.depth (outline d) ≤ 127 → read (compact_text d) ≡ Some d
 reads_back d printable back shallow =
@@ -96,8 +96,8 @@ lone_plan_reads version row small =
 abbrev pub is_no_feed : ℕ → Bool
 is_no_feed byte = not (eqb byte LINE_FEED)
 
--- what follows the quota
-abbrev plan_end : Version → List ℕ
+-- the text after the quota
+abbrev pub plan_end : Version → List ℕ
 plan_end One = codes "}]}"
 plan_end Two = codes "}],\"version\":2}"
 plan_end Three = codes "}],\"version\":3}"
@@ -105,7 +105,7 @@ plan_end Three = codes "}],\"version\":3}"
 regroup : (name middle number end : List ℕ) → ((name ++ (middle ++ (number ++ 125 ∷ []))) ++ 93 ∷ []) ++ end ≡ name ++ (middle ++ (number ++ 125 ∷ 93 ∷ end))
 regroup name middle number end = simp append_assoc
 
-lone_plan_text : (version : Version) (row : GameRow)
+pub lone_plan_text : (version : Version) (row : GameRow)
     → lone_plan_of version row ≡ codes "{\"games\":[{\"game\":" ++ (quoted row.game ++ (codes ",\"quota\":" ++ (decimal row.quota ++ plan_end version)))
 unfolding lone_plan_data escape_byte
 lone_plan_text One row = ap (λ rest. codes "{\"games\":[{\"game\":" ++ rest) (regroup (quoted row.game) (codes ",\"quota\":") (decimal row.quota) (codes "}"))
@@ -219,7 +219,7 @@ lone_plan_is_short version row fit =
     let last = end_is_short version in
     omega (arith, all, number, name, quotes, last, fit.short, length-append (quoted row.game) (codes ",\"quota\":" ++ (n ++ end)), length-append n end)
 
--- it is read back as the plan with that row
+-- it is parsed as the plan with that row
 
 lone_plan_from : (version : Version) (row : GameRow) → IsFit row → is_fit_row row ≡ true
     → plan_from (Some (lone_plan_data version row)) ≡ Ok (record { rows = row ∷ []; version = version })

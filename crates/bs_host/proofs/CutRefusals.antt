@@ -1,4 +1,4 @@
--- Why a file is not cut to a stay, from its plan and the lines behind it.
+-- Why a file is not cut to a stay, from its plan and the lines after it.
 use Rattle.std.proofs.Common.{◌≡◌, ℕ, ◌≤◌, true, false, List, ◌∷◌, Some, None, Ok, length, sym, ap, ◌∙◌}
 use Rattle.std.specs.Prelude.{option_map}
 use Rattle.std.proofs.lemmas.Bool.{cond-true, cond-false}

@@ -16,7 +16,7 @@ use Rattle.bs_host.specs.File.{plan_of, rows_in, rows_of}
 abbrev AreFit : List GameRow → Type 0
 AreFit rows = All (λ row. is_fit_row row ≡ true) rows
 
--- of a row that may not have been read
+-- the row is within its limits, if it was read
 abbrev pub IsFitIfRead : Option GameRow → Type 0
 IsFitIfRead None = Unit {0}
 IsFitIfRead (Some row) = is_fit_row row ≡ true

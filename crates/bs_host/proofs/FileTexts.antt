@@ -1,5 +1,5 @@
 -- A file's plan and its lines, from its first line and the others, to the transcript.
-use Rattle.std.proofs.Common.{◌≡◌, ℕ, ◌<◌, ◌≤◌, true, List, [], ◌∷◌, ◌++◌, Some, None, Ok, length, sym, subst, ap, ◌∙◌}
+use Rattle.std.proofs.Common.{◌≡◌, ℕ, ◌<◌, ◌≤◌, true, List, [], ◌∷◌, ◌++◌, Option, Some, None, Ok, length, sym, subst, ap, ◌∙◌}
 use Rattle.std.proofs.lemmas.Bool.{lt-ltb, le-ltb, cond-true, cond-false}
 use Rattle.std.proofs.lemmas.List.{length-replicate}
 use Rattle.bs_board.specs.declared.plans.plan.Plan.{Plan}
@@ -16,6 +16,10 @@ use Rattle.bs_sched.specs.declared.opening.Open.TheVariants as opening
 use Rattle.bs_workers.specs.declared.act.Act.{Act}
 use Rattle.bs_workers.specs.Acts.{are_acceptable, capacity_of_core, opened as opened_registry, rows_admitted}
 use Rattle.bs_workers.specs.Run.{IsRunOf}
+use Rattle.bs_transcript.specs.Written.{Leaves as LeavesOfText}
+use Rattle.bs_transcript.specs.declared.fault.TranscriptFault.{TranscriptFault}
+use Rattle.bs_transcript.specs.declared.fault.TranscriptFault.TheVariants as transcript
+use Rattle.bs_host.specs.declared.fault.Fault.{Fault}
 use Rattle.bs_host.specs.declared.fault.Fault.TheVariants.{TooLong, Memory}
 use Rattle.bs_host.specs.declared.limits.TheConstants.{BLOCK_BYTES, MOST_FILE_BYTES}
 use Rattle.bs_host.specs.declared.route.Requests.{Requests}
@@ -23,7 +27,7 @@ use Rattle.bs_host.specs.File.{pieces_of, first_piece, later_pieces, plan_in, pl
 use Rattle.bs_host.specs.Hosted.{Hosts, IsOpened}
 use Rattle.bs_host.specs.declared.route.Route.{Route}
 use Rattle.bs_host.specs.Routing.{IsRouted, acts_in, acts_of, capacity_of, routes_from, routes_of, stays_of, strays_in}
-use Rattle.bs_host.specs.Faults.{IsRefusal, fault_of, fault_of_opening, refusal_of, refusal_of_plan}
+use Rattle.bs_host.specs.Faults.{IsFault, IsRefusal, Leaves, fault_of, fault_of_opening, fault_of_writing, refusal_of, refusal_of_plan}
 use Rattle.bs_host.specs.Transcript.{core_text_of, transcript_of}
 use Rattle.bs_host.proofs.ActsLaw.{acts_law}
 use Rattle.bs_host.proofs.HostedCore.{hosts_lines, is_fresh, no_refusal, opening_refusal, transcript_of_core}
@@ -44,7 +48,7 @@ pub refusal_of_read : (blocks : ℕ) (file first : List ℕ) (rest : List (List 
 refusal_of_read blocks file first rest plan short pieces read =
     refusal_of_first blocks file first rest short pieces ∙ ap (refusal_of_plan blocks) read
 
--- of a plan of which a copy was opened
+-- a plan, a copy of which was opened
 pub opened : (blocks : ℕ) (file first : List ℕ) (rest : List (List ℕ)) (plan copied : Plan) (workers : ℕ) (core : CoreView) → length file ≤ MOST_FILE_BYTES
     → pieces_of file ≡ first ∷ rest → plan_line_of first ≡ Ok plan → copied ≡ plan → core ≡ opened_core BLOCK_BYTES blocks workers copied.rows
     → blocks_of_all BLOCK_BYTES copied.rows ≤ blocks → IsOpened blocks file core plan rest
@@ -59,7 +63,7 @@ opened blocks file first rest plan copied workers core short pieces read same op
       are_lines = sym (ap later_pieces pieces);
     }
 
--- why a file is not opened
+-- why a file is refused
 
 pub plan_refused : (blocks : ℕ) (file first : List ℕ) (rest : List (List ℕ)) (error : PlanFault) → length file ≤ MOST_FILE_BYTES → pieces_of file ≡ first ∷ rest
     → IsPlanFault (plan_line_of first) error → IsRefusal (refusal_of blocks file) (fault_of error)
@@ -106,11 +110,22 @@ module _ (blocks : ℕ) (file : List ℕ) (lines : List (List ℕ)) (plan : Plan
       hosts_lines BLOCK_BYTES blocks old.games.workers (rows_of file) (stays_of blocks file) (routes_of blocks file) acts old new opened_with
       ((acts_law blocks file).stays ∙ ap (λ all. rows_of file ++ rows_admitted all) (sym asked)) asked (acts_law blocks file).commands ran
 
-  pub text_of_run : (new : CoreView) (strays : List (ℕ × Stray)) (text : List ℕ) → IsRunOf old acts new → strays ≡ requests.strays.items
-      → text ≡ core_text_of new strays → text ≡ transcript_of blocks file
-  text_of_run new strays text ran told is =
-      is ∙ transcript_of_core blocks file new strays (hosts_of_run new ran) (told ∙ goes.strays ∙ ap strays_in (same_routes blocks file lines plan old opens))
+  pub text_of_run : (new : CoreView) (strays : List (ℕ × Stray)) → IsRunOf old acts new → strays ≡ requests.strays.items
+      → core_text_of new strays ≡ transcript_of blocks file
+  text_of_run new strays ran told =
+      transcript_of_core blocks file new strays (hosts_of_run new ran) (told ∙ goes.strays ∙ ap strays_in (same_routes blocks file lines plan old opens))
 
 pub fresh_core : (blocks : ℕ) (file : List ℕ) (lines : List (List ℕ)) (plan : Plan) (core : CoreView) → IsOpened blocks file core plan lines
     → core ≡ opened_core BLOCK_BYTES (size core.games.storage.pool) core.games.workers core.games.rows
 fresh_core blocks file lines plan core opens = is_fresh BLOCK_BYTES blocks core.games.workers plan.rows core opens.opened
+
+-- why a transcript is not written whole
+
+pub writing_is_fault : (refusal : Option Fault) (error : TranscriptFault) → refusal ≡ None → IsFault refusal (fault_of_writing error)
+writing_is_fault refusal transcript.Memory none = tt
+writing_is_fault refusal (transcript.Write fault) none = none
+
+pub writing_leaves : {W : Type 0} (contents : W → Option (List ℕ)) (text : List ℕ) (old new : W) (error : TranscriptFault)
+    → LeavesOfText contents text old new error → Leaves contents text old new (fault_of_writing error)
+writing_leaves contents text old new transcript.Memory left = left
+writing_leaves contents text old new (transcript.Write fault) left = left

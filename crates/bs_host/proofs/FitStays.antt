@@ -87,7 +87,7 @@ line_is_fit version text = elim (cases_Bool (nat_lt MAX_LINE (length text))) [
   ]
 ]
 
--- who is not refused may come
+-- a row that is not refused may be admitted
 
 has_room_for : (c : Bool) (left : ℕ) → stray_for (if c then None else Some (admit.Short left)) ≡ None → c ≡ true
 has_room_for true left none = refl
@@ -108,7 +108,7 @@ fits_pool capacity registry row none =
     let room = leb-true (blocks_of capacity.cap row) (capacity.blocks - blocks_in_registry capacity.cap registry) (and_parts (not (is_full registry)) (has_room capacity registry row) outer.1).1 in
     omega (arith, room)
 
--- what holds of the rows at first and of each row that comes holds of all
+-- what holds of the first rows and of each admitted row holds of all
 module _ (capacity : Capacity) (version : Version) (Q : GameRow → Type 0) (comes : (registry : List Stay) (row : GameRow) → is_fit_row row ≡ true → admit_refusal capacity registry row ≡ None → Q row) where
   abbrev AllRows : List Stay → Type 0
   AllRows registry = All (λ (entry : Stay). Q entry.row) registry

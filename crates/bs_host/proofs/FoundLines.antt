@@ -19,7 +19,7 @@ use Rattle.bs_host.proofs.ActsLaw.{stays_walked}
 use Rattle.bs_host.proofs.FoundStays.{found_first, passed_by}
 use Rattle.bs_host.proofs.PlainLines.{stays_plain}
 
--- among the rows of the plan, with whatever rows behind them
+-- among the rows of the plan, whatever rows follow them
 
 next_row : (rows more : List GameRow) (stay : ℕ) (row : GameRow) → stay < length rows → row ≡ row_at rows stay
     → drop stay rows ++ more ≡ row ∷ (drop (stay + 1) rows ++ more)
@@ -33,7 +33,7 @@ passed_planned rows more stay row name n left total within is other few before =
     sym (passed_by stay row (drop (stay + 1) rows ++ more) name n left other few)
     ∙ sym (ap (λ all. nth_from stay all name n) (next_row rows more stay row within is)) ∙ before
 
--- what is found among the rows that are left, and any behind them, is what is looked for
+-- the result of a search in the remaining rows and any after them is the stay that is looked for
 abbrev IsSought : ℕ → List GameRow → List ℕ → ℕ → List ℕ → ℕ → Type 0
 IsSought stay rows sought n name nth = (more : List GameRow) → nth_from stay (drop stay rows ++ more) sought n ≡ nth_from 0 (rows ++ more) name nth
 

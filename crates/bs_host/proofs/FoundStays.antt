@@ -59,7 +59,7 @@ by_found blocks file name n stay (Some found) is number =
 pub found_law : FoundLaw
 found_law blocks file name n stay is = by_found blocks file name n stay (nth_from 0 (stays_of blocks file) name n) refl is
 
--- One row less to look at: it is not the one, or it is.
+-- One row less to search: it is not the stay, or it is.
 
 pub passed_by : (first : ℕ) (row : GameRow) (rows : List GameRow) (name : List ℕ) (n left : ℕ) → (is_same_text name row.game && nat_eq n 1) ≡ false
     → left ≡ (if is_same_text name row.game then n - 1 else n) → nth_from first (row ∷ rows) name n ≡ nth_from (first + 1) rows name left

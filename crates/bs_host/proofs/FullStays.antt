@@ -1,5 +1,5 @@
--- Where an admission is one too many, as many stays are open as a plan may have games: no file has
--- lines for as many rows as can be made.
+-- If an admission is refused as `Full`, as many stays are open as a plan may have games: no file
+-- has lines for as many rows as a core may have.
 use Rattle.std.proofs.Common.{◌≡◌, ℕ, suc, ◌+◌, ◌-◌, ◌≤◌, Bool, true, false, ◌&&◌, not, nat_le, nat_lt, if◌then◌else◌, List, [], ◌∷◌, Option, Some, None, length, refl, ap, ◌∙◌, arith, length-append}
 use Rattle.std.specs.Prelude.{count_by}
 use Rattle.std.specs.List.{list_any}
@@ -33,7 +33,7 @@ use Rattle.bs_host.proofs.CutLines.{bytes_of, later_fit}
 use Rattle.bs_host.proofs.CutRows.{file_is_fit}
 use Rattle.bs_host.proofs.FitStays.{IsFitLine, line_is_fit}
 
--- a line makes one row at most, and has a byte at least
+-- a line makes at most one row, and has at least one byte
 
 one_row_more : (registry : List Stay) (r : Route) → length (registry_then registry r) ≤ length registry + 1
 one_row_more registry (route.Act (act.Hand stay command)) = omega arith
@@ -65,7 +65,7 @@ lines_fit file =
     let whole = ap length (join_with_byte-slice_split LINE_FEED file) in
     omega (arith, many, fit, whole)
 
--- which line is told that
+-- the line that is refused as `Full`
 
 not_short : (c : Bool) (left : ℕ) → stray_for (if c then None else Some (admit.Short left)) ≡ Some stray.Full → false ≡ true
 not_short true left is = absurd cc
@@ -102,7 +102,7 @@ of_line capacity registry line.BadAdmit fit is = absurd cc
 of_line capacity registry (line.Leave None) fit is = absurd cc
 of_line capacity registry (line.Leave (Some name)) fit is = let wrong : false ≡ true = never_by_leave (stay_named registry name) is in absurd cc
 
--- so many are open
+-- then that many are open
 
 off_with_room : (b : Bool) → not (b && true) ≡ true → b ≡ false
 off_with_room true off = absurd cc

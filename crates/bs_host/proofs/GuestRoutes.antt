@@ -85,7 +85,7 @@ guest_lines_law capacity version stay registry (text ∷ lines) =
     ∙ ap (if_own (is_some (command_to stay r)) text) rest
     ∙ sym (same_if (is_some (command_to stay r)) text (own_by_guests capacity version (guests_then (guests_of registry) r) stay lines))
 
--- the stay of a name is the first of the open ones that bears it
+-- the stay of a name is the first open one with it
 
 abbrev number_at : List (ℕ × GameRow) → ℕ × GameRow → ℕ → ℕ
 number_at stays d i = (get_or stays i d).0
@@ -140,7 +140,7 @@ all_open rows all stays same before =
     ap (λ list. guests_with (length all) list) (told ∙ ap (enumerate_from 0) same ∙ sym (rows_are_open 0 rows))
     ∙ ap (λ n. guests_with n (open_of (opened rows))) (ap length same ∙ sym (length-map rows open_stay))
 
--- where nothing is against a row, there is a number for it
+-- if nothing refuses a row, there is a number for it
 pub room_for_one : (capacity : Capacity) (guests : GuestList) (row : GameRow) → refusal_by capacity guests row ≡ None → guests.made < MOST_STAYS
 room_for_one capacity guests row none = elim (cases_Bool (list_any (bears row.game) guests.stays)) [
   | inl same ↦ let wrong : Some stray.NameOpen ≡ None = rw same at none in absurd cc
@@ -150,7 +150,7 @@ room_for_one capacity guests row none = elim (cases_Bool (list_any (bears row.ga
   ]
 ]
 
--- the blocks that are left, once one more of the open stays is counted
+-- the free blocks after one more open stay is counted
 pub one_less_left : (cap : ℕ) (stays : List (ℕ × GameRow)) (index : ℕ) (d : ℕ × GameRow) (old new total : ℕ) → index < length stays
     → new ≡ old - blocks_of cap (get_or stays index d).1 → old - blocks_in cap (drop index stays) ≡ total → new - blocks_in cap (drop (index + 1) stays) ≡ total
 one_less_left cap stays index d old new total within is before =

@@ -1,4 +1,4 @@
--- A core from its opening to the text of what it answered.
+-- A core from its opening to its text.
 use Rattle.std.proofs.Common.{◌≡◌, ℕ, suc, ◌+◌, ◌*◌, ◌<◌, ◌≤◌, List, [], ◌∷◌, ◌++◌, None, Some, drop, length, refl, sym, ap, subst, ◌∙◌, arith, append-nil, append_assoc}
 use Rattle.std.proofs.Math.ListN.{get_or-map}
 use Rattle.std.proofs.Math.Nat.{mul-le-mul}
@@ -24,7 +24,6 @@ use Rattle.bs_sched.specs.declared.opening.Open.TheVariants as opening
 use Rattle.bs_workers.specs.declared.act.Act.{Act}
 use Rattle.bs_workers.specs.Acts.{command_in, rows_admitted}
 use Rattle.bs_workers.specs.Run.{IsRunOf, rows_made}
-use Rattle.bs_workers.specs.declared.fault.Run.TheVariants as run
 use Rattle.bs_host.specs.declared.fault.Fault.TheVariants.{Plan as OfPlan}
 use Rattle.bs_host.specs.declared.fault.PlanRefusal.TheVariants as refusal
 use Rattle.bs_host.specs.declared.limits.TheConstants.{BLOCK_BYTES}
@@ -34,7 +33,7 @@ use Rattle.bs_host.specs.Routing.{acts_in, commands_to, routes_of, stays_of, str
 use Rattle.bs_host.specs.Faults.{IsRefusal, fault_of_opening, refusal_of_plan}
 use Rattle.bs_host.specs.Transcript.{section_of, transcript_of, core_text_of, lane_lines_of}
 use Rattle.bs_transcript.specs.Lines.{last_line_of, reply_lines_of, section_lines_of, stray_lines_of}
-use Rattle.bs_transcript.specs.declared.lines.Section.{Section}
+use Rattle.bs_transcript.specs.declared.section.Section.{Section}
 
 pub no_refusal : (blocks : ℕ) (plan : Plan) → blocks_of_all BLOCK_BYTES plan.rows ≤ blocks → refusal_of_plan blocks (Ok plan) ≡ None
 no_refusal blocks plan enough =
@@ -55,7 +54,7 @@ is_fresh capacity blocks workers rows core is =
     is ∙ ap (λ many. opened_core capacity many workers rows) (sym many) ∙ ap (λ hands. opened_core capacity (size core.games.storage.pool) hands rows) (sym hands)
     ∙ ap (λ games. opened_core capacity (size core.games.storage.pool) core.games.workers games) (sym games)
 
--- the workers of all threads are few
+-- the workers of all threads are within a core's limit
 pub few_workers : (threads each : ℕ) → threads ≤ 1024 → each ≤ 16 → threads * each ≤ 16384
 few_workers threads each t e = mul-le-mul t e
 

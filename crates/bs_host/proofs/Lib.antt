@@ -15,6 +15,7 @@ pub mod FullStays
 pub mod GuestRoutes
 pub mod HostedCore
 pub mod LiveBytes
+pub mod LiveCores
 pub mod LiveHeld
 pub mod LiveLaw
 pub mod LiveLines
@@ -29,5 +30,12 @@ pub mod ParsedLines
 pub mod PlainLines
 pub mod RefusedLines
 pub mod RowNames
+pub mod ShortCuts
+pub mod ShortLexemes
+pub mod ShortObjects
+pub mod ShortPlans
+pub mod ShortTokens
+pub mod ShortValues
 pub mod StayLines
 pub mod StayRows
+pub mod TextCost

@@ -1,4 +1,4 @@
--- What a live host read and wrote.
+-- The bytes that a live host read and wrote.
 use Rattle.std.proofs.Common.{◌≡◌, ℕ, ◌+◌, List, [], ◌++◌, Option, Some, None, length, map, refl, sym, ap, subst, ◌∙◌, arith, append-nil, append_assoc, length-append}
 use Rattle.std.specs.Io.KnownBytes.{Appends, Consumes, IsAtEnd, Keeps}
 use Rattle.std.specs.Prelude.{IfSome}
@@ -67,7 +67,7 @@ module _ (blocks : ℕ) (version : Version) (plan : List GameRow) where
         counted = is.counted;
       }
 
-  -- of the pending line the part is forgotten on which nothing depends
+  -- the part of the pending line that does not matter is dropped
   pub serving_holds : (after pending new : List ℕ) (old now : Option (List ℕ)) (count : ℕ) (games : List (ℕ × CoreView)) (guests : GuestList) (number : ℕ)
       → IsServing blocks version plan after pending old now count games guests number → IsSameText pending new
       → IsServing blocks version plan after new old now count games guests number
@@ -105,7 +105,7 @@ module _ (blocks : ℕ) (version : Version) (plan : List GameRow) where
         counted = let all = ap length whole in omega (arith, adds, many, all, length-append before text);
       }
 
-  -- what is written once all is read
+  -- the output once all is read
   pub serving_whole : (after pending text both : List ℕ) (old now : Option (List ℕ)) (count : ℕ) (games behind : List (ℕ × CoreView)) (guests left : GuestList) (number last : ℕ)
       → (is : IsServing blocks version plan after pending old now count games guests number)
       → ((before : List (List ℕ)) → HasAnswered blocks version plan before games guests number → HasAnswered blocks version plan (before ++ pieces_of pending) behind left last)
@@ -134,7 +134,7 @@ module _ (blocks : ℕ) (version : Version) (plan : List GameRow) where
   serving_ends after both old now next count pending games guests number is whole wrote =
       subst (λ t. Appends old next t) (sym whole) (appends_both old now next (answers_from blocks version plan [] is.done) both is.written wrote)
 
--- some bytes more
+-- some more bytes
 
 pub reads_more : (a b c : Option (List ℕ)) (old new : List ℕ) → Consumes a b old → ((bytes : List ℕ) × Consumes b c bytes × (new ≡ old ++ bytes)) → Consumes a c new
 reads_more a b c old new one (bytes, two, is) = subst (λ all. Consumes a c all) (sym is) (consumes_both a b c old bytes one two)

@@ -1,4 +1,4 @@
--- What is kept of a line that is too long.
+-- The kept bytes of a line that is too long.
 use Rattle.std.proofs.Common.{◌≡◌, ℕ, zero, suc, ◌+◌, ◌<◌, ◌≤◌, false, List, [], ◌∷◌, ◌++◌, None, All, length, map, take, refl, sym, ap, ◌∙◌, arith, length-take}
 use Rattle.std.specs.Prelude.{nat_lt}
 use Rattle.std.specs.List.{cons_option, onto_first, position}
@@ -61,7 +61,7 @@ pub held_back : (text : List ℕ) → position is_feed text ≡ None → MAX_LIN
 unfolding held_of
 held_back text none few = λ more. held_at (MAX_LINE + 1) text more none few
 
--- what a line is does not depend on the rest of it
+-- how a line is read does not depend on the rest of it
 
 pub by_length : {C : Type 0} (k at : ℕ) → (k ≤ at → C) → (at < k → C) → C
 by_length zero at short long = short (omega arith)
@@ -81,7 +81,7 @@ pub line_same : (version : Version) (text : List ℕ) → line_of version (held_
 unfolding held_of
 line_same version text = line_held (MAX_LINE + 1) version text refl
 
--- so what is written depends on what is kept of the lines
+-- so the output depends only on the kept bytes of the lines
 
 module _ (capacity : Capacity) (version : Version) where
   registry_same : (registry : List Stay) (lines : List (List ℕ))
@@ -141,6 +141,6 @@ module _ (blocks : ℕ) (version : Version) (plan : List GameRow) where
       ap (λ text. text ++ closing_behind blocks version plan (map held_of lines)) (answers_same [] lines)
       ∙ ap (λ text. answers_from blocks version plan [] lines ++ text) (closing_same lines)
 
-  -- the same is kept of the lines, so the same is written
+  -- if the same is kept of the lines, the same is written
   pub live_same : (a b : List (List ℕ)) → map held_of a ≡ map held_of b → live_lines_of blocks version plan a ≡ live_lines_of blocks version plan b
   live_same a b same = sym (live_held a) ∙ ap (live_lines_of blocks version plan) same ∙ live_held b

@@ -1,39 +1,35 @@
 -- The lines that a live host writes of one stay are the stay's section.
-use Rattle.std.proofs.Common.{◌≡◌, ◌≢◌, ℕ, zero, suc, ◌+◌, ◌<◌, ◌≤◌, Bool, true, false, if◌then◌else◌, List, [], ◌∷◌, ◌++◌, Option, Some, None, length, get_or, inl, inr, refl, sym, ap, subst, ◌∙◌, arith, append-nil, append_assoc, length-append}
+use Rattle.std.proofs.Common.{◌≡◌, ◌≢◌, ℕ, zero, suc, ◌+◌, ◌<◌, Bool, true, false, if◌then◌else◌, List, [], ◌∷◌, ◌++◌, length, inl, inr, refl, sym, ap, subst, ◌∙◌, arith, append-nil, append_assoc, length-append}
 use Rattle.std.specs.Prelude.{nat_eq, nat_lt, fold, option_to_list}
-use Rattle.std.specs.List.{cons_option, enumerate_from, filter, filter_map, flat_map}
+use Rattle.std.specs.List.{cons_option, enumerate_from, filter, flat_map}
 use Rattle.std.proofs.Math.ListN.{get_or-map}
-use Rattle.std.proofs.lemmas.Bool.{and_parts, cases_Bool, cases_eq, cases_lt, eq-eqb, ne_eqb, eqb-true, ltb-true}
+use Rattle.std.proofs.lemmas.Bool.{and_parts, cases_Bool, cases_eq, eq-eqb, ne_eqb, ltb-true}
 use Rattle.std.proofs.lemmas.List.{get_or_append_left, get_or-set_other, get_or-set_same, length-map, length-set}
-use Rattle.std.proofs.lemmas.List.Concat.{flat_map-append, flat_map-cons}
-use Rattle.std.proofs.lemmas.List.Elements.{filter_map-append}
+use Rattle.std.proofs.lemmas.List.Concat.{flat_map-cons}
 use Rattle.bs_board.specs.declared.commands.command.Command.{Command}
 use Rattle.bs_board.specs.declared.commands.reply.Reply.{Reply}
 use Rattle.bs_board.specs.declared.plans.version.Version.{Version}
 use Rattle.bs_board.specs.plans.Plan.{GameRow, row_of}
-use Rattle.bs_json.specs.declared.line.Stray.{Stray}
 use Rattle.bs_json.specs.Replies.{reply_line_of, stray_line_of}
-use Rattle.bs_json.specs.Line.{line_of}
 use Rattle.bs_game.specs.Alone.{alone}
 use Rattle.bs_game.specs.Answer.{answer_to}
-use Rattle.bs_game.proofs.Courses.{course_replies}
 use Rattle.bs_sched.specs.Stays.{Capacity, Stay, closed_stay, is_in, no_stay, open_stay, stay_at}
-use Rattle.bs_transcript.specs.Lines.{reply_lines_from, reply_lines_of, last_line_of, stray_lines_of}
+use Rattle.bs_transcript.specs.Lines.{reply_lines_from, last_line_of, stray_lines_of}
 use Rattle.bs_workers.specs.declared.act.Act.{Act}
 use Rattle.bs_workers.specs.declared.act.Act.TheVariants as act
-use Rattle.bs_workers.specs.Acts.{are_acceptable, command_in, is_acceptable, opened, registry_after, rows_admitted, rows_in_registry}
+use Rattle.bs_workers.specs.Acts.{are_acceptable, is_acceptable, opened, registry_after, rows_admitted}
 use Rattle.bs_host.specs.declared.route.Route.{Route}
 use Rattle.bs_host.specs.declared.route.Route.TheVariants as route
 use Rattle.bs_host.specs.Cut.{row_at}
 use Rattle.bs_host.specs.File.{later_pieces, pieces_of, rows_of, version_of}
 use Rattle.bs_host.specs.Guests.{open_from, open_of}
 use Rattle.bs_host.specs.Live.{LiveLaw, TranscriptLaw, own_live_of, act_line, acts_behind, answer_behind, closing_line, closing_of, commands_given, is_of_act, is_of_stay, is_stray, next_line, own_closing, route_behind, route_line, rows_behind, some_answers, stays_left}
-use Rattle.bs_host.specs.Routing.{act_in, acts_in, acts_of, capacity_of, commands_of, next_registry, numbered_stray, registry_behind, registry_then, route_at, routes_from, routes_of, stays_of, strays_in}
+use Rattle.bs_host.specs.Routing.{act_in, acts_in, acts_of, capacity_of, commands_of, next_registry, registry_behind, registry_then, route_at, routes_from, routes_of, stays_of, strays_in}
 use Rattle.bs_host.specs.Transcript.{section_of, transcript_of}
 use Rattle.bs_host.proofs.ActsLaw.{acts_law}
 use Rattle.bs_host.proofs.LiveLines.{acts_more, given_append, registry_more, replies_with, rows_append}
 
--- the replies to some commands of a stay that was given others before
+-- the replies to some commands of a stay, after earlier ones
 
 replies_text : GameRow → List Command → List Command → List ℕ
 replies_text row before [] = []
@@ -72,7 +68,7 @@ section_text row commands =
     let (rest, all, told) = text_behind row [] commands in
     ap (λ text. text ++ last_line_of row.game (alone row commands).game) (told ∙ ap (λ (rs : List Reply). numbered row 1 rs) (sym all))
 
--- what is written for the acts of one stay
+-- the lines that are written for the acts of one stay
 
 own_acts : ℕ → List GameRow → List Act → List Act → List ℕ
 own_acts stay plan before [] = []
@@ -167,7 +163,7 @@ silent capacity stay plan registry before (act.Leave to ∷ acts) accepted close
     let rest = silent capacity stay plan next (before ++ act.Leave to ∷ []) acts both.1 (open_other registry stay to differs ∙ closed) in
     record { text = rw other rest.text; given = rest.given; closed = rest.closed }
 
--- while it has not left
+-- while it is open
 
 abbrev closing_then : Bool → GameRow → List Command → List ℕ
 closing_then is_now row commands = if is_now then closing_line row commands else []
@@ -176,7 +172,7 @@ module _ (capacity : Capacity) (stay : ℕ) (plan all : List GameRow) where
   abbrev its_row : GameRow
   its_row = row_at all stay
 
-  -- what is written of the stay from here on
+  -- what is written for the stay from here on
   abbrev own_rest : List Stay → List Act → List Act → List ℕ
   own_rest registry before acts =
       own_acts stay plan before acts ++ closing_then (is_open_in (fold registry_after registry acts) stay) its_row (commands_given stay (before ++ acts))
@@ -216,7 +212,7 @@ module _ (capacity : Capacity) (stay : ℕ) (plan all : List GameRow) where
   ends registry before a acts =
       ap (λ every. closing_then (is_open_in (fold registry_after registry (a ∷ acts)) stay) its_row (commands_given stay every)) (append_assoc before (a ∷ []) acts)
 
-  -- an act of another stay, or an admission, writes nothing of this one
+  -- an act of another stay, or an admission, writes nothing for this one
   passed : (registry : List Stay) (before : List Act) (a : Act) (acts : List Act) → is_of_act stay a ≡ false → commands_given stay (a ∷ []) ≡ []
       → commands_given stay (a ∷ acts) ≡ commands_given stay acts → own_rest (registry_after registry a) (before ++ a ∷ []) acts ≡ section_rest (before ++ a ∷ []) acts
       → own_rest registry before (a ∷ acts) ≡ section_rest before (a ∷ acts)

@@ -1,4 +1,4 @@
--- One line more of a live host: where it goes, what is written for it, and the state behind it.
+-- One more line of a live host: its route, its answer, and the state after it.
 use Rattle.std.proofs.Common.{◌≡◌, ℕ, ◌+◌, ◌-◌, ◌<◌, true, get_or, List, [], ◌∷◌, ◌++◌, Option, Some, None, length, map, refl, sym, ap, subst, ◌∙◌, arith, length-append}
 use Rattle.std.specs.Prelude.{nat_eq, option_to_list}
 use Rattle.std.proofs.lemmas.Bool.{eq-eqb}
@@ -35,7 +35,7 @@ use Rattle.bs_host.specs.Live.{ArePlayed, HasAnswered, IsCoreOf, acts_behind, an
 use Rattle.bs_host.specs.Routing.{act_in, acts_in, capacity_of, next_registry, registry_behind, registry_then, route_at, route_of, routes_from}
 use Rattle.bs_host.proofs.GuestRoutes.{same_next, same_route}
 
--- a stay's lane, once the act that comes behind these was answered
+-- a stay's lane, once the act after these is answered
 
 pub rows_append : (acts more : List Act) → rows_admitted (acts ++ more) ≡ rows_admitted acts ++ rows_admitted more
 rows_append [] more = refl
@@ -141,7 +141,7 @@ last_line core row commands board charge before behind fed shown charged told =
     ∙ ap (λ b. before ++ final_line_of row.game b charge) (shown ∙ ap last_board holds.served.game)
     ∙ ap (λ c. before ++ final_line_of row.game (last_board (alone row commands).game) c) (charged ∙ ap game_charge holds.served.game)
 
--- where a line goes
+-- the route of a line
 
 pub same_goes : (blocks : ℕ) (registry : List Stay) (l : Line) (goes : Route) (guests after : GuestList) → guests ≡ guests_of registry
     → goes ≡ route_by (capacity_of blocks) guests l → after ≡ guests_then guests goes
@@ -154,7 +154,7 @@ same_goes blocks registry l goes guests after is to moved =
           ∙ sym (same_next (capacity_of blocks) registry (route_of (capacity_of blocks) registry l)),
     )
 
--- one line more
+-- one more line
 
 module _ (capacity : Capacity) (version : Version) where
   pub registry_more : (registry : List Stay) (lines : List (List ℕ)) (text : List ℕ)

@@ -1,4 +1,4 @@
--- A text cut at a line feed, with more behind it.
+-- A text split at a line feed, with more text after it.
 use Rattle.std.proofs.Common.{◌≡◌, ℕ, suc, ◌+◌, ◌-◌, ◌<◌, true, false, List, [], ◌∷◌, ◌++◌, Some, None, All, length, take, drop, get_or, sym, ap, ◌∙◌, arith, append_assoc, length-take, take-append-drop, add-one}
 use Rattle.std.proofs.Math.Seq.{drop-cons}
 use Rattle.std.proofs.lemmas.List.{get_or-take, take_rest}

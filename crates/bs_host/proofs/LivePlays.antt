@@ -1,4 +1,4 @@
--- The open stays of a live host, and what an act makes of them.
+-- The open stays of a live host after an act.
 use Rattle.std.proofs.Common.{◌≡◌, ◌≢◌, ℕ, zero, suc, ◌+◌, ◌<◌, ◌≤◌, true, false, List, [], ◌∷◌, ◌++◌, length, get_or, set, All, refl, sym, ap, subst, ◌∙◌, arith, append-nil, append_assoc, length-append}
 use Rattle.std.specs.Prelude.{nat_eq, not}
 use Rattle.std.specs.List.{filter}
@@ -29,7 +29,7 @@ by_place (suc k) zero same below above = above (omega arith)
 by_place (suc k) (suc at) same below above =
     by_place k at (λ is. same (ap suc is)) (λ less. below (omega (arith, less))) (λ less. above (omega (arith, less)))
 
--- what was made stays
+-- earlier rows do not change
 
 rows_more : (plan : List GameRow) (acts more : List Act) → rows_behind plan (acts ++ more) ≡ rows_behind plan acts ++ rows_admitted more
 rows_more plan acts more = ap (λ rows. plan ++ rows) (rows_append acts more) ∙ sym (append_assoc plan (rows_admitted acts) (rows_admitted more))

@@ -1,4 +1,4 @@
--- When a live host refuses a file, and what its faults leave of the whole file.
+-- When a live host refuses a file, and what each fault leaves of the output.
 use Rattle.std.proofs.Common.{◌≡◌, ◌≢◌, ℕ, ◌+◌, ◌<◌, ◌≤◌, List, [], ◌∷◌, ◌++◌, Option, Some, None, Ok, Err, length, refl, sym, ap, subst, ◌∙◌, arith, append-nil, append_assoc, length-append}
 use Rattle.std.specs.Io.KnownBytes.{Appends, Consumes, IsAtEnd, Keeps}
 use Rattle.std.specs.List.{position}
@@ -131,7 +131,7 @@ left_of_plan blocks file rest plan old new fault read pieces left =
     (subst (λ found. LeavesLines blocks (version_in found) (rows_in found) (later_pieces (pieces_of file)) old new fault) (sym read)
     (subst (λ lines. LeavesLines blocks plan.version plan.rows lines old new fault) (sym pieces) left))
 
--- of what is known of a reader
+-- from the bytes that a reader is known to have
 
 of_reader : (P : List ℕ → Type 0) (a b : Option (List ℕ)) (bytes : List ℕ) → Consumes a b bytes → ((left : List ℕ) → b ≡ Some left → P (bytes ++ left)) → IfSome a P
 of_reader P None b bytes read told = tt
@@ -240,7 +240,7 @@ only_behind b bytes plan none end is left some =
     (λ few. ap later_pieces (only_pieces bytes left none (at_end b left some (end few))))
     (λ many. let wrong = sym (long_line bytes many) ∙ is in cc)
 
--- of lines that are read on, whatever else is left
+-- of lines that are read later, whatever else the reader has left
 pub of_lines : (blocks : ℕ) (version : Version) (plan : List GameRow) (a b : Option (List ℕ)) (pending bytes : List ℕ) (old new : Option (List ℕ)) (fault : LiveFault)
     → Consumes a b bytes → ((more : List ℕ) → LeavesLines blocks version plan (pieces_of ((pending ++ bytes) ++ more)) old new fault)
     → IfSome a (λ left. LeavesLines blocks version plan (pieces_of (pending ++ left)) old new fault)

@@ -1,4 +1,4 @@
--- What a live host leaves when it stops.
+-- The output of a live host when it stops.
 use Rattle.std.proofs.Common.{◌≡◌, ℕ, ◌+◌, ◌≤◌, List, [], ◌++◌, Option, length, map, take, sym, ap, subst, ◌∙◌, arith, append-nil, append_assoc, length-append}
 use Rattle.std.specs.Prelude.{◌⊎◌}
 use Rattle.std.specs.Io.KnownBytes.{Appends, Keeps}
@@ -28,7 +28,7 @@ module _ (blocks : ℕ) (version : Version) (plan : List GameRow) where
   answers_held a b same =
       sym (answers_same blocks version plan [] a) ∙ ap (answers_from blocks version plan []) same ∙ answers_same blocks version plan [] b
 
-  -- lines of which some first ones are kept as these: the answers to those are whole answers
+  -- if the kept bytes of the first lines are these, their answers are whole answers
   first_of : (lines done more : List (List ℕ)) (old new : Option (List ℕ)) → map held_of lines ≡ map held_of done ++ more
       → Appends old new (answers_from blocks version plan [] done) → HasFirstAnswers blocks version plan lines old new
   first_of lines done more old new same wrote =
@@ -61,7 +61,7 @@ module _ (blocks : ℕ) (version : Version) (plan : List GameRow) where
   first_kept lines old now next has keeps =
       record { count = has.count; few = has.few; written = appends_kept old now next (answers_from blocks version plan [] (take has.count lines)) has.written keeps }
 
-  -- the answers so far, and then this text, begin all that is written
+  -- the answers so far, followed by this text, are a prefix of all that is written
   pub serving_text : (after pending front back text more : List ℕ) (old now : Option (List ℕ)) (count : ℕ) (games : List (ℕ × CoreView)) (guests : GuestList) (number : ℕ)
       → (is : IsServing blocks version plan after pending old now count games guests number) → IsCutLast pending front back
       → text ≡ [] ++ answers_from blocks version plan is.done (pieces_of front)

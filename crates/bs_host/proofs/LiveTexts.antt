@@ -78,7 +78,7 @@ all_answered blocks version plan before all left old new games guests number are
       are.text ∙ ap (λ done. old ++ answers_from blocks version plan before done) same,
     )
 
--- a host that was just opened
+-- a newly opened host
 
 pub opened_host : (blocks : ℕ) (first : List ℕ) (plan : Plan) (games : List (ℕ × CoreView)) (guests : GuestList) (number : ℕ) → plan_line_of first ≡ Ok plan
     → guests ≡ guests_of (opened plan.rows) → ArePlayed plan.rows [] games → blocks_of_all BLOCK_BYTES plan.rows ≤ blocks → number ≡ 2
@@ -127,7 +127,7 @@ rows_left blocks version plan lines =
     let acts = acts_behind blocks version plan lines in
     rows_of_stays (capacity_of blocks) version (opened plan) 2 lines ∙ ap (λ first. first ++ rows_admitted acts) (rows_opened plan)
 
--- as many rows were made as the guests say
+-- the number of rows made is the one in the open stays
 pub as_many_made : (blocks : ℕ) (version : Version) (plan : List GameRow) (lines : List (List ℕ)) (games : List (ℕ × CoreView)) (guests : GuestList) (number : ℕ)
     → HasAnswered blocks version plan lines games guests number → guests.made ≡ length (rows_behind plan (acts_behind blocks version plan lines))
 as_many_made blocks version plan lines games guests number is =

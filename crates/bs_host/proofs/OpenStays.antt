@@ -1,4 +1,4 @@
--- The open stays tell all that the routing asks of the registry.
+-- The open stays determine all that routing needs of the registry.
 use Rattle.std.proofs.Common.{◌≡◌, ℕ, zero, suc, ◌+◌, ◌<◌, Bool, true, false, ◌||◌, not, if◌then◌else◌, List, [], ◌∷◌, ◌++◌, Option, Some, None, length, option_map, inl, inr, refl, sym, ap, ◌∙◌, arith}
 use Rattle.std.specs.Prelude.{nat_eq, count_by, sum_by, slice_set}
 use Rattle.std.specs.List.{filter, list_any, position, position_or_len}

@@ -1,4 +1,4 @@
--- A stay's own lines are those between its `admit` and its `leave` that name its game.
+-- A stay's own lines are those that name its game, between its `admit` and its `leave`.
 use Rattle.std.proofs.Common.{◌≡◌, ℕ, ◌<◌, ◌≤◌, Bool, true, false, List, [], ◌∷◌, Option, Some, None, is_some, length, inl, inr, refl, sym, ap, ◌∙◌, arith, length-append}
 use Rattle.std.specs.List.{filter}
 use Rattle.std.proofs.Math.Seq.{get_or-append_seam}
@@ -28,7 +28,7 @@ use Rattle.bs_host.proofs.CutRows.{file_is_fit}
 use Rattle.bs_host.proofs.StayLines.{handed}
 use Rattle.bs_host.proofs.StayRows.{length_kept, row_behind, row_in_registry}
 
--- a line that goes to the stay: it is there, it is open, and the line names it
+-- a line of the stay: the stay exists and is open, and the line names it
 
 record GoesTo (registry : List Stay) (stay : ℕ) (l : Line) : Type 0 where
   within : stay < length registry
@@ -59,7 +59,7 @@ is_not_true : (b : Bool) → (b ≡ true → ⊥) → b ≡ false
 is_not_true true never = absurd (never refl)
 is_not_true false never = refl
 
--- a stay that is closed stays so
+-- a closed stay remains closed
 
 closed_then : (registry : List Stay) (r : Route) (stay : ℕ) → stay < length registry → (stay_at registry stay).is_open ≡ false → (stay_at (registry_then registry r) stay).is_open ≡ false
 closed_then registry (route.Act (act.Hand to command)) stay within closed = closed
@@ -74,7 +74,7 @@ closed_then registry (route.Act (act.Leave to)) stay within closed = elim (cases
 closed_then registry (route.Stray kind) stay within closed = closed
 closed_then registry route.Nowhere stay within closed = closed
 
--- what a line is to a stay that is open
+-- the effect of a line on an open stay
 module _ (capacity : Capacity) (registry : List Stay) (stay : ℕ) (within : stay < length registry) (is_open : (stay_at registry stay).is_open ≡ true) (apart : Apart registry) where
   abbrev name : List ℕ
   name = (stay_at registry stay).row.game
@@ -152,7 +152,7 @@ module _ (capacity : Capacity) (registry : List Stay) (stay : ℕ) (within : sta
   not_its_leave : (l : Line) → is_leave_of name l ≡ true → is_some (command_to stay (route_of capacity registry l)) ≡ false
   not_its_leave l leaves = ap (λ r. is_some (command_to stay r)) (closes l leaves)
 
--- who comes is open, in the next row
+-- a new stay is open, in the next row
 comes_open : (registry : List Stay) (r : Route) (stay : ℕ) → length registry ≤ stay → stay < length (registry_then registry r) → (stay_at (registry_then registry r) stay).is_open ≡ true
 comes_open registry (route.Act (act.Hand to command)) stay past within = absurd (omega (arith, past, within))
 comes_open registry (route.Act (act.Admit row)) stay past within =
@@ -201,7 +201,7 @@ module _ (capacity : Capacity) (version : Version) (stay : ℕ) where
             ]
       ]
 
-  -- not there yet, or open
+  -- not admitted yet, or open
   abbrev IsToCome : List Stay → Type 0
   IsToCome registry = stay < length registry → (stay_at registry stay).is_open ≡ true
 

@@ -1,4 +1,4 @@
--- Parsed lines, and where they go.
+-- Parsed lines, and their routes.
 use Rattle.std.proofs.Common.{◌≡◌, ℕ, ◌+◌, ◌<◌, List, [], ◌∷◌, ◌++◌, Option, Some, None, length, drop, get_or, refl, sym, ap, subst, ◌∙◌, arith, append-nil, append_assoc}
 use Rattle.std.specs.Prelude.{Result, Ok, Err, option_map, option_to_list, unwrap_or, IfOk, IfSome}
 use Rattle.std.specs.Borrow.{Bor}
@@ -28,7 +28,7 @@ parsed_together version all front back lines more both is one two joined =
     joined ∙ ap (λ lines. lines ++ more) one ∙ ap (λ more. parsed_lines version front ++ more) two
     ∙ sym (map-append (λ piece. parsed_line (line_of version piece)) front back) ∙ ap (parsed_lines version) (sym is)
 
--- one line more, and then those that are left
+-- one more line, then the remaining ones
 pub one_more_parsed : (version : Version) (left : List (List ℕ)) (piece : List ℕ) (rest : List (List ℕ)) (old new total : List ParsedLine) (parsed : ParsedLine)
     → left ≡ piece ∷ rest → parsed ≡ parsed_line (line_of version piece) → new ≡ old ++ parsed ∷ []
     → old ++ parsed_lines version left ≡ total → new ++ parsed_lines version rest ≡ total
@@ -74,12 +74,12 @@ cons_is_append : {X : Type 0} (first : Option X) (rest : List X) → cons_option
 cons_is_append None rest = refl
 cons_is_append (Some x) rest = refl
 
--- what a line brings, and then those behind it
+-- what a line adds, then what the later ones add
 moves_on : {X : Type 0} (before after : List X) (first : Option X) (rest : List X) → after ≡ before ++ option_to_list first
     → after ++ rest ≡ before ++ cons_option first rest
 moves_on before after first rest is = rw (is, cons_is_append first rest) (append_assoc before (option_to_list first) rest)
 
--- with what the lines that are left bring, the requests are what all lines bring
+-- with what the remaining lines add, the requests are those of all lines
 pub record AreLeft (all : List (ℕ × Route)) (left : List (ℕ × Route)) (requests : Requests) : Type 0 where
   pub acts : requests.acts.items ++ acts_in left ≡ acts_in all
   pub strays : requests.strays.items ++ strays_in left ≡ strays_in all
@@ -138,7 +138,7 @@ module _ (capacity : Capacity) where
         strays = sym (append-nil requests.strays.items) ∙ ap (λ rest. requests.strays.items ++ strays_in rest) none ∙ left.strays;
       }
 
--- what is left of the text, in bytes and line feeds
+-- the bytes and line feeds that remain of the text
 abbrev pub bytes_left : Option (Bor (List ℕ)) → ℕ
 bytes_left left = unwrap_or (option_map (λ text. length text.now + 1) left) 0
 

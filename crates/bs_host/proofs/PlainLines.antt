@@ -1,4 +1,4 @@
--- Where nobody comes or leaves each line goes by itself.
+-- Without admissions and leaves each line is routed by itself.
 use Rattle.std.proofs.Common.{◌≡◌, ◌≢◌, ℕ, ◌+◌, Bool, true, false, ◌&&◌, List, [], ◌∷◌, ◌++◌, Option, Some, None, is_some, length, nat_lt, codes, inl, inr, refl, sym, ap, ◌∙◌}
 use Rattle.std.specs.List.{enumerate_from, flat_map, list_all}
 use Rattle.std.proofs.lemmas.Bool.{cases_Bool}
@@ -25,7 +25,7 @@ use Rattle.bs_host.specs.File.{rows_of, version_of, pieces_of, later_pieces}
 use Rattle.bs_host.specs.Transcript.{transcript_of, section_of}
 use Rattle.bs_host.specs.Routing.{registry_behind, registry_then, hand_route, next_registry, route_at, route_of, routes_from, routes_of, stays_behind, stays_of, strays_in, commands_to, capacity_of}
 
--- a line after which the registry is as before
+-- a line that leaves the registry unchanged
 abbrev IsPlain : Line → Type 0
 IsPlain line.Blank = Unit {0}
 IsPlain (line.Command game command) = Unit {0}
@@ -95,7 +95,7 @@ not_the_last One other = refl
 not_the_last Two other = refl
 not_the_last Three other = absurd (other refl)
 
--- nor does it matter how many blocks there are
+-- nor does the number of blocks matter
 
 same_route : (capacity other : Capacity) (registry : List Stay) (l : Line) → IsPlain l → route_of capacity registry l ≡ route_of other registry l
 same_route capacity other registry line.Blank plain = refl

@@ -1,4 +1,4 @@
--- What the routing refuses is what the core refuses.
+-- Routing refuses what the core refuses.
 use Rattle.std.proofs.Common.{◌≡◌, ℕ, zero, suc, ◌+◌, ◌<◌, Bool, true, false, ◌&&◌, List, [], ◌∷◌, Option, Some, None, get_or, length, option_map, inl, inr, refl, sym, ap, ◌∙◌, arith}
 use Rattle.std.specs.List.{position}
 use Rattle.std.proofs.Math.ListN.{get_or-map}
@@ -33,7 +33,7 @@ first_told found admit.Full is = ap stray_for is
 first_told found (admit.Short free) is = ap stray_for is
 first_told found admit.Memory is = ap stray_for is
 
--- where no open stay has the name, a stay of the name is closed
+-- if no open stay has the name, a stay of the name is closed
 
 not_behind : (o : Option ℕ) → option_map (λ i. 1 + i) o ≡ None → o ≡ None
 not_behind None none = refl

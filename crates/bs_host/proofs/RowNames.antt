@@ -1,4 +1,4 @@
--- The row of a name in a plan that has no name twice.
+-- The row of a name in a plan with distinct names.
 use Rattle.std.proofs.Common.{◌≡◌, ℕ, ◌<◌, suc, zero, true, false, not, Bool, List, [], ◌∷◌, Some, length, get_or, refl, inl, inr, arith}
 use Rattle.std.specs.Prelude.{Option, slice_index_or}
 use Rattle.std.specs.List.{list_any, position, position_or_len}
@@ -19,8 +19,8 @@ pub record HasName (rows : List GameRow) (row : ℕ) (game : List ℕ) : Type 0 
   pub within : row < length rows
   pub same : is_same_text game (slice_index_or rows row (row_of [] 0)).game ≡ true
 
--- Among elements that differ from one another, what passes a test that no two of them pass is the
--- first that passes.
+-- Among elements that differ from one another, an element that passes a test that no two of them
+-- pass is the first that passes.
 only_first : {X : Type 0} (same : X → X → Bool) (p : X → Bool) → ((x y : X) → p x ≡ true → p y ≡ true → same x y ≡ true)
     → (xs : List X) (i : ℕ) (d : X) → are_distinct same xs ≡ true → i < length xs → p (get_or xs i d) ≡ true → position_or_len p xs ≡ i
 only_first same p alike [] i d distinct within hit = absurd (omega arith)

@@ -1,4 +1,4 @@
--- What a stay's own lines ask for in a file where the stay is alone.
+-- The requests of a stay's own lines in a file where the stay is alone.
 use Rattle.std.proofs.Common.{◌≡◌, ℕ, ◌+◌, ◌<◌, true, false, List, [], ◌∷◌, Option, Some, None, is_some, length, inl, inr, refl, sym, ap, ◌∙◌, arith}
 use Rattle.std.specs.Prelude.{nat_eq}
 use Rattle.std.specs.List.{cons_option}
@@ -19,7 +19,7 @@ use Rattle.bs_host.specs.Cut.{is_own_line, own_lines_in}
 use Rattle.bs_host.specs.Routing.{admit_refusal, admit_route, registry_behind, registry_then, command_to, commands_to, hand_route, leave_route, next_registry, route_at, route_of, routes_from, stray_kind, strays_in}
 use Rattle.bs_host.proofs.StayRows.{row_behind}
 
--- a command that goes to a stay names it, and the stay is open
+-- a command of a stay names it, and the stay is open
 pub record IsHanded (registry : List Stay) (stay : ℕ) (name : List ℕ) (command : Command) (found : Option ℕ) : Type 0 where
   pub found_it : found ≡ Some stay
   pub within : stay < length registry
@@ -103,7 +103,7 @@ not_asked None none = refl
 not_asked (Some command) none = absurd cc
 
 module _ (capacity : Capacity) (version : Version) (stay : ℕ) (row : GameRow) where
-  -- of a stay that is there at the end, this is its row
+  -- the row of the stay, if it exists at the end
   abbrev IsItsRow : List Stay → List (List ℕ) → Type 0
   IsItsRow registry lines = (stay_at (registry_behind capacity version registry lines) stay).row ≡ row
 
@@ -114,7 +114,7 @@ module _ (capacity : Capacity) (version : Version) (stay : ℕ) (row : GameRow) 
       → GoesAlone capacity registry stay row (line_of version text)
   goes registry text lines is own = goes_alone capacity registry stay row (line_of version text) (its_row registry (text ∷ lines) is) own
 
-  -- its own lines ask the same of it where it stands alone
+  -- its own lines have the same commands for it where it is alone
   pub own_commands : (registry : List Stay) (number first : ℕ) (lines : List (List ℕ)) → IsItsRow registry lines
       → commands_to 0 (routes_from capacity version (lone_registry row) number (own_lines_in capacity version registry stay lines))
       ≡ commands_to stay (routes_from capacity version registry first lines)
@@ -147,7 +147,7 @@ module _ (capacity : Capacity) (version : Version) (stay : ℕ) (row : GameRow) 
     | inr other ↦ rw other (own_strays (next_registry capacity version registry text) number lines is)
   ]
 
-  -- nobody comes or leaves there
+  -- no stay is admitted and none leaves there
   pub own_registry : (registry : List Stay) (lines : List (List ℕ)) → IsItsRow registry lines
       → registry_behind capacity version (lone_registry row) (own_lines_in capacity version registry stay lines) ≡ lone_registry row
   own_registry registry [] is = refl

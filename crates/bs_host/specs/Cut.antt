@@ -35,7 +35,7 @@ version_members One = []
 version_members Two = (codes "version", whole_data 2) ∷ []
 version_members Three = (codes "version", whole_data 3) ∷ []
 
--- the plan of that version that has this row alone
+-- the plan of that version with this row alone
 unfoldable pub lone_plan_data : Version → GameRow → Data
 lone_plan_data version row = object_of ((codes "games", array (items_of (row_data row ∷ []))) ∷ version_members version)
 
@@ -45,7 +45,7 @@ lone_plan_of version row = compact_text (lone_plan_data version row)
 abbrev pub is_own_line : Capacity → Version → List Stay → ℕ → List ℕ → Bool
 is_own_line capacity version registry stay text = is_some (command_to stay (route_at capacity version registry text))
 
--- the lines that go to that stay, as they stand
+-- the lines of that stay, unchanged
 abbrev pub own_lines_in : Capacity → Version → List Stay → ℕ → List (List ℕ) → List (List ℕ)
 own_lines_in capacity version registry stay [] = []
 own_lines_in capacity version registry stay (text ∷ lines) =
@@ -65,21 +65,21 @@ unfoldable pub cut_of : ℕ → List ℕ → ℕ → List ℕ
 cut_of blocks file stay =
     join_with_byte LINE_FEED (lone_plan_of (version_of file) (row_at (stays_of blocks file) stay) ∷ own_lines_of blocks file stay)
 
--- the same, one line after the other
+-- each line with a line feed before it
 abbrev pub behind_feeds : List (List ℕ) → List ℕ
 behind_feeds = flat_map (λ line. LINE_FEED ∷ line)
 
--- What is written for that file from as many blocks, and how large it is.
+-- The transcript of that file with as many blocks, and the size of the file.
 pub record IsWrittenAlone (blocks : ℕ) (file : List ℕ) (stay : ℕ) (row : GameRow) : Type 0 where
   -- its plan is that stay's row, in the file's version
   pub plan : plan_of (cut_of blocks file stay) ≡ Ok (record { rows = row ∷ []; version = version_of file })
   -- its transcript is the stay's section of the whole file's transcript, and nothing else
   pub text : transcript_of blocks (cut_of blocks file stay) ≡ section_of row (commands_of blocks file stay)
-  pub size : length (cut_of blocks file stay) ≤ length file + 512
-  -- where the plan's reservations fit the pool, this file's reservation fits it too
+  pub size : length (cut_of blocks file stay) ≤ length file
+  -- if the plan's reservations fit the pool, this file's reservation fits it too
   pub fits : blocks_of_all BLOCK_BYTES (rows_of file) ≤ blocks → blocks_of_all BLOCK_BYTES (rows_of (cut_of blocks file stay)) ≤ blocks
 
--- each stay of each file is answered by its own lines alone as it is in the file
+-- each stay of each file, served alone by its own lines, is answered as it is in the file
 abbrev pub SectionLaw : Type 0
 SectionLaw =
     (blocks : ℕ) (file : List ℕ) (stay : ℕ) → stay < length (stays_of blocks file)
@@ -87,8 +87,7 @@ SectionLaw =
 
 -- Which stay a cut is of, and when there is none.
 
--- the n-th row of that name, from 1 on, and its number, among rows of which the first has that
--- number
+-- the n-th row of that name, from 1 on, and its number; the first of the rows has the given number
 abbrev pub nth_from : ℕ → List GameRow → List ℕ → ℕ → Option (ℕ × GameRow)
 nth_from first [] name n = None
 nth_from first (row ∷ rows) name n =
@@ -108,7 +107,8 @@ abbrev pub refusal_of_stay : Option ℕ → Option Cut
 refusal_of_stay None = Some NoSuchGame
 refusal_of_stay (Some stay) = None
 
--- the number of blocks decides which games are admitted, so in files without stays it is not judged
+-- whether there are fewer blocks than the plan reserves; judged only in files with stays, where it
+-- decides which games are admitted
 abbrev pub is_too_small : ℕ → Plan → Bool
 is_too_small blocks plan = has_stays plan.version && nat_lt blocks (blocks_of_all BLOCK_BYTES plan.rows)
 
@@ -122,7 +122,7 @@ unfoldable pub cut_refusal_of : ℕ → List ℕ → List ℕ → ℕ → Option
 cut_refusal_of blocks file name n =
     if nat_lt MOST_FILE_BYTES (length file) then Some TooLong else cut_refusal_of_plan blocks file name n (plan_of file)
 
--- the fault is that refusal; nothing is said of want of memory
+-- the fault is that refusal; nothing is claimed of `Memory`
 abbrev pub IsCutRefusal : Option Cut → Cut → Type 0
 IsCutRefusal refusal TooLong = refusal ≡ Some TooLong
 IsCutRefusal refusal (OfPlan reason) = refusal ≡ Some (OfPlan reason)

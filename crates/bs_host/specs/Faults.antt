@@ -1,4 +1,4 @@
--- When a command file is not served, and what each fault leaves.
+-- When a command file is refused, and what each fault leaves.
 use Rattle.std.specs.Prelude.{◌≡◌, ℕ, ◌<◌, List, length, take, nat_lt, Option, Some, None, Result, Ok, Err, if◌then◌else◌}
 use Rattle.std.specs.Io.KnownBytes.{Appends}
 use Rattle.bs_board.specs.declared.plans.plan.Plan.{Plan}
@@ -7,6 +7,8 @@ use Rattle.bs_json.specs.declared.plan.PlanFault.TheVariants as plan
 use Rattle.bs_sched.specs.declared.opening.Open.{Open}
 use Rattle.bs_sched.specs.declared.opening.Open.TheVariants as opening
 use Rattle.bs_sched.specs.PlanBlocks.{blocks_of_all}
+use Rattle.bs_transcript.specs.declared.fault.TranscriptFault.{TranscriptFault}
+use Rattle.bs_transcript.specs.declared.fault.TranscriptFault.TheVariants as transcript
 use Rattle.bs_workers.specs.declared.fault.Run.{Run}
 use Rattle.bs_workers.specs.declared.fault.Run.TheVariants as run
 use Rattle.bs_host.specs.declared.fault.Fault.{Fault}
@@ -29,16 +31,20 @@ abbrev pub fault_of_run : Run → Fault
 fault_of_run run.Memory = Memory
 fault_of_run run.Broken = Broken
 
+abbrev pub fault_of_writing : TranscriptFault → Fault
+fault_of_writing transcript.Memory = Memory
+fault_of_writing (transcript.Write fault) = Write fault.written
+
 abbrev pub refusal_of_plan : ℕ → Result Plan PlanFault → Option Fault
 refusal_of_plan blocks (Err fault) = Some (fault_of fault)
 refusal_of_plan blocks (Ok plan) = if nat_lt blocks (blocks_of_all BLOCK_BYTES plan.rows) then Some (OfPlan refusal.Short) else None
 
--- the first reason against serving the file from that many blocks
+-- the first reason against serving the file with that many blocks
 unfoldable pub refusal_of : ℕ → List ℕ → Option Fault
 refusal_of blocks file = if nat_lt MOST_FILE_BYTES (length file) then Some TooLong else refusal_of_plan blocks (plan_of file)
 
--- the fault is that refusal; `Broken` comes only where nothing refuses the file; nothing is said of
--- want of memory
+-- the fault is that refusal; `Broken` comes only if there is no refusal; nothing is claimed of
+-- `Memory`
 abbrev pub IsRefusal : Option Fault → Fault → Type 0
 IsRefusal refusal TooLong = refusal ≡ Some TooLong
 IsRefusal refusal (OfPlan reason) = refusal ≡ Some (OfPlan reason)
@@ -46,7 +52,7 @@ IsRefusal refusal Memory = Unit {0}
 IsRefusal refusal Broken = refusal ≡ None
 IsRefusal refusal (Write written) = ⊥
 
--- as `IsRefusal`; and a writer fails only where nothing refuses the file
+-- like `IsRefusal`; a writer fails only if there is no refusal
 abbrev pub IsFault : Option Fault → Fault → Type 0
 IsFault refusal TooLong = refusal ≡ Some TooLong
 IsFault refusal (OfPlan reason) = refusal ≡ Some (OfPlan reason)
@@ -54,8 +60,8 @@ IsFault refusal Memory = Unit {0}
 IsFault refusal Broken = refusal ≡ None
 IsFault refusal (Write written) = refusal ≡ None
 
--- what the writer has after the fault: the first bytes of the text, as many as the fault says and
--- fewer than all; or nothing new
+-- what the writer has after the fault: a proper prefix of the text, of the length that the fault
+-- gives; or nothing new
 abbrev pub Leaves : {W : Type 0} → (W → Option (List ℕ)) → List ℕ → W → W → Fault → Type 0
 Leaves contents text old new TooLong = new ≡ old
 Leaves contents text old new (OfPlan reason) = new ≡ old

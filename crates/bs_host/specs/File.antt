@@ -9,12 +9,12 @@ use Rattle.bs_json.specs.declared.plan.PlanFault.{PlanFault}
 use Rattle.bs_json.specs.PlanLine.{plan_line_of}
 use Rattle.bs_host.specs.declared.lines.TheConstants.{LINE_FEED}
 
--- What follows the last line feed is a piece too. In most files it is empty, and so no line; but it
--- is read as a blank line, which says nothing, and needs no rule of its own.
+-- The text after the last line feed is a piece too. In most files it is empty, and it is then read
+-- as a blank line, so it needs no rule of its own.
 abbrev pub pieces_of : List ℕ → List (List ℕ)
 pieces_of file = slice_split (λ byte. byte == LINE_FEED) file
 
--- what follows a line feed, where there was one
+-- the pieces after a line feed, if there was one
 abbrev pub pieces_after : Option (List ℕ) → List (List ℕ)
 pieces_after None = []
 pieces_after (Some text) = pieces_of text
@@ -39,11 +39,11 @@ abbrev pub version_in : Result Plan PlanFault → Version
 version_in (Ok plan) = plan.version
 version_in (Err fault) = One
 
--- where there is no plan, the lines are read as with one of version 1 that has no games
+-- a file without a plan is read as one of version 1 without games
 abbrev pub plan_in : Result Plan PlanFault → Plan
 plan_in found = record { rows = rows_in found; version = version_in found }
 
--- the games of the file, none where it has no plan
+-- the games of the file; none if it has no plan
 abbrev pub rows_of : List ℕ → List GameRow
 rows_of file = rows_in (plan_of file)
 

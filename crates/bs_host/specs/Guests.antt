@@ -1,5 +1,5 @@
--- The open stays as the code keeps them: each with the number of its row, and how many rows were
--- made. They tell all that the routing asks of the registry.
+-- The open stays as the code keeps them: each with the number of its row, and the number of rows
+-- made. Routing needs no more of the registry.
 use Rattle.std.specs.Prelude.{◌≡◌, ℕ, ◌+◌, ◌-◌, Bool, ◌&&◌, not, if◌then◌else◌, List, [], ◌∷◌, ◌++◌, length, count_by, sum_by, nat_eq, nat_lt, Option, Some, None, is_some}
 use Rattle.std.specs.List.{filter, list_any}
 use Rattle.bs_board.specs.declared.commands.command.Command.TheVariants as command
@@ -51,7 +51,8 @@ found_in name (stay ∷ stays) = if bears name stay then Some stay.0 else found_
 abbrev pub blocks_in : ℕ → List (ℕ × GameRow) → ℕ
 blocks_in cap = sum_by (λ stay. blocks_of cap stay.1)
 
--- the open stays tell all that the routing asks of the registry, and what becomes of them
+-- all that routing needs of the registry is determined by the open stays, and so are the open stays
+-- after an act
 pub record IsToldByOpen (cap : ℕ) (registry : List Stay) : Type 0 where
   pub named : (name : List ℕ) → stay_named registry name ≡ found_in name (open_of registry)
   pub any : (name : List ℕ) → list_any (has_name name) registry ≡ list_any (bears name) (open_of registry)
@@ -63,7 +64,7 @@ pub record IsToldByOpen (cap : ℕ) (registry : List Stay) : Type 0 where
 abbrev pub OpenLaw : Type 0
 OpenLaw = (cap : ℕ) (registry : List Stay) → IsToldByOpen cap registry
 
--- the routing by the open stays
+-- routing by the open stays
 
 abbrev pub refusal_by : Capacity → GuestList → GameRow → Option Stray
 refusal_by capacity guests row =
@@ -110,7 +111,7 @@ rows_by_guests capacity version guests (text ∷ lines) =
     rows_in_route (route_by capacity guests (line_of version text))
     ++ rows_by_guests capacity version (guests_then guests (route_by capacity guests (line_of version text))) lines
 
--- the lines of a stay, as the code goes through them
+-- the lines of a stay, by the open stays
 abbrev pub own_by_guests : Capacity → Version → GuestList → ℕ → List (List ℕ) → List (List ℕ)
 own_by_guests capacity version guests stay [] = []
 own_by_guests capacity version guests stay (text ∷ lines) =

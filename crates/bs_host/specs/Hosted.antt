@@ -1,4 +1,4 @@
--- What a core is once it has answered a file.
+-- A core that has answered a file.
 use Rattle.std.specs.Prelude.{◌≡◌, ℕ, ◌<◌, true, false, None, List, length}
 use Rattle.std.specs.List.{list_all}
 use Rattle.bs_board.specs.declared.plans.plan.Plan.{Plan}
@@ -16,9 +16,9 @@ use Rattle.bs_host.specs.Faults.{refusal_of}
 use Rattle.bs_host.specs.File.{later_pieces, pieces_of, plan_in, plan_of, rows_of}
 use Rattle.bs_host.specs.Routing.{acts_in, commands_to, routes_of, stays_of}
 
--- The core has the file's plan and that many blocks, was not told to fail, and nothing is left to
--- do. Its stays have these rows. Its journal makes just the lines' acts, in the order of the lines,
--- and each stay is as its own lines alone leave it: one that has left keeps its last board and its
+-- The core has the file's plan and that many blocks, `fail` was not called, and it is idle. Its
+-- stays have these rows. Its journal makes just the lines' acts, in the order of the lines, and
+-- each stay is as its own lines alone leave it: one that has left keeps its last board and its
 -- charge.
 pub record HostsLines (blocks : ℕ) (plan stays : List GameRow) (routes : List (ℕ × Route)) (core : CoreView) : Type 0 where
   pub rows : core.games.rows ≡ plan
@@ -29,13 +29,12 @@ pub record HostsLines (blocks : ℕ) (plan stays : List GameRow) (routes : List 
   pub acted : acts_of core.journal ≡ acts_in routes
   pub served : (stay : ℕ) → stay < length stays → IsServedAlone (row_at stays stay) (commands_to stay routes) (lane_of core.games.lanes stay)
 
--- the same of a file's plan, its stays and its lines: each stay is served the file's commands for
--- it
+-- the same for a file's plan, its stays and its lines
 abbrev pub Hosts : ℕ → List ℕ → CoreView → Type 0
 Hosts blocks file = HostsLines blocks (rows_of file) (stays_of blocks file) (routes_of blocks file)
 
--- the core is opened with the file's plan and that many blocks, of which nothing refuses the file;
--- the plan is the file's, and the lines are those that follow it
+-- the file is not refused; the core is opened with its plan and that many blocks; the lines are
+-- those after the plan
 pub record IsOpened (blocks : ℕ) (file : List ℕ) (core : CoreView) (plan : Plan) (lines : List (List ℕ)) : Type 0 where
   pub served : refusal_of blocks file ≡ None
   pub opened : core ≡ opened_core BLOCK_BYTES blocks core.games.workers plan.rows

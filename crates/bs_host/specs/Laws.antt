@@ -1,4 +1,4 @@
--- What is known of the stays of a file, and of their lines.
+-- Laws of the stays of a file, and of their lines.
 use Rattle.std.specs.Prelude.{◌≡◌, ◌≢◌, ℕ, ◌<◌, ◌≤◌, true, List, ◌∷◌, ◌++◌, length, count_by, Some, None}
 use Rattle.std.specs.List.{filter, filter_map}
 use Rattle.bs_board.specs.declared.commands.command.Command.{Command}
@@ -27,7 +27,7 @@ use Rattle.bs_host.specs.declared.route.Route.TheVariants as route
 use Rattle.bs_host.specs.Routing.{acts_of, admit_refusal, behind_admit, commands_of, capacity_of, is_command_for, registry_behind, route_at, routes_from, stays_of, stray_for, until_leave}
 use Rattle.bs_host.specs.Transcript.{transcript_of}
 
--- A stay's own lines are those between its `admit` and its `leave` that name its game.
+-- A stay's own lines are those that name its game, between its `admit` and its `leave`.
 abbrev pub OwnLinesLaw : Type 0
 OwnLinesLaw =
     (blocks : ℕ) (file : List ℕ) (stay : ℕ) → stay < length (stays_of blocks file)
@@ -36,8 +36,8 @@ OwnLinesLaw =
     (until_leave (version_of file) (row_at (stays_of blocks file) stay).game
     (behind_admit (capacity_of blocks) (version_of file) (opened (rows_of file)) stay (later_pieces (pieces_of file))))
 
--- The stays are the plan's rows and those admitted; the acts of a file may be made in their order,
--- whatever the games do meanwhile.
+-- The stays are the plan's rows, then the admitted ones; the acts of a file are acceptable in their
+-- order, whatever the state of the games.
 pub record IsActedOn (blocks : ℕ) (file : List ℕ) : Type 0 where
   pub stays : stays_of blocks file ≡ rows_of file ++ rows_admitted (acts_of blocks file)
   pub acceptable : are_acceptable (capacity_of blocks) (opened (rows_of file)) (acts_of blocks file) ≡ true
@@ -46,8 +46,8 @@ pub record IsActedOn (blocks : ℕ) (file : List ℕ) : Type 0 where
 abbrev pub ActsLaw : Type 0
 ActsLaw = (blocks : ℕ) (file : List ℕ) → IsActedOn blocks file
 
--- In versions 1 and 2 the stays are the plan's rows, and what is written is a function of the file
--- alone.
+-- In versions 1 and 2 the stays are the plan's rows, and the transcript does not depend on the
+-- number of blocks.
 pub record IsEarly (blocks other : ℕ) (file : List ℕ) : Type 0 where
   pub stays : stays_of blocks file ≡ rows_of file
   pub text : transcript_of blocks file ≡ transcript_of other file
@@ -55,7 +55,7 @@ pub record IsEarly (blocks other : ℕ) (file : List ℕ) : Type 0 where
 abbrev pub EarlyLaw : Type 0
 EarlyLaw = (blocks other : ℕ) (file : List ℕ) → version_of file ≢ Three → IsEarly blocks other file
 
--- A stay that is found is one of the file's, so the law of the cut holds of it.
+-- A stay that is found by its name is one of the file's, so the law of the cut holds of it.
 pub record IsFound (blocks : ℕ) (file name : List ℕ) (n stay : ℕ) : Type 0 where
   pub within : stay < length (stays_of blocks file)
   pub named : is_same_text name (row_at (stays_of blocks file) stay).game ≡ true
@@ -63,7 +63,7 @@ pub record IsFound (blocks : ℕ) (file name : List ℕ) (n stay : ℕ) : Type 0
 abbrev pub FoundLaw : Type 0
 FoundLaw = (blocks : ℕ) (file name : List ℕ) (n stay : ℕ) → nth_stay blocks file name n ≡ Some stay → IsFound blocks file name n stay
 
--- The open stays alone decide the routing, and whose line a line is.
+-- The open stays alone decide the routing, and which stay a line belongs to.
 
 abbrev pub GuestsLaw : Type 0
 GuestsLaw =
@@ -75,9 +75,9 @@ GuestLinesLaw =
     (capacity : Capacity) (version : Version) (stay : ℕ) (registry : List Stay) (lines : List (List ℕ))
     → own_lines_in capacity version registry stay lines ≡ own_by_guests capacity version (guests_of registry) stay lines
 
--- Whatever stays a core has, the host refuses an admission where the core does, and for the core's
--- reason. A command or a leave goes to the open stay of its name, which takes it, and is refused
--- where each stay of the name is closed: there the core has none that takes it.
+-- Whatever stays a core has, the host refuses an admission if and only if the core does, and for
+-- the same reason. A command or a leave is routed to the open stay of its name, where it is
+-- enabled, and is refused if each stay of the name is closed, as the core would refuse it.
 pub record RefusesAsCore (setting : Setting) (lanes : List Lane) : Type 0 where
   pub refused : (row : GameRow) (kind : Stray) → admit_refusal (capacity_in setting) (registry_of lanes) row ≡ Some kind
       → (refusal : Admit) × ((stray_for (Some refusal) ≡ Some kind) × RefusesAdmit setting lanes row refusal)
@@ -94,8 +94,8 @@ pub record RefusesAsCore (setting : Setting) (lanes : List Lane) : Type 0 where
 abbrev pub CoreLaw : Type 0
 CoreLaw = (setting : Setting) (lanes : List Lane) → RefusesAsCore setting lanes
 
--- In a file that is not too long, an admission is told to be one too many only where as many stays
--- are open as a plan may have games. How many have left decides nothing.
+-- In a file that is not too long, an admission is refused as `Full` only if as many stays are open
+-- as a plan may have games. The number of stays that have left does not matter.
 abbrev pub FullLaw : Type 0
 FullLaw =
     (blocks : ℕ) (file text : List ℕ) (earlier later : List (List ℕ)) → length file ≤ MOST_FILE_BYTES

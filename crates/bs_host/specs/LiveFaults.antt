@@ -26,13 +26,13 @@ abbrev pub live_fault_of_run : Run → LiveFault
 live_fault_of_run run.Memory = live.Memory
 live_fault_of_run run.Broken = live.Broken
 
--- the first reason against serving the file live from that many blocks: a live host refuses plans
--- alone
+-- the first reason against serving the file live with that many blocks: a live host refuses only
+-- plans
 abbrev pub live_refusal_of : ℕ → List ℕ → Option Fault
 live_refusal_of blocks file = refusal_of_plan blocks (plan_of file)
 
--- the fault of the opening: that refusal; `Broken` comes only where nothing refuses the plan;
--- nothing is said of want of memory
+-- the fault of opening: that refusal; `Broken` comes only if the plan is not refused; nothing is
+-- claimed of `Memory`
 abbrev pub IsLiveRefusal : Option Fault → LiveFault → Type 0
 IsLiveRefusal refusal live.Device = ⊥
 IsLiveRefusal refusal (live.Plan reason) = refusal ≡ Some (OfPlan reason)
@@ -41,7 +41,7 @@ IsLiveRefusal refusal live.Broken = refusal ≡ None
 IsLiveRefusal refusal (live.Write written) = ⊥
 IsLiveRefusal refusal live.Flush = ⊥
 
--- as `IsLiveRefusal`; a writer fails only where nothing refuses the plan, and nothing is said of
+-- like `IsLiveRefusal`; a writer fails only if the plan is not refused, and nothing is claimed of
 -- the reader's faults
 abbrev pub IsLiveFault : Option Fault → LiveFault → Type 0
 IsLiveFault refusal live.Device = Unit {0}
@@ -62,7 +62,7 @@ IsReadFault live.Flush = ⊥
 
 -- What the writer has after a fault.
 
--- the answers to the first lines behind the plan, as many as that
+-- the answers to the first `count` lines after the plan
 abbrev pub first_answers : ℕ → Version → List GameRow → List (List ℕ) → ℕ → List ℕ
 first_answers blocks version plan lines count = answers_from blocks version plan [] (take count lines)
 
@@ -72,9 +72,9 @@ pub record HasFirstAnswers (blocks : ℕ) (version : Version) (plan : List GameR
   pub few : count ≤ length lines
   pub written : Appends old new (first_answers blocks version plan lines count)
 
--- After a fault behind the plan: whole answers; of a writer that failed the first bytes of all that
--- is written for these lines, as many as the fault says and fewer than all; where the last flush
--- failed, all.
+-- After a fault that comes after the plan's line, whole answers are written. If a writer failed, it
+-- has a proper prefix of the answers, of the length that the fault gives; if the last flush failed,
+-- all.
 abbrev pub LeavesLines : ℕ → Version → List GameRow → List (List ℕ) → Option (List ℕ) → Option (List ℕ) → LiveFault → Type 0
 LeavesLines blocks version plan lines old new live.Device = HasFirstAnswers blocks version plan lines old new
 LeavesLines blocks version plan lines old new (live.Plan reason) = ⊥
@@ -89,7 +89,7 @@ LeavesLines blocks version plan lines old new live.Flush =
 abbrev pub HasFirstAnswersOf : ℕ → List ℕ → Option (List ℕ) → Option (List ℕ) → Type 0
 HasFirstAnswersOf blocks file = HasFirstAnswers blocks (version_of file) (rows_of file) (later_pieces (pieces_of file))
 
--- the same of a whole file; of a plan that is refused, nothing
+-- the same for a whole file; if the plan is refused, nothing is written
 abbrev pub LeavesLive : ℕ → List ℕ → Option (List ℕ) → Option (List ℕ) → LiveFault → Type 0
 LeavesLive blocks file old new live.Device = HasFirstAnswersOf blocks file old new
 LeavesLive blocks file old new (live.Plan reason) = Keeps old new
@@ -98,7 +98,7 @@ LeavesLive blocks file old new live.Broken = HasFirstAnswersOf blocks file old n
 LeavesLive blocks file old new (live.Write written) = (written < length (live_of blocks file)) × Appends old new (take written (live_of blocks file))
 LeavesLive blocks file old new live.Flush = HasFirstAnswersOf blocks file old new ⊎ Appends old new (live_of blocks file)
 
--- After a write of that text that failed, where so many bytes were written before it.
+-- After a failed write of that text, when `before` bytes were written earlier.
 abbrev pub LeavesText : List ℕ → ℕ → Option (List ℕ) → Option (List ℕ) → LiveFault → Type 0
 LeavesText text before old new live.Device = ⊥
 LeavesText text before old new (live.Plan reason) = ⊥

@@ -1,4 +1,4 @@
--- The lines of a file as they are parsed, each for itself, and where they go then.
+-- The lines of a file, each parsed by itself, and then their routes.
 use Rattle.std.specs.Prelude.{ℕ, ◌+◌, List, [], ◌∷◌, Some, None, map}
 use Rattle.bs_board.specs.declared.commands.command.Command.TheVariants as command
 use Rattle.bs_board.specs.declared.plans.version.Version.{Version}
@@ -34,7 +34,7 @@ route_parsed capacity guests parsed.Blank = route.Nowhere
 route_parsed capacity guests (parsed.Admit row) = admit_route (refusal_by capacity guests row) row
 route_parsed capacity guests (parsed.Leave game) = leave_route (found_in game guests.stays)
 
--- of the lines from that number on
+-- the lines are numbered from `number` on
 abbrev pub routes_parsed : Capacity → GuestList → ℕ → List ParsedLine → List (ℕ × Route)
 routes_parsed capacity guests number [] = []
 routes_parsed capacity guests number (line ∷ lines) =

@@ -1,5 +1,5 @@
--- Where each line of a command file goes: to the core as an act, to the strays, or nowhere. The
--- registry of stays goes along.
+-- The route of each line of a command file: to the core as an act, to the strays, or nowhere. It
+-- depends on the registry of stays at that line.
 use Rattle.std.specs.Prelude.{◌≡◌, ℕ, ◌+◌, nat_lt, Bool, List, [], ◌∷◌, length, fold, Option, Some, None, option_map, if◌then◌else◌}
 use Rattle.std.specs.List.{filter_map}
 use Rattle.bs_board.specs.declared.commands.command.Command.{Command}
@@ -26,7 +26,8 @@ use Rattle.bs_host.specs.File.{pieces_of, later_pieces, rows_of, version_of}
 
 -- One line.
 
--- A core's refusal of an admission among the stray lines. The host refuses none for want of memory.
+-- The core's refusal of an admission as the kind of a stray line. The host never refuses one for
+-- want of memory.
 abbrev pub stray_for : Option Admit → Option Stray
 stray_for None = None
 stray_for (Some admit.NameOpen) = Some stray.NameOpen
@@ -34,7 +35,7 @@ stray_for (Some admit.Full) = Some stray.Full
 stray_for (Some (admit.Short free)) = Some stray.Short
 stray_for (Some admit.Memory) = None
 
--- the first reason against admitting a row is the core's
+-- the first reason against admitting a row, which is the core's
 abbrev pub admit_refusal : Capacity → List Stay → GameRow → Option Stray
 admit_refusal capacity registry row = stray_for (first_refusal capacity registry row)
 
@@ -73,11 +74,11 @@ route_at capacity version registry text = route_of capacity registry (line_of ve
 abbrev pub next_registry : Capacity → Version → List Stay → List ℕ → List Stay
 next_registry capacity version registry text = registry_then registry (route_at capacity version registry text)
 
--- the registry that these lines leave
+-- the registry after these lines
 abbrev pub registry_behind : Capacity → Version → List Stay → List (List ℕ) → List Stay
 registry_behind capacity version = fold (next_registry capacity version)
 
--- the lines that stand in a file from that number on, with their numbers
+-- the routes of lines that are numbered from that number on
 abbrev pub routes_from : Capacity → Version → List Stay → ℕ → List (List ℕ) → List (ℕ × Route)
 routes_from capacity version registry number [] = []
 routes_from capacity version registry number (text ∷ lines) =
@@ -90,14 +91,14 @@ capacity_of blocks = record { cap = BLOCK_BYTES; blocks = blocks }
 abbrev pub routes_of : ℕ → List ℕ → List (ℕ × Route)
 routes_of blocks file = routes_from (capacity_of blocks) (version_of file) (opened (rows_of file)) 2 (later_pieces (pieces_of file))
 
--- the stays in the order of their rows: the plan's, and then those that these lines admit
+-- the stays in the order of their rows: the plan's, then those that these lines admit
 abbrev pub stays_behind : Capacity → Version → List GameRow → List (List ℕ) → List GameRow
 stays_behind capacity version rows lines = rows_in_registry (registry_behind capacity version (opened rows) lines)
 
 abbrev pub stays_of : ℕ → List ℕ → List GameRow
 stays_of blocks file = stays_behind (capacity_of blocks) (version_of file) (rows_of file) (later_pieces (pieces_of file))
 
--- What is taken from the routes.
+-- The parts of a list of routes.
 
 abbrev pub act_in : Route → Option Act
 act_in (route.Act a) = Some a
@@ -107,7 +108,7 @@ act_in route.Nowhere = None
 abbrev pub acts_in : List (ℕ × Route) → List Act
 acts_in = filter_map (λ line. act_in line.1)
 
--- what a line asks of that stay
+-- the command of a line for that stay, if it is one
 abbrev pub command_to : ℕ → Route → Option Command
 command_to stay (route.Act a) = command_in stay a
 command_to stay (route.Stray kind) = None
@@ -136,7 +137,7 @@ commands_of blocks file stay = commands_to stay (routes_of blocks file)
 abbrev pub strays_of : ℕ → List ℕ → List (ℕ × Stray)
 strays_of blocks file = strays_in (routes_of blocks file)
 
--- The lines of a stay, told by its name and not by the registry.
+-- The lines of a stay, by its name and without the registry.
 
 abbrev pub is_leave_of : List ℕ → Line → Bool
 is_leave_of name line.Blank = Bool.false
@@ -162,13 +163,13 @@ abbrev pub until_leave : Version → List ℕ → List (List ℕ) → List (List
 until_leave version name [] = []
 until_leave version name (text ∷ lines) = if is_leave_of name (line_of version text) then [] else text ∷ until_leave version name lines
 
--- the lines behind the one that opens that stay; all, where it is there before
+-- the lines after the one that opens that stay; all, if it is there before
 abbrev pub behind_admit : Capacity → Version → List Stay → ℕ → List (List ℕ) → List (List ℕ)
 behind_admit capacity version registry stay [] = []
 behind_admit capacity version registry stay (text ∷ lines) =
     if nat_lt stay (length registry) then text ∷ lines else behind_admit capacity version (next_registry capacity version registry text) stay lines
 
--- the requests are what the lines ask for
+-- the requests are those of the lines
 pub record IsRouted (routes : List (ℕ × Route)) (requests : Requests) : Type 0 where
   pub acts : requests.acts.items ≡ acts_in routes
   pub strays : requests.strays.items ≡ strays_in routes

@@ -1,4 +1,4 @@
--- What is written for a command file.
+-- The transcript of a command file.
 use Rattle.std.specs.Prelude.{ℕ, List, ◌++◌}
 use Rattle.std.specs.List.{enumerate_from, flat_map}
 use Rattle.bs_board.specs.declared.commands.command.Command.{Command}
@@ -17,14 +17,14 @@ course_lines_of name course = reply_lines_of name course.replies ++ last_line_of
 unfoldable pub section_of : GameRow → List Command → List ℕ
 section_of row commands = course_lines_of row.game (alone row commands)
 
--- what is written for a file from that many blocks: the section of each stay, in the order of their
+-- the transcript of a file with that many blocks: the section of each stay, in the order of their
 -- rows, then the strays
 unfoldable pub transcript_of : ℕ → List ℕ → List ℕ
 transcript_of blocks file =
     flat_map (λ stay. section_of stay.1 (commands_of blocks file stay.0)) (enumerate_from 0 (stays_of blocks file))
     ++ stray_lines_of (strays_of blocks file)
 
--- What is written from a core.
+-- The transcript from a core.
 
 abbrev pub lane_lines_of : Lane → List ℕ
 lane_lines_of x = reply_lines_of x.row.game x.replies ++ last_line_of x.row.game x.game

@@ -1,4 +1,4 @@
-//! Why a file is not cut to one game.
+//! Why a file was not cut to one stay.
 ghost use Rattle.std.specs.Prelude.{◌≡◌};
 
 use crate::fault::PlanRefusal;
@@ -6,7 +6,7 @@ use bs_json::PlanFault;
 use std::alloc::AllocError;
 use thiserror::Error;
 
-/// Why a file was not cut to one game.
+/// Why a file was not cut to one stay.
 #[derive(Debug, Drop, Error)]
 pub enum Cut {
     /// The file has more than 16,777,216 bytes.

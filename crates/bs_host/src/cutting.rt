@@ -130,8 +130,8 @@ fn cut_to(
     Ok(text)
 }
 
-/// Looks for a stay by its game's name, and by how many stays of that name are still to be passed,
-/// itself included.
+/// A search for a stay by its game's name and by the number of stays of that name to pass, itself
+/// included.
 #[derive(Drop)]
 struct Search<'n> {
     name: &'n Id,
@@ -154,7 +154,7 @@ impl Search<'_> {
     }
 }
 
-/// The row that a line admits.
+/// Returns the row that a line admits.
 fn admitted(route: Route) -> Option<Row>
     ensures { MatchOption result (rows_in_route route ≡ []) (λ row. rows_in_route route ≡ row ∷ []) }
 {
@@ -167,7 +167,7 @@ fn admitted(route: Route) -> Option<Row>
     }
 }
 
-/// Looks among the stays that lines admit, which follow those of the plan.
+/// Searches the stays that lines admit, which follow those of the plan.
 #[tactic(auto, using(crate::proofs::FoundLines::found_admitted, crate::proofs::FoundLines::passed_admitted, crate::proofs::FoundLines::passed_others))]
 fn find_admitted(
     alloc: Global,
@@ -193,7 +193,7 @@ fn find_admitted(
     Ok(None)
 }
 
-/// The number of the stay of that name that is the `nth`, from 1 on, and its row.
+/// Finds the `nth` stay of that name, from 1 on: its number and its row.
 #[tactic(auto, using(crate::proofs::FoundLines::passed_planned))]
 fn find_stay(
     alloc: Global,
@@ -218,8 +218,8 @@ fn find_stay(
     }
 }
 
-/// Whether the plan's reservations exceed that many blocks. The blocks decide which games are
-/// admitted, so they are not judged in a version without stays.
+/// Whether the plan reserves more than that many blocks. Judged only in versions with stays, where
+/// the blocks decide which games are admitted.
 fn is_too_small(plan: &Plan, blocks: usize) -> bool
     ensures { result ≡ is_too_small blocks plan.now }
 {
@@ -228,7 +228,7 @@ fn is_too_small(plan: &Plan, blocks: usize) -> bool
 
 /// Makes the file of one stay alone: a plan of the same version with its row alone, then its lines,
 /// unchanged, each after a line feed. `stay` counts from 1 among the stays of that name of the
-/// file, which is served from that many blocks. Checks the file's length, its plan, in version 3
+/// file, which is served with that many blocks. Checks the file's length, its plan, in version 3
 /// the number of blocks, and the stay, and returns the first fault.
 #[tactic(auto, using(crate::proofs::CutFile::refusal_of_long, crate::proofs::CutFile::refusal_of_first, crate::proofs::CutRefusals::none_against, crate::proofs::CutRefusals::too_small, crate::proofs::CutRefusals::not_there))]
 pub fn cut(
@@ -266,9 +266,9 @@ pub fn cut(
 /// States that each stay of each file is answered by its own lines alone as it is in the file; that
 /// its own lines are those between its `admit` and its `leave` that name its game; that a stay that
 /// is found by name and number is one of the file's; and that in versions 1 and 2 the number of
-/// blocks changes nothing. A line is refused exactly where the core would refuse its act, and an
-/// admission for the core's first reason; no row is refused as one too many while fewer stays are
-/// open than a plan may have games. Does nothing.
+/// blocks changes nothing. A line is refused if and only if the core would refuse its act, and an
+/// admission for the core's first reason; no row is refused as `Full` while fewer stays are open
+/// than a plan may have games. Does nothing.
 pub fn section_law()
     ensures cut { SectionLaw }
     ensures own { OwnLinesLaw }

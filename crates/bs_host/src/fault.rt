@@ -3,7 +3,7 @@ ghost use Rattle.std.specs.Prelude.{◌≡◌};
 
 use bs_json::PlanFault;
 use bs_sched::Open;
-use bs_transcript::WriteFault;
+use bs_transcript::TranscriptFault;
 use bs_workers::Run;
 use std::alloc::AllocError;
 use thiserror::Error;
@@ -14,13 +14,13 @@ pub enum PlanRefusal {
     /// The first line is no plan.
     #[error("P1")]
     Malformed,
-    /// A name or a quota is out of its range, or a name stands twice.
+    /// A name or a quota is out of range, or a name occurs twice.
     #[error("P2")]
     BadRow,
     /// There are more than 64 games.
     #[error("P3")]
     TooMany,
-    /// There are not as many blocks as the games reserve.
+    /// The games reserve more blocks than there are.
     #[error("P4")]
     Short,
 }
@@ -35,7 +35,7 @@ pub enum Fault {
     Plan(PlanRefusal),
     #[error("out of memory")]
     Memory,
-    /// A gate refused a job, or the run did not end as it should (`bs_workers::Run::Broken`).
+    /// A gate refused a job, or the run did not end correctly (`bs_workers::Run::Broken`).
     #[error("broken")]
     Broken,
     /// The writer failed after it took this many bytes.
@@ -94,12 +94,15 @@ impl From<Run> for Fault {
     }
 }
 
-impl From<WriteFault> for Fault {
-    ghost use Rattle.bs_host.specs.declared.fault.Fault.TheVariants.{Write};
+impl From<TranscriptFault> for Fault {
+    ghost use Rattle.bs_host.specs.Faults.{fault_of_writing};
 
-    ghost from_gives = { λ error fault. fault ≡ Write error.written };
+    ghost from_gives = { λ error fault. fault ≡ fault_of_writing error };
 
-    fn from(error: WriteFault) -> Fault {
-        Fault::Write(error.written)
+    fn from(error: TranscriptFault) -> Fault {
+        match error {
+            TranscriptFault::Memory => Fault::Memory,
+            TranscriptFault::Write(fault) => Fault::Write(fault.written),
+        }
     }
 }

@@ -1,7 +1,7 @@
-//! A command file whose plan was read.
+//! A command file whose plan was parsed.
 use bs_board::Plan;
 
-/// A command file: its plan, the text that follows it, and the number of blocks to serve it from.
+/// A command file: its plan, the text after it, and the number of blocks to serve it with.
 #[derive(Clone, Copy)]
 pub(crate) struct CommandFile<'f> {
     pub(crate) blocks: usize,

@@ -15,7 +15,7 @@ use bs_workers::Act;
 use std::alloc::{AllocError, Global};
 use std::marker::Model;
 
-/// The open stays, each with the number of its row, and how many rows were made. At most as many
+/// The open stays, each with the number of its row, and the number of rows made. At most as many
 /// are open as a plan may have games, so the work for a line does not grow with the rows.
 #[derive(Debug, Drop)]
 pub struct Guests {
@@ -45,7 +45,7 @@ impl Guests {
     ghost use Rattle.bs_host.specs.Parsed.{route_parsed};
     ghost use Rattle.bs_host.specs.Routing.{admit_route, hand_route, capacity_of, leave_route};
 
-    /// The rows of a plan, all of them open.
+    /// Opens the rows of a plan.
     #[tactic(auto, using(crate::proofs::GuestRoutes::all_open, crate::proofs::GuestRoutes::one_more_open))]
     pub(crate) fn of_plan(alloc: Global, rows: &Rows) -> Result<Guests, AllocError>
         ensures { IfOk result (λ guests. guests ≡ guests_of (opened rows.now)) }
@@ -61,21 +61,21 @@ impl Guests {
         })
     }
 
-    /// How many rows were made.
+    /// The number of rows made.
     pub(crate) fn made(&self) -> usize
         ensures { result ≡ self.now.made }
     {
         self.made
     }
 
-    /// How many stays are open.
+    /// The number of open stays.
     pub(crate) fn len(&self) -> usize
         ensures { result ≡ length self.now.stays }
     {
         self.stays.len()
     }
 
-    /// The number of the open stay at that place.
+    /// The row number of the open stay at that index.
     pub(crate) fn number(&self, place: usize) -> usize
         requires { place < length self.now.stays }
         ensures { result ≡ (slice_index_or self.now.stays place (0, row_of [] 0)).0 }
@@ -83,7 +83,7 @@ impl Guests {
         self.stays[place].0
     }
 
-    /// The place of that name among the open stays.
+    /// The index of that name among the open stays.
     fn place(&self, name: &Id) -> Option<usize>
         ensures { result ≡ position (bears name.now) self.now.stays }
     {
@@ -92,7 +92,7 @@ impl Guests {
             .position(|stay| name.is_same(&stay.1.game))
     }
 
-    /// The number of the open stay of that name.
+    /// The row number of the open stay of that name.
     #[tactic(auto, using(crate::proofs::GuestRoutes::found_at, crate::proofs::GuestRoutes::found_nowhere))]
     fn find(&self, name: &Id) -> Option<usize>
         ensures { result ≡ found_in name.now self.now.stays }
@@ -109,7 +109,7 @@ impl Guests {
         self.stays.iter().any(|stay| name.is_same(&stay.1.game))
     }
 
-    /// The blocks of so many that are left beside those of the open stays.
+    /// The number of `blocks` minus those reserved for the open stays.
     #[tactic(auto, using(crate::proofs::GuestRoutes::one_less_left))]
     fn left_of(&self, blocks: usize) -> usize
         ensures { result ≡ blocks - blocks_in BLOCK_BYTES self.now.stays }
@@ -179,8 +179,8 @@ impl Guests {
         }
     }
 
-    /// Where a parsed line goes in a file that is served from that many blocks. Admits and
-    /// dismisses games as the line asks.
+    /// Routes a parsed line of a file that is served with that many blocks, and admits or dismisses
+    /// its game.
     pub(crate) fn route(
         &mut self,
         alloc: Global,

@@ -1,5 +1,5 @@
-//! Serves a command file: reads its bytes, has a core answer the commands of each game of its plan,
-//! and writes the transcript. Also cuts a file to one stay of a game: its own lines as a file.
+//! Serves a command file: reads its bytes, answers the commands of each game in a core, and writes
+//! the transcript. Also cuts a file to one stay of a game: its own lines as a file.
 #![tactic(auto)]
 
 mod cut_fault;

@@ -1,4 +1,4 @@
-//! The lines of a file, split off one after the other.
+//! The lines of a file, split off one by one.
 ghost use Rattle.std.specs.Prelude.{◌≡◌, ◌==◌, ◌+◌, ◌<◌, ◌≤◌, ◌^◌, [], ◌∷◌, ◌++◌, length, option_copied, IfSome, IsNone, None};
 ghost use Rattle.bs_host.specs.Live.{IsCutFirst, IsCutLast};
 ghost use Rattle.std.specs.List.{position};
@@ -16,7 +16,7 @@ pub(crate) fn first_feed(text: &[u8]) -> Option<usize>
     memchr(LINE_FEED, text)
 }
 
-/// The line before the first line feed, and what follows the line feed, if there is one.
+/// The line before the first line feed, and the text after it, if there is one.
 #[tactic(auto, using(crate::proofs::CutPieces::pieces_at_feed, crate::proofs::CutPieces::piece_without_feed))]
 pub(crate) fn split_line(text: &[u8]) -> (&[u8], Option<&[u8]>)
     ensures pieces { pieces_of text.now ≡ result.0.now ∷ pieces_after (option_copied result.1) }

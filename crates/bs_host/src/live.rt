@@ -1,5 +1,5 @@
-//! Serves a command file while it is read: answers each line as soon as it is complete. What is
-//! written is a function of the lines alone, each line's answer in the order of the lines.
+//! Serves a command file while it is read: answers each line as soon as it is complete. The output
+//! is a function of the lines alone: their answers, in order.
 ghost use Rattle.std.specs.Prelude.{◌≡◌, ◌≢◌, ◌↔◌, ◌==◌, ◌+◌, ◌<◌, ◌≤◌, None, IsTrue, ℕ, true, false, List, [], ◌++◌, length, Option, IfOk, IfErr, IfSome, OnOk};
 ghost use Rattle.std.specs.Io.KnownBytes.{Appends, Consumes, IsAtEnd};
 ghost use Rattle.std.specs.List.{position};
@@ -7,7 +7,7 @@ ghost use Rattle.bs_board.specs.plans.Plan.{GameRow};
 ghost use Rattle.bs_host.specs.declared.lines.TheConstants.{LINE_FEED};
 ghost use Rattle.bs_json.specs.declared.limits.TheConstants.{MAX_LINE};
 ghost use Rattle.bs_host.specs.File.{pieces_of};
-ghost use Rattle.bs_host.specs.Live.{HasAnswered, IsSameText, IsServing, LiveLaw, PrefixLaw, TranscriptLaw, live_lines_of, live_of};
+ghost use Rattle.bs_host.specs.Live.{HasAnswered, HaveCores, IsSameText, IsServing, LiveLaw, PrefixLaw, TranscriptLaw, live_lines_of, live_of};
 ghost use Rattle.bs_host.specs.LiveFaults.{IsLiveFault, IsReadFault, LeavesLines, LeavesLive, LeavesText, live_refusal_of};
 
 use crate::lines::{first_feed, split_first, split_last};
@@ -18,7 +18,7 @@ use bs_transcript::write_all_of;
 use std::alloc::{AllocError, Global};
 use std::io::{Read, Write};
 
-/// The most bytes of one read.
+/// The largest number of bytes of one read.
 const BLOCK: usize = 65_536;
 
 /// Writes the text and flushes the writer. Counts in `written` the bytes that it took.
@@ -38,7 +38,8 @@ fn write_out<W: Write>(text: &[u8], written: &mut usize, output: &mut W) -> Resu
     Ok(())
 }
 
-/// Answers the complete lines of what is pending, and writes their answers. The rest stays pending.
+/// Answers the complete lines of the pending bytes, and writes their answers. The rest stays
+/// pending.
 fn answer_ready<W: Write>(
     alloc: Global,
     host: &mut LiveHost,
@@ -46,6 +47,8 @@ fn answer_ready<W: Write>(
     written: &mut usize,
     output: &mut W,
 ) -> Result<(), LiveFault>
+    requires { HaveCores host.old.guests host.old.cores.open.items }
+    ensures cores { OnOk result (HaveCores host.new.guests host.new.cores.open.items) }
     ensures blocks { OnOk result (host.new.blocks ≡ host.old.blocks) }
     ensures version { OnOk result (host.new.version ≡ host.old.version) }
     ensures serving { (plan : List GameRow) (after : List ℕ) (first : Option (List ℕ))
@@ -74,7 +77,7 @@ fn lacks_feed(text: &[u8]) -> bool
     first_feed(text).is_none()
 }
 
-/// Drops what is pending beyond 65,537 bytes where no line feed is among them: the line is too long,
+/// Drops the pending bytes after the first 65,537 if these have no line feed: the line is too long,
 /// whatever follows.
 #[tactic(auto, using(crate::proofs::LiveHeld::same_text))]
 fn hold_line(pending: &mut Vec<u8>)
@@ -85,8 +88,8 @@ fn hold_line(pending: &mut Vec<u8>)
     }
 }
 
-/// Waits until a byte can be read, reads once, and appends what was read. Returns false at the end
-/// of the input.
+/// Waits until a byte can be read, reads once, and appends the bytes. Returns false at the end of
+/// the input.
 fn read_more<R: Read>(input: &mut R, pending: &mut Vec<u8>) -> Result<bool, LiveFault>
     ensures bytes { OnOk result
         ((bytes : List ℕ) × Consumes (R.remaining input.old) (R.remaining input.new) bytes × (pending.new.items ≡ pending.old.items ++ bytes)) }
@@ -102,7 +105,8 @@ fn read_more<R: Read>(input: &mut R, pending: &mut Vec<u8>) -> Result<bool, Live
     Ok(count > 0)
 }
 
-/// Reads until the first line is complete or longer than 65,536 bytes, or to the end of the input.
+/// Reads until the first line is complete or longer than 65,536 bytes, or until the end of the
+/// input.
 #[tactic(auto, using(crate::proofs::LiveBytes::consumes_none, crate::proofs::LiveBytes::reads_more))]
 fn read_first<R: Read>(alloc: Global, input: &mut R) -> Result<Vec<u8>, LiveFault>
     ensures bytes { IfOk result (λ bytes. Consumes (R.remaining input.old) (R.remaining input.new) bytes.items) }
@@ -118,8 +122,8 @@ fn read_first<R: Read>(alloc: Global, input: &mut R) -> Result<Vec<u8>, LiveFaul
     Ok(bytes)
 }
 
-/// Answers what is pending at the end of the input; writes the answers, and the final lines of the
-/// open stays.
+/// Answers the pending bytes at the end of the input; writes the answers, and the final lines of
+/// the open stays.
 fn end_live<W: Write>(
     alloc: Global,
     host: &mut LiveHost,
@@ -127,6 +131,7 @@ fn end_live<W: Write>(
     written: &mut usize,
     output: &mut W,
 ) -> Result<(), LiveFault>
+    requires { HaveCores host.old.guests host.old.cores.open.items }
     ensures written { (plan : List GameRow) (after : List ℕ) (first : Option (List ℕ))
         → IsServing host.old.blocks host.old.version plan after pending.now first (W.contents output.old) written.old host.old.cores.open.items host.old.guests host.old.number
         → OnOk result (Appends first (W.contents output.new) (live_lines_of host.old.blocks host.old.version plan (pieces_of after))) }
@@ -141,7 +146,7 @@ fn end_live<W: Write>(
     Ok(())
 }
 
-/// Answers the lines behind the plan as they are read. Some of their bytes are pending.
+/// Answers the lines after the plan as they are read.
 fn serve_lines<R: Read, W: Write>(
     alloc: Global,
     host: &mut LiveHost,
@@ -149,6 +154,7 @@ fn serve_lines<R: Read, W: Write>(
     input: &mut R,
     output: &mut W,
 ) -> Result<(), LiveFault>
+    requires { HaveCores host.old.guests host.old.cores.open.items }
     ensures written { (plan : List GameRow) → HasAnswered host.old.blocks host.old.version plan [] host.old.cores.open.items host.old.guests host.old.number
         → OnOk result (IfSome (R.remaining input.old) (λ left. Appends (W.contents output.old) (W.contents output.new) (live_lines_of host.old.blocks host.old.version plan (pieces_of (pending.old.items ++ left))))) }
     ensures left { IfErr result (λ fault. (plan : List GameRow) → HasAnswered host.old.blocks host.old.version plan [] host.old.cores.open.items host.old.guests host.old.number
@@ -163,11 +169,12 @@ fn serve_lines<R: Read, W: Write>(
             return Ok(());
         }
     }
-    Err(LiveFault::Broken)
+    Err(LiveFault::Memory)
 }
 
-/// Writes the final lines of the stays of a file that is its plan alone.
+/// Writes the final lines of the stays of a file without lines after its plan.
 fn end_plan<W: Write>(alloc: Global, host: &LiveHost, output: &mut W) -> Result<(), LiveFault>
+    requires { HaveCores host.now.guests host.now.cores.open.items }
     ensures written { (plan : List GameRow) → HasAnswered host.now.blocks host.now.version plan [] host.now.cores.open.items host.now.guests host.now.number
         → OnOk result (Appends (W.contents output.old) (W.contents output.new) (live_lines_of host.now.blocks host.now.version plan [])) }
     ensures left { IfErr result (λ fault. (plan : List GameRow) → HasAnswered host.now.blocks host.now.version plan [] host.now.cores.open.items host.now.guests host.now.number
@@ -180,13 +187,13 @@ fn end_plan<W: Write>(alloc: Global, host: &LiveHost, output: &mut W) -> Result<
     Ok(())
 }
 
-/// Serves a command file with `blocks` blocks of memory while it is read. After each read it answers
-/// the complete lines, writes their answers, and flushes the writer. At the end of the input it
-/// answers what follows the last line feed, and writes the final lines of the open stays. The input
-/// may have any length; of a line at most 65,537 bytes are held.
+/// Serves a command file with `blocks` blocks of memory while it is read. After each read it
+/// answers the complete lines, writes their answers, and flushes the writer. At the end of the
+/// input it answers the text after the last line feed, and writes the final lines of the open
+/// stays. The input may have any length; at most 65,537 bytes of a line are held.
 ///
 /// A plan that is refused is a fault as soon as its line is complete or too long, and nothing is
-/// written for it. After any other fault the answers to the first lines stay written.
+/// written for it. After any other fault the answers to the first lines are still written.
 pub fn serve_live<R: Read, W: Write>(
     alloc: Global,
     input: &mut R,
@@ -216,10 +223,10 @@ pub fn serve_live<R: Read, W: Write>(
     }
 }
 
-/// States that what a live host writes of a stay is the stay's section of the transcript, for every
-/// file, number of blocks and stay, and that it writes the same stray lines; so the transcript is what
-/// it writes, sorted by stays; and that what is written for some lines stays written, whatever comes
-/// behind them. Does nothing.
+/// States that the lines that a live host writes for a stay are the stay's section of the
+/// transcript, for every file, number of blocks and stay, and that it writes the same stray lines;
+/// so the transcript is its output, sorted by stays; and that later lines do not change what is
+/// written for earlier ones. Does nothing.
 pub fn live_law()
     ensures sections { LiveLaw }
     ensures transcript { TranscriptLaw }

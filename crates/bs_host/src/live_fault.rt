@@ -12,14 +12,14 @@ use thiserror::Error;
 /// Why a live host stopped before the end of its input was answered.
 #[derive(Debug, Drop, Error)]
 pub enum LiveFault {
-    /// The reader answered an error, an interruption among them.
+    /// The reader returned an error, also an interruption.
     #[error("cannot read the file")]
     Device,
     #[error("plan {0}")]
     Plan(PlanRefusal),
     #[error("out of memory")]
     Memory,
-    /// A core did not answer a command as it should (`bs_workers::Run::Broken`).
+    /// A core did not answer a command correctly (`bs_workers::Run::Broken`).
     #[error("broken")]
     Broken,
     /// The writer failed after it took this many bytes since the start.

@@ -1,11 +1,11 @@
 //! The state of a live host between two lines.
-ghost use Rattle.std.specs.Prelude.{◌≡◌, ℕ, List, [], ◌∷◌, ◌++◌, length, IfOk, IfErr, OnOk, option_to_list};
+ghost use Rattle.std.specs.Prelude.{◌≡◌, true, ℕ, List, [], ◌∷◌, ◌++◌, length, IfOk, IfErr, OnOk, option_to_list};
 ghost use Rattle.bs_board.specs.plans.Plan.{GameRow};
 ghost use Rattle.bs_json.specs.PlanLine.{plan_line_of};
 ghost use Rattle.bs_workers.specs.declared.act.Act.{Act};
 ghost use Rattle.bs_host.specs.Faults.{refusal_of_plan};
 ghost use Rattle.bs_host.specs.File.{pieces_of};
-ghost use Rattle.bs_host.specs.Live.{ArePlayed, HasAnswered, HasOpened, answer_behind, answers_from, closing_behind, route_line, rows_behind};
+ghost use Rattle.bs_host.specs.Live.{ArePlayed, HasAnswered, HasOpened, HaveCores, answer_behind, answers_from, closing_behind, finds_core, numbers_of, numbers_then, route_line, rows_behind};
 ghost use Rattle.bs_host.specs.LiveFaults.{IsLiveRefusal};
 ghost use Rattle.bs_host.specs.Routing.{act_in};
 
@@ -26,8 +26,7 @@ use std::alloc::{AllocError, Global};
 /// The number of the first line after the plan.
 const FIRST_NUMBER: u64 = 2;
 
-/// A live host that has answered all lines so far. It keeps the open stays, and nothing of those
-/// that left.
+/// A live host that has answered all lines so far. It keeps only the open stays.
 #[derive(Drop)]
 pub(crate) struct LiveHost {
     pub(crate) blocks: usize,
@@ -39,8 +38,8 @@ pub(crate) struct LiveHost {
 }
 
 impl LiveHost {
-    /// Does what a line asks for by its route, and appends its answer. A stay that is admitted gets
-    /// the number `made`.
+    /// Executes a routed line, and appends its answer. A stay that is admitted gets the number
+    /// `made`.
     fn follow(
         &mut self,
         alloc: Global,
@@ -48,8 +47,10 @@ impl LiveHost {
         route: &Route,
         text: &mut Vec<u8>,
     ) -> Result<(), Run>
+        requires { finds_core route.now self.old.cores.open.items ≡ true }
         ensures blocks { OnOk result (self.new.blocks ≡ self.old.blocks) }
         ensures version { OnOk result (self.new.version ≡ self.old.version) }
+        ensures cores { OnOk result (numbers_of self.new.cores.open.items ≡ numbers_then made (numbers_of self.old.cores.open.items) route.now) }
         ensures guests { OnOk result (self.new.guests ≡ self.old.guests) }
         ensures number { OnOk result (self.new.number ≡ self.old.number) }
         ensures played { (plan : List GameRow) (acts : List Act) → made ≡ length (rows_behind plan acts) → ArePlayed plan acts self.old.cores.open.items
@@ -76,10 +77,11 @@ impl LiveHost {
         Ok(())
     }
 
-    /// Opens the plan that is the first line of a file. Checks the plan and the number of blocks, and
+    /// Opens the plan in the first line of a file. Checks the plan and the number of blocks, and
     /// returns the first fault.
     pub(crate) fn open(alloc: Global, first: &[u8], blocks: usize) -> Result<LiveHost, LiveFault>
         ensures opened { IfOk result (λ live. HasOpened blocks first.now live.blocks live.version live.cores.open.items live.guests live.number) }
+        ensures cores { IfOk result (λ live. HaveCores live.guests live.cores.open.items) }
         ensures fault { IfErr result (IsLiveRefusal (refusal_of_plan blocks (plan_line_of first.now))) }
     {
         let plan = read_plan(alloc, first)?;
@@ -99,8 +101,10 @@ impl LiveHost {
         })
     }
 
-    /// Routes the next line, does what it asks for, and appends its answer.
+    /// Routes and executes the next line, and appends its answer.
     fn answer(&mut self, alloc: Global, line: &[u8], text: &mut Vec<u8>) -> Result<(), Run>
+        requires { HaveCores self.old.guests self.old.cores.open.items }
+        ensures cores { OnOk result (HaveCores self.new.guests self.new.cores.open.items) }
         ensures blocks { OnOk result (self.new.blocks ≡ self.old.blocks) }
         ensures version { OnOk result (self.new.version ≡ self.old.version) }
         ensures answered { (plan : List GameRow) (lines : List (List ℕ)) → HasAnswered self.old.blocks self.old.version plan lines self.old.cores.open.items self.old.guests self.old.number
@@ -116,13 +120,15 @@ impl LiveHost {
         Ok(())
     }
 
-    /// Answers the lines between the line feeds of a text, one after the other.
+    /// Answers the lines of a text, split at its line feeds, one after the other.
     pub(crate) fn answer_all(
         &mut self,
         alloc: Global,
         lines: &[u8],
         text: &mut Vec<u8>,
     ) -> Result<(), Run>
+        requires { HaveCores self.old.guests self.old.cores.open.items }
+        ensures cores { OnOk result (HaveCores self.new.guests self.new.cores.open.items) }
         ensures blocks { OnOk result (self.new.blocks ≡ self.old.blocks) }
         ensures version { OnOk result (self.new.version ≡ self.old.version) }
         ensures answered { (plan : List GameRow) (before : List (List ℕ)) → HasAnswered self.old.blocks self.old.version plan before self.old.cores.open.items self.old.guests self.old.number
@@ -141,6 +147,7 @@ impl LiveHost {
 
     /// Appends the final lines of the open stays, in the order of their rows.
     pub(crate) fn close(&self, alloc: Global, text: &mut Vec<u8>) -> Result<(), Run>
+        requires { HaveCores self.now.guests self.now.cores.open.items }
         ensures { (plan : List GameRow) (lines : List (List ℕ)) → HasAnswered self.now.blocks self.now.version plan lines self.now.cores.open.items self.now.guests self.now.number
             → OnOk result (text.new.items ≡ text.old.items ++ closing_behind self.now.blocks self.now.version plan lines) }
     {

@@ -1,4 +1,4 @@
-//! A core that one stay has to itself: it is opened, given commands, and shown.
+//! A core of a single stay: it is opened, given commands, and shown.
 ghost use Rattle.std.specs.Prelude.{◌≡◌, [], ◌∷◌, ◌++◌, List, IfOk, OnOk};
 ghost use Rattle.bs_board.specs.declared.commands.command.Command.{Command};
 ghost use Rattle.bs_board.specs.plans.Plan.{GameRow};
@@ -7,7 +7,7 @@ ghost use Rattle.bs_host.specs.Live.{IsCoreOf, closing_line, next_line};
 use crate::limits::BLOCK_BYTES;
 use bs_board::{Plan, Row, Rows, Version};
 use bs_fiber::{Contents, SharedCommand};
-use bs_json::{final_line, push_reply_line};
+use bs_json::{final_line, reply_line};
 use bs_sched::{Core, Open, blocks_of};
 use bs_workers::{Run, is_settled, run_command};
 use std::alloc::{AllocError, Global};
@@ -28,13 +28,9 @@ fn push_reply(alloc: Global, core: &Core<BLOCK_BYTES>, text: &mut Vec<u8>) -> Re
     if count == 0 {
         return Err(Run::Broken);
     }
-    push_reply_line(
-        alloc,
-        &core.row(STAY).game,
-        count as u64,
-        &replies[count - 1],
-        text,
-    )?;
+    let name = &core.row(STAY).game;
+    let line = reply_line(alloc, name, count as u64, &replies[count - 1])?;
+    text.extend_from_slice(&line)?;
     Ok(())
 }
 

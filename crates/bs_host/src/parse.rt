@@ -12,23 +12,23 @@ use bs_json::{Line, Stray, read_line};
 use std::alloc::{AllocError, Global};
 use std::thread::{Threads, join};
 
-/// A parsed line of a file. It depends on the line's bytes and the plan's version alone.
+/// A parsed line of a file, by the line's bytes and the plan's version alone.
 #[derive(Debug, Drop)]
 pub enum ParsedLine {
     /// A command for the game of that name.
     Command(Id, SharedCommand),
-    /// It admits a game.
+    /// A line that admits a game.
     Admit(Row),
-    /// It dismisses the game of that name.
+    /// A line that dismisses the game of that name.
     Leave(Id),
     /// A line of no game, for that reason.
     Stray(Stray),
-    /// Nothing but white space.
+    /// A line of white space only.
     Blank,
 }
 
-/// Allocates the command; or shares the command of the line before, where that is the same and has
-/// neither setup nor moves.
+/// Allocates the command, or shares the command of the line before if that is equal and has neither
+/// setup nor moves.
 #[inline(always)]
 fn to_shared(
     alloc: Global,
@@ -44,7 +44,7 @@ fn to_shared(
     }
 }
 
-/// Parses a line. The line before it may share its command's memory.
+/// Parses a line. Its command may share the memory of the one before.
 #[inline(always)]
 pub(crate) fn parse_line(
     alloc: Global,
@@ -88,11 +88,11 @@ fn parse_share(alloc: Global, version: Version, text: &[u8]) -> Result<Vec<Parse
     Ok(lines)
 }
 
-/// The fewest bytes of a share: parsing them takes a few times as long as starting a thread.
+/// The fewest bytes in a share: parsing them takes a few times as long as starting a thread.
 const FEWEST_BYTES: usize = 32_768;
 
-/// Splits a text in two near its middle, at a line feed: each half is parsed by half of the
-/// threads. None where one thread is to parse all of it.
+/// Splits a text in two near its middle, at a line feed; each half is for half of the threads.
+/// `None` if one thread is to parse all of it.
 fn split_shares(text: &[u8], threads: usize) -> Option<(&[u8], &[u8])>
     ensures pieces { IfSome result (λ cut. pieces_of text.now ≡ pieces_of cut.0.now ++ pieces_of cut.1.now) }
     ensures shorter { IfSome result (λ cut. length cut.0.now < length text.now) }

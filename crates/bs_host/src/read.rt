@@ -1,4 +1,4 @@
-//! The bytes of a command file, read from any reader.
+//! Reads the bytes of a command file from any reader.
 ghost use Rattle.std.specs.Prelude.{◌≡◌, ◌<◌, ◌≤◌, length, IfOk, IfErr, OnOk, IfSome, IsErrOf};
 ghost use Rattle.std.specs.Io.KnownBytes.{Consumes, IsAtEnd};
 
@@ -9,14 +9,14 @@ use thiserror::Error;
 
 const BLOCK: usize = 65_536;
 
-/// The capacity that is reserved at once: the most bytes that are ever read. Reserved memory costs
-/// nothing until it is written, and the bytes read are never moved.
+/// The capacity that is reserved at once: the largest number of bytes that is ever read. Reserved
+/// memory costs nothing until it is written, and the bytes read are never moved.
 const ROOM: usize = MOST_FILE_BYTES + BLOCK;
 
 /// Why a command file was not read.
 #[derive(Debug, Drop, Error)]
 pub enum ReadFault {
-    /// The reader answered an error, an interruption among them.
+    /// The reader returned an error, also an interruption.
     #[error("cannot read the file")]
     Device,
     #[error("file too long")]
@@ -25,7 +25,7 @@ pub enum ReadFault {
     Memory,
 }
 
-/// Reads all bytes that the reader has left, at most 16,777,216. After an error no contract says
+/// Reads all bytes that the reader has left, at most 16,777,216. After an error it is not specified
 /// how many were taken.
 pub fn read_input<R: Read>(alloc: Global, input: &mut R) -> Result<Vec<u8>, ReadFault>
     ensures all { IfOk result (λ bytes. IfSome (R.remaining input.old) (λ left. bytes.items ≡ left)) }

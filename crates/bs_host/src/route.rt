@@ -12,7 +12,7 @@ use bs_json::Stray;
 use bs_workers::Act;
 use std::alloc::{AllocError, Global};
 
-/// Where a line goes.
+/// The route of a line.
 #[derive(Debug, Drop)]
 pub enum Route {
     /// To the core.
@@ -26,7 +26,7 @@ pub enum Route {
 /// The number of the first line after the plan.
 const FIRST_NUMBER: u64 = 2;
 
-/// The acts of a file, and its stray lines, each with its line number.
+/// The acts of a file, and its stray lines with their line numbers.
 #[derive(Debug, Drop)]
 pub struct Requests {
     pub(crate) acts: Vec<Act>,
@@ -49,8 +49,8 @@ fn push_route(requests: &mut Requests, number: u64, route: Route) -> Result<(), 
     Ok(())
 }
 
-/// Routes the lines that follow the plan, in the order of the file, which is served from that many
-/// blocks. Which games are admitted depends on the blocks, the plan and these lines alone.
+/// Routes the lines after the plan of a file that is served with that many blocks, in order. The
+/// blocks, the plan and these lines alone determine which games are admitted.
 #[tactic(auto, using(crate::proofs::ParsedLines::none_read, crate::proofs::ParsedLines::goes_on, crate::proofs::ParsedLines::all_read))]
 pub(crate) fn route_lines(
     alloc: Global,

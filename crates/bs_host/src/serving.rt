@@ -1,5 +1,5 @@
 //! Serves a command file, one stage after the other: opens it, parses and routes its lines, runs
-//! the core, renders the transcript and writes it.
+//! the core, and writes the transcript.
 ghost use Rattle.std.specs.Prelude.{◌≡◌, ◌≤◌, None, IfOk, IfErr, OnOk, option_copied};
 ghost use Rattle.std.specs.Io.KnownBytes.{Appends};
 ghost use Rattle.bs_host.specs.File.{pieces_after};
@@ -14,24 +14,23 @@ use crate::file::CommandFile;
 use crate::limits::{BLOCK_BYTES, MOST_FILE_BYTES};
 use crate::lines::split_line;
 use crate::parse::parse_lines;
-use crate::render::render_core;
+use crate::render::write_core;
 use crate::route::{Requests, route_lines};
 use bs_board::Plan;
 use bs_board::limits::MOST_ROWS;
 use bs_json::read_plan;
 use bs_sched::{Core, MOST_WORKERS};
-use bs_transcript::write_shares;
 use bs_workers::{Gate, run};
 use std::alloc::{AllocError, Global};
 use std::io::Write;
 use std::sync::Wait;
 use std::thread::Threads;
 
-/// The largest number of threads. Where more are asked for, this many are used.
+/// The largest number of threads. If more are requested, this many are used.
 const MOST_THREADS: usize = 1_024;
 
-/// The largest number of workers of a thread. With so many jobs between two critical sections, the
-/// time at the lock is small beside them.
+/// The largest number of workers of a thread. With 16 jobs between two critical sections, the time
+/// at the lock is small beside them.
 const MOST_WORKERS_OF_THREAD: usize = 16;
 
 /// The number of workers of a core for that plan. Each thread has as many workers as there may be
@@ -92,8 +91,9 @@ fn read_requests<R: Threads + Sync>(
 
 /// Serves a command file with `blocks` blocks of memory and `workers` threads, the caller's
 /// included: a core answers each game's commands in the order of their lines, then the transcript
-/// is written at once. Before each job the gate is consulted, with the thread's number. Every fault
-/// but a writer's is found before anything is written. Returns the core.
+/// is written, through a buffer of 64 KiB and the longest line. Before each job the gate is
+/// consulted, with the thread's number. Every fault but a writer's is found before anything is
+/// written, and no memory is asked for from then on. Returns the core.
 pub fn serve<R: Threads + Wait + Sync, G: Gate, W: Write>(
     rt: &R,
     alloc: Global,
@@ -118,7 +118,6 @@ pub fn serve<R: Threads + Wait + Sync, G: Gate, W: Write>(
     };
     let Requests { acts, strays } = read_requests(rt, alloc, file, threads)?;
     let core = run(rt, alloc, core, acts.as_slice(), threads, gate)?;
-    let text = render_core(rt, alloc, &core, strays.as_slice(), threads)?;
-    write_shares(&text, output)?;
+    write_core(alloc, &core, strays.as_slice(), output)?;
     Ok(core)
 }

@@ -1,11 +1,13 @@
 //! The cores of the open stays of a live host.
-ghost use Rattle.std.specs.Prelude.{◌≡◌, nat_eq, not, List, [], ◌∷◌, ◌++◌, length, IfOk, IfSome, OnOk};
-ghost use Rattle.std.specs.List.{filter};
+ghost use Rattle.std.specs.Prelude.{◌≡◌, nat_eq, not, true, List, [], ◌∷◌, ◌++◌, length, IfOk, IfSome, OnOk};
+ghost use Rattle.std.specs.List.{filter, position};
 ghost use Rattle.bs_board.specs.plans.Plan.{GameRow};
 ghost use Rattle.bs_workers.specs.declared.act.Act.{Act};
 ghost use Rattle.bs_workers.specs.declared.act.Act.TheVariants as act;
+ghost use Rattle.bs_workers.specs.Acts.{opened};
 ghost use Rattle.bs_host.specs.Cut.{row_at};
-ghost use Rattle.bs_host.specs.Live.{ArePlayed, IsAt, act_line, closing_line, commands_given, rows_behind};
+ghost use Rattle.bs_host.specs.Guests.{guests_of};
+ghost use Rattle.bs_host.specs.Live.{ArePlayed, HaveCores, IsAt, act_line, closing_line, commands_given, has_core, numbers_of, rows_behind};
 
 use crate::limits::BLOCK_BYTES;
 use crate::lone_core::{answer_command, open_core, push_final};
@@ -15,8 +17,8 @@ use bs_sched::Core;
 use bs_workers::Run;
 use std::alloc::{AllocError, Global};
 
-/// The core of each open stay, with the stay's number, in the order of the numbers. Keeps nothing
-/// of a stay that has left.
+/// The core of each open stay, with the stay's number, in the order of the numbers. A stay that has
+/// left is dropped.
 #[derive(Drop)]
 pub(crate) struct StayCores {
     open: Vec<(usize, Core<BLOCK_BYTES>)>,
@@ -41,17 +43,29 @@ fn drop_core(open: &mut Vec<(usize, Core<BLOCK_BYTES>)>, stay: usize)
     open.retain(|game| game.0 != stay);
 }
 
-/// The place of the stay of that number.
-fn place_of(open: &[(usize, Core<BLOCK_BYTES>)], stay: usize) -> Option<usize>
-    ensures { IfSome result (λ at. IsAt open.now stay at) }
+fn find_core(open: &[(usize, Core<BLOCK_BYTES>)], stay: usize) -> Option<usize>
+    ensures place { IfSome result (λ at. IsAt open.now stay at) }
+    ensures first { result ≡ position (λ game. nat_eq game.0 stay) open.now }
 {
     open.iter().position(|game| game.0 == stay)
+}
+
+/// The index of the stay of that number, which is open.
+fn place_of(open: &[(usize, Core<BLOCK_BYTES>)], stay: usize) -> usize
+    requires { has_core stay open.now ≡ true }
+    ensures { IsAt open.now stay result }
+{
+    match find_core(open, stay) {
+        Some(at) => at,
+        None => unreachable!(),
+    }
 }
 
 impl StayCores {
     /// Opens a core for each row of a plan. The stays are numbered from 0.
     pub(crate) fn open_all(alloc: Global, version: Version, rows: &[Row]) -> Result<StayCores, Run>
-        ensures { IfOk result (λ cores. ArePlayed rows.now [] cores.open.items) }
+        ensures played { IfOk result (λ cores. ArePlayed rows.now [] cores.open.items) }
+        ensures open { IfOk result (λ cores. HaveCores (guests_of (opened rows.now)) cores.open.items) }
     {
         let mut open = Vec::with_capacity(alloc, rows.len())?;
         for stay in 0..rows.len() {
@@ -61,7 +75,7 @@ impl StayCores {
         Ok(StayCores { open, spent: None })
     }
 
-    /// Gives the command to the stay of that number, and appends its reply.
+    /// Gives the command to the open stay of that number, and appends its reply.
     pub(crate) fn hand(
         &mut self,
         alloc: Global,
@@ -69,17 +83,19 @@ impl StayCores {
         command: &SharedCommand,
         text: &mut Vec<u8>,
     ) -> Result<(), Run>
+        requires { has_core stay self.old.open.items ≡ true }
+        ensures open { OnOk result (numbers_of self.new.open.items ≡ numbers_of self.old.open.items) }
         ensures played { (plan : List GameRow) (acts : List Act) → ArePlayed plan acts self.old.open.items
             → OnOk result (ArePlayed plan (acts ++ act.Hand stay command.now ∷ []) self.new.open.items) }
         ensures text { (plan : List GameRow) (acts : List Act) → ArePlayed plan acts self.old.open.items
             → OnOk result (text.new.items ≡ text.old.items ++ act_line plan acts (act.Hand stay command.now)) }
     {
-        let at = place_of(&self.open, stay).ok_or(Run::Broken)?;
+        let at = place_of(&self.open, stay);
         answer_command(alloc, &mut self.open[at].1, command, &mut self.spent, text)?;
         Ok(())
     }
 
-    /// Opens a core for a row that is admitted as the stay of that number.
+    /// Opens a core for an admitted row, as the stay of that number.
     pub(crate) fn admit(
         &mut self,
         alloc: Global,
@@ -87,7 +103,8 @@ impl StayCores {
         stay: usize,
         row: &Row,
     ) -> Result<(), Run>
-        ensures { (plan : List GameRow) (acts : List Act) → stay ≡ length (rows_behind plan acts) → ArePlayed plan acts self.old.open.items
+        ensures open { OnOk result (numbers_of self.new.open.items ≡ numbers_of self.old.open.items ++ stay ∷ []) }
+        ensures played { (plan : List GameRow) (acts : List Act) → stay ≡ length (rows_behind plan acts) → ArePlayed plan acts self.old.open.items
             → OnOk result (ArePlayed plan (acts ++ act.Admit row.now ∷ []) self.new.open.items) }
     {
         let core = open_core(alloc, version, row)?;
@@ -95,28 +112,31 @@ impl StayCores {
         Ok(())
     }
 
-    /// Appends the final line of the stay of that number.
+    /// Appends the final line of the open stay of that number.
     pub(crate) fn show_final(
         &self,
         alloc: Global,
         stay: usize,
         text: &mut Vec<u8>,
     ) -> Result<(), Run>
+        requires { has_core stay self.now.open.items ≡ true }
         ensures { (plan : List GameRow) (acts : List Act) → ArePlayed plan acts self.now.open.items
             → OnOk result (text.new.items ≡ text.old.items ++ closing_line (row_at (rows_behind plan acts) stay) (commands_given stay acts)) }
     {
-        let at = place_of(&self.open, stay).ok_or(Run::Broken)?;
+        let at = place_of(&self.open, stay);
         push_final(alloc, &self.open[at].1, text)?;
         Ok(())
     }
 
-    /// Appends the final line of the stay of that number, and drops its core.
+    /// Appends the final line of the open stay of that number, and drops its core.
     pub(crate) fn leave(
         &mut self,
         alloc: Global,
         stay: usize,
         text: &mut Vec<u8>,
     ) -> Result<(), Run>
+        requires { has_core stay self.old.open.items ≡ true }
+        ensures open { OnOk result (numbers_of self.new.open.items ≡ filter (λ number. not (nat_eq number stay)) (numbers_of self.old.open.items)) }
         ensures played { (plan : List GameRow) (acts : List Act) → ArePlayed plan acts self.old.open.items
             → OnOk result (ArePlayed plan (acts ++ act.Leave stay ∷ []) self.new.open.items) }
         ensures text { (plan : List GameRow) (acts : List Act) → ArePlayed plan acts self.old.open.items

@@ -1,4 +1,4 @@
--- The directions of an object's members stand in ascending order of their ids.
+-- The directions of an object's members are in ascending order of their ids.
 use Rattle.std.proofs.Common.{◌≡◌, ℕ, List, [], ◌∷◌, true, Option, Some, None, option_map, String, Global, Less, string_bytes, string_cmp, refl}
 use Rattle.std.specs.List.{AllByRecursion, cons_option}
 use Rattle.std.specs.List.Sorted.{IsStrictlySortedBy}
@@ -22,7 +22,7 @@ ascends_after : (id : List ℕ) (d : Direction) (rest : Given) → FirstIsAbove 
 ascends_after id d [] above up = refl
 ascends_after id d (first ∷ rest) above up = rw above up
 
--- the entry of one member before those of the later ones
+-- the entry of one member, then those of the later ones
 abbrev after : List ℕ → Option Direction → Given → Given
 after id d rest = cons_option (option_map (λ direction. (id, direction)) d) rest
 

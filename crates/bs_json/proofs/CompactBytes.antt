@@ -1,4 +1,4 @@
--- The bytes of a compact text are of ASCII, so it is UTF-8.
+-- The bytes of a compact text are ASCII, so it is UTF-8.
 use Rattle.std.proofs.Common.{◌≡◌, ◌<◌, ◌≤◌, ◌^◌, ◌==◌, ℕ, suc, List, [], ◌∷◌, ◌++◌, All, Bool, true, false, not, nat_le, nat_lt, IsUtf8, codes, decimal, refl, arith}
 use Rattle.std.proofs.lemmas.Bool.{and_from, lt-ltb, ltb-true}
 use Rattle.std.proofs.lemmas.Fmt.{IsAscii-decimal}
@@ -14,7 +14,7 @@ use Rattle.bs_board.specs.commands.Orders.{AreFitWords}
 use Rattle.bs_board.proofs.Chains.{and_both}
 use Rattle.bs_json.specs.Compact.{IsCompact, are_plain, are_plain_moves, compact_text, direction_name, is_plain, move_text, moves_text, order_text, tail_text, words_text}
 
--- what holds of each of them holds of the first and of each of the others
+-- what holds of each word holds of the first and of each of the others
 pub all_parts : (limit word : ℕ) (words : List ℕ) → All (λ w. w < limit) (word ∷ words) → (word < limit) × All (λ w. w < limit) words
 all_parts limit word words small = (small 0 word (omega arith), λ at none within. small (suc at) none (omega arith))
 
@@ -30,7 +30,7 @@ plain_is_ascii (byte ∷ text) plain =
     let parts = and_both (is_plain byte) (are_plain text) plain in
     and_from (nat_lt byte 128) (are_ascii text) (lt-ltb byte 128 (omega (arith, plain_is_below byte parts.0))) (plain_is_ascii text parts.1)
 
--- ASCII in front of UTF-8
+-- ASCII followed by UTF-8
 ascii_then : (front rest : List ℕ) → are_ascii front ≡ true → IsUtf8 rest → IsUtf8 (front ++ rest)
 ascii_then front rest ascii utf8 = IsUtf8-append front rest (IsUtf8-are_ascii front ascii) utf8
 

@@ -1,5 +1,5 @@
--- What a command's compact text says is read back: the line of that text is the command for its
--- game.
+-- The compact text of a command is parsed as that command again: the line of that text is the
+-- command for its game.
 use Rattle.std.proofs.Common.{◌≡◌, ◌≤◌, ◌<◌, ◌^◌, ◌==◌, ℕ, List, [], ◌∷◌, ◌++◌, All, Bool, true, false, not, nat_le, nat_lt, Some, option_and_then, IsUtf8}
 use Rattle.std.proofs.Common.{length, codes, refl, sym, ap, ap₂, ◌∙◌, subst, arith, append_assoc, append-nil, Less, Equal, Greater}
 use Rattle.std.proofs.lemmas.Bool.{le-leb, le-ltb, leb-true}
@@ -40,7 +40,7 @@ use Rattle.bs_json.specs.Values.{each, value_of, whole_to}
 use Rattle.bs_json.proofs.CompactBytes.{all_parts, compact_is_utf8}
 use Rattle.bs_json.proofs.Texts.{value_of_read}
 
--- ---- what is printed is read back
+-- ---- what is printed is parsed again
 
 -- the JSON that has this compact text
 pub read_printed : (d : Data) → tree.HasNumbers (written_as.outline d) → tree.depth (written_as.outline d) ≤ max_depth
@@ -52,9 +52,9 @@ read_printed d numbers shallow =
     ap (λ all. option_and_then of_json (option_and_then (λ p. json.if_last p.0 p.1) (json.value max_depth all))) same
     ∙ ap (λ found. option_and_then of_json (option_and_then (λ p. json.if_last p.0 p.1) found)) (value-json_tokens (written_as.outline d) max_depth [] shallow)
 
--- ---- a plain text stands for itself
+-- ---- a plain text needs no escape
 
--- what is marked is no plain byte
+-- a byte with a meaning of its own is not plain
 is_other_byte : (byte other : ℕ) → is_plain other ≡ false → is_plain byte ≡ true → byte ≡ other → ⊥
 is_other_byte byte other marked plain same = let kept = subst (λ b. is_plain b ≡ true) same plain in cc
 
@@ -118,7 +118,7 @@ tail_ascends : (first : List ℕ × Direction) (rest : List (List ℕ × Directi
 tail_ascends first [] up = refl
 tail_ascends first (second ∷ rest) up = (and_both (is_text_below first.0 second.0) (is_ascending (second ∷ rest)) up).1
 
--- an id that stands anywhere behind another is above it
+-- an id that comes anywhere after another is above it
 is_above : (first : List ℕ × Direction) (between : List (List ℕ × Direction)) (move : List ℕ × Direction) (rest : List (List ℕ × Direction))
     → is_ascending (first ∷ (between ++ move ∷ rest)) ≡ true → slice_cmp nat_cmp first.0 move.0 ≡ Less
 is_above first [] move rest up = less_is _ (and_both (is_text_below first.0 move.0) (is_ascending (move ∷ rest)) up).0
@@ -126,7 +126,7 @@ is_above first (second ∷ between) move rest up =
     let parts = and_both (is_text_below first.0 second.0) (is_ascending (second ∷ (between ++ move ∷ rest))) up in
     nat_list_cmp_total.trans first.0 second.0 move.0 (less_is _ parts.0) (is_above second between move rest parts.1)
 
--- so it goes behind them
+-- so it comes after them
 goes_last : (found : List (List ℕ × Direction)) (move : List ℕ × Direction) (rest : List (List ℕ × Direction)) → is_ascending (found ++ move ∷ rest) ≡ true
     → put move.0 (string (direction_name move.1)) (moves_members found) ≡ moves_members (found ++ move ∷ [])
 goes_last [] move rest up = refl
@@ -134,7 +134,7 @@ goes_last (first ∷ found) move rest up =
     let above = nat_list_cmp_total.antisymm move.0 first.0 ∙ ap ordering_reverse (is_above first found move rest up) in
     rw (above, goes_last found move rest (tail_ascends first (found ++ move ∷ rest) up)) refl
 
--- what is put behind the members found so far: all the moves in their order
+-- the members found so far, followed by the rest, are all the moves in order
 members_from : (found moves : List (List ℕ × Direction)) → is_ascending (found ++ moves) ≡ true
     → of_members (written_as.members_outline (moves_members moves)) (moves_members found) ≡ Some (moves_members (found ++ moves))
 members_from found [] up = rw append-nil refl
@@ -150,7 +150,7 @@ direction_back Down = refl
 direction_back Left = refl
 direction_back Right = refl
 
--- what the reader makes of the members is the moves
+-- the reader turns the members into the moves
 directions_back : (moves : List (List ℕ × Direction)) → directions_of (moves_members moves) ≡ moves
 directions_back [] = refl
 directions_back (move ∷ moves) = rw (direction_back move.1, directions_back moves) refl
@@ -189,7 +189,7 @@ line_of_value version text rest d begins short value =
     let no_space : list_all is_space text ≡ false = ap (list_all is_space) begins in
     rw (le-ltb MAX_LINE (length text) short, no_space, value) refl
 
--- so a line that is such a text is what its data says
+-- so a line of this text is what its data gives
 line_is_from : (version : Version) (text game word : List ℕ) (rest : Members) (found : Data) → text ≡ line_text game word rest → are_plain game ≡ true → escape word ≡ word
     → tree.MembersHaveNumbers (written_as.members_outline rest) → tree.members_depth (written_as.members_outline rest) ≤ 1
     → of_json (written_as.outline (line_data game word rest)) ≡ Some found → IsUtf8 text → length text ≤ MAX_LINE → line_of version text ≡ line_from version (Some found)
@@ -221,7 +221,7 @@ unfolding command_of escape_byte
 end_line_is version text game written is plain utf8 short =
     line_is_from version text game (codes "end") no_members (word_data game (codes "end")) is plain refl tt (omega arith) refl utf8 short
 
--- ---- a question about a turn
+-- ---- a `turn`
 
 abbrev turn_members : ℕ → Members
 turn_members at = member (codes "at") (number (unsigned at)) no_members
@@ -271,7 +271,7 @@ items_back (word ∷ words) small =
     let parts = all_parts (2 ^ 32) word words small in
     rw (number_of-decimal word (omega arith), items_back words parts.1) refl
 
--- what the reader makes of the items is the words
+-- the reader turns the items into the words
 words_back : (words : List ℕ) → All (λ word. word < 2 ^ 32) words → each (whole_to MOST_WORD) (words_items words) ≡ Some words
 words_back [] small = refl
 words_back (word ∷ words) small =
@@ -280,7 +280,7 @@ words_back (word ∷ words) small =
 
 -- ---- a move
 
--- `more` are the members behind the moves
+-- `more` are the members after the moves
 abbrev move_members : List (List ℕ × Direction) → Members → Members
 move_members moves more = member (codes "moves") (object (moves_members moves)) more
 
@@ -309,7 +309,7 @@ bare_move_line_is version text game orders is plain compact utf8 short =
     line_is_from version text game (codes "move") rest (move_data game moves no_members) sent plain refl (has_numbers moves, tt) (omega arith) back utf8 short
     ∙ asks
 
--- what is written behind the opening bracket of the moves, in the brackets of either definition
+-- the text after the opening brace of the moves, in the grouping of either definition
 regroup_words : (moves mark middle words close end : List ℕ) → moves ++ (mark ++ (middle ++ (words ++ (close ++ end))))
     ≡ (moves ++ mark) ++ (middle ++ ((words ++ close) ++ end))
 regroup_words moves mark middle words close end = simp append_assoc

@@ -1,4 +1,4 @@
--- What is cut off the front of a line.
+-- The parts at the front of a line.
 use Rattle.std.proofs.Common.{◌≡◌, ℕ, suc, ◌+◌, ◌<◌, ◌≤◌, ◌^◌, ◌⊎◌, inl, inr, Bool, true, false, not, ◌&&◌, cond, List, [], ◌∷◌, ◌++◌, length, take, drop, get_or, codes, decimal, Some, None, Option, Result, Ok, OkIff, refl, sym, ap, ap₂, subst, ◌∙◌, arith, append_assoc, take-append-drop}
 use Rattle.std.specs.Char.{is_ascii_digit}
 use Rattle.std.specs.List.{list_all, position, position_or_len}
@@ -40,7 +40,7 @@ place_found false place end is = absurd (cc)
 pub plain_front : (line : List ℕ) (end : ℕ) → position (λ byte. not (is_plain byte)) line ≡ Some end → are_plain (take end line) ≡ true
 plain_front line end is = subst (λ n. are_plain (take n line) ≡ true) (place_found _ _ end is) (plain_prefix line)
 
--- the choice among names is by a name or by those that follow it
+-- a name is chosen by itself or by the later ones
 chosen : (b : Bool) (here there : Direction) (rest : Option Direction) → cond b (Some here) rest ≡ Some there → ((b ≡ true) × (here ≡ there)) ⊎ (rest ≡ Some there)
 chosen true here there rest is = inl (refl, cc)
 chosen false here there rest is = inr is
@@ -63,7 +63,7 @@ named_direction name d is = elim (chosen (is_same_text name (codes "up")) Up d _
   ]
 ]
 
--- a move in its parts, as they are cut off one after the other
+-- a move by its parts, in order
 pub move_parts : (line first id second name rest : List ℕ) (d : Direction) → line ≡ 34 ∷ first → first ≡ id ++ 34 ∷ second → second ≡ 58 ∷ 34 ∷ (name ++ 34 ∷ rest)
     → direction_named name ≡ Some d → line ≡ move_text (id, d) ++ rest
 move_parts line first id second name rest d opens closes next named =
@@ -88,7 +88,7 @@ more_text false [] move rest = simp append_assoc
 more_text true (first ∷ moves) move rest = longer true first (moves_text true moves) (moves_text true (moves ++ move ∷ [])) _ rest (more_text true moves move rest)
 more_text false (first ∷ moves) move rest = longer false first (moves_text true moves) (moves_text true (moves ++ move ∷ [])) _ rest (more_text true moves move rest)
 
--- one move more
+-- one more move
 pub one_move_more : (line left rest : List ℕ) (moves : List (List ℕ × Direction)) (move : List ℕ × Direction) → line ≡ moves_text false moves ++ left
     → left ≡ comma_if (are_some moves) ++ (move_text move ++ rest) → line ≡ moves_text false (moves ++ move ∷ []) ++ rest
 one_move_more line left rest moves move begins next = begins ∙ ap (λ t. moves_text false moves ++ t) next ∙ more_text false moves move rest
@@ -109,7 +109,7 @@ more_words true (first ∷ words) word rest =
 more_words false (first ∷ words) word rest =
     longer_words false first (words_text true words) (words_text true (words ++ word ∷ [])) _ rest (more_words true words word rest)
 
--- one word more
+-- one more word
 pub one_word_more : (line left rest words : List ℕ) (word : ℕ) → line ≡ words_text false words ++ left → left ≡ comma_if (are_some words) ++ (decimal word ++ rest)
     → line ≡ words_text false (words ++ word ∷ []) ++ rest
 one_word_more line left rest words word begins next = begins ∙ ap (λ t. words_text false words ++ t) next ∙ more_words false words word rest

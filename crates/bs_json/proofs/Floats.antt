@@ -1,4 +1,4 @@
--- No value of a transcript has a float.
+-- The value of a final line has no float.
 use Rattle.std.proofs.Common.{◌≡◌, ℕ, ℤ, pos, negsuc, List, [], ◌∷◌, false, Option, Some, None, map, refl}
 use Rattle.serde_json.specs.Data.{Data}
 use Rattle.serde_json.specs.Find.{is_float, of_integer}
@@ -8,11 +8,8 @@ use Rattle.bs_board.specs.declared.boards.point.Point.{Point}
 use Rattle.bs_board.specs.declared.boards.board.Board.{Board}
 use Rattle.bs_board.specs.declared.boards.snake.Snake.{Snake}
 use Rattle.bs_board.specs.declared.boards.snake.Cause.{Cause}
-use Rattle.bs_board.specs.declared.commands.reply.Reply.{Reply}
-use Rattle.bs_board.specs.declared.commands.reply.Reply.TheVariants.{Shown, Plain, Refused}
-use Rattle.bs_json.specs.declared.line.Stray.{Stray}
 use Rattle.bs_json.specs.Boards.{cell_data, cause_data, killer_data, id_data, out_data, snake_data, board_data}
-use Rattle.bs_json.specs.Replies.{reply_data, last_data, final_data, stray_data}
+use Rattle.bs_json.specs.Replies.{last_data, final_data}
 
 integer_is_no_float : (z : ℤ) → is_float (of_integer z) ≡ false
 integer_is_no_float (pos n) = refl
@@ -21,7 +18,7 @@ integer_is_no_float (negsuc n) = refl
 cell_has_no_float : (p : Point) → has_float (cell_data p) ≡ false
 cell_has_no_float p = rw (integer_is_no_float p.x, integer_is_no_float p.y)
 
--- of a list of values with no float
+-- a list of values without floats
 list_has_no_float : {A : Type 0} (f : A → Data) → ((a : A) → has_float (f a) ≡ false) → (xs : List A) → items_have_float (items_of (map f xs)) ≡ false
 list_has_no_float f none [] = refl
 list_has_no_float f none (a ∷ rest) = rw (none a) (list_has_no_float f none rest)
@@ -51,12 +48,6 @@ unfolding board_data
 board_has_no_float b =
     rw (list_has_no_float cell_data cell_has_no_float b.food, list_has_no_float (snake_data b.snakes) (snake_has_no_float b.snakes) b.snakes)
 
-pub reply_has_no_float : (game : List ℕ) (seq : ℕ) (reply : Reply) → has_float (reply_data game seq reply) ≡ false
-unfolding reply_data
-reply_has_no_float game seq (Shown word board charge) = rw (board_has_no_float board)
-reply_has_no_float game seq (Plain word charge) = refl
-reply_has_no_float game seq (Refused refusal) = refl
-
 last_has_no_float : (board : Option Board) → has_float (last_data board) ≡ false
 last_has_no_float None = refl
 last_has_no_float (Some board) = board_has_no_float board
@@ -64,7 +55,3 @@ last_has_no_float (Some board) = board_has_no_float board
 pub final_has_no_float : (game : List ℕ) (board : Option Board) (charge : ℕ) → has_float (final_data game board charge) ≡ false
 unfolding final_data
 final_has_no_float game board charge = rw (last_has_no_float board)
-
-pub stray_has_no_float : (line : ℕ) (stray : Stray) → has_float (stray_data line stray) ≡ false
-unfolding stray_data
-stray_has_no_float line stray = refl

@@ -4,10 +4,8 @@ pub mod CompactLines
 pub mod CutTexts
 pub mod Floats
 pub mod Lines
-pub mod Lists
-pub mod ShortLines
-pub mod ShownBoard
+pub mod Puts
+pub mod ReplyText
 pub mod ShownCells
 pub mod ShownSnakes
-pub mod ShownText
 pub mod Texts

@@ -1,41 +1,22 @@
--- The text of cells, from their bytes.
-use Rattle.std.proofs.Common.{◌≡◌, ℕ, suc, ◌/◌, ◌%◌, ◌+◌, ◌-◌, ◌<◌, ◌≤◌, List, [], ◌∷◌, ◌++◌, codes, pos, negsuc, ◌-ℤ◌, refl, sym, ap, ◌∙◌, append_assoc, arith}
-use Rattle.std.specs.Prelude.{decimal}
+-- The text of numbers and cells, from their bytes.
+use Rattle.std.proofs.Common.{◌≡◌, ℕ, suc, ◌/◌, ◌%◌, ◌+◌, ◌-◌, ◌<◌, ◌≤◌, Bool, true, List, [], ◌∷◌, ◌++◌, codes, ℤ, pos, negsuc, nat_abs, ◌+ℤ◌, ◌-ℤ◌, ◌≤ℤ◌, All, length, get_or, take, drop, refl, sym, ap, ap₂, ◌∙◌, append_assoc, arith}
+use Rattle.std.specs.Prelude.{decimal, flat_map, map}
+use Rattle.std.specs.List.{AllByRecursion}
 use Rattle.std.proofs.lemmas.Fmt.{decimal_digit}
 use Rattle.std.proofs.lemmas.Int.{ints}
+use Rattle.std.proofs.lemmas.List.{take_rest}
+use Rattle.std.proofs.lemmas.List.Elements.{recursion_from_All}
 use Rattle.itoa.proofs.Decimal.{decimal_two}
-use Rattle.bs_json.specs.BoardText.{cell_of, cell_text, coordinate_text}
-
-pub coordinate_inside : (raised byte : ℕ) → raised ≤ byte → coordinate_text (pos byte -ℤ pos raised) ≡ decimal (byte - raised)
-coordinate_inside raised byte inside =
-    let same : pos byte -ℤ pos raised ≡ pos (byte - raised) = omega (arith, ints) in
-    ap coordinate_text same
-
-pub coordinate_beyond : (raised byte : ℕ) → byte < raised → coordinate_text (pos byte -ℤ pos raised) ≡ 45 ∷ decimal (raised - byte)
-coordinate_beyond raised byte beyond =
-    let same : pos byte -ℤ pos raised ≡ negsuc (raised - byte - 1) = omega (arith, ints) in
-    let less : suc (raised - byte - 1) ≡ raised - byte = omega arith in
-    ap coordinate_text same ∙ ap (λ n. 45 ∷ decimal n) less
-
--- with the sign pushed first
-pub beyond_pieces : (t0 t1 t2 : List ℕ) (raised byte : ℕ) → byte < raised → t1 ≡ t0 ++ 45 ∷ [] → t2 ≡ t1 ++ decimal (raised - byte) → t2 ≡ t0 ++ coordinate_text (pos byte -ℤ pos raised)
-beyond_pieces t0 t1 t2 raised byte beyond one two =
-    two ∙ ap (λ t. t ++ decimal (raised - byte)) one ∙ append_assoc t0 (45 ∷ []) (decimal (raised - byte)) ∙ ap (λ t. t0 ++ t) (sym (coordinate_beyond raised byte beyond))
-
-regroup_cell : (text start x middle y end : List ℕ) → ((((text ++ start) ++ x) ++ middle) ++ y) ++ end ≡ text ++ (start ++ (x ++ (middle ++ (y ++ end))))
-regroup_cell text start x middle y end = simp append_assoc
-
--- what was pushed, step by step
-pub cell_pieces : (t0 t1 t2 t3 t4 t5 : List ℕ) (raised x y : ℕ) → t1 ≡ t0 ++ codes "{\"x\":" → t2 ≡ t1 ++ coordinate_text (pos x -ℤ pos raised) → t3 ≡ t2 ++ codes ",\"y\":"
-    → t4 ≡ t3 ++ coordinate_text (pos y -ℤ pos raised) → t5 ≡ t4 ++ codes "}" → t5 ≡ t0 ++ cell_text (cell_of raised x y)
-cell_pieces t0 t1 t2 t3 t4 t5 raised x y one two three four five =
-    rw (five, four, three, two, one) (regroup_cell t0 (codes "{\"x\":") (coordinate_text (pos x -ℤ pos raised)) (codes ",\"y\":") (coordinate_text (pos y -ℤ pos raised)) (codes "}"))
-
--- a cell near the origin, whose numbers have one digit each
-pub small_cell : (raised x y : ℕ) → raised ≤ x → raised ≤ y → x - raised < 10 → y - raised < 10
-    → codes "{\"x\":" ++ ((48 + (x - raised)) ∷ (codes ",\"y\":" ++ ((48 + (y - raised)) ∷ codes "}"))) ≡ cell_text (cell_of raised x y)
-small_cell raised x y inside_x inside_y few_x few_y =
-    sym (rw (coordinate_inside raised x inside_x, coordinate_inside raised y inside_y, decimal_digit (x - raised) few_x, decimal_digit (y - raised) few_y) refl)
+use Rattle.json.specs.Print.{escape_byte}
+use Rattle.serde_json.specs.View.{items_of}
+use Rattle.serde_json.specs.Written.{comma_if, compact_text, items_text}
+use Rattle.bs_board.specs.declared.boards.point.Point.{Point}
+use Rattle.bs_board.specs.records.Record.{cell_bytes}
+use Rattle.bs_board.specs.records.Writing.{IsByteCell}
+use Rattle.bs_json.specs.Boards.{cell_data}
+use Rattle.bs_json.specs.BoardText.{cell_of, cells_of, coordinate_text}
+use Rattle.bs_json.specs.Text.{Text, put}
+use Rattle.bs_json.proofs.Puts.{next, put_item}
 
 -- ---- short numbers
 
@@ -44,3 +25,62 @@ one_digit number few = sym (decimal_digit number few)
 
 pub two_digits : (number : ℕ) → 10 ≤ number → number < 100 → (48 + number / 10) ∷ (48 + number % 10) ∷ [] ≡ decimal number
 two_digits number many few = sym (decimal_two number many few)
+
+-- ---- cells
+
+pub coordinate_inside : (raised byte : ℕ) → raised ≤ byte → coordinate_text (pos byte -ℤ pos raised) ≡ decimal (byte - raised)
+coordinate_inside raised byte inside =
+    let same : pos byte -ℤ pos raised ≡ pos (byte - raised) = omega (arith, ints) in
+    ap coordinate_text same
+
+coordinate_beyond : (raised byte : ℕ) → byte < raised → coordinate_text (pos byte -ℤ pos raised) ≡ 45 ∷ decimal (raised - byte)
+coordinate_beyond raised byte beyond =
+    let same : pos byte -ℤ pos raised ≡ negsuc (raised - byte - 1) = omega (arith, ints) in
+    let less : suc (raised - byte - 1) ≡ raised - byte = omega arith in
+    ap coordinate_text same ∙ ap (λ n. 45 ∷ decimal n) less
+
+-- with the sign pushed first
+pub beyond_pieces : (t0 t1 t2 : Text) (raised byte : ℕ) → byte < raised → t1 ≡ put t0 (45 ∷ []) → t2 ≡ put t1 (decimal (raised - byte)) → t2 ≡ put t0 (coordinate_text (pos byte -ℤ pos raised))
+beyond_pieces t0 t1 t2 raised byte beyond one two = next _ _ _ _ _ one two ∙ ap (put t0) (sym (coordinate_beyond raised byte beyond))
+
+-- what was pushed, step by step
+pub cell_pieces : (t0 t1 t2 t3 t4 t5 : Text) (later : Bool) (raised x y : ℕ) → t1 ≡ put t0 (comma_if later ++ codes "{\"x\":") → t2 ≡ put t1 (coordinate_text (pos x -ℤ pos raised))
+    → t3 ≡ put t2 (codes ",\"y\":") → t4 ≡ put t3 (coordinate_text (pos y -ℤ pos raised)) → t5 ≡ put t4 (codes "}") → t5 ≡ put t0 (comma_if later ++ compact_text (cell_data (cell_of raised x y)))
+unfolding escape_byte
+cell_pieces t0 t1 t2 t3 t4 t5 later raised x y one two three four five =
+    next _ _ _ _ _ one (next _ _ _ _ _ two (next _ _ _ _ _ three (next _ _ _ _ _ four five))) ∙ ap (put t0) (append_assoc (comma_if later) (codes "{\"x\":") _)
+
+-- a cell near the origin, whose numbers have one digit each
+pub small_cell : (raised x y : ℕ) → raised ≤ x → raised ≤ y → x - raised < 10 → y - raised < 10
+    → codes "{\"x\":" ++ ((48 + (x - raised)) ∷ (codes ",\"y\":" ++ ((48 + (y - raised)) ∷ codes "}"))) ≡ compact_text (cell_data (cell_of raised x y))
+unfolding escape_byte
+small_cell raised x y inside_x inside_y few_x few_y =
+    sym (rw (coordinate_inside raised x inside_x, coordinate_inside raised y inside_y, decimal_digit (x - raised) few_x, decimal_digit (y - raised) few_y) refl)
+
+-- ---- cells and their bytes
+
+not_negative : (z : ℤ) → pos 0 ≤ℤ z → pos (nat_abs z) ≡ z
+not_negative (pos n) low = refl
+not_negative (negsuc n) low = absurd (omega (arith, ints))
+
+raised_again : (z : ℤ) (raised : ℕ) → pos 0 ≤ℤ (z +ℤ pos raised) → pos (nat_abs (z +ℤ pos raised)) -ℤ pos raised ≡ z
+raised_again z raised low = rw (not_negative (z +ℤ pos raised) low) (omega (arith, ints))
+
+cells_back : (raised : ℕ) (cells : List Point) → AllByRecursion (IsByteCell raised) cells → cells_of raised (flat_map (cell_bytes raised) cells) ≡ cells
+cells_back raised [] fits = refl
+cells_back raised (p ∷ cells) fits = rw (raised_again p.x raised fits.0.x.0, raised_again p.y raised fits.0.y.0, cells_back raised cells fits.1) refl
+
+-- the bytes stand for those cells
+pub cells_again : (raised : ℕ) (cells : List Point) (bytes : List ℕ) → All (IsByteCell raised) cells → bytes ≡ flat_map (cell_bytes raised) cells → cells_of raised bytes ≡ cells
+cells_again raised cells bytes fits is = ap (cells_of raised) is ∙ cells_back raised cells (recursion_from_All (IsByteCell raised) cells fits)
+
+-- one cell of those that are left
+pub one_cell : (raised : ℕ) (left : List ℕ) (x y : ℕ) (later : Bool) (t0 t1 total : Text) → 2 ≤ length left → x ≡ get_or left 0 0 → y ≡ get_or left 1 0
+    → t1 ≡ put t0 (comma_if later ++ compact_text (cell_data (cell_of raised x y))) → put t0 (items_text later (items_of (map cell_data (cells_of raised left)))) ≡ total
+    → put t1 (items_text true (items_of (map cell_data (cells_of raised (take (length left - 2) (drop 2 left)))))) ≡ total
+one_cell raised [] x y later t0 t1 total many first second one so_far = absurd (omega (arith, many))
+one_cell raised (a ∷ []) x y later t0 t1 total many first second one so_far = absurd (omega (arith, many))
+one_cell raised (a ∷ b ∷ rest) x y later t0 t1 total many first second one so_far =
+    ap (λ bytes. put t1 (items_text true (items_of (map cell_data (cells_of raised bytes))))) (take_rest (a ∷ b ∷ rest) 2)
+    ∙ put_item t0 t1 total (comma_if later) (compact_text (cell_data (cell_of raised a b))) (items_text true (items_of (map cell_data (cells_of raised rest))))
+    (one ∙ ap₂ (λ p q. put t0 (comma_if later ++ compact_text (cell_data (cell_of raised p q)))) first second) so_far

@@ -1,4 +1,4 @@
--- The JSON value that shows a board.
+-- The JSON value of a board.
 use Rattle.std.specs.Prelude.{ℕ, codes, List, [], ◌∷◌, Option, Some, None, option_and_then, map, slice_get}
 use Rattle.serde_json.specs.Data.{Data, null, boolean, number, string, array, object, unsigned, Members, no_members, member}
 use Rattle.serde_json.specs.Find.{of_integer}
@@ -16,7 +16,7 @@ abbrev pub members_from : List (List ℕ × Data) → Members
 members_from [] = no_members
 members_from (m ∷ ms) = member m.0 m.1 (members_from ms)
 
--- an object of these members, which stand in the order of their names
+-- an object of these members, in the order of their names
 abbrev pub object_of : List (List ℕ × Data) → Data
 object_of ms = object (members_from ms)
 

@@ -1,4 +1,4 @@
--- The command that an object asks for.
+-- The command of an object.
 use Rattle.std.specs.Prelude.{ℕ, codes, List, Option, Some, None, option_map, if◌then◌else◌}
 use Rattle.serde_json.specs.Data.{Data}
 use Rattle.bs_board.specs.declared.commands.command.Command.{Command}

@@ -1,4 +1,4 @@
--- The compact text of a line: no space and no escape in it, its members in one order, the ids of a
+-- The compact text of a line: no spaces, no escapes, its members in a fixed order, the ids of a
 -- move ascending.
 use Rattle.std.specs.Prelude.{◌≡◌, ◌≤◌, ℕ, codes, decimal, List, [], ◌∷◌, ◌++◌, Bool, true, false, not, ◌&&◌, ◌==◌, nat_le, nat_lt, ⊤}
 use Rattle.std.specs.List.{list_all}
@@ -10,7 +10,7 @@ use Rattle.bs_board.specs.declared.commands.command.Command.TheVariants as comma
 use Rattle.bs_board.specs.commands.Orders.{AreFitWords, Orders, is_ascending}
 use Rattle.bs_board.specs.declared.limits.TheConstants.{LAST_TURN}
 
--- a printable byte of ASCII that stands for itself between quotation marks
+-- a printable byte of ASCII that needs no escape in a string
 abbrev pub is_plain : ℕ → Bool
 is_plain byte = nat_le 32 byte && nat_lt byte 127 && not (byte == 34) && not (byte == 92)
 
@@ -26,7 +26,7 @@ direction_name Right = codes "right"
 abbrev pub move_text : List ℕ × Direction → List ℕ
 move_text move = codes "\"" ++ (move.0 ++ (codes "\":\"" ++ (direction_name move.1 ++ codes "\"")))
 
--- with a comma before each, but before the first only where something stands before it
+-- a comma before each, but before the first only if an entry was written before
 abbrev pub moves_text : Bool → List (List ℕ × Direction) → List ℕ
 moves_text later [] = []
 moves_text later (move ∷ moves) = comma_if later ++ (move_text move ++ moves_text true moves)
@@ -35,12 +35,12 @@ abbrev pub words_text : Bool → List ℕ → List ℕ
 words_text later [] = []
 words_text later (word ∷ words) = comma_if later ++ (decimal word ++ words_text true words)
 
--- what follows the moves: the words, if they are written, and the line's end
+-- the text after the moves: the words, if they are written, and the end of the line
 abbrev pub tail_text : Bool → List ℕ → List ℕ
 tail_text false words = codes "}"
 tail_text true words = codes ",\"words\":[" ++ (words_text false words ++ codes "]}")
 
--- from behind the opening mark of what `do` holds
+-- the text after the opening quotation mark of the value of `do`
 abbrev pub order_text : Bool → Command → List ℕ
 order_text written (command.New new) = []
 order_text written (command.Move orders) = codes "move\",\"moves\":{" ++ (moves_text false orders.moves ++ (codes "}" ++ tail_text written orders.words))
@@ -50,14 +50,14 @@ order_text written command.Free = codes "free\"}"
 order_text written command.End = codes "end\"}"
 order_text written command.Bad = []
 
--- `written` tells of a move whether its words are written
+-- `written` says whether a move's words are written
 abbrev pub compact_text : Bool → List ℕ → Command → List ℕ
 compact_text written game command = codes "{\"game\":\"" ++ (game ++ (codes "\",\"do\":\"" ++ order_text written command))
 
 abbrev pub are_plain_moves : List (List ℕ × Direction) → Bool
 are_plain_moves = list_all (λ move. are_plain move.0)
 
--- words are left out only where there are none
+-- words may be left out only if there are none
 abbrev pub MayLeaveOut : Bool → List ℕ → Type 0
 MayLeaveOut false words = words ≡ []
 MayLeaveOut true words = ⊤
@@ -65,7 +65,7 @@ MayLeaveOut true words = ⊤
 abbrev pub IsCompactMove : Bool → Orders → Type 0
 IsCompactMove written orders = (are_plain_moves orders.moves ≡ true) × (is_ascending orders.moves ≡ true) × AreFitWords orders.words × MayLeaveOut written orders.words
 
--- which commands have a compact text
+-- the commands that have a compact text
 abbrev pub IsCompact : Bool → Command → Type 0
 IsCompact written (command.New new) = ⊥
 IsCompact written (command.Move orders) = IsCompactMove written orders

@@ -7,5 +7,5 @@ pub mod Moves
 pub mod PlanLine
 pub mod Replies
 pub mod Setups
-pub mod ShortLines
+pub mod Text
 pub mod Values

@@ -1,4 +1,4 @@
--- What one line of a command file is, after its first.
+-- The reading of one line of a command file after the first.
 use Rattle.std.specs.Prelude.{ℕ, codes, length, List, Bool, false, ◌||◌, ◌&&◌, ◌==◌, Option, Some, None, is_some, nat_lt, if◌then◌else◌}
 use Rattle.std.specs.List.{list_all}
 use Rattle.serde_json.specs.Data.{Data}
@@ -24,7 +24,7 @@ abbrev pub line_for : List ℕ → Option Command → Line
 line_for game None = line.Bad game
 line_for game (Some command) = line.Command game command
 
--- of an object that neither admits nor dismisses a game
+-- a line whose object neither admits nor dismisses a game
 abbrev pub command_line : Version → Data → Option (List ℕ) → Line
 command_line version d None = line.Stray stray.Game
 command_line version d (Some game) = line_for game (command_of version d)
@@ -41,7 +41,7 @@ abbrev pub admit_line : Option GameRow → Line
 admit_line None = line.BadAdmit
 admit_line (Some row) = line.Admit row
 
--- games are admitted and dismissed in the versions that have stays
+-- games are admitted and dismissed only in versions that have stays
 abbrev pub line_in : Version → Data → Line
 line_in version d =
     if does (codes "admit") d && has_stays version then admit_line (row_from d)

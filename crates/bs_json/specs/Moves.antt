@@ -1,4 +1,4 @@
--- What a `move` line asks for.
+-- The contents of a `move` line.
 use Rattle.std.specs.Prelude.{ℕ, codes, length, List, [], ◌∷◌, Option, Some, None, option_map, nat_le, if◌then◌else◌}
 use Rattle.std.specs.List.{filter_map}
 use Rattle.serde_json.specs.Data.{Data, Members, no_members, member}
@@ -36,14 +36,14 @@ directions_of members = filter_map direction_entry (entries_of members)
 abbrev pub few_words : List ℕ → Option (List ℕ)
 few_words words = if nat_le (length words) MOST_WORDS then Some words else None
 
--- the words, where they are few enough and none is too great
+-- the words, if they are within the limits
 abbrev pub words_from : Data → Option (List ℕ)
 words_from d = list_of (whole_to MOST_WORD) d >>= few_words
 
 abbrev pub moves_of : Data → Option Members
 moves_of d = get (codes "moves") d >>= as_object
 
--- there are no words where the line does not bring any
+-- no words if the line has no such member
 unfoldable pub orders_from : Data → Option Orders
 orders_from d = do
   words ← or_default words_from [] (get (codes "words") d)

@@ -1,4 +1,4 @@
--- The plan that the first line of a command file is.
+-- The plan in the first line of a command file.
 use Rattle.std.specs.Prelude.{◌≡◌, ℕ, codes, length, List, Option, Some, None, Result, Ok, Err, nat_lt, nat_le, if◌then◌else◌}
 use Rattle.serde_json.specs.Data.{Data, Items}
 use Rattle.serde_json.specs.Find.{get, as_array}
@@ -13,7 +13,7 @@ use Rattle.bs_json.specs.declared.plan.PlanFault.{PlanFault}
 use Rattle.bs_json.specs.declared.plan.PlanFault.TheVariants.{Malformed, BadRow, TooMany, Memory}
 use Rattle.bs_json.specs.Values.{◌>>=◌, value_of, whole, number_at, text_at, each}
 
--- 1 where the member is left out
+-- 1 if the member is left out
 abbrev pub version_of : Option Data → Option Version
 version_of None = Some One
 version_of (Some d) = whole d >>= version_numbered
@@ -27,7 +27,7 @@ row_from d = do
   quota ← number_at (codes "quota") MOST_QUOTA d
   fit_row (row_of game quota)
 
--- a row or a name that is refused comes before their number
+-- a bad row or a repeated name is judged before the number of rows
 abbrev pub plan_of_rows : Version → Option (List GameRow) → Result Plan PlanFault
 plan_of_rows version None = Err BadRow
 plan_of_rows version (Some rows) =
@@ -46,7 +46,7 @@ plan_from (Some d) = plan_of_games (version_of (get (codes "version") d)) (get (
 unfoldable pub plan_line_of : List ℕ → Result Plan PlanFault
 plan_line_of bytes = if nat_lt MAX_LINE (length bytes) then Err Malformed else plan_from (value_of bytes)
 
--- that fault was found; of want of memory nothing is said
+-- that fault was found; nothing is claimed of `Memory`
 abbrev pub IsPlanFault : Result Plan PlanFault → PlanFault → Type 0
 IsPlanFault plan Malformed = plan ≡ Err Malformed
 IsPlanFault plan BadRow = plan ≡ Err BadRow

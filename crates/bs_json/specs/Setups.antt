@@ -1,4 +1,4 @@
--- What a `new` line asks for.
+-- The contents of a `new` line.
 use Rattle.std.specs.Prelude.{ℕ, ◌-◌, ◌&&◌, pos, codes, List, Option, Some, None, if◌then◌else◌}
 use Rattle.serde_json.specs.Data.{Data}
 use Rattle.bs_board.specs.declared.boards.point.Point.{Point}
@@ -12,7 +12,7 @@ use Rattle.bs_board.specs.declared.limits.TheConstants.{LONGEST_SIDE, MOST_CHANC
 use Rattle.bs_json.specs.declared.limits.TheConstants.{USUAL_CHANCE, USUAL_MIN_FOOD}
 use Rattle.bs_json.specs.Values.{◌>>=◌, number_at, number_or, text_at, list_at}
 
--- `wrapped` names a mode only where the version has it
+-- `wrapped` names a mode only in versions that have it
 abbrev pub mode_named : Version → List ℕ → Option Mode
 mode_named version word =
     if is_same_text word (codes "standard") then Some Standard
@@ -40,7 +40,7 @@ start_from d = do
 abbrev pub fit_setup : Setup → Option Setup
 fit_setup setup = if is_fit_setup setup then Some setup else None
 
--- the minimum of food and its chance are the usual ones where the line does not say
+-- the minimum of food and its chance have defaults
 unfoldable pub setup_from : Version → Data → Option Setup
 setup_from version d = do
   mode ← mode_at version d

@@ -1,4 +1,4 @@
-//! The JSON value that shows a board, and the words in it.
+//! The JSON value of a board, and the words in it.
 ghost use Rattle.std.specs.Prelude.{◌≡◌, IfOk, option_and_then, slice_get};
 ghost use Rattle.std.specs.Option.{option_copied};
 ghost use Rattle.serde_json.specs.View.{view};
@@ -50,7 +50,7 @@ fn out_value(out: Option<u16>) -> Value
     }
 }
 
-/// None where there is no seat, or no snake in it.
+/// The snake in the seat. `None` if there is no seat, or no snake in it.
 pub fn snake_in_seat(snakes: &[Snake], seat: Option<usize>) -> Option<&Snake>
     ensures { option_copied result ≡ option_and_then (slice_get snakes.now) seat }
 {
@@ -126,7 +126,7 @@ pub fn is_over(board: &Board) -> bool
     }
 }
 
-/// The value of a board as replies show it.
+/// Makes the JSON value of a board in a reply.
 #[tactic(auto, unfolding(crate::specs::Boards::board_data))]
 pub fn board_value(alloc: Global, board: &Board) -> Result<Value, AllocError>
     ensures { IfOk result (λ v. view v ≡ board_data board.now) }

@@ -1,4 +1,4 @@
-//! The command that a line asks for.
+//! The command of a line.
 ghost use Rattle.std.specs.Prelude.{◌≡◌, codes, IfOk};
 ghost use Rattle.serde_json.specs.View.{view};
 ghost use Rattle.bs_json.specs.Commands.{command_for, command_of, word_at, word_named};
@@ -56,9 +56,9 @@ fn word_at(line: &Value) -> Option<Word>
     word_named(text_at(line, "do")?)
 }
 
-/// The command that a line asks for in a file of that version. `None` where `do` is missing or
-/// unknown, or a member is missing, of the wrong type or out of range. What becomes part of the
-/// command is taken out of the line.
+/// Reads the command of a line in a file of that version. `None` if `do` is missing or unknown, or
+/// a member is missing, of the wrong type or out of range. Takes the parts of the command out of
+/// the line.
 #[tactic(auto, unfolding(crate::specs::Commands::command_of))]
 pub fn command_of(
     alloc: Global,

@@ -1,5 +1,5 @@
-//! Lines in their compact form, as programs write most of them: they are read in one pass, and no
-//! JSON value is made.
+//! Parses lines in their compact form, as programs write most of them: in one pass, without a JSON
+//! value.
 ghost use Rattle.std.specs.Prelude.{◌≡◌, ◌≤◌, ◌∷◌, ◌++◌, codes, decimal, length, slice_index, false, true, not, IsTrue, IfOk, IfSome};
 ghost use Rattle.std.specs.Char.{is_ascii_digit};
 ghost use Rattle.std.specs.List.{list_all, position};
@@ -18,14 +18,14 @@ use bs_board::{Command, Direction, Id, Move, Moves, TurnNumber, Words};
 use std::alloc::{AllocError, Global};
 use std::str;
 
-/// Whether it stands for itself between quotation marks, and is printable ASCII.
+/// Whether the byte is printable ASCII and needs no escape in a string.
 pub(crate) fn is_plain(byte: u8) -> bool
     ensures { result ≡ is_plain byte }
 {
     32 <= byte && byte < 127 && byte != b'"' && byte != b'\\'
 }
 
-/// What follows that text, where the line begins with it.
+/// Strips the text from the front of the line.
 #[tactic(auto, using(crate::proofs::CutTexts::behind_prefix))]
 fn behind<'l>(line: &'l [u8], text: &[u8]) -> Option<&'l [u8]>
     ensures { IfSome result (λ rest. line.now ≡ text.now ++ rest.now) }
@@ -36,14 +36,14 @@ fn behind<'l>(line: &'l [u8], text: &[u8]) -> Option<&'l [u8]>
     }
 }
 
-/// The place of the first byte that is not plain.
+/// The index of the first byte that is not plain.
 fn plain_end(line: &[u8]) -> Option<usize>
     ensures { result ≡ position (λ byte. not (is_plain byte)) line.now }
 {
     line.iter().position(|byte| !is_plain(*byte))
 }
 
-/// The plain text up to the next quotation mark, and what follows that.
+/// Splits off the plain text up to the next quotation mark, which is dropped.
 #[tactic(auto, using(crate::proofs::CutTexts::plain_front))]
 fn cut_text<'l>(line: &'l [u8]) -> Option<(&'l [u8], &'l [u8])>
     ensures text { IfSome result (λ found. line.now ≡ found.0.now ++ 34 ∷ found.1.now) }
@@ -62,7 +62,7 @@ fn as_text(bytes: &[u8]) -> Option<&str>
     }
 }
 
-/// A snake's id and its direction, and what follows them.
+/// Parses a snake's id and its direction.
 #[tactic(auto, using(crate::proofs::CutTexts::move_parts))]
 fn cut_move<'l>(line: &'l [u8]) -> Option<(&'l [u8], Direction, &'l [u8])>
     ensures text { IfSome result (λ found. line.now ≡ move_text (found.0.now, found.1) ++ found.2.now) }
@@ -73,7 +73,7 @@ fn cut_move<'l>(line: &'l [u8]) -> Option<(&'l [u8], Direction, &'l [u8])>
     Some((id, direction_named(as_text(name)?)?, rest))
 }
 
-/// The same, behind a comma where another stands before.
+/// Parses a move, after a comma unless it is the first.
 fn cut_next_move<'l>(line: &'l [u8], later: bool) -> Option<(&'l [u8], Direction, &'l [u8])>
     ensures text { IfSome result (λ found. line.now ≡ comma_if later ++ (move_text (found.0.now, found.1) ++ found.2.now)) }
     ensures plain { IfSome result (λ found. are_plain found.0.now ≡ true) }
@@ -85,7 +85,7 @@ fn cut_next_move<'l>(line: &'l [u8], later: bool) -> Option<(&'l [u8], Direction
     }
 }
 
-/// All moves up to the bracket behind them, and what follows that.
+/// Parses all moves up to the closing brace.
 #[tactic(auto, using(crate::proofs::CutTexts::one_move_more, crate::proofs::CutTexts::some_with_one, crate::proofs::CutTexts::plain_with_one))]
 fn cut_moves<'l>(
     alloc: Global,
@@ -121,7 +121,7 @@ fn are_digits(text: &[u8]) -> bool
     text.iter().all(|byte| byte.is_ascii_digit())
 }
 
-/// Whether these are digits, with no zero in front of others.
+/// Whether these are digits, with no leading zero.
 fn are_shortest(digits: &[u8]) -> bool
     ensures digits { IsTrue result → list_all is_ascii_digit digits.now ≡ true }
     ensures front { IsTrue result → slice_index digits.now 0 ≡ 48 → length digits.now ≤ 1 }
@@ -129,7 +129,7 @@ fn are_shortest(digits: &[u8]) -> bool
     are_digits(digits) && (digits.len() <= 1 || digits[0] != b'0')
 }
 
-/// The number that is written so.
+/// Parses a number.
 #[tactic(auto, using(crate::proofs::CutTexts::written_number))]
 fn number_in(digits: &[u8]) -> Option<u32>
     ensures { IfSome result (λ number. digits.now ≡ decimal number) }
@@ -143,7 +143,7 @@ fn number_in(digits: &[u8]) -> Option<u32>
     }
 }
 
-/// The number that the line begins with, and what follows it.
+/// Parses the number at the front of the line.
 fn cut_number<'l>(line: &'l [u8]) -> Option<(u32, &'l [u8])>
     ensures { IfSome result (λ found. line.now ≡ decimal found.0 ++ found.1.now) }
 {
@@ -158,7 +158,7 @@ fn is_just(line: &[u8], text: &[u8]) -> bool
     line == text
 }
 
-/// A word, behind a comma where another stands before, and what follows it.
+/// Parses a word, after a comma unless it is the first.
 fn cut_next_word<'l>(line: &'l [u8], later: bool) -> Option<(u32, &'l [u8])>
     ensures { IfSome result (λ found. line.now ≡ comma_if later ++ (decimal found.0 ++ found.1.now)) }
 {
@@ -169,7 +169,7 @@ fn cut_next_word<'l>(line: &'l [u8], later: bool) -> Option<(u32, &'l [u8])>
     }
 }
 
-/// All words up to the bracket behind them, and what follows that.
+/// Parses all words up to the closing bracket.
 fn cut_words<'l>(alloc: Global, line: &'l [u8]) -> Result<Option<(Vec<u32>, &'l [u8])>, AllocError>
     ensures { IfOk result
         (λ cut. IfSome cut (λ found. line.now ≡ words_text false found.0.items ++ 93 ∷ found.1.now)) }
@@ -191,7 +191,7 @@ fn cut_words<'l>(alloc: Global, line: &'l [u8]) -> Result<Option<(Vec<u32>, &'l 
     Ok(None)
 }
 
-/// A `turn`, from its number on.
+/// Parses a `turn` from its number on.
 fn turn_behind(line: &[u8]) -> Option<TurnNumber>
     ensures { IfSome result (λ at. line.now ≡ decimal at ++ codes "}") }
 {
@@ -202,7 +202,7 @@ fn turn_behind(line: &[u8]) -> Option<TurnNumber>
     TurnNumber::new(number as u16)
 }
 
-/// What follows the moves: the words, and whether they are written.
+/// Parses the rest after the moves: the words, and whether they are written.
 fn tail_behind(alloc: Global, line: &[u8]) -> Result<Option<(Words, bool)>, AllocError>
     ensures text { IfOk result (λ o. IfSome o (λ found. line.now ≡ tail_text found.1 found.0)) }
     ensures fit { IfOk result (λ o. IfSome o (λ found. AreFitWords found.0 × MayLeaveOut found.1 found.0)) }
@@ -224,7 +224,7 @@ fn tail_behind(alloc: Global, line: &[u8]) -> Result<Option<(Words, bool)>, Allo
     Ok(Some((words, true)))
 }
 
-/// A `move`, from its first id on, and whether its words are written.
+/// Parses a `move` from its first id on; also says whether its words are written.
 fn move_behind(alloc: Global, line: &[u8]) -> Result<Option<(Move, bool)>, AllocError>
     ensures text { IfOk result
         (λ o. IfSome o (λ found. line.now ≡ moves_text false found.0.moves ++ (codes "}" ++ tail_text found.1 found.0.words))) }
@@ -242,7 +242,7 @@ fn move_behind(alloc: Global, line: &[u8]) -> Result<Option<(Move, bool)>, Alloc
     Ok(Some((Move::new(Moves::from_vec(moves), words), written)))
 }
 
-/// A command that has nothing but its name.
+/// Parses a command that has no members.
 fn name_alone(order: &[u8]) -> Option<Command>
     ensures text { IfSome result (λ command. order.now ≡ order_text false command) }
     ensures compact { IfSome result (IsCompact false) }
@@ -258,7 +258,7 @@ fn name_alone(order: &[u8]) -> Option<Command>
     }
 }
 
-/// A command without words, from its name on.
+/// Parses a command without words, from its name on.
 fn short_behind(order: &[u8]) -> Option<Command>
     ensures text { IfSome result (λ command. order.now ≡ order_text false command) }
     ensures compact { IfSome result (IsCompact false) }
@@ -269,7 +269,7 @@ fn short_behind(order: &[u8]) -> Option<Command>
     }
 }
 
-/// The command, from its name on, and whether its words are written.
+/// Parses a command, from its name on; also says whether its words are written.
 fn order_behind(alloc: Global, order: &[u8]) -> Result<Option<(Command, bool)>, AllocError>
     ensures text { IfOk result (λ o. IfSome o (λ found. order.now ≡ order_text found.1 found.0)) }
     ensures compact { IfOk result (λ o. IfSome o (λ found. IsCompact found.1 found.0)) }
@@ -286,7 +286,7 @@ fn order_behind(alloc: Global, order: &[u8]) -> Result<Option<(Command, bool)>, 
     })
 }
 
-/// The game's name, and what follows up to the command's.
+/// Parses the line up to its command's name: the game's name, and the rest of the line.
 fn cut_game<'l>(line: &'l [u8]) -> Option<(&'l [u8], &'l [u8])>
     ensures text { IfSome result
         (λ found. line.now ≡ codes "{\"game\":\"" ++ (found.0.now ++ (codes "\",\"do\":\"" ++ found.1.now))) }
@@ -296,7 +296,7 @@ fn cut_game<'l>(line: &'l [u8]) -> Option<(&'l [u8], &'l [u8])>
     Some((game, behind(rest, b",\"do\":\"")?))
 }
 
-/// What a line in its compact form is in a file of any version, and `None` for any other line.
+/// Parses a line in its compact form, in a file of any version; `None` for any other line.
 #[tactic(auto, using(crate::proofs::CompactLines::line_of_compact))]
 #[inline(always)]
 pub(crate) fn compact_line(alloc: Global, line: &[u8]) -> Result<Option<Line>, AllocError>

@@ -1,13 +1,13 @@
-//! The ends of the ranges of what a line may ask for.
+//! The limits of lines and of their members.
 
-/// The most bytes of a line, without its line feed.
+/// The largest length of a line in bytes, without its line feed.
 pub const MAX_LINE: usize = 65_536;
 
-/// The minimum of food where a line does not say it.
+/// The default of the minimum of food.
 pub const USUAL_MIN_FOOD: u8 = 1;
 
-/// The chance of food where a line does not say it, in percent.
+/// The default of the chance of food, in percent.
 pub const USUAL_CHANCE: u8 = 15;
 
-/// The greatest word.
+/// The largest word.
 pub const MOST_WORD: u32 = u32::MAX;

@@ -1,4 +1,4 @@
-//! What one line of a command file is, after the first.
+//! Parses one line of a command file, after the first.
 ghost use Rattle.std.specs.Prelude.{◌≡◌, codes, IfOk};
 ghost use Rattle.std.specs.List.{list_all};
 ghost use Rattle.serde_json.specs.View.{view};
@@ -18,39 +18,40 @@ use std::alloc::{AllocError, Global};
 /// Why a line is refused before it reaches a game.
 #[derive(Clone, Copy, Debug, PartialEq, Eq)]
 pub enum Stray {
-    /// L1: it is no JSON text, or no object.
+    /// L1: it is not JSON, or not an object.
     Json,
-    /// L2: it names no game, or none that is open.
+    /// L2: it names no open game.
     Game,
-    /// L3: it is longer than a line may be.
+    /// L3: it is too long.
     Long,
     /// A1: it admits a game whose name or quota is missing or out of range.
     BadRow,
-    /// A2: it admits a game whose name an open game has.
+    /// A2: it admits a game with the name of an open game.
     NameOpen,
     /// A3: it admits a game while as many are open as a plan may have.
     Full,
-    /// A4: it admits a game that needs more blocks than are left beside those of the open games.
+    /// A4: it admits a game that needs more blocks than are free besides those reserved for the
+    /// open games.
     Short,
-    /// A5: it dismisses no open game.
+    /// A5: it dismisses a game that is not open.
     NoStay,
 }
 
-/// What a line of a command file is, after its first.
+/// A parsed line of a command file, after its first.
 #[derive(Debug, Drop)]
 pub enum Line {
-    /// Nothing but white space: it is passed over.
+    /// Only white space; the line is skipped.
     Blank,
     Command { game: Id, command: Command },
-    /// It names its game, and no command that can be carried out.
+    /// It names its game, and is no valid command.
     Bad { game: Id },
     Stray(Stray),
     /// It admits a game, from version 3 on.
     Admit(Row),
     /// It admits a game, but its name or its quota is missing or out of range.
     BadAdmit,
-    /// It dismisses the game of that name, from version 3 on. `None` where the name is missing or
-    /// no text.
+    /// It dismisses the game of that name, from version 3 on. `None` if the name is missing or no
+    /// text.
     Leave { game: Option<Id> },
 }
 
@@ -122,9 +123,9 @@ fn line_from(alloc: Global, version: Version, value: &mut Value) -> Result<Line,
     line_in(alloc, version, value)
 }
 
-/// Reads one line of a file whose plan has that version. The line is given without its line feed.
-/// It is not checked that the plan has the game. A line in its compact form is read without making
-/// a JSON value.
+/// Parses one line of a file whose plan has that version. The line is given without its line feed.
+/// Does not check that the plan has the game. A line in its compact form is parsed without a JSON
+/// value.
 #[tactic(auto, unfolding(crate::specs::Line::line_of))]
 #[inline(always)]
 pub fn read_line(alloc: Global, line: &[u8], version: Version) -> Result<Line, AllocError>

@@ -1,4 +1,4 @@
-//! What a `move` line asks for.
+//! The contents of a `move` line.
 ghost use Rattle.std.specs.Prelude.{◌≡◌, [], IfOk, codes, option_map, true};
 ghost use Rattle.serde_json.specs.Find.{get};
 ghost use Rattle.serde_json.specs.View.{view, members_view};
@@ -32,7 +32,8 @@ fn direction_from(value: &Value) -> Option<Direction>
     direction_named(value.as_str()?)
 }
 
-/// The names of the members become the ids, so that no text is copied.
+/// Turns the members of the object into directions. Their names become the ids, so no text is
+/// copied.
 fn directions_of(
     alloc: Global,
     members: Map<String, Value>,
@@ -82,7 +83,7 @@ fn words_at(alloc: Global, line: &Value) -> Result<Option<Words>, AllocError>
     }
 }
 
-/// The object of the moves, which is taken out of the line.
+/// Takes the object of the moves out of the line.
 fn take_moves(alloc: Global, line: &mut Value) -> Option<Map<String, Value>>
     ensures { option_map (λ m. members_view m.entries) result
         ≡ moves_of (view line.old) }
@@ -91,8 +92,8 @@ fn take_moves(alloc: Global, line: &mut Value) -> Option<Map<String, Value>>
     Some(mem::replace(members, Map::new(alloc)))
 }
 
-/// None where a member is missing, of another type or out of range. The moves are taken out of the
-/// line.
+/// Reads a move. `None` if a member is missing, of another type or out of range. Takes the moves
+/// out of the line.
 #[tactic(auto, unfolding(crate::specs::Moves::orders_from))]
 pub fn orders_from(alloc: Global, line: &mut Value) -> Result<Option<Move>, AllocError>
     ensures { IfOk result (λ orders. orders ≡ orders_from (view line.old)) }

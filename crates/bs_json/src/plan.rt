@@ -16,13 +16,14 @@ use thiserror::Error;
 /// Why the first line of a file is no plan.
 #[derive(Clone, Copy, Debug, Drop, Error, PartialEq, Eq)]
 pub enum PlanFault {
-    /// P1: it is too long, no JSON, no object with an array of games, or of an unknown version.
+    /// P1: it is too long, not JSON, not an object with an array of games, or of an unknown
+    /// version.
     #[error("the first line is no plan")]
     Malformed,
-    /// P2: a row that is out of range, or a name that stands twice.
+    /// P2: a row is out of range, or a name occurs twice.
     #[error("the plan has a bad row")]
     BadRow,
-    /// P3
+    /// P3: there are more than 64 games.
     #[error("the plan has too many games")]
     TooMany,
     #[error("out of memory")]
@@ -48,7 +49,7 @@ fn version_of(line: &Value) -> Option<Version>
     }
 }
 
-/// The row that an object gives, where its name and its quota are there and in their ranges.
+/// Reads a row. `None` if its name or its quota is missing or out of range.
 pub(crate) fn row_from(alloc: Global, value: &Value) -> Result<Option<Row>, AllocError>
     ensures { IfOk result (λ row. row ≡ row_from (view value.now)) }
 {
@@ -100,7 +101,7 @@ fn plan_from(alloc: Global, line: &Value) -> Result<Plan, PlanFault>
     }
 }
 
-/// Reads the first line of a command file, given without its line feed.
+/// Parses the first line of a command file, given without its line feed.
 #[tactic(auto, unfolding(crate::specs::PlanLine::plan_line_of))]
 pub fn read_plan(alloc: Global, line: &[u8]) -> Result<Plan, PlanFault>
     ensures { let plan = plan_line_of line.now

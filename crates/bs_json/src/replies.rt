@@ -1,18 +1,25 @@
-//! The lines of a transcript. A line's type borrows what the line tells, and is sent straight into
-//! the line's text.
-ghost use Rattle.std.specs.Prelude.{◌≡◌, IfOk};
+//! The lines of a transcript. Each is put together from its pieces, with no JSON value made, and what
+//! appends a line to a buffer asks for no memory.
+ghost use Rattle.std.specs.Prelude.{◌≡◌, IfOk, decimal};
 ghost use Rattle.std.specs.Option.{option_copied};
+ghost use Rattle.serde_json.specs.Data.{string};
 ghost use Rattle.serde_json.specs.Events.{SendsValue};
-ghost use Rattle.bs_board.specs.declared.commands.reply.Reply.TheVariants.{Shown, Plain, Refused};
-ghost use Rattle.bs_json.specs.Replies.{word_text, refusal_code, refusal_text, stray_code, stray_text, reply_data, last_data, final_data, stray_data, IsLineOf, reply_line_of, final_line_of, stray_line_of};
+ghost use Rattle.serde_json.specs.View.{view};
+ghost use Rattle.serde_json.specs.Written.{compact_text};
+ghost use Rattle.bs_board.specs.declared.commands.reply.Reply.TheVariants.{Refused};
+ghost use Rattle.bs_json.specs.Replies.{word_text, refusal_code, refusal_text, stray_code, stray_text, reply_data, last_data, final_data, stray_data, IsLineOf, tail_pieces, reply_line_of, final_line_of, stray_line_of};
+ghost use Rattle.bs_json.specs.Text.{put};
 
+use crate::boards::board_value;
 use crate::line::Stray;
-use crate::shown::ShownBoard;
-use bs_board::{Board, Id, Refusal, Reply, Word};
-use serde::{Described, Serialize, Serializer};
+use crate::pieces::{push_number, push_string};
+use crate::shown_bytes::push_board;
+use crate::text_buffer::TextBuffer;
+use bs_board::{Board, Id, KeptBoard, Refusal, Reply, Word};
+use serde_json::{Value, json};
 use std::alloc::{AllocError, Global};
 
-pub(crate) fn word_text(word: Word) -> &'static str
+fn word_text(word: Word) -> &'static str
     ensures { result.now ≡ word_text word }
 {
     match word {
@@ -25,7 +32,7 @@ pub(crate) fn word_text(word: Word) -> &'static str
     }
 }
 
-pub(crate) fn refusal_code(refusal: Refusal) -> &'static str
+fn refusal_code(refusal: Refusal) -> &'static str
     ensures { result.now ≡ refusal_code refusal }
 {
     match refusal {
@@ -39,7 +46,7 @@ pub(crate) fn refusal_code(refusal: Refusal) -> &'static str
     }
 }
 
-pub(crate) fn refusal_text(refusal: Refusal) -> &'static str
+fn refusal_text(refusal: Refusal) -> &'static str
     ensures { result.now ≡ refusal_text refusal }
 {
     match refusal {
@@ -83,9 +90,222 @@ fn stray_text(stray: Stray) -> &'static str
     }
 }
 
-/// What the value sends, as one line.
-fn sent_line<T: Serialize>(alloc: Global, value: &T) -> Result<Vec<u8>, AllocError>
-    ensures { IfOk result (λ line. IsLineOf (T.writes value.now) line.items) }
+/// Appends the name of a command.
+fn push_word(word: Word, text: &mut TextBuffer)
+    ensures { text.new ≡ put text.old (compact_text (string (word_text word))) }
+{
+    push_string(word_text(word).as_bytes(), text);
+}
+
+/// Appends the code of a refusal.
+fn push_code(refusal: Refusal, text: &mut TextBuffer)
+    ensures { text.new ≡ put text.old (compact_text (string (refusal_code refusal))) }
+{
+    push_string(refusal_code(refusal).as_bytes(), text);
+}
+
+/// Appends the reason of a refusal.
+fn push_reason(refusal: Refusal, text: &mut TextBuffer)
+    ensures { text.new ≡ put text.old (compact_text (string (refusal_text refusal))) }
+{
+    push_string(refusal_text(refusal).as_bytes(), text);
+}
+
+/// Appends the code of a stray.
+fn push_stray_code(stray: Stray, text: &mut TextBuffer)
+    ensures { text.new ≡ put text.old (compact_text (string (stray_code stray))) }
+{
+    push_string(stray_code(stray).as_bytes(), text);
+}
+
+/// Appends the reason of a stray.
+fn push_stray_reason(stray: Stray, text: &mut TextBuffer)
+    ensures { text.new ≡ put text.old (compact_text (string (stray_text stray))) }
+{
+    push_string(stray_text(stray).as_bytes(), text);
+}
+
+/// Appends a game's name.
+fn push_game(game: &Id, text: &mut TextBuffer)
+    ensures { text.new ≡ put text.old (compact_text (string game.now)) }
+{
+    push_string(game.as_bytes(), text);
+}
+
+/// Appends a charge.
+fn push_charge(charge: u32, text: &mut TextBuffer)
+    ensures { text.new ≡ put text.old (decimal charge) }
+{
+    push_number(u64::from(charge), text);
+}
+
+/// Appends a reply's members from the charge's number on, and the closing bracket.
+fn push_tail(game: &Id, seq: u64, word: Word, charge: u32, text: &mut TextBuffer)
+    ensures { text.new ≡ put text.old (tail_pieces game.now seq word charge) }
+{
+    push_charge(charge, text);
+    text.push(b",\"do\":");
+    push_word(word, text);
+    text.push(b",\"game\":");
+    push_game(game, text);
+    text.push(b",\"seq\":");
+    push_number(seq, text);
+    text.push(b"}");
+}
+
+/// Appends a refusal, without the line feed.
+fn push_refused(game: &Id, seq: u64, refusal: Refusal, text: &mut TextBuffer)
+    ensures { text.new ≡ put text.old (compact_text (reply_data game.now seq (Refused refusal))) }
+{
+    text.push(b"{\"game\":");
+    push_game(game, text);
+    text.push(b",\"no\":");
+    push_code(refusal, text);
+    text.push(b",\"seq\":");
+    push_number(seq, text);
+    text.push(b",\"why\":");
+    push_reason(refusal, text);
+    text.push(b"}");
+}
+
+/// Appends a reply, without the line feed.
+fn push_reply(game: &Id, seq: u64, reply: &Reply, text: &mut TextBuffer)
+    ensures { text.new ≡ put text.old (compact_text (reply_data game.now seq reply.now)) }
+{
+    match reply {
+        Reply::Shown(word, board, charge) => {
+            text.push(b"{\"board\":");
+            push_board(board, text);
+            text.push(b",\"charge\":");
+            push_tail(game, seq, *word, *charge, text);
+        }
+        Reply::Plain(word, charge) => {
+            text.push(b"{\"charge\":");
+            push_tail(game, seq, *word, *charge, text);
+        }
+        Reply::Refused(refusal) => push_refused(game, seq, *refusal, text),
+    }
+}
+
+/// Appends the line of an answered command. `seq` is its number within the game, from 1.
+#[tactic(auto, using(crate::proofs::Puts::put_put))]
+pub fn push_reply_line(game: &Id, seq: u64, reply: &Reply, text: &mut TextBuffer)
+    ensures { text.new ≡ put text.old (reply_line_of game.now seq reply.now) }
+{
+    push_reply(game, seq, reply, text);
+    text.push(b"\n");
+}
+
+/// Appends a game's last board, or `null`.
+fn push_last(board: Option<&KeptBoard>, text: &mut TextBuffer)
+    ensures { text.new ≡ put text.old (compact_text (last_data (option_copied board.entry))) }
+{
+    match board {
+        Some(board) => push_board(board, text),
+        None => text.push(b"null"),
+    }
+}
+
+/// Appends a final line, without the line feed.
+fn push_final(game: &Id, board: Option<&KeptBoard>, charge: u32, text: &mut TextBuffer)
+    ensures { text.new ≡ put text.old (compact_text (final_data game.now (option_copied board.entry) charge)) }
+{
+    text.push(b"{\"board\":");
+    push_last(board, text);
+    text.push(b",\"charge\":");
+    push_charge(charge, text);
+    text.push(b",\"final\":true,\"game\":");
+    push_game(game, text);
+    text.push(b"}");
+}
+
+/// Appends the final line of a game. There is no board where no game runs.
+#[tactic(auto, using(crate::proofs::Puts::put_put))]
+pub fn push_final_line(game: &Id, board: Option<&KeptBoard>, charge: u32, text: &mut TextBuffer)
+    ensures { text.new ≡ put text.old (final_line_of game.now (option_copied board.entry) charge) }
+{
+    push_final(game, board, charge, text);
+    text.push(b"\n");
+}
+
+/// Appends the line of a stray, without the line feed.
+fn push_stray(line: u64, stray: Stray, text: &mut TextBuffer)
+    ensures { text.new ≡ put text.old (compact_text (stray_data line stray)) }
+{
+    text.push(b"{\"line\":");
+    push_number(line, text);
+    text.push(b",\"no\":");
+    push_stray_code(stray, text);
+    text.push(b",\"why\":");
+    push_stray_reason(stray, text);
+    text.push(b"}");
+}
+
+/// Appends the line of a stray. `line` is its number in the file, from 1.
+#[tactic(auto, using(crate::proofs::Puts::put_put))]
+pub fn push_stray_line(line: u64, stray: Stray, text: &mut TextBuffer)
+    ensures { text.new ≡ put text.old (stray_line_of line stray) }
+{
+    push_stray(line, stray, text);
+    text.push(b"\n");
+}
+
+/// The line of one answered command. `seq` is its number within the game, from 1.
+#[tactic(auto, using(crate::proofs::Puts::put_measured))]
+pub fn reply_line(alloc: Global, game: &Id, seq: u64, reply: &Reply) -> Result<Vec<u8>, AllocError>
+    ensures { IfOk result (λ line. line.items ≡ reply_line_of game.now seq reply.now) }
+{
+    let mut counted = TextBuffer::new(alloc);
+    push_reply_line(game, seq, reply, &mut counted);
+    let mut line = TextBuffer::with_room(alloc, counted.missing())?;
+    push_reply_line(game, seq, reply, &mut line);
+    Ok(line.into_vec())
+}
+
+/// The line of a stray. `line` is its number in the file, from 1.
+#[tactic(auto, using(crate::proofs::Puts::put_measured))]
+pub fn stray_line(alloc: Global, line: u64, stray: Stray) -> Result<Vec<u8>, AllocError>
+    ensures { IfOk result (λ text. text.items ≡ stray_line_of line stray) }
+{
+    let mut counted = TextBuffer::new(alloc);
+    push_stray_line(line, stray, &mut counted);
+    let mut text = TextBuffer::with_room(alloc, counted.missing())?;
+    push_stray_line(line, stray, &mut text);
+    Ok(text.into_vec())
+}
+
+/// The value of a last board, or null.
+fn last_value(alloc: Global, board: Option<&Board>) -> Result<Value, AllocError>
+    ensures { IfOk result (λ v. view v ≡ last_data (option_copied board.entry)) }
+{
+    match board {
+        Some(board) => board_value(alloc, board),
+        None => Ok(Value::Null),
+    }
+}
+
+#[tactic(auto, unfolding(crate::specs::Replies::final_data))]
+fn final_value(
+    alloc: Global,
+    game: &Id,
+    board: Option<&Board>,
+    charge: u32,
+) -> Result<Value, AllocError>
+    ensures { IfOk result (λ v. view v ≡ final_data game.now (option_copied board.entry) charge) }
+{
+    let board = last_value(alloc, board)?;
+    let game = game.as_str();
+    json!(in alloc; {
+        "board": board,
+        "charge": charge,
+        "final": true,
+        "game": game
+    })
+}
+
+/// The text of a JSON value, and a line feed.
+fn value_line(alloc: Global, value: &Value) -> Result<Vec<u8>, AllocError>
+    ensures { IfOk result (λ line. IsLineOf (SendsValue (view value.now)) line.items) }
 {
     match serde_json::to_vec(alloc, value) {
         Ok(mut line) => {
@@ -97,179 +317,9 @@ fn sent_line<T: Serialize>(alloc: Global, value: &T) -> Result<Vec<u8>, AllocErr
     }
 }
 
-/// The line of an answer with a board.
-#[derive(Clone, Copy)]
-struct ShownLine<'r> {
-    game: &'r Id,
-    seq: u64,
-    word: Word,
-    board: &'r Board,
-    charge: u32,
-}
-
-impl Described for ShownLine<'_> {
-    ghost writes = { λ line. SendsValue (reply_data line.game.now line.seq (Shown line.word line.board.now line.charge)) };
-}
-
-impl Serialize for ShownLine<'_> {
-    #[tactic(auto, unfolding(crate::specs::Replies::reply_data))]
-    fn serialize<S: Serializer>(&self, out: &mut S) -> Result<(), S::Error> {
-        out.begin_map(Some(5))?;
-        out.key("board")?;
-        ShownBoard(self.board).serialize(out)?;
-        out.key("charge")?;
-        out.u64(u64::from(self.charge))?;
-        out.key("do")?;
-        out.str(word_text(self.word))?;
-        out.key("game")?;
-        out.str(self.game.as_str())?;
-        out.key("seq")?;
-        out.u64(self.seq)?;
-        out.end_map()
-    }
-}
-
-/// The line of an answer without a board.
-#[derive(Clone, Copy)]
-struct PlainLine<'r> {
-    game: &'r Id,
-    seq: u64,
-    word: Word,
-    charge: u32,
-}
-
-impl Described for PlainLine<'_> {
-    ghost writes = { λ line. SendsValue (reply_data line.game.now line.seq (Plain line.word line.charge)) };
-}
-
-impl Serialize for PlainLine<'_> {
-    #[tactic(auto, unfolding(crate::specs::Replies::reply_data))]
-    fn serialize<S: Serializer>(&self, out: &mut S) -> Result<(), S::Error> {
-        out.begin_map(Some(4))?;
-        out.key("charge")?;
-        out.u64(u64::from(self.charge))?;
-        out.key("do")?;
-        out.str(word_text(self.word))?;
-        out.key("game")?;
-        out.str(self.game.as_str())?;
-        out.key("seq")?;
-        out.u64(self.seq)?;
-        out.end_map()
-    }
-}
-
-/// The line of a refusal.
-#[derive(Clone, Copy)]
-struct RefusedLine<'r> {
-    game: &'r Id,
-    seq: u64,
-    refusal: Refusal,
-}
-
-impl Described for RefusedLine<'_> {
-    ghost writes = { λ line. SendsValue (reply_data line.game.now line.seq (Refused line.refusal)) };
-}
-
-impl Serialize for RefusedLine<'_> {
-    #[tactic(auto, unfolding(crate::specs::Replies::reply_data))]
-    fn serialize<S: Serializer>(&self, out: &mut S) -> Result<(), S::Error> {
-        out.begin_map(Some(4))?;
-        out.key("game")?;
-        out.str(self.game.as_str())?;
-        out.key("no")?;
-        out.str(refusal_code(self.refusal))?;
-        out.key("seq")?;
-        out.u64(self.seq)?;
-        out.key("why")?;
-        out.str(refusal_text(self.refusal))?;
-        out.end_map()
-    }
-}
-
-/// The line of one answered command. `seq` is its number within the game, from 1.
-#[tactic(auto, using(crate::proofs::Lines::text_of_written_line, crate::proofs::Floats::reply_has_no_float))]
-pub fn reply_line(alloc: Global, game: &Id, seq: u64, reply: &Reply) -> Result<Vec<u8>, AllocError>
-    ensures { IfOk result (λ line. line.items ≡ reply_line_of game.now seq reply.now) }
-{
-    match reply {
-        Reply::Shown(word, kept, charge) => {
-            let board = kept.board(alloc)?;
-            let shown = ShownLine {
-                game,
-                seq,
-                word: *word,
-                board: &board,
-                charge: *charge,
-            };
-            sent_line(alloc, &shown)
-        }
-        Reply::Plain(word, charge) => {
-            let plain = PlainLine {
-                game,
-                seq,
-                word: *word,
-                charge: *charge,
-            };
-            sent_line(alloc, &plain)
-        }
-        Reply::Refused(refusal) => {
-            let refused = RefusedLine {
-                game,
-                seq,
-                refusal: *refusal,
-            };
-            sent_line(alloc, &refused)
-        }
-    }
-}
-
-/// The line behind a game's replies.
-#[derive(Clone, Copy)]
-struct FinalLine<'r> {
-    game: &'r Id,
-    board: Option<&'r Board>,
-    charge: u32,
-}
-
-/// The last board, if there is one.
-#[derive(Clone, Copy)]
-struct LastBoard<'r>(Option<&'r Board>);
-
-impl Described for LastBoard<'_> {
-    ghost writes = { λ last. SendsValue (last_data (option_copied last.0)) };
-}
-
-impl Serialize for LastBoard<'_> {
-    fn serialize<S: Serializer>(&self, out: &mut S) -> Result<(), S::Error> {
-        match self.0 {
-            Some(board) => ShownBoard(board).serialize(out),
-            None => out.unit(),
-        }
-    }
-}
-
-impl Described for FinalLine<'_> {
-    ghost writes = { λ line. SendsValue (final_data line.game.now (option_copied line.board) line.charge) };
-}
-
-impl Serialize for FinalLine<'_> {
-    #[tactic(auto, unfolding(crate::specs::Replies::final_data))]
-    fn serialize<S: Serializer>(&self, out: &mut S) -> Result<(), S::Error> {
-        out.begin_map(Some(4))?;
-        out.key("board")?;
-        LastBoard(self.board).serialize(out)?;
-        out.key("charge")?;
-        out.u64(u64::from(self.charge))?;
-        out.key("final")?;
-        out.bool(true)?;
-        out.key("game")?;
-        out.str(self.game.as_str())?;
-        out.end_map()
-    }
-}
-
-/// The line behind a game's replies. There is no board where no game runs.
-#[tactic(auto, using(crate::proofs::Lines::text_of_written_line, crate::proofs::Floats::final_has_no_float))]
+/// The final line of a game, with a board that need not be legal. There is no board where no game
+/// runs.
+#[tactic(auto, using(crate::proofs::Lines::final_text))]
 pub fn final_line(
     alloc: Global,
     game: &Id,
@@ -279,43 +329,5 @@ pub fn final_line(
     ensures { IfOk result
         (λ line. line.items ≡ final_line_of game.now (option_copied board.entry) charge) }
 {
-    let last = FinalLine {
-        game,
-        board,
-        charge,
-    };
-    sent_line(alloc, &last)
-}
-
-/// The line of a stray.
-#[derive(Clone, Copy)]
-struct StrayLine {
-    line: u64,
-    stray: Stray,
-}
-
-impl Described for StrayLine {
-    ghost writes = { λ s. SendsValue (stray_data s.line s.stray) };
-}
-
-impl Serialize for StrayLine {
-    #[tactic(auto, unfolding(crate::specs::Replies::stray_data))]
-    fn serialize<S: Serializer>(&self, out: &mut S) -> Result<(), S::Error> {
-        out.begin_map(Some(3))?;
-        out.key("line")?;
-        out.u64(self.line)?;
-        out.key("no")?;
-        out.str(stray_code(self.stray))?;
-        out.key("why")?;
-        out.str(stray_text(self.stray))?;
-        out.end_map()
-    }
-}
-
-/// The line of a stray. `line` is its number in the file, from 1.
-#[tactic(auto, using(crate::proofs::Lines::text_of_written_line, crate::proofs::Floats::stray_has_no_float))]
-pub fn stray_line(alloc: Global, line: u64, stray: Stray) -> Result<Vec<u8>, AllocError>
-    ensures { IfOk result (λ text. text.items ≡ stray_line_of line stray) }
-{
-    sent_line(alloc, &StrayLine { line, stray })
+    value_line(alloc, &final_value(alloc, game, board, charge)?)
 }

@@ -1,4 +1,4 @@
-//! What a `new` line asks for.
+//! The contents of a `new` line.
 ghost use Rattle.std.specs.Prelude.{◌≡◌, IfOk, codes};
 ghost use Rattle.serde_json.specs.View.{view};
 ghost use Rattle.bs_json.specs.Setups.{mode_named, mode_at, cell_from, start_from, setup_from};
@@ -86,8 +86,8 @@ fn food_at(alloc: Global, line: &Value) -> Result<Option<Cells>, AllocError>
     }
 }
 
-/// `None` where a member is missing, of another type or out of range, or where the version does not
-/// have the mode.
+/// Reads a setup. `None` if a member is missing, of another type or out of range, or if the version
+/// does not have the mode.
 #[tactic(auto, unfolding(crate::specs::Setups::setup_from))]
 pub fn setup_from(alloc: Global, version: Version, line: &Value) -> Result<Option<New>, AllocError>
     ensures { IfOk result (λ new. new ≡ setup_from version (view line.now)) }

@@ -1,4 +1,4 @@
-//! The parts of a JSON value that commands and plans are made of.
+//! Readers for the parts of JSON values.
 ghost use Rattle.std.specs.Prelude.{◌≡◌, ◌≤◌, Option, IfOk, IfSome, option_map};
 ghost use Rattle.serde_json.specs.Data.{Data};
 ghost use Rattle.serde_json.specs.View.{view, items_view};
@@ -8,7 +8,7 @@ use bs_board::Id;
 use serde_json::Value;
 use std::alloc::{AllocError, Global};
 
-/// None where the bytes are no JSON.
+/// Parses JSON. `None` if the bytes are no JSON.
 #[tactic(auto, using(crate::proofs::Texts::value_of_read, crate::proofs::Texts::value_of_refused))]
 pub fn parsed(alloc: Global, line: &[u8]) -> Result<Option<Value>, AllocError>
     ensures { IfOk result (λ o. option_map view o ≡ value_of line.now) }
@@ -25,7 +25,7 @@ pub fn parsed(alloc: Global, line: &[u8]) -> Result<Option<Value>, AllocError>
     }
 }
 
-/// The whole number that the value is, where it is at most `most`.
+/// The value as a whole number of at most `most`.
 pub fn whole_to(value: &Value, most: u32) -> Option<u32>
     ensures value { result ≡ whole_to most (view value.now) }
     ensures fits { IfSome result (λ n. n ≤ most) }
@@ -51,7 +51,7 @@ pub fn byte_at(value: &Value, name: &str, most: u8) -> Option<u8>
     Some(number_at(value, name, u32::from(most))? as u8)
 }
 
-/// The default stands for a member that is left out.
+/// The member as a whole number of at most `most`; the default if it is left out.
 pub fn byte_or(value: &Value, name: &str, most: u8, default: u8) -> Option<u8>
     ensures { result ≡ number_or name.now most default (view value.now) }
 {
@@ -76,16 +76,16 @@ pub fn id_at(alloc: Global, value: &Value, name: &str) -> Result<Option<Id>, All
     }
 }
 
-/// What the items of a list are read to.
+/// Types that the items of a list are read as.
 pub trait FromItem: Sized + Drop {
     ghost read: { Data → Option Self };
 
-    /// None where the item is of another type or out of range.
+    /// Reads an item. `None` if it is of another type or out of range.
     fn from_item(alloc: Global, item: &Value) -> Result<Option<Self>, AllocError>
         ensures { IfOk result (λ value. value ≡ read (view item.now)) };
 }
 
-/// All items, or None where one of them gives none.
+/// Reads all items. `None` if one of them cannot be read.
 pub fn each<T: FromItem>(alloc: Global, items: &[Value]) -> Result<Option<Vec<T>>, AllocError>
     ensures { IfOk result
         (λ all. option_map (λ found. found.items) all ≡ each T.read (items_view items.now)) }

@@ -27,7 +27,7 @@ first_food_free Solo food = tt
 first_food_free Constrictor food = refl
 first_food_free Wrapped food = tt
 
--- the two parts behind the head
+-- the two parts after the head
 parts_inside : (b : Board) (cell : Point) → is_on_board b.width b.height cell ≡ true
     → All (λ p. is_on_board b.width b.height p ≡ true) (cell ∷ cell ∷ [])
 parts_inside b cell on zero d within = on

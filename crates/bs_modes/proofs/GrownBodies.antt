@@ -1,4 +1,4 @@
--- What a snake's growth leaves of its body.
+-- The body of a snake after it has grown.
 use Rattle.std.proofs.Common.{◌≡◌, ◌+◌, ◌-◌, ◌<◌, ◌≤◌, zero, suc, List, [], ◌∷◌, ◌++◌, length, get_or, drop, All, refl, arith, length-append}
 use Rattle.std.proofs.lemmas.Bool.{cond_both}
 use Rattle.bs_board.specs.declared.boards.point.Point.{Point}
@@ -29,7 +29,7 @@ grown_keeps_head body some =
     cond_both (is_stretched body) (body ++ part_from_end 1 body ∷ []) body (λ b. head_of b ≡ head_of body)
     (λ _. head_of-append body _ some) (λ _. refl)
 
--- one more element that P holds of
+-- one more element of which P holds
 all_and_last : (P : Point → Type 0) (xs : List Point) (x : Point) → All P xs → P x → All P (xs ++ x ∷ [])
 all_and_last P [] x all here zero d within = here
 all_and_last P [] x all here (suc k) d within = absurd (omega arith)
@@ -37,7 +37,7 @@ all_and_last P (y ∷ ys) x all here zero d within = all 0 d (omega arith)
 all_and_last P (y ∷ ys) x all here (suc k) d within =
     all_and_last P ys x (λ i e b. all (suc i) e (omega arith)) here k d (omega arith)
 
--- the part that is repeated stands behind the head
+-- the part that is repeated comes after the head
 pub grown_stays_inside : (P : Point → Type 0) (body : List Point) → 2 ≤ length body → All P (drop 1 body) → All P (drop 1 (grown_body body))
 unfolding grown_body
 grown_stays_inside P [] long all = absurd (omega arith)

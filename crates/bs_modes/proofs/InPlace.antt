@@ -8,7 +8,7 @@ set_here f [] (suc i) x g = refl
 set_here f (y ∷ xs) zero x g = let same : y ≡ x = cc in rw same refl
 set_here f (y ∷ xs) (suc i) x g = ap (λ t. f y ∷ t) (set_here f xs i x g)
 
--- writing the entry after those that are done
+-- the entry after the finished ones is written
 pub set_next : {X : Type 0} (f : X → X) (xs zs : List X) (i : ℕ) (x y : X) → zs ≡ map f (take i xs) ++ drop i xs
     → slice_get zs i ≡ Some x → y ≡ f x → set zs i y ≡ map f (take (i + 1) xs) ++ drop (i + 1) xs
 set_next f xs zs i x y e g h =

@@ -22,7 +22,7 @@ fn last_living(mode: Mode) -> usize
     }
 }
 
-/// Standard, constrictor and wrapped are over when at most one snake lives, solo when none does.
+/// Whether the game is over: in solo once no snake lives, in the other modes once at most one does.
 pub fn over(board: &Board) -> bool
     ensures { result ≡ is_over board.now }
 {

@@ -40,9 +40,9 @@ fn grow_snakes(snakes: &mut Snakes) -> Result<(), AllocError>
     Ok(())
 }
 
-/// Constrictor's growth, after the eliminations of a turn: each living snake has full health, and
-/// its last part is repeated where its last two parts differ. After want of memory the board is
-/// given up.
+/// Grows each snake of a constrictor game, after the eliminations of a turn: a living snake has
+/// full health, and its last part is repeated if its last two parts differ. After an error the
+/// board is incomplete and must be dropped.
 pub fn grow(_alloc: Global, board: &mut Board) -> Result<(), AllocError>
     ensures { OnOk result (board.new ≡ grown board.old) }
 {

@@ -1,5 +1,5 @@
-//! What the modes of a game decide: the board that a game starts with, when it is over, and how
-//! snakes grow in constrictor.
+//! The rules that depend on a game's mode: its first board, when it is over, and how snakes grow in
+//! constrictor.
 #![tactic(auto)]
 
 mod ending;

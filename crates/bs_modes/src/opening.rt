@@ -1,4 +1,4 @@
-//! The board that a game starts with.
+//! The first board of a game.
 
 ghost use Rattle.std.specs.Prelude.{◌≡◌, IfOk, List, map};
 ghost use Rattle.bs_board.specs.boards.Legal.{IsLegal};
@@ -46,8 +46,8 @@ fn first_food(alloc: Global, mode: Mode, food: &Cells) -> Result<Cells, AllocErr
     }
 }
 
-/// The board of turn 0. Each snake has three parts on its starting cell and full health; food given
-/// to a game of constrictor is dropped.
+/// Makes the board of turn 0. Each snake has three parts on its starting cell and full health. In
+/// constrictor the given food is dropped.
 #[tactic(auto, using(crate::proofs::FirstLegal::first_board_is_legal), unfolding(crate::specs::FirstBoard::first_board))]
 pub fn start(alloc: Global, new: &New) -> Result<Board, AllocError>
     ensures value { IfOk result (λ board. board ≡ first_board new.now) }

@@ -1,16 +1,17 @@
--- What accounts tell of reservations and of counts, and what becomes of them.
-use Rattle.std.proofs.Common.{◌≡◌, ◌≢◌, ℕ, suc, ◌+◌, ◌<◌, ◌≤◌, true, false, List, [], ◌∷◌, ◌++◌, length, Option, Some, None, IsSome, slice_get, slice_set, slice_index_or, refl, sym, ap, ◌∙◌, arith, inl, inr}
+-- What accounts say of reservations and counts, and the accounts after each call.
+use Rattle.std.proofs.Common.{◌≡◌, ◌≢◌, ℕ, suc, ◌<◌, ◌≤◌, true, false, List, [], ◌∷◌, ◌++◌, length, Option, Some, None, IsSome, slice_get, slice_set, slice_index_or, refl, sym, ap, ◌∙◌, arith, inl, inr}
 use Rattle.std.specs.List.{position_or_len}
 use Rattle.std.specs.Prelude.{nat_eq, nat_lt, find, position, count_by, cond, AllPairs, MatchOption}
-use Rattle.std.proofs.lemmas.Bool.{cases_Bool, cases_eq, cases_lt, eq-eqb, ne_eqb, eqb-true}
+use Rattle.std.proofs.lemmas.Bool.{cases_Bool, cases_eq, cases_lt, eq-eqb, ne_eqb, eqb-true, lt-ltb}
 use Rattle.std.proofs.Math.Seq.{map-set_same}
 use Rattle.std.proofs.lemmas.List.{length-map, map-append, get_or-map, get_or-set_same, get_or-set_other}
 use Rattle.std.proofs.lemmas.List.Quantifiers.{position-Some}
 use Rattle.std.proofs.lemmas.Option.{slice_get-get_or, get_or_from_slice_get}
 use Rattle.std.proofs.lemmas.List.Folds.{find_at}
+use Rattle.std.proofs.lemmas.List.Sums.{position_or_len_is}
 use Rattle.bs_pool.proofs.Positions.{none_passes}
 use Rattle.bs_pool.specs.declared.reservation.Account.{Account}
-use Rattle.bs_pool.specs.Accounts.{reservations_of, is_account_of, has_account, granted, without_account, counted, AreCounted, Recounts}
+use Rattle.bs_pool.specs.Accounts.{reservations_of, is_account_of, has_account, granted, without_account, counted, AreCounted, AreDistinct, Recounts}
 use Rattle.bs_pool.specs.Reservations.{is_of, is_reserved, reserved_by, without}
 use Rattle.bs_pool.specs.Ledger.{is_owned_by}
 use Rattle.bs_pool.proofs.Reservations.{none_since, some_since}
@@ -29,7 +30,7 @@ is_reserved_in tag (a ∷ accounts) = elim (cases_Bool (nat_eq a.reservation.tag
   | inr differ ↦ rw differ (is_reserved_in tag accounts)
 ]
 
--- the test for an account, as the contracts say it
+-- the test for an account, as the contracts state it
 pub none_in : (tag : ℕ) (accounts : List Account) → has_account tag accounts ≡ false → find (is_of tag) (reservations_of accounts) ≡ None
 none_in tag accounts none = none_since tag (reservations_of accounts) (sym (is_reserved_in tag accounts) ∙ none)
 
@@ -65,25 +66,50 @@ at_is tag accounts at is = elim (cases_Bool (nat_lt (position_or_len (is_account
 abbrev pub no_account : Account
 no_account = record { reservation = record { tag = 0; blocks = 0 }; held = 0 }
 
--- the account at the tag's place is what the count is read from
+-- an account of the tag stands at the tag's place, since no tag has two
+pub placed : (tag : ℕ) (accounts : List Account) (i : ℕ) (d : Account) → AreDistinct accounts → i < length accounts
+    → is_account_of tag (slice_index_or accounts i d) ≡ true → position (is_account_of tag) accounts ≡ Some i
+placed tag accounts i d distinct within passes =
+    let tag_of : (j : ℕ) → j < length accounts → (slice_index_or (reservations_of accounts) j d.reservation).tag ≡ (slice_index_or accounts j d).reservation.tag = λ j there. ap (λ r. r.tag) (get_or-map (λ a. a.reservation) accounts j d d.reservation there) in
+    let its : (slice_index_or accounts i d).reservation.tag ≡ tag = eqb-true _ tag passes in
+    let at = position_or_len_is (is_account_of tag) accounts i d (omega (arith, within))
+    (λ k lower.
+    let differ = distinct k i d.reservation lower (omega (arith, within, length-map accounts (λ a. a.reservation))) in
+    ne_eqb _ tag (λ same. differ (tag_of k (omega (arith, within, lower)) ∙ same ∙ sym its ∙ sym (tag_of i within))))
+    (λ _. passes) in
+    rw (at, lt-ltb i (length accounts) within) refl
+
+found_at : (tag : ℕ) (accounts : List Account) (at : ℕ) (d : Account) → position (is_account_of tag) accounts ≡ Some at
+    → find (is_account_of tag) accounts ≡ Some (slice_index_or accounts at d)
+found_at tag accounts at d is =
+    let within = (position-Some (is_account_of tag) accounts at d is).0 in
+    find_at (is_account_of tag) accounts ∙ ap (slice_get accounts) (at_is tag accounts at is) ∙ slice_get-get_or accounts at d within
+
+none_found : (tag : ℕ) (accounts : List Account)
+    → ((k : ℕ) (d : Account) → k < length accounts → is_account_of tag (slice_index_or accounts k d) ≡ false) → find (is_account_of tag) accounts ≡ None
+none_found tag [] none = refl
+none_found tag (a ∷ accounts) none =
+    rw (none 0 a (omega arith)) (none_found tag accounts (λ k d less. none (suc k) d (omega (arith, less))))
+
+found_nowhere : (tag : ℕ) (accounts : List Account) → position (is_account_of tag) accounts ≡ None → find (is_account_of tag) accounts ≡ None
+found_nowhere tag accounts none = none_found tag accounts (none_passes (is_account_of tag) accounts none)
+
+-- the account at the tag's place is what its numbers are read from
 pub counted_at : (tag : ℕ) (accounts : List Account) (at : ℕ) (d : Account) → position (is_account_of tag) accounts ≡ Some at
     → counted tag accounts ≡ (slice_index_or accounts at d).held
-counted_at tag accounts at d is =
-    let within = (position-Some (is_account_of tag) accounts at d is).0 in
-    let found : find (is_account_of tag) accounts ≡ Some (slice_index_or accounts at d) =
-    find_at (is_account_of tag) accounts ∙ ap (slice_get accounts) (at_is tag accounts at is) ∙ slice_get-get_or accounts at d within in
-    rw found refl
+counted_at tag accounts at d is = rw (found_at tag accounts at d is) refl
 
-none_counted : (tag : ℕ) (accounts : List Account)
-    → ((k : ℕ) (d : Account) → k < length accounts → is_account_of tag (slice_index_or accounts k d) ≡ false) → counted tag accounts ≡ 0
-none_counted tag [] none = refl
-none_counted tag (a ∷ accounts) none =
-    rw (none 0 a (omega arith)) (none_counted tag accounts (λ k d less. none (suc k) d (omega (arith, less))))
+pub granted_at : (tag : ℕ) (accounts : List Account) (at : ℕ) (d : Account) → position (is_account_of tag) accounts ≡ Some at
+    → granted tag accounts ≡ (slice_index_or accounts at d).reservation.blocks
+granted_at tag accounts at d is = rw (found_at tag accounts at d is) refl
 
 pub counted_nowhere : (tag : ℕ) (accounts : List Account) → position (is_account_of tag) accounts ≡ None → counted tag accounts ≡ 0
-counted_nowhere tag accounts none = none_counted tag accounts (none_passes (is_account_of tag) accounts none)
+counted_nowhere tag accounts none = rw (found_nowhere tag accounts none) refl
 
--- a count of the tag's account is changed where it stands
+pub granted_nowhere : (tag : ℕ) (accounts : List Account) → position (is_account_of tag) accounts ≡ None → granted tag accounts ≡ 0
+granted_nowhere tag accounts none = rw (found_nowhere tag accounts none) refl
+
+-- the count of the tag's account is changed in place
 pub recounts_at : (change : ℕ → ℕ) (tag : ℕ) (accounts : List Account) (at : ℕ) (d : Account) → position (is_account_of tag) accounts ≡ Some at
     → Recounts change tag accounts (slice_set accounts at (record (slice_index_or accounts at d) { held = change (slice_index_or accounts at d).held }))
 recounts_at change tag accounts at d is =
@@ -91,7 +117,7 @@ recounts_at change tag accounts at d is =
     rw is (slice_index_or accounts at d, slice_get-get_or accounts at d within, refl)
 
 module _ (change : ℕ → ℕ) (tag : ℕ) (old new : List Account) (distinct : AllPairs (λ r s. r.tag ≢ s.tag) (reservations_of old)) where
-  -- the reservations stay, and the tag's count alone is changed
+  -- the reservations are unchanged, and only the tag's count is changed
   abbrev Changed : Type 0
   Changed =
       (reservations_of new ≡ reservations_of old)
@@ -139,7 +165,7 @@ module _ (change : ℕ → ℕ) (tag : ℕ) (old new : List Account) (distinct :
   pub recounted : Recounts change tag old new → Changed
   recounted = by_place (position (is_account_of tag) old) refl
 
-  -- so the accounts count again, where the owners change for that tag alone
+  -- so the counts are right again, if the owners change for that tag only
   pub counts_again : (owners owners' : List (Option ℕ)) → Recounts change tag old new → AreCounted owners old
       → count_by (is_owned_by tag) owners' ≡ change (count_by (is_owned_by tag) owners)
       → ((other : ℕ) → tag ≢ other → count_by (is_owned_by other) owners' ≡ count_by (is_owned_by other) owners) → AreCounted owners' new

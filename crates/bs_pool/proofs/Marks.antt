@@ -1,4 +1,5 @@
--- What a write of a word makes of the bits, and which number the first word that is not 0 names.
+-- The bits after a word is written, and the number of the lowest bit of the first word that is not
+-- 0.
 use Rattle.std.proofs.Common.{◌≡◌, ◌≢◌, ℕ, ◌+◌, ◌*◌, ◌/◌, ◌%◌, ◌<◌, ◌^◌, List, length, slice_index_or, slice_set, sym, ap, ◌∙◌, arith, inl, inr, w64}
 use Rattle.std.specs.Int.{bit_at, bit_not, trailing_zeros}
 use Rattle.std.specs.Int.RustNames.{bit_or}
@@ -12,7 +13,7 @@ use lib.Bits.{bit_and}
 use Rattle.bs_pool.proofs.Positions.{none_passes}
 use Rattle.bs_pool.specs.Marks.{mark_of, IsFirstMark, SetsMark, is_free_at, MarksFree}
 
--- a word is written in which the bit of the number is b, and each other as before
+-- a word is written: the bit of the number is b, and each other bit is unchanged
 set_word : (words : List ℕ) (number b word : ℕ) → number / 64 < length words → bit_at word (number % 64) ≡ b
     → ((j : ℕ) → j < 64 → j ≢ number % 64 → bit_at word j ≡ bit_at (slice_index_or words (number / 64) 0) j)
     → SetsMark words number b (slice_set words (number / 64) word)
@@ -62,7 +63,7 @@ zero_from word is = elim (cases_Bool (nat_eq word 0)) [
   | inr differ ↦ let e = rw differ at is in cc
 ]
 
--- what `first_word` answers
+-- what `first_word` returns
 pub words_before : (words : List ℕ) (at : ℕ) → position (λ word. not (nat_eq word 0)) words ≡ Some at
     → (at < length words) × (slice_index_or words at 0 ≢ 0) × ((k : ℕ) → k < at → slice_index_or words k 0 ≡ 0)
 words_before words at is =
@@ -75,7 +76,7 @@ all_zero words none i = elim (cases_lt (i / 64) (length words)) [
   | inr past ↦ ap (λ w. bit_at w (i % 64)) (get_or_past words (i / 64) 0 past) ∙ bit_at-zero (i % 64)
 ]
 
--- the words are so many, and the numbers below the given one are marked
+-- there are `count` words, and the numbers below the given one are marked
 abbrev pub MarksBelow : List ℕ → ℕ → ℕ → Type 0
 MarksBelow words count number =
     (length words ≡ count) × ((i : ℕ) → mark_of words i ≡ cond (nat_lt i number) 1 0)

@@ -1,4 +1,4 @@
--- What becomes of the counts and of other numbers' owners when a number is drawn or given.
+-- The counts, and the owners of other numbers, after a number is drawn or given back.
 use Rattle.std.proofs.Common.{◌≡◌, ◌≢◌, ℕ, ◌+◌, ◌<◌, true, not, List, [], ◌∷◌, length, Option, Some, None, slice_get, slice_index_or, slice_set, subst, refl, sym, ap, ◌∙◌, arith}
 use Rattle.std.specs.Prelude.{count_by, position}
 use Rattle.std.proofs.lemmas.Bool.{eq-eqb, ne_eqb}
@@ -19,11 +19,11 @@ free_at owners n at =
     let found = position-Some is_unowned owners n None at in
     slice_get-get_or owners n None found.0 ∙ ap Some (free_is_none _ found.1)
 
--- the same, as a read of that place gives it
+-- the same number, as a read of its place gives it
 pub first_is_free : (owners : List (Option ℕ)) (n : ℕ) (o : Option ℕ) → position is_unowned owners ≡ Some n → o ≡ slice_index_or owners n o → o ≡ None
 first_is_free owners n o at here = free_is_none o (ap is_unowned here ∙ (position-Some is_unowned owners n o at).1)
 
--- a draw: one more of that tag, as many of each other, one free number less
+-- a draw: the tag holds one more, each other tag as many, and one number less is free
 pub held_drawn : (pool : Ledger) (tag n : ℕ) → least_free pool ≡ Some n → held tag (drawn tag n pool) ≡ held tag pool + 1
 held_drawn pool tag n at =
     let e = count_set (is_owned_by tag) pool.owners n None (Some tag) (free_at pool.owners n at) in
@@ -45,7 +45,8 @@ free_drawn pool tag n at =
 pub size_drawn : (pool : Ledger) (tag n : ℕ) → size (drawn tag n pool) ≡ size pool
 size_drawn pool tag n = length-set pool.owners n (Some tag)
 
--- a number that is given back: one less of its tag, as many of each other, one free number more
+-- a number is given back: the tag holds one less, each other tag as many, and one more number is
+-- free
 pub held_given : (pool : Ledger) (tag n : ℕ) → Owns tag n pool → held tag (given n pool) + 1 ≡ held tag pool
 held_given pool tag n owns =
     let e = count_set (is_owned_by tag) pool.owners n (Some tag) None owns in
@@ -66,7 +67,7 @@ free_given pool tag n owns =
 pub size_given : (pool : Ledger) (n : ℕ) → size (given n pool) ≡ size pool
 size_given pool n = length-set pool.owners n None
 
--- who owns what afterwards
+-- the owners afterwards
 get_set_same : (xs : List (Option ℕ)) (i : ℕ) (y : Option ℕ) → i < length xs → slice_get (slice_set xs i y) i ≡ Some y
 get_set_same xs i y within =
     let long : i < length (slice_set xs i y) = omega (arith, length-set xs i y) in
@@ -85,7 +86,7 @@ still_owns_drawn pool tag n other m at owns =
     let apart : m ≢ n = λ same. let here : slice_get pool.owners n ≡ Some (Some other) = rw (← same) owns in let none = free_at pool.owners n at in cc in
     get_set_other pool.owners n m (Some other) (Some tag) owns apart
 
--- the same, whatever the draw answers
+-- the owner of another number, whatever the draw returns
 pub still_owns_draw : {most : ℕ} (old new : Ledger) (tag other m : ℕ) (answer : Option (Owned most)) → Draws tag old answer new → Owns other m old → Owns other m new
 still_owns_draw old new tag other m None (full, same) owns = subst (Owns other m) (sym same) owns
 still_owns_draw old new tag other m (Some owned) is owns =

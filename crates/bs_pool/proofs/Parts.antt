@@ -1,5 +1,4 @@
--- Each call keeps the parts of a pool as they have to be, and the first mark is the least free
--- number.
+-- Each call keeps the invariants of a pool's parts, and the first mark is the least free number.
 use Rattle.std.proofs.Common.{◌≡◌, ℕ, ◌+◌, ◌-◌, ◌*◌, ◌/◌, ◌<◌, ◌≤◌, ◌^◌, Bool, true, false, List, [], ◌∷◌, ◌++◌, length, take, drop, Option, Some, None, IsSome, slice_set, refl, sym, ap, ◌∙◌, arith, inl, inr, take_at, subst, not}
 use Rattle.std.specs.List.{position_or_len}
 use Rattle.std.specs.Prelude.{cond, nat_lt, count_by}
@@ -10,21 +9,24 @@ use Rattle.std.proofs.lemmas.List.Sums.{position_or_len_is, passes_at_first}
 use Rattle.std.proofs.lemmas.Option.{slice_get_within}
 use Rattle.bs_pool.specs.declared.reservation.Account.{Account}
 use Rattle.bs_pool.specs.declared.reservation.Reservation.{Reservation}
-use Rattle.bs_pool.specs.Accounts.{reservations_of, is_account_of, has_account, without_account, counted, Recounts}
+use Rattle.bs_pool.specs.Accounts.{reservations_of, is_account_of, has_account, granted, without_account, counted, Recounts}
 use Rattle.bs_pool.specs.Ledger.{Ledger, Owns, is_unowned, is_owned_by, held, reserved, least_free}
 use Rattle.bs_pool.specs.Marks.{mark_of, IsFirstMark, FindsMark, SetsMark, MarksFree, is_free_at}
 use Rattle.bs_pool.specs.PoolParts.{ledger_in, AreParts}
 use Rattle.bs_pool.specs.Reservations.{is_reserved, all_reserved}
-use Rattle.bs_pool.proofs.Accounts.{counted_is, counts_again, recounted, is_reserved_in, without_in}
+use Rattle.bs_pool.proofs.Accounts.{counted_is, counts_again, recounted, reserved_in, is_reserved_in, without_in}
 use Rattle.bs_pool.proofs.Owners.{free_at, held_drawn, held_drawn_other, held_given, held_given_other}
 use Rattle.bs_pool.proofs.Reservations.{none_since, reserved_none}
 use Rattle.bs_pool.proofs.Soundness.{some_free, sound_drawn, sound_given, sound_pushed, sound_withdrawn}
 
--- a list that was lent whole, as the vector shows it afterwards
+-- a list that was lent whole, as the vector shows it after the loan
 pub lent_whole : {X : Type 0} (new old : List X) (n : ℕ) → length new ≡ n → take n (new ++ drop (length new) old) ≡ new
 lent_whole new old n long = take_at new (drop (length new) old) n long
 
--- a mark of one number more or less
+pub lent_unchanged : {X : Type 0} (new old : List X) (n : ℕ) → n ≡ length old → new ≡ old → take n (new ++ drop (length new) old) ≡ old
+lent_unchanged new old n long same = lent_whole new old n (ap length same ∙ sym long) ∙ same
+
+-- the mark of one number is set or cleared
 marks_set : (words new : List ℕ) (owners : List (Option ℕ)) (n b : ℕ) (owner : Option ℕ) → MarksFree words owners → n < length owners
     → SetsMark words n b new → b ≡ cond (is_unowned owner) 1 0 → MarksFree new (slice_set owners n owner)
 marks_set words new owners n b owner ok within set is = record {
@@ -57,6 +59,10 @@ module _ (owners : List (Option ℕ)) (accounts : List Account) (words : List �
 
   pub held_counted : (tag : ℕ) → counted tag accounts ≡ held tag pool
   held_counted tag = counted_is owners tag accounts ok.counts (ok.sound.kept tag)
+
+  -- whether the tag may draw, by its account
+  pub room_left : (tag : ℕ) → nat_lt (counted tag accounts) (granted tag accounts) ≡ nat_lt (held tag pool) (reserved tag pool)
+  room_left tag = λ i. nat_lt (held_counted tag i) (reserved_in tag accounts i)
 
   -- the first mark is the least free number
   pub least_marked : (n : ℕ) → IsFirstMark words n → least_free pool ≡ Some n
@@ -114,7 +120,7 @@ module _ (owners : List (Option ℕ)) (accounts : List Account) (words : List �
           same,
         )
 
-    -- the same of lists that were lent
+    -- the same for lists that were lent
     lent_parts : (owners' : List (Option ℕ)) (some many : ℕ) → some ≡ length accounts → many ≡ length words → length words' ≡ length words
         → AreParts owners' accounts' words' × (reservations_of accounts' ≡ reservations_of accounts)
         → let accounts'' = take some (accounts' ++ drop (length accounts') accounts) in

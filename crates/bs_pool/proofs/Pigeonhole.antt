@@ -1,4 +1,4 @@
--- Where each tag owns at most what it reserved, and one tag less than that, some number is free.
+-- If each tag owns at most what it reserved, and one tag less than that, some number is free.
 use Rattle.std.proofs.Common.{◌≡◌, ◌≢◌, ℕ, ◌+◌, ◌-◌, ◌≤◌, true, false, cond, not, List, [], ◌∷◌, map, Option, Some, None, refl, sym, ap, ◌∙◌, arith, inl, inr}
 use Rattle.std.specs.Prelude.{nat_eq, count_by}
 use Rattle.std.proofs.lemmas.Bool.{cases_Bool, cases_eq, eq-eqb, ne_eqb}
@@ -9,7 +9,7 @@ use Rattle.bs_pool.specs.Ledger.{is_unowned, is_owned_by}
 use Rattle.bs_pool.proofs.Counts.{count_cons, count_when}
 use Rattle.bs_pool.proofs.Owners.{owned}
 
--- the numbers of a tag made free
+-- the owners with the numbers of a tag made free
 abbrev released : ℕ → List (Option ℕ) → List (Option ℕ)
 released tag owners = map (λ o. cond (is_owned_by tag o) None o) owners
 
@@ -81,7 +81,7 @@ none_owned (Some owner ∷ owners) none =
     let e = count_when (is_owned_by owner) (Some owner) owners true (eq-eqb owner owner refl) in
     absurd (omega (arith, e, none owner))
 
--- what the reservations leave free at least: what one tag has left
+-- at least as many numbers are free as one tag may still draw
 pub left_free : (rs : List Reservation) (owners : List (Option ℕ)) (tag : ℕ)
     → ((other : ℕ) → count_by (is_owned_by other) owners ≤ reserved_by other rs)
     → owned owners + (reserved_by tag rs - count_by (is_owned_by tag) owners) ≤ all_reserved rs

@@ -1,4 +1,4 @@
--- Where nothing is found, nothing passes.
+-- If no position is found, no element passes.
 use Rattle.std.proofs.Common.{◌≡◌, ℕ, zero, suc, ◌<◌, ◌≤◌, Bool, false, List, [], ◌∷◌, length, slice_index_or, None, arith, inl, inr}
 use Rattle.std.specs.Prelude.{nat_lt, position}
 use Rattle.std.specs.List.{position_or_len}

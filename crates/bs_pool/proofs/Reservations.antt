@@ -1,4 +1,4 @@
--- What becomes of the reservations of each tag when one is made or taken away.
+-- The reservations of each tag after one is made or ended.
 use Rattle.std.proofs.Common.{◌≡◌, ◌≢◌, ℕ, zero, suc, slice_index_or, ◌+◌, ◌-◌, ◌<◌, ◌≤◌, true, false, List, [], ◌∷◌, ◌++◌, length, None, IsSome, refl, sym, ◌∙◌, arith, inl, inr}
 use Rattle.std.specs.Prelude.{nat_eq, find, AllPairs}
 use Rattle.std.proofs.lemmas.Bool.{cases_Bool, cases_eq, eq-eqb, ne_eqb, eqb-false}
@@ -7,7 +7,7 @@ use Rattle.bs_pool.specs.declared.reservation.Reservation.{Reservation}
 use Rattle.bs_pool.specs.Reservations.{is_of, is_reserved, reserved_by, all_reserved, without}
 use Rattle.bs_pool.specs.Ledger.{Ledger, unreserved, with_reservation}
 
--- the test for a reservation, as the contracts say it
+-- the test for a reservation, as the contracts state it
 pub none_since : (tag : ℕ) (rs : List Reservation) → is_reserved tag rs ≡ false → find (is_of tag) rs ≡ None
 none_since tag [] none = refl
 none_since tag (r ∷ rs) none = elim (cases_Bool (nat_eq r.tag tag)) [
@@ -105,7 +105,7 @@ none_removed tag (r ∷ rs) none = elim (cases_Bool (nat_eq r.tag tag)) [
       rw differ (omega (arith, sum, sum', none_removed tag rs e))
 ]
 
--- what a tag reserved is free to reserve again
+-- what a tag reserved can be reserved again
 pub all_removed : (tag : ℕ) (rs : List Reservation) → AllPairs (λ r s. r.tag ≢ s.tag) rs
     → all_reserved (without tag rs) + reserved_by tag rs ≡ all_reserved rs
 all_removed tag [] distinct = refl

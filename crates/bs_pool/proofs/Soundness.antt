@@ -33,7 +33,7 @@ some_free pool tag sound less =
     let all = all_numbers pool in
     first_some is_unowned pool.owners (omega (arith, left, all, sound.within))
 
--- no tag holds a number of a new pool
+-- no tag holds a number in a new pool
 pub held_opened : (tag n : ℕ) → held tag (opened n) ≡ 0
 held_opened tag zero = refl
 held_opened tag (suc n) = let e = count_cons (is_owned_by tag) None (replicate n None) in omega (arith, e, held_opened tag n)

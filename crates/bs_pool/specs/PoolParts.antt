@@ -1,11 +1,11 @@
--- What is so of the parts of every pool.
+-- The invariants of a pool's parts.
 use Rattle.std.specs.Prelude.{ℕ, List, Option}
 use Rattle.bs_pool.specs.declared.reservation.Account.{Account}
 use Rattle.bs_pool.specs.Accounts.{reservations_of, AreCounted}
 use Rattle.bs_pool.specs.Ledger.{Ledger, ledger_of, IsSound}
 use Rattle.bs_pool.specs.Marks.{MarksFree}
 
--- the ledger that the slots and the accounts tell
+-- the ledger of the slots and the accounts
 abbrev pub ledger_in : List (Option ℕ) → List Account → Ledger
 ledger_in owners accounts = ledger_of owners (reservations_of accounts)
 

@@ -1,4 +1,4 @@
--- What a list of reservations says of a tag.
+-- The reservation of a tag in a list of reservations.
 use Rattle.std.specs.Prelude.{ℕ, Bool, List, nat_eq, find, filter, not, sum_by, option_map, unwrap_or}
 use Rattle.std.specs.List.{list_any}
 use Rattle.bs_pool.specs.declared.reservation.Reservation.{Reservation}
@@ -11,7 +11,7 @@ is_of tag r = nat_eq r.tag tag
 abbrev pub is_reserved : ℕ → List Reservation → Bool
 is_reserved tag rs = list_any (is_of tag) rs
 
--- 0 where the tag has no reservation
+-- 0 if the tag has no reservation
 abbrev pub reserved_by : ℕ → List Reservation → ℕ
 reserved_by tag rs = unwrap_or (option_map (λ r. r.blocks) (find (is_of tag) rs)) 0
 
@@ -19,6 +19,6 @@ reserved_by tag rs = unwrap_or (option_map (λ r. r.blocks) (find (is_of tag) rs
 abbrev pub all_reserved : List Reservation → ℕ
 all_reserved rs = sum_by (λ r. r.blocks) rs
 
--- all reservations but the tag's
+-- all reservations except the tag's
 abbrev pub without : ℕ → List Reservation → List Reservation
 without tag rs = filter (λ r. not (is_of tag r)) rs

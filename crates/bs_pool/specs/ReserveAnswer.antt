@@ -1,4 +1,4 @@
--- What `reserve` answers, and makes of a pool.
+-- What `reserve` returns, and the pool after it.
 use Rattle.std.specs.Prelude.{◌≡◌, ℕ, ◌≤◌, ◌<◌, None, IsSome, Result, MatchResult}
 use Rattle.bs_pool.specs.declared.reservation.Reserve.{Reserve}
 use Rattle.bs_pool.specs.declared.reservation.Reserve.TheVariants.{TagTaken, Short, Memory}
@@ -10,8 +10,8 @@ Refuses tag n pool TagTaken = IsSome (reservation_of tag pool)
 Refuses tag n pool (Short free_to_reserve) = (reservation_of tag pool ≡ None) × (unreserved pool < n) × (free_to_reserve ≡ unreserved pool)
 Refuses tag n pool Memory = (reservation_of tag pool ≡ None) × (n ≤ unreserved pool)
 
--- the tag had no reservation, and has one of n blocks that were not reserved; or the pool is as
--- before
+-- the tag had no reservation, and now has one of n blocks that were not reserved; or the pool is
+-- unchanged
 abbrev pub Reserves : {U : Type 0} → ℕ → ℕ → Ledger → Result U Reserve → Ledger → Type 0
 Reserves tag n old answer new =
     MatchResult answer

@@ -1,5 +1,5 @@
-//! A pool of blocks. Each of its block numbers is free or owned by one tag, and a tag owns no more
-//! than it reserved.
+//! A pool of blocks. Each of its block numbers is free or owned by one tag, and a tag owns at most
+//! as many as it reserved.
 #![tactic(auto)]
 
 mod owned;

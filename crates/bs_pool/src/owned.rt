@@ -1,13 +1,13 @@
-//! A block that its pool has handed out.
+//! A block that was drawn from its pool.
 ghost use Rattle.std.specs.Prelude.{◌≡◌};
 ghost use Rattle.std.specs.Borrow.{sem};
 
 use bs_block::Block;
 use std::fmt;
 
-/// One block of a pool, handed out to a tag. Only `Pool::draw` makes one, and it cannot be copied,
-/// so its holder alone reads and writes the block. It goes back by `Pool::give`; one that is
-/// dropped stays owned in its pool.
+/// One block of a pool, owned by a tag. Only `Pool::draw` makes one, and it cannot be copied, so
+/// nothing else reads or writes the block. `Pool::give` takes it back; if it is dropped instead,
+/// its number stays owned in the pool.
 #[derive(Drop)]
 pub struct Owned<const CAP: usize> {
     tag: u32,
@@ -53,7 +53,7 @@ impl<const CAP: usize> Owned<CAP> {
         &self.block
     }
 
-    /// The block, to write. Tag and number stay as they are.
+    /// The block, to write. Its tag and its number do not change.
     pub fn block_mut(&mut self) -> &mut Block<CAP>
         ensures* writes_back { sem 𝓛 (lends_block CAP.row self.entry result) }
         ensures value { result.now ≡ self.old.block }

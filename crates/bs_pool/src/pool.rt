@@ -1,5 +1,5 @@
-//! The pool and its calls. A clause sees a pool as its ledger: who owns each number, and who
-//! reserved how many.
+//! The pool and its calls. A clause sees a pool as its ledger: the owner of each number, and the
+//! reservation of each tag.
 ghost use Rattle.std.specs.Prelude.{◌≡◌, ◌≤◌, IfOk, IsSome};
 ghost use Rattle.bs_block.specs.Bytes.{IsCapacity};
 ghost use Rattle.bs_pool.specs.Ledger.{IsSound, Owns, opened, free, size, held, reserved, unreserved, reservation_of, given, without_reservation};
@@ -16,8 +16,8 @@ use crate::words::{first_marked, mark, new_words, unmark};
 use std::alloc::{AllocError, Global};
 use std::marker::Model;
 
-/// A fixed number of blocks of `CAP` bytes, numbered from 0. Each is free, and then here and empty,
-/// or owned by one tag, and then in an `Owned` of that tag.
+/// A fixed number of blocks of `CAP` bytes, numbered from 0. A free block is empty and in the pool;
+/// an owned one is in an `Owned` of its tag.
 #[derive(Drop)]
 pub struct Pool<const CAP: usize> {
     slots: Vec<Slot<CAP>>,
@@ -38,8 +38,8 @@ impl<const CAP: usize> Model for Pool<CAP> {
 }
 
 impl<const CAP: usize> Pool<CAP> {
-    /// A pool of `n` free blocks with no reservation. It takes the memory of all of them; an error
-    /// is the allocator's.
+    /// Makes a pool of `n` free blocks without reservations. Allocates all of them; the error is
+    /// the allocator's.
     #[tactic(auto, using(crate::proofs::Soundness::sound_opened))]
     pub fn open(alloc: Global, n: usize) -> Result<Self, AllocError>
         requires { IsCapacity CAP }
@@ -66,7 +66,7 @@ impl<const CAP: usize> Pool<CAP> {
         counted(self.reservations.as_slice(), tag)
     }
 
-    /// The number of blocks that the tag reserved, 0 where it has no reservation.
+    /// The number of blocks that the tag reserved; 0 if it has no reservation.
     pub fn reserved(&self, tag: u32) -> usize
         ensures { result ≡ reserved tag self.now }
     {
@@ -81,16 +81,16 @@ impl<const CAP: usize> Pool<CAP> {
         self.slots.len()
     }
 
-    /// The size less all reservations: how many blocks a reservation can have at most.
+    /// The number of blocks that are not reserved, which is the largest possible reservation.
     pub fn unreserved(&self) -> usize
         ensures { result ≡ unreserved self.now }
     {
         self.size() - all_reserved(self.reservations.as_slice())
     }
 
-    /// Reserves `n` blocks for the tag: from now on it may own up to so many. `TagTaken` where the
-    /// tag has a reservation, then `Short` where less than `n` blocks are left beside all
-    /// reservations, whether owned or not.
+    /// Reserves `n` blocks for the tag, which may then own up to `n`. `TagTaken` if the tag has a
+    /// reservation already; `Short` if fewer than `n` blocks are not reserved, whether owned or
+    /// not; `Memory` if memory runs out.
     #[tactic(auto, using(crate::proofs::Accounts::none_in, crate::proofs::Accounts::some_in, crate::proofs::Accounts::pushed_in))]
     pub fn reserve(&mut self, tag: u32, n: usize) -> Result<(), Reserve>
         requires { 1 ≤ n }
@@ -114,22 +114,21 @@ impl<const CAP: usize> Pool<CAP> {
         Ok(())
     }
 
-    /// The free block of the least number, empty, now owned by the tag. None where the tag owns all
-    /// that it reserved.
+    /// Draws the free block of the least number, empty, for the tag. None if the tag owns as many
+    /// blocks as it reserved.
     pub fn draw(&mut self, tag: u32) -> Option<Owned<CAP>>
         ensures { Draws tag self.old result self.new }
     {
-        if self.reserved(tag) <= self.held(tag) {
+        if !count_drawn(&mut self.reservations, tag) {
             return None;
         }
         let number = first_marked(self.words.as_slice()).unwrap();
         unmark(&mut self.words, number);
-        count_drawn(&mut self.reservations, tag);
         let block = self.slots[number].hand_out(tag);
         Some(Owned::new(tag, number, block))
     }
 
-    /// Takes a block back. It is emptied, and its number is free.
+    /// Takes a block back: empties it and frees its number.
     pub fn give(&mut self, owned: Owned<CAP>)
         requires { Owns owned.tag owned.number self.old }
         ensures { self.new ≡ given owned.entry.number self.old }
@@ -140,7 +139,7 @@ impl<const CAP: usize> Pool<CAP> {
         self.slots[number] = Slot::home(owned.into_block());
     }
 
-    /// Takes away the reservation of a tag that owns no block.
+    /// Ends the reservation of a tag that owns no block.
     pub fn unreserve(&mut self, tag: u32)
         requires reserved { IsSome (reservation_of tag self.old) }
         requires idle { held tag self.old ≡ 0 }

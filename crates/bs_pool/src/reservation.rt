@@ -1,17 +1,17 @@
 //! Reservations, and why one is refused.
-ghost use Rattle.std.specs.Prelude.{◌≡◌, ◌+◌, ◌-◌, ◌<◌, ◌^◌, position};
-ghost use Rattle.bs_pool.specs.Accounts.{is_account_of, has_account, granted, all_granted, without_account, counted, Recounts};
+ghost use Rattle.std.specs.Prelude.{◌≡◌, ◌+◌, ◌-◌, ◌<◌, ◌^◌, true, false, nat_lt, position};
+ghost use Rattle.bs_pool.specs.Accounts.{is_account_of, has_account, granted, all_granted, without_account, counted, AreDistinct, Recounts};
 
 use thiserror::Error;
 
-/// How many blocks a tag may own at most.
+/// The largest number of blocks that a tag may own.
 #[derive(Clone, Copy, Debug, PartialEq, Eq)]
 pub struct Reservation {
     pub tag: u32,
     pub blocks: usize,
 }
 
-/// A reservation, and how many blocks its tag owns.
+/// A reservation, and the number of blocks that its tag owns.
 #[derive(Clone, Copy, Debug, PartialEq, Eq)]
 pub struct Account {
     pub(crate) reservation: Reservation,
@@ -24,7 +24,7 @@ pub enum Reserve {
     /// The tag has a reservation already.
     #[error("the tag has a reservation")]
     TagTaken,
-    /// More blocks are asked for than the pool has beyond all reservations: `free_to_reserve`.
+    /// More blocks were requested than can be reserved, which are `free_to_reserve`.
     #[error("no more than {free_to_reserve} blocks are free to reserve")]
     Short { free_to_reserve: usize },
     /// There is no memory for the list of reservations.
@@ -41,7 +41,7 @@ pub(crate) fn is_reserved(accounts: &[Account], tag: u32) -> bool
         .any(|account| account.reservation.tag == tag)
 }
 
-/// The number of blocks that the tag reserved, 0 where it has no reservation.
+/// The number of blocks that the tag reserved; 0 if it has no reservation.
 pub(crate) fn reserved_by(accounts: &[Account], tag: u32) -> usize
     ensures { result ≡ granted tag accounts.now }
 {
@@ -65,10 +65,17 @@ pub(crate) fn all_reserved(accounts: &[Account]) -> usize
         .sum()
 }
 
-/// The place of the tag's account.
+/// The place of the tag's account. It is looked for at the tag itself first, since the stays of a
+/// plan reserve in the order of their tags.
 fn place(accounts: &[Account], tag: u32) -> Option<usize>
+    requires { AreDistinct accounts.now }
     ensures { result ≡ position (is_account_of tag) accounts.now }
 {
+    if let Some(account) = accounts.get(tag as usize) {
+        if account.reservation.tag == tag {
+            return Some(tag as usize);
+        }
+    }
     accounts
         .iter()
         .position(|account| account.reservation.tag == tag)
@@ -76,6 +83,7 @@ fn place(accounts: &[Account], tag: u32) -> Option<usize>
 
 /// The number of blocks that the tag owns, as its account counts them.
 pub(crate) fn counted(accounts: &[Account], tag: u32) -> usize
+    requires { AreDistinct accounts.now }
     ensures { result ≡ counted tag accounts.now }
 {
     let Some(at) = place(accounts, tag) else {
@@ -84,19 +92,29 @@ pub(crate) fn counted(accounts: &[Account], tag: u32) -> usize
     accounts[at].held
 }
 
-/// Counts a block more of the tag.
-pub(crate) fn count_drawn(accounts: &mut [Account], tag: u32)
-    requires { counted tag accounts.old + 1 < 2 ^ 64 }
-    ensures { Recounts (λ n. n + 1) tag accounts.old accounts.new }
+/// Counts one block more of the tag where it owns less than it reserved. False where it owns all
+/// that it reserved; then nothing is changed.
+pub(crate) fn count_drawn(accounts: &mut [Account], tag: u32) -> bool
+    requires { AreDistinct accounts.old }
+    ensures room { result ≡ nat_lt (counted tag accounts.old) (granted tag accounts.old) }
+    ensures drawn { result ≡ true → Recounts (λ n. n + 1) tag accounts.old accounts.new }
+    ensures full { result ≡ false → accounts.new ≡ accounts.old }
 {
-    if let Some(at) = place(accounts, tag) {
-        accounts[at].held += 1;
+    let Some(at) = place(accounts, tag) else {
+        return false;
+    };
+    let account = accounts[at];
+    if account.held >= account.reservation.blocks {
+        return false;
     }
+    accounts[at].held += 1;
+    true
 }
 
-/// Counts a block less of the tag.
+/// Takes 1 from the count of the tag's blocks.
 pub(crate) fn count_given(accounts: &mut [Account], tag: u32)
-    requires { 0 < counted tag accounts.old }
+    requires distinct { AreDistinct accounts.old }
+    requires some { 0 < counted tag accounts.old }
     ensures { Recounts (λ n. n - 1) tag accounts.old accounts.new }
 {
     if let Some(at) = place(accounts, tag) {
@@ -104,7 +122,7 @@ pub(crate) fn count_given(accounts: &mut [Account], tag: u32)
     }
 }
 
-/// Takes the account of the tag away.
+/// Removes the account of the tag.
 pub(crate) fn withdraw(accounts: &mut Vec<Account>, tag: u32)
     ensures { accounts.new.items ≡ without_account tag accounts.old.items }
 {

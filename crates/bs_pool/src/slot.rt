@@ -1,5 +1,5 @@
-//! The slot of one block in a pool. A clause sees it as the tag that owns the block, or None where
-//! the block is free.
+//! The slot of one block in a pool. A clause sees it as the tag that owns the block, or None if the
+//! block is free.
 ghost use Rattle.std.specs.Prelude.{◌≡◌, IfOk, None, count_by, replicate};
 ghost use Rattle.bs_block.specs.Bytes.{IsCapacity};
 ghost use Rattle.bs_pool.specs.Ledger.{is_unowned};
@@ -9,16 +9,16 @@ use std::alloc::{AllocError, Global};
 use std::marker::Model;
 use std::mem;
 
-/// Where the block of a number is: here, or with the tag that owns it.
+/// The block of a number, or the tag that owns it.
 #[derive(Drop)]
 pub enum Whereabouts<const CAP: usize> {
-    /// It is here.
+    /// The block is free.
     Home(Block<CAP>),
-    /// That tag has it.
+    /// The tag owns the block.
     Out(u32),
 }
 
-/// The slot of a block. A block that is here is empty.
+/// The slot of a block. A block in its slot is empty.
 #[derive(Drop)]
 pub struct Slot<const CAP: usize> {
     whereabouts: Whereabouts<CAP>,
@@ -39,7 +39,7 @@ impl<const CAP: usize> Model for Slot<CAP> {
 impl<const CAP: usize> Slot<CAP> {
     ghost use Rattle.std.specs.Prelude.{Some, None, []};
 
-    /// The slot of a block that is free. It is emptied.
+    /// Empties the block and makes its slot.
     pub(crate) fn home(mut block: Block<CAP>) -> Self
         ensures { result ≡ None }
     {
@@ -55,7 +55,7 @@ impl<const CAP: usize> Slot<CAP> {
         matches!(self.whereabouts, Whereabouts::Home(_))
     }
 
-    /// Takes the block out of its slot, for the tag.
+    /// Takes the block out of its slot for the tag.
     pub(crate) fn hand_out(&mut self, tag: u32) -> Block<CAP>
         requires { self.old ≡ None }
         ensures block { result ≡ [] }
@@ -68,7 +68,7 @@ impl<const CAP: usize> Slot<CAP> {
     }
 }
 
-/// The slots of `n` new blocks.
+/// Makes the slots of `n` new blocks.
 pub(crate) fn new_slots<const CAP: usize>(
     alloc: Global,
     n: usize,

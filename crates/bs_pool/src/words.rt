@@ -4,7 +4,7 @@ ghost use Rattle.bs_pool.specs.Marks.{FindsMark, SetsMark, MarksFree};
 
 use std::alloc::{AllocError, Global};
 
-/// The words of `n` free numbers.
+/// Makes the words of `n` free numbers.
 pub(crate) fn new_words(alloc: Global, n: usize) -> Result<Vec<u64>, AllocError>
     ensures { IfOk result (λ words. MarksFree words.items (replicate n None)) }
 {
@@ -15,7 +15,7 @@ pub(crate) fn new_words(alloc: Global, n: usize) -> Result<Vec<u64>, AllocError>
     Ok(words)
 }
 
-/// The place of the first word that is not 0.
+/// The index of the first word that is not 0.
 fn first_word(words: &[u64]) -> Option<usize>
     ensures { result ≡ position (λ word. not (nat_eq word 0)) words.now }
 {

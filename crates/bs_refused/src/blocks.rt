@@ -23,7 +23,7 @@ impl Question for NewBlock {
     }
 }
 
-/// What the readers of a pool give, of the whole, of the first tag and of another.
+/// What the readers of a pool return: for the whole, for the first tag and for another.
 #[derive(Debug, Drop)]
 pub struct PoolSeen {
     size: usize,
@@ -43,7 +43,7 @@ fn seen_pool(pool: &Pool<64>, tag: u32) -> PoolSeen {
     }
 }
 
-/// `Pool::open`, of so many blocks.
+/// `Pool::open`, with a number of blocks.
 pub struct OpenPool;
 
 impl Question for OpenPool {
@@ -57,7 +57,7 @@ impl Question for OpenPool {
     }
 }
 
-/// A pool, and the tag whose blocks are told of and reserved next.
+/// A pool, and the tag that is shown and makes the next reservation.
 #[derive(Drop)]
 struct PoolAt {
     pool: Pool<64>,
@@ -83,7 +83,7 @@ impl Act for ReserveOne {
     }
 }
 
-/// A reservation, and its block is drawn.
+/// Reserves and draws one block.
 fn reserve_at(page: &mut Page, state: &mut PoolAt, tag: u32) -> Result<(), Fault> {
     state.tag = tag;
     tried(page, &ReserveOne, state)?;
@@ -91,7 +91,7 @@ fn reserve_at(page: &mut Page, state: &mut PoolAt, tag: u32) -> Result<(), Fault
     look::<ReserveOne>(page, "answer", state)
 }
 
-/// So many tags that the list of reservations grows.
+/// Makes reservations until their list grows.
 fn reserve_all(page: &mut Page, state: &mut PoolAt) -> Result<(), Fault> {
     for tag in 0..10u32 {
         reserve_at(page, state, tag)?;
@@ -104,7 +104,7 @@ pub fn play_reserve(page: &mut Page) -> Result<(), Fault> {
     reserve_all(page, &mut PoolAt { pool, tag: 0 })
 }
 
-/// What the readers of a heap give: its records, its charge and the room of its index.
+/// What the readers of a heap return: its records, its charge and the room of its index.
 fn seen_heap(heap: &TagHeap<CAP>) -> (usize, u32, usize) {
     (heap.count(), heap.charge(), heap.index_room())
 }

@@ -1,12 +1,12 @@
-//! Boards as records and back, and copies of all that a board, a command and a plan are made of.
+//! Boards as records and back, and copies of the parts of boards, commands and plans.
 use crate::fault::Fault;
 use crate::scene::Question;
 use crate::values::{
-    LONG_NAME, TWO_HEADS, bytes_of, kept_of, new_solo, plan_of, shown_reply, two_heads, two_orders,
+    LONG_NAME, TWO_HEADS, bytes_of, kept_of, new_solo, plan_of, two_heads, two_orders,
 };
 use bs_board::{
-    Board, Cells, Command, Id, KeptBoard, Mode, Plan, Point, Reply, Snake, decode, decode_snake,
-    encode, is_legal,
+    Board, Cells, Command, Id, KeptBoard, Mode, Plan, Point, Record, Reply, Snake, decode,
+    decode_snake, encode, is_legal,
 };
 use std::alloc::Global;
 
@@ -35,7 +35,7 @@ impl Question for MakeId {
     }
 }
 
-/// `Cells::push`, so many times.
+/// `Cells::push`, several times.
 pub struct PushCells;
 
 impl Question for PushCells {
@@ -94,7 +94,7 @@ impl Question for Encoding {
     }
 }
 
-/// `KeptBoard::of`.
+/// `KeptBoard::of`, and `Record::of` in it.
 pub struct Keep;
 
 impl Question for Keep {
@@ -110,7 +110,7 @@ impl Question for Keep {
     }
 }
 
-/// `KeptBoard::board`.
+/// `KeptBoard::board`, and `Record::board` in it.
 pub struct Unkeep;
 
 impl Question for Unkeep {
@@ -120,6 +120,23 @@ impl Question for Unkeep {
 
     fn call(alloc: Global, on: &KeptBoard) -> Result<Board, Fault> {
         Ok(on.board(alloc)?)
+    }
+}
+
+/// `Record::of_bytes`.
+pub struct KeepBytes;
+
+impl Question for KeepBytes {
+    type On = Board;
+
+    type Answer = Record;
+
+    fn call(alloc: Global, on: &Board) -> Result<Record, Fault> {
+        if !is_legal(on) {
+            return Err(Fault::NotLegal);
+        }
+        let bytes = encode(alloc, on)?;
+        Ok(Record::of_bytes(alloc, bytes.as_slice())?)
     }
 }
 
@@ -149,20 +166,7 @@ impl Question for CopyBoard {
     }
 }
 
-/// `KeptBoard::copy`.
-pub struct CopyKept;
-
-impl Question for CopyKept {
-    type On = KeptBoard;
-
-    type Answer = KeptBoard;
-
-    fn call(alloc: Global, on: &KeptBoard) -> Result<KeptBoard, Fault> {
-        Ok(on.copy(alloc)?)
-    }
-}
-
-/// `Reply::copy`.
+/// `Reply::copy`, and `KeptBoard::share` in it.
 pub struct CopyReply;
 
 impl Question for CopyReply {
@@ -170,12 +174,12 @@ impl Question for CopyReply {
 
     type Answer = Reply;
 
-    fn call(alloc: Global, on: &Reply) -> Result<Reply, Fault> {
-        Ok(on.copy(alloc)?)
+    fn call(_alloc: Global, on: &Reply) -> Result<Reply, Fault> {
+        Ok(on.copy()?)
     }
 }
 
-/// `Command::copy`, with all that the command has.
+/// `Command::copy`, with all parts of the command.
 pub struct CopyCommand;
 
 impl Question for CopyCommand {

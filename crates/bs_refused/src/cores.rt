@@ -1,5 +1,5 @@
-//! A tally, and a core whose stays come and go, and whose commands are handed, taken, worked and
-//! put.
+//! A tally; and a core whose stays are admitted and leave, and whose commands are queued, taken,
+//! run and completed.
 use crate::fault::Fault;
 use crate::page::Page;
 use crate::play::{CAP, Job, commands, hand, opened, put_job, take};
@@ -13,7 +13,7 @@ use bs_sched::{Core, Counts};
 use std::alloc::Global;
 use std::test::Fail;
 
-/// `Tally::open`, for so many parts: the parts of its keys.
+/// `Tally::open`, for a number of parts: the parts of its keys.
 pub struct OpenTally;
 
 impl Question for OpenTally {
@@ -34,7 +34,7 @@ impl Question for OpenTally {
     }
 }
 
-/// What the readers of a core give of a stay.
+/// What the readers of a core return for a stay.
 #[derive(Debug, Drop)]
 struct StaySeen {
     row: Row,
@@ -45,7 +45,7 @@ struct StaySeen {
     records: Vec<Vec<u8>>,
 }
 
-/// What the readers of a core give.
+/// What the readers of a core return.
 #[derive(Debug, Drop)]
 pub struct Seen {
     counts: Counts,
@@ -90,7 +90,7 @@ fn seen_stays(alloc: Global, core: &Core<CAP>) -> Result<Vec<StaySeen>, Fault> {
     Ok(stays)
 }
 
-/// What the readers of a core give.
+/// Calls the readers of a core.
 fn seen_core(alloc: Global, core: &Core<CAP>) -> Result<Seen, Fault> {
     let stays = seen_stays(alloc, core)?;
     Ok(Seen {
@@ -103,7 +103,7 @@ fn seen_core(alloc: Global, core: &Core<CAP>) -> Result<Seen, Fault> {
     })
 }
 
-/// `Core::open`, with so many blocks.
+/// `Core::open`, with a number of blocks.
 pub struct OpenCore;
 
 impl Question for OpenCore {
@@ -235,7 +235,7 @@ fn try_board(page: &mut Page, core: &mut Core<CAP>, game: usize) -> Result<(), F
     Ok(())
 }
 
-/// Takes, works and puts a job: whether there was one.
+/// Takes, runs and completes a job. Returns whether there was one.
 fn play_one(page: &mut Page, core: &mut Core<CAP>) -> Result<bool, Fault> {
     match tried(page, &Taking, core)? {
         Some(job) => {
@@ -246,7 +246,7 @@ fn play_one(page: &mut Page, core: &mut Core<CAP>) -> Result<bool, Fault> {
     }
 }
 
-/// Takes, works and puts until no job is left.
+/// Takes, runs and completes jobs until none is left.
 fn play_on(page: &mut Page, core: &mut Core<CAP>) -> Result<(), Fault> {
     for _ in 0..40u32 {
         if !play_one(page, core)? {
@@ -276,7 +276,7 @@ pub fn play_core(page: &mut Page) -> Result<(), Fail> {
     play_commands(page, &mut core)
 }
 
-/// A game in the stay.
+/// Plays a game in the stay.
 fn play_stay(page: &mut Page, core: &mut Core<CAP>, game: usize) -> Result<(), Fail> {
     let new = new_of_three(page.alloc())?;
     tried(
@@ -304,7 +304,7 @@ fn try_leave(page: &mut Page, core: &mut Core<CAP>, game: usize) -> Result<(), F
     try_board(page, core, game)
 }
 
-/// A game comes, goes and comes again, and then all go.
+/// Admits a game, lets it leave and admits it again; then lets all leave.
 fn come_and_go(page: &mut Page, core: &mut Core<CAP>) -> Result<(), Fail> {
     let first = try_stay(page, core)?;
     try_leave(page, core, first)?;

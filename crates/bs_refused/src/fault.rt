@@ -1,4 +1,4 @@
-//! Why a scene ends before its end.
+//! Why a scene stops early.
 use bs_board::Decode;
 use bs_host::Cut;
 use bs_json::PlanFault;
@@ -6,8 +6,7 @@ use bs_pool::Reserve;
 use bs_sched::{Admit, Leave, Open};
 use std::alloc::{AllocError, AllocFailed};
 
-/// Want of memory of the call that is tried, or what was answered in place of what the scene is
-/// for.
+/// The tried call reported want of memory, or something other than what the scene expects.
 #[derive(Clone, Copy, Debug)]
 pub enum Fault {
     Memory,

@@ -1,19 +1,18 @@
-//! Answers to the commands of a game, and the answer to a move whose seats have moved.
+//! Answers to the commands of a game, and the answer to a move whose seats are already moved.
 ghost use Rattle.std.specs.Prelude.{◌≡◌, [], IfOk, All, Some, option_map};
 ghost use Rattle.bs_board.specs.boards.Wrap.{AreSides, wrap_of};
 ghost use Rattle.bs_board.specs.commands.Orders.{orders_of};
 ghost use Rattle.bs_rules.specs.Motion.{moved_board, IsMovable};
 
 use crate::fault::Fault;
-use crate::page::Page;
-use crate::scene::{Act, Question, look, tried};
-use crate::values::{RECORD, new_solo, solo};
+use crate::scene::Question;
+use crate::values::{new_solo, solo};
 use bs_board::{Board, Command, Mode, Move, Moves, TurnNumber, Words, is_legal};
-use bs_game::{Answer, Record, View, answer, check, joined};
+use bs_game::{Answer, View, answer, check, joined};
 use bs_rules::move_snakes;
 use std::alloc::Global;
 
-/// A command, and what its answer sees of the game.
+/// A command, and the view that its answer reads.
 #[derive(Debug, Drop)]
 pub struct Asked {
     view: View,
@@ -50,7 +49,7 @@ pub fn first_new(alloc: Global) -> Result<Asked, Fault> {
     })
 }
 
-/// What is seen of the game with the board of one snake.
+/// Makes the view of a game with the board of one snake.
 fn running(alloc: Global, asked: Option<Board>) -> Result<View, Fault> {
     Ok(View {
         quota: 4096,
@@ -79,31 +78,6 @@ pub fn first_turn(alloc: Global) -> Result<Asked, Fault> {
     })
 }
 
-/// `Record::refill`, of an empty record.
-struct Refilling;
-
-impl Act for Refilling {
-    type State = Record;
-
-    type Seen = usize;
-
-    type Answer = ();
-
-    fn readers(_alloc: Global, state: &Record) -> Result<usize, Fault> {
-        Ok(state.as_slice().len())
-    }
-
-    fn call(&self, _alloc: Global, state: &mut Record) -> Result<(), Fault> {
-        Ok(state.refill(&RECORD)?)
-    }
-}
-
-pub fn play_refill(page: &mut Page) -> Result<(), Fault> {
-    let mut record = Record::from_vec(Vec::new(page.alloc()));
-    tried(page, &Refilling, &mut record)?;
-    look::<Refilling>(page, "answer", &record)
-}
-
 fn no_orders(alloc: Global) -> Move
     ensures { result ≡ orders_of [] [] }
 {
@@ -113,7 +87,7 @@ fn no_orders(alloc: Global) -> Move
     )
 }
 
-/// The board with all its snakes gone straight on.
+/// Moves all snakes of the board straight on.
 fn gone_on(alloc: Global, board: &Board) -> Result<Board, Fault>
     requires bodies { All IsMovable board.now.snakes }
     requires sides { AreSides (wrap_of board.now) }
@@ -137,7 +111,7 @@ fn view_of_one(last: Board) -> View
     }
 }
 
-/// The answer to a move with no orders, of the board that is moved already.
+/// Answers a move without directions, from the board that is already moved.
 fn joined_on(alloc: Global, view: &View, moved: Board) -> Result<Answer, Fault>
     requires { option_map (moved_board []) view.now.last ≡ Some moved }
 {
@@ -148,7 +122,7 @@ fn joined_on(alloc: Global, view: &View, moved: Board) -> Result<Answer, Fault>
     Ok(joined(alloc, view, &orders, moved)?)
 }
 
-/// The whole of `joined`, with all that it needs.
+/// Calls `joined` with all that it needs.
 #[tactic(auto, using(bs_rules::proofs::Movable::legal_is_movable, bs_rules::proofs::Movable::legal_has_sides))]
 fn joined_answer(alloc: Global, board: &Board) -> Result<Answer, Fault> {
     if !is_legal(board) {

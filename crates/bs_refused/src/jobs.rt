@@ -1,4 +1,4 @@
-//! Each job of a game, worked with its memory refused; and a core that was told to fail.
+//! Each job of a game, run while its memory is refused; and a core after `fail`.
 ghost use Rattle.bs_fiber.specs.Tickets.{IsFresh};
 
 use crate::cores::Taking;
@@ -12,10 +12,10 @@ use bs_sched::{Core, Taken};
 use std::alloc::Global;
 use std::test::Fail;
 
-/// How many jobs the commands of the game are.
+/// The number of jobs of the game's commands.
 const JOBS: usize = 10;
 
-/// The tags and the numbers of blocks.
+/// The tags and the numbers of the blocks.
 fn names_of(alloc: Global, frames: &[Owned<CAP>]) -> Result<Vec<(u32, usize)>, Fault> {
     let mut names = Vec::new(alloc);
     for frame in frames {
@@ -30,7 +30,7 @@ fn tell_frames(page: &mut Page, what: &str, frames: &[Owned<CAP>]) -> Result<(),
     Ok(())
 }
 
-/// The job behind that many others.
+/// Takes the job after that many others.
 fn job_behind(alloc: Global, jobs: usize) -> Result<Job, Fail> {
     let mut core = played(alloc, jobs)?;
     Ok(next_job(alloc, &mut core)?)
@@ -41,8 +41,8 @@ fn tell_done(page: &mut Page, done: &Done<CAP>) {
     page.line("answer", done.out());
 }
 
-/// A stopped job gives the blocks of its ticket back. The same job of another core, which was
-/// played the same way, is then worked in its place.
+/// Takes the blocks of its ticket back from a stopped job. The same job of another core, which was
+/// played the same way, is then run in its place.
 fn work_again(page: &mut Page, jobs: usize, stopped: Stopped<CAP>) -> Result<Done<CAP>, Fail> {
     tell_frames(page, "memory", stopped.blocks.as_slice())?;
     let Job { ticket, key: _key } = job_behind(page.alloc(), jobs)?;
@@ -72,7 +72,7 @@ fn try_work(page: &mut Page, jobs: usize) -> Result<(), Fail> {
     Ok(())
 }
 
-/// `work` of each job in turn.
+/// Runs `work` of each job in turn.
 pub fn worked(page: &mut Page) -> Result<(), Fail> {
     for jobs in 0..JOBS {
         try_work(page, jobs)?;
@@ -80,7 +80,7 @@ pub fn worked(page: &mut Page) -> Result<(), Fail> {
     Ok(())
 }
 
-/// Whether the worker is told that the core failed.
+/// Whether `take` reports to the worker that the core failed.
 fn is_failed(alloc: Global, core: &mut Core<CAP>, worker: usize) -> Result<bool, Fault> {
     if worker > core.workers() {
         return Err(Fault::NoWorker);
@@ -91,7 +91,7 @@ fn is_failed(alloc: Global, core: &mut Core<CAP>, worker: usize) -> Result<bool,
     }
 }
 
-/// Tells of each worker that asks whether it is told that the core failed.
+/// Writes for each worker whether `take` reports that the core failed.
 fn tell_failed(page: &mut Page, core: &mut Core<CAP>) -> Result<(), Fault> {
     for worker in 0..WORKERS + 1 {
         let is_failed = is_failed(page.alloc(), core, worker)?;
@@ -100,7 +100,7 @@ fn tell_failed(page: &mut Page, core: &mut Core<CAP>) -> Result<(), Fault> {
     Ok(())
 }
 
-/// Beside a part the other part, for the next worker.
+/// If the job is a part, takes the other part for the next worker.
 fn other_of(alloc: Global, core: &mut Core<CAP>, job: &Job) -> Result<Option<Job>, Fault> {
     match &job.key {
         Some(_) => take(alloc, core, 1),
@@ -108,7 +108,7 @@ fn other_of(alloc: Global, core: &mut Core<CAP>, job: &Job) -> Result<Option<Job
     }
 }
 
-/// Brings back what is out.
+/// Completes the jobs that are out.
 fn put_all(alloc: Global, core: &mut Core<CAP>, job: Job, other: Option<Job>) -> Result<(), Fault> {
     put_job(alloc, core, 0, job)?;
     match other {
@@ -117,7 +117,7 @@ fn put_all(alloc: Global, core: &mut Core<CAP>, job: Job, other: Option<Job>) ->
     }
 }
 
-/// Tells the core to fail while a job is out, which is then brought back.
+/// Calls `fail` while a job is out, which is then completed.
 fn fail_out(page: &mut Page, core: &mut Core<CAP>) -> Result<(), Fault> {
     let job = next_job(page.alloc(), core)?;
     let other = other_of(page.alloc(), core, &job)?;
@@ -126,7 +126,8 @@ fn fail_out(page: &mut Page, core: &mut Core<CAP>) -> Result<(), Fault> {
     put_all(page.alloc(), core, job, other)
 }
 
-/// After `fail`, with each job out in turn: no worker gets a job, and what is out is brought back.
+/// Calls `fail` with each job out in turn: no worker gets a job, and the jobs that are out are
+/// completed.
 fn fail_behind(page: &mut Page, jobs: usize) -> Result<(), Fail> {
     let mut core = played(page.alloc(), jobs)?;
     fail_out(page, &mut core)?;

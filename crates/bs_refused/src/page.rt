@@ -1,20 +1,20 @@
-//! What a scene writes: its readers and answers, line by line, and the marks about a call that is
-//! tried.
+//! The output of a scene: its readers and answers, line by line, and the marks around a call that
+//! is tried.
 use std::alloc::Global;
 use std::fmt::Debug;
 use std::io::{Stderr, Stdout, Write};
 use std::test::Fail;
 
-/// The lines of a scene, and where they and the marks go.
+/// The lines of a scene, and the output for them and the marks.
 #[derive(Drop)]
 pub struct Page {
     alloc: Global,
     told: String,
     output: Stdout,
     marks: Stderr,
-    /// Lines and marks are written: somebody refuses requests.
+    /// Whether lines and marks are written, because requests are being refused.
     is_watched: bool,
-    /// A line is missing.
+    /// Whether a line was not written.
     has_failed: bool,
 }
 
@@ -40,7 +40,7 @@ impl Page {
         }
     }
 
-    /// A line: what it is about, and a text.
+    /// Adds a line: its subject, and a text.
     fn say(&mut self, what: &str, text: &str) {
         self.push(what);
         self.push(" ");
@@ -48,7 +48,7 @@ impl Page {
         self.push("\n");
     }
 
-    /// A line: what it is about, and a value.
+    /// Adds a line: its subject, and a value.
     pub fn line<T: Debug>(&mut self, what: &str, value: &T) {
         match format!(in self.alloc; "{value:?}") {
             Ok(text) => self.say(what, text.as_str()),
@@ -62,17 +62,17 @@ impl Page {
         }
     }
 
-    /// Requests for memory are counted from here.
+    /// Starts counting requests for memory.
     pub fn begin(&mut self) {
         self.mark(b"[");
     }
 
-    /// Requests for memory are no longer counted.
+    /// Stops counting requests for memory.
     pub fn end(&mut self) {
         self.mark(b"]");
     }
 
-    /// Ends a scene that has come to its end: its lines are written where it is watched.
+    /// Ends a scene, and writes its lines if it is watched.
     pub fn close(&mut self) -> Result<(), Fail> {
         if self.has_failed {
             return Err(Fail::new("a line is missing"));

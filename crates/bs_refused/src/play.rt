@@ -1,4 +1,4 @@
-//! A core that is handed the commands of a game, and whose jobs are taken, worked and put.
+//! A core in which the commands of a game are queued, and whose jobs are taken, run and completed.
 ghost use Rattle.bs_fiber.specs.Tickets.{IsFresh};
 
 use crate::fault::Fault;
@@ -13,16 +13,16 @@ use std::test::Fail;
 
 pub const CAP: usize = 524_288;
 
-/// The last worker's number.
+/// The number of the last worker.
 pub const WORKERS: usize = 2;
 
-/// A core with one game.
+/// Opens a core with one game.
 pub fn opened(alloc: Global, blocks: usize) -> Result<Core<CAP>, Fault> {
     let plan = plan_of(alloc, "a")?;
     Ok(Core::<CAP>::open(alloc, plan, blocks, WORKERS)?)
 }
 
-/// The commands of the game: a move of two parts among them.
+/// Makes the commands of the game, with a move of two parts among them.
 pub fn commands(alloc: Global) -> Result<Vec<Command>, Fail> {
     let turn = TurnNumber::new(0).ok_or(Fault::NoTurn)?;
     let (down, on) = (third_goes(alloc, Direction::Down)?, straight_on(alloc));
@@ -30,7 +30,7 @@ pub fn commands(alloc: Global) -> Result<Vec<Command>, Fail> {
     Ok(vec![in alloc; new, down, Command::Turn(turn), Command::Free, on]?)
 }
 
-/// Hands the command to the open stay of that row.
+/// Queues the command for the open stay of that row.
 pub fn hand(
     alloc: Global,
     core: &mut Core<CAP>,
@@ -44,7 +44,7 @@ pub fn hand(
     Ok(core.hand(alloc, game, copy)?)
 }
 
-/// A job that was taken and not worked: its blocks are as it is to find them.
+/// A job that was taken and not run: its blocks are as it needs them.
 #[derive(Drop)]
 pub struct Job {
     pub ticket: Ticket<CAP>,
@@ -52,7 +52,7 @@ pub struct Job {
     pub ghost fresh: { IsFresh ticket },
 }
 
-/// The next job for that worker, if there is one.
+/// Takes the next job for that worker, if there is one.
 pub fn take(alloc: Global, core: &mut Core<CAP>, worker: usize) -> Result<Option<Job>, Fault> {
     if worker > core.workers() {
         return Err(Fault::NoWorker);
@@ -69,7 +69,7 @@ pub fn take(alloc: Global, core: &mut Core<CAP>, worker: usize) -> Result<Option
     }
 }
 
-/// Brings back what was worked of a part: the last part brings them all.
+/// Completes a part that was run; the last part completes them all.
 fn put_part(core: &mut Core<CAP>, done: Done<CAP>, key: PartKey<Done<CAP>>) -> Result<(), Fault> {
     if key.part() != done.part() {
         return Err(Fault::OtherKey);
@@ -83,7 +83,7 @@ fn put_part(core: &mut Core<CAP>, done: Done<CAP>, key: PartKey<Done<CAP>>) -> R
     }
 }
 
-/// Brings back what was worked.
+/// Completes a job that was run.
 fn put(
     core: &mut Core<CAP>,
     worker: usize,
@@ -99,7 +99,7 @@ fn put(
     }
 }
 
-/// Works the job and brings back what it gave.
+/// Runs the job and completes it.
 pub fn put_job(alloc: Global, core: &mut Core<CAP>, worker: usize, job: Job) -> Result<(), Fault> {
     let Job { ticket, key } = job;
     match work(alloc, ticket) {
@@ -108,7 +108,7 @@ pub fn put_job(alloc: Global, core: &mut Core<CAP>, worker: usize, job: Job) -> 
     }
 }
 
-/// The next job for the caller's own worker, which is there.
+/// Takes the next job for the caller's own worker, which must exist.
 pub fn next_job(alloc: Global, core: &mut Core<CAP>) -> Result<Job, Fault> {
     take(alloc, core, 0)?.ok_or(Fault::NoJob)
 }
@@ -134,7 +134,7 @@ fn play_behind(alloc: Global, core: &mut Core<CAP>, jobs: usize) -> Result<(), F
     Ok(play_jobs(alloc, core, jobs)?)
 }
 
-/// A core that was handed all commands, and has that many of its jobs behind it.
+/// Opens a core in which all commands are queued and the first `jobs` jobs are completed.
 pub fn played(alloc: Global, jobs: usize) -> Result<Core<CAP>, Fail> {
     let mut core = opened(alloc, 6)?;
     play_behind(alloc, &mut core, jobs)?;

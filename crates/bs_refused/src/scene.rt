@@ -1,14 +1,14 @@
-//! Calls that are tried: each with its requests for memory marked, and once more where it is
-//! answered want of memory.
+//! Calls that are tried: the requests for memory of each are marked, and it is repeated if it
+//! reported want of memory.
 use crate::fault::Fault;
 use crate::page::Page;
 use std::alloc::Global;
 use std::fmt::Debug;
 use std::test::Fail;
 
-/// A call that only reads what it is made on.
+/// A call that only reads its subject.
 pub trait Question {
-    /// What it is made on.
+    /// The subject of the call.
     type On: Debug + Drop;
 
     type Answer: Debug + Drop;
@@ -16,10 +16,10 @@ pub trait Question {
     fn call(alloc: Global, on: &Self::On) -> Result<Self::Answer, Fault>;
 }
 
-/// A call that changes what it is made on.
+/// A call that changes its subject.
 pub trait Act {
     type State;
-    /// What the readers of the state give.
+    /// What the readers of the state return.
     type Seen: Debug + Drop;
 
     type Answer: Drop;
@@ -43,22 +43,22 @@ fn asked<Q: Question>(page: &mut Page, on: &Q::On) -> Result<Q::Answer, Fault> {
     }
 }
 
-/// The scene of a call.
+/// Plays the scene of a call.
 pub fn ask<Q: Question>(mut page: Page, on: Q::On) -> Result<(), Fail> {
     let answer = asked::<Q>(&mut page, &on)?;
     page.line("answer", &answer);
     page.close()
 }
 
-/// Tells what the readers give.
+/// Writes what the readers return.
 pub fn look<A: Act>(page: &mut Page, what: &str, state: &A::State) -> Result<(), Fault> {
     let seen = A::readers(page.alloc(), state)?;
     page.line(what, &seen);
     Ok(())
 }
 
-/// The call, and the call again where it is answered want of memory. The readers are told before
-/// each.
+/// Makes the call, and repeats it if it reported want of memory. Writes what the readers return
+/// before each.
 pub fn tried<A: Act>(page: &mut Page, act: &A, state: &mut A::State) -> Result<A::Answer, Fault> {
     look::<A>(page, "before", state)?;
     page.begin();

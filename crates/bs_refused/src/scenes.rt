@@ -1,13 +1,11 @@
-//! The scenes, each a test: the call or the calls that it is named for.
+//! The scenes, each a test that is named for its calls.
 use crate::blocks::{NewBlock, NewHeap, OpenPool, play_grow_index, play_reserve};
 use crate::boards::{
-    CopyBoard, CopyCommand, CopyId, CopyKept, CopyPlan, CopyReply, DecodeSnake, Decoding, Encoding,
-    Keep, MakeId, PushCells, Unkeep, id_of, new_of, orders_of,
+    CopyBoard, CopyCommand, CopyId, CopyPlan, CopyReply, DecodeSnake, Decoding, Encoding, Keep,
+    KeepBytes, MakeId, PushCells, Unkeep, id_of, new_of, orders_of,
 };
 use crate::cores::{OpenCore, OpenTally, play_core, play_stays};
-use crate::games::{
-    Answered, Joined, first_new, first_turn, new_while_running, of_running, play_refill,
-};
+use crate::games::{Answered, Joined, first_new, first_turn, new_while_running, of_running};
 use crate::jobs::{play_failed, worked};
 use crate::page::Page;
 use crate::scene::ask;
@@ -28,7 +26,7 @@ use bs_samples::straight_on;
 use std::env;
 use std::test::Fail;
 
-/// The page of a scene. `REFUSING_MARKS` is set where `tests/refused_calls` plays it.
+/// Makes the page of a scene. `REFUSING_MARKS` is set when `tests/refused_calls` plays it.
 fn page_of(rt: &HostRuntime) -> Page {
     let is_watched = env::var(rt, "REFUSING_MARKS").is_ok();
     Page::new(rt.alloc(), rt.stdout(), rt.stderr(), is_watched)
@@ -104,6 +102,12 @@ fn unkeep(rt: HostRuntime) -> Result<(), Fail> {
 }
 
 #[test]
+fn keep_bytes(rt: HostRuntime) -> Result<(), Fail> {
+    let alloc = rt.alloc();
+    ask::<KeepBytes>(page_of(&rt), two_heads(alloc)?)
+}
+
+#[test]
 fn copy_id(rt: HostRuntime) -> Result<(), Fail> {
     let alloc = rt.alloc();
     ask::<CopyId>(page_of(&rt), id_of(alloc)?)
@@ -113,12 +117,6 @@ fn copy_id(rt: HostRuntime) -> Result<(), Fail> {
 fn copy_board(rt: HostRuntime) -> Result<(), Fail> {
     let alloc = rt.alloc();
     ask::<CopyBoard>(page_of(&rt), two_heads(alloc)?)
-}
-
-#[test]
-fn copy_kept(rt: HostRuntime) -> Result<(), Fail> {
-    let alloc = rt.alloc();
-    ask::<CopyKept>(page_of(&rt), kept_of(alloc)?)
 }
 
 #[test]
@@ -215,13 +213,6 @@ fn turn(rt: HostRuntime) -> Result<(), Fail> {
 fn joined(rt: HostRuntime) -> Result<(), Fail> {
     let alloc = rt.alloc();
     ask::<Joined>(page_of(&rt), solo(alloc)?)
-}
-
-#[test]
-fn refill(rt: HostRuntime) -> Result<(), Fail> {
-    let mut page = page_of(&rt);
-    play_refill(&mut page)?;
-    page.close()
 }
 
 #[test]

@@ -1,20 +1,20 @@
-//! Lines that are read and written, the text of a transcript, and the cut of a file.
+//! Lines that are parsed and written, the text of a transcript, and the cut of a file.
 use crate::fault::Fault;
 use crate::scene::Question;
-use crate::values::{shown_reply, solo};
+use crate::values::{kept_of, shown_reply, solo};
 use bs_board::{Board, Id, Plan, Refusal, Reply, Version, Word};
 use bs_host::cut;
 use bs_json::{
-    Line, Stray, board_value, final_line, push_reply_line, read_line, read_plan, reply_line,
-    stray_line,
+    Line, Stray, TextBuffer, board_value, final_line, push_reply_line, read_line, read_plan,
+    reply_line, stray_line,
 };
 use bs_transcript::{Section, text};
 use std::alloc::Global;
 
-/// The blocks that the file is served from.
+/// The number of blocks that the file is served with.
 const BLOCKS: usize = 24;
 
-/// Games that come and go, and a line of each kind.
+/// Games that are admitted and leave, and a line of each kind.
 pub const FILE: &str = r#"{"games":[{"game":"a","quota":64},{"game":"b","quota":4096}],"version":3}
 {"game":"a","do":"new","mode":"solo","width":5,"height":5,"snakes":[{"id":"s","x":1,"y":1}],"food":[],"min_food":0,"food_chance":0}
 {"game":"b","do":"new","mode":"wrapped","width":7,"height":7,"snakes":[{"id":"s","x":1,"y":1},{"id":"t","x":5,"y":1}],"food":[{"x":1,"y":2}]}
@@ -103,7 +103,7 @@ impl Question for ReplyLine {
     }
 }
 
-/// `push_reply_line`.
+/// `TextBuffer::with_room`, for the line of a reply.
 pub struct PushReply;
 
 impl Question for PushReply {
@@ -113,9 +113,9 @@ impl Question for PushReply {
 
     fn call(alloc: Global, on: &Reply) -> Result<String, Fault> {
         let game = Id::from_str(alloc, "a")?;
-        let mut text = Vec::new(alloc);
-        push_reply_line(alloc, &game, 7, on, &mut text)?;
-        text_of(text)
+        let mut text = TextBuffer::with_room(alloc, 4096)?;
+        push_reply_line(&game, 7, on, &mut text);
+        text_of(text.into_vec())
     }
 }
 
@@ -146,19 +146,21 @@ impl Question for StrayLine {
     }
 }
 
-/// The text of a game with these replies and a last board.
+/// Renders the text of a game with these replies and a last board.
 fn whole_text(alloc: Global, replies: &[Reply]) -> Result<Vec<u8>, Fault> {
     let game = Id::from_str(alloc, "a")?;
+    let kept = kept_of(alloc)?;
+    let board = Some(&kept);
     let section = Section {
         name: &game,
         replies,
-        board: Some(solo(alloc)?),
+        board,
         charge: 96,
     };
     Ok(text(alloc, &[section], &[(3, Stray::Json)])?)
 }
 
-/// `text`.
+/// `text`, which calls `write_transcript`.
 pub struct WholeText;
 
 impl Question for WholeText {

@@ -22,7 +22,7 @@ impl Question for FirstBoard {
     }
 }
 
-/// `grow`, of a copy in constrictor mode: after want of memory its board is given up.
+/// `grow`, of a copy in constrictor mode. After an error the copy is dropped.
 pub struct Growing;
 
 impl Question for Growing {
@@ -112,14 +112,14 @@ impl Question for MoveSnakes {
     }
 }
 
-/// The two snakes with their heads on the food.
+/// Makes the two snakes with their heads on the food.
 pub fn meeting(alloc: Global) -> Result<Board, Fault> {
     let mut board = two_heads(alloc)?;
     board.snakes = all_moved(alloc, &board)?;
     Ok(board)
 }
 
-/// `feed`, of a copy: after want of memory its board is given up.
+/// `feed`, of a copy. After an error the copy is dropped.
 pub struct Feeding;
 
 impl Question for Feeding {

@@ -1,4 +1,4 @@
-//! The boards, commands and plans that the scenes are played with.
+//! The boards, commands and plans of the scenes.
 use crate::fault::Fault;
 use bs_board::commands::orders::is_ascending;
 use bs_board::limits::{MOST_ROWS, MOST_WORDS};
@@ -9,7 +9,7 @@ use bs_board::{
 };
 use std::alloc::Global;
 
-/// On a board of three by three, the record of turn 0.
+/// The record of turn 0 on a board of three by three.
 pub const RECORD: [u8; 26] = [
     1, 1, 3, 3, 0, 0, 0, 0, 1, 0, 0, 1, 115, 100, 0, 0, 0, 0, 0, 3, 2, 2, 2, 2, 2, 2,
 ];
@@ -20,7 +20,7 @@ pub const TWO_HEADS: [u8; 43] = [
     90, 0, 0, 0, 0, 0, 3, 4, 3, 5, 3, 5, 2,
 ];
 
-/// A name too long to lie in its `Id` itself.
+/// A name too long to be stored in its `Id`.
 pub const LONG_NAME: &str = "a name that is longer than the bytes that an Id holds in itself";
 
 pub fn bytes_of(alloc: Global, bytes: &[u8]) -> Result<Vec<u8>, Fault> {
@@ -29,17 +29,17 @@ pub fn bytes_of(alloc: Global, bytes: &[u8]) -> Result<Vec<u8>, Fault> {
     Ok(copy)
 }
 
-/// The board of one snake.
+/// Makes a board of one snake.
 pub fn solo(alloc: Global) -> Result<Board, Fault> {
     Ok(decode(alloc, &RECORD)?)
 }
 
-/// The board of two snakes whose heads are at one food.
+/// Makes a board of two snakes whose heads are at one food.
 pub fn two_heads(alloc: Global) -> Result<Board, Fault> {
     Ok(decode(alloc, &TWO_HEADS)?)
 }
 
-/// The board of two snakes in its record.
+/// Makes the record of the board of two snakes.
 pub fn kept_of(alloc: Global) -> Result<KeptBoard, Fault> {
     let board = two_heads(alloc)?;
     if !is_legal(&board) {
@@ -48,12 +48,12 @@ pub fn kept_of(alloc: Global) -> Result<KeptBoard, Fault> {
     Ok(KeptBoard::of(alloc, &board)?)
 }
 
-/// A reply that shows that board.
+/// Makes a reply that shows that board.
 pub fn shown_reply(alloc: Global) -> Result<Reply, Fault> {
     Ok(Reply::Shown(Word::Move, kept_of(alloc)?, 96))
 }
 
-/// A first board of one snake below the only food.
+/// Makes a setup of one snake below the only food.
 pub fn new_solo(alloc: Global, mode: Mode) -> Result<New, Fault> {
     let starts = vec![in alloc; (Id::from_str(alloc, "s")?, Point { x: 1, y: 1 })]?;
     let mut food = Cells::new(alloc);
@@ -61,7 +61,7 @@ pub fn new_solo(alloc: Global, mode: Mode) -> Result<New, Fault> {
     New::new(mode, 5, 5, Starts::from_vec(starts), food, 2, 0).ok_or(Fault::NoSetup)
 }
 
-/// The move with these directions, in the order of their names, and these words.
+/// Makes a move with these directions, in the order of their names, and these words.
 pub fn move_of(moves: Vec<(Id, Direction)>, words: Vec<u32>) -> Result<Move, Fault> {
     if !is_ascending(moves.as_slice()) || words.len() > MOST_WORDS {
         return Err(Fault::NoSetup);
@@ -69,7 +69,7 @@ pub fn move_of(moves: Vec<(Id, Direction)>, words: Vec<u32>) -> Result<Move, Fau
     Ok(Move::new(Moves::from_vec(moves), Words::from_vec(words)))
 }
 
-/// Two directions and two words.
+/// Makes a move of two directions and two words.
 pub fn two_orders(alloc: Global) -> Result<Move, Fault> {
     let first = (Id::from_str(alloc, "A")?, Direction::Up);
     let second = (Id::from_str(alloc, "B")?, Direction::Left);
@@ -80,7 +80,7 @@ pub fn row_of(alloc: Global, name: &str) -> Result<Row, Fault> {
     Row::new(Id::from_str(alloc, name)?, 4096).ok_or(Fault::NoPlan)
 }
 
-/// A plan of that one game.
+/// Makes a plan of that one game.
 pub fn plan_of(alloc: Global, name: &str) -> Result<Plan, Fault> {
     let rows = vec![in alloc; row_of(alloc, name)?]?;
     if !have_distinct_names(rows.as_slice()) || rows.len() > MOST_ROWS {

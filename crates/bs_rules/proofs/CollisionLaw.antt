@@ -23,7 +23,7 @@ one_killer snakes seat cause k l p q =
           ]
     ]
 
--- there is one cause, since each was escaped before the next is looked at
+-- there is one cause, since each was escaped before the next is judged
 one_cause : (snakes : List Snake) (seat : ℕ) (c d : Cause) (k l : ℕ) → CollidesWith snakes seat c k → CollidesWith snakes seat d l
     → EscapesBefore snakes seat c → EscapesBefore snakes seat d → c ≡ d
 one_cause snakes seat OutOfHealth d k l p q e f = absurd p.hit

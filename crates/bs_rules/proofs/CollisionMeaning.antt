@@ -1,4 +1,4 @@
--- Collisions as a function are those of the relation.
+-- The function for collisions agrees with the relation.
 use Rattle.std.proofs.Common.{◌≡◌, ℕ, ◌+◌, ◌<◌, List, length, Option, Some, None, true, refl, ap, arith, inl, inr}
 use Rattle.std.proofs.lemmas.Bool.{cases_lt, false≢true}
 use Rattle.std.proofs.lemmas.List.{get_or_past}
@@ -14,7 +14,7 @@ use Rattle.bs_rules.specs.Elimination.{judged}
 use Rattle.bs_rules.proofs.Killers.{IsKillerAmong, NoneAmong, MeansKiller, killer_means}
 use Rattle.bs_rules.proofs.Seats.{length-map_seats, at_seat}
 
--- who lives has a seat
+-- a living snake has a seat
 pub seat_of_living : (snakes : List Snake) (seat : ℕ) → is_living (snake_at snakes seat) ≡ true → seat < length snakes
 seat_of_living snakes seat alive =
     elim (cases_lt seat (length snakes)) [

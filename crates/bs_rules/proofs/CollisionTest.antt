@@ -48,7 +48,7 @@ decides_runs_into HeadCollision i s j t =
     Decides-like (not (eqb i j) && (head && long)) (λ h. (h.0, h.1.0, h.1.1)) (λ h. (h.0, (h.1, h.2)))
     (Decides-and (not (eqb i j)) (head && long) (Decides-not (eqb i j) (Decides-eqb i j)) both)
 
-itself : (b : Bool) → Decides b (b ≡ true)
+pub itself : (b : Bool) → Decides b (b ≡ true)
 itself b = (λ e. e, λ e. e)
 
 pub decides_collides : (snakes : List Snake) (seat : ℕ) (cause : Cause) (other : ℕ) → Decides (collides snakes seat cause other) (CollidesWith snakes seat cause other)

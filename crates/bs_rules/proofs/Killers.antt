@@ -1,4 +1,4 @@
--- The killer is the longest that qualifies, then the first seat.
+-- The killer is the longest candidate, then the one of the first seat.
 use Rattle.bs_rules.proofs.CollisionTest.{decides_collides}
 use Rattle.std.proofs.Common.{◌≡◌, ℕ, zero, suc, ◌+◌, ◌<◌, ◌≤◌, Bool, true, false, cond, List, [], ◌∷◌, ◌++◌, Some, None, Option, refl, ap, sym, ◌∙◌, arith, MatchOption, add-one, Decides, ltb}
 use Rattle.std.specs.List.{range_with_len, fold, filter}
@@ -18,14 +18,14 @@ pub killer_among_none : (snakes : List Snake) (seat : ℕ) (cause : Cause) → k
 unfolding killer_among
 killer_among_none snakes seat cause = refl
 
--- one more entry is folded in where it passes
+-- one more entry is folded in if it passes
 fold_passed : (p : ℕ → Bool) (f : Option ℕ → ℕ → Option ℕ) (a : Option ℕ) (xs : List ℕ) (x : ℕ)
     → fold f a (filter p (xs ++ x ∷ [])) ≡ cond (p x) (f (fold f a (filter p xs)) x) (fold f a (filter p xs))
 fold_passed p f a xs x =
     rw (filter-append p xs (x ∷ []), fold-append f a (filter p xs) (filter p (x ∷ [])))
     (elim (p x) as (λ b. fold f (fold f a (filter p xs)) (cond b (x ∷ []) []) ≡ cond b (f (fold f a (filter p xs)) x) (fold f a (filter p xs))) [ true ↦ refl | false ↦ refl ])
 
--- one more seat is looked at
+-- one more seat is judged
 pub killer_among_next : (n : ℕ) (snakes : List Snake) (seat : ℕ) (cause : Cause)
     → killer_among (n + 1) snakes seat cause ≡ cond (collides snakes seat cause n) (longer_of snakes (killer_among n snakes seat cause) n) (killer_among n snakes seat cause)
 unfolding killer_among
@@ -36,22 +36,22 @@ killer_among_next n snakes seat cause =
     (ap (λ seats. fold (longer_of snakes) None (filter (collides snakes seat cause) seats)) range
     ∙ fold_passed (collides snakes seat cause) (longer_of snakes) None (range_with_len 0 n) n)
 
--- of the first n seats that qualify the longest, and of those equally long the first
+-- the longest candidate among the first n seats, and of equally long ones the first
 pub record IsKillerAmong (n : ℕ) (snakes : List Snake) (seat : ℕ) (cause : Cause) (killer : ℕ) : Type 0 where
   pub within : killer < n
   pub collides : CollidesWith snakes seat cause killer
   pub longest : (other : ℕ) → other < n → CollidesWith snakes seat cause other → length_at snakes other ≤ length_at snakes killer
   pub first : (other : ℕ) → other < killer → CollidesWith snakes seat cause other → length_at snakes other < length_at snakes killer
 
--- nobody among the first n seats qualifies
+-- there is no candidate among the first n seats
 abbrev pub NoneAmong : ℕ → List Snake → ℕ → Cause → Type 0
 NoneAmong n snakes seat cause = (other : ℕ) → other < n → CollidesWith snakes seat cause other → ⊥
 
--- what a killer among the first n seats means
+-- the meaning of a killer among the first n seats
 abbrev pub MeansKiller : ℕ → List Snake → ℕ → Cause → Option ℕ → Type 0
 MeansKiller n snakes seat cause killer = MatchOption killer (NoneAmong n snakes seat cause) (IsKillerAmong n snakes seat cause)
 
--- the next seat does not qualify
+-- the next seat is no candidate
 skips : (n : ℕ) (snakes : List Snake) (seat : ℕ) (cause : Cause) (killer : Option ℕ) → (CollidesWith snakes seat cause n → ⊥)
     → MeansKiller n snakes seat cause killer → MeansKiller (n + 1) snakes seat cause killer
 skips n snakes seat cause None out m = below_more (λ j. CollidesWith snakes seat cause j → ⊥) n m out
@@ -62,7 +62,7 @@ skips n snakes seat cause (Some k) out m = record {
   first = m.first;
 }
 
--- it qualifies, and is the first or longer than the one before
+-- it is a candidate, and the first one or longer than the one before
 takes : (n : ℕ) (snakes : List Snake) (seat : ℕ) (cause : Cause) → CollidesWith snakes seat cause n
     → ((j : ℕ) → j < n → CollidesWith snakes seat cause j → length_at snakes j < length_at snakes n) → IsKillerAmong (n + 1) snakes seat cause n
 takes n snakes seat cause hit shorter = record {
@@ -73,7 +73,7 @@ takes n snakes seat cause hit shorter = record {
   first = shorter;
 }
 
--- it qualifies, and is no longer than the one before
+-- it is a candidate, and no longer than the one before
 keeps : (n : ℕ) (snakes : List Snake) (seat : ℕ) (cause : Cause) (k : ℕ) → length_at snakes n ≤ length_at snakes k
     → IsKillerAmong n snakes seat cause k → IsKillerAmong (n + 1) snakes seat cause k
 keeps n snakes seat cause k short m = record {

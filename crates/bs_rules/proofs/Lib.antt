@@ -1,6 +1,7 @@
 pub mod CollisionLaw
 pub mod CollisionMeaning
 pub mod CollisionTest
+pub mod FoodEaten
 pub mod FoodLeft
 pub mod Ids
 pub mod Killers

@@ -16,7 +16,7 @@ use Rattle.bs_board.specs.boards.Wrap.{is_wrapped, wrap_of, AreSides}
 use Rattle.bs_board.specs.boards.Legal.{IsLegal, IsLegalSnake, IsLegalLiving, IsLegalOut, is_near, is_head_of}
 use Rattle.bs_rules.specs.Motion.{IsMovable}
 
--- one coordinate, on the board or one cell beyond it
+-- one coordinate, on the board or one cell outside it
 on_side : (z : ℤ) (n : ℕ) → int_le (pos 0) z ≡ true → int_lt z (pos n) ≡ true → (int_le (negsuc 0) z ≡ true) × (int_le z (pos n) ≡ true)
 on_side z n low high = (grind (arith, ints), grind (arith, ints))
 
@@ -64,7 +64,7 @@ head_is_near : (b : Board) (seat : ℕ) (s : Snake) (cause : Option Cause) → M
 head_is_near b seat s None state = near_from_on_board b.width b.height (head_of s.body) state.head
 head_is_near b seat s (Some cause) state = head_of_out cause (is_wrapped b.mode) b.width b.height (head_of s.body) state.head
 
--- the head and the parts behind it
+-- the head and the parts after it
 all_near : (body : List Point) → 3 ≤ length body → is_near LONGEST_SIDE LONGEST_SIDE (head_of body) ≡ true → All (λ p. is_near LONGEST_SIDE LONGEST_SIDE p ≡ true) (drop 1 body)
     → All (λ p. is_near LONGEST_SIDE LONGEST_SIDE p ≡ true) body
 all_near [] long head rest = absurd (omega arith)

@@ -6,7 +6,7 @@ use Rattle.std.proofs.lemmas.List.FromFn.{get_or-enumerate_from, length-enumerat
 use Rattle.bs_board.specs.declared.boards.snake.Snake.{Snake}
 use Rattle.bs_rules.specs.Collision.{map_seats, snake_at, nobody}
 
--- the seats counted from any number on
+-- the seats, counted from any number on
 abbrev pub map_from : ℕ → (ℕ → Snake → Snake) → List Snake → List Snake
 map_from n f snakes = map (λ entry. f entry.0 entry.1) (enumerate_from n snakes)
 
@@ -19,7 +19,7 @@ set_from n f (x0 ∷ xs) (suc i) x g b =
     let rest = set_from (n + 1) f xs i x g (omega arith) in
     ap (λ l. f n x0 ∷ l) (rw z at rest)
 
--- writing the seat after those that are done
+-- the seat after the finished ones is written
 pub set_next_seat : (f : ℕ → Snake → Snake) (xs zs : List Snake) (i : ℕ) (x y : Snake) → zs ≡ map_seats f (take i xs) ++ drop i xs
     → slice_get zs i ≡ Some x → i < length xs → y ≡ f i x → set zs i y ≡ map_seats f (take (i + 1) xs) ++ drop (i + 1) xs
 set_next_seat f xs zs i x y e g b h =
@@ -36,7 +36,7 @@ agree_from n f g (x ∷ xs) h =
     let rest = agree_from (n + 1) f g xs (λ k l s. let z : n + suc k ≡ n + 1 + k = omega arith in rw z at (h (suc k) (omega arith) s)) in
     cc
 
--- what is done at each seat is all that counts
+-- only the change at each seat matters
 pub map_seats_agree : (f g : ℕ → Snake → Snake) (xs : List Snake) → ((k : ℕ) → k < length xs → (x : Snake) → f k x ≡ g k x)
     → map_seats f xs ≡ map_seats g xs
 map_seats_agree f g xs h = agree_from 0 f g xs (λ k l x. let z : 0 + k ≡ k = omega arith in rw z (h k l x))

@@ -1,4 +1,4 @@
--- What holds of each snake between the steps of a turn.
+-- The invariant of each snake between the steps of a turn.
 use Rattle.std.proofs.Common.{◌≡◌, ℕ, ◌+◌, ◌-◌, ◌≤◌, Bool, true, false, cond, List, [], ◌∷◌, length, drop, All, MatchOption, Option, Some, None, arith, length-take, pos, negsuc, ℤ, ◌+ℤ◌, ◌-ℤ◌}
 use Rattle.std.specs.Prelude.{int_le, int_lt}
 use Rattle.std.specs.Int.{int_rem_euclid}
@@ -23,15 +23,15 @@ use Rattle.bs_rules.proofs.Movable.{four_parts, four_from}
 abbrev pub later : Board → Board
 later b = record b { turn = b.turn + 1 }
 
--- an id, and a body of at most so many parts that lies on the board behind its head
+-- an id, and a body of at most `parts` parts, all after the head on the board
 pub record IsSoundBody (b : Board) (parts : ℕ) (s : Snake) : Type 0 where
   pub id : is_short_text s.id ≡ true
   pub long : 3 ≤ length s.body
   pub short : length s.body ≤ parts
   pub inside : All (λ p. is_on_board b.width b.height p ≡ true) (drop 1 s.body)
 
--- moved and not judged: it may have starved or left the board, so its head is where that of a
--- starved snake may be
+-- moved and not judged: it may have starved or left the board, so its head may be on the board or
+-- next to it
 pub record IsMovedLiving (b : Board) (s : Snake) : Type 0 where
   pub full : s.health ≤ 100
   pub near : is_head_of (is_wrapped b.mode) OutOfHealth b.width b.height (head_of s.body) ≡ true
@@ -64,7 +64,7 @@ near_of : (w h : ℕ) (x y : ℤ) → (int_le (negsuc 0) x ≡ true) × (int_le 
     → is_near w h (record { x = x; y = y }) ≡ true
 near_of w h x y p q = four_from (int_le (negsuc 0) x) (int_le x (pos w)) (int_le (negsuc 0) y) (int_le y (pos h)) p.0 p.1 q.0 q.1
 
--- a step from the board leads at most one cell beyond it
+-- a step from the board leads at most one cell outside it
 step_is_near : (w h : ℕ) (p : Point) (d : Direction) → is_on_board w h p ≡ true → is_near w h (one_step p d) ≡ true
 step_is_near w h p Up on =
     let q = four_parts (int_le (pos 0) p.x) (int_lt p.x (pos w)) (int_le (pos 0) p.y) (int_lt p.y (pos h)) on in
@@ -93,7 +93,7 @@ torus_is_on_board w h p wide high =
     let row = within_side p.y h high in
     four_from (int_le (pos 0) x) (int_lt x (pos w)) (int_le (pos 0) y) (int_lt y (pos h)) column.0 column.1 row.0 row.1
 
--- a step from the board leads at most one cell beyond it, and on a wrapped board stays on it
+-- a step from the board leads at most one cell outside it, and on a wrapped board stays on it
 neighbor_is_near : (wraps : Bool) (w h : ℕ) (p : Point) (d : Direction) → 1 ≤ w → 1 ≤ h → is_on_board w h p ≡ true
     → is_head_of wraps OutOfHealth w h (neighbor (cond wraps (Some (w, h)) None) p d) ≡ true
 neighbor_is_near true w h p d wide high on = torus_is_on_board w h (one_step p d) wide high
@@ -107,7 +107,7 @@ all_inside P (p ∷ ps) long head rest = All-cons P p ps head rest
 length_moved : (wrap : Option (ℕ × ℕ)) (given : Option Direction) (body : List Point) → 3 ≤ length body → length (moved_body wrap given body) ≡ length body
 length_moved wrap given body long = let n = length-take (length body - 1) body in omega arith
 
--- one turn later it still went out by then
+-- one turn later, the turn of elimination is still at most the number of turns
 out_by_later : (turn : ℕ) (out : Option ℕ) → IsTurnBy turn out → IsTurnBy (turn + 1) out
 out_by_later turn None h = h
 out_by_later turn (Some t) h = (h.0, let by = h.1 in omega arith)

@@ -16,7 +16,7 @@ state_of_living : (A : Type 0) (B : Cause → Type 0) (cause : Option Cause) →
 state_of_living A B None e h = h
 state_of_living A B (Some cause) e h = absurd (false≢true e)
 
--- who runs into another is out as the cause wants it
+-- a snake that runs into another is eliminated by that cause
 out_by : (b : Board) (seat killer : ℕ) (s t : Snake) (cause : Cause) → RunsInto cause seat s killer t → 1 ≤ b.turn → killer < length b.snakes → IsLegalLiving b s
     → IsLegalOut b seat (record s { cause = Some cause; killer = Some killer; out = Some b.turn }) cause
 out_by b seat killer s t OutOfHealth hit played within living = absurd hit
@@ -40,7 +40,7 @@ out_by b seat killer s t HeadCollision hit played within living = record {
   killer = (within, λ e. hit.0 (sym e));
 }
 
--- b is the board that is judged, f the one that the snakes are sound for
+-- b is the board that is judged, f the one for which the snakes are sound
 judged_is_sound : (b f : Board) (parts seat : ℕ) (now : Snake) → f.turn ≡ b.turn + 1 → length f.snakes ≡ length b.snakes → EachSeat (IsSound f parts) b.snakes
     → seat < length b.snakes → IsJudged b seat now → IsSound f parts seat now
 judged_is_sound b f parts seat now turn seats sound within (inl spared) =

@@ -17,7 +17,7 @@ use Rattle.bs_rules.specs.Feeding.{fed_snake, last_of}
 use Rattle.bs_rules.specs.Elimination.{first_judged, judged}
 use Rattle.bs_rules.proofs.Sound.{IsSoundBody, IsMoved, IsMovedLiving, IsSound, longer_parts}
 
--- the part that is repeated stands behind the head
+-- the part that is repeated comes after the head
 inside_fed : (P : Point → Type 0) (body : List Point) → 3 ≤ length body → All P (drop 1 body) → All P (drop 1 (body ++ last_of body ∷ []))
 inside_fed P [] long all = absurd (omega arith)
 inside_fed P (p ∷ rest) long all =
@@ -65,7 +65,7 @@ feeds_at b parts seat s food (Some cause) m = roomier b parts seat (record s { c
 pub feeds : (b : Board) (parts seat : ℕ) (s : Snake) (food : List Point) → IsMoved b parts seat s → IsMoved b (parts + 1) seat (fed_snake food s)
 feeds b parts seat s food m = feeds_at b parts seat s food s.cause m
 
--- where there is no food no body grows
+-- without food no body grows
 feeds_none_at : (b : Board) (parts seat : ℕ) (s : Snake) (cause : Option Cause) → IsMoved b parts seat (record s { cause = cause })
     → IsMoved b parts seat (fed_snake [] (record s { cause = cause }))
 feeds_none_at b parts seat s None m = m
@@ -107,7 +107,7 @@ grows_at b parts seat s (Some cause) m =
 pub grows : (b : Board) (parts seat : ℕ) (s : Snake) → IsSound b parts seat s → IsSound b (parts + 1) seat (grown_snake s)
 grows b parts seat s m = grows_at b parts seat s s.cause m
 
--- out by starving, out by the wall, or alive
+-- starved, off the board, or alive
 first_by : (b : Board) (parts seat : ℕ) (s : Snake) (starved wraps inside : Bool) → s.cause ≡ None → starved ≡ eqb s.health 0 → wraps ≡ is_wrapped b.mode → inside ≡ is_on_board b.width b.height (head_of s.body)
     → 1 ≤ b.turn → IsSoundBody b parts s → IsMovedLiving b s
     → IsSound b parts seat (judged b.turn (cond starved (Some (record { cause = OutOfHealth; killer = None })) (cond (wraps || inside) None (Some (record { cause = WallCollision; killer = None })))) s)

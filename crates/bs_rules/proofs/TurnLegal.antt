@@ -37,7 +37,7 @@ each_map P Q f xs step all seat d within =
     let inside : seat < length xs = omega arith in
     rw (get_or-map f xs seat d d inside) (step seat (get_or xs seat d) (all seat d inside))
 
--- the board once it is judged, before growth or new food
+-- the board after the eliminations, before growth or new food
 abbrev survivors : List (List ℕ × Direction) → Board → Board
 survivors orders b = collided (starved_or_outside (fed (moved_board orders b)))
 
@@ -65,7 +65,7 @@ sound_with_food b orders l =
     (λ seat s. feeds (later b) (b.turn + 3) seat s b.food) (sound_moved b orders l) in
     sound_judged b orders (b.turn + 3 + 1) feed
 
--- where there is no food it may grow afterwards
+-- without food it may grow afterwards
 sound_without_food : (b : Board) (orders : List (List ℕ × Direction)) → b.food ≡ [] → IsLegal b
     → EachSeat (IsSound (later b) (b.turn + 3)) (survivors orders b).snakes
 sound_without_food b orders none l =
@@ -73,7 +73,7 @@ sound_without_food b orders none l =
     (λ seat s. feeds_none (later b) (b.turn + 3) seat s b.food none) (sound_moved b orders l) in
     sound_judged b orders (b.turn + 3) feed
 
--- what is sound for one board is legal on another of the same size
+-- a snake that is sound for one board is legal on another of the same size
 reframe_state : (f c : Board) (seat : ℕ) (s : Snake) (cause : Option Cause) → c.mode ≡ f.mode → c.turn ≡ f.turn → c.width ≡ f.width → c.height ≡ f.height
     → length c.snakes ≡ length f.snakes → MatchOption cause (IsLegalLiving f s) (IsLegalOut f seat s) → MatchOption cause (IsLegalLiving c s) (IsLegalOut c seat s)
 reframe_state f c seat s None mode turn width height seats state = record {
@@ -113,7 +113,7 @@ legal_limits b c width height chance turn seats l = record {
   few = let few = l.few in omega arith;
 }
 
--- the board that a turn leaves, by its food and its seats
+-- the board after a turn, from its food and its seats
 next_board_is_legal : (b : Board) (food : List Point) (snakes : List Snake) → is_fit_food b.width b.height food ≡ true → IsFreeOfFood b.mode food
     → length snakes ≡ length b.snakes → ids_of snakes ≡ ids_of b.snakes → EachSeat (IsSound (later b) (b.turn + 3 + 1)) snakes → IsLegal b → b.turn < 10000
     → IsLegal (record b { turn = b.turn + 1; food = food; snakes = snakes })
@@ -168,7 +168,7 @@ replenished_is_legal b orders words Solo e l early = spawned_is_legal b orders w
 replenished_is_legal b orders words Constrictor e l early = grown_is_legal b orders e l early
 replenished_is_legal b orders words Wrapped e l early = spawned_is_legal b orders words (λ food. rw e tt) l early
 
--- all seats moved, then the rest of the turn
+-- all seats are moved, then the rest of the turn follows
 pub finished_is_legal : (b : Board) (orders : List (List ℕ × Direction)) (words : List ℕ) → IsLegal b → b.turn < 10000
     → IsLegal (finished words (moved_board orders b))
 finished_is_legal b orders words l early = replenished_is_legal b orders words b.mode refl l early
@@ -177,12 +177,12 @@ pub turn_is_legal : (b : Board) (orders : Orders) → IsLegal b → b.turn < 100
 unfolding turn_of
 turn_is_legal b orders l early = finished_is_legal b orders.moves orders.words l early
 
--- in the steps that the code makes
+-- the same in the steps of the code
 pub next_is_legal : (b moved next : Board) (orders : List (List ℕ × Direction)) (words : List ℕ) → moved ≡ moved_board orders b → next ≡ finished words moved
     → IsLegal b → b.turn < 10000 → IsLegal next
 next_is_legal b moved next orders words e f l early = rw (f, e) (finished_is_legal b orders words l early)
 
--- the value of a turn, from the two parts of the orders
+-- the value of a turn, from the two parts of the move
 pub next_is_turn : (b moved next : Board) (orders : Orders) (moves : List (List ℕ × Direction)) (words : List ℕ) → moves ≡ orders.moves → words ≡ orders.words
     → moved ≡ moved_board moves b → next ≡ finished words moved → next ≡ turn_of b orders
 unfolding turn_of

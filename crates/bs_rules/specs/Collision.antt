@@ -12,7 +12,7 @@ use Rattle.bs_board.specs.boards.Over.{is_living}
 use Rattle.bs_rules.specs.declared.verdict.Verdict.{Verdict}
 use Rattle.bs_rules.specs.Elimination.{judged}
 
--- who sits behind the last seat does not live
+-- the snake of a seat that does not exist, which is not alive
 abbrev pub nobody : Snake
 nobody = record { id = []; body = []; health = 0; cause = Some OutOfHealth; killer = None; out = None }
 
@@ -22,7 +22,7 @@ snake_at snakes seat = slice_index_or snakes seat nobody
 abbrev pub length_at : List Snake → ℕ → ℕ
 length_at snakes seat = length (snake_at snakes seat).body
 
--- The relation: who collides with whom, and who is then the killer.
+-- The relation: which snake collides with which, and which one is the killer.
 
 -- the head of s is on a part, not the head, of t
 abbrev pub IsOnLaterPart : Snake → Snake → Type 0
@@ -37,13 +37,13 @@ RunsInto SelfCollision i s j t = (i ≡ j) × IsOnLaterPart s t
 RunsInto BodyCollision i s j t = (i ≢ j) × IsOnLaterPart s t
 RunsInto HeadCollision i s j t = (i ≢ j) × (head_of s.body ≡ head_of t.body) × (length s.body ≤ length t.body)
 
--- both live, and the one runs into the other
+-- both are alive, and the one runs into the other
 pub record CollidesWith (snakes : List Snake) (seat : ℕ) (cause : Cause) (other : ℕ) : Type 0 where
   pub alive : is_living (snake_at snakes seat) ≡ true
   pub both : is_living (snake_at snakes other) ≡ true
   pub hit : RunsInto cause seat (snake_at snakes seat) other (snake_at snakes other)
 
--- of all seats that qualify the longest, and of those equally long the first
+-- the longest candidate, and of equally long ones the first
 pub record IsKiller (snakes : List Snake) (seat : ℕ) (cause : Cause) (killer : ℕ) : Type 0 where
   pub within : killer < length snakes
   pub collides : CollidesWith snakes seat cause killer
@@ -53,7 +53,7 @@ pub record IsKiller (snakes : List Snake) (seat : ℕ) (cause : Cause) (killer :
 abbrev pub EscapesBy : List Snake → ℕ → Cause → Type 0
 EscapesBy snakes seat cause = (other : ℕ) → CollidesWith snakes seat cause other → ⊥
 
--- the causes that are looked at before this one
+-- the causes that are judged before this one
 abbrev pub EscapesBefore : List Snake → ℕ → Cause → Type 0
 EscapesBefore snakes seat OutOfHealth = Unit {0}
 EscapesBefore snakes seat WallCollision = Unit {0}
@@ -61,13 +61,13 @@ EscapesBefore snakes seat SelfCollision = Unit {0}
 EscapesBefore snakes seat BodyCollision = EscapesBy snakes seat SelfCollision
 EscapesBefore snakes seat HeadCollision = EscapesBy snakes seat SelfCollision × EscapesBy snakes seat BodyCollision
 
--- what the snake at that seat becomes by running into the killer
+-- the snake of that seat, eliminated by the killer
 pub record IsPutOut (old : Board) (seat : ℕ) (cause : Cause) (killer : ℕ) (now : Snake) : Type 0 where
   pub earlier : EscapesBefore old.snakes seat cause
   pub longest : IsKiller old.snakes seat cause killer
   pub rest : now ≡ record (snake_at old.snakes seat) { cause = Some cause; killer = Some killer; out = Some (old.turn + 1) }
 
--- it collides with nobody and stays as it is
+-- it collides with no snake and is unchanged
 pub record IsSpared (old : Board) (seat : ℕ) (now : Snake) : Type 0 where
   pub escapes : (cause : Cause) → EscapesBy old.snakes seat cause
   pub rest : now ≡ snake_at old.snakes seat
@@ -101,12 +101,12 @@ collides snakes seat cause other =
     is_living (snake_at snakes seat) && is_living (snake_at snakes other)
     && runs_into cause seat (snake_at snakes seat) other (snake_at snakes other)
 
--- the one before, unless the other is longer
+-- the earlier one, unless the other is longer
 abbrev pub longer_of : List Snake → Option ℕ → ℕ → Option ℕ
 longer_of snakes None other = Some other
 longer_of snakes (Some killer) other = if nat_lt (length_at snakes killer) (length_at snakes other) then Some other else Some killer
 
--- the longest of those among the first n seats that qualify
+-- the longest candidate among the first n seats
 unfoldable pub killer_among : ℕ → List Snake → ℕ → Cause → Option ℕ
 killer_among n snakes seat cause = fold (longer_of snakes) None (filter (collides snakes seat cause) (range_with_len 0 n))
 
@@ -127,6 +127,6 @@ map_seats f snakes = map (λ entry. f entry.0 entry.1) (enumerate_from 0 snakes)
 abbrev pub collided : Board → Board
 collided b = record b { snakes = map_seats (λ seat s. judged (b.turn + 1) (collision_verdict b.snakes seat) s) b.snakes }
 
--- the relation holds of the function's board, and of no other
+-- the relation holds of the function's result, and of no other board
 abbrev pub CollisionLaw : Type 0
 CollisionLaw = (old now : Board) → (IsCollided old now → now ≡ collided old) × (now ≡ collided old → IsCollided old now)

@@ -1,4 +1,5 @@
--- Snakes that go out, and the first of them in a turn: the starved and those that left the board.
+-- The elimination of snakes, and the first eliminations of a turn: starved snakes and snakes off
+-- the board.
 use Rattle.std.specs.Prelude.{ℕ, ◌+◌, Bool, ◌||◌, if◌then◌else◌, map, nat_eq, Option, Some, None}
 use Rattle.bs_board.specs.declared.boards.board.Board.{Board}
 use Rattle.bs_board.specs.declared.boards.snake.Snake.{Snake}
@@ -8,12 +9,12 @@ use Rattle.bs_board.specs.boards.Over.{is_living}
 use Rattle.bs_board.specs.boards.Wrap.{is_wrapped}
 use Rattle.bs_rules.specs.declared.verdict.Verdict.{Verdict}
 
--- out in that turn by that verdict, if there is one; its body and health it keeps
+-- eliminated in that turn by the verdict, if there is one; body and health are unchanged
 abbrev pub judged : ℕ → Option Verdict → Snake → Snake
 judged turn None s = s
 judged turn (Some v) s = record s { cause = Some v.cause; killer = v.killer; out = Some turn }
 
--- starved, else off a board that is not wrapped; no snake is the killer
+-- starved, else off a board that is not wrapped; there is no killer
 abbrev pub first_verdict : Bool → ℕ → ℕ → Snake → Option Verdict
 first_verdict wraps width height s =
     if nat_eq s.health 0 then Some (record { cause = OutOfHealth; killer = None })
@@ -23,6 +24,6 @@ first_verdict wraps width height s =
 abbrev pub first_judged : Bool → ℕ → ℕ → ℕ → Snake → Snake
 first_judged wraps width height turn s = if is_living s then judged turn (first_verdict wraps width height s) s else s
 
--- the board's number of turns still is the one before this turn
+-- the board's turn number is still that of the turn before
 abbrev pub starved_or_outside : Board → Board
 starved_or_outside b = record b { snakes = map (first_judged (is_wrapped b.mode) b.width b.height (b.turn + 1)) b.snakes }

@@ -1,6 +1,6 @@
 -- What snakes eat in a turn.
-use Rattle.std.specs.Prelude.{◌-◌, Bool, not, ◌&&◌, if◌then◌else◌, List, [], ◌∷◌, ◌++◌, length, map, filter, slice_index_or}
-use Rattle.std.specs.List.{list_any}
+use Rattle.std.specs.Prelude.{◌≡◌, ◌↔◌, ◌-◌, Bool, true, Contains, not, ◌&&◌, if◌then◌else◌, List, [], ◌∷◌, ◌++◌, length, map, filter, slice_index_or}
+use Rattle.std.specs.List.{Any, list_any}
 use Rattle.bs_board.specs.declared.boards.point.Point.{Point}
 use Rattle.bs_board.specs.declared.boards.board.Board.{Board}
 use Rattle.bs_board.specs.declared.boards.snake.Snake.{Snake}
@@ -30,3 +30,13 @@ food_left snakes food = filter (λ cell. not (list_any (has_head_on cell) snakes
 -- all heads on food eat, also two on the same
 abbrev pub fed : Board → Board
 fed b = record b { food = food_left b.snakes b.food; snakes = map (fed_snake b.food) b.snakes }
+
+-- The same without the lists' order, by what lies on a cell.
+
+-- a living snake has its head on the cell
+abbrev pub IsUnderHead : List Snake → Point → Type 0
+IsUnderHead snakes cell = Any (λ s. (is_living s ≡ true) × (head_of s.body ≡ cell)) snakes
+
+-- the food that is gone lies under a living head, and no other food is gone
+abbrev pub LeavesFood : Board → Board → Type 0
+LeavesFood old now = (cell : Point) → Contains now.food cell ↔ (Contains old.food cell × ¬ IsUnderHead old.snakes cell)

@@ -1,4 +1,4 @@
--- Where a snake goes in a turn.
+-- The motion of a snake in a turn.
 use Rattle.std.specs.Prelude.{◌≡◌, ℕ, ◌-◌, ◌≤◌, true, if◌then◌else◌, List, [], ◌∷◌, length, take, map, find, All, Option, Some, None, unwrap_or, option_map, slice_index_or, pos, ◌+ℤ◌, ◌-ℤ◌}
 use Rattle.std.specs.Int.{int_rem_euclid}
 use Rattle.bs_board.specs.declared.boards.point.Point.{Point}
@@ -32,36 +32,36 @@ neighbor wrap p d = on_torus wrap (one_step p d)
 abbrev pub second_of : List Point → Point
 second_of body = slice_index_or body 1 origin
 
--- the direction in which the second part has the head as its neighbor; up where there is none
+-- the direction in which the second part has the head as its neighbor; up if there is none
 abbrev pub onward : Option (ℕ × ℕ) → List Point → Direction
 onward wrap body = unwrap_or (find (λ d. is_same_cell (neighbor wrap (second_of body) d) (head_of body)) (Down ∷ Left ∷ Right ∷ Up ∷ [])) Up
 
--- the given one, else straight on
+-- the given direction, else straight on
 abbrev pub direction_taken : Option (ℕ × ℕ) → Option Direction → List Point → Direction
 direction_taken wrap (Some given) body = given
 direction_taken wrap None body = onward wrap body
 
--- a new head in front, the last part taken away
+-- a new head in front, and the last part removed
 abbrev pub moved_body : Option (ℕ × ℕ) → Option Direction → List Point → List Point
 moved_body wrap given body = neighbor wrap (head_of body) (direction_taken wrap given body) ∷ take (length body - 1) body
 
--- a living snake one step on, a turn hungrier; one that is out stays as it is
+-- a living snake moved one step, with one health less; one that is out is unchanged
 abbrev pub moved : Option (ℕ × ℕ) → Option Direction → Snake → Snake
 moved wrap given s = if is_living s then record s { body = moved_body wrap given s.body; health = s.health - 1 } else s
 
--- what the first entry for this id says
+-- the direction of the first entry for this id
 abbrev pub given_to : List (List ℕ × Direction) → List ℕ → Option Direction
 given_to moves id = option_map (λ m. m.1) (find (λ m. is_same_text m.0 id) moves)
 
--- any number of seats, each in the direction that is given to its id
+-- any number of seats, each moved in the direction given for its id
 abbrev pub moved_seats : Option (ℕ × ℕ) → List (List ℕ × Direction) → List Snake → List Snake
 moved_seats wrap moves = map (λ s. moved wrap (given_to moves s.id) s)
 
 abbrev pub moved_board : List (List ℕ × Direction) → Board → Board
 moved_board moves b = record b { snakes = moved_seats (wrap_of b) moves b.snakes }
 
--- a body whose parts have neighbors, as each snake's of a legal board: none is further out than one
--- cell beyond the largest board
+-- a body whose parts have neighbors, as in each snake of a legal board: no part is more than one
+-- cell outside the largest board
 pub record IsMovable (s : Snake) : Type 0 where
   pub some : 1 ≤ length s.body
   pub near : All (λ p. is_near LONGEST_SIDE LONGEST_SIDE p ≡ true) s.body

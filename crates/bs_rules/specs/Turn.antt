@@ -11,14 +11,14 @@ use Rattle.bs_rules.specs.Feeding.{fed}
 use Rattle.bs_rules.specs.Elimination.{starved_or_outside}
 use Rattle.bs_rules.specs.Collision.{collided}
 
--- after the eliminations: growth in constrictor, in the other modes food from the words
+-- after the eliminations: growth in constrictor; in the other modes food from the words
 abbrev pub replenished : Mode → List ℕ → Board → Board
 replenished Standard words b = spawned words b
 replenished Solo words b = spawned words b
 replenished Constrictor words b = grown b
 replenished Wrapped words b = spawned words b
 
--- what follows the moves of all seats; the turn number rises last
+-- the turn after the motion of all seats; the turn number rises last
 abbrev pub finished : List ℕ → Board → Board
 finished words b = record (replenished b.mode words (collided (starved_or_outside (fed b)))) { turn = b.turn + 1 }
 

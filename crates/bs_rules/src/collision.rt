@@ -123,7 +123,7 @@ fn collision_verdict(snakes: &[Snake], seat: usize) -> Option<Verdict>
     None
 }
 
-/// All verdicts before any is applied, by seat.
+/// The verdicts of all seats, before any is applied.
 fn judge(snakes: &[Snake]) -> [Option<Verdict>; MOST_SNAKES]
     requires { length snakes.now ≤ MOST_SNAKES }
     ensures { (seat : ℕ) → seat < length snakes.now → slice_index_or result seat None ≡ collision_verdict snakes.now seat }
@@ -154,8 +154,8 @@ fn judge_all(turn: u16, snakes: &mut Snakes)
     put_all_out(&verdicts, turn, snakes);
 }
 
-/// The collisions of the turn that is being played, among the snakes that live after the first
-/// eliminations: all are judged on the board as it stands, and then applied together.
+/// Eliminates the snakes that collide, among those that are alive after the first eliminations: all
+/// are judged on the same board, then all verdicts are applied.
 pub fn collide(board: &mut Board)
     requires turn { board.old.turn < LAST_TURN }
     requires few { length board.old.snakes ≤ MOST_SNAKES }

@@ -1,4 +1,4 @@
-//! The first eliminations of a turn: the starved and those that left the board.
+//! The first eliminations of a turn: starved snakes and snakes off the board.
 
 ghost use Rattle.std.specs.Prelude.{◌≡◌, ◌+◌, ◌<◌, map};
 ghost use Rattle.bs_rules.specs.Elimination.{first_verdict, first_judged, starved_or_outside};
@@ -43,9 +43,8 @@ fn judge_all_first(wraps: bool, width: u8, height: u8, turn: u16, snakes: &mut S
     }
 }
 
-/// The first eliminations of the turn that is being played: each living snake that has starved is
-/// out, and each other one whose head has left the board. On a wrapped board no snake is out by the
-/// wall.
+/// Eliminates each living snake that has starved, then each other one whose head is off the board.
+/// On a wrapped board no snake is eliminated by the wall.
 pub fn first_out(board: &mut Board)
     requires { board.old.turn < LAST_TURN }
     ensures { board.new ≡ starved_or_outside board.old }

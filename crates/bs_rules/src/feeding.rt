@@ -3,7 +3,7 @@
 ghost use Rattle.std.specs.Prelude.{◌≡◌, IfOk, OnOk, map};
 ghost use Rattle.std.specs.List.{list_any};
 ghost use Rattle.bs_board.specs.boards.Cell.{is_same_cell};
-ghost use Rattle.bs_rules.specs.Feeding.{has_head_on, eats, fed_snake, food_left, fed};
+ghost use Rattle.bs_rules.specs.Feeding.{has_head_on, eats, fed_snake, food_left, fed, LeavesFood};
 
 use crate::parts::last_of;
 use bs_board::limits::FULL_HEALTH;
@@ -69,7 +69,8 @@ fn feed_snakes(food: &[Point], snakes: &mut Snakes) -> Result<(), AllocError>
 /// Each living snake whose head is on food has full health and its last part once more, and the
 /// food under such a head is gone. After want of memory the board is given up.
 pub fn feed(alloc: Global, board: &mut Board) -> Result<(), AllocError>
-    ensures { OnOk result (board.new ≡ fed board.old) }
+    ensures value { OnOk result (board.new ≡ fed board.old) }
+    ensures meaning { OnOk result (LeavesFood board.old board.new) }
 {
     let left = food_left(alloc, board.snakes.as_slice(), board.food.as_slice())?;
     feed_snakes(board.food.as_slice(), &mut board.snakes)?;

@@ -1,5 +1,4 @@
-//! One turn of a game, step by step: snakes move, eat, starve or leave the board, and run into one
-//! another.
+//! One turn of a game, step by step: snakes move, eat, starve or leave the board, and collide.
 #![tactic(auto)]
 
 mod collision;

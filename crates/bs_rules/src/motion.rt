@@ -1,4 +1,4 @@
-//! Where snakes go in a turn.
+//! The motion of snakes in a turn.
 
 ghost use Rattle.std.specs.Prelude.{◌≡◌, ◌≤◌, true, IfOk, All, map, length};
 ghost use Rattle.bs_board.specs.boards.Legal.{is_near};
@@ -46,7 +46,7 @@ fn one_step(cell: Point, direction: Direction) -> Point
     }
 }
 
-/// On a wrapped board the column modulo the width and the row modulo the height.
+/// On a wrapped board, the column modulo the width and the row modulo the height.
 fn on_torus(wrap: Option<(u8, u8)>, cell: Point) -> Point
     requires { AreSides wrap }
     ensures { result ≡ on_torus wrap cell }
@@ -115,9 +115,9 @@ fn move_body(
     Ok(Cells::from_vec(parts))
 }
 
-/// A living snake one step on, in the given direction or else straight on: a new head in front, the
-/// last part taken away, a turn hungrier. One that is out stays as it is. `wrap` is the width and
-/// height of a wrapped board, which each step is taken modulo.
+/// Moves a living snake one step, in the given direction or else straight on: it gets a new head,
+/// loses its last part, and has one health less. One that is out is unchanged. `wrap` is the width
+/// and height of a wrapped board, which each step is taken modulo.
 pub fn move_snake(
     alloc: Global,
     snake: &Snake,
@@ -150,8 +150,8 @@ fn given_to(moves: &[(Id, Direction)], id: &Id) -> Option<Direction>
         .map(|order| order.1)
 }
 
-/// Any number of seats, each in the direction that is given to its id. A whole turn moves all of
-/// them so, and a part of a turn some.
+/// Moves any number of seats, each in the direction given for its id. A whole turn moves all seats
+/// by this call, and a part of a turn some.
 pub fn move_snakes(
     alloc: Global,
     snakes: &[Snake],

@@ -1,4 +1,4 @@
-//! Parts of a body behind its head. Each snake of a board has at least three.
+//! Parts of a body after its head. Each snake of a board has at least three parts.
 
 ghost use Rattle.std.specs.Prelude.{◌≡◌};
 ghost use Rattle.bs_rules.specs.Feeding.{last_of};
@@ -7,7 +7,7 @@ ghost use Rattle.bs_rules.specs.Motion.{second_of};
 use bs_board::Point;
 use bs_board::boards::point::ORIGIN;
 
-/// The second part, or the corner of the board where there is none.
+/// The second part, or the corner of the board if there is none.
 pub fn second_of(body: &[Point]) -> Point
     ensures { result ≡ second_of body.now }
 {
@@ -17,7 +17,7 @@ pub fn second_of(body: &[Point]) -> Point
     }
 }
 
-/// The last part, or the corner of the board where there is none.
+/// The last part, or the corner of the board if there is none.
 pub fn last_of(body: &[Point]) -> Point
     ensures { result ≡ last_of body.now }
 {

@@ -33,7 +33,7 @@ fn move_board(alloc: Global, board: &Board, moves: &[(Id, Direction)]) -> Result
     })
 }
 
-/// Growth in constrictor, in the other modes food from the words.
+/// Grows the snakes in constrictor; in the other modes adds food from the words.
 fn replenish(alloc: Global, board: &mut Board, words: &[u32]) -> Result<(), AllocError>
     ensures { OnOk result (board.new ≡ replenished board.old.mode words.now board.old) }
 {
@@ -45,8 +45,8 @@ fn replenish(alloc: Global, board: &mut Board, words: &[u32]) -> Result<(), Allo
     }
 }
 
-/// The rest of a turn, once all seats have moved: feeding, the first eliminations, collisions,
-/// growth or new food. The turn number rises last. Moving all seats and then this is `turn`.
+/// Plays the rest of a turn once all seats are moved: feeding, the first eliminations, collisions,
+/// growth or new food. The turn number rises last. `turn` moves all seats and then calls this.
 pub fn finish_turn(alloc: Global, board: Board, words: &[u32]) -> Result<Board, AllocError>
     requires turn { board.turn < LAST_TURN }
     requires few { length board.snakes ≤ MOST_SNAKES }
@@ -62,8 +62,8 @@ pub fn finish_turn(alloc: Global, board: Board, words: &[u32]) -> Result<Board, 
     Ok(next)
 }
 
-/// The board after one turn. A snake that no direction is given to goes straight on; directions for
-/// ids of no living snake are ignored, and so are words left over.
+/// Plays one turn. A snake without a direction goes straight on; directions for ids of no living
+/// snake, and words left over, are ignored.
 #[tactic(auto, using(crate::proofs::Movable::legal_is_movable))]
 pub fn turn(alloc: Global, board: &Board, order: &Move) -> Result<Board, AllocError>
     requires legal { IsLegal board.now }

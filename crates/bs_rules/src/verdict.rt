@@ -1,11 +1,11 @@
-//! How a snake goes out.
+//! The elimination of a snake.
 
 ghost use Rattle.std.specs.Prelude.{◌≡◌};
 ghost use Rattle.bs_rules.specs.Elimination.{judged};
 
 use bs_board::{Cause, Snake};
 
-/// How a snake goes out.
+/// How a snake is eliminated.
 #[derive(Clone, Copy, Debug)]
 pub struct Verdict {
     pub cause: Cause,
@@ -13,7 +13,7 @@ pub struct Verdict {
     pub killer: Option<usize>,
 }
 
-/// Puts the snake out in that turn, if there is a verdict.
+/// Eliminates the snake in that turn if there is a verdict.
 pub fn put_out(verdict: Option<Verdict>, turn: u16, snake: &mut Snake)
     ensures { snake.new ≡ judged turn verdict snake.old }
 {

@@ -2,10 +2,10 @@
 use bs_board::{Board, Cause, Cells, Id, Mode, Point, Snake, Snakes};
 use std::alloc::{AllocError, Global};
 
-/// Cells as pairs of a column and a row.
+/// Cells, as pairs of a column and a row.
 pub type Parts<'a> = &'a [(i16, i16)];
 
-/// The cells in that order.
+/// Makes a list of these cells.
 pub fn cells(alloc: Global, parts: Parts) -> Result<Cells, AllocError> {
     let mut cells = Cells::new(alloc);
     for &(x, y) in parts {
@@ -14,7 +14,7 @@ pub fn cells(alloc: Global, parts: Parts) -> Result<Cells, AllocError> {
     Ok(cells)
 }
 
-/// A snake that is not out, its head first.
+/// Makes a snake that is not out. Its head is the first cell.
 pub fn snake(alloc: Global, id: &str, health: u8, parts: Parts) -> Result<Snake, AllocError> {
     Ok(Snake {
         id: Id::from_str(alloc, id)?,
@@ -26,7 +26,7 @@ pub fn snake(alloc: Global, id: &str, health: u8, parts: Parts) -> Result<Snake,
     })
 }
 
-/// A square board on which no food spawns.
+/// Makes a square board on which no food spawns.
 pub fn board(alloc: Global, mode: Mode, side: u8, turn: u16, snakes: Vec<Snake>) -> Board {
     Board {
         mode,
@@ -40,7 +40,7 @@ pub fn board(alloc: Global, mode: Mode, side: u8, turn: u16, snakes: Vec<Snake>)
     }
 }
 
-/// The snake `s` alone on a board.
+/// Makes a solo board with the snake `s`.
 pub fn solo(
     alloc: Global,
     side: u8,
@@ -53,8 +53,8 @@ pub fn solo(
     Ok(board(alloc, Mode::Solo, side, turn, snakes))
 }
 
-/// The game of `new_solo`, 0 to 2 turns after its start, in which the snake goes up. On a board of
-/// three by three the second turn takes it into the wall.
+/// Makes the board of `new_solo`'s game after 0 to 2 turns in which the snake goes up. On a board
+/// of three by three the second turn takes it into the wall.
 pub fn solo_after(alloc: Global, side: u8, turn: u16) -> Result<Board, AllocError> {
     match turn {
         0 => solo(alloc, side, 0, 100, &[(1, 1), (1, 1), (1, 1)]),

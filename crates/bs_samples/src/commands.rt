@@ -13,7 +13,7 @@ use std::test::Fail;
 /// Names, each with a column and a row.
 pub type Places<'a> = &'a [(&'a str, i16, i16)];
 
-/// The snakes of a `new` in that order.
+/// Makes the snakes of a `new`, in that order.
 pub fn starts(alloc: Global, places: Places) -> Result<Starts, AllocError> {
     let mut starts = Vec::new(alloc);
     for &(name, x, y) in places {
@@ -22,7 +22,7 @@ pub fn starts(alloc: Global, places: Places) -> Result<Starts, AllocError> {
     Ok(Starts::from_vec(starts))
 }
 
-/// A setup on a square board on which no food spawns. `None` where it breaks a limit.
+/// Makes a setup on a square board on which no food spawns. `None` if it breaks a limit.
 pub fn setup(
     alloc: Global,
     mode: Mode,
@@ -34,20 +34,21 @@ pub fn setup(
     Ok(New::new(mode, side, side, starts, cells(alloc, food)?, 0, 0))
 }
 
-/// A `new` of the snake `s` alone at (1, 1).
+/// Makes a `new` of the snake `s` alone at (1, 1).
 pub fn new_solo(alloc: Global, side: u8) -> Result<Command, Fail> {
     let new = setup(alloc, Mode::Solo, side, &[("s", 1, 1)], &[])?;
     Ok(Command::New(new.ok_or("a setup")?))
 }
 
-/// A `new` of three snakes, whose moves have two parts. The first snake starts below the only food.
+/// Makes a `new` of three snakes, whose moves have two parts. The first snake starts below the only
+/// food.
 pub fn new_of_three(alloc: Global) -> Result<Command, Fail> {
     let places = [("s", 1, 1), ("t", 5, 1), ("u", 3, 5)];
     let new = setup(alloc, Mode::Standard, 7, &places, &[(1, 2)])?;
     Ok(Command::New(new.ok_or("a setup")?))
 }
 
-/// The move of nobody, with no words for food.
+/// Makes a move without directions and without words for food.
 pub fn no_orders(alloc: Global) -> Move
     ensures { result ≡ orders_of [] [] }
 {
@@ -57,12 +58,12 @@ pub fn no_orders(alloc: Global) -> Move
     )
 }
 
-/// A `move` in which each snake goes straight on.
+/// Makes a `move` in which each snake goes straight on.
 pub fn straight_on(alloc: Global) -> Command {
     Command::Move(no_orders(alloc))
 }
 
-/// A move with these directions, in the order of their names, and these words for food.
+/// Makes a move with these directions, in the order of their names, and these words for food.
 pub fn orders(
     alloc: Global,
     directions: &[(&str, Direction)],
@@ -78,7 +79,7 @@ pub fn orders(
     Ok(Move::new(Moves::from_vec(moves), Words::from_vec(words)))
 }
 
-/// A `move` of the third snake of `new_of_three`; the others go straight on.
+/// Makes a `move` of the third snake of `new_of_three`; the others go straight on.
 pub fn third_goes(alloc: Global, direction: Direction) -> Result<Command, Fail> {
     Ok(Command::Move(orders(alloc, &[("u", direction)], &[])?))
 }

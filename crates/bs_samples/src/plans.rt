@@ -8,12 +8,12 @@ use bs_board::{Id, Plan, Row, Rows, Version};
 use std::alloc::Global;
 use std::test::Fail;
 
-/// The row of a game.
+/// Makes the row of a game.
 pub fn row(alloc: Global, name: &str, quota: u32) -> Result<Row, Fail> {
     Ok(Row::new(Id::from_str(alloc, name)?, quota).ok_or("a row")?)
 }
 
-/// A plan of version 1 with these games, each with its quota.
+/// Makes a plan of version 1 with these games and their quotas.
 pub fn plan_of(alloc: Global, games: &[(&str, u32)]) -> Result<Plan, Fail>
     ensures { IfOk result (λ plan. length plan.rows ≡ length games.now) }
 {

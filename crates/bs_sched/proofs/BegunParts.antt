@@ -72,7 +72,7 @@ begun_out worker part.Ready out = let wrong : false ≡ true = out in absurd cc
 begun_out worker (part.Out other) out = refl
 begun_out worker part.Done out = let wrong : false ≡ true = out in absurd cc
 
--- a part that is begun stays so
+-- a part that was taken stays so
 done_same : (parts : List PartState) (p worker : ℕ) → has_part worker (slice_index_or parts p part.Done) ≡ true → map is_begun (slice_set parts p part.Done) ≡ map is_begun parts
 done_same [] p worker out = refl
 done_same (s ∷ parts) zero worker out = ap (λ (b : Bool). b ∷ map is_begun parts) (sym (begun_out worker s out))
@@ -144,7 +144,7 @@ of_begun false parts none = refl
 pub none_idle : (x : Lane) (numbers : List (Option ℕ)) → is_playing x.stage ≡ false → AreBegun x numbers → known numbers ≡ []
 none_idle x numbers idle begun = no_flags numbers (begun.are ∙ of_begun (is_playing x.stage) x.parts idle)
 
--- there are four at most
+-- there are at most four
 
 few_in : (game : Game) (last : Option Board) → IsGame game → last ≡ last_board game → parts_of (length (snakes_in last)) ≤ 4
 few_in game None right is = omega arith
@@ -167,7 +167,7 @@ few_numbers x numbers right are =
     let same = ap length are.are in
     omega (arith, few, many, same)
 
--- a part that is there to be taken has no block yet
+-- a ready part has no block yet
 
 flag_false : (numbers : List (Option ℕ)) (parts : List PartState) (p : ℕ) → flags numbers ≡ map is_begun parts → is_part_ready (slice_index_or parts p part.Done) ≡ true
     → slice_get numbers p ≡ Some None
@@ -194,7 +194,7 @@ one_left x p numbers right ready are =
     let less = one_less numbers p (free_to_draw x p numbers ready are) in
     omega (arith, few, less)
 
--- a stay that has nothing to do is at no move
+-- an idle stay has no move
 
 idle_still : (s : Stage) → is_idle s ≡ true → is_playing s ≡ false
 idle_still stage.Idle idle = refl

@@ -1,4 +1,4 @@
--- The frame blocks of a job that is brought back.
+-- The frame blocks of a job that is completed.
 use Rattle.std.proofs.Common.{◌≡◌, ◌≢◌, ℕ, zero, suc, List, [], ◌∷◌, map, Option, Some, None, slice_get, refl, sym, ap, subst, ◌∙◌, inl, inr, true}
 use Rattle.std.specs.Prelude.{nat_eq, slice_index_or, slice_set}
 use Rattle.std.proofs.lemmas.Bool.{and_parts, cases_Bool}
@@ -33,7 +33,7 @@ none_begun x worker p own f pool out are =
     let none : AreBegunFrames x f = subst (λ (s : Stage). AreFramesAt s x f) at are.at in
     ap (λ (v : FramesView). v.numbers) none.none
 
--- it has all blocks of its game
+-- it has all frame blocks of its game
 pub all_of_job : (k : JobKind) (x : Lane) (worker p own : ℕ) (f : FramesView) (pool : Ledger) → k ≢ kind.Part → is_out worker x k p ≡ true → AreFramesOf own x f pool
     → job_numbers k p f.numbers ≡ known f.numbers
 all_of_job kind.Begin x worker p own f pool other out are = ap (λ (ns : List (Option ℕ)). known ns) (sym (none_begun x worker p own f pool out are))
@@ -50,7 +50,7 @@ occupied kind.Join x worker p other out =
       | inr off ↦ rw (off, has) refl
     ]
 
--- where no block is drawn there is none to give back
+-- if no block was drawn there is none to give back
 pub answered_storage : (k : JobKind) (cap game : ℕ) (x : Lane) (storage : Storage) → k ≢ kind.Part → (k ≡ kind.Begin → frames_of storage game ≡ [])
     → without_frames game (stored cap game (answer_effect x) storage) ≡ storage_answered k cap game x storage
 answered_storage kind.Begin cap game x storage other none =
@@ -74,7 +74,7 @@ named_one own tag n (Some m) is =
     let pair : ◌≡◌ {A = ℕ × ℕ} (tag, n) (own, m) = cc in
     (ap (λ (x : ℕ × ℕ). x.0) pair, ap (λ (x : ℕ × ℕ). Some x.1) (sym pair))
 
--- its only block is the one that was drawn for it, and holds what it moved
+-- its only block is the one that was drawn for it, and holds the snakes that it moved
 pub record IsPartBlock {most : ℕ} (own p : ℕ) (numbers : List (Option ℕ)) (moved : List Snake) (owned : Owned most) : Type 0 where
   pub tag : owned.tag ≡ own
   pub number : slice_get numbers p ≡ Some (Some owned.number)

@@ -68,7 +68,7 @@ closed_free : (w : ℕ) (all : Bool) → held_at w (if all then stage.Join None 
 closed_free w true = refl
 closed_free w false = refl
 
--- of one lane: what a job of that kind counts for
+-- of one lane: the count of a job of that kind
 
 abbrev counts : JobKind → ℕ → ℕ → ℕ
 counts kind.Begin worker w = one_if (nat_eq worker w)
@@ -146,7 +146,7 @@ pub table_says : (workers : ℕ) (lanes : List Lane) (busy : List Bool) (worker 
 table_says workers lanes busy worker table within =
     sym (busy_held worker lanes ∙ ap (nat_lt 0) (table.each worker within) ∙ above_zero (slice_index_or busy worker false))
 
--- one mark is set or taken away, and the lanes change by as much
+-- one mark is set or cleared, and the lanes change accordingly
 set_mark : (workers : ℕ) (lanes new : List Lane) (busy : List Bool) (worker : ℕ) (is : Bool) → IsBusyTable workers lanes busy
     → (worker ≤ workers → lanes_held worker new ≡ one_if is) → ((w : ℕ) → (nat_eq worker w ≡ false) → lanes_held w new ≡ lanes_held w lanes)
     → IsBusyTable workers new (slice_set busy worker is)
@@ -269,7 +269,7 @@ none_marked workers rows =
       each = λ w bound. none_held w rows ∙ sym (ap one_if (none_there (workers + 1) w));
     }
 
--- who comes has no job, and who leaves had none
+-- a new stay has no job, and a stay that leaves had none
 
 pub admit_marks_none : (workers : ℕ) (lanes : List Lane) (busy : List Bool) (row : GameRow) → IsBusyTable workers lanes busy
     → IsBusyTable workers (lane_effect lanes (event.Admit row)) busy

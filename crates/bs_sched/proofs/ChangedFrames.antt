@@ -14,7 +14,7 @@ use Rattle.bs_sched.specs.Machine.{lane_of}
 use Rattle.bs_sched.specs.Storage.{frame_tag, record_tag}
 use Rattle.bs_sched.proofs.Heaps.{open_beside}
 
--- what is left by one tag is left by two
+-- a change that leaves the blocks of all tags but one leaves those of all but two
 pub leaves_more : (tag other : ℕ) (old new : Ledger) → LeavesOthers other old new → LeavesBut tag other old new
 leaves_more tag other old new leaves = record { holds = λ own numbers a b held. leaves.holds own numbers b held; reservations = leaves.reservations }
 
@@ -27,7 +27,7 @@ leaves_both tag other old mid new first then = record {
 pub leaves_all : (tag other : ℕ) (pool : Ledger) → LeavesBut tag other pool pool
 leaves_all tag other pool = record { holds = λ own numbers a b held. held; reservations = refl }
 
--- what other tags draw or give back leaves a game's frames
+-- a game's frames are not affected by the draws and returns of other tags
 left_frames : (own tag other : ℕ) (x : Lane) (f : FramesView) (pool pool' : Ledger) → AreFramesOf own x f pool → own ≢ tag → own ≢ other
     → LeavesBut tag other pool pool' → AreFramesOf own x f pool'
 left_frames own tag other x f pool pool' are a b leaves =
@@ -68,7 +68,7 @@ changed_lane_frames game lanes frames pool x all within here other less stands =
           rw (get_or-set_other lanes game other x no_lane differ) (all other before (open_beside lanes game other x differ stands))
     ]
 
--- a game's frames, found at the game's place
+-- the frames of a game, read at the game's place
 pub frames_there : (game : ℕ) (lanes : List Lane) (frames : List FramesView) (pool : Ledger) (x : Lane) (f : FramesView) → AreAllFramesOf lanes frames pool
     → game < length lanes → (lane_of lanes game).is_open ≡ true → x ≡ lane_of lanes game → f ≡ frames_at frames game → AreFramesOf (frame_tag game) x f pool
 frames_there game lanes frames pool x f all within stands lane is = rw (lane, is) (all game within stands)

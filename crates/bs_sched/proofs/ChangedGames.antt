@@ -23,7 +23,7 @@ use Rattle.bs_game.specs.declared.reply.Effect.TheVariants as effect
 use Rattle.bs_sched.specs.GamesLayout.{storage_in, frames_at, heap_of, AreHeapsOf, IsHeapOf, IsSound}
 use Rattle.bs_sched.specs.declared.games.Games.TheInside.{Inside}
 use Rattle.std.specs.List.{range_with_len}
-use Rattle.bs_counter.specs.Keys.{Key}
+use Rattle.bs_counter.specs.Keys.{Key, TallyId}
 use Rattle.bs_fiber.specs.Frames.{frame_of}
 use Rattle.bs_fiber.specs.Work.{moved_part}
 use Rattle.bs_game.specs.declared.view.View.{View}
@@ -43,7 +43,7 @@ use Rattle.bs_sched.specs.Lane.{Lane, is_out, is_ready, lane_command, lane_view,
 use Rattle.bs_sched.specs.Machine.{lane_of, open_blocks}
 use Rattle.bs_sched.specs.Storage.{frame_tag, frames_of, packing_of, packing_after, pool_after, record_tag, stored, with_parts, without_frames}
 
--- what is read at a place within a list is there whatever stands behind its end
+-- an element read within a list is the same, whatever the default
 pub read_at : {X : Type 0} (xs : List X) (i : ℕ) (x d : X) → i < length xs → x ≡ get_or xs i x → x ≡ get_or xs i d
 read_at xs i x d within is = sym (get_or_from_slice_get xs i x d (slice_get_read xs (length xs) i x refl within is))
 
@@ -69,30 +69,30 @@ changed_storage cap game heaps frames pool pool' heap new f h effect is f_is pac
     = map-set (λ (h : Heap). h.packing) heaps game new in
     rw (all, changed_numbers game frames h, packing, none, drawn, ← there, ← at) refl
 
--- a move goes in its parts
+-- an accepted move gets its parts
 pub forked_storage : (game parts : ℕ) (heaps : List Heap) (frames : List FramesView) (pool : Ledger) (h : FramesView) → h.numbers ≡ replicate parts None
     → storage_in heaps (slice_set frames game h) pool ≡ with_parts game parts (storage_in heaps frames pool)
 forked_storage game parts heaps frames pool h fresh = rw (changed_numbers game frames h, fresh) refl
 
--- no block is drawn, and none goes back
+-- no block is drawn or given back
 pub same_numbers : (game : ℕ) (frames : List FramesView) (f h : FramesView) → f ≡ frames_at frames game → h.numbers ≡ f.numbers
     → map (λ (f : FramesView). f.numbers) (slice_set frames game h) ≡ map (λ (f : FramesView). f.numbers) frames
 same_numbers game frames f h is same = map-set_same (λ (f : FramesView). f.numbers) frames game h (no_frames 0) (same ∙ ap (λ (f : FramesView). f.numbers) is)
 
 -- a job is taken
-pub taken_storage_is : (k : JobKind) (game p : ℕ) (heaps : List Heap) (frames : List FramesView) (pool pool' : Ledger) (keys : List Key) (f h : FramesView)
-    → f ≡ frames_at frames game → f.tag ≡ frame_tag game → h ≡ frames_taken k p (next_number pool) keys f → pool' ≡ pool_taken k f.tag (next_number pool) pool
+pub taken_storage_is : (k : JobKind) (game p : ℕ) (heaps : List Heap) (frames : List FramesView) (pool pool' : Ledger) (tally : Option TallyId) (keys : List Key) (f h : FramesView)
+    → f ≡ frames_at frames game → f.tag ≡ frame_tag game → h ≡ frames_taken k p (next_number pool) tally keys f → pool' ≡ pool_taken k f.tag (next_number pool) pool
     → storage_in heaps (slice_set frames game h) pool' ≡ storage_taken k game p (storage_in heaps frames pool)
-taken_storage_is kind.Begin game p heaps frames pool pool' keys f h is tag taken drawn =
+taken_storage_is kind.Begin game p heaps frames pool pool' tally keys f h is tag taken drawn =
     rw (same_numbers game frames f h is (ap (λ (f : FramesView). f.numbers) taken), drawn) refl
-taken_storage_is kind.Part game p heaps frames pool pool' keys f h is tag taken drawn =
+taken_storage_is kind.Part game p heaps frames pool pool' tally keys f h is tag taken drawn =
     let at = numbers_there game heaps frames pool f is in
     let numbers : h.numbers ≡ slice_set f.numbers p (Some (next_number pool)) = ap (λ (f : FramesView). f.numbers) taken in
     rw (changed_numbers game frames h, numbers, drawn, tag, ← at) refl
-taken_storage_is kind.Join game p heaps frames pool pool' keys f h is tag taken drawn =
+taken_storage_is kind.Join game p heaps frames pool pool' tally keys f h is tag taken drawn =
     rw (same_numbers game frames f h is (ap (λ (f : FramesView). f.numbers) taken), drawn) refl
 
--- a game's heap, found at the game's place
+-- the heap of a game, read at the game's place
 
 pub heap_there : (cap game : ℕ) (lanes : List Lane) (heaps : List Heap) (pool : Ledger) (x : Lane) (heap : Heap) → AreHeapsOf cap lanes heaps pool
     → game < length lanes → (lane_of lanes game).is_open ≡ true → x ≡ lane_of lanes game → heap ≡ heap_of heaps game → IsHeapOf cap (record_tag game) x heap pool
@@ -102,7 +102,7 @@ pub own_heap : (cap own : ℕ) (x : Lane) (heap : Heap) (pool : Ledger) → IsHe
 own_heap cap own x heap pool kept =
     record { tag = refl; quota = kept.quota; records = kept.records; held = kept.held; blocks = kept.blocks; room = kept.room }
 
--- a stay that a worker has a job of, or may have, is open
+-- a stay with a job that is out or may be taken is open
 
 pub open_out : (cap : ℕ) {at : ℕ} (c : Inside at) (game worker : ℕ) (k : JobKind) (p : ℕ) → IsSound cap c → game < length c.fibers.items
     → is_out worker (lane_of c.fibers.items game) k p ≡ true → (lane_of c.fibers.items game).is_open ≡ true
@@ -112,7 +112,7 @@ pub open_ready : (cap : ℕ) {at : ℕ} (c : Inside at) (game : ℕ) (k : JobKin
     → is_ready (lane_of c.fibers.items game) k p ≡ true → (lane_of c.fibers.items game).is_open ≡ true
 open_ready cap c game k p sound within ready = open_busy (lane_of c.fibers.items game) (λ shut. (sound.gone game within shut).quiet) (busy_ready (lane_of c.fibers.items game) k p ready)
 
--- what is set aside stays so where a lane changes that keeps its row
+-- the reservations are still right if a lane changes and keeps its row
 kept_aside : (cap game : ℕ) (lanes : List Lane) (rs rs' : List Reservation) (x : Lane) → AreReserved cap (open_blocks cap lanes) lanes rs → rs' ≡ rs → game < length lanes
     → x.row ≡ (lane_of lanes game).row → x.is_open ≡ (lane_of lanes game).is_open
     → AreReserved cap (open_blocks cap (slice_set lanes game x)) (slice_set lanes game x) rs'
@@ -120,8 +120,7 @@ kept_aside cap game lanes rs rs' x reserved same within row flag =
     rw same (with_room cap (open_blocks cap lanes) (open_blocks cap (slice_set lanes game x)) (slice_set lanes game x) rs
     (reserved_changed cap (open_blocks cap lanes) game lanes rs x reserved within row flag) (omega arith))
 
--- a core stays sound where the lane of an open stay changes, and the stay's heap and frames are
--- still the lane's
+-- a core stays sound if the lane of an open stay changes and its heap and frames still match it
 pub sound_lane : (cap : ℕ) {at : ℕ} (c : Inside at) (game : ℕ) (x : Lane) → IsSound cap c → game < length c.fibers.items → (lane_of c.fibers.items game).is_open ≡ true
     → x.row ≡ (lane_of c.fibers.items game).row → x.is_open ≡ (lane_of c.fibers.items game).is_open
     → IsHeapOf cap (record_tag game) x (heap_of c.heaps.items game) c.pool
@@ -168,7 +167,7 @@ sound_turn cap c game x f sound within stands row flag here frames =
       reserved = kept_aside cap game c.fibers.items c.pool.reservations c.pool.reservations x sound.reserved refl within row flag;
     }
 
--- and where its heap and its blocks in the pool do
+-- and if its heap and its blocks in the pool change
 pub sound_game : (cap : ℕ) {at : ℕ} (c : Inside at) (game : ℕ) (x : Lane) (heap : Heap) (f : FramesView) (pool : Ledger) → IsSound cap c → game < length c.fibers.items
     → (lane_of c.fibers.items game).is_open ≡ true
     → x.row ≡ (lane_of c.fibers.items game).row → x.is_open ≡ (lane_of c.fibers.items game).is_open
@@ -208,13 +207,13 @@ roomier_heap cap own x y heap new pool kept quota boards grown room =
       room = room;
     }
 
--- the packings are as they were
+-- the packings are unchanged
 pub same_packings : (game : ℕ) (heaps : List Heap) (heap new : Heap) → heap ≡ heap_of heaps game → new ≡ with_index_room new.index_room heap
     → map (λ (h : Heap). h.packing) (slice_set heaps game new) ≡ map (λ (h : Heap). h.packing) heaps
 same_packings game heaps heap new is grown =
     map-set_same (λ (h : Heap). h.packing) heaps game new (empty_heap 0 0) (ap (λ (h : Heap). h.packing) (grown ∙ ap (with_index_room new.index_room) is))
 
--- a command was handed in, or was not for want of memory
+-- a command was queued, or was not because memory ran out
 
 pub record SameStage (x y : Lane) : Type 0 where
   pub row : y.row ≡ x.row

@@ -1,4 +1,4 @@
--- A core to which a stay has come, and one that a stay has left.
+-- A core after an admission, and after a leave.
 use Rattle.std.proofs.Common.{◌≡◌, ◌≢◌, ℕ, ◌+◌, ◌-◌, ◌*◌, ◌<◌, ◌≤◌, true, false, List, [], ◌∷◌, ◌++◌, None, length, refl, sym, ap, subst, ◌∙◌, arith, inl, inr}
 use Rattle.std.specs.Prelude.{All, ◌&&◌, count_by, filter, nat_eq, nat_le, nat_lt, not, slice_set}
 use Rattle.std.specs.List.{list_any}
@@ -20,7 +20,7 @@ use Rattle.bs_sched.specs.declared.games.Games.TheInside.{Inside}
 use Rattle.bs_sched.specs.declared.plan_blocks.TheConstants.{MOST_STAYS}
 use Rattle.bs_sched.specs.declared.stage.Stage.{Stage}
 use Rattle.bs_sched.specs.declared.stage.Stage.TheVariants as stage
-use Rattle.bs_sched.specs.Frames.{FramesView, AreFramesAt, AreFramesOf, known, no_frames}
+use Rattle.bs_sched.specs.Frames.{FramesView, AreFramesAt, AreFramesOf, idle_frames, known, no_frames}
 use Rattle.bs_sched.specs.Games.{pool_left, with_stay, without_stay}
 use Rattle.bs_sched.specs.GamesLayout.{AreAllFramesOf, AreGone, AreHeapsOf, IsHeapOf, IsSound, frames_at, heap_of, open_rows, storage_in}
 use Rattle.bs_sched.specs.Lane.{Lane, empty_lane, is_idle, is_quiet, closed_lane, may_leave, no_lane}
@@ -77,7 +77,7 @@ nothing_of tag pool sound none =
       all = omega (arith, kept, zero_reserved);
     }
 
--- a stay comes
+-- a stay is admitted
 
 module _ (cap : ℕ) (lanes : List Lane) (row : GameRow) (pool : Ledger) (sound : IsSoundPool pool)
     (aside : AreReserved cap (open_blocks cap lanes) lanes pool.reservations) (fits : blocks_of cap row ≤ size pool - open_blocks cap lanes) where
@@ -172,7 +172,7 @@ module _ (cap : ℕ) (lanes : List Lane) (row : GameRow) (pool : Ledger) (sound 
             absurd cc
       ]
 
--- what is asked of a row that may come
+-- the conditions for a row that may be admitted
 pub may_come : (setting : Setting) (lanes : List Lane) (row : GameRow) → may_admit setting lanes row ≡ true
     → (length lanes < MOST_STAYS) × (blocks_of setting.cap row ≤ setting.blocks - open_blocks setting.cap lanes)
 may_come setting lanes row may =
@@ -182,7 +182,7 @@ may_come setting lanes row may =
     let room = and_both few (nat_lt (length lanes) MOST_STAYS) (not-false (few && nat_lt (length lanes) MOST_STAYS) (not-true (is_full lanes) tests.0)) in
     (ltb-true (length lanes) MOST_STAYS room.1, leb-true _ _ tests.1)
 
--- how a core to which a stay has come lies in its fields
+-- the fields of a core after an admission
 pub record Comes {at : ℕ} (cap : ℕ) (c new : Inside at) (row : GameRow) : Type 0 where
   pub rows : new.rows ≡ c.rows
   pub fibers : new.fibers.items ≡ c.fibers.items ++ empty_lane row ∷ []
@@ -233,8 +233,8 @@ storage_comes cap c new row comes =
 
 -- a stay leaves
 
--- how a core that a stay has left lies in its fields; the pool in the middle has no record of it,
--- and still its reservations
+-- the fields of a core after a leave; the pool in the middle has none of the stay's records, and
+-- still its reservations
 pub record Leaves {at : ℕ} (cap : ℕ) (c new : Inside at) (game : ℕ) (heap : Heap) (mid : Ledger) : Type 0 where
   pub rows : new.rows ≡ c.rows
   pub fibers : new.fibers.items ≡ slice_set c.fibers.items game (closed_lane (lane_of c.fibers.items game))
@@ -375,11 +375,11 @@ pub record CanRelease (game : ℕ) (mid : Ledger) : Type 0 where
   pub no_records : held (record_tag game) mid ≡ 0
   pub no_frames : held (frame_tag game) mid ≡ 0
 
-idle_frames : (s : Stage) (x : Lane) (f : FramesView) → is_idle s ≡ true → AreFramesAt s x f → f ≡ no_frames f.tag
-idle_frames stage.Idle x f idle at = at
-idle_frames (stage.Begin worker) x f idle at = let wrong : false ≡ true = idle in absurd cc
-idle_frames stage.Parts x f idle at = let wrong : false ≡ true = idle in absurd cc
-idle_frames (stage.Join taker) x f idle at = let wrong : false ≡ true = idle in absurd cc
+at_rest : (s : Stage) (x : Lane) (f : FramesView) → is_idle s ≡ true → AreFramesAt s x f → f ≡ idle_frames f.tag f.tally
+at_rest stage.Idle x f idle at = at
+at_rest (stage.Begin worker) x f idle at = let wrong : false ≡ true = idle in absurd cc
+at_rest stage.Parts x f idle at = let wrong : false ≡ true = idle in absurd cc
+at_rest (stage.Join taker) x f idle at = let wrong : false ≡ true = idle in absurd cc
 
 some_blocks : (cap game : ℕ) (row : GameRow) (rs : List Reservation) → IsReserved cap game row rs
     → (0 < reserved_by (record_tag game) rs) × (0 < reserved_by (frame_tag game) rs)
@@ -397,7 +397,7 @@ can_release cap c game heap mid sound within stands quiet own none kept leaves =
     let f = frames_at c.frames.items game in
     let are = sound.frames game within stands in
     let idle = (and_both (is_idle x.stage) (nat_eq (length x.waiting) 0) quiet).0 in
-    let no_parts : known f.numbers ≡ [] = ap (λ (g : FramesView). known g.numbers) (idle_frames x.stage x f idle are.at) in
+    let no_parts : known f.numbers ≡ [] = ap (λ (g : FramesView). known g.numbers) (at_rest x.stage x f idle are.at) in
     let apart : f.tag ≢ record_tag game = λ same. absurd (let odd = are.tag in omega (arith, odd, same)) in
     let frames_mid = leaves.holds f.tag (known f.numbers) apart are.held in
     let some = subst (λ (rs : List Reservation). (0 < reserved_by (record_tag game) rs) × (0 < reserved_by (frame_tag game) rs)) (sym leaves.reservations)
@@ -409,7 +409,7 @@ can_release cap c game heap mid sound within stands quiet own none kept leaves =
       no_frames = ap (λ (tag : ℕ). held tag mid) (sym are.tag) ∙ frames_mid.all ∙ ap length no_parts;
     }
 
--- what a stay that comes needs
+-- what a stay that is admitted needs
 
 pub can_reserve : (cap : ℕ) {at : ℕ} (c : Inside at) (row : GameRow) → IsSound cap c → blocks_of cap row ≤ size c.pool - open_blocks cap c.fibers.items
     → All (λ r. r.tag < record_tag (length c.fibers.items)) c.pool.reservations × (all_reserved c.pool.reservations + blocks_of cap row ≤ size c.pool)
@@ -418,7 +418,7 @@ can_reserve cap c row sound fits =
     let all = aside.within in
     (aside.below, omega (arith, all, fits))
 
--- only the room in the lists changes, and no list
+-- only the capacity of the lists changes, and no list
 
 pub record LooksSame {at : ℕ} (c new : Inside at) : Type 0 where
   pub rows : new.rows ≡ c.rows

@@ -1,4 +1,4 @@
--- What an event does to the records of the game that it names, which its lane tells.
+-- The effect of an event on the records of its game, determined by the lane.
 use Rattle.std.proofs.Common.{◌≡◌, ℕ, ◌≤◌, Bool, true, false, if◌then◌else◌, List, [], length, map, refl, sym, ap, arith, ◌∙◌}
 use Rattle.std.specs.Prelude.{nat_eq, slice_set}
 use Rattle.std.proofs.lemmas.List.{set-get_or}
@@ -29,7 +29,7 @@ use Rattle.bs_sched.proofs.Answered.{told}
 use Rattle.bs_sched.proofs.HandedCommands.{row_kept}
 use Rattle.bs_sched.proofs.RightRuns.{right_after, open_when, open_taken, open_put}
 
--- the boards after the event are those whose records the effect leaves, and one that is added fits
+-- the boards after the event are those whose records the effect leaves, and an added record fits
 -- into the quota
 pub record TellsStays (x y : Lane) (effect : Effect) : Type 0 where
   pub records : records_of y.game ≡ effected effect (records_of x.game)
@@ -74,7 +74,7 @@ told_taken x worker kind.Begin p = record { records = refl; fits = tt }
 told_taken x worker kind.Part p = record { records = refl; fits = tt }
 told_taken x worker kind.Join p = record { records = refl; fits = tt }
 
--- the same of any event, also of one that closes the stay, of which no record is kept
+-- the same for any event, also one that closes the stay, which then keeps no record
 pub record IsToldOf (x y : Lane) (done : Effect) : Type 0 where
   pub records : y.is_open ≡ true → records_of y.game ≡ effected done (records_of x.game)
   pub dropped : y.is_open ≡ false → done ≡ effect.Drop
@@ -106,7 +106,7 @@ told_at x (event.Admit row) well fits allowed = let wrong : false ≡ true = all
 told_at x (event.Leave game) well fits allowed =
     record { records = λ stands. let wrong : false ≡ true = stands in absurd cc; dropped = λ _. refl; fits = tt; within = omega arith }
 
--- a record that is added fits into the quota, whatever is handed in
+-- an added record fits into the quota, whatever is queued
 pub fits_now : (x : Lane) (e : Event) → IsRight x → is_allowed x e ≡ true → IsFitEffect x.row.quota (charge_of (records_of x.game)) (effect_at e x)
 fits_now x (event.Hand game command) right allowed = tt
 fits_now x (event.Take worker job) right allowed = tt
@@ -114,7 +114,7 @@ fits_now x (event.Put worker job) right allowed = (told_put x worker job.kind jo
 fits_now x (event.Admit row) right allowed = tt
 fits_now x (event.Leave game) right allowed = tt
 
--- what an event does to the records leaves the frames, and what it does to the frames comes after
+-- the effect of an event on the records leaves the frames, and its effect on the frames comes after
 -- that
 
 kept_frames : (game : ℕ) (storage : Storage) → slice_set storage.frames game (frames_of storage game) ≡ storage.frames
@@ -123,11 +123,11 @@ kept_frames game storage = set-get_or storage.frames game []
 same_storage : (cap game : ℕ) (storage : Storage) → stored cap game effect.Keep storage ≡ storage
 same_storage cap game storage = ap (λ packings. record storage { packings = packings }) (set-get_or storage.packings game no_packing)
 
--- nothing is done to the frames
+-- the frames are unchanged
 framed_kept : (game : ℕ) (storage : Storage) → framed_by Keeps game storage ≡ storage
 framed_kept game storage = ap (λ frames. record storage { frames = frames }) (kept_frames game storage)
 
--- an event that does nothing to either
+-- an event without effect on either
 same_after : (cap game : ℕ) (storage : Storage) → storage ≡ framed_by Keeps game (stored cap game effect.Keep storage)
 same_after cap game storage = sym (ap (λ (s : Storage). framed_by Keeps game s) (same_storage cap game storage) ∙ framed_kept game storage)
 
@@ -149,7 +149,7 @@ storage_of_put cap game kind.Begin x storage = storage_of_begun cap game x (goes
 storage_of_put cap game kind.Part x storage = same_after cap game storage
 storage_of_put cap game kind.Join x storage = refl
 
--- who leaves gives back what was set aside besides
+-- a stay that leaves also gives back its reservations
 abbrev pub released : Event → Storage → Storage
 released (event.Hand game command) storage = storage
 released (event.Take worker job) storage = storage

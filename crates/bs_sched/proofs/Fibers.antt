@@ -1,4 +1,4 @@
--- What a fiber keeps, after each event.
+-- The invariant of a fiber, after each event.
 use Rattle.std.proofs.Common.{◌≡◌, ℕ, ◌<◌, true, false, List, length, map, refl, sym, ap, subst, ◌∙◌, arith, Global, Vec, vec_len, vec_capacity}
 use Rattle.std.specs.Prelude.{Option, Some, None, IfSome, MatchOption, drop, nat_eq, slice_set}
 use Rattle.std.specs.List.{list_all, filter_map}
@@ -9,18 +9,17 @@ use Rattle.bs_board.proofs.Chains.{and_both}
 use Rattle.bs_board.specs.declared.commands.command.Command.{Command}
 use Rattle.bs_board.specs.declared.commands.reply.Reply.{Reply}
 use Rattle.bs_board.specs.declared.boards.snake.Snake.{Snake}
-use Rattle.bs_game.specs.Game.{game_charge, last_board}
+use Rattle.bs_game.specs.Game.{game_charge}
 use Rattle.bs_game.specs.declared.view.View.{View}
 use Rattle.bs_fiber.specs.declared.job.JobKind.TheVariants as kind
 use Rattle.bs_fiber.specs.Work.{moved_part}
 use Rattle.bs_sched.specs.declared.fiber.Fiber.TheInside.{Inside}
-use Rattle.bs_sched.specs.declared.fiber.Last.{Last}
 use Rattle.bs_sched.specs.declared.fiber.Slot.{Slot}
 use Rattle.bs_sched.specs.declared.fiber.Slot.TheVariants as slot
 use Rattle.bs_sched.specs.declared.stage.Stage.{Stage}
 use Rattle.bs_sched.specs.declared.stage.Stage.TheVariants as stage
 use Rattle.bs_sched.specs.Inputs.{moved_parts_for}
-use Rattle.bs_sched.specs.Insides.{lane_in, IsFiber, IsAt, IsLastOf, IsPlaying, IsJoining}
+use Rattle.bs_sched.specs.Insides.{lane_in, IsFiber, IsAt, IsPlaying, IsJoining}
 use Rattle.bs_sched.specs.Lane.{Lane, is_idle, is_quiet, is_part_done, is_ready, is_out, lane_view, lane_command, with_taken, with_part_done}
 use Rattle.bs_sched.specs.Slots.{state_of, emptied, moved_in}
 use Rattle.bs_sched.proofs.Lanes.{ready_join, out_part, joined_lane, done_lane}
@@ -82,11 +81,12 @@ joined_fiber f x replies slots worker kept is ready same room empty cap =
       small = kept.small;
       fits = kept.fits;
       replies = same ∙ told;
+      last = rw at at kept.last;
       stage = subst (λ (y : Lane). IsJoining true (lane_view y) (lane_command y) slots.items) (sym lane) here;
       room = record { reply = λ answers. room; parts = omega (arith, cap, parts) };
     }
 
--- a part came back
+-- a part is completed
 
 done_playing : (view : View) (command : Command) (slots : List Slot) (p : ℕ) (moved : List Snake) → IsPlaying false view command slots
     → moved ≡ moved_part p view command → IsPlaying false view command (slice_set slots p (slot.Done (Some moved)))
@@ -125,23 +125,23 @@ done_fiber f x slots moved p worker kept is out brought same cap all =
       small = kept.small;
       fits = kept.fits;
       replies = told;
+      last = rw at at kept.last;
       stage = subst (λ (y : Lane). IsJoining false (lane_view y) (lane_command y) slots.items) (sym lane) whole;
       room = record { reply = λ answers. let wrong : false ≡ true = answers in absurd cc; parts = omega (arith, cap, parts) };
     }
 
 -- the stay leaves
-pub closed_fiber : (f : Inside) (last : Last) → IsFiber f → is_quiet (lane_in f) ≡ true → last.board ≡ last_board (lane_in f).game
-    → last.charge ≡ game_charge (lane_in f).game → IsFiber (record f { left = Some last })
-closed_fiber f last kept quiet board charge =
+pub closed_fiber : (f : Inside) (charge : ℕ) → IsFiber f → is_quiet (lane_in f) ≡ true → charge ≡ game_charge (lane_in f).game
+    → IsFiber (record f { left = Some charge })
+closed_fiber f charge kept quiet is =
     let both = and_both (is_idle f.stage) (nat_eq (length (drop f.begun f.commands.items)) 0) quiet in
     let none : length (drop f.begun f.commands.items) ≡ 0 = eqb-true (length (drop f.begun f.commands.items)) 0 both.1 in
-    let new : Inside = record f { left = Some last } in
-    let ends : IsLastOf new last = record { board = board; charge = charge } in
     let all : f.begun ≡ length f.commands.items = let long = length-drop f.begun f.commands.items in let begun = kept.begun in omega (arith, none, long, begun) in
     record {
       begun = kept.begun;
       at = kept.at;
-      closed = λ _. (both.0, all, ends);
+      closed = λ _. (both.0, all, is);
+      last = kept.last;
       small = kept.small;
       fits = kept.fits;
       replies = kept.replies;
@@ -149,16 +149,13 @@ closed_fiber f last kept quiet board charge =
       room = record { reply = kept.room.reply; parts = kept.room.parts };
     }
 
--- how it ended, if it has left
-abbrev pub IsEnd : Lane → Last → Type 0
-IsEnd x last = (last.board ≡ last_board x.game) × (last.charge ≡ game_charge x.game)
-
-ended_by : (f : Inside) (last : Option Last) → IsFiber f → f.left ≡ last → MatchOption last ((lane_in f).is_open ≡ true) (IsEnd (lane_in f))
+-- the charge of its records, if it has left
+ended_by : (f : Inside) (left : Option ℕ) → IsFiber f → f.left ≡ left
+    → MatchOption left ((lane_in f).is_open ≡ true) (λ charge. charge ≡ game_charge (lane_in f).game)
 ended_by f None kept is = rw is refl
-ended_by f (Some last) kept is =
+ended_by f (Some charge) kept is =
     let closed = kept.closed (rw is refl) in
-    let ends : IfSome (Some last) (IsLastOf f) = subst (λ (l : Option Last). IfSome l (IsLastOf f)) is closed.2 in
-    (ends.board, ends.charge)
+    subst (λ (l : Option ℕ). IfSome l (λ charge. charge ≡ game_charge (lane_in f).game)) is closed.2
 
-pub ended : (f : Inside) → IsFiber f → MatchOption f.left ((lane_in f).is_open ≡ true) (IsEnd (lane_in f))
+pub ended : (f : Inside) → IsFiber f → MatchOption f.left ((lane_in f).is_open ≡ true) (λ charge. charge ≡ game_charge (lane_in f).game)
 ended f kept = ended_by f f.left kept refl

@@ -1,4 +1,4 @@
--- The input that a lane has for a job that is out is one that a ticket may hold.
+-- The input that a lane gives to a job that is out is one that a ticket may hold.
 use Rattle.std.proofs.Common.{◌≡◌, ℕ, ◌<◌, ◌≤◌, Bool, true, false, List, [], ◌∷◌, length, map, Option, Some, None, refl, sym, ap, subst, ◌∙◌, arith, inl, inr, slice_get}
 use Rattle.std.specs.Prelude.{IfSome, option_map, nat_eq, All}
 use Rattle.std.specs.List.{find, range_with_len}
@@ -69,6 +69,9 @@ legal_record : (board : Option Board) → ((b : Board) → board ≡ Some b → 
 legal_record None legal = tt
 legal_record (Some board) legal = record { board = board; legal = legal board refl; is = refl }
 
+pub legal_asked : (c : Command) (game : Game) → IsGame game → IfSome (option_map record_of (asked_board c game)) IsLegalRecord
+legal_asked c game right = legal_record (asked_board c game) (λ b is. asked_legal c game b right is)
+
 board_seen : (board : Option Board) → ((b : Board) → board ≡ Some b → IsLegal b) → IsBoardOf (option_map record_of board) board
 board_seen None legal = tt
 board_seen (Some board) legal = (legal board refl, refl)
@@ -95,7 +98,7 @@ module _ (x : Lane) (worker : ℕ) (job : JobName) (right : IsRight x) where
     small = right.small;
   }
 
-  -- the job sees what the lane shows
+  -- the view of the job is the lane's
   pub lane_seen : IsSeen (lane_view x) (input_of x worker job)
   lane_seen = record {
     quota = refl;
@@ -125,7 +128,7 @@ playing_join worker (stage.Begin other) at = let wrong : false ≡ true = at in 
 playing_join worker stage.Parts at = refl
 playing_join worker (stage.Join taker) at = refl
 
--- a part that somebody has is there
+-- a part that is out exists
 there : (worker p : ℕ) (parts : List PartState) → has_part worker (get_or parts p state.Done) ≡ true → p < length parts
 there worker p parts has =
     elim (cases_Bool (nat_lt p (length parts))) [

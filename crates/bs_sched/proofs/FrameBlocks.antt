@@ -3,12 +3,13 @@ use Rattle.std.proofs.Common.{◌≡◌, ℕ, zero, suc, ◌+◌, ◌<◌, All, 
 use Rattle.std.specs.Prelude.{slice_index_or}
 use Rattle.std.proofs.lemmas.List.{length-map}
 use Rattle.std.proofs.lemmas.List.Elements.{All-cons, All-nil}
-use Rattle.bs_counter.specs.Keys.{Key, AreKeys}
+use Rattle.bs_counter.specs.Keys.{Key, TallyId}
 use Rattle.bs_pool.specs.declared.owned.Owned.{Owned}
 use Rattle.bs_sched.specs.declared.frames.FrameSlot.{FrameSlot}
 use Rattle.bs_sched.specs.declared.frames.FrameSlot.TheVariants as slot
 use Rattle.bs_sched.specs.FrameSlots.{number_in, bytes_in, AreReadyAt, IsReadyAt, IsSlotOf}
 use Rattle.bs_sched.specs.Frames.{FramesView, known}
+use Rattle.bs_sched.specs.Keyed.{AreKeysOf, IsKeyAt}
 
 nothing_moved : {most : ℕ} (s : FrameSlot most) → number_in s ≡ None → bytes_in s ≡ None
 nothing_moved (slot.Ready key) is = refl
@@ -26,7 +27,7 @@ sent (s ∷ slots) (suc part) n free =
     let rest = sent slots part n free in
     (ap (λ (l : List (Option ℕ)). number_in s ∷ l) rest.0, ap (λ (l : List (Option (List ℕ))). bytes_in s ∷ l) rest.1)
 
--- it is back
+-- it is completed
 pub brought : {most : ℕ} (slots : List (FrameSlot most)) (part : ℕ) (owned : Owned most) → slice_get (map number_in slots) part ≡ Some (Some owned.number)
     → (map number_in (set slots part (slot.Back owned)) ≡ map number_in slots) × (map bytes_in (set slots part (slot.Back owned)) ≡ set (map bytes_in slots) part (Some owned.block))
 brought [] part owned out = absurd cc
@@ -37,9 +38,9 @@ brought (s ∷ slots) (suc part) owned out =
     let rest = brought slots part owned out in
     (ap (λ (l : List (Option ℕ)). number_in s ∷ l) rest.0, ap (λ (l : List (Option (List ℕ))). bytes_in s ∷ l) rest.1)
 
-pub same_view : (tag : ℕ) (keys : List Key) (ns ks : List (Option ℕ)) (ms ls : List (Option (List ℕ))) → ns ≡ ks → ms ≡ ls
-    → ◌≡◌ {A = FramesView} (record { tag = tag; keys = keys; numbers = ns; bytes = ms }) (record { tag = tag; keys = keys; numbers = ks; bytes = ls })
-same_view tag keys ns ks ms ls n m = rw (n, m) refl
+pub same_view : (tag : ℕ) (tally : Option TallyId) (keys : List Key) (ns ks : List (Option ℕ)) (ms ls : List (Option (List ℕ))) → ns ≡ ks → ms ≡ ls
+    → ◌≡◌ {A = FramesView} (record { tag = tag; tally = tally; keys = keys; numbers = ns; bytes = ms }) (record { tag = tag; tally = tally; keys = keys; numbers = ks; bytes = ls })
+same_view tag tally keys ns ks ms ls n m = rw (n, m) refl
 
 -- ---- the keys
 
@@ -61,15 +62,22 @@ key_at_part [] p key is = let wrong : None ≡ Some key = is in absurd cc
 key_at_part (first ∷ keys) zero key is = let same : first ≡ key = let e : Some first ≡ Some key = is in cc in ap (λ (k : Key). slot.Ready k) same
 key_at_part (first ∷ keys) (suc p) key is = key_at_part keys p key is
 
-pub ready_with_keys : (most parts : ℕ) (keys : List Key) → AreKeys parts keys → AreReadyAt {most = most} (map (λ key. slot.Ready key) keys)
-ready_with_keys most parts keys are p within =
+pub ready_with_keys : (most : ℕ) (tally : Option TallyId) (keys : List Key) → AreKeysOf tally (length keys) keys
+    → AreReadyAt {most = most} tally (map (λ key. slot.Ready key) keys)
+ready_with_keys most tally keys are p within =
     let ready : Key → FrameSlot most = λ k. slot.Ready k in
-    let many = length-map keys ready in
-    let all = are.1.all in
-    let here = are.1.each p (omega (arith, many, all, within)) in
-    subst (λ (s : FrameSlot most). IsReadyAt p s) (sym (key_at_part keys p here.0 here.1)) here.2
+    let many : length (map ready keys) ≡ length keys = length-map keys ready in
+    let here = are.all.each p (omega (arith, many, within)) in
+    let key : IsKeyAt tally (length (map ready keys)) p here.0 =
+    record { part = here.2; parts = here.3 ∙ sym many; named = are.named ∙ ap (λ (t : TallyId). Some t) (sym here.4) } in
+    subst (λ (s : FrameSlot most). IsReadyAt tally (length (map ready keys)) p s) (sym (key_at_part keys p here.0 here.1)) key
 
--- a slot without a number is passed over
+-- the key in a slot is its part's own
+pub key_in : {most : ℕ} (tally : Option TallyId) (slots : List (FrameSlot most)) (p : ℕ) (key : Key) → AreReadyAt tally slots → p < length slots
+    → slice_index_or slots p (slot.Out 0) ≡ slot.Ready key → IsKeyAt tally (length slots) p key
+key_in {most} tally slots p key are within is = subst (λ (s : FrameSlot most). IsReadyAt tally (length slots) p s) is (are p within)
+
+-- a slot without a number is skipped
 passed : {most : ℕ} (slots : List (FrameSlot most)) (i : ℕ) (s : FrameSlot most) → i < length slots → s ≡ get_or slots i s → number_in s ≡ None
     → known (map number_in (drop i slots)) ≡ known (map number_in (drop (suc i) slots))
 passed [] i s within is none = absurd (omega arith)

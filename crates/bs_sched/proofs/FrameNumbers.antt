@@ -1,4 +1,4 @@
--- Numbers that a tag holds, with one more somewhere among them.
+-- Numbers that a tag owns, with one more somewhere among them.
 use Rattle.std.proofs.Common.{◌≡◌, ◌≢◌, ℕ, zero, suc, ◌+◌, ◌<◌, List, [], ◌∷◌, ◌++◌, slice_get, slice_index_or, Option, Some, None, refl, sym, ap, ◌∙◌, arith, set}
 use Rattle.std.specs.Prelude.{All, AllPairs}
 use Rattle.std.proofs.lemmas.List.{length-append}
@@ -38,7 +38,7 @@ holds_inserted tag n pool front back at holds =
       all = omega (arith, held_drawn pool tag n at, holds.all, length-append front back, length-append front (n ∷ back));
     }
 
--- the numbers before and behind a part that has none
+-- the numbers before and after a part that has none
 pub parted : (numbers : List (Option ℕ)) (part n : ℕ) → slice_get numbers part ≡ Some None
     → (front : List ℕ) × (back : List ℕ) × (known numbers ≡ front ++ back) × (known (set numbers part (Some n)) ≡ front ++ n ∷ back)
 parted [] part n free = absurd cc

@@ -1,8 +1,9 @@
--- What the Join gets of the slots, and what goes back to the pool after it.
+-- What the Join gets from the slots, and what is given back to the pool after it.
 use Rattle.std.proofs.Common.{◌≡◌, ℕ, ◌<◌, arith, List, [], ◌∷◌, ◌++◌, length, map, Option, Some, None, refl, sym, ap, ◌∙◌, subst, All, append-nil}
 use Rattle.std.specs.Prelude.{flat_map, option_to_list, slice_index_or}
 use Rattle.std.proofs.lemmas.List.{get_or-map, length-map}
 use Rattle.std.proofs.lemmas.List.Elements.{All-nil, All-cons, All-head, All-tail}
+use Rattle.bs_counter.specs.Keys.{TallyId}
 use Rattle.bs_pool.specs.declared.owned.Owned.{Owned}
 use Rattle.bs_pool.specs.Ledger.{Ledger}
 use Rattle.bs_fiber.specs.Tickets.{bytes_of, frames_in, names_of}
@@ -95,13 +96,15 @@ module _ {most : ℕ} (frames : List (Owned most)) (tag : ℕ) (numbers : List �
   others = leaves_rest tag [] numbers pool none_behind.owned
 
 -- a part that is ready keeps its key
-sent_ready : {most : ℕ} (p : ℕ) (s : FrameSlot most) → IsReadyAt p s → IsReadyAt p (sent_off s)
-sent_ready p (slot.Ready key) is = is
-sent_ready p (slot.Out number) is = tt
-sent_ready p (slot.Back owned) is = tt
+sent_ready : {most : ℕ} (tally : Option TallyId) (parts p : ℕ) (s : FrameSlot most) → IsReadyAt tally parts p s → IsReadyAt tally parts p (sent_off s)
+sent_ready tally parts p (slot.Ready key) is = is
+sent_ready tally parts p (slot.Out number) is = tt
+sent_ready tally parts p (slot.Back owned) is = tt
 
-pub all_sent_ready : {most : ℕ} (slots : List (FrameSlot most)) → AreReadyAt slots → AreReadyAt (map sent_off slots)
-all_sent_ready slots are p within =
-    let many = length-map slots sent_off in
+pub all_sent_ready : {most : ℕ} (tally : Option TallyId) (slots : List (FrameSlot most)) → AreReadyAt tally slots → AreReadyAt tally (map sent_off slots)
+all_sent_ready {most} tally slots are p within =
+    let many : length (map sent_off slots) ≡ length slots = length-map slots sent_off in
     let here : p < length slots = omega (arith, many, within) in
-    subst (λ s. IsReadyAt p s) (sym (get_or-map sent_off slots p (slot.Out 0) (slot.Out 0) here)) (sent_ready p (slice_index_or slots p (slot.Out 0)) (are p here))
+    let ready = sent_ready tally (length slots) p (slice_index_or slots p (slot.Out 0)) (are p here) in
+    subst (λ (n : ℕ). IsReadyAt tally n p (slice_index_or (map sent_off slots) p (slot.Out 0))) (sym many)
+    (subst (λ (s : FrameSlot most). IsReadyAt tally (length slots) p s) (sym (get_or-map sent_off slots p (slot.Out 0) (slot.Out 0) here)) ready)

@@ -1,4 +1,4 @@
--- What the events leave of what was handed to the lanes, and what a quiet lane has answered.
+-- The commands of a lane after each event, and the commands that an idle lane has answered.
 use Rattle.std.proofs.Common.{◌≡◌, ℕ, Bool, true, false, List, [], ◌∷◌, ◌++◌, take, drop, refl, sym, ap, ◌∙◌}
 use Rattle.std.specs.Prelude.{if◌then◌else◌}
 use Rattle.std.proofs.lemmas.Bool.{eqb-true}
@@ -38,7 +38,7 @@ commands_put x kind.Begin p = commands_begun x (goes_on x)
 commands_put x kind.Part p = refl
 commands_put x kind.Join p = refl
 
--- the event adds what it hands in
+-- the event adds the command that it queues
 pub commands_after : (x : Lane) (e : Event) → commands_of (lane_after x e) ≡ commands_of x ++ commands_in (e ∷ [])
 commands_after x (event.Hand game command) = commands_handed x command
 commands_after x (event.Take worker job) = commands_taken x worker job.kind job.part ∙ sym (append-nil (commands_of x))
@@ -77,7 +77,7 @@ row_kept x (event.Put worker job) = row_put x job.kind job.part
 row_kept x (event.Admit row) = refl
 row_kept x (event.Leave game) = refl
 
--- a quiet lane has answered all that was handed to it
+-- a lane with nothing to do has answered all its commands
 
 quiet_commands : (x : Lane) → is_quiet x ≡ true → answered_commands x ≡ commands_of x
 quiet_commands x quiet =

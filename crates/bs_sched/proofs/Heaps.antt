@@ -18,7 +18,7 @@ use Rattle.bs_sched.specs.Machine.{lane_of}
 use Rattle.bs_sched.specs.Frames.{LeavesBut}
 use Rattle.bs_sched.specs.Storage.{frame_tag, record_tag}
 
--- what another tag draws or gives back leaves a game's heap
+-- a game's heap is not affected by what another tag draws or gives back
 left_heap : (cap own tag other : ℕ) (x : Lane) (heap : Heap) (pool pool' : Ledger) → IsHeapOf cap own x heap pool → own ≢ tag → own ≢ other
     → LeavesBut tag other pool pool' → IsHeapOf cap own x heap pool'
 left_heap cap own tag other x heap pool pool' kept a b leaves =
@@ -33,7 +33,7 @@ left_heap cap own tag other x heap pool pool' kept a b leaves =
       room = kept.room;
     }
 
--- another lane is open as before
+-- whether another lane is open is unchanged
 pub open_beside : (lanes : List Lane) (game other : ℕ) (x : Lane) → other ≢ game → (lane_of (slice_set lanes game x) other).is_open ≡ true
     → (lane_of lanes other).is_open ≡ true
 open_beside lanes game other x differ stands = ap (λ (y : Lane). y.is_open) (sym (get_or-set_other lanes game other x no_lane differ)) ∙ stands
@@ -54,7 +54,7 @@ changed_heaps cap game lanes heaps pool pool' x heap all many within here leaves
           (λ same. let odd : 2 * other ≡ 2 * game + 1 = same in omega (arith, odd)) leaves)
     ]
 
--- a lane that keeps its boards, and at which no answer may come, needs no other heap
+-- a lane that keeps its boards, and in which no answer may follow, keeps its heap
 pub same_heap : (cap own : ℕ) (x y : Lane) (heap : Heap) (pool : Ledger) → IsHeapOf cap own x heap pool → y.row.quota ≡ x.row.quota → y.game ≡ x.game
     → may_answer y.stage ≡ false → IsHeapOf cap own y heap pool
 same_heap cap own x y heap pool kept quota boards none =
@@ -78,7 +78,7 @@ changed_lane cap game lanes heaps pool x all within here other less stands =
           rw (get_or-set_other lanes game other x no_lane differ) (all other before (open_beside lanes game other x differ stands))
     ]
 
--- a stay that is open is not gone, and those that are stay so
+-- an open stay has not left, and stays that have left remain so
 pub changed_gone : (game : ℕ) (lanes : List Lane) (heaps heaps' : List Heap) (x : Lane) → AreGone lanes heaps → x.is_open ≡ true → game < length lanes
     → ((other : ℕ) → other ≢ game → heap_of heaps' other ≡ heap_of heaps other) → AreGone (slice_set lanes game x) heaps'
 changed_gone game lanes heaps heaps' x gone stands within same other less shut =

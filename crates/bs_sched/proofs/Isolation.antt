@@ -1,4 +1,4 @@
--- The isolation law, of what the lanes are and of what the events make of them.
+-- The isolation law of the lanes after any events.
 use Rattle.std.proofs.Common.{◌≡◌, ℕ, ◌+◌, ◌-◌, ◌<◌, ◌≤◌, Bool, true, false, ◌&&◌, if◌then◌else◌, List, [], ◌∷◌, ◌++◌, length, map, refl, sym, ap, subst, ◌∙◌, arith, inl, inr}
 use Rattle.std.specs.List.{list_any}
 use Rattle.std.specs.Prelude.{not, nat_le, slice_set}
@@ -23,8 +23,8 @@ use Rattle.bs_fiber.specs.declared.job.JobKind.TheVariants as kind
 
 -- a stay runs alone
 
--- the core of all stays begins with the stay's own first lane, whether it stands in the plan or is
--- to come
+-- the core of all stays begins with the stay's own first lane, whether it is in the plan or still
+-- to be admitted
 begins : (rows : List GameRow) (game : ℕ) (row : GameRow) → IsItsRow row (opened_lanes rows) game → lane_or row (opened_lanes rows) game ≡ empty_lane row
 begins rows game row its =
     elim (cases_lt game (length (opened_lanes rows))) [
@@ -140,7 +140,7 @@ pub opened_rows : (rows : List GameRow) → map its_row (opened_lanes rows) ≡ 
 opened_rows [] = refl
 opened_rows (row ∷ rows) = ap (λ rs. row ∷ rs) (opened_rows rows)
 
--- the blocks that are set aside
+-- the reserved blocks
 
 blocks_taken : (cap : ℕ) (x : Lane) (worker : ℕ) (k : JobKind) (p : ℕ) → blocks_in cap (with_taken worker k p x) ≡ blocks_in cap x
 blocks_taken cap x worker kind.Begin p = refl

@@ -1,5 +1,5 @@
--- How much is left to do in a lane. Each job that is taken and each that is put lowers it, so
--- taking and putting ends.
+-- The weight of what is left to do in a lane. Each job that is taken and each that is completed
+-- lowers it, so taking and completing ends.
 use Rattle.std.proofs.Common.{◌≡◌, ℕ, zero, suc, ◌+◌, ◌*◌, ◌-◌, ◌<◌, ◌≤◌, Bool, true, false, List, [], ◌∷◌, ◌++◌, length, drop, map, get_or, refl, arith, length-append, length-drop}
 use Rattle.std.specs.Prelude.{Option, Some, None, ◌&&◌, if◌then◌else◌, nat_eq, nat_lt, slice_set, replicate, sum_by}
 use Rattle.std.specs.List.{list_all}
@@ -26,13 +26,13 @@ use Rattle.bs_sched.specs.Courses.{IsRight}
 use Rattle.bs_sched.specs.Lane.{Lane, empty_lane, no_lane, goes_on, is_idle, is_in_parts, is_to_join, has_begin, has_join, has_part, is_part_ready, is_part_done, is_ready, is_out, is_quiet, forked, answered, stage_with, with_waiting, with_taken, with_put}
 use Rattle.bs_sched.specs.Machine.{lane_of, lane_effect, is_enabled_there}
 
--- a part is to be taken and to be put
+-- a part is still to be taken and completed
 abbrev pub part_weight : PartState → ℕ
 part_weight part.Ready = 2
 part_weight (part.Out worker) = 1
 part_weight part.Done = 0
 
--- a command that was begun may have four parts, and their joining is behind them
+-- a command that was begun may have four parts, and their Join follows
 abbrev pub stage_weight : Stage → List PartState → ℕ
 stage_weight stage.Idle parts = 0
 stage_weight (stage.Begin worker) parts = 11
@@ -103,7 +103,7 @@ closed_weight : (all : Bool) (parts : List PartState) → stage_weight (if all t
 closed_weight true parts = omega arith
 closed_weight false parts = omega arith
 
--- a legal board has so few seats that a move has four parts at most
+-- a legal board has at most eight seats, so a move has at most four parts
 
 few_in : (game : Game) (last : Option Board) → IsGame game → last ≡ last_board game → parts_of (length (snakes_in last)) ≤ 4
 few_in game None right is = omega arith
@@ -180,7 +180,7 @@ brought_is_lighter workers lanes worker job right enabled =
     lighter_lane lanes job.game (with_put job.kind job.part (lane_of lanes job.game)) within
     (put_is_lighter (lane_of lanes job.game) worker job.kind job.part right out)
 
--- what the weight of a core starts from, and what is left where it is nothing
+-- the weight that a command adds, and what is left at weight 0
 
 pub hand_weighs : (x : Lane) (command : Command) → weight (with_waiting command x) ≡ weight x + 12
 hand_weighs x command =

@@ -1,5 +1,5 @@
--- How many jobs of a core are out: one more after each that is taken, one less after each that
--- comes back.
+-- The number of jobs of a core that are out: one more after each that is taken, one less after each
+-- that is completed.
 use Rattle.std.proofs.Common.{◌≡◌, ℕ, zero, suc, ◌+◌, ◌*◌, ◌<◌, Bool, true, false, List, [], ◌∷◌, length, map, get_or, refl, sym, arith}
 use Rattle.std.specs.Prelude.{Some, None, ◌&&◌, if◌then◌else◌, nat_eq, nat_lt, slice_set, replicate, sum_by}
 use Rattle.std.specs.List.{list_all}

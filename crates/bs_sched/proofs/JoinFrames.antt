@@ -28,7 +28,7 @@ known_all {X} (x ∷ xs) = ap (λ (ys : List X). x ∷ ys) (known_all xs)
 abbrev moved_bytes : Lane → List (List ℕ)
 moved_bytes x = map frame_of (moved_parts_for kind.Join x)
 
--- what the blocks hold, in the order of the parts
+-- the bytes of the blocks, in part order
 pub record AreToJoin (x : Lane) (f : FramesView) : Type 0 where
   pub at : x.stage ≡ stage.Join None
   pub frames : AreDoneFrames x f

@@ -1,11 +1,12 @@
 -- A core is its journal, before and after each event, and so the isolation law speaks of it.
-use Rattle.std.proofs.Common.{◌≡◌, ℕ, ◌+◌, ◌<◌, ◌≤◌, false, true, List, [], ◌∷◌, ◌++◌, length, map, refl, sym, ap, subst, ◌∙◌, arith, inl, inr}
+use Rattle.std.proofs.Common.{◌≡◌, ℕ, ◌+◌, ◌<◌, ◌≤◌, false, true, List, [], ◌∷◌, ◌++◌, length, map, Option, refl, sym, ap, subst, ◌∙◌, arith, inl, inr}
 use Rattle.std.specs.Prelude.{All, vec_len, vec_capacity}
 use Rattle.std.proofs.lemmas.Bool.{cases_Bool, cond-true, and_from}
 use Rattle.std.proofs.lemmas.List.Elements.{All-nil, All-cons, All-append}
 use Rattle.std.proofs.lemmas.List.Sums.{fold-append}
 use Rattle.bs_board.proofs.Chains.{and_both}
 use Rattle.bs_board.specs.plans.Plan.{GameRow}
+use Rattle.bs_counter.specs.Keys.{TallyId}
 use Rattle.bs_pool.specs.Ledger.{size}
 use Rattle.bs_sched.specs.declared.cores.Core.TheInside.{Inside}
 use Rattle.bs_sched.specs.declared.event.Event.{Event}
@@ -34,7 +35,7 @@ enabled_more setting lanes (first ∷ events) e all here =
     let both = and_both (is_enabled setting lanes first) (are_enabled setting (step setting lanes first) events) all in
     and_from _ _ both.0 (enabled_more setting (step setting lanes first) events e both.1 here)
 
--- the law of a core
+-- the law for a core
 
 law_of : (cap : ℕ) (core : CoreView) → IsItsJournal cap core → SharesMemory (setting_in cap core) core.games.rows core.journal
 law_of cap core is = memory_law (setting_in cap core) core.games.rows core.journal is.hosted is.fits
@@ -58,14 +59,13 @@ keeps_apart cap core is =
       names = subst AreKnownApart (its_lanes cap core is) (names_law (setting_in cap core) core.games.rows core.journal is.hosted.plan);
     }
 
--- the rows are those of the plan, and then those that were admitted
+-- the rows are those of the plan, then those that were admitted
 pub rows_made : (cap : ℕ) (core : CoreView) → IsItsJournal cap core → map (λ (x : Lane). x.row) core.games.lanes ≡ core.games.rows ++ rows_in core.journal
 rows_made cap core is =
     let told = journal_law (setting_in cap core) core.games.rows core.journal is.enabled in
     ap (map (λ (x : Lane). x.row)) (sym (its_lanes cap core is)) ∙ told.rows
 
--- a stay that has left has nothing to do, so nobody can take anything where nobody can in the open
--- ones
+-- a stay that has left is idle, so if no job can be taken in the open stays, none can be taken
 
 quiet_closed : (cap : ℕ) (core : CoreView) (game : ℕ) → IsItsJournal cap core → game < length core.games.lanes → (lane_of core.games.lanes game).is_open ≡ false
     → is_quiet (lane_of core.games.lanes game) ≡ true
@@ -89,7 +89,7 @@ none_ready cap core is none game within =
       | inr shut ↦ none_quiet_ready (lane_of core.games.lanes game) (quiet_closed cap core game is within shut)
     ]
 
--- a core that was just opened
+-- a newly opened core
 
 pub opened_journal : (cap blocks workers : ℕ) (rows : List GameRow) → IsHosted (record { cap = cap; blocks = blocks; workers = workers }) rows
     → size (opened cap blocks workers rows).storage.pool ≡ blocks → IsItsJournal cap (opened_core cap blocks workers rows)
@@ -108,17 +108,17 @@ events_fit events e all fits = All-append HandsFit events (e ∷ []) all (All-co
 
 run_more : (cap : ℕ) (core : CoreView) (e : Event) → IsItsJournal cap core → is_enabled (setting_in cap core) core.games.lanes e ≡ true
     → games_run (setting_in cap core) (opened cap (setting_in cap core).blocks core.games.workers core.games.rows) (core.journal ++ e ∷ [])
-    ≡ record (after cap core.games e) { failed = false }
+    ≡ record (after cap core.games e) { failed = false; tallies = [] }
 run_more cap core e is enabled =
     let setting = setting_in cap core in
-    let games = record core.games { failed = false } in
+    let games = record core.games { failed = false; tallies = [] } in
     let start = opened cap setting.blocks core.games.workers core.games.rows in
     let more : games_run setting start (core.journal ++ e ∷ []) ≡ games_step setting (games_run setting start core.journal) e
     = fold-append (games_step setting) start core.journal (e ∷ []) in
     let goes : games_step setting games e ≡ after cap games e = cond-true _ (after cap games e) games enabled in
     more ∙ ap (λ before. games_step setting before e) is.games ∙ goes
 
--- no event changes how many blocks there are
+-- no event changes the number of blocks
 same_setting : (cap : ℕ) (core : CoreView) (e : Event) → IsItsJournal cap core → is_enabled (setting_in cap core) core.games.lanes e ≡ true → HandsFit e
     → setting_in cap (core_after cap core e) ≡ setting_in cap core
 same_setting cap core e is enabled fits =
@@ -145,17 +145,31 @@ journal_after cap core e is enabled fits =
       games = ap (λ (h : Setting). games_run h (opened cap h.blocks core.games.workers rows) events) same ∙ more;
     }
 
--- how a core that has one event more lies in its fields
+-- no event names a tally
+journal_told : (cap : ℕ) (core : CoreView) (tallies : List (Option TallyId)) → IsItsJournal cap core
+    → IsItsJournal cap (record core { games = record core.games { tallies = tallies } })
+journal_told cap core tallies is = record { hosted = is.hosted; fits = is.fits; enabled = is.enabled; games = is.games }
+
+-- how a core that has one event more lies in its fields, with whatever tallies
+pub journaled_told : (cap : ℕ) {at : ℕ} (c : Inside at) (e : Event) (tallies : List (Option TallyId)) (new : Inside at) → IsJournaled cap c
+    → is_enabled (setting_of cap c.games) c.games.lanes e ≡ true → HandsFit e → new.games ≡ record (after cap c.games e) { tallies = tallies }
+    → new.journal.items ≡ c.journal.items ++ e ∷ [] → new.out ≡ jobs_out (after cap c.games e).lanes → vec_len new.journal + new.out ≤ vec_capacity new.journal
+    → IsBusyTable c.games.workers (lane_effect c.games.lanes e) new.busy.items → IsJournaled cap new
+journaled_told cap c e tallies new sound enabled fits games journal out room busy =
+    let told : GamesView = record (after cap c.games e) { tallies = tallies } in
+    let is : core_in new ≡ record { games = told; journal = c.journal.items ++ e ∷ [] }
+    = ap (λ (g : GamesView). record { games = g; journal = new.journal.items }) games ∙ ap (λ (j : List Event). record { games = told; journal = j }) journal in
+    record {
+      journal =
+          subst (IsItsJournal cap) (sym is) (journal_told cap (core_after cap (core_in c) e) tallies (journal_after cap (core_in c) e sound.journal enabled fits));
+      out = out ∙ ap (λ (g : GamesView). jobs_out g.lanes) (sym games);
+      room = room;
+      busy = subst (λ (g : GamesView). IsBusyTable g.workers g.lanes new.busy.items) (sym games) busy;
+    }
+
 pub journaled_after : (cap : ℕ) {at : ℕ} (c : Inside at) (e : Event) (new : Inside at) → IsJournaled cap c
     → is_enabled (setting_of cap c.games) c.games.lanes e ≡ true → HandsFit e → new.games ≡ after cap c.games e → new.journal.items ≡ c.journal.items ++ e ∷ []
     → new.out ≡ jobs_out (after cap c.games e).lanes → vec_len new.journal + new.out ≤ vec_capacity new.journal
     → IsBusyTable c.games.workers (lane_effect c.games.lanes e) new.busy.items → IsJournaled cap new
 journaled_after cap c e new sound enabled fits games journal out room busy =
-    let is : core_in new ≡ core_after cap (core_in c) e
-    = ap (λ (g : GamesView). record { games = g; journal = new.journal.items }) games ∙ ap (λ (j : List Event). record { games = after cap c.games e; journal = j }) journal in
-    record {
-      journal = subst (IsItsJournal cap) (sym is) (journal_after cap (core_in c) e sound.journal enabled fits);
-      out = out ∙ ap (λ (g : GamesView). jobs_out g.lanes) (sym games);
-      room = room;
-      busy = subst (λ (g : GamesView). IsBusyTable g.workers g.lanes new.busy.items) (sym games) busy;
-    }
+    journaled_told cap c e c.games.tallies new sound enabled fits games journal out room busy

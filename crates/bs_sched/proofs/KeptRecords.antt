@@ -25,14 +25,6 @@ use Rattle.bs_pool.specs.Ledger.{Ledger}
 pub nothing_left : (tag : ℕ) (pool : Ledger) → LeavesOthers tag pool pool
 nothing_left tag pool = record { holds = λ other numbers differ held. held; reservations = refl }
 
--- the last record is that of the newest board
-pub last_recorded : (game : Game) (records : List (List ℕ)) → IsRecorded game records
-    → slice_get records (length records - 1) ≡ option_map record_of (last_board game)
-last_recorded game records kept =
-    let many = as_many game records kept in
-    ap (λ all. slice_get all (length records - 1)) kept.is ∙ slice_get-map record_of game (length records - 1)
-    ∙ ap (λ n. option_map record_of (slice_get game (n - 1))) many
-
 -- the board of the turn that a command asks for is the one that it asks for
 pub asked_of : (command : Command) (game : Game) → option_map record_of (board_asked (asked_turn command) game) ≡ option_map record_of (asked_board command game)
 asked_of (command.New setup) game = refl

@@ -1,4 +1,4 @@
--- What the events make of a fiber's lane.
+-- A fiber's lane after each event.
 use Rattle.std.proofs.Common.{◌≡◌, ℕ, zero, suc, ◌+◌, ◌-◌, ◌<◌, true, false, List, [], ◌∷◌, length, drop, map, refl, sym, ap, subst, ◌∙◌, arith, Global, Vec}
 use Rattle.std.specs.Prelude.{Bool, ◌&&◌, nat_eq, Some, None, slice_set, replicate}
 use Rattle.std.specs.List.{list_all}
@@ -28,7 +28,7 @@ drop_more zero xs = refl
 drop_more (suc n) [] = let next : suc n + 1 ≡ suc (n + 1) = omega arith in rw next refl
 drop_more (suc n) (x ∷ xs) = let next : suc n + 1 ≡ suc (n + 1) = omega arith in rw next (drop_more n xs)
 
--- what the tests of an event say of the stage
+-- the stage in which each event is enabled
 
 pub ready_begin : (x : Lane) → is_ready x kind.Begin 0 ≡ true → (is_idle x.stage ≡ true) × (0 < length x.waiting)
 ready_begin x ready = let both = and_both _ _ ready in (both.0, ltb-true _ _ both.1)
@@ -116,7 +116,7 @@ undone_lane f x slots moved p worker is out same all =
     = ap (list_all is_part_done) (sym states) ∙ list_all-map is_part_done state_of slots.items ∙ all in
     rw (← is, states, test, at) refl
 
--- what nobody can take
+-- the jobs that cannot be taken
 
 and_false : (a : Bool) → (a && false) ≡ false
 and_false true = refl

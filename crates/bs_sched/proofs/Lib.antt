@@ -44,5 +44,6 @@ pub mod RightRuns
 pub mod SharedMemory
 pub mod StoredRecords
 pub mod TakenJobs
+pub mod Tallies
 pub mod PartFrames
 pub mod JoinFrames

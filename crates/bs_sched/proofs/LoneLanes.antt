@@ -1,4 +1,4 @@
--- The lane of a stay goes the same way in a core of its own.
+-- The lane of a stay changes in the same way in a core of its own.
 use Rattle.std.proofs.Common.{◌≡◌, ◌≢◌, ℕ, ◌<◌, ◌≤◌, Bool, true, false, ◌||◌, List, [], ◌∷◌, ◌++◌, length, refl, sym, ap, subst, ◌∙◌, arith, inl, inr}
 use Rattle.std.specs.Prelude.{◌⊎◌, nat_eq, nat_le, slice_index_or, slice_set}
 use Rattle.std.proofs.lemmas.Bool.{cases_Bool, cases_eq, cases_order, cond-true, cond-false, ltb-true, eqb-true, eqb-false, not-true, and_from}
@@ -17,14 +17,14 @@ use Rattle.bs_sched.proofs.HandedCommands.{its_row, row_kept}
 abbrev pub lone : Lane → List Lane
 lone x = x ∷ []
 
--- the lane of a stay of that row; before it comes, the one that it will begin with
+-- the lane of a stay of that row; before its admission, the lane that it begins with
 abbrev pub lane_or : GameRow → List Lane → ℕ → Lane
 lane_or row lanes game = slice_index_or lanes game (empty_lane row)
 
 pub lane_there : (row : GameRow) (lanes : List Lane) (game : ℕ) → game < length lanes → lane_or row lanes game ≡ lane_of lanes game
 lane_there row lanes game within = get_or_default lanes game (empty_lane row) no_lane within
 
--- who is named
+-- the stay that an event names
 
 pub named_is : (game : ℕ) (e : Event) → is_named game e ≡ true → (is_admit e ≡ false) × (game_of e ≡ game)
 named_is game e named =
@@ -36,7 +36,7 @@ named_not game e not_named there =
     let other : nat_eq (game_of e) game ≡ false = rw there at not_named in
     eqb-false (game_of e) game other
 
--- what is enabled
+-- which events are enabled
 
 pub enabled_there : (setting : Setting) (lanes : List Lane) (e : Event) → is_admit e ≡ false → is_enabled setting lanes e ≡ is_enabled_there setting.workers lanes e
 enabled_there setting lanes e there = cond-false (is_admit e) (may_admit setting lanes (row_in e)) (is_enabled_there setting.workers lanes e) there
@@ -56,7 +56,7 @@ met setting lanes e there on =
     let tests = and_both _ _ both.1 in
     record { within = ltb-true _ _ both.0; allowed = tests.0; hands = tests.1 }
 
--- the event does to the lane what it does there
+-- the event changes the lane in the same way there
 
 allowed_alone : (x : Lane) (e : Event) → is_allowed x (alone_event e) ≡ is_allowed x e
 allowed_alone x (event.Hand game command) = refl
@@ -86,7 +86,7 @@ comes_alone (event.Put worker job) = refl
 comes_alone (event.Admit row) = refl
 comes_alone (event.Leave game) = refl
 
--- a worker that is busy with no stay is not busy with this one
+-- a worker without a job in any stay has none in this one
 
 or_false : (b : Bool) → (b || false) ≡ b
 or_false true = refl
@@ -117,7 +117,7 @@ hands_alone setting game lanes (event.Put worker job) within has = refl
 hands_alone setting game lanes (event.Admit row) within has = refl
 hands_alone setting game lanes (event.Leave row) within has = refl
 
--- of an event that a stay accepts
+-- an event that a stay accepts
 pub accepts : (setting : Setting) (game : ℕ) (lanes : List Lane) (e : Event) → is_accepted setting game lanes e ≡ true
     → (is_admit e ≡ false) × (game_of e ≡ game) × IsMet setting lanes e
 accepts setting game lanes e is =
@@ -238,7 +238,7 @@ moved_alone setting game lanes e is =
     let effect : slice_set (lone x) (game_of e') (changed (lone x) e') ≡ lane_after x e' ∷ [] = rw (row_alone e) refl in
     alone ∙ effect ∙ ap (λ y. y ∷ []) (after_alone x e ∙ sym shared)
 
--- The row of a stay stays.
+-- The row of a stay does not change.
 
 pub keeps_row : (setting : Setting) (lanes : List Lane) (e : Event) (game : ℕ) → game < length lanes → its_row (lane_of (step setting lanes e) game) ≡ its_row (lane_of lanes game)
 keeps_row setting lanes e game within =
@@ -264,9 +264,10 @@ row_of_run setting lanes (e ∷ events) game within =
     let more = grows setting lanes e in
     row_of_run setting (step setting lanes e) events game (omega (arith, more)) ∙ keeps_row setting lanes e game within
 
--- An event that is not accepted leaves the lane, also before the stay is there, and when it comes.
+-- An event that is not accepted leaves the lane unchanged, also before the stay exists, and when it
+-- is admitted.
 
--- if the stay is there, it has that row
+-- if the stay exists, it has that row
 abbrev pub IsItsRow : GameRow → List Lane → ℕ → Type 0
 IsItsRow row lanes game = game < length lanes → its_row (lane_of lanes game) ≡ row
 

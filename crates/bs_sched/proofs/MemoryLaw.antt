@@ -1,4 +1,4 @@
--- The isolation law of the memory, of what all stays' records and blocks are.
+-- The isolation law of the memory: the records and blocks of all stays.
 use Rattle.std.proofs.Common.{◌≡◌, ◌≢◌, ℕ, zero, suc, ◌+◌, ◌-◌, ◌<◌, ◌≤◌, true, false, List, [], ◌∷◌, ◌++◌, length, map, replicate, Bool, Option, None, refl, sym, ap, subst, ◌∙◌, arith, inl, inr}
 use Rattle.std.specs.List.{list_any}
 use Rattle.std.specs.Prelude.{if◌then◌else◌, not, nat_eq, nat_le, All, slice_index_or, slice_set, count_by}
@@ -47,7 +47,7 @@ use Rattle.bs_sched.proofs.Reserved.{reserved_changed, reserved_left, reserved_c
 use Rattle.bs_sched.proofs.RightRuns.{AreWell, fit_comer, well_step, well_opened, open_when, open_taken, open_put, opened_lane}
 use Rattle.bs_sched.proofs.SharedMemory.{KeepsLane, AreStored, few_of, can_draw, frame_there, kept_nothing, stored_changed, stored_reserved, stored_comes, stored_framed}
 
--- the lanes go their way
+-- the lanes follow their machine
 
 lanes_step : (setting : Setting) (world : World) (e : Event) → (world_step setting world e).lanes ≡ step setting world.lanes e
 lanes_step setting world e =
@@ -61,7 +61,7 @@ lanes_run setting world [] = refl
 lanes_run setting world (e ∷ events) =
     lanes_run setting (world_step setting world e) events ∙ ap (λ (ls : List Lane). run_of setting ls events) (lanes_step setting world e)
 
--- so does the core as its calls see it
+-- and so does the core as its calls see it
 
 core_goes_along : (setting : Setting) (core : GamesView) (world : World) (e : Event)
     → games_step setting (games_with core world) e ≡ games_with core (world_step setting world e)
@@ -78,7 +78,7 @@ core_runs_along setting core world (e ∷ events) =
     ap (λ (next : GamesView). games_run setting next events) (core_goes_along setting core world e)
     ∙ core_runs_along setting core (world_step setting world e) events
 
--- what each step makes of the world
+-- the machine with its memory after each step
 
 world_enabled : (setting : Setting) (world : World) (e : Event) → is_enabled setting world.lanes e ≡ true → world_step setting world e ≡ world_after setting.cap world e
 world_enabled setting world e on = cond-true (is_enabled setting world.lanes e) (world_after setting.cap world e) world on
@@ -107,7 +107,7 @@ world_comes setting world e comes =
     world_enabled setting world e comes.on
     ∙ (λ i. world_of (effect_admit world.lanes e comes.admits i) (storage_comes setting.cap e world.lanes world.storage comes.admits i) (same i))
 
--- what an event that names a row makes of it
+-- the effect of an event that names a row
 abbrev effect_in : World → Event → Effect
 effect_in world e = effect_at e (lane_of world.lanes (game_of e))
 
@@ -130,7 +130,7 @@ new_numbers cap world e = numbers_after (frame_effect_in world e) (numbers_at wo
 abbrev last_pool : ℕ → World → Event → Ledger
 last_pool cap world e = pool_framed (frame_effect_in world e) (frame_tag (game_of e)) (numbers_at world.storage.frames (game_of e)) (new_pool cap world e)
 
--- the storage before what is reserved goes back
+-- the storage before the reservations are given back
 abbrev mid_storage : ℕ → World → Event → Storage
 mid_storage cap world e =
     record {
@@ -156,7 +156,7 @@ record IsSoundWorld (cap blocks : ℕ) (world : World) : Type 0 where
   reserved : AreReserved cap blocks world.lanes world.storage.pool.reservations
   well : AreWell world.lanes
 
--- a stay comes
+-- a stay is admitted
 
 reserved_before : (cap blocks : ℕ) (lanes : List Lane) (pool : Ledger) (row : GameRow) → AreReserved cap blocks (lanes ++ empty_lane row ∷ []) (more_of cap (length lanes) row pool.reservations)
     → (game : ℕ) → game < length lanes → (lane_of lanes game).is_open ≡ true
@@ -198,7 +198,7 @@ sound_comes cap blocks world row sound well fits =
 
 -- a stay changes: its records, and then its frames
 
--- what an event does to the frames may be done, after what it does to the records
+-- the effect of an event on the frames is possible after its effect on the records
 
 may_frame_begun : (x : Lane) (worker : ℕ) (on : Bool) (numbers : List (Option ℕ)) (pool : Ledger) → has_begin worker x.stage ≡ true → AreBegun x numbers
     → MayFrame (if on then Forks (length (forked x).parts) else Keeps) numbers pool
@@ -320,7 +320,7 @@ module _ (setting : Setting) (world : World) (e : Event) (sound : IsSoundWorld s
   reservations_now : (last_pool setting.cap world e).reservations ≡ world.storage.pool.reservations
   reservations_now = frames_change.others.reservations ∙ records_change.others.reservations
 
-  -- the stay is open as before
+  -- whether the stay is open is unchanged
   sound_still : released e (mid_storage setting.cap world e) ≡ mid_storage setting.cap world e
       → y.is_open ≡ true → IsSoundWorld setting.cap setting.blocks (world_changed setting.cap world e)
   sound_still as_is stands =
@@ -333,7 +333,7 @@ module _ (setting : Setting) (world : World) (e : Event) (sound : IsSoundWorld s
         well = well_now;
       })
 
-  -- the reservations go as well
+  -- the reservations are given back too
   sound_left : released e (mid_storage setting.cap world e) ≡ record { packings = packings_now; frames = frames_now; pool = pool_left at (last_pool setting.cap world e) }
       → y.is_open ≡ false → IsSoundWorld setting.cap setting.blocks (world_changed setting.cap world e)
   sound_left as_is shut =
@@ -386,7 +386,7 @@ sound_run setting world [] fit sound = sound
 sound_run setting world (e ∷ events) fit sound =
     sound_run setting (world_step setting world e) events (All-tail HandsFit e events fit) (sound_step setting world e (All-head HandsFit e events fit) sound)
 
--- a core that was just opened
+-- a newly opened core
 
 all_free : (blocks : ℕ) → count_by is_unowned (replicate blocks None) ≡ blocks
 all_free zero = refl
@@ -463,7 +463,7 @@ sound_shared : (setting : Setting) (rows : List GameRow) (events : List Event) �
     → IsSoundWorld setting.cap setting.blocks (shared_world setting rows events)
 sound_shared setting rows events hosted fit = sound_run setting (opened_world setting rows) events fit (sound_opened setting rows hosted)
 
--- what that says of the blocks, and of each stay
+-- the consequences for the blocks, and for each stay
 
 -- open or not
 holds_own : (cap blocks : ℕ) (world : World) (game : ℕ) → IsSoundWorld cap blocks world → game < length world.lanes
@@ -617,7 +617,7 @@ bytes_of_lanes setting world game e sound within fit other =
     let before = keeps_bytes setting.cap setting.blocks world game sound within in
     after.bytes ∙ ap kept_of same ∙ sym before.bytes
 
--- a command that is handed in and a stay that comes change no byte, whatever they are
+-- queuing a command and admitting a stay change no byte
 bytes_stay : (setting : Setting) (world : World) (game : ℕ) (e : Event) → IsSoundWorld setting.cap setting.blocks world → game < length world.lanes → is_named game e ≡ false
     → bytes_in (world_step setting world e) game ≡ bytes_in world game
 bytes_stay setting world game (event.Hand row command) sound within other =
@@ -642,7 +642,7 @@ bytes_stay setting world game (event.Admit row) sound within other =
     ]
 bytes_stay setting world game (event.Leave row) sound within other = bytes_of_lanes setting world game (event.Leave row) sound within tt other
 
--- the stay alone
+-- the stay by itself
 
 fit_alone : (e : Event) → HandsFit e → HandsFit (alone_event e)
 fit_alone (event.Hand game command) fit = fit

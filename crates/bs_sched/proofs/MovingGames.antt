@@ -1,4 +1,4 @@
--- A game of which a move goes.
+-- A game with an accepted move.
 use Rattle.std.proofs.Common.{◌≡◌, ℕ, ◌<◌, Bool, true, false, [], ◌∷◌, length, Option, Some, None, refl, sym, ◌∙◌, arith}
 use Rattle.std.specs.Prelude.{IfSome}
 use Rattle.bs_board.specs.declared.boards.board.Board.{Board}
@@ -31,7 +31,7 @@ some_board (board ∷ game) never = omega arith
 pub moving_game : (x : Lane) → goes_on x ≡ true → 0 < length x.game
 moving_game x moves = some_board x.game (λ none. runs_game (lane_view x) (lane_command x) moves none)
 
--- no move goes in a game that is over
+-- no move is accepted in a game that is over
 
 over_last : (most charge kept : ℕ) (last asked : Option Board) (orders : Orders) (over : Bool) → IfSome last (λ board. over ≡ is_over board) → over ≡ true
     → first_reason (record { quota = most; charge = charge; kept = kept; last = last; asked = asked }) (command.Move orders) ≡ None → ⊥

@@ -26,7 +26,7 @@ same_self : (text : List ℕ) → is_same_text text text ≡ true
 same_self [] = refl
 same_self (c ∷ text) = let here : nat_eq c c ≡ true = eq-eqb c c refl in rw here (same_self text)
 
--- what is open after an event was so before
+-- a stay that is open after an event was open before, or is admitted by it
 
 abbrev one : Lane → ℕ
 one x = if x.is_open then 1 else 0
@@ -63,7 +63,7 @@ open_before setting lanes e game within stands =
           ]
     ]
 
--- a name that none of the open ones has
+-- a name that no open stay has
 
 not_named : (row : GameRow) (lanes : List Lane) (game : ℕ) → list_any (has_name row) lanes ≡ false → game < length lanes → (lane_of lanes game).is_open ≡ true
     → row.game ≢ (lane_of lanes game).row.game
@@ -137,7 +137,7 @@ known_run : (setting : Setting) (lanes : List Lane) (events : List Event) → Ar
 known_run setting lanes [] known = known
 known_run setting lanes (e ∷ events) known = known_run setting (step setting lanes e) events (known_step setting lanes e known)
 
--- a core that was just opened
+-- a newly opened core
 
 distinct_rows : (rows : List GameRow) → have_distinct_names rows ≡ true → (i j : ℕ) (d : GameRow) → i < j → j < length rows
     → (slice_index_or rows i d).game ≢ (slice_index_or rows j d).game

@@ -31,7 +31,7 @@ open_within lanes = All-weaker (λ game. game < 0 + length lanes) (λ game. game
 pub listed_within : (rows : List ℕ) (lanes : List Lane) → rows ≡ open_rows lanes → All (λ game. game < length lanes) rows
 listed_within rows lanes is = rw is (open_within lanes)
 
--- and each open stay's is there
+-- and each open stay's row is in the list
 
 pub record IsListed (rows : List ℕ) (game : ℕ) : Type 0 where
   pub place : ℕ
@@ -57,7 +57,7 @@ open_listed lanes game within stands =
     let none : 0 + game ≡ game = omega arith in
     subst (λ (row : ℕ). IsListed (open_rows lanes) row) none (listed_from 0 game lanes within stands)
 
--- how many there are
+-- the number of open stays
 
 pub open_counted : (from : ℕ) (lanes : List Lane) → length (open_rows_from from lanes) ≡ count_by (λ (x : Lane). x.is_open) lanes
 open_counted from [] = refl
@@ -93,7 +93,7 @@ pub named_among : (row : GameRow) (f : ℕ → Bool) (lanes : List Lane) → ((g
     → list_any f (open_rows lanes) ≡ list_any (has_name row) lanes
 named_among row f lanes same = named_from row f 0 lanes (λ game less. let none : 0 + game ≡ game = omega arith in ap f none ∙ same game less)
 
--- a lane changes that is open as before
+-- a lane changes, and not whether it is open
 
 same_from : (from game : ℕ) (lanes : List Lane) (y : Lane) → y.is_open ≡ (lane_of lanes game).is_open → open_rows_from from (slice_set lanes game y) ≡ open_rows_from from lanes
 same_from from game [] y same = refl
@@ -103,7 +103,7 @@ same_from from (suc game) (x ∷ lanes) y same = rw (same_from (from + 1) game l
 pub open_same : (game : ℕ) (lanes : List Lane) (y : Lane) → y.is_open ≡ (lane_of lanes game).is_open → open_rows (slice_set lanes game y) ≡ open_rows lanes
 open_same game lanes y same = same_from 0 game lanes y same
 
--- a stay comes
+-- a stay is admitted
 
 more_from : (from : ℕ) (lanes : List Lane) (row : GameRow) → open_rows_from from (lanes ++ empty_lane row ∷ []) ≡ open_rows_from from lanes ++ (from + length lanes) ∷ []
 more_from from [] row = let none : from + 0 ≡ from = omega arith in rw none refl
@@ -160,7 +160,7 @@ open_less game lanes y within shut =
     let none : 0 + game ≡ game = omega arith in
     less_from 0 game lanes y within shut ∙ ap (λ (gone : ℕ). filter (but gone) (open_rows lanes)) none
 
--- of a core that was just opened
+-- a newly opened core
 
 all_from : (from : ℕ) (rows : List GameRow) → open_rows_from from (map (λ row. empty_lane row) rows) ≡ range_with_len from (length rows)
 all_from from [] = refl
@@ -200,7 +200,7 @@ all_quiet f (game ∷ rows) all =
     let rest = all_quiet f rows (λ place within. all (suc place) (omega (arith, within))) in
     rw (first, rest) refl
 
--- where those that have left have nothing to do, only the open ones count
+-- stays that have left are idle, so only the open ones matter
 
 quiet_from : (f : ℕ → Bool) (from : ℕ) (lanes : List Lane) → ((game : ℕ) → game < length lanes → f (from + game) ≡ is_quiet (lane_of lanes game))
     → ((game : ℕ) → game < length lanes → (lane_of lanes game).is_open ≡ false → is_quiet (lane_of lanes game) ≡ true)
@@ -222,7 +222,7 @@ pub quiet_among : (lanes : List Lane) → ((game : ℕ) → game < length lanes 
 quiet_among lanes closed = quiet_from (λ game. is_quiet (lane_of lanes game)) 0 lanes
     (λ game less. let none : 0 + game ≡ game = omega arith in ap (λ (row : ℕ). is_quiet (lane_of lanes row)) none) closed
 
--- one row more of a plan
+-- one more row of a plan
 
 one_more : (from n : ℕ) → range_with_len from (suc n) ≡ range_with_len from n ++ (from + n) ∷ []
 one_more from zero = let none : from + 0 ≡ from = omega arith in rw none refl

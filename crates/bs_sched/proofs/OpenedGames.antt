@@ -1,4 +1,4 @@
--- A core that was just opened: each game's lane and heap are empty, and its blocks are set aside.
+-- A newly opened core: each game's lane and heap are empty, and its blocks are reserved.
 use Rattle.std.proofs.Common.{◌≡◌, ℕ, zero, suc, ◌+◌, ◌<◌, ◌≤◌, true, false, List, [], ◌∷◌, ◌++◌, Option, length, map, refl, sym, ap, ◌∙◌, arith}
 use Rattle.std.proofs.Math.ListN.{get_or-map}
 use Rattle.std.proofs.lemmas.List.{length-map}
@@ -52,7 +52,7 @@ opened_heap game rows within = heap_from 0 game game rows (omega arith) within
 opened_lane : (game : ℕ) (rows : List GameRow) → lane_of (map (λ row. empty_lane row) rows) game ≡ empty_lane (row_at rows game)
 opened_lane game rows = get_or-map (λ (row : GameRow). empty_lane row) rows game (row_of [] 0)
 
--- an empty heap is an empty lane's where enough blocks are set aside
+-- an empty heap belongs to an empty lane if enough blocks are reserved
 empty_heap_of : (cap own : ℕ) (row : GameRow) (blocks : ℕ) (pool : Ledger) → pool.owners ≡ (opened blocks).owners → blocks_for cap row.quota ≤ reserved own pool
     → IsHeapOf cap own (empty_lane row) (empty_heap own row.quota) pool
 empty_heap_of cap own row blocks pool owners room =

@@ -1,4 +1,4 @@
--- When a ticket holds what its lane has for its job.
+-- When a ticket holds what its lane expects for its job.
 use Rattle.std.proofs.Common.{◌≡◌, ℕ, ◌<◌, Bool, true, List, length, sym, ap, subst, ◌∙◌}
 use Rattle.std.specs.Prelude.{IsTrue, ◌↔◌, nat_lt}
 use Rattle.std.proofs.lemmas.Bool.{ltb-true}
@@ -53,7 +53,7 @@ own_of_expected x worker ticket command seq e answer right out is_command is_seq
       (λ own. both.1 (subst (λ (i : Input). IsOf i e) (sym own.input) mine)),
     )
 
--- what is brought back of an own job that is out
+-- a completed job of the core's own, which is out
 
 pub own_there : (core : GamesView) (worker : ℕ) (brought : TicketView) → IsOwn core worker brought → brought.input.job.game < length core.lanes
 own_there core worker brought own = ltb-true _ _ (and_both (nat_lt brought.input.job.game (length core.lanes)) _ own.out).0
@@ -64,7 +64,7 @@ own_out core worker brought own =
     let rest = (and_both (nat_lt brought.input.job.game (length core.lanes)) _ own.out).1 in
     (and_both (is_out worker (lane_of core.lanes brought.input.job.game) brought.input.job.kind brought.input.job.part) true rest).0
 
--- it is what the job comes to from what its lane shows
+-- its outcome is the job's, from the lane's view
 pub own_worked : (x : Lane) (worker : ℕ) (brought : Input) (out : Out) → IsRight x → brought ≡ input_of x worker brought.job → IsWorked brought out
     → out ≡ out_seen brought.job.kind brought.job.part (lane_view x) (lane_command x)
 own_worked x worker brought out right is worked =

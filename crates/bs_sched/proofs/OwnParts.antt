@@ -1,5 +1,5 @@
--- The parts of a move come back one after the other: each is still the core's own when those before
--- it are back.
+-- The parts of a move are completed one after the other: each is still the core's own once the ones
+-- before it are completed.
 use Rattle.std.proofs.Common.{◌≡◌, ◌≢◌, ℕ, zero, suc, ◌+◌, ◌<◌, true, false, ◌&&◌, List, [], ◌∷◌, length, Option, Some, None, refl, sym, ap, subst, ◌∙◌, arith, get_or, slice_index_or}
 use Rattle.std.specs.Prelude.{nat_lt, slice_set, slice_get, remove}
 use Rattle.std.specs.List.{list_all}
@@ -23,7 +23,7 @@ use Rattle.bs_sched.specs.Machine.{Setting, lane_of, is_enabled, is_enabled_ther
 use Rattle.bs_sched.specs.Parts.{IsOwnPart, AreOwnParts, part_job, core_run, puts_of}
 use Rattle.bs_sched.proofs.OwnJobs.{own_there, own_out}
 
--- a part that somebody has is not done, so not all are
+-- a part that is out is not done, so not all are
 not_all_done : (parts : List PartState) (worker q : ℕ) → has_part worker (get_or parts q part.Done) ≡ true → list_all is_part_done parts ≡ false
 not_all_done [] worker q has = let wrong : false ≡ true = has in absurd cc
 not_all_done (part.Ready ∷ parts) worker q has = refl
@@ -31,7 +31,7 @@ not_all_done (part.Out other ∷ parts) worker q has = refl
 not_all_done (part.Done ∷ parts) worker zero has = let wrong : false ≡ true = has in absurd cc
 not_all_done (part.Done ∷ parts) worker (suc q) has = not_all_done parts worker q has
 
--- one part is back, another is still out
+-- one part is completed, another is still out
 out_still : (x : Lane) (worker p q : ℕ) → p ≢ q → is_out worker x kind.Part q ≡ true → is_out worker (with_part_done p x) kind.Part q ≡ true
 out_still x worker p q other out =
     let both = and_both (is_in_parts x.stage) (has_part worker (part_at x q)) out in
@@ -41,7 +41,7 @@ out_still x worker p q other out =
     let left : list_all is_part_done (slice_set x.parts p part.Done) ≡ false = not_all_done (slice_set x.parts p part.Done) worker q has in
     rw (left, has) refl
 
--- the parts that are to come back, from the p-th on
+-- the parts still to be completed, from the p-th on
 abbrev pub AreOwnFrom : GamesView → ℕ → ℕ → List (Option TicketView) → Type 0
 AreOwnFrom games game p [] = Unit {0}
 AreOwnFrom games game p (one ∷ completed) = IsOwnPart games game p one × AreOwnFrom games game (p + 1) completed
@@ -60,7 +60,7 @@ pub from_all : (games : GamesView) (completed : List (Option TicketView)) (are :
 from_all games completed are =
     from_each games are.game 0 completed (λ i within. let none : i ≡ 0 + i = omega arith in subst (λ (k : ℕ). IsOwnPart games are.game k (slice_index_or completed i None)) none (are.each i within))
 
--- one of them is back, and another is still the core's own
+-- one of them is completed, and another is still the core's own
 own_still : (cap : ℕ) (games : GamesView) (game p q worker : ℕ) (one : Option TicketView) → p ≢ q → IsOwnPart games game q one
     → IsOwnPart (after cap games (event.Put worker (part_job game p))) game q one
 own_still cap games game p q worker one other own =
@@ -122,7 +122,7 @@ next_of cap old game p (Some done) rest own =
       refl,
     )
 
--- the first of those that are left is completed back
+-- the first of the remaining ones is completed
 pub next_part : (cap : ℕ) (old new : CoreView) (game p : ℕ) (items : List (Option TicketView)) (one : Option TicketView) → 0 < length items → AreOwnFrom old.games game p items
     → one ≡ slice_index_or items 0 one → new ≡ core_run cap old (puts_of (one ∷ [])) → NextPart cap old new game p items (remove items 0)
 next_part cap old new game p [] one some own is run = absurd (omega arith)
@@ -135,7 +135,7 @@ pub own_next : (games : GamesView) (game p : ℕ) (items : List (Option TicketVi
 own_next games game p [] one some own is = absurd (omega arith)
 own_next games game p (x ∷ rest) one some own is = subst (IsOwnPart games game p) (sym is) own.0
 
--- each is enabled where it comes
+-- each is enabled in its place
 enabled_from : (setting : Setting) (games : GamesView) (game p : ℕ) (completed : List (Option TicketView)) → setting.workers ≡ games.workers → AreOwnFrom games game p completed
     → are_enabled setting games.lanes (puts_of completed) ≡ true
 enabled_from setting games game p [] same own = refl

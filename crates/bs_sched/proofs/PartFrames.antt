@@ -20,9 +20,9 @@ use Rattle.bs_sched.specs.declared.stage.Stage.{Stage}
 use Rattle.bs_sched.specs.declared.stage.Stage.TheVariants as stage
 use Rattle.bs_sched.specs.declared.stage.PartState.{PartState}
 use Rattle.bs_sched.specs.declared.stage.PartState.TheVariants as part
-use Rattle.bs_counter.specs.Keys.{Key, AreKeys}
-use Rattle.bs_sched.specs.Frames.{FramesView, forked_frames, known, no_frames, with_bytes, with_keys, with_number, IsFrameOf, AreBegunFrames, ArePartFrames, AreFramesAt, AreFramesOf}
-use Rattle.bs_sched.specs.Keyed.{HasKeys}
+use Rattle.bs_counter.specs.Keys.{Key, TallyId}
+use Rattle.bs_sched.specs.Frames.{FramesView, forked_frames, idle_frames, known, with_bytes, with_keys, with_number, IsFrameOf, AreBegunFrames, ArePartFrames, AreFramesAt, AreFramesOf}
+use Rattle.bs_sched.specs.Keyed.{AreKeysOf, HasKeys}
 use Rattle.bs_sched.specs.Lane.{Lane, answered, forked, goes_on, has_begin, has_part, is_idle, is_in_parts, is_out, is_part_done, is_part_ready, with_part_done, is_ready, part_at, with_taken, lane_view, lane_command}
 
 in_parts : (s : Stage) → is_in_parts s ≡ true → s ≡ stage.Parts
@@ -58,7 +58,7 @@ one_less (Some n ∷ numbers) zero is = absurd (let wrong : Some (Some n) ≡ So
 one_less (None ∷ numbers) (suc p) is = let rest = one_less numbers p is in omega arith
 one_less (Some n ∷ numbers) (suc p) is = let rest = one_less numbers p is in omega arith
 
--- a part that is ready has no block, and one is left for it
+-- a ready part has no block, and one is free for it
 pub record IsFreePart (x : Lane) (p : ℕ) (f : FramesView) (pool : Ledger) : Type 0 where
   pub parts : x.stage ≡ stage.Parts
   pub within : p < length x.parts
@@ -80,7 +80,7 @@ free_part x p own f pool ready are =
     let free : slice_get f.numbers p ≡ Some None = number.1 ∙ ap (λ (o : Option ℕ). Some o) own_frame.0 in
     record { parts = parts; within = within; state = state; frames = frames; free = free; less = omega (arith, one_less f.numbers p free, are.few) }
 
--- the others' blocks stay
+-- the blocks of the other parts are unchanged
 
 get_set_same : {X : Type 0} (xs : List X) (p : ℕ) (y z : X) → slice_get (set xs p y) p ≡ Some z → y ≡ z
 get_set_same [] p y z is = absurd cc
@@ -94,7 +94,7 @@ get_set_other (x ∷ xs) zero (suc q) y z other is = is
 get_set_other (x ∷ xs) (suc p) zero y z other is = is
 get_set_other (x ∷ xs) (suc p) (suc q) y z other is = get_set_other xs p q y z (λ same. other (ap suc same)) is
 
--- a frame is of a part's view and command, which the taking of a part leaves
+-- a frame depends on a part's view and command, which taking the part leaves unchanged
 pub same_frame : (s : PartState) (x y : Lane) (p : ℕ) (number : Option ℕ) (bytes : Option (List ℕ)) → lane_view x ≡ lane_view y → lane_command x ≡ lane_command y
     → IsFrameOf s x p number bytes → IsFrameOf s y p number bytes
 same_frame part.Ready x y p number bytes view command is = is
@@ -133,7 +133,7 @@ taken_frames x f p worker number pool free = record {
               (same_frame (part_at x q) x (with_taken worker kind.Part p x) q n bytes refl refl here)
         ]
 
--- all that is so of a lane's frames after a part of it was taken
+-- the frames of a lane after a part of it was taken
 pub part_taken : (x y : Lane) (f h : FramesView) (p worker number : ℕ) (old new : Ledger) → is_ready x kind.Part p ≡ true → AreFramesOf f.tag x f old
     → y ≡ with_taken worker kind.Part p x → h ≡ with_number p number f → Holds f.tag (known (with_number p number f).numbers) new → new.reservations ≡ old.reservations
     → AreFramesOf f.tag y h new
@@ -152,7 +152,7 @@ part_taken x y f h p worker number old new ready are y_is h_is held reservations
     } in
     rw (y_is, h_is) whole
 
--- ---- a part comes back
+-- ---- a part is completed
 
 out_state : (worker : ℕ) (s : PartState) → has_part worker s ≡ true → s ≡ part.Out worker
 out_state worker part.Ready is = absurd cc
@@ -217,12 +217,12 @@ done_frames x f p worker bytes out bytes_are = record {
               subst (λ (s : PartState). IsFrameOf s (with_part_done p x) q n b) (sym state) (same_frame (part_at x q) x (with_part_done p x) q n b refl refl here)
         ]
 
--- ---- all parts are back
+-- ---- all parts are completed
 
 same_cons : {X : Type 0} (a b : X) (xs ys : List X) → a ≡ b → xs ≡ ys → (a ∷ xs) ≡ (b ∷ ys)
 same_cons a b xs ys head tail = rw (head, tail) refl
 
--- each of them done, from k on: their numbers, and what their blocks hold
+-- each of them is done, from k on: their numbers, and the bytes of their blocks
 all_back : (x : Lane) (parts : List PartState) (numbers : List (Option ℕ)) (bytes : List (Option (List ℕ))) (k : ℕ) → length numbers ≡ length parts → length bytes ≡ length parts
     → list_all is_part_done parts ≡ true
     → ((p : ℕ) (n : Option ℕ) (b : Option (List ℕ)) → slice_get numbers p ≡ Some n → slice_get bytes p ≡ Some b → IsFrameOf (slice_index_or parts p part.Done) x (k + p) n b)
@@ -255,7 +255,7 @@ done_or_not true x f is frames =
     (λ p n b n_is b_is. let none : 0 + p ≡ p = omega arith in rw none (frames.each p n b n_is b_is)) in
     record { all = back.0; bytes_are = back.1 }
 
--- all that is so of a lane's frames after a part of it came back
+-- the frames of a lane after a part of it was completed
 pub part_brought : (x y : Lane) (f h : FramesView) (p worker : ℕ) (bytes : List ℕ) (pool : Ledger) → is_out worker x kind.Part p ≡ true → AreFramesOf f.tag x f pool
     → y ≡ with_part_done p x → h ≡ with_bytes p bytes f → bytes ≡ frame_of (moved_part p (lane_view x) (lane_command x)) → AreFramesOf f.tag y h pool
 part_brought x y f h p worker bytes pool out are y_is h_is bytes_are =
@@ -300,31 +300,42 @@ idle_stage (stage.Begin worker) is = absurd cc
 idle_stage stage.Parts is = absurd cc
 idle_stage (stage.Join taker) is = absurd cc
 
-pub command_begun : (x y : Lane) (f h : FramesView) (worker p : ℕ) (keys : List Key) (pool : Ledger) → is_ready x kind.Begin p ≡ true → AreFramesOf f.tag x f pool
-    → y ≡ with_taken worker kind.Begin 0 x → h ≡ with_keys keys f → HasKeys (with_taken worker kind.Begin 0 x) keys → AreFramesOf f.tag y h pool
-command_begun x y f h worker p keys pool ready are y_is h_is has =
+-- before a command is begun no part has a block
+none_ready : (x : Lane) (f : FramesView) (p : ℕ) (pool : Ledger) → is_ready x kind.Begin p ≡ true → AreFramesOf f.tag x f pool → f ≡ idle_frames f.tag f.tally
+none_ready x f p pool ready are =
     let idle = idle_stage x.stage (and_parts (is_idle x.stage) (nat_lt 0 (length x.waiting)) (and_parts (nat_eq p 0) (is_idle x.stage && nat_lt 0 (length x.waiting)) ready).1).0 in
-    let none : f ≡ no_frames f.tag = subst (λ (s : Stage). AreFramesAt s x f) idle are.at in
-    let whole : AreFramesOf f.tag (with_taken worker kind.Begin 0 x) (with_keys keys f) pool =
-    record { tag = refl; held = are.held; room = are.room; few = are.few; at = record { none = ap (with_keys keys) none; keys = has } } in
+    subst (λ (s : Stage). AreFramesAt s x f) idle are.at
+
+pub command_begun : (x y : Lane) (f h : FramesView) (worker p : ℕ) (tally : Option TallyId) (keys : List Key) (pool : Ledger) → is_ready x kind.Begin p ≡ true → AreFramesOf f.tag x f pool
+    → y ≡ with_taken worker kind.Begin 0 x → h ≡ with_keys tally keys f → HasKeys (with_taken worker kind.Begin 0 x) tally keys → AreFramesOf f.tag y h pool
+command_begun x y f h worker p tally keys pool ready are y_is h_is has =
+    let none = none_ready x f p pool ready are in
+    let whole : AreFramesOf f.tag (with_taken worker kind.Begin 0 x) (with_keys tally keys f) pool =
+    record { tag = refl; held = are.held; room = are.room; few = are.few; at = record { none = ap (with_keys tally keys) none; keys = has } } in
     rw (y_is, h_is) whole
 
--- while a command is begun there is no frame, and a move that goes has its keys
+-- while a command is begun there is no frame, and an accepted move has its keys
 pub record IsToFork (x : Lane) (f : FramesView) : Type 0 where
   pub none : f.numbers ≡ []
   pub many : length f.keys ≡ parts_of (length (snakes_in (last_board x.game)))
   pub few : length f.keys ≤ 4
-  pub keys : AreKeys (parts_of (length (snakes_in (last_board x.game)))) f.keys
+  pub keys : AreKeysOf f.tally (length f.keys) f.keys
 
 pub to_fork : (x : Lane) (worker : ℕ) (f : FramesView) (pool : Ledger) → is_out worker x kind.Begin 0 ≡ true → goes_on x ≡ true → AreFramesOf f.tag x f pool → IsToFork x f
 to_fork x worker f pool out goes are =
     let at = at_begin worker x.stage (and_parts (nat_eq 0 0) (has_begin worker x.stage) out).1 in
     let begun : AreBegunFrames x f = subst (λ (s : Stage). AreFramesAt s x f) at are.at in
     let keys = begun.keys.each goes in
-    record { none = ap (λ (v : FramesView). v.numbers) begun.none; many = keys.1.all; few = begun.keys.few; keys = keys }
+    let many = keys.all.all in
+    record {
+      none = ap (λ (v : FramesView). v.numbers) begun.none;
+      many = many;
+      few = begun.keys.few;
+      keys = subst (λ (n : ℕ). AreKeysOf f.tally n f.keys) (sym many) keys;
+    }
 
 pub move_forked : (x y : Lane) (f h : FramesView) (worker : ℕ) (pool : Ledger) → is_out worker x kind.Begin 0 ≡ true → goes_on x ≡ true
-    → AreFramesOf f.tag x f pool → y ≡ forked x → h ≡ forked_frames f.tag (length f.keys) → AreFramesOf f.tag y h pool
+    → AreFramesOf f.tag x f pool → y ≡ forked x → h ≡ forked_frames f.tag f.tally (length f.keys) → AreFramesOf f.tag y h pool
 move_forked x y f h worker pool out goes are y_is h_is =
     let to = to_fork x worker f pool out goes are in
     let n = parts_of (length (snakes_in (last_board x.game))) in
@@ -333,7 +344,7 @@ move_forked x y f h worker pool out goes are y_is h_is =
     let numbers = length-replicate {A = Option ℕ} n None in
     let bytes = length-replicate {A = Option (List ℕ)} n None in
     let states = length-replicate n part.Ready in
-    let whole : AreFramesOf f.tag (forked x) (forked_frames f.tag n) pool =
+    let whole : AreFramesOf f.tag (forked x) (forked_frames f.tag f.tally n) pool =
     record {
       tag = refl;
       held = held;
@@ -343,7 +354,7 @@ move_forked x y f h worker pool out goes are y_is h_is =
     } in
     rw (y_is, h_is, to.many) whole
 
--- what another tag's blocks do to the pool leaves a lane's frames held
+-- a lane's frames are still owned, whatever another tag's blocks do to the pool
 pub held_beside : (own other : ℕ) (numbers : List ℕ) (old new : Ledger) → other ≢ own → LeavesOthers other old new → Holds own numbers old → Holds own numbers new
 held_beside own other numbers old new apart leaves holds = leaves.holds own numbers (λ same. apart (sym same)) holds
 
@@ -358,9 +369,9 @@ heap_beside cap own other x heap old new apart leaves is = record {
 }
 
 -- the frames of a lane that is answered
-pub frames_given : (x y : Lane) (f h : FramesView) (old new : Ledger) → AreFramesOf f.tag x f old → y ≡ answered x → h ≡ no_frames f.tag → Holds f.tag [] new
+pub frames_given : (x y : Lane) (f h : FramesView) (old new : Ledger) → AreFramesOf f.tag x f old → y ≡ answered x → h ≡ idle_frames f.tag f.tally → Holds f.tag [] new
     → new.reservations ≡ old.reservations → AreFramesOf f.tag y h new
 frames_given x y f h old new are y_is h_is held reservations =
-    let whole : AreFramesOf f.tag (answered x) (no_frames f.tag) new =
+    let whole : AreFramesOf f.tag (answered x) (idle_frames f.tag f.tally) new =
     record { tag = refl; held = held; room = ap (reserved_by f.tag) reservations ∙ are.room; few = omega arith; at = refl } in
     rw (y_is, h_is) whole

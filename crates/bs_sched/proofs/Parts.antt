@@ -34,7 +34,7 @@ seam_here f [] (suc i) d = refl
 seam_here f (x ∷ xs) zero d = refl
 seam_here f (x ∷ xs) (suc i) d = seam_here f xs i d
 
--- what is not mapped yet is as it was
+-- entries that are not mapped yet are unchanged
 pub seam : {X : Type 0} (f : X → X) (xs zs : List X) (i : ℕ) (d : X) → zs ≡ map f (take i xs) ++ drop i xs → get_or zs i d ≡ get_or xs i d
 seam f xs zs i d is = ap (λ all. get_or all i d) is ∙ seam_here f xs i d
 
@@ -47,7 +47,7 @@ seam_length f (x ∷ xs) (suc i) = ap suc (seam_length f xs i)
 pub same_length : {X : Type 0} (f : X → X) (xs zs : List X) (i : ℕ) → zs ≡ map f (take i xs) ++ drop i xs → length zs ≡ length xs
 same_length f xs zs i is = ap length is ∙ seam_length f xs i
 
--- one more slot is emptied, and what was in it collected
+-- one more slot is emptied, and its contents are collected
 pub emptied_next : (xs zs : List Slot) (i : ℕ) (x y : Slot) → zs ≡ map emptied (take i xs) ++ drop i xs → x ≡ get_or zs i x → i < length zs
     → y ≡ emptied x → slice_set zs i y ≡ map emptied (take (i + 1) xs) ++ drop (i + 1) xs
 emptied_next xs zs i x y is here within e = set_next emptied xs zs i x y is (slice_get_read zs (length zs) i x refl within here) e
@@ -79,7 +79,7 @@ few_collected (slot.Out worker ∷ slots) (suc i) = let rest = few_collected slo
 few_collected (slot.Done None ∷ slots) (suc i) = let rest = few_collected slots i in omega (arith, rest)
 few_collected (slot.Done (Some moved) ∷ slots) (suc i) = let rest = few_collected slots i in omega (arith, rest)
 
--- what all parts moved, by their numbers from k on
+-- the snakes moved by all parts, by their numbers from k on
 collected_from : (view : View) (command : Command) (slots : List Slot) (k : ℕ)
     → ((p : ℕ) → p < length slots → IsSlot false (k + p) view command (slice_index_or slots p slot.Ready))
     → list_all is_part_done (map state_of slots) ≡ true

@@ -1,5 +1,5 @@
--- Where the bytes of a game's records lie in the memory, and that what is written elsewhere leaves
--- them.
+-- Where the bytes of a game's records lie in the memory, and that writing elsewhere leaves them
+-- unchanged.
 use Rattle.std.proofs.Common.{◌≡◌, ◌≢◌, ℕ, ◌+◌, ◌-◌, ◌<◌, ◌≤◌, Bool, true, false, if◌then◌else◌, List, [], ◌∷◌, ◌++◌, length, map, take, drop, replicate, Option, Some, None, IsSome, refl, sym, ap, subst, ◌∙◌, arith, inl, inr, length-append}
 use Rattle.std.specs.Prelude.{All, AllPairs, option_to_list, slice_index_or, slice_set}
 use Rattle.std.proofs.Math.ListN.{get_or-map}
@@ -16,7 +16,7 @@ use Rattle.bs_heap.proofs.Entries.{range_front, map_agree}
 use Rattle.bs_heap.proofs.PackedPlaces.{apart_last}
 use Rattle.bs_sched.specs.Memory.{Memory, block_in, bytes_at, with_bytes, current_number}
 
--- the records lie at the places of the packing, and each block has so many bytes as the packing
+-- the records lie at the places of the packing, and each block has as many bytes as the packing
 -- uses
 pub record IsLaid (records : List (List ℕ)) (packing : Packing) (memory : Memory) : Type 0 where
   pub used : All (λ u. length (block_in memory u.number) ≡ u.used) (uses packing)
@@ -30,11 +30,11 @@ block_set memory number bytes within = get_or-set_same memory number bytes [] wi
 pub other_block : (memory : Memory) (number other : ℕ) (bytes : List ℕ) → other ≢ number → block_in (slice_set memory number bytes) other ≡ block_in memory other
 other_block memory number other bytes differ = get_or-set_other memory number other bytes [] differ
 
--- what is so of each block's number is so of the blocks
+-- what holds of each block's number holds of the blocks
 all_of_map : {X Y : Type 0} (Q : Y → Type 0) (f : X → Y) (xs : List X) → All Q (map f xs) → All (λ x. Q (f x)) xs
 all_of_map Q f xs all k d within = subst Q (get_or-map f xs k d) (all k (f d) (omega (arith, length-map xs f)))
 
--- only the bytes of its own blocks count
+-- only the bytes of its own blocks matter
 
 pub laid_elsewhere : (records : List (List ℕ)) (packing : Packing) (memory memory' : Memory) → AreApart packing
     → All (λ n. block_in memory' n ≡ block_in memory n) (numbers_of packing) → IsLaid records packing memory → IsLaid records packing memory'
@@ -49,12 +49,12 @@ laid_elsewhere records packing memory memory' apart same laid =
           ∙ laid.reads;
     }
 
--- nothing is laid
+-- there are no records
 
 pub laid_nothing : (memory : Memory) → IsLaid [] no_packing memory
 laid_nothing memory = record { used = λ k d within. absurd (omega (arith, within)); reads = refl }
 
--- the last record is left, in the current block
+-- only the last record is kept, in the current block
 
 pub laid_last : (records : List (List ℕ)) (packing : Packing) (memory : Memory) → IsLaid records packing memory
     → IsLaid (last_alone records) (packing_of_last packing) memory
@@ -72,7 +72,7 @@ pub laid_trimmed : (records : List (List ℕ)) (packing : Packing) (memory memor
 laid_trimmed records packing memory memory' apart same laid =
     laid_elsewhere (last_alone records) (packing_of_last packing) memory memory' (apart_last packing apart) same (laid_last records packing memory laid)
 
--- a record is written behind the bytes of the current block
+-- a record is appended to the current block
 
 module _ (closed : List Use) (u : Use) (places : List Place) (records : List (List ℕ)) (memory : Memory) (bytes : List ℕ) where
   abbrev old : Packing
@@ -141,7 +141,7 @@ last_differs ms n once = λ k d h e.
     let long = length_push ms n in
     once k (length ms) d h (omega (arith, long)) (get_or_append_left ms (n ∷ []) d k h ∙ e ∙ sym (get_or_push ms n d (length ms) refl))
 
--- a block that can be opened: no other one of the packing, and empty
+-- a block that can be opened: not one of the packing, and empty
 pub record IsFresh (number : ℕ) (packing : Packing) (memory : Memory) : Type 0 where
   pub known : number < length memory
   pub others : All (λ m. m ≢ number) (numbers_of packing)

@@ -1,4 +1,4 @@
--- What is set aside for the games of a plan, and that nothing is drawn of it yet.
+-- The reservations of the games of a plan, from which nothing is drawn yet.
 use Rattle.std.proofs.Common.{◌≡◌, ◌≢◌, ℕ, zero, suc, ◌+◌, ◌*◌, ◌<◌, ◌≤◌, true, false, List, [], ◌∷◌, ◌++◌, None, Some, length, slice_index_or, refl, ap, ◌∙◌, arith, inl, inr, All}
 use Rattle.std.proofs.lemmas.Bool.{cases_Bool, eqb-true, eq-eqb, ne_eqb}
 use Rattle.std.proofs.lemmas.List.Elements.{All-tail}
@@ -13,7 +13,7 @@ use Rattle.bs_pool.specs.Reservations.{is_of, reserved_by, all_reserved, without
 use Rattle.bs_heap.specs.HeldBlocks.{Holds}
 use Rattle.bs_sched.specs.PlanBlocks.{record_blocks, reservations_from, reservations_of}
 
--- no tag from some tag on has a reservation where all stand below it
+-- no tag from some tag on has a reservation if all reserved tags are below it
 none_above : (least tag : ℕ) (rs : List Reservation) → All (λ r. r.tag < least) rs → least ≤ tag → find (is_of tag) rs ≡ None
 none_above least tag [] below above = refl
 none_above least tag (r ∷ rs) below above =
@@ -47,7 +47,7 @@ more_above tag (first ∷ rs) r none other =
           rw differ (more_above tag rs r rest other)
     ]
 
--- where each game's record blocks stand
+-- the place of each game's record blocks among the reservations
 reserved_place : (cap from place at : ℕ) (rows : List GameRow) (d : GameRow) → at ≡ from + place → place < length rows
     → reserved_by (2 * at) (reservations_from cap from rows) ≡ record_blocks cap (slice_index_or rows place d)
 reserved_place cap from place at [] d is within = absurd (omega arith)
@@ -63,7 +63,7 @@ pub reserved_for_row : (cap game : ℕ) (rows : List GameRow) (d : GameRow) → 
     → reserved_by (2 * game) (reservations_of cap rows) ≡ record_blocks cap (slice_index_or rows game d)
 reserved_for_row cap game rows d within = reserved_place cap 0 game game rows d (omega arith) within
 
--- and where its frame blocks stand
+-- and the place of its frame blocks
 frames_place : (cap from place at : ℕ) (rows : List GameRow) → at ≡ from + place → place < length rows
     → reserved_by (2 * at + 1) (reservations_from cap from rows) ≡ FRAME_BLOCKS
 frames_place cap from place at [] is within = absurd (omega arith)
@@ -87,7 +87,7 @@ nothing_held blocks tag pool same =
       all = ap (count_by (is_owned_by tag)) same ∙ held_opened tag blocks;
     }
 
--- the two tags of a game stand behind those of the games before it
+-- the two tags of a game are above those of the games before it
 
 pub none_beside : (place blocks : ℕ) (pool : Ledger) → All (λ r. r.tag < 2 * place) pool.reservations
     → reservation_of (2 * place + 1) (with_reservation (2 * place) blocks pool) ≡ None
@@ -95,7 +95,7 @@ none_beside place blocks pool below =
     more_above (2 * place + 1) pool.reservations (record { tag = 2 * place; blocks = blocks })
     (none_above (2 * place) (2 * place + 1) pool.reservations below (omega arith)) (λ same. omega arith)
 
--- after its records' blocks a game's frame blocks can be set aside
+-- after its record blocks a game's frame blocks can be reserved
 pub frames_fit : (game tag blocks : ℕ) (pool reserved_pool : Ledger) → reserved_pool ≡ with_reservation (2 * game) blocks pool
     → All (λ r. r.tag < 2 * game) pool.reservations → all_reserved pool.reservations + (blocks + FRAME_BLOCKS) ≤ size pool → tag ≡ 2 * game
     → (reservation_of (tag + 1) reserved_pool ≡ None) × (FRAME_BLOCKS ≤ unreserved reserved_pool)
@@ -103,7 +103,7 @@ frames_fit game tag blocks pool reserved_pool is below room same =
     let left = unreserved_pushed (2 * game) blocks pool in
     (rw (is, same) (none_beside game blocks pool below), rw is (omega (arith, left)))
 
--- a reservation that was just made is taken back
+-- a reservation that was just made is ended
 
 removed_pushed : (tag n : ℕ) (rs : List Reservation) → find (is_of tag) rs ≡ None → without tag (rs ++ record { tag = tag; blocks = n } ∷ []) ≡ rs
 removed_pushed tag n [] none = let same : nat_eq tag tag ≡ true = eq-eqb tag tag refl in rw same refl
@@ -133,7 +133,7 @@ taken_back tag n old new sound none some is =
       same = ap (ledger_of old.owners) (removed_pushed tag n old.reservations none);
     })
 
--- both reservations of a stay go
+-- both reservations of a stay are ended
 
 pub first_released : (game tag : ℕ) (pool : Ledger) → tag ≡ 2 * game → 0 < reserved (2 * game) pool → held (2 * game) pool ≡ 0
     → IsSome (reservation_of tag pool) × (held tag pool ≡ 0)

@@ -1,4 +1,4 @@
--- A stay comes, plays a turn by all of a move's jobs, and leaves.
+-- A stay is admitted, plays a turn by all jobs of a move, and leaves.
 use Rattle.std.proofs.Common.{◌≡◌, ℕ, ◌-◌, true, false, List, [], ◌∷◌, length, None, refl, ap, ◌∙◌, arith}
 use Rattle.std.specs.Prelude.{nat_eq, nat_le, nat_lt, codes, map, pos}
 use Rattle.std.proofs.lemmas.Bool.{and_from, eq-eqb, leb-true, le-ltb}

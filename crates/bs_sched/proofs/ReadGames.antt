@@ -1,4 +1,4 @@
--- What is read of one game of a core.
+-- What is read from one game of a core.
 use Rattle.std.proofs.Common.{◌≡◌, ℕ, ◌<◌, true, [], length, map, sym, ap, ◌∙◌, inl, inr}
 use Rattle.std.proofs.lemmas.Bool.{cases_Bool, cond-false, cond-true}
 use Rattle.bs_board.specs.records.Record.{record_of}
@@ -12,11 +12,11 @@ use Rattle.bs_sched.specs.Machine.{lane_of}
 use Rattle.bs_sched.specs.Courses.{IsRight}
 use Rattle.bs_sched.specs.Lane.{Lane, kept_of}
 
--- the records are charged what the lane's boards are
+-- the charge of the records is that of the lane's boards
 pub charge_of_boards : (x : Lane) (heap : Heap) (charge : ℕ) → IsRight x → KeepsBoards x heap → charge ≡ charge_of heap.records → charge ≡ game_charge x.game
 charge_of_boards x heap charge right kept is = is ∙ same_charge x.game heap.records (record { right = right.right; is = kept.records })
 
--- the records that the heap has are those that are kept of the stay
+-- the records in the heap are the kept ones of the stay
 pub kept_at : (cap : ℕ) {at : ℕ} (c : Inside at) (game : ℕ) → IsSound cap c → game < length c.fibers.items
     → (heap_of c.heaps.items game).records ≡ kept_of (lane_of c.fibers.items game)
 kept_at cap c game sound within =

@@ -56,7 +56,7 @@ wiped_drawn tag number pool memory at was_wiped other free =
       | inr differ ↦ was_wiped other (sym (get_beside_set pool.owners number other (Some tag) differ) ∙ free)
     ]
 
--- a block without bytes comes back
+-- a block without bytes is given back
 wiped_bare : (number : ℕ) (pool : Ledger) (memory : Memory) → block_in memory number ≡ [] → AreWiped pool memory → AreWiped (given number pool) memory
 wiped_bare number pool memory bare was_wiped other free =
     elim (cases_eq other number) [
@@ -81,7 +81,7 @@ free_all_given tag (number ∷ numbers) pool owned =
     let rest = free_all_given tag numbers (given number pool) (owned_tail tag number numbers pool owned) in
     omega (arith, one, rest)
 
--- what an effect on the frames asks for
+-- the condition of an effect on the frames
 abbrev pub MayFrame : FrameEffect → List (Option ℕ) → Ledger → Type 0
 MayFrame Keeps numbers pool = Unit {0}
 MayFrame (Forks parts) numbers pool = known numbers ≡ []
@@ -194,7 +194,7 @@ framed_changed game lanes frames pool pool' memory y numbers framed within new b
           ];
     }
 
--- a stay comes
+-- a stay is admitted
 pub framed_comes : (lanes : List Lane) (frames : List (List (Option ℕ))) (pool : Ledger) (memory : Memory) (y : Lane) → AreFramed lanes frames pool memory
     → Holds (frame_tag (length lanes)) [] pool → AreBegun y [] → AreFramed (lanes ++ y ∷ []) (frames ++ [] ∷ []) pool memory
 framed_comes lanes frames pool memory y framed nothing begun =

@@ -22,7 +22,7 @@ use Rattle.bs_sched.proofs.RegistryRefusals.{admits_by_registry}
 use Rattle.bs_sched.proofs.LoneLanes.{step_enabled, step_refused}
 use Rattle.bs_sched.proofs.RightRuns.{well_run, well_opened}
 
--- a job and a command leave it
+-- a job or a command leaves it unchanged
 
 stay_taken : (x : Lane) (worker : ℕ) (k : JobKind) (p : ℕ) → stay_of (with_taken worker k p x) ≡ stay_of x
 stay_taken x worker kind.Begin p = refl
@@ -122,7 +122,7 @@ none_if : (b : Bool) → (let none : List Command = [] in if b then none else no
 none_if true = refl
 none_if false = refl
 
--- what one event hands to the stay, where it is enabled
+-- the command that one event queues for the stay, if it is enabled
 handed_once : (game : ℕ) (e : Event) → (if is_named game e then commands_in (alone_event e ∷ []) else []) ≡ commands_to game (e ∷ [])
 handed_once game (event.Hand row command) = refl
 handed_once game (event.Take worker job) = none_if (nat_eq job.game game)

@@ -1,4 +1,4 @@
--- The registry tells who may come, and the first reason against it.
+-- The registry decides which rows may be admitted, and the first reason against a row.
 use Rattle.std.proofs.Common.{◌≡◌, ℕ, ◌-◌, ◌<◌, ◌≤◌, true, false, ◌&&◌, if◌then◌else◌, List, [], ◌∷◌, Some, None, refl, ◌∙◌, arith}
 use Rattle.std.specs.Prelude.{count_by, nat_le}
 use Rattle.std.specs.List.{list_any}
@@ -38,7 +38,7 @@ blocks_told cap (x ∷ lanes) =
 pub admits_by_registry : (setting : Setting) (lanes : List Lane) (row : GameRow) → may_admit setting lanes row ≡ may_admit_in (capacity_of setting) (registry_of lanes) row
 admits_by_registry setting lanes row = rw (named_in row lanes, counted_in lanes, blocks_told setting.cap lanes, length-map lanes stay_of) refl
 
--- what is judged of the lanes is what is judged of their registry
+-- the lanes give the same reasons as their registry
 told_in_order : (setting : Setting) (lanes : List Lane) (row : GameRow)
     → first_refusal (capacity_of setting) (registry_of lanes) row
     ≡ refusal_in_order (list_any (has_name row) lanes) (is_full lanes) (blocks_of setting.cap row) (setting.blocks - open_blocks setting.cap lanes)

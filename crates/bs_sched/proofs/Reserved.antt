@@ -1,4 +1,4 @@
--- What is set aside for the open stays.
+-- The reservations of the open stays.
 use Rattle.std.proofs.Common.{◌≡◌, ◌≢◌, ℕ, zero, suc, ◌+◌, ◌-◌, ◌*◌, ◌<◌, ◌≤◌, true, false, List, [], ◌∷◌, ◌++◌, length, refl, sym, ◌∙◌, arith, inl, inr}
 use Rattle.std.specs.Prelude.{◌⊎◌, All, AllPairs, not, slice_set}
 use Rattle.std.proofs.lemmas.Bool.{cases_eq, cases_lt}
@@ -26,12 +26,12 @@ use Rattle.bs_sched.proofs.RightRuns.{opened_lane}
 pub enough : (cap game : ℕ) (row : GameRow) (rs : List Reservation) → IsReserved cap game row rs → record_blocks cap row ≤ reserved_by (record_tag game) rs
 enough cap game row rs is = let records = is.records in omega (arith, records)
 
--- in another number of blocks
+-- with another number of blocks
 pub with_room : (cap blocks blocks' : ℕ) (lanes : List Lane) (rs : List Reservation) → AreReserved cap blocks lanes rs → open_blocks cap lanes ≤ blocks'
     → AreReserved cap blocks' lanes rs
 with_room cap blocks blocks' lanes rs are room = record { within = are.within; distinct = are.distinct; room = room; below = are.below; each = are.each }
 
--- a lane changes, and is open as before
+-- a lane changes, and not whether it is open
 
 pub reserved_changed : (cap blocks game : ℕ) (lanes : List Lane) (rs : List Reservation) (y : Lane) → AreReserved cap blocks lanes rs → game < length lanes
     → y.row ≡ (lane_of lanes game).row → y.is_open ≡ (lane_of lanes game).is_open → AreReserved cap blocks (slice_set lanes game y) rs
@@ -111,7 +111,7 @@ reserved_left cap blocks game lanes rs y are within stands shut =
           ];
     }
 
--- a stay comes
+-- a stay is admitted
 
 abbrev pub more_of : ℕ → ℕ → GameRow → List Reservation → List Reservation
 more_of cap game row rs = (rs ++ record { tag = record_tag game; blocks = record_blocks cap row } ∷ []) ++ record { tag = frame_tag game; blocks = FRAME_BLOCKS } ∷ []
@@ -176,7 +176,7 @@ reserved_comes cap blocks lanes rs row are fits =
           ];
     }
 
--- a core that was just opened
+-- a newly opened core
 
 reserved_from : (cap from : ℕ) (rows : List GameRow) → all_reserved (reservations_from cap from rows) ≡ blocks_of_all cap rows
 reserved_from cap from [] = refl

@@ -1,4 +1,4 @@
--- What a fiber keeps says that its lane is right.
+-- The invariant of a fiber implies that its lane is right.
 use Rattle.std.proofs.Common.{◌≡◌, ℕ, zero, suc, [], ◌∷◌, ◌-◌, ◌≤◌, true, false, List, length, take, refl, ap, ◌∙◌, arith, inl, inr}
 use Rattle.std.specs.Prelude.{All, Some, None, drop, is_some, nat_eq}
 use Rattle.std.proofs.lemmas.Bool.{and_from, cases_Bool, eq-eqb, not-false}
@@ -20,7 +20,7 @@ take_less (suc n) zero xs less = absurd (omega arith)
 take_less (suc n) (suc m) [] less = refl
 take_less (suc n) (suc m) (x ∷ xs) less = ap (λ rest. x ∷ rest) (take_less n m xs (omega arith))
 
--- the commands that are answered, as the fiber counts them
+-- the answered commands, as the fiber counts them
 answered_in : (f : Inside) → f.begun ≤ length f.commands.items
     → answered_commands (lane_in f) ≡ take (answered_count f.stage f.begun) f.commands.items
 answered_in f within =
@@ -55,7 +55,7 @@ right_lane f kept =
       moves = playing_of f.stage f kept.stage;
     }
 
--- who has left has nothing to do
+-- a stay that has left is idle
 pub quiet_lane : (f : Inside) → IsFiber f → (lane_in f).is_open ≡ false → is_quiet (lane_in f) ≡ true
 quiet_lane f kept shut =
     let closed = kept.closed (not-false (is_some f.left) shut) in

@@ -1,4 +1,4 @@
--- Each lane stays right, whatever events come.
+-- Each lane stays right, whatever events follow.
 use Rattle.std.proofs.Common.{◌≡◌, ℕ, ◌+◌, ◌-◌, ◌<◌, ◌≤◌, Bool, true, false, List, [], ◌∷◌, ◌++◌, length, take, refl, sym, ap, ◌∙◌, arith, inl, inr}
 use Rattle.std.specs.Prelude.{Some, None, if◌then◌else◌, nat_eq, slice_set, slice_index_or, All}
 use Rattle.std.specs.List.{list_all}
@@ -31,7 +31,7 @@ use Rattle.bs_sched.specs.Machine.{Setting, lane_of, game_of, row_in, is_admit, 
 use Rattle.bs_sched.proofs.Lanes.{ready_part, out_part}
 use Rattle.bs_sched.proofs.LoneLanes.{comer, changed, cases_step}
 
--- what an event that is allowed says of the stage
+-- the stage in which an event is allowed
 
 begin_busy : (worker : ℕ) (s : Stage) → has_begin worker s ≡ true → (is_idle s ≡ false) × (is_playing s ≡ false)
 begin_busy worker stage.Idle has = let wrong : false ≡ true = has in absurd cc
@@ -154,7 +154,7 @@ right_with_stage x s parts right busy still moves =
       moves = moves;
     }
 
--- the parts of a move that is played
+-- the parts of a move in progress
 
 still_moves : (x : Lane) (s : Stage) (p : ℕ) (new : PartState) → IsMove x → IsMove (record x { stage = s; parts = slice_set x.parts p new })
 still_moves x s p new move = record { goes = move.goes; parts = length-set x.parts p new ∙ move.parts }
@@ -224,7 +224,7 @@ right_after x (event.Admit row) right fits allowed = right
 right_after x (event.Leave game) right fits allowed =
     right_with_flag x false right
 
--- who has left has nothing to do, so what is allowed is so while it is open
+-- a stay that has left is idle, so an event is allowed only while the stay is open
 
 pub open_busy : (x : Lane) → (x.is_open ≡ false → is_quiet x ≡ true) → is_quiet x ≡ false → x.is_open ≡ true
 open_busy x closed busy =
@@ -259,7 +259,7 @@ open_when x (event.Put worker job) well allowed = open_of x well (busy_out x wor
 open_when x (event.Admit row) well allowed = let wrong : false ≡ true = allowed in absurd cc
 open_when x (event.Leave game) well allowed = (and_both x.is_open (is_quiet x) allowed).0
 
--- only leaving closes a stay
+-- only a leave closes a stay
 
 pub open_taken : (x : Lane) (worker : ℕ) (k : JobKind) (p : ℕ) → (with_taken worker k p x).is_open ≡ x.is_open
 open_taken x worker kind.Begin p = refl
@@ -289,7 +289,7 @@ pub well_after : (x : Lane) (e : Event) → IsWell x → HandsFit e → is_allow
 well_after x e well fits allowed =
     record { right = right_after x e well.right fits allowed; closed = closed_after x e (open_when x e well allowed) allowed }
 
--- a lane that was just opened
+-- a newly opened lane
 
 right_empty : (row : GameRow) → row.quota ≤ MOST_QUOTA → IsRight (empty_lane row)
 right_empty row small =

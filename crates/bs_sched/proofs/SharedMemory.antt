@@ -41,7 +41,7 @@ use Rattle.bs_sched.proofs.RightRuns.{AreWell}
 abbrev pub packing_at : List Packing → ℕ → Packing
 packing_at packings game = slice_index_or packings game no_packing
 
--- of a stay that has left nothing is kept
+-- a stay that has left keeps nothing
 pub record IsGone (tag : ℕ) (packing : Packing) (pool : Ledger) : Type 0 where
   pub none : packing ≡ no_packing
   pub held : Holds tag [] pool
@@ -61,10 +61,10 @@ pub record AreStored (cap blocks framed : ℕ) (lanes : List Lane) (packings : L
   pub numbers : size pool ≡ blocks
   pub bytes : length memory ≡ blocks
   pub kept : (game : ℕ) → game < length lanes → KeepsLane cap game (lane_of lanes game) (packing_at packings game) pool memory
-  -- no tag but the stays' own has a block
+  -- only the stays' tags own blocks
   pub rest : (tag : ℕ) → IsNoStays (length lanes) tag → Holds tag [] pool
   pub wiped : AreWiped pool memory
-  -- so many blocks hold parts of moves
+  -- the number of blocks that hold parts of moves
   pub counts : free pool + (all_held packings + framed) ≡ blocks
 
 -- a block can be drawn
@@ -160,7 +160,7 @@ module _ (cap blocks framed : ℕ) (lanes : List Lane) (packings : List Packing)
       let numbers = stored.numbers in
       some_is (least_free pool) (first_some is_unowned pool.owners (omega (arith, left, all, within, room, numbers, less)))
 
-  -- a part that can be taken has a block
+  -- a part that can be taken has a place for its block
   pub frame_there : (game p : ℕ) → game < length lanes → (lane_of lanes game).is_open ≡ true → is_ready (lane_of lanes game) kind.Part p ≡ true
       → least_free pool ≡ Some (next_number pool)
   frame_there game p within stands ready =
@@ -278,7 +278,7 @@ stored_reserved cap blocks framed lanes packings pool memory rs stored each =
       counts = stored.counts;
     }
 
--- a stay comes
+-- a stay is admitted
 
 pub kept_nothing : (cap quota tag : ℕ) (pool : Ledger) (memory : Memory) → Holds tag [] pool → blocks_for cap quota ≤ reserved tag pool
     → IsKept cap quota tag [] no_packing pool memory
@@ -292,7 +292,7 @@ kept_nothing cap quota tag pool memory held room =
       reserved = room;
     }
 
--- its blocks are set aside by then
+-- its blocks are reserved by then
 pub stored_comes : (cap blocks framed : ℕ) (lanes : List Lane) (packings : List Packing) (pool : Ledger) (memory : Memory) (row : GameRow)
     → AreStored cap blocks framed lanes packings pool memory → IsReserved cap (length lanes) row pool.reservations
     → AreStored cap blocks framed (lanes ++ empty_lane row ∷ []) (packings ++ no_packing ∷ []) pool memory

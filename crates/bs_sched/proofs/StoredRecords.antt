@@ -1,5 +1,5 @@
--- What an answer does to the records of one game, to its blocks and to their bytes, and what it
--- leaves of all else.
+-- The effect of an answer on the records of one game, on its blocks and on their bytes, and that
+-- all else is unchanged.
 use Rattle.std.proofs.Common.{◌≡◌, ◌≢◌, ℕ, zero, suc, ◌+◌, ◌<◌, ◌≤◌, Bool, true, false, if◌then◌else◌, List, [], ◌∷◌, ◌++◌, length, map, slice_get, Option, Some, None, IsSome, refl, sym, ap, subst, ◌∙◌, arith, inl, inr}
 use Rattle.std.specs.Prelude.{All, AllPairs, option_to_list, slice_index_or, slice_set}
 use Rattle.std.proofs.lemmas.Bool.{cases_eq, cases_lt}
@@ -52,7 +52,7 @@ pub record IsChanged (cap quota tag : ℕ) (records : List (List ℕ)) (packing 
   pub size : size new_pool ≡ size pool
   pub many : length new_memory ≡ length memory
 
--- reading behind a write
+-- reading elsewhere than a write
 
 get_beside_set : (xs : List (Option ℕ)) (i j : ℕ) (y : Option ℕ) → j ≢ i → slice_get (slice_set xs i y) j ≡ slice_get xs j
 get_beside_set xs i j y differ =
@@ -156,7 +156,7 @@ module _ (cap quota tag : ℕ) (packing : Packing) (pool : Ledger) (memory : Mem
         many = many_wiped numbers memory;
       }
 
-  -- the current block is no closed one
+  -- the current block is not a closed one
   current_stays : (o : Option Use) → AllPairs (λ m n. m ≢ n) (map (λ u. u.number) packing.closed ++ map (λ u. u.number) (option_to_list o))
       → All (λ n. block_in (wiped (closed_numbers packing) memory) n ≡ block_in memory n) (map (λ u. u.number) (option_to_list o))
   current_stays None once = λ k d within. absurd (omega (arith, within))
@@ -209,7 +209,7 @@ wiped_by : (b : Bool) (tag number : ℕ) (pool : Ledger) (memory : Memory) → (
 wiped_by true tag number pool memory at was_wiped = was_wiped
 wiped_by false tag number pool memory at was_wiped = wiped_drawn tag number pool memory (at refl) was_wiped
 
--- writing to a block that somebody owns
+-- writing to an owned block
 wiped_written : (tag number : ℕ) (bytes : List ℕ) (pool : Ledger) (memory : Memory) → Owns tag number pool → AreWiped pool memory → AreWiped pool (with_bytes number bytes memory)
 wiped_written tag number bytes pool memory owns was_wiped other free =
     let differ : other ≢ number = λ same. let here : slice_get pool.owners number ≡ Some None = rw (← same) free in let wrong : Some (Some tag) ≡ Some None = sym owns ∙ here in absurd cc in

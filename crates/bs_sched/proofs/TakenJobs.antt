@@ -1,4 +1,4 @@
--- A lane of which a job was taken, or was not for want of memory.
+-- A lane from which a job was taken, or was not because memory ran out.
 use Rattle.std.proofs.Common.{◌≡◌, ℕ, ◌<◌, ◌≤◌, true, Result, Ok, Err, refl, ap, ◌∙◌, arith}
 use Rattle.std.specs.Prelude.{OnOk, OnErr}
 use Rattle.bs_fiber.specs.declared.job.JobKind.{JobKind}
@@ -33,7 +33,7 @@ same_boards (Ok value) x y worker k p taken same =
     record { row = ap (λ (z : Lane). z.row) taken ∙ boards.row; flag = ap (λ (z : Lane). z.is_open) taken ∙ boards.flag; game = ap (λ (z : Lane). z.game) taken ∙ boards.game }
 same_boards (Err error) x y worker k p taken same = record { row = ap (λ (z : Lane). z.row) same; flag = ap (λ (z : Lane). z.is_open) same; game = ap (λ (z : Lane). z.game) same }
 
--- there is room for a record where one may come
+-- there is room for a record if one may be added
 pub taken_room : {A B : Type 0} (result : Result A B) (x y : Lane) (before after : ℕ) → OnOk result (0 < after) → OnErr result (y ≡ x)
     → (may_answer x.stage ≡ true → 0 < before) → before ≤ after → may_answer y.stage ≡ true → 0 < after
 taken_room (Ok value) x y before after some same room more may = some
@@ -49,7 +49,7 @@ pub errs_both : {A B : Type 0} (P Q : Type 0) (result : Result A B) → OnErr re
 errs_both P Q (Ok value) p q = tt
 errs_both P Q (Err error) p q = (p, q)
 
--- the frames are the lane's again
+-- the frames still match the lane
 pub taken_frames : {A B : Type 0} (result : Result A B) (own : ℕ) (x y : Lane) (f h : FramesView) (old new : Ledger) → OnOk result (AreFramesOf own y h new)
     → OnErr result (y ≡ x) → OnErr result (h ≡ f) → OnErr result (new ≡ old) → AreFramesOf own x f old → AreFramesOf own y h new
 taken_frames (Ok value) own x y f h old new are lane frames pool before = are

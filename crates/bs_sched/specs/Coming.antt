@@ -1,4 +1,4 @@
--- What `admit` and `leave` answer, and make of a core.
+-- What `admit` and `leave` return, and the core after them.
 use Rattle.std.specs.Prelude.{◌≡◌, ℕ, true, false, List, length, Option, Some, None, Result, MatchResult}
 use Rattle.bs_board.specs.plans.Plan.{GameRow}
 use Rattle.bs_sched.specs.declared.event.Event.TheVariants as event
@@ -13,7 +13,7 @@ use Rattle.bs_sched.specs.Machine.{Setting, lane_of, may_admit}
 use Rattle.bs_sched.specs.Registry.{capacity_of, registry_of}
 use Rattle.bs_sched.specs.Stays.{first_refusal}
 
--- the first reason against the row; want of memory comes only where there is none
+-- the first reason against the row; `Memory` only if there is none
 abbrev pub IsFirstRefusal : Option Admit → Admit → Type 0
 IsFirstRefusal found admit.NameOpen = found ≡ Some admit.NameOpen
 IsFirstRefusal found admit.Full = found ≡ Some admit.Full
@@ -23,7 +23,7 @@ IsFirstRefusal found admit.Memory = found ≡ None
 abbrev pub RefusesAdmit : Setting → List Lane → GameRow → Admit → Type 0
 RefusesAdmit setting lanes row = IsFirstRefusal (first_refusal (capacity_of setting) (registry_of lanes) row)
 
--- the stay has the next row, and its event was enabled; or the core is as before
+-- the stay has the next row, and its event was enabled; or the core is unchanged
 abbrev pub Admits : ℕ → CoreView → GameRow → Result ℕ Admit → CoreView → Type 0
 Admits cap old row answer new =
     MatchResult answer
@@ -36,7 +36,7 @@ RefusesLeave x leave.Closed = x.is_open ≡ false
 RefusesLeave x leave.Busy = (x.is_open ≡ true) × (is_quiet x ≡ false)
 RefusesLeave x leave.Memory = may_leave x ≡ true
 
--- the stay is closed, and its event was enabled; or the core is as before
+-- the stay is closed, and its event was enabled; or the core is unchanged
 abbrev pub Leaves : {U : Type 0} → ℕ → CoreView → ℕ → Result U Leave → CoreView → Type 0
 Leaves cap old game answer new =
     MatchResult answer

@@ -1,5 +1,5 @@
--- What is so of each lane between two events: its replies and its boards are those of its commands'
--- course.
+-- The invariant of a lane between two events: its replies and its boards are those of the course of
+-- its answered commands.
 use Rattle.std.specs.Prelude.{◌≡◌, ◌-◌, ◌≤◌, ◌<◌, true, false, if◌then◌else◌, List, length, take, All}
 use Rattle.bs_board.specs.declared.limits.TheConstants.{MOST_QUOTA}
 use Rattle.bs_board.specs.declared.commands.command.Command.{Command}
@@ -9,7 +9,7 @@ use Rattle.bs_game.specs.Game.{IsGame, last_board, game_charge}
 use Rattle.bs_fiber.specs.Work.{parts_of, snakes_in}
 use Rattle.bs_sched.specs.Lane.{Lane, goes_on, is_idle, is_playing}
 
--- the commands that have their reply: all that were taken but the one that the lane is at
+-- the commands that have a reply: all that were taken, except the one in progress
 abbrev pub answered_commands : Lane → List Command
 answered_commands x = if is_idle x.stage then x.taken else take (length x.taken - 1) x.taken
 
@@ -17,7 +17,7 @@ pub record IsOnCourse (x : Lane) : Type 0 where
   pub replies : x.replies ≡ (course_of x.row.quota (answered_commands x)).replies
   pub game : x.game ≡ (course_of x.row.quota (answered_commands x)).game
 
--- a move in its parts goes, and has as many parts as its board needs
+-- a move whose parts are in progress is an accepted one, and has as many parts as its board needs
 pub record IsMove (x : Lane) : Type 0 where
   pub goes : goes_on x ≡ true
   pub parts : length x.parts ≡ parts_of (length (snakes_in (last_board x.game)))

@@ -1,4 +1,4 @@
--- What an event does to the frame blocks of the game that it names, which its lane tells.
+-- The effect of an event on the frame blocks of its game, determined by the lane.
 use Rattle.std.specs.Prelude.{ℕ, Bool, true, false, if◌then◌else◌, List, [], length, map, replicate, Option, Some, None, slice_set}
 use Rattle.bs_pool.specs.Ledger.{Ledger, drawn}
 use Rattle.bs_heap.specs.HeldBlocks.{all_given, next_number}
@@ -12,7 +12,7 @@ use Rattle.bs_sched.specs.Frames.{known}
 use Rattle.bs_sched.specs.Lane.{Lane, forked, goes_on, is_playing}
 use Rattle.bs_sched.specs.Storage.{Storage, frame_tag, frames_of}
 
--- nothing; so many parts become ready; a block is drawn for one of them; all blocks go back
+-- nothing; that many parts become ready; a block is drawn for one part; all blocks are given back
 pub data FrameEffect : Type 0 where
   Keeps : FrameEffect
   Forks : ℕ → FrameEffect
@@ -36,7 +36,7 @@ frame_effect (event.Put worker job) x = brought_effect job.kind x
 frame_effect (event.Admit row) x = Keeps
 frame_effect (event.Leave game) x = Keeps
 
--- by the parts of the game's move; a block that is drawn has the pool's next number
+-- by part of the game's move; a block that is drawn has the pool's next number
 abbrev pub numbers_after : FrameEffect → List (Option ℕ) → Ledger → List (Option ℕ)
 numbers_after Keeps numbers pool = numbers
 numbers_after (Forks parts) numbers pool = replicate parts None
@@ -57,7 +57,7 @@ framed_by f game storage =
       pool = pool_framed f (frame_tag game) (frames_of storage game) storage.pool;
     }
 
--- Which parts of the move that a lane is at have a block: those that were taken.
+-- The parts of the lane's move that have a block are those that were taken.
 
 abbrev pub is_begun : PartState → Bool
 is_begun part.Ready = false

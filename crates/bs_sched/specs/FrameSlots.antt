@@ -4,7 +4,9 @@ use Rattle.bs_pool.specs.declared.owned.Owned.{Owned}
 use Rattle.bs_sched.specs.declared.frames.Frames.TheInside.{Inside}
 use Rattle.bs_sched.specs.declared.frames.FrameSlot.{FrameSlot}
 use Rattle.bs_sched.specs.declared.frames.FrameSlot.TheVariants as slot
+use Rattle.bs_counter.specs.Keys.{TallyId}
 use Rattle.bs_sched.specs.Frames.{FramesView}
+use Rattle.bs_sched.specs.Keyed.{IsKeyAt}
 
 abbrev pub number_in : {most : ℕ} → FrameSlot most → Option ℕ
 number_in (slot.Ready key) = None
@@ -26,31 +28,31 @@ is_ready_slot (slot.Ready key) = true
 is_ready_slot (slot.Out number) = false
 is_ready_slot (slot.Back owned) = false
 
--- the slot without what is back
+-- the slot before its block was completed
 abbrev pub sent_off : {most : ℕ} → FrameSlot most → FrameSlot most
 sent_off (slot.Ready key) = slot.Ready key
 sent_off (slot.Out number) = slot.Out number
 sent_off (slot.Back owned) = slot.Out owned.number
 
--- a block that is back is the tag's
+-- a block in the slot is the tag's
 abbrev pub IsSlotOf : {most : ℕ} → ℕ → FrameSlot most → Type 0
 IsSlotOf tag (slot.Ready key) = Unit {0}
 IsSlotOf tag (slot.Out number) = Unit {0}
 IsSlotOf tag (slot.Back owned) = owned.tag ≡ tag
 
 abbrev pub view_in : {most : ℕ} → Inside most → FramesView
-view_in f = record { tag = f.tag; keys = f.keys.items; numbers = map number_in f.slots.items; bytes = map bytes_in f.slots.items }
+view_in f = record { tag = f.tag; tally = f.tally; keys = f.keys.items; numbers = map number_in f.slots.items; bytes = map bytes_in f.slots.items }
 
--- a part that is ready has its own key
-abbrev pub IsReadyAt : {most : ℕ} → ℕ → FrameSlot most → Type 0
-IsReadyAt p (slot.Ready key) = key.part ≡ p
-IsReadyAt p (slot.Out number) = Unit {0}
-IsReadyAt p (slot.Back owned) = Unit {0}
+-- a part that is ready has its own key at the tally of the move
+abbrev pub IsReadyAt : {most : ℕ} → Option TallyId → ℕ → ℕ → FrameSlot most → Type 0
+IsReadyAt tally parts p (slot.Ready key) = IsKeyAt tally parts p key
+IsReadyAt tally parts p (slot.Out number) = Unit {0}
+IsReadyAt tally parts p (slot.Back owned) = Unit {0}
 
-abbrev pub AreReadyAt : {most : ℕ} → List (FrameSlot most) → Type 0
-AreReadyAt slots = (p : ℕ) → p < length slots → IsReadyAt p (slice_index_or slots p (slot.Out 0))
+abbrev pub AreReadyAt : {most : ℕ} → Option TallyId → List (FrameSlot most) → Type 0
+AreReadyAt tally slots = (p : ℕ) → p < length slots → IsReadyAt tally (length slots) p (slice_index_or slots p (slot.Out 0))
 
 pub record AreFrames {most : ℕ} (f : Inside most) : Type 0 where
   pub slots : All (IsSlotOf f.tag) f.slots.items
-  pub ready : AreReadyAt f.slots.items
+  pub ready : AreReadyAt f.tally f.slots.items
   pub room : 4 ≤ vec_capacity f.slots

@@ -1,6 +1,7 @@
 -- How the stays of a core lie in their fields.
-use Rattle.std.specs.Prelude.{◌≡◌, ℕ, ◌+◌, ◌≤◌, ◌<◌, true, false, if◌then◌else◌, List, [], ◌∷◌, length, map, slice_index_or}
+use Rattle.std.specs.Prelude.{◌≡◌, ℕ, ◌+◌, ◌≤◌, ◌<◌, true, false, if◌then◌else◌, List, [], ◌∷◌, length, map, slice_index_or, Option, Some, None}
 use Rattle.std.specs.List.{range_with_len}
+use Rattle.bs_counter.specs.Keys.{TallyId}
 use Rattle.bs_board.specs.plans.Plan.{GameRow, IsFitPlan}
 use Rattle.bs_board.specs.records.Record.{record_of}
 use Rattle.bs_pool.specs.Ledger.{Ledger, reserved}
@@ -21,6 +22,22 @@ use Rattle.bs_sched.specs.Storage.{Storage, frame_tag, record_tag}
 abbrev pub storage_in : List Heap → List FramesView → Ledger → Storage
 storage_in heaps frames pool = record { packings = map (λ heap. heap.packing) heaps; frames = map (λ f. f.numbers) frames; pool = pool }
 
+abbrev pub frames_at : List FramesView → ℕ → FramesView
+frames_at frames game = slice_index_or frames game (no_frames 0)
+
+abbrev pub tally_before : Option TallyId → List (Option TallyId) → List (Option TallyId)
+tally_before None [] = []
+tally_before None (next ∷ tallies) = None ∷ next ∷ tallies
+tally_before (Some tally) tallies = Some tally ∷ tallies
+
+-- without what is None at the end
+abbrev pub trimmed : List (Option TallyId) → List (Option TallyId)
+trimmed [] = []
+trimmed (tally ∷ tallies) = tally_before tally (trimmed tallies)
+
+abbrev pub tallies_in : List FramesView → List (Option TallyId)
+tallies_in frames = trimmed (map (λ f. f.tally) frames)
+
 abbrev pub games_in : {cap : ℕ} → Inside cap → GamesView
 games_in c =
     record {
@@ -29,6 +46,7 @@ games_in c =
       failed = c.failed;
       lanes = c.fibers.items;
       storage = storage_in c.heaps.items c.frames.items c.pool;
+      tallies = tallies_in c.frames.items;
     }
 
 abbrev pub heap_of : List Heap → ℕ → Heap
@@ -39,7 +57,7 @@ pub record KeepsBoards (x : Lane) (heap : Heap) : Type 0 where
   pub quota : heap.quota ≡ x.row.quota
   pub records : heap.records ≡ map record_of x.game
 
--- the heaps of games that were just opened, from that row on
+-- the heaps of newly opened games, from that row on
 abbrev pub opened_heaps_from : ℕ → List GameRow → List Heap
 opened_heaps_from game [] = []
 opened_heaps_from game (row ∷ rows) = empty_heap (record_tag game) row.quota ∷ opened_heaps_from (game + 1) rows
@@ -48,7 +66,7 @@ abbrev pub opened_heaps : List GameRow → List Heap
 opened_heaps = opened_heaps_from 0
 
 -- the heap keeps the records of the lane's boards, in blocks of the game's own tag, and has room
--- for one more where one may come
+-- for one more if one may be added
 pub record IsHeapOf (cap own : ℕ) (x : Lane) (heap : Heap) (pool : Ledger) : Type 0 where
   pub tag : heap.tag ≡ own
   pub quota : heap.quota ≡ x.row.quota
@@ -60,17 +78,14 @@ pub record IsHeapOf (cap own : ℕ) (x : Lane) (heap : Heap) (pool : Ledger) : T
 abbrev pub AreHeapsOf : ℕ → List Lane → List Heap → Ledger → Type 0
 AreHeapsOf cap lanes heaps pool = (game : ℕ) → game < length lanes → (lane_of lanes game).is_open ≡ true → IsHeapOf cap (record_tag game) (lane_of lanes game) (heap_of heaps game) pool
 
--- the frame blocks of so many games that were just opened: none
+-- newly opened games have no frame blocks
 abbrev pub opened_frames : ℕ → List FramesView
 opened_frames games = map (λ game. no_frames (frame_tag game)) (range_with_len 0 games)
-
-abbrev pub frames_at : List FramesView → ℕ → FramesView
-frames_at frames game = slice_index_or frames game (no_frames 0)
 
 abbrev pub AreAllFramesOf : List Lane → List FramesView → Ledger → Type 0
 AreAllFramesOf lanes frames pool = (game : ℕ) → game < length lanes → (lane_of lanes game).is_open ≡ true → AreFramesOf (frame_tag game) (lane_of lanes game) (frames_at frames game) pool
 
--- of a stay that has left no record is kept, and it has nothing to do
+-- a stay that has left keeps no record, and is idle
 pub record IsGoneAt (x : Lane) (heap : Heap) : Type 0 where
   pub none : heap.records ≡ []
   pub quiet : is_quiet x ≡ true

@@ -1,4 +1,4 @@
--- What a job reads: the input that its lane has for it.
+-- The input of a job, which its lane determines.
 use Rattle.std.specs.Prelude.{ℕ, List, [], ◌∷◌, length, map, slice_index_or, option_map, Option, Some, None}
 use Rattle.std.specs.List.{range_with_len}
 use Rattle.bs_board.specs.declared.boards.snake.Snake.{Snake}
@@ -16,18 +16,18 @@ use Rattle.bs_sched.specs.Frames.{known}
 use Rattle.bs_sched.specs.Storage.{Storage, frame_tag, frames_of}
 use Rattle.bs_sched.specs.Lane.{Lane, lane_command, lane_view}
 
--- what the parts of the move come to, for the job that joins them
+-- the snakes moved by the parts, for the Join
 abbrev pub moved_parts_for : JobKind → Lane → List (List Snake)
 moved_parts_for kind.Begin x = []
 moved_parts_for kind.Part x = []
 moved_parts_for kind.Join x = map (λ p. moved_part p (lane_view x) (lane_command x)) (range_with_len 0 (length x.parts))
 
--- the board of the turn that is asked for, if one is
+-- the board of the turn that the command names, if it names one
 abbrev pub board_asked : Option ℕ → Game → Option Board
 board_asked None game = None
 board_asked (Some at) game = board_of_turn at game
 
--- of a job of the lane for that command, before it has parts
+-- the input of a job for that command, without the moved parts
 abbrev pub input_for : Lane → Command → ℕ → ℕ → JobName → Input
 input_for x command seq worker job =
     record {
@@ -43,16 +43,16 @@ input_for x command seq worker job =
       parts = [];
     }
 
--- of a job that is out
+-- the input of a job that is out
 abbrev pub input_of : Lane → ℕ → JobName → Input
 input_of x worker job = record (input_for x (lane_command x) (length x.taken) worker job) { parts = moved_parts_for job.kind x }
 
--- the frame blocks of a job that is out, by their numbers
+-- the numbers of the frame blocks of a job that is out
 abbrev pub job_numbers : JobKind → ℕ → List (Option ℕ) → List ℕ
 job_numbers kind.Begin p numbers = []
 job_numbers kind.Part p numbers = known (slice_index_or numbers p None ∷ [])
 job_numbers kind.Join p numbers = known numbers
 
--- and whose they are
+-- the same blocks with their tag
 abbrev pub names_for : Storage → JobName → List (ℕ × ℕ)
 names_for storage job = map (λ n. (frame_tag job.game, n)) (job_numbers job.kind job.part (frames_of storage job.game))

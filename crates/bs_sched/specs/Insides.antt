@@ -9,7 +9,6 @@ use Rattle.bs_game.specs.Game.{game_charge, last_board}
 use Rattle.bs_game.specs.declared.view.View.{View}
 use Rattle.bs_fiber.specs.Work.{goes, moved_part, parts_of, snakes_in}
 use Rattle.bs_sched.specs.declared.fiber.Fiber.TheInside.{Inside}
-use Rattle.bs_sched.specs.declared.fiber.Last.{Last}
 use Rattle.bs_sched.specs.declared.fiber.Slot.{Slot}
 use Rattle.bs_sched.specs.declared.fiber.Slot.TheVariants as slot
 use Rattle.bs_sched.specs.declared.stage.Stage.{Stage}
@@ -17,7 +16,7 @@ use Rattle.bs_sched.specs.declared.stage.Stage.TheVariants as stage
 use Rattle.bs_sched.specs.Slots.{state_of}
 use Rattle.bs_sched.specs.Lane.{Lane, is_idle, is_part_done, lane_view, lane_command}
 
--- the commands that have their reply: all that were begun but the one that the lane is at
+-- the commands that have a reply: all that were begun, except the one in progress
 abbrev pub answered_count : Stage → ℕ → ℕ
 answered_count stage begun = if is_idle stage then begun else begun - 1
 
@@ -37,7 +36,7 @@ lane_in f =
       parts = map state_of f.slots.items;
     }
 
--- a part that came back brought the moved snakes of its seats, until they are joined
+-- a completed part keeps the moved snakes of its seats until the Join has them
 abbrev pub IsSlot : Bool → ℕ → View → Command → Slot → Type 0
 IsSlot joined p view command slot.Ready = Unit {0}
 IsSlot joined p view command (slot.Out worker) = Unit {0}
@@ -48,7 +47,7 @@ IsSlot true p view command (slot.Done moved) = Unit {0}
 abbrev pub AreSlots : Bool → View → Command → List Slot → Type 0
 AreSlots joined view command slots = (p : ℕ) → p < length slots → IsSlot joined p view command (slice_index_or slots p slot.Ready)
 
--- a move is played
+-- a move is in progress
 pub record IsPlaying (joined : Bool) (view : View) (command : Command) (slots : List Slot) : Type 0 where
   pub goes : goes view command ≡ true
   pub all : length slots ≡ parts_of (length (snakes_in view.last))
@@ -66,7 +65,7 @@ IsAt stage.Parts view command slots = IsPlaying false view command slots
 IsAt (stage.Join None) view command slots = IsJoining false view command slots
 IsAt (stage.Join (Some worker)) view command slots = IsJoining true view command slots
 
--- somebody has a job that may answer
+-- some worker has a job that may answer
 abbrev pub may_answer : Stage → Bool
 may_answer stage.Idle = false
 may_answer (stage.Begin worker) = true
@@ -74,21 +73,17 @@ may_answer stage.Parts = false
 may_answer (stage.Join None) = false
 may_answer (stage.Join (Some worker)) = true
 
--- a reply that may come has its place already, as have the parts
+-- there is memory for the next reply, if one may follow, and for the parts
 pub record HasRoom (f : Inside) : Type 0 where
   pub reply : may_answer f.stage ≡ true → vec_len f.replies < vec_capacity f.replies
   pub parts : 4 ≤ vec_capacity f.slots
 
--- how the stay ended
-pub record IsLastOf (f : Inside) (last : Last) : Type 0 where
-  pub board : last.board ≡ last_board (course_in f).game
-  pub charge : last.charge ≡ game_charge (course_in f).game
-
 pub record IsFiber (f : Inside) : Type 0 where
   pub begun : f.begun ≤ length f.commands.items
   pub at : is_idle f.stage ≡ false → 0 < f.begun
-  -- who has left has nothing to do; its last board and its charge are kept
-  pub closed : is_some f.left ≡ true → (is_idle f.stage ≡ true) × (f.begun ≡ length f.commands.items) × IfSome f.left (IsLastOf f)
+  -- a stay that has left is idle; its charge is kept
+  pub closed : is_some f.left ≡ true → (is_idle f.stage ≡ true) × (f.begun ≡ length f.commands.items) × IfSome f.left (λ charge. charge ≡ game_charge (course_in f).game)
+  pub last : f.last ≡ last_board (course_in f).game
   pub small : f.row.quota ≤ MOST_QUOTA
   pub fits : All Fits f.commands.items
   pub replies : f.replies.items ≡ (course_in f).replies

@@ -1,5 +1,5 @@
 -- The core is its journal: what the list of its events says of its games.
-use Rattle.std.specs.Prelude.{◌≡◌, ℕ, ◌+◌, ◌≤◌, ◌<◌, false, true, List, sum_by, All, Some, None, vec_len, vec_capacity}
+use Rattle.std.specs.Prelude.{◌≡◌, ℕ, ◌+◌, ◌≤◌, ◌<◌, false, true, List, sum_by, All, Some, None, vec_len, vec_capacity, []}
 use Rattle.bs_sched.specs.declared.cores.Core.TheInside.{Inside}
 use Rattle.bs_sched.specs.declared.stage.Stage.{Stage}
 use Rattle.bs_sched.specs.declared.stage.Stage.TheVariants as stage
@@ -21,25 +21,24 @@ setting_in cap core = setting_of cap core.games
 
 -- Every event of the journal was enabled where it came, and the games are those that the events
 -- make of a core that was just opened over the same plan, blocks and workers. Only that the core
--- was told to fail is no event.
+-- was told to fail is no event, and no event names a tally.
 pub record IsItsJournal (cap : ℕ) (core : CoreView) : Type 0 where
   pub hosted : IsHosted (setting_in cap core) core.games.rows
   pub fits : All HandsFit core.journal
   pub enabled : are_enabled (setting_in cap core) (opened_lanes core.games.rows) core.journal ≡ true
-  pub games : games_run (setting_in cap core) (opened cap (setting_in cap core).blocks core.games.workers core.games.rows) core.journal ≡ record core.games { failed = false }
+  pub games : games_run (setting_in cap core) (opened cap (setting_in cap core).blocks core.games.workers core.games.rows) core.journal ≡ record core.games { failed = false; tallies = [] }
 
--- So its lanes are those of which the isolation law speaks: of each stay, and of the memory that
--- all of them share.
+-- So the isolation law holds of its lanes: of each stay, and of the memory that all of them share.
 pub record KeepsApart (cap : ℕ) (core : CoreView) : Type 0 where
   pub lanes : shared_run (setting_in cap core) core.games.rows core.journal ≡ core.games.lanes
   pub stays : AreHosted (setting_in cap core) core.games.rows core.journal
   pub memory : SharesMemory (setting_in cap core) core.games.rows core.journal
-  -- the rows are those of the plan and of the admissions; a stay was handed the commands that name
-  -- it
+  -- the rows are those of the plan and of the admissions; the commands of a stay are those that
+  -- name it
   pub told : TellsStays (setting_in cap core) core.games.rows core.journal
   pub names : AreKnownApart core.games.lanes
 
--- The jobs that are out. Each of them comes back at most once.
+-- The jobs that are out. Each of them is completed at most once.
 
 abbrev pub out_of_part : PartState → ℕ
 out_of_part part.Ready = 0
@@ -59,12 +58,12 @@ out_of_lane x = out_of_stage x.stage x.parts
 abbrev pub jobs_out : List Lane → ℕ
 jobs_out = sum_by out_of_lane
 
--- How a core lies in its fields.
+-- The value of a core, from its fields.
 
 abbrev pub core_in : {cap : ℕ} → Inside cap → CoreView
 core_in c = record { games = c.games; journal = c.journal.items }
 
--- for each job that is out the journal has room for its coming back
+-- the journal has memory for the completion of each job that is out
 pub record IsJournaled (cap : ℕ) {at : ℕ} (c : Inside at) : Type 0 where
   pub journal : IsItsJournal cap (core_in c)
   pub out : c.out ≡ jobs_out c.games.lanes

@@ -1,4 +1,4 @@
--- One stay of the machine: its lane, and what taking a job and bringing one back make of it.
+-- One stay of the machine: its lane, and the lane after a job is taken or completed.
 use Rattle.std.specs.Prelude.{◌≡◌, ℕ, ◌-◌, Bool, true, false, ◌&&◌, ◌||◌, if◌then◌else◌, List, [], ◌∷◌, ◌++◌, length, take, drop, replicate, nat_eq, nat_lt, slice_index_or, slice_set, map, Some, None}
 use Rattle.std.specs.List.{list_all}
 use Rattle.bs_board.specs.declared.commands.command.Command.{Command}
@@ -21,14 +21,14 @@ use Rattle.bs_sched.specs.declared.stage.PartState.TheVariants as part
 pub record Lane : Type 0 where
   pub row : GameRow
   pub is_open : Bool
-  -- the commands that were begun, the newest last, and those that wait for their turn
+  -- the commands that were begun, the newest last, and those that wait
   pub taken : List Command
   pub waiting : List Command
   pub replies : List Reply
-  -- the boards that are kept
+  -- the kept boards
   pub game : Game
   pub stage : Stage
-  -- of the move that the lane is at, by the part's number
+  -- the state of each part of the move in progress
   pub parts : List PartState
 
 abbrev pub empty_lane : GameRow → Lane
@@ -38,22 +38,22 @@ empty_lane row = record { row = row; is_open = true; taken = []; waiting = []; r
 abbrev pub no_lane : Lane
 no_lane = empty_lane (row_of [] 0)
 
--- the command that the lane is at, or was at last
+-- the command in progress, or the last one
 abbrev pub lane_command : Lane → Command
 lane_command x = slice_index_or x.taken (length x.taken - 1) command.Bad
 
 abbrev pub lane_outcome : Lane → Outcome
 lane_outcome x = answer_to x.row.quota x.game (lane_command x)
 
--- what the game shows to a job of the command
+-- the view of the game that a job of the command reads
 abbrev pub lane_view : Lane → View
 lane_view x = view_of_game x.row.quota x.game (lane_command x)
 
--- the command is a move that nothing speaks against
+-- the command is an accepted move
 abbrev pub goes_on : Lane → Bool
 goes_on x = goes (lane_view x) (lane_command x)
 
--- Who has what.
+-- Which worker has which job.
 
 abbrev pub is_idle : Stage → Bool
 is_idle stage.Idle = true
@@ -108,15 +108,15 @@ is_part_done part.Ready = false
 is_part_done (part.Out worker) = false
 is_part_done part.Done = true
 
--- a part that is not there is as one that is done
+-- a part that does not exist counts as done
 abbrev pub part_at : Lane → ℕ → PartState
 part_at x p = slice_index_or x.parts p part.Done
 
--- the worker has the job of the lane that begins or joins; while it has, it may take no other
+-- the worker has the lane's Begin or Join, and so may take no other job
 abbrev pub occupies : ℕ → Lane → Bool
 occupies w x = has_begin w x.stage || has_join w x.stage
 
--- the job is there to be taken; a job that is no part has the part number 0
+-- the job can be taken; a job that is no part has the part number 0
 abbrev pub is_ready : Lane → JobKind → ℕ → Bool
 is_ready x kind.Begin p = nat_eq p 0 && (is_idle x.stage && nat_lt 0 (length x.waiting))
 is_ready x kind.Part p = is_in_parts x.stage && is_part_ready (part_at x p)
@@ -128,12 +128,12 @@ is_out w x kind.Begin p = nat_eq p 0 && has_begin w x.stage
 is_out w x kind.Part p = is_in_parts x.stage && has_part w (part_at x p)
 is_out w x kind.Join p = nat_eq p 0 && has_join w x.stage
 
--- What the events make of a lane.
+-- A lane after each event.
 
 abbrev pub with_waiting : Command → Lane → Lane
 with_waiting command x = record x { waiting = x.waiting ++ command ∷ [] }
 
--- the first command that waits is begun; a part or the joining of all parts goes out
+-- the first waiting command is begun; or a part or the Join is taken
 abbrev pub with_taken : ℕ → JobKind → ℕ → Lane → Lane
 with_taken w kind.Begin p x = record x { taken = x.taken ++ take 1 x.waiting; waiting = drop 1 x.waiting; stage = stage.Begin w }
 with_taken w kind.Part p x = record x { parts = slice_set x.parts p (part.Out w) }
@@ -143,14 +143,14 @@ with_taken w kind.Join p x = record x { stage = stage.Join (Some w) }
 abbrev pub answered : Lane → Lane
 answered x = record x { replies = x.replies ++ (lane_outcome x).reply ∷ []; game = (lane_outcome x).game; stage = stage.Idle; parts = [] }
 
--- the parts of the move are there to be taken
+-- the parts of the move are ready
 abbrev pub forked : Lane → Lane
 forked x = record x { stage = stage.Parts; parts = replicate (parts_of (length (snakes_in (last_board x.game)))) part.Ready }
 
 abbrev pub stage_with : List PartState → Stage
 stage_with parts = if list_all is_part_done parts then stage.Join None else stage.Parts
 
--- a part came back; after the last one the move is to be joined
+-- a part is completed; after the last one the move can be joined
 abbrev pub with_part_done : ℕ → Lane → Lane
 with_part_done p x = record x { parts = slice_set x.parts p part.Done; stage = stage_with (slice_set x.parts p part.Done) }
 
@@ -159,7 +159,7 @@ with_put kind.Begin p x = if goes_on x then forked x else answered x
 with_put kind.Part p x = with_part_done p x
 with_put kind.Join p x = answered x
 
--- What is asked of a lane.
+-- What a lane still has to do.
 
 abbrev pub is_quiet : Lane → Bool
 is_quiet x = is_idle x.stage && nat_eq (length x.waiting) 0
@@ -167,21 +167,21 @@ is_quiet x = is_idle x.stage && nat_eq (length x.waiting) 0
 abbrev pub HasNoneReady : Lane → Type 0
 HasNoneReady x = (job : JobKind) (p : ℕ) → is_ready x job p ≡ false
 
--- Coming and going.
+-- Admissions and leaves.
 
--- nothing is left to do, and it has not left before
+-- nothing is left to do, and the stay is open
 abbrev pub may_leave : Lane → Bool
 may_leave x = x.is_open && is_quiet x
 
--- The stay is closed. Its boards stand as they were, so its last board and its charge can still be
--- read; no record of them is kept.
+-- The stay is closed. Its boards are unchanged, so its last board and its charge can still be read,
+-- but no record of them is kept.
 abbrev pub closed_lane : Lane → Lane
 closed_lane x = record x { is_open = false }
 
--- the bytes of the records that are kept of a game
+-- the bytes of a game's kept records
 abbrev pub records_of : Game → List (List ℕ)
 records_of game = map record_of game
 
--- those of a stay: none once it has left
+-- those of a stay; none once it has left
 abbrev pub kept_of : Lane → List (List ℕ)
 kept_of x = if x.is_open then records_of x.game else []

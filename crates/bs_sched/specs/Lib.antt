@@ -15,6 +15,7 @@ pub mod Isolation
 pub mod Journal
 pub mod Keyed
 pub mod Lane
+pub mod LastBoards
 pub mod Machine
 pub mod Memory
 pub mod Parts

@@ -1,5 +1,4 @@
--- The core as a machine over events: its stays, which events are enabled, and what each makes of
--- them.
+-- The core as a machine over events: its stays, which events are enabled, and the stays after each.
 use Rattle.std.specs.Prelude.{ℕ, ◌-◌, Bool, true, false, ◌&&◌, not, if◌then◌else◌, List, [], ◌∷◌, ◌++◌, length, fold, count_by, sum_by, nat_eq, nat_lt, nat_le, slice_index_or, slice_set}
 use Rattle.std.specs.List.{list_any}
 use Rattle.bs_board.specs.declared.limits.TheConstants.{MOST_ROWS}
@@ -11,8 +10,8 @@ use Rattle.bs_sched.specs.declared.event.Event.{Event}
 use Rattle.bs_sched.specs.declared.event.Event.TheVariants as event
 use Rattle.bs_sched.specs.Lane.{Lane, empty_lane, no_lane, occupies, is_ready, is_out, with_waiting, with_taken, with_put, may_leave, closed_lane}
 
--- what a core is opened with besides its plan: so many blocks of `cap` bytes, and workers from 0 to
--- the last
+-- what a core is opened with besides its plan: that many blocks of `cap` bytes, and workers from 0
+-- to the last
 pub record Setting : Type 0 where
   pub cap : ℕ
   pub blocks : ℕ
@@ -22,7 +21,7 @@ pub record Setting : Type 0 where
 abbrev pub lane_of : List Lane → ℕ → Lane
 lane_of lanes game = slice_index_or lanes game no_lane
 
--- Which row an event names. Who is admitted has none before.
+-- The row of an event. An admission has none yet.
 
 abbrev pub is_admit : Event → Bool
 is_admit (event.Hand game command) = false
@@ -48,11 +47,11 @@ game_of (event.Leave game) = game
 abbrev pub is_named : ℕ → Event → Bool
 is_named game e = not (is_admit e) && nat_eq (game_of e) game
 
--- the worker has a job that begins or joins
+-- the worker has a Begin or a Join
 abbrev pub is_busy : ℕ → List Lane → Bool
 is_busy worker lanes = list_any (occupies worker) lanes
 
--- what the lane itself allows
+-- what the lane by itself allows
 abbrev pub is_allowed : Lane → Event → Bool
 is_allowed x (event.Hand game command) = x.is_open
 is_allowed x (event.Take worker job) = is_ready x job.kind job.part
@@ -68,9 +67,9 @@ has_hands workers lanes (event.Put worker job) = true
 has_hands workers lanes (event.Admit row) = true
 has_hands workers lanes (event.Leave game) = true
 
--- Who may come.
+-- Which stays may be admitted.
 
--- the blocks that are set aside for a stay while it is open
+-- the blocks that are reserved for a stay while it is open
 abbrev pub blocks_in : ℕ → Lane → ℕ
 blocks_in cap x = if x.is_open then blocks_of cap x.row else 0
 
@@ -83,13 +82,13 @@ has_name row x = x.is_open && is_same_text row.game x.row.game
 abbrev pub is_full : List Lane → Bool
 is_full lanes = not (nat_lt (count_by (λ x. x.is_open) lanes) MOST_ROWS && nat_lt (length lanes) MOST_STAYS)
 
--- no open stay has the name, there is room for one more, and its blocks are left beside those of
--- the open stays
+-- no open stay has the name, one more may be open, and its blocks are free besides those reserved
+-- for the open stays
 abbrev pub may_admit : Setting → List Lane → GameRow → Bool
 may_admit setting lanes row =
     not (list_any (has_name row) lanes) && (not (is_full lanes) && nat_le (blocks_of setting.cap row) (setting.blocks - open_blocks setting.cap lanes))
 
--- of an event that names a row
+-- an event that names an existing row is enabled
 abbrev pub is_enabled_there : ℕ → List Lane → Event → Bool
 is_enabled_there workers lanes e =
     nat_lt (game_of e) (length lanes) && (is_allowed (lane_of lanes (game_of e)) e && has_hands workers lanes e)
@@ -104,7 +103,7 @@ lane_after x (event.Put worker job) = with_put job.kind job.part x
 lane_after x (event.Admit row) = x
 lane_after x (event.Leave game) = closed_lane x
 
--- who is admitted has the next row; any other event changes the lane that it names and no other
+-- a stay that is admitted has the next row; any other event changes its own lane and no other
 abbrev pub lane_effect : List Lane → Event → List Lane
 lane_effect lanes e =
     if is_admit e then lanes ++ empty_lane (row_in e) ∷ []

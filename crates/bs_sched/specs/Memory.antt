@@ -1,4 +1,4 @@
--- The bytes of the records of all stays, in the blocks of one pool. No lane knows of them.
+-- The bytes of all records, in the blocks of one pool. No lane contains them.
 use Rattle.std.specs.Prelude.{◌≡◌, ℕ, false, Some, if◌then◌else◌, List, [], ◌∷◌, ◌++◌, length, fold, replicate, option_map, unwrap_or, slice_index_or, slice_set}
 use Rattle.bs_block.specs.Bytes.{range, padded}
 use Rattle.bs_block.specs.Rounding.{rounded}
@@ -31,7 +31,7 @@ block_in memory number = slice_index_or memory number []
 abbrev pub bytes_at : Memory → Place → List ℕ
 bytes_at memory place = range place.at place.len (block_in memory place.number)
 
--- bytes go behind those of a block
+-- bytes are appended to a block
 abbrev pub with_bytes : ℕ → List ℕ → Memory → Memory
 with_bytes number bytes memory = slice_set memory number (block_in memory number ++ bytes)
 
@@ -43,23 +43,23 @@ wiped (number ∷ numbers) memory = wiped numbers (slice_set memory number [])
 abbrev pub current_number : Packing → ℕ
 current_number packing = unwrap_or (option_map (λ u. u.number) packing.current) 0
 
--- What an answer does to the bytes. A record that is added goes, with zeros up to its rounded size,
--- behind what the block of its place has; where a block is drawn for it, that has this number.
+-- The effect of an answer on the bytes. An added record, with zeros up to its rounded size, is
+-- appended to the block of its place; a block that is drawn for it has that number.
 abbrev pub memory_with : ℕ → ℕ → Effect → Packing → Memory → Memory
 memory_with cap number effect.Keep packing memory = memory
 memory_with cap number (effect.Add bytes) packing memory = with_bytes (current_number (packed cap number (length bytes) packing)) (padded bytes) memory
 memory_with cap number effect.Trim packing memory = wiped (closed_numbers packing) memory
 memory_with cap number effect.Drop packing memory = wiped (numbers_of packing) memory
 
--- where the record that is added needs a block, there is a free one
+-- if the added record needs a block, one is free
 abbrev pub CanDraw : ℕ → Effect → Packing → Ledger → Type 0
 CanDraw cap effect.Keep packing pool = Unit {0}
 CanDraw cap (effect.Add bytes) packing pool = fits cap (rounded (length bytes)) packing.current ≡ false → least_free pool ≡ Some (next_number pool)
 CanDraw cap effect.Trim packing pool = Unit {0}
 CanDraw cap effect.Drop packing pool = Unit {0}
 
--- what an event that is enabled does to the records of the stay that it names: who leaves keeps
--- none, as at the end of a game
+-- the effect of an enabled event on the records of its stay: a leave drops all, as the end of a
+-- game does
 abbrev pub effect_at : Event → Lane → Effect
 effect_at (event.Hand game command) x = effect.Keep
 effect_at (event.Take worker job) x = effect.Keep
@@ -84,13 +84,13 @@ world_step setting world e = if is_enabled setting world.lanes e then world_afte
 abbrev pub world_run : Setting → World → List Event → World
 world_run setting = fold (world_step setting)
 
--- no block has a byte at first
+-- at first no block has a byte
 abbrev pub opened_world : Setting → List GameRow → World
 opened_world setting rows =
     let games = opened setting.cap setting.blocks setting.workers rows in
     record { lanes = games.lanes; storage = games.storage; memory = replicate setting.blocks [] }
 
--- The same events in the games as the core's calls see them, of which no clause tells the bytes.
+-- The same events on the games as the core's calls see them, without the bytes.
 
 abbrev pub games_step : Setting → GamesView → Event → GamesView
 games_step setting games e = if is_enabled setting games.lanes e then after setting.cap games e else games

@@ -1,4 +1,4 @@
--- When the completed parts of a move are the core's own, and the core after their completion.
+-- Which completed parts of a move are the core's own, and the core after their completion.
 use Rattle.std.specs.Prelude.{◌≡◌, ℕ, ◌+◌, ◌<◌, List, [], ◌∷◌, length, fold, Option, Some, None, slice_index_or}
 use Rattle.bs_fiber.specs.Tickets.{TicketView}
 use Rattle.bs_fiber.specs.declared.job.JobKind.TheVariants as kind
@@ -13,15 +13,15 @@ use Rattle.bs_sched.specs.Putting.{IsOwn}
 abbrev pub part_job : ℕ → ℕ → JobName
 part_job game p = record { game = game; kind = kind.Part; part = p }
 
--- it is that part of the game's move, out with the worker that it names, and of the core's input
+-- it is that part of the game's move, out at its worker, with the core's own input
 pub record IsOwnPart (games : GamesView) (game p : ℕ) (completed : Option TicketView) : Type 0 where
   pub done : TicketView
   pub is : completed ≡ Some done
   pub job : done.input.job ≡ part_job game p
   pub own : IsOwn games done.input.worker done
 
--- all parts of one game's move, in part order; where part 0 is out, the game is in stage Parts, and
--- a move has one part at least
+-- all parts of one game's move, in part order; if part 0 is out, the game is in stage Parts, and a
+-- move has at least one part
 pub record AreOwnParts (games : GamesView) (completed : List (Option TicketView)) : Type 0 where
   pub game : ℕ
   pub some : 0 < length completed

@@ -1,4 +1,4 @@
--- The blocks that are set aside for the games of a plan.
+-- The blocks that are reserved for the games of a plan.
 use Rattle.std.specs.Prelude.{ℕ, ◌+◌, List, [], ◌∷◌, sum_by}
 use Rattle.bs_board.specs.plans.Plan.{GameRow}
 use Rattle.bs_heap.specs.Charge.{blocks_for}
@@ -17,11 +17,11 @@ blocks_of cap row = record_blocks cap row + FRAME_BLOCKS
 abbrev pub blocks_of_all : ℕ → List GameRow → ℕ
 blocks_of_all cap = sum_by (blocks_of cap)
 
--- the game of that row has two tags
+-- the reservations of both tags of that row
 abbrev pub with_row : ℕ → ℕ → GameRow → Ledger → Ledger
 with_row cap game row pool = with_reservation (frame_tag game) FRAME_BLOCKS (with_reservation (record_tag game) (record_blocks cap row) pool)
 
--- of the games from that row on
+-- the reservations of the games from that row on
 abbrev pub reservations_from : ℕ → ℕ → List GameRow → List Reservation
 reservations_from cap game [] = []
 reservations_from cap game (row ∷ rows) =

@@ -1,4 +1,4 @@
--- When what a worker brings back is the core's own.
+-- Which completed jobs are the core's own.
 use Rattle.std.specs.Prelude.{◌≡◌, ◌≢◌, ℕ, true}
 use Rattle.bs_fiber.specs.Tickets.{TicketView, names_of}
 use Rattle.bs_fiber.specs.declared.job.JobKind.TheVariants as kind
@@ -8,23 +8,23 @@ use Rattle.bs_sched.specs.Inputs.{input_of, names_for}
 use Rattle.bs_sched.specs.Lane.{Lane, is_out}
 use Rattle.bs_sched.specs.Machine.{lane_of, is_enabled_there}
 
--- the worker has the job, and it read what the lane has for it
+-- the worker has the job, and its input is the lane's
 pub record IsOwnOf (x : Lane) (worker : ℕ) (brought : TicketView) : Type 0 where
   pub out : is_out worker x brought.input.job.kind brought.input.job.part ≡ true
   pub input : brought.input ≡ input_of x worker brought.input.job
 
--- the worker has the job out, and it read what the core has for it
+-- the worker has the job, and its input is the core's own
 pub record IsOwnInput (games : GamesView) (worker : ℕ) (brought : TicketView) : Type 0 where
   pub out : is_enabled_there games.workers games.lanes (event.Put worker brought.input.job) ≡ true
   pub input : brought.input ≡ input_of (lane_of games.lanes brought.input.job.game) worker brought.input.job
 
--- and its frame blocks are those that went out with it
+-- and its frame blocks are those that it was taken with
 pub record IsOwn (games : GamesView) (worker : ℕ) (brought : TicketView) : Type 0 where
   pub out : is_enabled_there games.workers games.lanes (event.Put worker brought.input.job) ≡ true
   pub input : brought.input ≡ input_of (lane_of games.lanes brought.input.job.game) worker brought.input.job
   pub frames : names_of brought.frames ≡ names_for games.storage brought.input.job
 
--- it is no part: those come back all at once
+-- it is a Begin or a Join: parts are completed all at once
 pub record IsOwnJob (games : GamesView) (worker : ℕ) (brought : TicketView) : Type 0 where
   pub kind : brought.input.job.kind ≢ kind.Part
   pub own : IsOwn games worker brought

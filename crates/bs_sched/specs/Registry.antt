@@ -1,5 +1,4 @@
--- Which stays are open, and what of a list of events decides that: admissions and leaves, and no
--- job.
+-- Which stays are open. Among events only admissions and leaves change that, and no job does.
 use Rattle.std.specs.Prelude.{◌≡◌, ◌≢◌, ℕ, ◌<◌, ◌≤◌, true, ◌&&◌, if◌then◌else◌, List, [], ◌∷◌, ◌++◌, codes, length, map, fold, count_by, nat_eq, nat_le, pos, All}
 use Rattle.bs_board.specs.declared.boards.board.Board.{Board}
 use Rattle.bs_board.specs.declared.boards.board.Mode.TheVariants.{Solo}
@@ -40,9 +39,9 @@ registry_after registry (event.Put worker job) = registry
 registry_after registry (event.Admit row) = with_admitted row registry
 registry_after registry (event.Leave game) = with_closed game registry
 
--- By the registry alone a row may come or not and a command may be handed in or not; who leaves
--- must besides have nothing to do. A job leaves the registry. The registry after events that were
--- all enabled is what those make of it that come and leave.
+-- The registry alone decides whether a row may be admitted and whether a command may be queued; for
+-- a leave the stay must also be idle. A job does not change the registry. After enabled events the
+-- registry is the one after their admissions and leaves.
 pub record DecidedByRegistry (setting : Setting) (lanes : List Lane) (events : List Event) : Type 0 where
   pub admits : (row : GameRow) → is_enabled setting lanes (event.Admit row) ≡ may_admit_in (capacity_of setting) (registry_of lanes) row
   pub hands : (game : ℕ) (command : Command) → is_enabled setting lanes (event.Hand game command) ≡ is_in (registry_of lanes) game
@@ -54,8 +53,8 @@ pub record DecidedByRegistry (setting : Setting) (lanes : List Lane) (events : L
 abbrev pub RegistryLaw : Type 0
 RegistryLaw = (setting : Setting) (lanes : List Lane) (events : List Event) → DecidedByRegistry setting lanes events
 
--- Of events that were all enabled, as those of a journal: the rows are those that were admitted
--- behind those of the plan, and what a stay was handed are the commands that name it.
+-- After events that were all enabled, as those of a journal are: the rows are those of the plan,
+-- then the admitted ones, and the commands of a stay are those that name it.
 
 abbrev pub rows_in : List Event → List GameRow
 rows_in [] = []
@@ -81,8 +80,8 @@ pub record TellsStays (setting : Setting) (plan : List GameRow) (events : List E
 abbrev pub JournalLaw : Type 0
 JournalLaw = (setting : Setting) (plan : List GameRow) (events : List Event) → are_enabled setting (opened_lanes plan) events ≡ true → TellsStays setting plan events
 
--- A stay that has nothing to do has answered all that was handed to it, as in a game by itself. So
--- has each stay that has left: it keeps its last board and its charge, and no record.
+-- An idle stay has answered all its commands as a game by itself does. So has a stay that has left:
+-- it keeps its last board and its charge, and no record.
 pub record IsServedAlone (row : GameRow) (commands : List Command) (x : Lane) : Type 0 where
   pub replies : x.replies ≡ (alone row commands).replies
   pub game : x.game ≡ (alone row commands).game
@@ -94,8 +93,8 @@ ServedLaw =
     → game < length (shared_run setting rows events) → is_quiet (lane_of (shared_run setting rows events) game) ≡ true
     → IsServedAlone (row_made setting rows events game) (commands_in (own_events setting rows events game)) (lane_of (shared_run setting rows events) game)
 
--- Stays do come and go: one is admitted into an empty setting, plays a turn by all of a move's jobs,
--- is answered as alone, and leaves; then one of the same name comes.
+-- Stays can be admitted and leave: one is admitted into an empty setting, plays a turn by all jobs
+-- of a move, is answered as alone, and leaves; then one of the same name is admitted.
 
 abbrev pub only_job : JobKind → JobName
 only_job kind = record { game = 0; kind = kind; part = 0 }
@@ -107,7 +106,7 @@ solo_setup = setup_of Solo 5 5 ((codes "s", record { x = pos 1; y = pos 1 }) ∷
 abbrev pub solo_commands : List Command
 solo_commands = command.New solo_setup ∷ command.Move (orders_of [] []) ∷ []
 
--- a job is taken and brought back, and these events follow
+-- a job is taken and completed, then these events
 abbrev pub job_then : ℕ → JobKind → List Event → List Event
 job_then worker kind events = event.Take worker (only_job kind) ∷ event.Put worker (only_job kind) ∷ events
 
@@ -130,8 +129,8 @@ ProgressExample =
     (setting : Setting) (worker : ℕ) (row : GameRow) → nat_le worker setting.workers ≡ true → nat_le (blocks_of setting.cap row) setting.blocks ≡ true
     → nat_le 64 row.quota ≡ true → ComesAndGoes setting worker row
 
--- No two open stays have one name, no more are open than a plan may have games, and no more rows
--- are made than a number has room for.
+-- No two open stays have one name, at most as many are open as a plan may have games, and the
+-- number of rows has a limit.
 
 pub record AreKnownApart (lanes : List Lane) : Type 0 where
   pub names : (game other : ℕ) → game < length lanes → other < length lanes → game ≢ other → (lane_of lanes game).is_open ≡ true

@@ -1,4 +1,4 @@
--- What is set aside for the open stays.
+-- The reservations of the open stays.
 use Rattle.std.specs.Prelude.{◌≡◌, ◌≢◌, ℕ, ◌*◌, ◌<◌, ◌≤◌, true, List, length, All, AllPairs}
 use Rattle.bs_board.specs.plans.Plan.{GameRow}
 use Rattle.bs_pool.specs.declared.reservation.Reservation.{Reservation}

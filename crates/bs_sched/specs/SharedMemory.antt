@@ -1,5 +1,5 @@
 -- The isolation law of the memory: all stays keep their records in the blocks of one pool, and none
--- notices the others there.
+-- is affected by the others there.
 use Rattle.std.specs.Prelude.{◌≡◌, ◌≢◌, ℕ, ◌+◌, ◌≤◌, ◌<◌, true, false, List, [], ◌∷◌, length, map, slice_get, sum_by, Option, Some, None, All}
 use Rattle.bs_board.specs.plans.Plan.{GameRow, IsFitPlan}
 use Rattle.bs_heap.specs.Charge.{blocks_for}
@@ -22,53 +22,52 @@ use Rattle.bs_sched.specs.Memory.{World, block_in, bytes_at, effect_at, CanDraw,
 use Rattle.bs_sched.specs.PlanBlocks.{blocks_of_all}
 use Rattle.bs_sched.specs.Storage.{packing_of, frames_of, record_tag, frame_tag}
 
--- the blocks are large enough, and so many that each game of the plan has those that are set aside
--- for it
+-- the blocks are large enough, and there are as many as all games of the plan reserve
 pub record IsHosted (setting : Setting) (rows : List GameRow) : Type 0 where
   pub wide : LEAST_CAPACITY ≤ setting.cap
   pub plan : IsFitPlan rows
   pub room : blocks_of_all setting.cap rows ≤ setting.blocks
 
--- what all events make of the core of all stays
+-- the core of all stays after all events
 abbrev pub shared_world : Setting → List GameRow → List Event → World
 shared_world setting rows events = world_run setting (opened_world setting rows) events
 
--- what a stay's accepted events make of a core of that stay alone, with as many blocks
+-- a core of that stay alone, with as many blocks, after the stay's accepted events
 abbrev pub lone_world : Setting → List GameRow → List Event → ℕ → World
 lone_world setting rows events game = world_run setting (opened_world setting (row_made setting rows events game ∷ [])) (own_events setting rows events game)
 
--- those games, with the lanes and the storage of the world
+-- the games with these lanes and this storage
 abbrev pub games_with : GamesView → World → GamesView
 games_with games world = record games { lanes = world.lanes; storage = world.storage }
 
 abbrev pub packing_in : World → ℕ → Packing
 packing_in world game = packing_of world.storage game
 
--- the numbers of the blocks in which a stay's records lie
+-- the numbers of the blocks that hold a stay's records
 abbrev pub numbers_in : World → ℕ → List ℕ
 numbers_in world game = numbers_of (packing_in world game)
 
--- the bytes that the memory has at the places of a stay's records
+-- the bytes at the places of a stay's records
 abbrev pub bytes_in : World → ℕ → List (List ℕ)
 bytes_in world game = map (bytes_at world.memory) (packing_in world game).places
 
--- the numbers of the blocks of the move that a stay is at
+-- the numbers of the frame blocks of a stay's move
 abbrev pub frames_in : World → ℕ → List ℕ
 frames_in world game = known (frames_of world.storage game)
 
--- how many blocks the moves of all stays hold
+-- the number of frame blocks of all moves
 abbrev pub all_framed : List (List (Option ℕ)) → ℕ
 all_framed = sum_by (λ numbers. length (known numbers))
 
--- how many blocks the records of all stays hold
+-- the number of record blocks of all stays
 abbrev pub all_held : List Packing → ℕ
 all_held = sum_by (λ packing. length (numbers_of packing))
 
--- The blocks of all stays. Each of the pool's is free, holds records of a stay that is open, or is
--- a part's of the move that a stay is at, and none is in two of these lists, so no records of two
--- stays share a byte. One that is free has no byte. The blocks of a move's parts are its own tag's,
--- four at most; a stay that is at no move has none. Where an event needs a block there is a free
--- one. What is reserved is what the open stays are to have, and that fits.
+-- The blocks of all stays. Each block of the pool is free, holds records of an open stay, or is the
+-- frame block of a part of some stay's move, and only one of these, so no records of two stays
+-- share a byte. A free block has no bytes. The frame blocks of a move belong to its own tag, at
+-- most four; a stay without a move has none. If an event needs a block, one is free. The
+-- reservations are those of the open stays, and they fit.
 pub record SharesBlocks (setting : Setting) (world : World) : Type 0 where
   pub size : size world.storage.pool ≡ setting.blocks
   pub counts : free world.storage.pool + (all_held world.storage.packings + all_framed world.storage.frames) ≡ setting.blocks
@@ -82,7 +81,7 @@ pub record SharesBlocks (setting : Setting) (world : World) : Type 0 where
   pub frames : (game : ℕ) → game < length world.lanes → Holds (frame_tag game) (frames_in world game) world.storage.pool
   pub frames_apart : (game other : ℕ) → game < length world.lanes → other < length world.lanes → game ≢ other
       → All (λ number. All (λ n. n ≢ number) (frames_in world other)) (frames_in world game)
-  -- a part's block holds no records, its own stay's neither
+  -- a frame block holds no records, not even of its own stay
   pub frames_hold_none : (game other : ℕ) → game < length world.lanes → other < length world.lanes
       → All (λ number. All (λ n. n ≢ number) (numbers_in world other)) (frames_in world game)
   pub few_frames : (game : ℕ) → game < length world.lanes → length (frames_in world game) ≤ FRAME_BLOCKS
@@ -94,28 +93,27 @@ pub record SharesBlocks (setting : Setting) (world : World) : Type 0 where
   pub draws : (e : Event) → is_admit e ≡ false → is_enabled setting world.lanes e ≡ true
       → CanDraw setting.cap (effect_at e (lane_of world.lanes (game_of e))) (packing_in world (game_of e)) world.storage.pool
 
--- The records of one stay. Their bytes stand at their places, which lie inside its blocks and one
--- behind the other. The blocks are the stay's own, and no more than are set aside for it.
+-- The records of one stay. Their bytes are at their places, which lie inside its blocks and do not
+-- overlap. The blocks are the stay's own, and no more than are reserved for it.
 pub record KeepsBytes (cap : ℕ) (world : World) (game : ℕ) : Type 0 where
   pub bytes : bytes_in world game ≡ kept_of (lane_of world.lanes game)
   pub places : AreApart (packing_in world game)
   pub own : Holds (record_tag game) (numbers_in world game) world.storage.pool
   pub few : length (numbers_in world game) ≤ blocks_for cap (lane_of world.lanes game).row.quota
 
--- An event that does not name a stay leaves its records where they are, and each of their bytes.
+-- An event that does not name a stay leaves its records where they are, with all their bytes.
 pub record LeavesBytes (setting : Setting) (world : World) (game : ℕ) (e : Event) : Type 0 where
   pub packing : packing_in (world_step setting world e) game ≡ packing_in world game
   pub bytes : bytes_in (world_step setting world e) game ≡ bytes_in world game
 
--- Run alone, its accepted events leave the very same bytes at the places that its records have
--- there.
+-- Alone, its accepted events leave the very same bytes at the places of its records there.
 pub record IsIsolatedInMemory (setting : Setting) (rows : List GameRow) (events : List Event) (game : ℕ) : Type 0 where
   pub keeps : KeepsBytes setting.cap (shared_world setting rows events) game
   pub alone : bytes_in (lone_world setting rows events game) 0 ≡ bytes_in (shared_world setting rows events) game
   pub others : (e : Event) → is_named game e ≡ false → LeavesBytes setting (shared_world setting rows events) game e
 
--- The games as the core's calls see them go just this way, and its lanes are those of which the
--- isolation law speaks.
+-- The games as the core's calls see them change in the same way, and the isolation law holds of
+-- their lanes.
 pub record SharesMemory (setting : Setting) (rows : List GameRow) (events : List Event) : Type 0 where
   pub core : games_run setting (opened setting.cap setting.blocks setting.workers rows) events
       ≡ games_with (opened setting.cap setting.blocks setting.workers rows) (shared_world setting rows events)

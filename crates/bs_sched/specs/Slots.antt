@@ -11,7 +11,7 @@ state_of slot.Ready = part.Ready
 state_of (slot.Out worker) = part.Out worker
 state_of (slot.Done moved) = part.Done
 
--- what a part moved, where it came back and that was not joined yet
+-- the snakes that a completed part moved, until the Join has them
 abbrev pub moved_in : Slot → Option (List Snake)
 moved_in slot.Ready = None
 moved_in (slot.Out worker) = None

@@ -1,5 +1,5 @@
--- A registry of stays: of each the row, and whether it is open. It decides which rows may be
--- admitted; what the games do meanwhile decides nothing.
+-- A registry of stays: the row of each, and whether it is open. It alone decides which rows may be
+-- admitted; the state of the games does not matter.
 use Rattle.std.specs.Prelude.{ℕ, ◌-◌, Bool, true, false, ◌&&◌, not, if◌then◌else◌, List, [], ◌∷◌, ◌++◌, length, count_by, sum_by, nat_lt, nat_le, slice_index_or, slice_set, Option, Some, None}
 use Rattle.std.specs.List.{list_any}
 use Rattle.bs_board.specs.declared.limits.TheConstants.{MOST_ROWS}
@@ -10,7 +10,7 @@ use Rattle.bs_sched.specs.declared.stays.Admit.{Admit}
 use Rattle.bs_sched.specs.declared.stays.Admit.TheVariants as admit
 use Rattle.bs_sched.specs.declared.plan_blocks.TheConstants.{MOST_STAYS}
 
--- the memory that a core is opened with: so many blocks of `cap` bytes
+-- the memory that a core is opened with: that many blocks of `cap` bytes
 pub record Capacity : Type 0 where
   pub cap : ℕ
   pub blocks : ℕ
@@ -31,7 +31,7 @@ no_stay = open_stay (row_of [] 0)
 abbrev pub stay_at : List Stay → ℕ → Stay
 stay_at registry stay = slice_index_or registry stay no_stay
 
--- the stay was made, and is open
+-- the stay exists and is open
 abbrev pub is_in : List Stay → ℕ → Bool
 is_in registry stay = nat_lt stay (length registry) && (stay_at registry stay).is_open
 
@@ -57,14 +57,14 @@ abbrev pub has_room : Capacity → List Stay → GameRow → Bool
 has_room capacity registry row =
     nat_le (blocks_of capacity.cap row) (capacity.blocks - blocks_in_registry capacity.cap registry)
 
--- no open stay has the row's name, one more may be open, and its blocks are left beside those of
--- the open stays
+-- no open stay has the row's name, one more may be open, and its blocks are free besides those
+-- reserved for the open stays
 abbrev pub may_admit_in : Capacity → List Stay → GameRow → Bool
 may_admit_in capacity registry row =
     not (list_any (has_name row.game) registry) && (not (is_full registry) && has_room capacity registry row)
 
--- The reasons against a row in the one order in which they are judged, by the core and by who asks
--- it: an open stay has the name, no more stays can be opened, fewer blocks are left than it needs.
+-- The reasons against a row, in the order in which the core and its caller judge them: an open stay
+-- has the name, no more stays can be opened, fewer blocks are free than it needs.
 abbrev pub refusal_in_order : Bool → Bool → ℕ → ℕ → Option Admit
 refusal_in_order named full needed left =
     if named then Some admit.NameOpen

@@ -1,4 +1,4 @@
--- Where the records of all games lie, and what an answer does to that. No lane knows of it.
+-- Where the records of all games lie, and the effect of an answer on that. No lane contains it.
 use Rattle.std.specs.Prelude.{ℕ, ◌*◌, ◌+◌, if◌then◌else◌, List, [], length, replicate, slice_index_or, slice_set, Option, Some, None}
 use Rattle.bs_block.specs.Rounding.{rounded}
 use Rattle.bs_pool.specs.Ledger.{Ledger, drawn}
@@ -11,7 +11,7 @@ use Rattle.bs_game.specs.declared.reply.Effect.TheVariants as effect
 -- the packing of each game's records, by its row, and the pool of all blocks
 pub record Storage : Type 0 where
   pub packings : List Packing
-  -- by its row too, the frame block of each part of the move that a game is at
+  -- by row too, the frame block of each part of a game's move
   pub frames : List (List (Option ℕ))
   pub pool : Ledger
 
@@ -19,22 +19,21 @@ pub record Storage : Type 0 where
 abbrev pub record_tag : ℕ → ℕ
 record_tag game = 2 * game
 
--- the tag of the blocks in which the parts of its turns will lie
+-- the tag of the frame blocks of a game's moves
 abbrev pub frame_tag : ℕ → ℕ
 frame_tag game = 2 * game + 1
 
 abbrev pub packing_of : Storage → ℕ → Packing
 packing_of storage game = slice_index_or storage.packings game no_packing
 
--- the packing of a game's records after what an answer does to them; a block that is opened has
--- that number
+-- the packing of a game's records after an effect; a block that is opened has that number
 abbrev pub packing_after : ℕ → ℕ → Effect → Packing → Packing
 packing_after cap number effect.Keep packing = packing
 packing_after cap number (effect.Add bytes) packing = packed cap number (length bytes) packing
 packing_after cap number effect.Trim packing = packing_of_last packing
 packing_after cap number effect.Drop packing = no_packing
 
--- the pool after that: one block drawn where the record needs it, or blocks given back
+-- the pool after that: one block drawn if the record needs it, or blocks given back
 abbrev pub pool_after : ℕ → ℕ → Effect → Packing → Ledger → Ledger
 pool_after cap tag effect.Keep packing pool = pool
 pool_after cap tag (effect.Add bytes) packing pool = if fits cap (rounded (length bytes)) packing.current then pool else drawn tag (next_number pool) pool
@@ -53,7 +52,7 @@ stored cap game effect storage =
 abbrev pub frames_of : Storage → ℕ → List (Option ℕ)
 frames_of storage game = slice_index_or storage.frames game []
 
--- a move of that game goes in so many parts
+-- a move of that game gets that many parts
 abbrev pub with_parts : ℕ → ℕ → Storage → Storage
 with_parts game parts storage = record storage { frames = slice_set storage.frames game (replicate parts None) }
 
@@ -66,7 +65,7 @@ with_frame game p storage =
       pool = drawn (frame_tag game) (next_number storage.pool) storage.pool;
     }
 
--- the move is answered: its frame blocks go back
+-- the move is answered: its frame blocks are given back
 abbrev pub without_frames : ℕ → Storage → Storage
 without_frames game storage =
     record {

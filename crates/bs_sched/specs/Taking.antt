@@ -1,5 +1,6 @@
 -- What a worker gets that asks for a job.
-use Rattle.std.specs.Prelude.{◌≡◌, ℕ, ◌≤◌, ◌<◌, true, false, List, length, slice_index_or, Some, None}
+use Rattle.std.specs.Prelude.{◌≡◌, ℕ, ◌≤◌, ◌<◌, true, false, List, length, slice_index_or, Option, Some, None}
+use Rattle.bs_counter.specs.Keys.{Key}
 use Rattle.bs_fiber.specs.Tickets.{TicketView, IsFresh, names_of}
 use Rattle.bs_fiber.specs.declared.job.JobName.{JobName}
 use Rattle.bs_sched.specs.declared.event.Event.TheVariants as event
@@ -7,26 +8,27 @@ use Rattle.bs_sched.specs.declared.taking.Found.{Found}
 use Rattle.bs_sched.specs.declared.taking.Found.TheVariants as found
 use Rattle.bs_sched.specs.declared.taking.Taken.{Taken}
 use Rattle.bs_sched.specs.declared.taking.Taken.TheVariants as taken
-use Rattle.bs_sched.specs.Core.{CoreView, core_after}
+use Rattle.bs_sched.specs.Core.{CoreView, core_taken}
+use Rattle.bs_sched.specs.Games.{KeepsTallies, tally_of}
 use Rattle.bs_sched.specs.Inputs.{input_of, names_for}
 use Rattle.bs_sched.specs.Keyed.{IsKeyOf}
 use Rattle.bs_sched.specs.Lane.{Lane, HasNoneReady, is_ready}
 use Rattle.bs_sched.specs.Machine.{lane_of, is_busy, is_enabled_there}
 
--- a job that some lane has for anybody
+-- a job of some lane that can be taken
 pub record IsReadyJob (lanes : List Lane) (job : JobName) : Type 0 where
   pub there : job.game < length lanes
   pub ready : is_ready (lane_of lanes job.game) job.kind job.part ≡ true
 
--- nobody can take anything
+-- no job can be taken
 abbrev pub AreNoneReady : List Lane → Type 0
 AreNoneReady lanes = (game : ℕ) → game < length lanes → HasNoneReady (lane_of lanes game)
 
--- nobody can take anything in the stays that are open
+-- no job of an open stay can be taken
 abbrev pub AreNoneOpenReady : List Lane → Type 0
 AreNoneOpenReady lanes = (game : ℕ) → game < length lanes → (lane_of lanes game).is_open ≡ true → HasNoneReady (lane_of lanes game)
 
--- nobody can take anything in the stays that are listed from that place on and before that one
+-- no job can be taken in the stays listed from that place on and before that other place
 abbrev pub AreNoneReadyBetween : ℕ → ℕ → List ℕ → List Lane → Type 0
 AreNoneReadyBetween from to rows lanes = (place : ℕ) → from ≤ place → place < to → HasNoneReady (lane_of lanes (slice_index_or rows place 0))
 
@@ -44,7 +46,7 @@ pub record IsBusyWorker (old : CoreView) (worker : ℕ) (new : CoreView) : Type 
   pub busy : is_busy worker old.games.lanes ≡ true
   pub same : new ≡ old
 
--- no job can be taken by the worker
+-- the worker can take no job
 pub record HasNothing (old : CoreView) (worker : ℕ) (new : CoreView) : Type 0 where
   pub failed : old.games.failed ≡ false
   pub free : is_busy worker old.games.lanes ≡ false
@@ -55,16 +57,21 @@ pub record HasNothing (old : CoreView) (worker : ℕ) (new : CoreView) : Type 0 
 pub record TakesJob (cap : ℕ) (old : CoreView) (worker : ℕ) (ticket : TicketView) (new : CoreView) : Type 0 where
   pub failed : old.games.failed ≡ false
   pub enabled : is_enabled_there old.games.workers old.games.lanes (event.Take worker ticket.input.job) ≡ true
-  pub after : new ≡ core_after cap old (event.Take worker ticket.input.job)
+  pub after : new ≡ core_taken cap old worker ticket.input.job new.games.tallies
+  pub tallies : KeepsTallies ticket.input.job old.games.tallies new.games.tallies
   pub input : ticket.input ≡ input_of (lane_of new.games.lanes ticket.input.job.game) worker ticket.input.job
-  -- its frame blocks are the game's own, and as their job is to find them
+  -- its frame blocks are the game's own, in the state that the job needs
   pub frames : names_of ticket.frames ≡ names_for new.games.storage ticket.input.job
   pub fresh : IsFresh ticket
+
+-- a part goes out with its key at the tally of its stay's move
+abbrev pub HasKeyOf : CoreView → JobName → Option Key → Type 0
+HasKeyOf core job key = IsKeyOf (tally_of core.games.tallies job.game) (length (lane_of core.games.lanes job.game).parts) job key
 
 -- the answers in the order in which they are judged
 abbrev pub TakesAs : (cap : ℕ) → CoreView → ℕ → Taken cap → CoreView → Type 0
 TakesAs cap old worker taken.Failed new = IsFailed old new
 TakesAs cap old worker taken.Busy new = IsBusyWorker old worker new
 TakesAs cap old worker taken.Nothing new = HasNothing old worker new
-TakesAs cap old worker (taken.Job ticket) new = TakesJob cap old worker ticket new × IsKeyOf ticket.input.job None
-TakesAs cap old worker (taken.Part ticket key) new = TakesJob cap old worker ticket new × IsKeyOf ticket.input.job (Some key)
+TakesAs cap old worker (taken.Job ticket) new = TakesJob cap old worker ticket new × HasKeyOf new ticket.input.job None
+TakesAs cap old worker (taken.Part ticket key) new = TakesJob cap old worker ticket new × HasKeyOf new ticket.input.job (Some key)

@@ -1,4 +1,4 @@
--- Where the record of a turn stands among those that are kept.
+-- The place of a turn's record among the kept ones.
 use Rattle.std.specs.Prelude.{◌≡◌, ℕ, ◌<◌, List, length, Option, None, MatchOption, slice_get, option_map}
 use Rattle.bs_board.specs.records.Record.{record_of}
 use Rattle.bs_game.specs.Game.{Game, board_of_turn}

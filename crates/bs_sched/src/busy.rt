@@ -6,7 +6,7 @@ use crate::cores::MOST_WORKERS;
 use bs_fiber::JobKind;
 use std::alloc::{AllocError, Global};
 
-/// The table for workers 0 to `workers`, all of them free.
+/// Makes the table for workers 0 to `workers`, all of them free.
 pub(crate) fn nobody_busy(alloc: Global, workers: usize) -> Result<Vec<bool>, AllocError>
     requires { workers ≤ MOST_WORKERS }
     ensures { IfOk result (λ busy. busy.items ≡ replicate (workers + 1) false) }

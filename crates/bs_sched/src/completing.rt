@@ -35,7 +35,7 @@ impl<const CAP: usize> Games<CAP> {
             && self.is_own(done.ticket().worker() as usize, done)
     }
 
-    /// The number of parts of that game's move; 0 where no move is played.
+    /// The number of parts of that game's move; 0 if no move is in progress.
     fn count_parts(&self, game: usize) -> usize
         requires { game < length self.now.lanes }
         ensures { result ≡ length (lane_of self.now.lanes game).parts }

@@ -1,5 +1,5 @@
 //! The core: all stays, and the journal of their events.
-ghost use Rattle.std.specs.Prelude.{◌≡◌, ◌+◌, ◌<◌, ◌≤◌, [], ◌∷◌, ◌++◌, true, length, vec_len, vec_capacity, slice_index_or, map, IfOk, OnOk, OnErr};
+ghost use Rattle.std.specs.Prelude.{◌≡◌, ◌+◌, ◌<◌, ◌≤◌, [], ◌∷◌, ◌++◌, true, length, vec_len, vec_capacity, slice_index_or, map, option_map, IfOk, OnOk, OnErr};
 ghost use Rattle.std.specs.List.{list_all};
 ghost use Rattle.bs_board.specs.plans.Plan.{IsFitPlan};
 ghost use Rattle.bs_game.specs.Game.{game_charge, last_board};
@@ -15,7 +15,7 @@ ghost use Rattle.bs_sched.specs.declared.event.Event.TheVariants as event;
 use crate::event::Event;
 use crate::fiber::keeps_limits;
 use crate::games::Games;
-use bs_board::{Board, Command, Reply, Row};
+use bs_board::{Board, Command, KeptBoard, Reply, Row};
 use bs_fiber::{Handed, Handles, SharedCommand};
 use std::alloc::{AllocError, Global};
 use std::marker::Model;
@@ -23,15 +23,15 @@ use std::marker::Model;
 /// The block counts of a core.
 #[derive(Clone, Copy, Debug, PartialEq, Eq)]
 pub struct Counts {
-    /// Blocks that no game holds.
+    /// The free blocks.
     pub free: usize,
-    /// Blocks that games hold, for records and for the parts of moves.
+    /// The blocks that games own, for records and for the parts of moves.
     pub held: usize,
     /// All blocks.
     pub size: usize,
 }
 
-/// The least size of a block, twice that of the largest record.
+/// The least size of a block in bytes, twice that of the largest record.
 pub const LEAST_CAPACITY: usize = 524_288;
 
 /// The largest worker number: an event has 32 bits for it.
@@ -62,9 +62,9 @@ impl<const CAP: usize> Model for Core<CAP> {
     ghost invariant = { λ c. IsJournaled CAP c };
 }
 
-/// Makes room for `more` events beside the completions of the jobs that are out. The sum can't
-/// overflow, since each of the 64 open stays has four jobs out at most; an overflow would be
-/// answered as want of memory.
+/// Makes room for `more` events besides the completions of the jobs that are out. The sum cannot
+/// overflow, since each of the 64 open stays has at most four jobs out; an overflow would be
+/// reported as want of memory.
 pub(crate) fn reserve_events(
     journal: &mut Vec<Event>,
     out: usize,
@@ -90,7 +90,7 @@ pub(crate) fn note(journal: &mut Vec<Event>, event: Event)
 }
 
 impl<const CAP: usize> Core<CAP> {
-    /// Queues a command for the open stay of that row. After want of memory the core is unchanged.
+    /// Queues a command for the open stay of that row. After an error the core is unchanged.
     pub fn hand(&mut self, alloc: Global, game: usize, command: Command) -> Result<(), AllocError>
         requires game { game < length self.old.games.lanes }
         requires open { (lane_of self.old.games.lanes game).is_open ≡ true }
@@ -110,7 +110,7 @@ impl<const CAP: usize> Core<CAP> {
         self.hand_handles(game, Handles::new(command)?)
     }
 
-    /// Queues a command by handles that were made before, so that the command itself is not read.
+    /// Queues a command whose handles the caller made.
     pub fn hand_handles(&mut self, game: usize, handles: Handles) -> Result<(), AllocError>
         requires game { game < length self.old.games.lanes }
         requires open { (lane_of self.old.games.lanes game).is_open ≡ true }
@@ -133,7 +133,7 @@ impl<const CAP: usize> Core<CAP> {
         self.games.fail();
     }
 
-    /// Whether the core was told to fail.
+    /// Whether `fail` was called.
     pub fn has_failed(&self) -> bool
         ensures { result ≡ self.now.games.failed }
     {
@@ -141,8 +141,8 @@ impl<const CAP: usize> Core<CAP> {
     }
 
     /// All events in order: each command queued, each job taken and completed, each stay opened and
-    /// closed. Every event was enabled when it happened, and applying them all to a newly opened
-    /// core gives this core. So the isolation law holds of the core between any two calls.
+    /// closed. Every event was enabled when it happened, and a newly opened core reaches this
+    /// core's state by them. So the isolation law holds of the core between any two calls.
     pub fn journal(&self) -> &[Event]
         ensures value { result.now ≡ self.now.journal }
         ensures journal { IsItsJournal CAP self.now }
@@ -151,7 +151,7 @@ impl<const CAP: usize> Core<CAP> {
         self.journal.as_slice()
     }
 
-    /// The number of stays: those of the plan, and then those that were admitted.
+    /// The number of stays: those of the plan, then those that were admitted.
     pub fn rows(&self) -> usize
         ensures value { result ≡ length self.now.games.lanes }
         ensures plan { IsFitPlan self.now.games.rows }
@@ -183,7 +183,7 @@ impl<const CAP: usize> Core<CAP> {
         self.games.is_open(game)
     }
 
-    /// The commands that were taken, in their order.
+    /// The commands that were taken, in order.
     pub fn taken(&self, game: usize) -> &[Handed]
         requires { game < length self.now.games.lanes }
         ensures { result.now ≡ (lane_of self.now.games.lanes game).taken }
@@ -191,7 +191,7 @@ impl<const CAP: usize> Core<CAP> {
         self.games.taken(game)
     }
 
-    /// The replies to the commands that were answered, in their order.
+    /// The replies to the commands that were answered, in order.
     pub fn replies(&self, game: usize) -> &[Reply]
         requires { game < length self.now.games.lanes }
         ensures value { result.now ≡ (lane_of self.now.games.lanes game).replies }
@@ -200,7 +200,7 @@ impl<const CAP: usize> Core<CAP> {
         self.games.replies(game)
     }
 
-    /// How many records are kept: none of a stay that has left.
+    /// The number of kept records; 0 for a stay that has left.
     pub fn count(&self, game: usize) -> usize
         requires { game < length self.now.games.lanes }
         ensures { result ≡ length (kept_of (lane_of self.now.games.lanes game)) }
@@ -208,7 +208,7 @@ impl<const CAP: usize> Core<CAP> {
         self.games.count(game)
     }
 
-    /// The record at that place among the kept ones, the oldest first.
+    /// A kept record by its index, the oldest first.
     pub fn records(&self, game: usize, place: usize) -> &[u8]
         requires game { game < length self.now.games.lanes }
         requires place { place < length (kept_of (lane_of self.now.games.lanes game)) }
@@ -217,7 +217,7 @@ impl<const CAP: usize> Core<CAP> {
         self.games.records(game, place)
     }
 
-    /// The newest board, if a game runs; of a stay that has left, its last board.
+    /// The newest board, if a game runs; for a stay that has left, its last board.
     pub fn board(&self, alloc: Global, game: usize) -> Result<Option<Board>, AllocError>
         requires { game < length self.now.games.lanes }
         ensures { IfOk result (λ board. board ≡ last_board (lane_of self.now.games.lanes game).game) }
@@ -225,7 +225,15 @@ impl<const CAP: usize> Core<CAP> {
         self.games.board(alloc, game)
     }
 
-    /// The charge of the kept records, in bytes; of a stay that has left, its last charge.
+    /// The record of the newest board, if a game runs; for a stay that has left, of its last board.
+    pub fn last(&self, game: usize) -> Option<&KeptBoard>
+        requires { game < length self.now.games.lanes }
+        ensures { option_map (λ kept. kept.now) result ≡ last_board (lane_of self.now.games.lanes game).game }
+    {
+        self.games.last(game)
+    }
+
+    /// The charge of the kept records, in bytes; for a stay that has left, its last charge.
     pub fn charge(&self, game: usize) -> u32
         requires { game < length self.now.games.lanes }
         ensures { result ≡ game_charge (lane_of self.now.games.lanes game).game }
@@ -240,7 +248,7 @@ impl<const CAP: usize> Core<CAP> {
         self.games.is_quiet()
     }
 
-    /// How many blocks are free, how many the games hold, and how many there are.
+    /// Counts the blocks: free ones, those that games own, and all.
     pub fn counts(&self) -> Counts
         ensures free { result.free ≡ free self.now.games.storage.pool }
         ensures size { result.size ≡ size self.now.games.storage.pool }

@@ -1,20 +1,22 @@
 //! The fiber of one game: its commands, its replies and its stage. Contracts see its lane.
-ghost use Rattle.std.specs.Prelude.{◌≡◌, ◌+◌, ◌≤◌, ◌<◌, ℕ, true, false, [], length, replicate, map, vec_len, vec_capacity, option_to_list, slice_index_or, MatchOption, ◌++◌, IfOk, IfSome, OnOk, OnErr};
+ghost use Rattle.std.specs.Prelude.{◌≡◌, ◌+◌, ◌≤◌, ◌<◌, ℕ, true, false, [], length, replicate, map, vec_len, vec_capacity, option_to_list, slice_index_or, MatchOption, ◌++◌, option_map, IfOk, IfSome, OnOk, OnErr};
 ghost use Rattle.std.specs.List.{list_all, filter_map, position};
 ghost use Rattle.bs_game.specs.Answer.{Fits};
 ghost use Rattle.bs_sched.specs.declared.fiber.Slot.TheVariants as slot;
 ghost use Rattle.bs_sched.specs.declared.stage.PartState.TheVariants as state;
 ghost use Rattle.bs_sched.specs.Lane.{is_part_done, is_part_ready, has_part};
+ghost use Rattle.bs_sched.specs.LastBoards.{last_after};
 ghost use Rattle.bs_sched.specs.Slots.{state_of, emptied, moved_in};
 
 use crate::stage::Stage;
 use bs_board::limits::MOST_QUOTA;
-use bs_board::{Board, Command, Reply, Row};
+use bs_board::{Command, KeptBoard, Reply, Row};
 use bs_fiber::{Handed, JobKind, Moved, Parts, SharedCommand};
+use bs_game::{Answer, Effect};
 use std::alloc::{AllocError, Global};
 use std::marker::Model;
 
-/// A part of the move that is played.
+/// The slot of a part of the move in progress.
 #[derive(Debug, Drop)]
 pub(crate) enum Slot {
     /// The part can be taken.
@@ -28,36 +30,19 @@ pub(crate) enum Slot {
 /// The largest number of parts of a move.
 const MOST_PARTS: usize = 4;
 
-/// The final state of a stay: its last board, and the charge of its records.
-#[derive(Debug, Drop)]
-pub(crate) struct Last {
-    pub(crate) board: Option<Board>,
-    pub(crate) charge: u32,
-}
-
-impl Last {
-    /// Copies the last board.
-    pub(crate) fn copy_board(&self, alloc: Global) -> Result<Option<Board>, AllocError>
-        ensures { IfOk result (λ board. board ≡ self.now.board) }
-    {
-        match &self.board {
-            None => Ok(None),
-            Some(board) => Ok(Some(board.copy(alloc)?)),
-        }
-    }
-}
-
 #[derive(Debug, Drop)]
 pub(crate) struct Fiber {
     row: Row,
-    /// The final state of the stay, if it has left.
-    left: Option<Last>,
-    /// All commands handed in. The first `begun` were taken.
+    /// The charge of the records when the stay left, if it has.
+    left: Option<u32>,
+    /// All queued commands. The first `begun` were taken.
     commands: Vec<Handed>,
     begun: usize,
     replies: Vec<Reply>,
     stage: Stage,
     slots: Vec<Slot>,
+    /// The newest board, if a game runs; for a stay that has left, its last board.
+    last: Option<KeptBoard>,
 }
 
 impl Model for Fiber {
@@ -100,6 +85,21 @@ fn push_ready(slots: &mut Vec<Slot>, parts: usize)
 {
     for _part in 0..parts {
         slots.push_reserved(Slot::Ready);
+    }
+}
+
+/// Changes the newest board as an answer's effect does.
+fn change_last(last: &mut Option<KeptBoard>, effect: Effect)
+    ensures { last.new ≡ last_after effect last.old }
+{
+    match effect {
+        Effect::Keep => {}
+        Effect::Add(record) => {
+            let _bytes = record.as_slice();
+            *last = Some(KeptBoard::of_record(record));
+        }
+        Effect::Trim => {}
+        Effect::Drop => *last = None,
     }
 }
 
@@ -214,17 +214,17 @@ impl Fiber {
             replies: Vec::new(alloc),
             stage: Stage::Idle,
             slots: Vec::with_capacity(alloc, MOST_PARTS)?,
+            last: None,
         })
     }
 
     /// Closes the stay. It takes no more commands.
-    pub(crate) fn close(&mut self, last: Last)
+    pub(crate) fn close(&mut self, charge: u32)
         requires quiet { is_quiet self.old ≡ true }
-        requires board { last.board ≡ last_board self.old.game }
-        requires charge { last.charge ≡ game_charge self.old.game }
+        requires charge { charge ≡ game_charge self.old.game }
         ensures { self.new ≡ closed_lane self.old }
     {
-        self.left = Some(last);
+        self.left = Some(charge);
     }
 
     /// Whether the stay has not left.
@@ -234,19 +234,21 @@ impl Fiber {
         self.left.is_none()
     }
 
-    /// The final state of the stay, if it has left.
-    pub(crate) fn last(&self) -> Option<&Last>
-        ensures { MatchOption result
-            (self.now.is_open ≡ true)
-            (λ last. (last.now.board ≡ last_board self.now.game) × (last.now.charge ≡ game_charge self.now.game)) }
+    /// The charge of the records when the stay left, if it has.
+    pub(crate) fn last_charge(&self) -> Option<u32>
+        ensures { MatchOption result (self.now.is_open ≡ true) (λ charge. charge ≡ game_charge self.now.game) }
     {
-        match &self.left {
-            None => None,
-            Some(last) => Some(last),
-        }
+        self.left
     }
 
-    /// Recalls for the prover that a stay that has left has nothing to do.
+    /// The newest board, if a game runs; for a stay that has left, its last board.
+    pub(crate) fn last(&self) -> Option<&KeptBoard>
+        ensures { option_map (λ kept. kept.now) result ≡ last_board self.now.game }
+    {
+        self.last.as_ref()
+    }
+
+    /// Recalls for the prover that a stay that has left is idle.
     pub(crate) fn rests(&self)
         ensures { self.now.is_open ≡ false → is_quiet self.now ≡ true }
     {
@@ -306,7 +308,7 @@ impl Fiber {
         Ok(Parts::from_vec(moved))
     }
 
-    /// Starts the move, with `parts` ready parts.
+    /// Starts the move with `parts` ready parts.
     pub(crate) fn fork(&mut self, parts: usize)
         requires begun { (worker : ℕ) × (is_out worker self.old kind.Begin 0 ≡ true) }
         requires goes { goes_on self.old ≡ true }
@@ -330,18 +332,21 @@ impl Fiber {
         }
     }
 
-    /// Appends the reply and ends the command.
-    pub(crate) fn answer(&mut self, reply: Reply)
+    /// Appends the reply, keeps the newest board and ends the command.
+    pub(crate) fn answer(&mut self, answer: Answer)
         requires out { (worker : ℕ) × (occupies worker self.old ≡ true) }
-        requires reply { reply ≡ (lane_outcome self.old).reply }
+        requires reply { answer.reply ≡ (lane_outcome self.old).reply }
+        requires last { last_after answer.effect (last_board self.old.game) ≡ last_board (lane_outcome self.old).game }
         ensures { self.new ≡ answered self.old }
     {
+        let Answer { reply, effect } = answer;
         self.slots.clear();
         self.replies.push_reserved(reply);
+        change_last(&mut self.last, effect);
         self.stage = Stage::Idle;
     }
 
-    /// Recalls for the prover what holds of each game between two events.
+    /// Recalls for the prover the invariant of each game between two events.
     pub(crate) fn keeps(&self)
         ensures { IsRight self.now }
     {

@@ -7,18 +7,18 @@ ghost use Rattle.bs_heap.specs.HeldBlocks.{Holds, LeavesOthers, next_number, all
 ghost use Rattle.bs_heap.specs.Lent.{AreLent, owned_numbers};
 ghost use Rattle.bs_pool.specs.Ledger.{held, reserved, drawn};
 ghost use Rattle.bs_sched.specs.declared.frames.FrameSlot.TheVariants as slot;
-ghost use Rattle.bs_counter.specs.Keys.{AreKeys};
 ghost use Rattle.bs_sched.specs.FrameSlots.{back_in, is_ready_slot, number_in, sent_off};
-ghost use Rattle.bs_sched.specs.Frames.{known, no_frames, forked_frames, joining_frames, with_keys, with_number, with_bytes};
+ghost use Rattle.bs_sched.specs.Frames.{known, idle_frames, no_frames, forked_frames, joining_frames, with_keys, with_number, with_bytes};
+ghost use Rattle.bs_sched.specs.Keyed.{AreKeysOf, IsKeyAt};
 
-use bs_counter::PartKey;
+use bs_counter::{PartKey, TallyName};
 use bs_fiber::{Done, JobKind, JobName};
 use bs_pool::{Owned, Pool};
 use std::alloc::{AllocError, Global};
 use std::marker::Model;
 use std::mem::replace;
 
-/// The most parts that a move has.
+/// The largest number of parts of a move.
 const MOST_PARTS: usize = 4;
 
 /// The slot of a part: its key, then the number of its block, then the block.
@@ -36,6 +36,8 @@ pub(crate) enum FrameSlot<const CAP: usize> {
 #[derive(Debug, Drop)]
 pub(crate) struct Frames<const CAP: usize> {
     tag: u32,
+    /// The tally of the move that is begun, or was begun last.
+    tally: Option<TallyName<Done<CAP>>>,
     /// Between the take and the completion of a move's Begin, the keys of its parts.
     keys: Vec<PartKey<Done<CAP>>>,
     slots: Vec<FrameSlot<CAP>>,
@@ -204,15 +206,22 @@ impl<const CAP: usize> Frames<CAP> {
     {
         Ok(Frames {
             tag,
+            tally: None,
             keys: Vec::new(alloc),
             slots: Vec::with_capacity(alloc, MOST_PARTS)?,
         })
     }
 
-    /// Keeps the keys of the command that is begun.
-    pub(crate) fn begin(&mut self, keys: Vec<PartKey<Done<CAP>>>)
-        ensures { self.new ≡ with_keys keys.entry.items self.old }
+    /// Keeps the keys of the command that is begun, and the name of their tally.
+    pub(crate) fn begin(
+        &mut self,
+        tally: Option<TallyName<Done<CAP>>>,
+        keys: Vec<PartKey<Done<CAP>>>,
+    )
+        requires { self.old.numbers ≡ [] }
+        ensures { self.new ≡ with_keys tally.entry keys.entry.items self.old }
     {
+        self.tally = tally;
         self.keys = keys;
     }
 
@@ -227,8 +236,8 @@ impl<const CAP: usize> Frames<CAP> {
     pub(crate) fn fork(&mut self)
         requires none { self.old.numbers ≡ [] }
         requires few { length self.old.keys ≤ MOST_PARTS }
-        requires keys { (parts : ℕ) × AreKeys parts self.old.keys }
-        ensures { self.new ≡ forked_frames self.old.tag (length self.old.keys) }
+        requires keys { AreKeysOf self.old.tally (length self.old.keys) self.old.keys }
+        ensures { self.new ≡ forked_frames self.old.tag self.old.tally (length self.old.keys) }
     {
         push_ready(&mut self.slots, &mut self.keys);
     }
@@ -244,7 +253,7 @@ impl<const CAP: usize> Frames<CAP> {
         ensures block { result.0.block ≡ [] }
         ensures tag { result.0.tag ≡ self.old.tag }
         ensures number { result.0.number ≡ next_number pool.old }
-        ensures key { result.1.part ≡ part }
+        ensures key { IsKeyAt self.old.tally (length self.old.numbers) part result.1 }
         ensures frames { self.new ≡ with_number part (next_number pool.old) self.old }
         ensures pool { pool.new ≡ drawn self.old.tag (next_number pool.old) pool.old }
         ensures kept { Holds self.old.tag (known self.old.numbers) pool.old → Holds self.old.tag (known (with_number part (next_number pool.old) self.old).numbers) pool.new }
@@ -280,7 +289,7 @@ impl<const CAP: usize> Frames<CAP> {
     pub(crate) fn give(&mut self, frames: &mut Vec<Owned<CAP>>, pool: &mut Pool<CAP>)
         requires names { names_of (frames_in frames.old.items) ≡ map (λ n. (self.old.tag, n)) (known self.old.numbers) }
         requires held { Holds self.old.tag (known self.old.numbers) pool.old }
-        ensures frames { self.new ≡ no_frames self.old.tag }
+        ensures frames { self.new ≡ idle_frames self.old.tag self.old.tally }
         ensures blocks { frames.new.items ≡ [] }
         ensures pool { pool.new ≡ all_given (known self.old.numbers) pool.old }
         ensures kept { Holds self.old.tag [] pool.new }

@@ -1,4 +1,4 @@
-//! One stay of the core: its fiber, its heap and its frame blocks, and how an answer changes them.
+//! One stay of the core: its fiber, its heap and its frame blocks, and their changes by an answer.
 ghost use Rattle.std.specs.Prelude.{◌≡◌, ◌<◌, ◌≤◌, ◌↔◌, IsTrue, ℕ, true, All, length, map, slice_get, Some, ◌≢◌};
 ghost use Rattle.std.specs.List.{list_all};
 ghost use Rattle.bs_game.specs.View.{answer_of};
@@ -13,7 +13,7 @@ ghost use Rattle.bs_fiber.specs.Frames.{frame_of};
 ghost use Rattle.bs_fiber.specs.Work.{moved_part, parts_of, snakes_in};
 ghost use Rattle.bs_game.specs.Game.{last_board};
 ghost use Rattle.bs_pool.specs.Ledger.{Ledger};
-ghost use Rattle.bs_sched.specs.Frames.{AreFramesOf, LeavesBut, forked_frames, known, no_frames, with_bytes};
+ghost use Rattle.bs_sched.specs.Frames.{AreFramesOf, LeavesBut, forked_frames, idle_frames, known, with_bytes};
 ghost use Rattle.bs_fiber.specs.Tickets.{frames_in, names_of};
 ghost use Rattle.bs_sched.specs.Storage.{packing_after, pool_after};
 
@@ -79,8 +79,8 @@ pub(crate) fn answer_game<const CAP: usize>(
     ensures others { LeavesOthers heap.old.tag pool.old pool.new }
 {
     fiber.keeps();
-    change_records(heap, pool, answer.effect);
-    fiber.answer(answer.reply);
+    change_records(heap, pool, &answer.effect);
+    fiber.answer(answer);
 }
 
 /// Completes a part: keeps its moved snakes and its block.
@@ -122,7 +122,7 @@ pub(crate) fn answer_job<const CAP: usize>(
     ensures lane { fiber.new ≡ answered fiber.old }
     ensures packing { heap.new.packing ≡ packing_after CAP (next_number pool.old) (answer_effect fiber.old) heap.old.packing }
     ensures pool { pool.new ≡ all_given (known frames.old.numbers) (pool_after CAP heap.old.tag (answer_effect fiber.old) heap.old.packing pool.old) }
-    ensures given { frames.new ≡ no_frames frames.old.tag }
+    ensures given { frames.new ≡ idle_frames frames.old.tag frames.old.tally }
     ensures heap { IsHeapOf CAP heap.old.tag fiber.new heap.new pool.new }
     ensures frames { AreFramesOf frames.old.tag fiber.new frames.new pool.new }
     ensures others { LeavesBut heap.old.tag frames.old.tag pool.old pool.new }
@@ -137,7 +137,7 @@ pub(crate) fn fork_of<const CAP: usize>(fiber: &mut Fiber, frames: &mut Frames<C
     requires goes { goes_on fiber.old ≡ true }
     requires frames { (pool : Ledger) × AreFramesOf frames.old.tag fiber.old frames.old pool }
     ensures lane { fiber.new ≡ forked fiber.old }
-    ensures forked { frames.new ≡ forked_frames frames.old.tag (length (forked fiber.old).parts) }
+    ensures forked { frames.new ≡ forked_frames frames.old.tag frames.old.tally (length (forked fiber.old).parts) }
     ensures frames { (pool : Ledger) → AreFramesOf frames.old.tag fiber.old frames.old pool → AreFramesOf frames.old.tag fiber.new frames.new pool }
 {
     fiber.fork(frames.count_keys());

@@ -1,6 +1,6 @@
-//! All stays of a core, with their fibers, their heaps and the pool. Clauses see them as lanes, and
-//! where their records lie.
-ghost use Rattle.std.specs.Prelude.{◌≡◌, ◌+◌, ◌≤◌, ◌<◌, [], true, length, slice_index_or, map, IfOk, OnOk, OnErr};
+//! All stays of a core, with their fibers, their heaps and the pool. Clauses see them as lanes and
+//! as the places of their records.
+ghost use Rattle.std.specs.Prelude.{◌≡◌, ◌+◌, ◌≤◌, ◌<◌, [], true, length, slice_index_or, map, option_map, IfOk, OnOk, OnErr};
 ghost use Rattle.std.specs.List.{list_all};
 ghost use Rattle.bs_board.specs.plans.Plan.{IsFitPlan};
 ghost use Rattle.bs_game.specs.Game.{game_charge, last_board};
@@ -17,8 +17,7 @@ use crate::fiber::Fiber;
 use crate::frames::Frames;
 use crate::game::are_quiet;
 use crate::plan_blocks::MOST_STAYS;
-use crate::records::decode_last;
-use bs_board::{Board, Reply, Row, Rows};
+use bs_board::{Board, KeptBoard, Reply, Row, Rows};
 use bs_fiber::Handed;
 use bs_heap::TagHeap;
 use bs_pool::Pool;
@@ -62,42 +61,24 @@ fn open_charge<const CAP: usize>(fiber: &Fiber, heap: &TagHeap<CAP>) -> u32
     heap.charge()
 }
 
-/// The charge of the records of a stay; of one that has left, its last charge.
+/// The charge of the records of a stay; for one that has left, its last charge.
 fn kept_charge<const CAP: usize>(fiber: &Fiber, heap: &TagHeap<CAP>) -> u32
     requires { fiber.now.is_open ≡ true → KeepsBoards fiber.now heap.now }
     ensures { result ≡ game_charge fiber.now.game }
 {
-    match fiber.last() {
-        Some(last) => last.charge,
+    match fiber.last_charge() {
+        Some(charge) => charge,
         None => open_charge(fiber, heap),
     }
 }
 
-/// The newest board of an open stay.
-fn open_board<const CAP: usize>(
-    alloc: Global,
-    fiber: &Fiber,
-    heap: &TagHeap<CAP>,
-) -> Result<Option<Board>, AllocError>
-    requires { KeepsBoards fiber.now heap.now }
-    ensures { IfOk result (λ board. board ≡ last_board fiber.now.game) }
-{
-    fiber.keeps();
-    decode_last(alloc, heap)
-}
-
-/// The newest board of a stay; of one that has left, its last board.
-fn kept_board<const CAP: usize>(
-    alloc: Global,
-    fiber: &Fiber,
-    heap: &TagHeap<CAP>,
-) -> Result<Option<Board>, AllocError>
-    requires { fiber.now.is_open ≡ true → KeepsBoards fiber.now heap.now }
+/// Decodes the newest board of a stay; for one that has left, its last board.
+fn read_last(alloc: Global, fiber: &Fiber) -> Result<Option<Board>, AllocError>
     ensures { IfOk result (λ board. board ≡ last_board fiber.now.game) }
 {
     match fiber.last() {
-        Some(last) => last.copy_board(alloc),
-        None => open_board(alloc, fiber, heap),
+        None => Ok(None),
+        Some(last) => Ok(Some(last.board(alloc)?)),
     }
 }
 
@@ -207,7 +188,14 @@ impl<const CAP: usize> Games<CAP> {
         requires { game < length self.now.lanes }
         ensures { IfOk result (λ board. board ≡ last_board (lane_of self.now.lanes game).game) }
     {
-        kept_board(alloc, &self.fibers[game], &self.heaps[game])
+        read_last(alloc, &self.fibers[game])
+    }
+
+    pub(crate) fn last(&self, game: usize) -> Option<&KeptBoard>
+        requires { game < length self.now.lanes }
+        ensures { option_map (λ kept. kept.now) result ≡ last_board (lane_of self.now.lanes game).game }
+    {
+        self.fibers[game].last()
     }
 
     pub(crate) fn charge(&self, game: usize) -> u32

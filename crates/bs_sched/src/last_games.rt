@@ -34,7 +34,7 @@ pub(crate) fn last_game(games: &[usize], worker: usize) -> usize {
     }
 }
 
-/// Records the worker's game. Writes nothing where it is unchanged, so that the cache line stays
+/// Records the worker's game. Writes nothing if it is unchanged, so that the cache line stays
 /// shared.
 pub(crate) fn note_game(games: &mut Vec<usize>, worker: usize, game: usize) {
     if worker < games.len() && games[worker] != game {

@@ -1,20 +1,20 @@
-//! The isolation law, as a contract: the stays of a core do not notice one another.
+//! The isolation law, as a contract: the stays of a core do not affect one another.
 ghost use Rattle.bs_sched.specs.Registry.{RegistryLaw, ProgressExample, NamesLaw, ServedLaw, JournalLaw};
 ghost use Rattle.bs_sched.specs.Isolation.{IsolationLaw};
 ghost use Rattle.bs_sched.specs.SharedMemory.{MemoryLaw};
 
 /// States the isolation law for every plan within its limits, every number of workers, every list
 /// of events whose commands and rows are within the limits, and every stay of the plan or admitted
-/// in the events. The stay's accepted events, run alone, give the very same lane; no event of
+/// by the events. The stay's accepted events, run alone, give the very same lane; no event of
 /// another stay changes it; and its replies and boards are those of its own commands, one after the
 /// other. The bytes of its records lie at their places in blocks that no other stay has; they are
 /// the bytes that it has when run alone, and no event of another stay moves or changes one. Free
-/// blocks, blocks of records and frame blocks add up to the pool. Each block is only one of these,
-/// and of one stay. A move has four frame blocks at most, a stay that plays no move has none, and
-/// where a block is needed there is one. A stay that has left holds no block, and the reservations
-/// are those of the open stays. Whether a stay is admitted depends on the stays that came and left,
-/// and on no job. No two open stays have one name. A stay can be admitted, play a turn by all the
-/// jobs of a move, with the replies and boards that it has alone, and be closed.
+/// blocks, blocks of records and frame blocks add up to the pool; each block is only one of these,
+/// and of one stay. A move has at most four frame blocks, and a stay without a move has none. If a
+/// block is needed, one is free. A stay that has left owns no block, and the reservations are those
+/// of the open stays. Whether a stay is admitted depends on earlier admissions and leaves, and on
+/// no job. No two open stays have one name. A stay can be admitted, play a turn by all jobs of a
+/// move, with the replies and boards that it has alone, and be closed. Does nothing.
 pub fn isolation_law()
     ensures isolation { IsolationLaw }
     ensures memory { MemoryLaw }

@@ -1,5 +1,5 @@
-//! The core: all stays, those of the plan and those admitted later, the jobs that carry out their
-//! commands, their records, and the journal of all events.
+//! The core: all stays, those of the plan and those admitted later; the jobs that execute their
+//! commands; their records; and the journal of all events.
 #![tactic(auto)]
 
 mod busy;

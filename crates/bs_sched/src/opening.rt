@@ -99,7 +99,7 @@ fn open_rows(alloc: Global, games: usize) -> Result<Vec<u32>, AllocError>
 
 impl<const CAP: usize> Games<CAP> {
     /// Opens the games of a plan, with no command yet.
-    #[tactic(auto, using(crate::proofs::OpenedGames::opened_packings, crate::proofs::OpenedGames::opened_numbers))]
+    #[tactic(auto, using(crate::proofs::OpenedGames::opened_packings, crate::proofs::OpenedGames::opened_numbers, crate::proofs::Tallies::opened_tallies))]
     fn open(alloc: Global, plan: Plan, blocks: usize, workers: usize) -> Result<Self, Open>
         requires capacity { IsCapacity CAP }
         requires wide { LEAST_CAPACITY ≤ CAP }

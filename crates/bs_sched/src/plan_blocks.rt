@@ -17,7 +17,7 @@ use std::alloc::{AllocError, Global};
 /// The frame blocks that are reserved for a stay: one for each part of a move.
 pub(crate) const FRAME_BLOCKS: usize = 4;
 
-/// The most rows that a core ever makes: a tag has 32 bits, and a stay has two tags.
+/// The largest number of rows in a core: a tag has 32 bits, and a stay has two tags.
 pub const MOST_STAYS: usize = 2_147_483_648;
 
 fn record_blocks(cap: usize, row: &Row) -> usize
@@ -77,7 +77,7 @@ fn set_aside<const CAP: usize>(
     }
 }
 
-/// Reserves the blocks of a stay under both its tags, or leaves the pool as it was.
+/// Reserves the blocks of a stay for both its tags. After an error the pool is unchanged.
 #[tactic(auto, using(crate::proofs::PlanBlocks::none_from, crate::proofs::PlanBlocks::none_beside))]
 pub(crate) fn reserve_row<const CAP: usize>(
     pool: &mut Pool<CAP>,

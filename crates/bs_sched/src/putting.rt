@@ -26,8 +26,8 @@ use bs_game::Answer;
 use bs_pool::Owned;
 use thiserror::Error;
 
-/// The done is of no Begin or Join that the worker has out: the job is not out with that worker, or
-/// is a part, or its ticket does not hold the core's input and frame blocks for it.
+/// The done is not of a Begin or Join that the worker has out: the job is not out with that worker,
+/// or is a part, or its ticket does not hold the core's input and frame blocks for it.
 #[derive(Debug, Drop, Error)]
 #[error("no such job is out with this worker")]
 pub struct Stray<const CAP: usize> {
@@ -137,7 +137,7 @@ impl<const CAP: usize> Games<CAP> {
         game < self.fibers.len() && is_own(&self.fibers[game], &self.heaps[game], worker, ticket)
     }
 
-    /// Whether the ticket's blocks are those that went out with its job.
+    /// Whether the ticket's blocks are those that it was taken with.
     fn has_own_frames(&self, ticket: &Ticket<CAP>) -> bool
         requires game { ticket.now.input.job.game < length self.now.lanes }
         requires out { (worker : ℕ) × (is_out worker (lane_of self.now.lanes ticket.now.input.job.game) ticket.now.input.job.kind ticket.now.input.job.part ≡ true) }
@@ -148,7 +148,7 @@ impl<const CAP: usize> Games<CAP> {
     }
 
     /// Whether the worker has the job out, and its ticket holds the core's input for it and the
-    /// blocks that went out with it.
+    /// blocks that it was taken with.
     #[tactic(auto, using(crate::proofs::OwnJobs::input_there, crate::proofs::OwnJobs::input_out, crate::proofs::OwnJobs::own_both, crate::proofs::OwnJobs::own_neither))]
     pub(crate) fn is_own(&self, worker: usize, done: &Done<CAP>) -> bool
         ensures { IsTrue result ↔ IsOwn self.now worker done.now }

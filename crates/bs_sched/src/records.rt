@@ -1,8 +1,8 @@
-//! The records of one game: what its jobs read of them, and what an answer does to them.
-ghost use Rattle.std.specs.Prelude.{◌≡◌, ◌<◌, ◌≤◌, ◌-◌, [], slice_get, length, option_map, IfOk, IfSome};
+//! The records of one game: what its jobs read of them, and how an answer changes them.
+ghost use Rattle.std.specs.Prelude.{◌≡◌, ◌<◌, ◌≤◌, length, option_map, IfSome};
 ghost use Rattle.bs_board.specs.boards.Over.{is_over};
 ghost use Rattle.bs_board.specs.records.Record.{record_of};
-ghost use Rattle.bs_fiber.specs.Expected.{IsOf};
+ghost use Rattle.bs_fiber.specs.Expected.{IsLegalAsked, IsOf};
 ghost use Rattle.bs_fiber.specs.Work.{parts_of, snakes_in};
 ghost use Rattle.bs_game.specs.Game.{Game, board_of_turn, last_board};
 ghost use Rattle.bs_game.specs.Law.{IsFitEffect, effected};
@@ -16,26 +16,23 @@ ghost use Rattle.bs_sched.specs.Storage.{packing_after, pool_after};
 ghost use Rattle.bs_sched.specs.Turns.{FindsTurn};
 
 use crate::fiber::Fiber;
-use bs_board::{
-    Board, Decode, TurnNumber, decode, over_of_record, seats_of_record, turn_of_record,
-};
+use bs_board::{Record, TurnNumber, over_of_record, seats_of_record, turn_of_record};
 use bs_fiber::{Expected, Handed, JobName};
 use bs_game::{Effect, place_of_turn};
 use bs_heap::TagHeap;
 use bs_pool::Pool;
-use std::alloc::{AllocError, Global};
 
 /// The record of the newest board.
-fn last_record<const CAP: usize>(heap: &TagHeap<CAP>) -> Option<&[u8]>
-    ensures { option_map (λ bytes. bytes.now) result ≡ slice_get heap.now.records (length heap.now.records - 1) }
+fn last_record(fiber: &Fiber) -> Option<&Record>
+    ensures { option_map (λ kept. kept.now) result ≡ option_map record_of (last_board fiber.now.game) }
 {
-    match heap.count() {
-        0 => None,
-        count => Some(heap.record(count - 1)),
+    match fiber.last() {
+        None => None,
+        Some(last) => Some(last.shared()),
     }
 }
 
-/// The place of the record of that turn among the kept ones, if it is kept.
+/// The index of the record of that turn among the kept ones, if it is kept.
 fn place_of<const CAP: usize>(heap: &TagHeap<CAP>, at: TurnNumber) -> Option<usize>
     requires { (game : Game) × IsRecorded game heap.now.records }
     ensures { (game : Game) → IsRecorded game heap.now.records → FindsTurn game heap.now.records at result }
@@ -59,7 +56,7 @@ fn turn_record<const CAP: usize>(heap: &TagHeap<CAP>, at: TurnNumber) -> Option<
     }
 }
 
-/// The record of the turn that a command asks for, if it asks for one and that is kept.
+/// The record of the turn that a command names, if it names one that is kept.
 fn asked_record<const CAP: usize>(heap: &TagHeap<CAP>, asks: Option<TurnNumber>) -> Option<&[u8]>
     requires { (game : Game) × IsRecorded game heap.now.records }
     ensures { (game : Game) → IsRecorded game heap.now.records → option_map (λ bytes. bytes.now) result ≡ option_map record_of (board_asked asks game) }
@@ -70,9 +67,9 @@ fn asked_record<const CAP: usize>(heap: &TagHeap<CAP>, asks: Option<TurnNumber>)
     }
 }
 
-/// The input that the game has for a job of that command.
+/// Makes the input that a job of that command is expected to have.
 pub(crate) fn expected<'a, const CAP: usize>(
-    fiber: &Fiber,
+    fiber: &'a Fiber,
     heap: &'a TagHeap<CAP>,
     command: &'a Handed,
     seq: u64,
@@ -80,7 +77,8 @@ pub(crate) fn expected<'a, const CAP: usize>(
     job: JobName,
 ) -> Expected<'a>
     requires { KeepsBoards fiber.now heap.now }
-    ensures { IsOf (input_for fiber.now command.now seq worker job) result }
+    ensures value { IsOf (input_for fiber.now command.now seq worker job) result }
+    ensures legal { IsLegalAsked result }
 {
     fiber.keeps();
     Expected {
@@ -90,27 +88,9 @@ pub(crate) fn expected<'a, const CAP: usize>(
         quota: fiber.quota(),
         charge: heap.charge(),
         kept: heap.count(),
-        last: last_record(heap),
+        last: last_record(fiber),
         asked: asked_record(heap, command.asks()),
         command: command.shared(),
-    }
-}
-
-/// Decodes the newest board, if there is one.
-pub(crate) fn decode_last<const CAP: usize>(
-    alloc: Global,
-    heap: &TagHeap<CAP>,
-) -> Result<Option<Board>, AllocError>
-    requires { (game : Game) × IsRecorded game heap.now.records }
-    ensures { IfOk result (λ last. (game : Game) → IsRecorded game heap.now.records → last ≡ last_board game) }
-{
-    let Some(bytes) = last_record(heap) else {
-        return Ok(None);
-    };
-    match decode(alloc, bytes) {
-        Ok(board) => Ok(Some(board)),
-        Err(Decode::Memory) => Err(AllocError),
-        Err(Decode::NotARecord) => unreachable!(),
     }
 }
 
@@ -139,15 +119,15 @@ pub(crate) fn is_last_over<const CAP: usize>(heap: &TagHeap<CAP>) -> bool
 pub(crate) fn change_records<const CAP: usize>(
     heap: &mut TagHeap<CAP>,
     pool: &mut Pool<CAP>,
-    effect: Effect,
+    effect: &Effect,
 )
     requires room { 0 < heap.old.index_room }
     requires blocks { blocks_for CAP heap.old.quota ≤ reserved heap.old.tag pool.old }
     requires held { IsKeptIn heap.old pool.old }
-    requires fits { IsFitEffect heap.old.quota (charge_of heap.old.records) effect }
-    ensures records { heap.new.records ≡ effected effect heap.old.records }
-    ensures packing { heap.new.packing ≡ packing_after CAP (next_number pool.old) effect heap.old.packing }
-    ensures pool { pool.new ≡ pool_after CAP heap.old.tag effect heap.old.packing pool.old }
+    requires fits { IsFitEffect heap.old.quota (charge_of heap.old.records) effect.now }
+    ensures records { heap.new.records ≡ effected effect.now heap.old.records }
+    ensures packing { heap.new.packing ≡ packing_after CAP (next_number pool.old) effect.now heap.old.packing }
+    ensures pool { pool.new ≡ pool_after CAP heap.old.tag effect.now heap.old.packing pool.old }
     ensures tag { heap.new.tag ≡ heap.old.tag }
     ensures quota { heap.new.quota ≡ heap.old.quota }
     ensures held { IsKeptIn heap.new pool.new }

@@ -6,7 +6,7 @@ use std::alloc::{AllocError, Global};
 use std::marker::Model;
 use std::sync::Arc;
 
-/// The row of an admitted stay, in memory of its own, so that an event stays small. Contracts see
+/// The row of an admitted stay, allocated by itself, so that an event stays small. Contracts see
 /// the row.
 #[derive(Debug, Drop)]
 pub struct SharedRow {
@@ -23,7 +23,7 @@ impl Model for SharedRow {
 }
 
 impl SharedRow {
-    /// Moves the row into memory of its own.
+    /// Moves the row into an allocation of its own.
     pub fn new(alloc: Global, row: Row) -> Result<SharedRow, AllocError>
         ensures { IfOk result (λ shared. shared ≡ row) }
     {

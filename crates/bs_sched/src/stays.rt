@@ -1,4 +1,4 @@
-//! Stays that come and go.
+//! Stays that are admitted and leave.
 ghost use Rattle.std.specs.Prelude.{◌≡◌, ◌<◌, ◌≤◌, ◌+◌, ◌-◌, ℕ, true, not, nat_eq, All, filter, length, vec_len, vec_capacity, IfOk, OnOk, OnErr};
 ghost use Rattle.std.specs.List.{list_any};
 ghost use Rattle.bs_board.specs.Texts.{is_same_text};
@@ -16,7 +16,7 @@ ghost use Rattle.bs_sched.specs.declared.stays.Leave.TheVariants as leave;
 
 use crate::cores::{Core, note, reserve_events};
 use crate::event::Event;
-use crate::fiber::{Fiber, Last};
+use crate::fiber::Fiber;
 use crate::frames::Frames;
 use crate::games::Games;
 use crate::plan_blocks::{MOST_STAYS, blocks_of, record_tag, release_row, reserve_row};
@@ -93,7 +93,7 @@ fn is_name_of(fibers: &[Fiber], rows: &[u32], name: &Id) -> bool
     false
 }
 
-/// Makes room for one more in each list.
+/// Makes room for one more entry in each list.
 fn make_room<const CAP: usize>(
     fibers: &mut Vec<Fiber>,
     heaps: &mut Vec<TagHeap<CAP>>,
@@ -115,7 +115,7 @@ fn make_room<const CAP: usize>(
     open_rows.reserve(1)
 }
 
-/// Takes the row out of the list.
+/// Removes the row from the list.
 fn remove_row(rows: &mut Vec<u32>, game: usize)
     ensures { rows.new.items ≡ filter (λ row. not (nat_eq row game)) rows.old.items }
 {
@@ -154,7 +154,7 @@ impl<const CAP: usize> Games<CAP> {
         blocks_of(CAP, row)
     }
 
-    /// Opens a stay in the next row. After want of memory nothing has changed.
+    /// Opens a stay in the next row. After an error nothing is changed.
     fn admit(&mut self, alloc: Global, row: Row) -> Result<usize, AllocError>
         requires fit { is_fit_row row ≡ true }
         requires room { length self.old.lanes < MOST_STAYS }
@@ -192,27 +192,22 @@ impl<const CAP: usize> Games<CAP> {
     }
 
     /// Closes the stay of that row, frees its blocks and ends their reservations. Its last board
-    /// and its charge are kept. After want of memory nothing has changed.
-    fn leave(&mut self, alloc: Global, game: usize) -> Result<(), AllocError>
+    /// and its charge are kept.
+    fn leave(&mut self, game: usize)
         requires game { game < length self.old.lanes }
         requires may { may_leave (lane_of self.old.lanes game) ≡ true }
-        ensures ok { OnOk result (self.new ≡ after CAP self.old (event.Leave game)) }
-        ensures err { OnErr result (self.new ≡ self.old) }
+        ensures { self.new ≡ after CAP self.old (event.Leave game) }
     {
-        let last = Last {
-            board: self.board(alloc, game)?,
-            charge: self.charge(game),
-        };
+        let charge = self.charge(game);
         self.heaps[game].free(&mut self.pool);
         release_row(&mut self.pool, game);
-        self.fibers[game].close(last);
+        self.fibers[game].close(charge);
         remove_row(&mut self.open_rows, game);
-        Ok(())
     }
 }
 
 impl<const CAP: usize> Core<CAP> {
-    /// Opens a stay that may come.
+    /// Opens a stay that may be admitted.
     fn open_stay(&mut self, alloc: Global, row: Row) -> Result<usize, AllocError>
         requires { may_admit (setting_of CAP self.old.games) self.old.games.lanes row ≡ true }
         ensures row { IfOk result (λ game. game ≡ length self.old.games.lanes) }
@@ -245,8 +240,8 @@ impl<const CAP: usize> Core<CAP> {
         Ok(self.open_stay(alloc, row)?)
     }
 
-    /// Closes a stay that may leave.
-    fn close_stay(&mut self, alloc: Global, game: usize) -> Result<(), AllocError>
+    /// Closes a stay, which no refusal forbids.
+    fn close_stay(&mut self, game: usize) -> Result<(), AllocError>
         requires game { game < length self.old.games.lanes }
         requires may { may_leave (lane_of self.old.games.lanes game) ≡ true }
         ensures ok { OnOk result (self.new ≡ core_after CAP self.old (event.Leave game)) }
@@ -254,14 +249,14 @@ impl<const CAP: usize> Core<CAP> {
     {
         let row = self.games.row_number(game);
         reserve_events(&mut self.journal, self.out, 1)?;
-        self.games.leave(alloc, game)?;
+        self.games.leave(game);
         note(&mut self.journal, Event::Leave(row));
         Ok(())
     }
 
     /// Closes the stay of that row, frees its blocks and ends their reservations. Its last board
     /// and its charge are kept. After a refusal the core is unchanged.
-    pub fn leave(&mut self, alloc: Global, game: usize) -> Result<(), Leave>
+    pub fn leave(&mut self, _alloc: Global, game: usize) -> Result<(), Leave>
         requires { game < length self.old.games.lanes }
         ensures { Leaves CAP self.old game result self.new }
     {
@@ -271,7 +266,7 @@ impl<const CAP: usize> Core<CAP> {
         if !self.games.is_quiet_at(game) {
             return Err(Leave::Busy);
         }
-        self.close_stay(alloc, game)?;
+        self.close_stay(game)?;
         Ok(())
     }
 }

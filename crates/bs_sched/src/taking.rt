@@ -5,15 +5,15 @@ ghost use Rattle.bs_heap.specs.HeldBlocks.{LeavesOthers, next_number};
 ghost use Rattle.bs_pool.specs.Ledger.{Ledger, drawn};
 ghost use Rattle.bs_fiber.specs.Tickets.{IsFresh, frames_in, names_of, ticket_in};
 ghost use Rattle.bs_fiber.specs.declared.job.JobKind.TheVariants as kind;
-ghost use Rattle.bs_sched.specs.Core.{core_after};
+ghost use Rattle.bs_sched.specs.Core.{core_taken};
 ghost use Rattle.bs_sched.specs.Frames.{AreFramesOf, frames_taken, joining_frames, pool_taken, with_keys, with_number};
-ghost use Rattle.bs_sched.specs.Games.{after};
+ghost use Rattle.bs_sched.specs.Games.{KeepsTallies, games_taken, tally_of};
 ghost use Rattle.bs_sched.specs.GamesLayout.{KeepsBoards};
 ghost use Rattle.bs_sched.specs.Inputs.{input_of, job_numbers, names_for};
-ghost use Rattle.bs_sched.specs.Keyed.{HasKeys, IsKeyOf};
+ghost use Rattle.bs_sched.specs.Keyed.{HasKeys, IsKeyAt, IsKeyOf};
 ghost use Rattle.bs_sched.specs.Lane.{HasNoneReady, is_ready, with_taken};
 ghost use Rattle.bs_sched.specs.Machine.{is_busy, is_enabled_there, lane_of};
-ghost use Rattle.bs_sched.specs.Taking.{AreNoneOpenReady, AreNoneReady, AreNoneReadyBetween, FindsJob, IsReadyJob, TakesAs};
+ghost use Rattle.bs_sched.specs.Taking.{AreNoneOpenReady, AreNoneReady, AreNoneReadyBetween, FindsJob, HasKeyOf, IsReadyJob, TakesAs};
 ghost use Rattle.bs_sched.specs.declared.event.Event.TheVariants as event;
 
 use crate::busy::{is_marked, mark};
@@ -25,7 +25,7 @@ use crate::games::Games;
 use crate::last_games::{last_game, note_game};
 use crate::plan_blocks::MOST_STAYS;
 use crate::records::{expected, is_last_over, parts_of_last};
-use bs_counter::{PartKey, Tally};
+use bs_counter::{PartKey, Tally, TallyName};
 use bs_fiber::{Contents, Done, JobKind, JobName, Ticket};
 use bs_heap::TagHeap;
 use bs_pool::Pool;
@@ -34,10 +34,10 @@ use std::alloc::{AllocError, Global};
 /// The largest number of parts of a move.
 const MOST_PARTS: usize = 4;
 
-/// The answer to a worker that asks for a job.
+/// The result of a worker's request for a job.
 #[derive(Debug, Drop)]
 pub enum Taken<const CAP: usize> {
-    /// No job: the core was told to fail.
+    /// No job: `fail` was called.
     Failed,
     /// No job: the worker has a Begin or a Join out.
     Busy,
@@ -101,28 +101,30 @@ fn place_from(rows: &[u32], first: usize) -> usize
     }
 }
 
-/// Opens a tally and returns its keys if the next command is a move and the game's last board is
-/// not over; else returns no keys. Reads what the fiber keeps beside the command, not the command.
+/// Opens a tally and returns its name and keys if the next command is a move and the game's last
+/// board is not over; else returns no keys. Reads what the fiber keeps beside the command, not the
+/// command.
 fn open_keys<const CAP: usize>(
     alloc: Global,
     fiber: &Fiber,
     heap: &TagHeap<CAP>,
-) -> Result<Vec<PartKey<Done<CAP>>>, AllocError>
+) -> Result<(Option<TallyName<Done<CAP>>>, Vec<PartKey<Done<CAP>>>), AllocError>
     requires waits { 0 < length fiber.now.waiting }
     requires heap { KeepsBoards fiber.now heap.now }
-    ensures { IfOk result (λ keys. (worker : ℕ) → HasKeys (with_taken worker kind.Begin 0 fiber.now) keys.items) }
+    ensures { IfOk result (λ opened. (worker : ℕ) → HasKeys (with_taken worker kind.Begin 0 fiber.now) opened.0 opened.1.items) }
 {
     fiber.keeps();
     if !fiber.next().is_move() {
-        return Ok(Vec::new(alloc));
+        return Ok((None, Vec::new(alloc)));
     }
     if heap.count() == 0 {
-        return Ok(Vec::new(alloc));
+        return Ok((None, Vec::new(alloc)));
     }
     if is_last_over(heap) {
-        return Ok(Vec::new(alloc));
+        return Ok((None, Vec::new(alloc)));
     }
-    Tally::open(alloc, parts_of_last(heap))
+    let (tally, keys) = Tally::open_named(alloc, parts_of_last(heap))?;
+    Ok((Some(tally), keys))
 }
 
 /// Takes the Begin of the next command, and keeps the keys of the parts that a move will have.
@@ -142,19 +144,19 @@ fn begin_input<const CAP: usize>(
     ensures input { IfOk result (λ contents. contents.value.input ≡ input_of fiber.new worker job) }
     ensures none { IfOk result (λ contents. contents.value.frames.items ≡ []) }
     ensures ok { OnOk result (fiber.new ≡ with_taken worker kind.Begin job.part fiber.old) }
-    ensures keys { OnOk result (frames.new ≡ with_keys frames.new.keys frames.old) }
+    ensures keys { OnOk result (frames.new ≡ with_keys frames.new.tally frames.new.keys frames.old) }
     ensures frames { OnOk result ((pool : Ledger) → AreFramesOf frames.old.tag fiber.old frames.old pool → AreFramesOf frames.old.tag fiber.new frames.new pool) }
     ensures err { OnErr result (fiber.new ≡ fiber.old) }
     ensures err_frames { OnErr result (frames.new ≡ frames.old) }
 {
     let seq = fiber.next_seq();
-    let keys = open_keys(alloc, fiber, heap)?;
+    let (tally, keys) = open_keys(alloc, fiber, heap)?;
     let handle = fiber.take_handle();
     let contents = expected(fiber, heap, fiber.next(), seq, worker, job).to_contents(
         alloc, handle, spent,
     )?;
     fiber.begin(worker as usize)?;
-    frames.begin(keys);
+    frames.begin(tally, keys);
     Ok(contents)
 }
 
@@ -176,7 +178,7 @@ fn part_input<const CAP: usize>(
     ensures input { IfOk result (λ taken. taken.0.value.input ≡ input_of fiber.new worker job) }
     ensures fresh { IfOk result (λ taken. IsFresh (ticket_in taken.0.value)) }
     ensures names { IfOk result (λ taken. names_of (frames_in taken.0.value.frames.items) ≡ map (λ n. (frames.old.tag, n)) (job_numbers job.kind job.part frames.new.numbers)) }
-    ensures key { IfOk result (λ taken. taken.1.part ≡ job.part) }
+    ensures key { IfOk result (λ taken. IsKeyAt frames.new.tally (length fiber.new.parts) job.part taken.1) }
     ensures ok { OnOk result (fiber.new ≡ with_taken worker kind.Part job.part fiber.old) }
     ensures numbers { OnOk result (frames.new ≡ with_number job.part (next_number pool.old) frames.old) }
     ensures pool { OnOk result (pool.new ≡ drawn frames.old.tag (next_number pool.old) pool.old) }
@@ -246,9 +248,9 @@ fn take_input<const CAP: usize>(
     ensures input { IfOk result (λ taken. taken.0.value.input ≡ input_of fiber.new worker job) }
     ensures fresh { IfOk result (λ taken. IsFresh (ticket_in taken.0.value)) }
     ensures names { IfOk result (λ taken. names_of (frames_in taken.0.value.frames.items) ≡ map (λ n. (frames.old.tag, n)) (job_numbers job.kind job.part frames.new.numbers)) }
-    ensures key { IfOk result (λ taken. IsKeyOf job taken.1) }
+    ensures key { IfOk result (λ taken. IsKeyOf frames.new.tally (length fiber.new.parts) job taken.1) }
     ensures ok { OnOk result (fiber.new ≡ with_taken worker job.kind job.part fiber.old) }
-    ensures numbers { OnOk result (frames.new ≡ frames_taken job.kind job.part (next_number pool.old) frames.new.keys frames.old) }
+    ensures numbers { OnOk result (frames.new ≡ frames_taken job.kind job.part (next_number pool.old) frames.new.tally frames.new.keys frames.old) }
     ensures pool { OnOk result (pool.new ≡ pool_taken job.kind frames.old.tag (next_number pool.old) pool.old) }
     ensures frames { OnOk result (AreFramesOf frames.old.tag fiber.new frames.new pool.new) }
     ensures others { LeavesOthers frames.old.tag pool.old pool.new }
@@ -292,9 +294,9 @@ fn take_ticket<const CAP: usize>(
     ensures ticket { IfOk result (λ taken. taken.0.input ≡ input_of fiber.new worker job) }
     ensures fresh { IfOk result (λ taken. IsFresh taken.0) }
     ensures names { IfOk result (λ taken. names_of taken.0.frames ≡ map (λ n. (frames.old.tag, n)) (job_numbers job.kind job.part frames.new.numbers)) }
-    ensures key { IfOk result (λ taken. IsKeyOf job taken.1) }
+    ensures key { IfOk result (λ taken. IsKeyOf frames.new.tally (length fiber.new.parts) job taken.1) }
     ensures ok { OnOk result (fiber.new ≡ with_taken worker job.kind job.part fiber.old) }
-    ensures numbers { OnOk result (frames.new ≡ frames_taken job.kind job.part (next_number pool.old) frames.new.keys frames.old) }
+    ensures numbers { OnOk result (frames.new ≡ frames_taken job.kind job.part (next_number pool.old) frames.new.tally frames.new.keys frames.old) }
     ensures pool { OnOk result (pool.new ≡ pool_taken job.kind frames.old.tag (next_number pool.old) pool.old) }
     ensures frames { OnOk result (AreFramesOf frames.old.tag fiber.new frames.new pool.new) }
     ensures others { LeavesOthers frames.old.tag pool.old pool.new }
@@ -337,8 +339,9 @@ impl<const CAP: usize> Games<CAP> {
         ensures ticket { IfOk result (λ taken. taken.0.input ≡ input_of (lane_of self.new.lanes job.game) worker job) }
         ensures fresh { IfOk result (λ taken. IsFresh taken.0) }
         ensures names { IfOk result (λ taken. names_of taken.0.frames ≡ names_for self.new.storage job) }
-        ensures key { IfOk result (λ taken. IsKeyOf job taken.1) }
-        ensures ok { OnOk result (self.new ≡ after CAP self.old (event.Take worker job)) }
+        ensures key { IfOk result (λ taken. IsKeyOf (tally_of self.new.tallies job.game) (length (lane_of self.new.lanes job.game).parts) job taken.1) }
+        ensures ok { OnOk result (self.new ≡ games_taken CAP self.old worker job self.new.tallies) }
+        ensures tallies { OnOk result (KeepsTallies job self.old.tallies self.new.tallies) }
         ensures err { OnErr result (self.new ≡ self.old) }
     {
         take_ticket(
@@ -363,8 +366,8 @@ impl<const CAP: usize> Core<CAP> {
         is_marked(self.busy.as_slice(), worker)
     }
 
-    /// Recalls for the prover that a stay that has left has no job: where no open one has one, none
-    /// has.
+    /// Recalls for the prover that a stay that has left has no job: if no open stay has one, no
+    /// stay has one.
     fn has_none(&self)
         requires { AreNoneOpenReady self.now.games.lanes }
         ensures { AreNoneReady self.now.games.lanes }
@@ -405,8 +408,9 @@ impl<const CAP: usize> Core<CAP> {
         ensures ticket { IfOk result (λ taken. taken.0.input ≡ input_of (lane_of self.new.games.lanes job.game) worker job) }
         ensures fresh { IfOk result (λ taken. IsFresh taken.0) }
         ensures names { IfOk result (λ taken. names_of taken.0.frames ≡ names_for self.new.games.storage job) }
-        ensures key { IfOk result (λ taken. IsKeyOf job taken.1) }
-        ensures ok { OnOk result (self.new ≡ core_after CAP self.old (event.Take worker job)) }
+        ensures key { IfOk result (λ taken. HasKeyOf self.new job taken.1) }
+        ensures ok { OnOk result (self.new ≡ core_taken CAP self.old worker job self.new.games.tallies) }
+        ensures tallies { OnOk result (KeepsTallies job self.old.games.tallies self.new.games.tallies) }
         ensures err { OnErr result (self.new ≡ self.old) }
     {
         let number = self.games.worker_number(worker);
@@ -419,8 +423,8 @@ impl<const CAP: usize> Core<CAP> {
         Ok(taken)
     }
 
-    /// Takes a job for that worker, with a ticket that holds all that the job reads. The memory for
-    /// its completion is reserved here. After want of memory the core is unchanged.
+    /// Takes a job for that worker, with a ticket that holds all that the job reads. Reserves the
+    /// memory for its completion. After an error the core is unchanged.
     pub fn take(&mut self, alloc: Global, worker: usize) -> Result<Taken<CAP>, AllocError>
         requires { worker ≤ self.old.games.workers }
         ensures ok { IfOk result (λ taken. TakesAs CAP self.old worker taken self.new) }

@@ -1,4 +1,3 @@
-mod Cuts
 pub mod PartLines
-pub mod ShareBytes
+pub mod Sent
 pub mod WrittenBytes

@@ -1,3 +1,4 @@
-pub mod Bytes
+pub mod Buffer
 pub mod Lines
 pub mod Parts
+pub mod Written

@@ -1,13 +1,15 @@
-//! Renders the text of a transcript, by one thread or several: each game's replies and final line,
-//! then the lines that belong to no game. Writes it to a writer.
+//! Writes a transcript: each game's replies and final line, then the lines that belong to no game.
+//! Its text is never in memory whole: lines are put into a buffer, and the buffer is written.
 #![tactic(auto)]
 
+mod fault;
+mod line_buffer;
 mod lines;
-mod render;
-mod shares;
+mod measure;
+mod section;
 mod write;
 
-pub use lines::{Section, text};
-pub use render::text_by;
-pub use shares::{Shares, write_shares};
+pub use fault::TranscriptFault;
+pub use lines::{text, write_transcript};
+pub use section::Section;
 pub use write::{WriteFault, write_all_of};

@@ -1,72 +1,33 @@
-//! The text of a transcript: a section for each game, then the lines that belong to no game.
-ghost use Rattle.std.specs.Prelude.{◌≡◌, ◌+◌, ◌<◌, ◌^◌, ◌++◌, length, OnOk, IfOk};
-ghost use Rattle.bs_transcript.specs.Lines.{reply_lines_from, stray_lines_of, section_lines_of, text_of};
-ghost use Rattle.bs_json.specs.Replies.{final_line_of};
+//! Writes a transcript in bounded memory, and makes its text in one piece.
+ghost use Rattle.std.specs.Prelude.{◌≡◌, OnOk, IfOk, IfErr};
+ghost use Rattle.std.specs.Io.KnownBytes.{Appends};
+ghost use Rattle.bs_transcript.specs.Lines.{text_of};
+ghost use Rattle.bs_transcript.specs.Written.{Leaves};
 
-use bs_board::{Board, Id, Reply};
-use bs_json::{Stray, final_line, push_reply_line, stray_line};
+use crate::fault::TranscriptFault;
+use crate::line_buffer::LineBuffer;
+use crate::measure::measure;
+use crate::section::Section;
+use bs_json::Stray;
 use std::alloc::{AllocError, Global};
+use std::io::Write;
 
-/// What the transcript shows of one game.
-#[derive(Debug, Drop)]
-pub struct Section<'t> {
-    pub name: &'t Id,
-    pub replies: &'t [Reply],
-    /// The newest board, where a game runs.
-    pub board: Option<Board>,
-    pub charge: u32,
-}
-
-/// Appends the lines of these replies of a game, numbered from `first`.
-pub(crate) fn push_replies(
+/// Writes the games' sections in order, then the lines that belong to no game, each with its number
+/// in the file. First measures all lines, then asks once for a buffer of 64 KiB and the longest
+/// line; from the first byte that is written on it asks for no memory.
+pub fn write_transcript<W: Write>(
     alloc: Global,
-    name: &Id,
-    first: u64,
-    replies: &[Reply],
-    text: &mut Vec<u8>,
-) -> Result<(), AllocError>
-    requires { first + length replies.now < 2 ^ 64 }
-    ensures { OnOk result (text.new.items ≡ text.old.items ++ reply_lines_from first name.now replies.now) }
-{
-    for index in 0..replies.len() {
-        push_reply_line(alloc, name, first + index as u64, &replies[index], text)?;
-    }
-    Ok(())
-}
-
-/// Appends the final line of a game: its last board and its charge.
-pub(crate) fn push_final(
-    alloc: Global,
-    section: &Section<'_>,
-    text: &mut Vec<u8>,
-) -> Result<(), AllocError>
-    ensures { OnOk result
-        (text.new.items ≡ text.old.items ++ final_line_of section.now.name.now section.now.board section.now.charge) }
-{
-    let line = final_line(alloc, section.name, section.board.as_ref(), section.charge)?;
-    text.extend_from_slice(&line)?;
-    Ok(())
-}
-
-/// Appends the reply lines of a game, and its final line.
-fn push_section(alloc: Global, section: &Section<'_>, text: &mut Vec<u8>) -> Result<(), AllocError>
-    ensures { OnOk result (text.new.items ≡ text.old.items ++ section_lines_of section.now) }
-{
-    push_replies(alloc, section.name, 1, section.replies, text)?;
-    push_final(alloc, section, text)
-}
-
-pub(crate) fn push_strays(
-    alloc: Global,
+    sections: &[Section<'_>],
     strays: &[(u64, Stray)],
-    text: &mut Vec<u8>,
-) -> Result<(), AllocError>
-    ensures { OnOk result (text.new.items ≡ text.old.items ++ stray_lines_of strays.now) }
+    output: &mut W,
+) -> Result<(), TranscriptFault>
+    ensures written { OnOk result (Appends (W.contents output.old) (W.contents output.new) (text_of sections.now strays.now)) }
+    ensures left { IfErr result (Leaves W.contents (text_of sections.now strays.now) output.old output.new) }
 {
-    for (number, stray) in strays {
-        let line = stray_line(alloc, *number, *stray)?;
-        text.extend_from_slice(&line)?;
-    }
+    let lengths = measure(alloc, sections, strays)?;
+    let mut buffer = LineBuffer::open(alloc, lengths.longest)?;
+    buffer.push_all(sections, strays, output)?;
+    buffer.write_out(output)?;
     Ok(())
 }
 
@@ -80,9 +41,8 @@ pub fn text(
     ensures { IfOk result (λ text. text.items ≡ text_of sections.now strays.now) }
 {
     let mut text = Vec::new(alloc);
-    for section in sections {
-        push_section(alloc, section, &mut text)?;
+    match write_transcript(alloc, sections, strays, &mut text) {
+        Ok(()) => Ok(text),
+        Err(_) => Err(AllocError),
     }
-    push_strays(alloc, strays, &mut text)?;
-    Ok(text)
 }

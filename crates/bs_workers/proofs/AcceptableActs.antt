@@ -1,4 +1,4 @@
--- What is acceptable by the registry is enabled in the core.
+-- An act that is acceptable by the registry is enabled in the core.
 use Rattle.std.proofs.Common.{◌≡◌, true, List, [], ◌∷◌, ◌++◌, refl, ap, ◌∙◌}
 use Rattle.std.specs.Prelude.{fold}
 use Rattle.std.proofs.lemmas.Bool.{and_from, and_parts}
@@ -21,7 +21,7 @@ opened_registry : (plan : List GameRow) → registry_of (opened_lanes plan) ≡ 
 opened_registry [] = refl
 opened_registry (row ∷ plan) = ap (λ (stays : List Stay). record { row = row; is_open = true } ∷ stays) (opened_registry plan)
 
--- a job changes no registry, so the acts alone make it
+-- jobs do not change the registry, so it depends on the acts alone
 made_by_acts : (registry : List Stay) (events : List Event) → fold registry_after_event registry events ≡ fold registry_after registry (acts_of events)
 made_by_acts registry [] = refl
 made_by_acts registry (event.Hand game command ∷ events) = made_by_acts registry events

@@ -8,7 +8,7 @@ use Rattle.bs_sched.specs.declared.event.Event.{Event}
 use Rattle.bs_workers.specs.declared.act.Act.{Act}
 use Rattle.bs_workers.specs.Run.{CannotMake, act_of, acts_of}
 
--- what is left after one event
+-- the acts of one event are split off
 
 pub job_makes_nothing : (e : Event) (acts : List Act) → act_of e ≡ None → acts ≡ acts_of (e ∷ []) ++ acts
 job_makes_nothing e acts is = ap (λ made. cons_option made [] ++ acts) (sym is)
@@ -16,7 +16,7 @@ job_makes_nothing e acts is = ap (λ made. cons_option made [] ++ acts) (sym is)
 pub first_is_made : (e : Event) (next : Act) (acts rest : List Act) → act_of e ≡ Some next → acts ≡ next ∷ rest → acts ≡ acts_of (e ∷ []) ++ rest
 first_is_made e next acts rest is all = all ∙ ap (λ made. cons_option made [] ++ rest) (sym is)
 
--- an event that makes another act than the first
+-- an event whose act differs from the first act
 
 made_by : (made : Option Act) (next : Act) (rest more : List Act) → (made ≡ None → ⊥) → (made ≡ Some next → ⊥) → next ∷ rest ≡ cons_option made [] ++ more → ⊥
 made_by None next rest more no_job other same = no_job refl
@@ -38,7 +38,7 @@ another_is_made job first e next acts rest off told other makes all =
 pub none_is_left : (job : Bool) (e : Event) (acts : List Act) → job ≡ false → (IsTrue job ↔ act_of e ≡ None) → acts ≡ [] → CannotMake (e ∷ []) acts
 none_is_left job e acts off told all = λ more same. nothing_by (act_of e) more (no_job job e off told) (sym all ∙ same)
 
--- one event more
+-- one more event
 
 acts_append : (events more : List Event) → acts_of (events ++ more) ≡ acts_of events ++ acts_of more
 acts_append events more = filter_map-append act_of events more

@@ -3,15 +3,16 @@ use Rattle.std.proofs.Common.{◌≡◌, ℕ, true, false, List, [], ◌∷◌, 
 use Rattle.std.specs.List.{cons_option, list_all}
 use Rattle.std.proofs.lemmas.List.Elements.{filter_map-append}
 use Rattle.bs_fiber.specs.Tickets.{TicketView}
+use Rattle.bs_fiber.specs.declared.job.JobName.{JobName}
 use Rattle.bs_sched.specs.declared.event.Event.{Event}
 use Rattle.bs_sched.specs.declared.event.Event.TheVariants as event
-use Rattle.bs_sched.specs.Core.{CoreView, core_after}
+use Rattle.bs_sched.specs.Core.{CoreView, core_after, core_taken}
 use Rattle.bs_sched.specs.Journal.{KeepsApart}
 use Rattle.bs_sched.specs.Lane.{is_quiet}
 use Rattle.bs_sched.specs.Parts.{core_run, puts_of}
 use Rattle.bs_workers.specs.declared.act.Act.{Act}
 use Rattle.bs_workers.specs.Run.{act_of, acts_of}
-use Rattle.bs_counter.specs.Keys.{Key}
+use Rattle.bs_counter.specs.Keys.{Key, TallyId}
 use Rattle.bs_sched.specs.declared.taking.Taken.{Taken}
 use Rattle.bs_sched.specs.declared.taking.Taken.TheVariants as taken
 use Rattle.bs_sched.specs.Taking.{TakesAs, TakesJob}
@@ -68,7 +69,7 @@ makes_failed old new after =
       acted = ap (λ (c : CoreView). acts_of c.journal) after ∙ sym (append-nil (acts_of old.journal));
     }
 
--- a quiet core that was not told to fail
+-- an idle core on which `fail` was not called
 pub settled : (cap : ℕ) (core : CoreView) → KeepsApart cap core → list_all is_quiet core.games.lanes ≡ true → core.games.failed ≡ false → IsSettled core
 settled cap core apart quiet failed =
     record {
@@ -78,10 +79,18 @@ settled cap core apart quiet failed =
       served = λ stay there. served_one cap core stay apart quiet there;
     }
 
+-- the taking of a job makes nothing
+makes_took : (cap : ℕ) (old new : CoreView) (worker : ℕ) (job : JobName) (tallies : List (Option TallyId)) → new ≡ core_taken cap old worker job tallies → Makes old [] new
+makes_took cap old new worker job tallies after =
+    record {
+      plan = ap (λ (c : CoreView). c.games.rows) after;
+      acted = ap (λ (c : CoreView). acts_of c.journal) after ∙ filter_map-append act_of old.journal (event.Take worker job ∷ []);
+    }
+
 -- a job was taken, and then nothing was made
 pub makes_taken : (cap : ℕ) (old mid new : CoreView) (worker : ℕ) (ticket : TicketView) → TakesJob cap old worker ticket mid → Makes mid [] new → Makes old [] new
 makes_taken cap old mid new worker ticket takes rest =
-    makes_both old mid new [] [] (makes_no_act cap old mid (event.Take worker ticket.input.job) refl takes.after) rest
+    makes_both old mid new [] [] (makes_took cap old mid worker ticket.input.job mid.games.tallies takes.after) rest
 
 pub makes_nothing : (old mid new : CoreView) → Makes old [] mid → Makes mid [] new → Makes old [] new
 makes_nothing old mid new one two = makes_both old mid new [] [] one two

@@ -1,4 +1,5 @@
--- What the comparison of a core with a run sees, and what a quiet core is that has made the acts.
+-- What the comparison of a core with a run checks, and the state of an idle core that has made the
+-- acts.
 use Rattle.std.proofs.Common.{◌≡◌, ℕ, ◌+◌, ◌<◌, ◌≤◌, true, List, [], ◌∷◌, ◌++◌, length, take, get_or, refl, sym, ap, subst, ◌∙◌, arith, inl, inr}
 use Rattle.std.specs.Prelude.{if◌then◌else◌, nat_eq, count_by}
 use Rattle.std.specs.List.{filter_map, list_all}
@@ -53,7 +54,7 @@ pub row_among_first : (lanes : List Lane) (rows : List GameRow) (game : ℕ) →
 row_among_first lanes rows game within same =
     sym (row_there lanes game) ∙ sym (get_or-take (length rows) (rows_made lanes) game (row_of [] 0) within) ∙ ap (λ all. row_at all game) same
 
--- the rows that are admitted, and what a stay is handed
+-- the rows that are admitted, and the commands of a stay
 
 pub rows_of_acts : (events : List Event) → rows_in events ≡ rows_admitted (acts_of events)
 rows_of_acts [] = refl
@@ -103,7 +104,7 @@ pub rows_fresh : (cap blocks workers : ℕ) (rows : List GameRow) (core : CoreVi
     → rows_made core.games.lanes ≡ rows
 rows_fresh cap blocks workers rows core fresh = ap (λ (c : CoreView). rows_made c.games.lanes) fresh ∙ rows_opened rows
 
--- a quiet core whose journal makes the acts has served each stay
+-- an idle core whose journal makes the acts has served each stay
 
 -- one stay of a core
 pub served_one : (cap : ℕ) (core : CoreView) (stay : ℕ) → KeepsApart cap core → list_all is_quiet core.games.lanes ≡ true → stay < length core.games.lanes
@@ -117,12 +118,12 @@ served_one cap core stay apart quiet there =
     let still : is_quiet x ≡ true = AllPass-from_list_all is_quiet core.games.lanes quiet stay no_lane there in
     served x (filter_map (command_in stay) (acts_of core.journal)) well.right still told
 
--- the rows are those of the plan, and those that the acts admit
+-- the rows are those of the plan, then those that the acts admit
 pub made_of : (cap : ℕ) (core : CoreView) → KeepsApart cap core → rows_made core.games.lanes ≡ core.games.rows ++ rows_admitted (acts_of core.journal)
 made_of cap core apart =
     ap (λ (ls : List Lane). rows_made ls) (sym apart.lanes) ∙ apart.told.rows ∙ ap (λ more. core.games.rows ++ more) (rows_of_acts core.journal)
 
--- where the first rows are those, and as many come after as are admitted, the plan is those rows
+-- if the first rows are these, and as many follow as are admitted, the plan is these rows
 plan_of : (plan rows more : List GameRow) (lanes : List Lane) (admitted : ℕ) → HasRows rows admitted lanes → rows_made lanes ≡ plan ++ more
     → admitted ≡ length more → plan ≡ rows
 plan_of plan rows more lanes admitted has made counted =

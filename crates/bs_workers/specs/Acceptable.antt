@@ -1,4 +1,4 @@
--- Acceptable acts may be made in their order, whatever the games do meanwhile.
+-- Acceptable acts may be made in their order, whatever jobs run meanwhile.
 use Rattle.std.specs.Prelude.{◌≡◌, true, List, ◌∷◌, ◌++◌}
 use Rattle.bs_board.specs.plans.Plan.{GameRow}
 use Rattle.bs_sched.specs.declared.event.Event.{Event}
@@ -12,13 +12,13 @@ use Rattle.bs_workers.specs.declared.act.Act.TheVariants as act
 use Rattle.bs_workers.specs.Acts.{are_acceptable, opened}
 use Rattle.bs_workers.specs.Run.{acts_of}
 
--- the act's event is enabled; a stay can leave once it has nothing to do
+-- the act's event is enabled; a stay can leave once it is idle
 abbrev pub MayBeMade : Setting → List Lane → Act → Type 0
 MayBeMade setting lanes (act.Hand stay command) = is_enabled setting lanes (event.Hand stay command) ≡ true
 MayBeMade setting lanes (act.Admit row) = is_enabled setting lanes (event.Admit row) ≡ true
 MayBeMade setting lanes (act.Leave stay) = is_quiet (lane_of lanes stay) ≡ true → is_enabled setting lanes (event.Leave stay) ≡ true
 
--- The events make the first of the acts, with any jobs between them; then the next act may be made.
+-- The events make the first acts, with any jobs between them; then the next act may be made.
 abbrev pub AcceptableLaw : Type 0
 AcceptableLaw =
     (setting : Setting) (plan : List GameRow) (events : List Event) (a : Act) (rest : List Act)

@@ -1,5 +1,5 @@
--- Which acts are acceptable, in their order. The registry of stays decides it: of each stay the
--- row, and whether it is open. What the games do meanwhile decides nothing.
+-- Which acts are acceptable, in their order. The registry alone decides: the row of each stay, and
+-- whether it is open. The state of the games does not matter.
 use Rattle.std.specs.Prelude.{ℕ, nat_eq, Bool, true, false, ◌&&◌, if◌then◌else◌, List, [], ◌∷◌, map, Option, Some, None}
 use Rattle.std.specs.List.{position}
 use Rattle.bs_board.specs.declared.commands.command.Command.{Command}
@@ -26,7 +26,7 @@ registry_after registry (act.Hand stay command) = registry
 registry_after registry (act.Admit row) = with_admitted row registry
 registry_after registry (act.Leave stay) = with_closed stay registry
 
--- each act may be made where it comes, whatever the games do meanwhile
+-- each act may be made in its place, whatever the state of the games
 abbrev pub is_acceptable : Capacity → List Stay → Act → Bool
 is_acceptable capacity registry (act.Hand stay command) = is_in registry stay
 is_acceptable capacity registry (act.Admit row) = may_admit_in capacity registry row

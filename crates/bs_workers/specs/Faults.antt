@@ -1,4 +1,4 @@
--- Which fault a run keeps: want of memory, whichever came first; else the last one.
+-- The fault that a run keeps: `Memory` if it occurred at all, else the last one.
 use Rattle.std.specs.Prelude.{Option, Some, None}
 use Rattle.bs_workers.specs.declared.fault.Run.{Run}
 use Rattle.bs_workers.specs.declared.fault.Run.TheVariants as cause

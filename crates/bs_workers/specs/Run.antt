@@ -1,5 +1,5 @@
--- The result of a run: every act was made in order, and every command answered, each stay by its
--- own commands alone.
+-- The result of a run: every act was made in order, and every command was answered, in each stay as
+-- if the stay were alone.
 use Rattle.std.specs.Prelude.{◌≡◌, ℕ, ◌+◌, ◌<◌, true, false, List, ◌∷◌, ◌++◌, length, map, take, Option, Some, None}
 use Rattle.std.specs.List.{filter_map, list_all}
 use Rattle.bs_board.specs.plans.Plan.{GameRow}
@@ -15,7 +15,7 @@ use Rattle.bs_workers.specs.declared.act.Act.{Act}
 use Rattle.bs_workers.specs.declared.act.Act.TheVariants as act
 use Rattle.bs_workers.specs.Acts.{command_in, rows_admitted}
 
--- the act that an event is, if it is no job's
+-- the act that an event makes; none if it is a job's
 abbrev pub act_of : Event → Option Act
 act_of (event.Hand game command) = Some (act.Hand game command)
 act_of (event.Take worker job) = None
@@ -30,10 +30,10 @@ acts_of = filter_map act_of
 abbrev pub rows_made : List Lane → List GameRow
 rows_made = map (λ x. x.row)
 
--- the core has the same plan and as many blocks, was not told to fail, and nothing is left to do;
--- its stays are those of the plan, and then those that were admitted; its journal makes just these
--- acts, in their order, and each stay is as its own commands leave it: one that has left keeps its
--- last board and its charge
+-- The core has the same plan and as many blocks, `fail` was not called, and it is idle. Its stays
+-- are those of the plan, then the admitted ones. Its journal makes just these acts, in their order,
+-- and each stay is as its own commands leave it; one that has left keeps its last board and its
+-- charge.
 pub record IsRunOf (old : CoreView) (acts : List Act) (new : CoreView) : Type 0 where
   pub plan : new.games.rows ≡ old.games.rows
   pub stays : rows_made new.games.lanes ≡ old.games.rows ++ rows_admitted acts
@@ -44,14 +44,14 @@ pub record IsRunOf (old : CoreView) (acts : List Act) (new : CoreView) : Type 0 
   pub served : (stay : ℕ) → stay < length (old.games.rows ++ rows_admitted acts)
       → IsServedAlone (row_at (old.games.rows ++ rows_admitted acts) stay) (filter_map (command_in stay) acts) (lane_of new.games.lanes stay)
 
--- what the comparison of a core with a run looks at
+-- what the comparison of a core with a run checks
 
--- the first stays have these rows, and so many come after them
+-- the first stays have these rows, and `admitted` more stays follow
 pub record HasRows (rows : List GameRow) (admitted : ℕ) (lanes : List Lane) : Type 0 where
   pub first : take (length rows) (rows_made lanes) ≡ rows
   pub made : length lanes ≡ length rows + admitted
 
--- the core has these stays and that many blocks, was not told to fail, and nothing is left to do
+-- the core has these stays and that many blocks, `fail` was not called, and it is idle
 pub record HasEnded (rows : List GameRow) (admitted blocks : ℕ) (new : CoreView) : Type 0 where
   pub stays : HasRows rows admitted new.games.lanes
   pub as_many : size new.games.storage.pool ≡ blocks

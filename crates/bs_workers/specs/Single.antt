@@ -1,4 +1,4 @@
--- What acts make of a core that one thread runs by itself.
+-- The core after acts that one thread makes by itself.
 use Rattle.std.specs.Prelude.{◌≡◌, ℕ, ◌<◌, true, false, List, [], ◌∷◌, ◌++◌, length}
 use Rattle.std.specs.List.{filter_map, list_all}
 use Rattle.bs_sched.specs.Core.{CoreView}
@@ -9,13 +9,13 @@ use Rattle.bs_workers.specs.declared.act.Act.{Act}
 use Rattle.bs_workers.specs.Acts.{command_in, rows_admitted}
 use Rattle.bs_workers.specs.Run.{acts_of, rows_made}
 
--- the plan is the same, and the journal makes these acts behind those that it made before
+-- the plan is the same, and the journal makes these acts after its earlier ones
 pub record Makes (old : CoreView) (acts : List Act) (new : CoreView) : Type 0 where
   pub plan : new.games.rows ≡ old.games.rows
   pub acted : acts_of new.journal ≡ acts_of old.journal ++ acts
 
--- The core was not told to fail, and nothing is left to do. Its stays are those of the plan, and
--- then those that its journal admits; each is as its own commands leave it.
+-- `fail` was not called on the core, and it is idle. Its stays are those of the plan, then those
+-- that its journal admits; each is as its own commands leave it.
 pub record IsSettled (core : CoreView) : Type 0 where
   pub failed : core.games.failed ≡ false
   pub quiet : list_all is_quiet core.games.lanes ≡ true

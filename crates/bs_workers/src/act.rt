@@ -1,9 +1,10 @@
-//! What a run is asked to do, one act after the other.
+//! The acts of a run.
 use bs_board::Row;
 use bs_fiber::{Handles, SharedCommand};
 use std::alloc::{AllocError, Global};
 
-/// One act of a run. The rows of the plan are numbered first, then those that are admitted.
+/// One act of a run. A row of the plan is named by its number, and admitted rows are numbered after
+/// those.
 #[derive(Debug, Drop)]
 pub enum Act {
     /// Queues the command for the game of that row.
@@ -14,7 +15,7 @@ pub enum Act {
     Leave(usize),
 }
 
-/// An act with the handles that the core keeps of it.
+/// An act with the handles that the core keeps of its command.
 #[derive(Drop)]
 pub(crate) enum HeldAct {
     Hand(usize, Handles),
@@ -23,7 +24,7 @@ pub(crate) enum HeldAct {
 }
 
 impl Act {
-    /// Makes the handles that a core keeps of the act.
+    /// Makes the handles that a core keeps of the act's command.
     fn hold(&self, alloc: Global) -> Result<HeldAct, AllocError> {
         match self {
             Act::Hand(stay, command) => Ok(HeldAct::Hand(*stay, Handles::new(command)?)),
@@ -33,7 +34,7 @@ impl Act {
     }
 }
 
-/// Makes the handles of all acts. The first act is the last of the list.
+/// Makes the handles of all acts. The last of the list is the first act.
 pub(crate) fn hold_all(alloc: Global, acts: &[Act]) -> Result<Vec<HeldAct>, AllocError> {
     let mut held = Vec::with_capacity(alloc, acts.len())?;
     for act in acts.iter().rev() {

@@ -10,7 +10,7 @@ use bs_board::Row;
 use bs_sched::{Core, Event};
 use std::alloc::{AllocError, Global};
 
-/// A copy of the rows of all stays.
+/// Copies the rows of all stays.
 #[tactic(auto, using(crate::proofs::Compared::one_more_row, crate::proofs::Compared::all_rows))]
 pub(crate) fn copy_rows<const CAP: usize>(
     alloc: Global,
@@ -46,7 +46,7 @@ fn has_first_rows<const CAP: usize>(core: &Core<CAP>, rows: &[Row]) -> bool
     true
 }
 
-/// Whether the first stays have these rows, and so many stays come after them.
+/// Whether the first stays have these rows, and `admitted` more stays follow.
 fn has_rows<const CAP: usize>(core: &Core<CAP>, rows: &[Row], admitted: usize) -> bool
     ensures { IsTrue result ↔ HasRows rows.now admitted core.now.games.lanes }
 {
@@ -93,7 +93,7 @@ fn is_job(event: &Event) -> bool
     }
 }
 
-/// The acts that remain after the event; none where it makes an act that isn't the first.
+/// Returns the acts that remain after the event; `None` if it makes an act other than the first.
 #[tactic(auto, using(crate::proofs::Acted::job_makes_nothing, crate::proofs::Acted::first_is_made, crate::proofs::Acted::another_is_made, crate::proofs::Acted::none_is_left))]
 fn after_event<'c>(acts: &'c [Act], event: &Event) -> Option<&'c [Act]>
     ensures { MatchOption result
@@ -131,7 +131,7 @@ fn admits(act: &Act) -> bool
     }
 }
 
-/// How many games the acts admit.
+/// Counts the games that the acts admit.
 fn count_admitted(acts: &[Act]) -> usize
     ensures { result ≡ count_by is_admission acts.now }
 {
@@ -144,8 +144,7 @@ fn count_admitted(acts: &[Act]) -> usize
         .count()
 }
 
-/// Whether the core has these stays and that many blocks, was not told to fail, and nothing is left
-/// to do.
+/// Whether the core has these stays and that many blocks, `fail` was not called, and it is idle.
 fn has_ended<const CAP: usize>(
     core: &Core<CAP>,
     rows: &[Row],
@@ -160,7 +159,7 @@ fn has_ended<const CAP: usize>(
         && core.is_quiet()
 }
 
-/// Whether the core is the result of a run of these acts in a core of that plan with that many
+/// Whether the core is the result of a run of these acts in a core with that plan and that many
 /// blocks.
 #[tactic(auto, using(crate::proofs::Compared::run_of, crate::proofs::Compared::run_ended))]
 pub(crate) fn is_run_of<const CAP: usize>(

@@ -20,7 +20,7 @@ pub(crate) struct Executor<const CAP: usize> {
     /// Notified when a job may have become ready, and at the end of the run.
     changed: Condvar,
     alloc: Global,
-    /// How many worker numbers of the core each thread has.
+    /// The number of worker numbers of the core that each thread has.
     numbers: usize,
 }
 
@@ -91,7 +91,7 @@ impl<const CAP: usize> Executor<CAP> {
     }
 
     /// Makes all acts in order, until the run is stopped. Their handles are made before the lock is
-    /// taken. Where a game cannot leave yet, the calling thread runs jobs as that worker meanwhile.
+    /// taken. While a game cannot leave yet, the calling thread runs jobs as that worker.
     pub(crate) fn submit<R: Wait, G: Gate>(
         &self,
         rt: &R,
@@ -123,7 +123,7 @@ impl<const CAP: usize> Executor<CAP> {
     ) -> bool {
         let mut state = self.lock(rt);
         for _ in rt.forever() {
-            // The results are completed first: they may be what the game waits for.
+            // The results are completed first: the leaving game may wait for them.
             state.complete(worker);
             let made = state.submit(self.alloc, held);
             if made != Submitted::Busy {
@@ -137,7 +137,7 @@ impl<const CAP: usize> Executor<CAP> {
                     state = self.lock(rt);
                 }
                 Next::Wait { wakes: _ } => {
-                    // Others may run jobs of what was just made.
+                    // Others may run jobs of the acts that were just made.
                     self.changed.notify_all();
                     state = self.sleep(rt, state);
                 }
@@ -175,7 +175,7 @@ impl<const CAP: usize> Executor<CAP> {
         false
     }
 
-    /// The worker of that thread; none where memory ran out, which stops the run.
+    /// Makes the worker of that thread. `None` if memory ran out, which stops the run.
     fn worker_of<R: Wait>(&self, rt: &R, thread: usize) -> Option<Worker<CAP>> {
         let first = thread.saturating_mul(self.numbers);
         match Worker::new(self.alloc, thread, first, self.numbers) {
@@ -197,7 +197,7 @@ impl<const CAP: usize> Executor<CAP> {
         }
     }
 
-    /// Runs jobs on a thread of that number until the end of the run.
+    /// Runs jobs as the thread of that number until the end of the run.
     fn work_as<R: Wait, G: Gate>(&self, rt: &R, thread: usize, gate: &G) {
         if let Some(mut worker) = self.worker_of(rt, thread) {
             self.work(rt, &mut worker, gate);

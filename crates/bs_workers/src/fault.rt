@@ -11,14 +11,14 @@ use thiserror::Error;
 pub enum Run {
     #[error("out of memory")]
     Memory,
-    /// A gate answered false, an act names a stay that is not open, the core refused a call, or the
+    /// A gate returned false, an act names a stay that is not open, the core refused a call, or the
     /// finished core is not that of a complete run.
     #[error("broken")]
     Broken,
 }
 
 impl Run {
-    /// The fault that a run keeps where this one comes after `earlier`.
+    /// The fault that a run keeps when this one follows `earlier`.
     pub(crate) fn after(self, earlier: Option<Run>) -> Run
         ensures { result ≡ kept_fault earlier self }
     {

@@ -16,8 +16,8 @@ use std::alloc::Global;
 use std::sync::Wait;
 use std::thread::Threads;
 
-/// Like `run`, for any acts. An act that the core refuses for another reason than want of memory
-/// stops the run with `Broken`.
+/// Like `run`, for any acts. An act that the core refuses for a reason other than memory stops the
+/// run with `Broken`.
 pub fn run_any<const CAP: usize, R: Threads + Wait + Sync, G: Gate>(
     rt: &R,
     alloc: Global,
@@ -50,11 +50,12 @@ pub fn run_any<const CAP: usize, R: Threads + Wait + Sync, G: Gate>(
 }
 
 /// Makes the acts in order in a newly opened core, and answers all commands on at most `threads`
-/// threads, the caller's included. There are never more threads than the core has workers, and the
-/// workers are divided among the threads. The gate is passed the thread's number. The caller's
+/// threads, the caller's included. There are at most as many threads as workers in the core, and
+/// the workers are divided among the threads. The gate is passed the thread's number. The caller's
 /// thread makes the acts; while a game cannot leave yet, it runs jobs itself, and may wait for
-/// another thread. Each act has to be acceptable where it comes, by the open stays alone: a command
-/// and a leave name an open stay, and an admitted row's name, place and blocks are free.
+/// another thread. Each act must be acceptable in its place, judged by the open stays alone: a
+/// command and a leave name an open stay, and for an admitted row a name, a place and blocks are
+/// free.
 pub fn run<const CAP: usize, R: Threads + Wait + Sync, G: Gate>(
     rt: &R,
     alloc: Global,

@@ -1,5 +1,5 @@
-//! Runs a core on the calling thread: each command is queued and answered before the next one. Takes
-//! no lock and starts no thread.
+//! Runs a core on the calling thread: each command is queued and answered before the next one.
+//! Takes no lock and starts no thread.
 ghost use Rattle.std.specs.Prelude.{◌≡◌, [], ◌∷◌, true, IsTrue, OnOk};
 ghost use Rattle.bs_fiber.specs.Tickets.{IsFresh};
 ghost use Rattle.bs_fiber.specs.declared.job.JobKind.TheVariants as kind;
@@ -79,7 +79,7 @@ fn run_part<const CAP: usize>(
     }
 }
 
-/// Takes a job and runs it. Returns false where no job is ready.
+/// Takes a job and runs it. Returns false if no job is ready.
 #[tactic(auto, using(crate::proofs::ActsMade::makes_none, crate::proofs::ActsMade::makes_taken, crate::proofs::ActsMade::makes_nothing))]
 fn run_next<const CAP: usize>(
     alloc: Global,
@@ -138,7 +138,7 @@ fn hand<const CAP: usize>(
     Ok(())
 }
 
-/// Whether the core was not told to fail and nothing is left to do in it.
+/// Whether the core is idle, and `fail` was not called.
 #[tactic(auto, using(crate::proofs::ActsMade::settled))]
 pub fn is_settled<const CAP: usize>(core: &Core<CAP>) -> bool
     ensures { IsTrue result → IsSettled core.now }
@@ -148,9 +148,8 @@ pub fn is_settled<const CAP: usize>(core: &Core<CAP>) -> bool
 }
 
 /// Queues the command for the game of that row and runs all jobs on the calling thread, which must
-/// have all of the core's jobs. Afterwards the command is answered and nothing is left to do. Keeps
-/// the memory of a spent ticket in `spent` for the next call. After an error the core is not to be
-/// used.
+/// have all of the core's jobs. Afterwards the command is answered and the core is idle. Keeps the
+/// memory of a spent ticket in `spent` for the next call. After an error the core must not be used.
 #[tactic(auto, using(crate::proofs::ActsMade::acted))]
 pub fn run_command<const CAP: usize>(
     alloc: Global,

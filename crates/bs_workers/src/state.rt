@@ -1,4 +1,4 @@
-//! What the threads of a run share: the core, and how far the run is.
+//! The state that the threads of a run share: the core, and the progress of the run.
 ghost use Rattle.std.specs.Prelude.{◌≡◌, Some, None, IfErr, OnOk};
 ghost use Rattle.bs_workers.specs.Faults.{kept_fault};
 
@@ -10,7 +10,7 @@ use bs_fiber::Handles;
 use bs_sched::{Core, Leave, Taken};
 use std::alloc::Global;
 
-/// What a thread does next, once it has released the lock.
+/// What a thread does once it has released the lock.
 #[derive(Clone, Copy, PartialEq, Eq)]
 pub(crate) enum Next {
     /// Runs the jobs that it took. If `wakes`, it first wakes the waiting threads, because it may
@@ -19,21 +19,21 @@ pub(crate) enum Next {
     /// Waits: no job is ready, but one may become ready. If `wakes`, it first wakes the waiting
     /// threads, because a game may be able to leave now.
     Wait { wakes: bool },
-    /// Ends: there will be no further job.
+    /// Ends: there will be no more jobs.
     End,
 }
 
-/// How far a list of acts was made.
+/// The progress through a list of acts.
 #[derive(Clone, Copy, PartialEq, Eq)]
 pub(crate) enum Submitted {
     All,
-    /// The next act is that of a game that cannot leave yet: something is to be done in it.
+    /// The next act is the leave of a game that is not idle yet.
     Busy,
     /// The run is stopped.
     Stopped,
 }
 
-/// The core of a run, and how far the run is.
+/// The core of a run, and the progress of the run.
 #[derive(Drop)]
 pub(crate) struct State<const CAP: usize> {
     core: Core<CAP>,
@@ -41,7 +41,7 @@ pub(crate) struct State<const CAP: usize> {
     pub(crate) waiting: usize,
     /// Whether all acts are made.
     pub(crate) is_closed: bool,
-    /// Whether the caller's thread waits for a game that is to leave.
+    /// Whether the caller's thread waits until a game can leave.
     is_leaving: bool,
     /// Why the run was stopped.
     fault: Option<Run>,
@@ -81,7 +81,7 @@ impl<const CAP: usize> State<CAP> {
         }
     }
 
-    /// Admits a game. Where the acts are acceptable, the core refuses it for want of memory alone.
+    /// Admits a game. If the acts are acceptable, the core refuses it only when memory runs out.
     fn admit(&mut self, alloc: Global, row: Row) {
         match self.core.admit(alloc, row) {
             Ok(_) => {}
@@ -105,8 +105,7 @@ impl<const CAP: usize> State<CAP> {
         true
     }
 
-    /// Makes the acts, the last of the list first, up to the `leave` of a game in which something
-    /// is still to be done.
+    /// Makes the acts, the last of the list first, up to the leave of a game that is not idle.
     pub(crate) fn submit(&mut self, alloc: Global, acts: &mut Vec<HeldAct>) -> Submitted {
         self.is_leaving = false;
         for _ in 0..acts.len() {
@@ -186,9 +185,9 @@ impl<const CAP: usize> State<CAP> {
     }
 
     /// Takes a batch of jobs for the worker, whose results made at most `ready` jobs ready. Each of
-    /// its numbers takes up to four jobs, and stops after a Begin or a Join. Where other threads
-    /// wait, only as many numbers as its share of `ready` take a job, and each takes one. A worker
-    /// with a single number takes one job.
+    /// its numbers takes up to four jobs, and stops after a Begin or a Join. While other threads
+    /// wait, only as many numbers as its share of `ready` take a job, one each. A worker with a
+    /// single number takes one job.
     fn take_batch(&mut self, worker: &mut Worker<CAP>, ready: usize) -> Result<(), Next> {
         let all = worker.numbers.max(1);
         let (numbers, most) = if self.waiting > 0 {
@@ -217,8 +216,8 @@ impl<const CAP: usize> State<CAP> {
         self.complete_all(worker);
     }
 
-    /// Records the worker's fault, completes its results, and takes its next batch of jobs. Where
-    /// the caller's thread waits for a game to leave, a thread that completes something wakes it.
+    /// Records the worker's fault, completes its results, and takes its next batch of jobs. If the
+    /// caller's thread waits until a game can leave, a thread that completes something wakes it.
     pub(crate) fn complete_and_take(&mut self, worker: &mut Worker<CAP>) -> Next {
         let ready = worker.count_ready();
         let wakes = self.is_leaving && ready > 0;

@@ -14,7 +14,7 @@ use std::alloc::{AllocError, Global};
 /// The largest number of parts of a move, and of jobs that a worker number takes in one batch.
 pub(crate) const MOST_PARTS: usize = 4;
 
-/// A job that was taken from the core. A part has its key with it.
+/// A job that was taken from the core, with its key if it is a part.
 #[derive(Drop)]
 pub(crate) struct Job<const CAP: usize> {
     pub(crate) ticket: Ticket<CAP>,
@@ -32,7 +32,7 @@ pub(crate) struct Worker<const CAP: usize> {
     thread: usize,
     /// The first of its numbers in the core; the others follow.
     pub(crate) first: usize,
-    /// How many worker numbers of the core it has.
+    /// The number of its worker numbers in the core.
     pub(crate) numbers: usize,
     /// Jobs to be run.
     pub(crate) jobs: Vec<Job<CAP>>,
@@ -42,15 +42,15 @@ pub(crate) struct Worker<const CAP: usize> {
     pub(crate) moves: Vec<ArrayVec<Option<Done<CAP>>, 4>>,
     /// The contents of completed tickets. New tickets reuse their memory.
     pub(crate) spent: Vec<Box<Contents<CAP>>>,
-    /// What is left of a job for which memory ran out.
+    /// A job for which memory ran out, and its key.
     failed: Option<(Option<PartKey<Done<CAP>>>, Stopped<CAP>)>,
     /// Why a job was not run to its end. After that no further job is run.
     pub(crate) fault: Option<Run>,
 }
 
 impl<const CAP: usize> Worker<CAP> {
-    /// Makes the worker of that thread, with as many of the core's worker numbers from `first` on.
-    /// Allocates all lists at their full capacity.
+    /// Makes the worker of that thread, with `numbers` of the core's worker numbers from `first`
+    /// on. Allocates all lists at their full capacity.
     pub(crate) fn new(
         alloc: Global,
         thread: usize,

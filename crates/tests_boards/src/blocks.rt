@@ -1,5 +1,4 @@
-//! The calls of a block on small blocks, and that many blocks take no memory before they are
-//! written.
+//! The calls of small blocks, and that many blocks take no memory before they are written.
 use bs_block::{Block, round_up};
 use bs_samples::{holds, same};
 use std::marker::{Send, Sync};
@@ -27,7 +26,7 @@ fn pushes_into_a_block_of_64_bytes(rt: HostRuntime) -> Result<(), Fail> {
 
 const OLD: [u8; 16] = [1, 2, 3, 4, 5, 6, 7, 8, 9, 10, 11, 12, 13, 14, 15, 16];
 
-/// The 17 bytes that are written where zeros were lent, and zeros up to the next unit.
+/// Compares the 17 bytes that are written over lent zeros, and the zeros up to the next unit.
 fn check_filled(block: &Block<64>) -> Result<(), Fail> {
     holds("48 bytes in use", block.len() == 48)?;
     same("the old bytes", block.get(0, 16), OLD.as_slice())?;
@@ -75,7 +74,7 @@ fn a_cleared_block_lends_zeros(rt: HostRuntime) -> Result<(), Fail> {
     same("zeros", &*fresh, [0; 64].as_slice())
 }
 
-/// They would take 8 GiB if the memory of a new block was written.
+/// They would take 8 GiB if the memory of a new block were written.
 #[test]
 fn opens_and_drops_4096_blocks_of_2_mebibytes(rt: HostRuntime) -> Result<(), Fail> {
     let mut blocks = Vec::new(rt.alloc());

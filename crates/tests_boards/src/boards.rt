@@ -26,7 +26,7 @@ fn boards_of_a_solo_game_are_legal(rt: HostRuntime) -> Result<(), Fail> {
     holds("no food in constrictor", !is_legal(&wrong))
 }
 
-/// A wrapped board of five by five on which two snakes have just started.
+/// Makes a wrapped board of five by five on which two snakes have just started.
 pub fn wrapped(alloc: Global) -> Result<Board, AllocError> {
     let first = snake(alloc, "s", 100, &[(3, 1), (3, 1), (3, 1)])?;
     let second = snake(alloc, "t", 100, &[(3, 3), (3, 3), (3, 3)])?;
@@ -58,7 +58,7 @@ fn heads_of_a_wrapped_board(rt: HostRuntime) -> Result<(), Fail> {
     Ok(())
 }
 
-/// Snakes and food on a square board of that side, and whether they are a setup.
+/// Snakes and food on a square board of that side, and whether they are a legal setup.
 type Setup<'a> = (u8, &'a [(&'a str, i16, i16)], Parts<'a>, bool);
 
 #[test]

@@ -1,9 +1,9 @@
-//! Boards that are compared, member by member.
+//! Compares boards, member by member.
 use bs_board::{Board, Snake};
 use bs_samples::{holds, same};
 use std::test::Fail;
 
-/// The snake is as the other, member by member.
+/// Compares two snakes, member by member.
 pub fn same_snake(what: &str, snake: &Snake, wanted: &Snake) -> Result<(), Fail> {
     same(what, snake.id.as_str(), wanted.id.as_str())?;
     same(what, snake.body.as_slice(), wanted.body.as_slice())?;
@@ -15,7 +15,7 @@ pub fn same_snake(what: &str, snake: &Snake, wanted: &Snake) -> Result<(), Fail>
     same(what, (snake.killer, snake.out), (wanted.killer, wanted.out))
 }
 
-/// The snakes are as the others, seat by seat.
+/// Compares snakes, seat by seat.
 pub fn same_snakes(what: &str, snakes: &[Snake], wanted: &[Snake]) -> Result<(), Fail> {
     same(what, snakes.len(), wanted.len())?;
     for (snake, wanted) in snakes.iter().zip(wanted) {
@@ -24,7 +24,7 @@ pub fn same_snakes(what: &str, snakes: &[Snake], wanted: &[Snake]) -> Result<(),
     Ok(())
 }
 
-/// The board is as the other, member by member.
+/// Compares two boards, member by member.
 pub fn same_board(what: &str, board: &Board, wanted: &Board) -> Result<(), Fail> {
     holds(what, board.mode == wanted.mode)?;
     same(

@@ -5,7 +5,7 @@ use bs_samples::{Parts, cells, holds, same, solo};
 use std::alloc::{AllocError, Global};
 use std::test::Fail;
 
-/// A three by three board on which one snake has just moved up from the middle.
+/// Makes a three by three board on which one snake has just moved up from the middle.
 fn board(alloc: Global, min_food: u8, chance: u8) -> Result<Board, AllocError> {
     let mut board = solo(alloc, 3, 1, 99, &[(1, 2), (1, 1), (1, 1)])?;
     board.min_food = min_food;
@@ -26,11 +26,11 @@ fn seven_cells_are_free(rt: HostRuntime) -> Result<(), Fail> {
     )
 }
 
-/// A minimum, a chance, words, and the food that they give.
+/// A minimum, a chance, words, and the food that results.
 type Case<'a> = (u8, u8, &'a [u32], Parts<'a>);
 
-/// Of m free cells a word w chooses number w mod m, and w mod 100 is what the chance is compared
-/// with. 65,536 mod 7 is 2, and 4,294,967,295 mod 7 is 3.
+/// Of m free cells a word w selects number w mod m; the chance is compared with w mod 100. 65,536
+/// mod 7 is 2, and 4,294,967,295 mod 7 is 3.
 const CASES: [Case; 11] = [
     (1, 0, &[5], &[(0, 2)]),
     (1, 0, &[], &[]),

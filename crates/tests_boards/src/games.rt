@@ -1,11 +1,15 @@
-//! Commands of small games, with the answers that the rules give.
-ghost use Rattle.std.specs.Prelude.{◌≡◌, [], IfOk, All};
+//! Commands of small games, and their answers by the rules.
+ghost use Rattle.std.specs.Prelude.{◌≡◌, [], IfOk, IsTrue, All, None};
 ghost use Rattle.bs_board.specs.boards.Wrap.{AreSides, wrap_of};
+ghost use Rattle.bs_board.specs.declared.commands.command.Command.TheVariants as command;
+ghost use Rattle.bs_game.specs.Reasons.{first_reason};
 ghost use Rattle.bs_rules.specs.Motion.{moved_board, IsMovable};
 
-use bs_board::{Board, Command, Mode, Point, Refusal, Reply, Snakes, TurnNumber, Word, is_legal};
+use bs_board::{
+    Board, Command, Mode, Move, Point, Refusal, Reply, Snakes, TurnNumber, Word, is_legal,
+};
 use bs_game::{
-    Answer, Effect, Record, View, answer, check, check_move, check_unseen, joined, joined_within,
+    Answer, Effect, View, answer, check, check_move, check_unseen, joined, joined_within,
     place_of_turn, refuse,
 };
 use bs_rules::move_snake;
@@ -23,8 +27,8 @@ fn view(quota: u32, charge: u32, kept: usize, last: Option<Board>) -> View {
     }
 }
 
-/// What is seen of the game of a quota of 64 bytes, of which each record takes 32, on a board of
-/// five by five, after so many turns.
+/// Makes the view of a game after `turn` turns, on a board of five by five. Its quota is 64 bytes,
+/// and each record takes 32.
 fn view_after(alloc: Global, charge: u32, kept: usize, turn: u16) -> Result<View, AllocError> {
     Ok(view(64, charge, kept, Some(solo_after(alloc, 5, turn)?)))
 }
@@ -34,8 +38,8 @@ fn answered(alloc: Global, view: &View, command: &Command) -> Result<Answer, Fai
     Ok(answer(alloc, view, command)?)
 }
 
-/// A reply that shows a board: with its word, its charge, the board's turn and the row of its head,
-/// which is in the second column; and the name of the effect beside it.
+/// A reply that shows a board: its word, its charge, the board's turn and the row of the head,
+/// which is in the second column; and the effect beside the reply.
 #[derive(Clone, Copy)]
 struct Shown {
     word: Word,
@@ -45,7 +49,7 @@ struct Shown {
     effect: &'static str,
 }
 
-/// The answer shows that board.
+/// Checks that the answer shows that board.
 fn check_shown(alloc: Global, answer: &Answer, wanted: Shown) -> Result<(), Fail> {
     let Reply::Shown(word, kept, charge) = &answer.reply else {
         return Err(Fail::from("not shown"));
@@ -59,7 +63,8 @@ fn check_shown(alloc: Global, answer: &Answer, wanted: Shown) -> Result<(), Fail
     check_head(&kept.board(alloc)?, wanted.turn, wanted.y)
 }
 
-/// The board of one snake is of that turn, and its head in the second column and that row.
+/// Checks that the board of one snake has that turn, and its head in the second column and that
+/// row.
 fn check_head(board: &Board, turn: u16, y: i16) -> Result<(), Fail> {
     same("turn", board.turn, turn)?;
     same("seats", board.snakes.len(), 1)?;
@@ -71,12 +76,12 @@ fn check_head(board: &Board, turn: u16, y: i16) -> Result<(), Fail> {
     )
 }
 
-/// The command is answered by that board.
+/// Checks that the command is answered by that board.
 fn is_shown(alloc: Global, view: &View, command: &Command, wanted: Shown) -> Result<(), Fail> {
     check_shown(alloc, &answered(alloc, view, command)?, wanted)
 }
 
-/// The command is answered by a plain reply of that word and charge.
+/// Checks that the command is answered by a plain reply of that word and charge.
 fn is_plain(
     alloc: Global,
     view: &View,
@@ -102,7 +107,7 @@ fn check_refused(answer: &Answer, reason: Refusal) -> Result<(), Fail> {
     }
 }
 
-/// The command is refused for that reason.
+/// Checks that the command is refused for that reason.
 fn is_refused(alloc: Global, view: &View, command: &Command, reason: Refusal) -> Result<(), Fail> {
     check_refused(&answered(alloc, view, command)?, reason)
 }
@@ -116,7 +121,7 @@ fn name(effect: &Effect) -> &str {
     }
 }
 
-/// What a move shows that leads to that turn, with two records then.
+/// What a move to that turn shows, with two records kept.
 fn moved_to(turn: u16, y: i16) -> Shown {
     Shown {
         word: Word::Move,
@@ -185,7 +190,7 @@ fn kept_turns_are_shown(rt: HostRuntime) -> Result<(), Fail> {
     is_shown(alloc, &view, &turn_command(1)?, kept(Word::Turn, 1, 2))
 }
 
-/// Of the records of turns 1 and 2.
+/// The places of the records of turns 1 and 2.
 #[test]
 fn places_of_turns(rt: HostRuntime) -> Result<(), Fail> {
     for (number, place) in [(0, None), (1, Some(0)), (2, Some(1)), (3, None)] {
@@ -199,7 +204,7 @@ fn places_of_turns(rt: HostRuntime) -> Result<(), Fail> {
     Ok(())
 }
 
-// On a board of three by three, the record of turn 0.
+// The record of turn 0 on a board of three by three.
 const RECORD: [u8; 26] = [
     1, 1, 3, 3, 0, 0, 0, 0, 1, 0, 0, 1, 115, 100, 0, 0, 0, 0, 0, 3, 2, 2, 2, 2, 2, 2,
 ];
@@ -211,17 +216,10 @@ fn first_record(rt: HostRuntime) -> Result<(), Fail> {
     let Effect::Add(record) = &told.effect else {
         return Err(Fail::from("no record"));
     };
-    same("the record", record.as_slice(), RECORD.as_slice())?;
-    let mut record = Record::from_vec(Vec::from_slice(alloc, &[1, 2, 3])?);
-    record.refill(&RECORD)?;
-    same(
-        "filled again",
-        record.into_vec().as_slice(),
-        RECORD.as_slice(),
-    )
+    same("the record", record.as_slice(), RECORD.as_slice())
 }
 
-/// A game in its last turn.
+/// Makes the view of a game in its last turn.
 fn late(alloc: Global, mode: Mode) -> Result<View, AllocError> {
     let mut board = solo(alloc, 5, 10_000, 90, &[(1, 3), (1, 2), (1, 1)])?;
     board.mode = mode;
@@ -248,7 +246,7 @@ fn reasons_in_their_order(rt: HostRuntime) -> Result<(), Fail> {
     )
 }
 
-/// A game in its last turn takes neither a new game nor a move.
+/// In its last turn a running game refuses a new game and a move.
 #[test]
 fn reasons_of_a_game_that_runs(rt: HostRuntime) -> Result<(), Fail> {
     let alloc = rt.alloc();
@@ -271,7 +269,7 @@ fn reasons_of_a_game_that_runs(rt: HostRuntime) -> Result<(), Fail> {
     )
 }
 
-/// The board with its only snake gone straight on.
+/// Moves the only snake of the board straight on.
 fn gone_on(alloc: Global, board: Board) -> Result<Board, AllocError>
     requires bodies { All IsMovable board.snakes }
     requires sides { AreSides (wrap_of board) }
@@ -287,7 +285,14 @@ fn gone_on(alloc: Global, board: Board) -> Result<Board, AllocError>
     Ok(moved)
 }
 
-/// A move whose seats have moved already is answered as the whole move is.
+/// Whether a move is accepted.
+fn is_accepted(alloc: Global, view: &View, orders: &Move) -> Result<bool, AllocError>
+    ensures { IfOk result (λ yes. IsTrue yes → first_reason view.now (command.Move orders.now) ≡ None) }
+{
+    Ok(check(view, &Command::Move(orders.copy(alloc)?)).is_none())
+}
+
+/// A move whose seats were moved in parts is answered as the whole move is.
 #[test]
 #[tactic(auto, using(bs_rules::proofs::Movable::legal_is_movable, bs_rules::proofs::Movable::legal_has_sides))]
 fn joined_turn(rt: HostRuntime) -> Result<(), Fail> {
@@ -304,17 +309,15 @@ fn joined_turn(rt: HostRuntime) -> Result<(), Fail> {
         last: Some(last),
         asked: None,
     };
-    holds(
-        "it goes",
-        check(&view, &Command::Move(no_orders(alloc))).is_none(),
-    )?;
+    holds("it goes", is_accepted(alloc, &view, &orders)?)?;
     let told = joined_within(alloc, view.quota, view.charge, &orders, moved.copy(alloc)?)?;
     check_shown(alloc, &told, moved_to(1, 2))?;
     let told = joined(alloc, &view, &orders, moved)?;
     check_shown(alloc, &told, moved_to(1, 2))
 }
 
-/// What is told of a command by whether a game runs and whether the turn is kept that it asks for.
+/// The refusals of a command that need no board: by whether a game runs, and whether the turn that
+/// the command names is kept.
 #[test]
 fn refusals_with_no_board_seen(rt: HostRuntime) -> Result<(), Fail> {
     let turn = turn_command(9)?;

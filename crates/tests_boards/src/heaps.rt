@@ -1,4 +1,4 @@
-//! Heaps in one pool: within a quota, over two blocks, and given back.
+//! Heaps in one pool: within a quota, over two blocks, and freed.
 ghost use Rattle.std.specs.Prelude.{◌≡◌, ◌≤◌, ◌<◌, IfOk, length};
 ghost use Rattle.bs_pool.specs.Ledger.{reserved};
 ghost use Rattle.bs_heap.specs.Charge.{blocks_for};
@@ -10,7 +10,7 @@ use bs_samples::{holds, same};
 use std::alloc::{AllocError, Global};
 use std::test::Fail;
 
-/// A heap, for which the pool reserves what its quota can need.
+/// Makes a heap, for which the pool reserves what its quota can need.
 #[tactic(auto, using(bs_heap::proofs::HeldBlocks::kept_empty))]
 fn open_heap<const CAP: usize>(
     alloc: Global,
@@ -46,7 +46,7 @@ fn add<const CAP: usize>(
     Ok(heap.add(pool, bytes))
 }
 
-/// Frees the heap of that tag, and takes its reservation away.
+/// Frees the heap of that tag and ends its reservation.
 #[tactic(auto, using(bs_heap::proofs::Charges::has_reservation))]
 fn close_heap<const CAP: usize>(
     heap: &mut TagHeap<CAP>,
@@ -62,7 +62,7 @@ fn close_heap<const CAP: usize>(
     Ok(())
 }
 
-/// Block 0 comes, and no byte is in it but those that `split_fill` lends.
+/// Draws block 0. It holds no byte except those that `split_fill` lends.
 fn draw_an_empty_block<const CAP: usize>(pool: &mut Pool<CAP>, tag: u32) -> Result<(), Fail> {
     let mut owned = pool.draw(tag).ok_or("a block is reserved")?;
     same("its number", owned.number(), 0)?;
@@ -75,7 +75,7 @@ fn draw_an_empty_block<const CAP: usize>(pool: &mut Pool<CAP>, tag: u32) -> Resu
     same("zeros", &*fresh, [0; 16].as_slice())
 }
 
-/// A heap of tag 0 that comes and goes.
+/// Uses and closes a heap of tag 0.
 fn use_first(alloc: Global, pool: &mut Pool<524_288>) -> Result<(), Fail> {
     let mut heap = open_heap(alloc, pool, 0, 64)?;
     add(&mut heap, pool, &[170; 32])??;
@@ -84,7 +84,7 @@ fn use_first(alloc: Global, pool: &mut Pool<524_288>) -> Result<(), Fail> {
     same("records at its end", heap.count(), 0)
 }
 
-/// A heap of tag 1, whose blocks are given back.
+/// Uses a heap of tag 1, and gives its blocks back.
 fn use_second(alloc: Global, pool: &mut Pool<524_288>) -> Result<(), Fail> {
     let mut heap = open_heap(alloc, pool, 1, 64)?;
     add(&mut heap, pool, &[1, 2, 3])??;
@@ -102,7 +102,7 @@ fn pool_of_two_with_two_heaps(rt: HostRuntime) -> Result<(), Fail> {
     draw_an_empty_block(&mut pool, 1)
 }
 
-/// The heap has these two records.
+/// Checks that the heap has these two records.
 fn check_two<const CAP: usize>(
     heap: &TagHeap<CAP>,
     first: &[u8],
@@ -113,7 +113,7 @@ fn check_two<const CAP: usize>(
     same("the second", heap.record(1), second)
 }
 
-/// The heap has this record alone, in one block, and is charged so many bytes.
+/// Checks that the heap has this record alone, in one block, and that charge.
 fn check_one<const CAP: usize>(
     heap: &TagHeap<CAP>,
     pool: &Pool<CAP>,
@@ -151,7 +151,7 @@ fn bytes(alloc: Global, byte: u8, n: usize) -> Result<Vec<u8>, AllocError>
     Ok(bytes)
 }
 
-/// A block has room for one of the two records.
+/// A block has room for only one of the two records.
 #[test]
 fn keeps_the_last_of_two_blocks(rt: HostRuntime) -> Result<(), Fail> {
     let mut pool = Pool::<278_528>::open(rt.alloc(), 20)?;

@@ -5,7 +5,7 @@ use bs_samples::{Parts, cells, holds, same, setup};
 use std::alloc::Global;
 use std::test::Fail;
 
-/// The snake at that seat has this body.
+/// Checks the body of the snake at that seat.
 fn check_body(alloc: Global, board: &Board, seat: usize, parts: Parts) -> Result<(), Fail> {
     let snake = board.snakes.as_slice().get(seat).ok_or("a seat")?;
     same(
@@ -15,8 +15,8 @@ fn check_body(alloc: Global, board: &Board, seat: usize, parts: Parts) -> Result
     )
 }
 
-/// A game of constrictor between two snakes: food that was given is dropped, and a body grows where
-/// it is stretched.
+/// A game of constrictor between two snakes: given food is dropped, and a body grows if it is
+/// stretched.
 #[test]
 fn constrictor_starts_without_food_and_grows(rt: HostRuntime) -> Result<(), Fail> {
     let alloc = rt.alloc();
@@ -36,7 +36,7 @@ fn constrictor_starts_without_food_and_grows(rt: HostRuntime) -> Result<(), Fail
     check_body(alloc, &board, 0, &[(1, 3), (1, 2), (1, 1), (1, 1)])
 }
 
-/// One snake alone: solo goes on, in each other mode it is over at once.
+/// With one snake, solo goes on; in each other mode the game is over at once.
 #[test]
 fn one_snake_ends_all_but_solo(rt: HostRuntime) -> Result<(), Fail> {
     let alloc = rt.alloc();

@@ -1,4 +1,4 @@
-//! A small pool, whose blocks are drawn, given back and drawn again.
+//! A small pool: blocks are drawn, given back and drawn again.
 use bs_pool::{Pool, Reserve};
 use bs_samples::{holds, same};
 use std::marker::Send;
@@ -6,7 +6,7 @@ use std::test::Fail;
 
 fn may_cross_threads<T: Send>(_value: &T) {}
 
-/// Two of the three blocks are owned and reserved by tag 1.
+/// Checks that tag 1 owns and has reserved two of the three blocks.
 fn check_counts(pool: &Pool<64>) -> Result<(), Fail> {
     same("free", pool.free(), 1)?;
     same("held by tag 1", pool.held(1), 2)?;
@@ -59,7 +59,8 @@ fn a_block_that_is_given_back_is_drawn_empty(rt: HostRuntime) -> Result<(), Fail
     holds("by another tag", pool.reserve(8, 2) == Ok(()))
 }
 
-/// The numbers of three words are drawn in order, and the one that is given back is drawn next.
+/// Numbers are drawn in order over three words of the pool's bit set, and a number that is given
+/// back is drawn next.
 #[test]
 #[tactic(auto, using(bs_pool::proofs::Owners::owns_drawn, bs_pool::proofs::Owners::still_owns_draw))]
 fn a_pool_of_130_blocks(rt: HostRuntime) -> Result<(), Fail> {

@@ -1,10 +1,9 @@
-//! Records of boards, both ways, with bytes changed, and read in part.
+//! Records of boards: written, read, with bytes changed, and read in part.
 use crate::boards::wrapped;
 use crate::compare::{same_board, same_snakes};
 use bs_board::{
-    Board, Cause, Decode, KeptBoard, Mode, Snakes, decode, encode, encode_into, is_legal,
-    kept_board, kept_ground, kept_snakes, over_of_record, seats_of_record, size, turn_of_record,
-    wrap_of_record,
+    Board, Cause, Decode, KeptBoard, Mode, Record, Snakes, decode, encode, encode_into, is_legal,
+    seats_of_record, size, turn_of_record,
 };
 use bs_samples::{board, cells, holds, same, snake, solo_after};
 use std::alloc::{AllocError, Global};
@@ -20,10 +19,15 @@ const LAST: [u8; 26] = [
     1, 1, 3, 3, 0, 2, 0, 0, 1, 0, 0, 1, 0x73, 0x62, 2, 0, 0, 2, 0, 3, 2, 4, 2, 3, 2, 2,
 ];
 
-/// The record of a board that is legal.
+/// Writes the record of a legal board.
 fn record_of(alloc: Global, board: &Board) -> Result<Vec<u8>, Fail> {
     holds("a legal board", is_legal(board))?;
     Ok(encode(alloc, board)?)
+}
+
+fn kept_of(alloc: Global, board: &Board) -> Result<Record, Fail> {
+    holds("a legal board", is_legal(board))?;
+    Ok(Record::of(alloc, board)?)
 }
 
 #[test]
@@ -56,7 +60,7 @@ fn a_record_of_the_last_turn(rt: HostRuntime) -> Result<(), Fail> {
     same("the turn's bytes", (record[4], record[5]), (0x27, 0x10))
 }
 
-/// The bytes are no record.
+/// Checks that the bytes are no record.
 fn check_no_record(alloc: Global, what: &str, bytes: &[u8]) -> Result<(), Fail> {
     match decode(alloc, bytes) {
         Err(Decode::NotARecord) => Ok(()),
@@ -90,12 +94,10 @@ fn record_of_a_wrapped_board(rt: HostRuntime) -> Result<(), Fail> {
     let record = record.as_slice();
     holds("its front", record.starts_with(&WRAPPED_FRONT))?;
     same("its sides", board.wrap(), Some((5, 5)))?;
-    same(
-        "its sides by its record",
-        wrap_of_record(record),
-        Some((5, 5)),
-    )?;
-    same("of another mode", wrap_of_record(&FIRST), None)?;
+    let kept = kept_of(alloc, &board)?;
+    same("its sides by its record", kept.wrap(), Some((5, 5)))?;
+    let other = kept_of(alloc, &solo_after(alloc, 3, 0)?)?;
+    same("of another mode", other.wrap(), None)?;
     let again = decode(alloc, record)?;
     same(
         "the record again",
@@ -120,7 +122,7 @@ fn versions_and_modes(rt: HostRuntime) -> Result<(), Fail> {
     Ok(())
 }
 
-/// Whether the bytes are read. A board that is read is written as those bytes again.
+/// Whether the bytes are read. Checks that a board that is read is written as those bytes again.
 fn is_read(alloc: Global, bytes: &[u8]) -> Result<bool, Fail> {
     match decode(alloc, bytes) {
         Ok(board) => {
@@ -132,8 +134,8 @@ fn is_read(alloc: Global, bytes: &[u8]) -> Result<bool, Fail> {
     }
 }
 
-/// Whatever one byte is set to, a board that is read is written as those bytes again; and no
-/// record's front is a record.
+/// Whatever value one byte is set to, a board that is read is written as those bytes again; and no
+/// proper prefix of a record is a record.
 #[test]
 fn records_with_one_byte_changed(rt: HostRuntime) -> Result<(), Fail> {
     let alloc = rt.alloc();
@@ -151,8 +153,8 @@ fn records_with_one_byte_changed(rt: HostRuntime) -> Result<(), Fail> {
     holds("more than the record itself is read", read > 26)
 }
 
-/// A board of seven by seven with three food and four snakes, the third of them out against the
-/// first.
+/// Makes a board of seven by seven with three food and four snakes, of which the first eliminated
+/// the third.
 fn four_snakes(alloc: Global) -> Result<Board, AllocError> {
     let first = snake(alloc, "a", 97, &[(3, 3), (3, 2), (3, 1), (2, 1), (1, 1)])?;
     let second = snake(alloc, "second", 100, &[(5, 5), (5, 4), (5, 4)])?;
@@ -176,9 +178,16 @@ fn a_kept_board_is_read(rt: HostRuntime) -> Result<(), Fail> {
     let board = four_snakes(alloc)?;
     holds("a legal board", is_legal(&board))?;
     let record = encode(alloc, &board)?;
-    same_board("the board", &kept_board(alloc, record.as_slice())?, &board)?;
-    let kept = KeptBoard::of_record(alloc, record.as_slice())?;
-    same_board("the same, kept", &kept.board(alloc)?, &board)
+    let kept = Record::of_bytes(alloc, record.as_slice())?;
+    same("the bytes", kept.as_slice(), record.as_slice())?;
+    same("the turn", kept.turn(), 4)?;
+    same("the seats", kept.seats(), 4)?;
+    same_board("the board", &kept.board(alloc)?, &board)?;
+    let shared = KeptBoard::of_record(kept.share()?);
+    same_board("the shared one", &shared.board(alloc)?, &board)?;
+    let again = shared.share()?;
+    same("the record of a handle", again.record(), record.as_slice())?;
+    same("its turn", again.shared().turn(), 4)
 }
 
 #[test]
@@ -186,17 +195,13 @@ fn a_kept_ground_is_read(rt: HostRuntime) -> Result<(), Fail> {
     let alloc = rt.alloc();
     let mut board = four_snakes(alloc)?;
     holds("a legal board", is_legal(&board))?;
-    let record = encode(alloc, &board)?;
+    let kept = Record::of(alloc, &board)?;
     board.snakes = Snakes::from_vec(Vec::new(alloc));
-    same_board(
-        "the ground",
-        &kept_ground(alloc, record.as_slice())?,
-        &board,
-    )
+    same_board("the ground", &kept.without_snakes(alloc)?, &board)
 }
 
-/// From which seat each row asks, for how many, and the seats that it is given: from the one up to
-/// the other.
+/// Ranges of seats: the first seat and the number of seats that a row asks for, then the first seat
+/// that it gets and the seat after the last.
 const ASKED: [(usize, usize, usize, usize); 7] = [
     (0, 2, 0, 2),
     (1, 2, 1, 3),
@@ -212,9 +217,9 @@ fn kept_snakes_are_read(rt: HostRuntime) -> Result<(), Fail> {
     let alloc = rt.alloc();
     let board = four_snakes(alloc)?;
     holds("a legal board", is_legal(&board))?;
-    let record = encode(alloc, &board)?;
+    let kept = Record::of(alloc, &board)?;
     for (from, count, first, end) in ASKED {
-        let read = kept_snakes(alloc, record.as_slice(), from, count)?;
+        let read = kept.snakes(alloc, from, count)?;
         let wanted = board.snakes.as_slice().get(first..end).ok_or("seats")?;
         same_snakes("seats", read.as_slice(), wanted)?;
     }
@@ -222,12 +227,10 @@ fn kept_snakes_are_read(rt: HostRuntime) -> Result<(), Fail> {
 }
 
 fn is_over_by_its_record(alloc: Global, board: &Board) -> Result<bool, Fail> {
-    let record = record_of(alloc, board)?;
-    holds("a head of nine bytes", record.len() >= 9)?;
-    Ok(over_of_record(record.as_slice()))
+    Ok(kept_of(alloc, board)?.is_over())
 }
 
-/// Three of four snakes live; the snake alone is out in turn 2.
+/// Of four snakes three are alive; a snake that is alone is eliminated in turn 2.
 #[test]
 fn games_are_over_by_their_records(rt: HostRuntime) -> Result<(), Fail> {
     let alloc = rt.alloc();

@@ -1,4 +1,4 @@
-//! Whole turns from texts, and each step once by itself.
+//! Whole turns written as texts, and each step once by itself.
 use crate::compare::same_board;
 use crate::texts::{board, board_after, order};
 use bs_board::limits::{LAST_TURN, MOST_SNAKES};
@@ -8,20 +8,20 @@ use bs_samples::{holds, same};
 use std::alloc::Global;
 use std::test::Fail;
 
-// A board, so many turns of it, what each of them is told, and the board that they make.
+// A board, the number of turns, the directions given in each of them, and the resulting board.
 
-/// The last health is enough to reach food, and not enough without; two heads on one food are both
-/// fed, and equally long; food that nobody reaches stays. Food under the head of a snake that is
-/// out stays too, and does not feed it.
+/// A snake with its last health that reaches food lives, one that does not starves; two heads on
+/// one food are both fed, and equally long; food that no snake reaches stays. Food under the head
+/// of an eliminated snake stays too, and does not feed it.
 const FEEDING: &str = r"solo 5 10 0|2,3|s 1 2,2 2,1 2,0>1>s=up>11||s 100 2,3 2,2 2,1 2,1
 solo 5 10 0||s 1 2,2 2,1 2,0>1>s=up>11||s 0 2,3 2,2 2,1 OutOfHealth in 11
 standard 5 10 0|2,2|A 90 1,2 0,2 0,1|B 90 3,2 4,2 4,1>1>A=right B=left>11||A 100 2,2 1,2 0,2 0,2 HeadCollision by 1 in 11|B 100 2,2 3,2 4,2 4,2 HeadCollision by 0 in 11
 solo 5 10 0|4,4 0,0|s 90 2,2 2,1 2,0>1>s=right>11| 4,4 0,0|s 89 3,2 2,2 2,1
 standard 5 10 0|2,2|A 90 2,2 1,2 0,2 HeadCollision by 1 in 9|B 90 4,1 4,0 3,0|C 90 0,4 1,4 2,4>1>B=up C=down>11| 2,2|A 90 2,2 1,2 0,2 HeadCollision by 1 in 9|B 89 4,2 4,1 4,0|C 89 0,3 0,4 1,4";
 
-/// The longer of two heads lives; of equally long killers the one of the first seat; a tail that
-/// moves away, and one that stays; who left the board is in nobody's way; two that run into each
-/// other's bodies are both out; into its own body.
+/// The longer of two heads lives; of equally long killers the one of the first seat counts; a tail
+/// that moves away, and one that stays; a snake that left the board blocks no other; two that run
+/// into each other's bodies are both eliminated; a snake that runs into its own body.
 const COLLISIONS: &str =
     r"standard 5 10 0||A 90 1,2 0,2 0,1|B 90 3,2 4,2 4,1 4,0>1>A=right B=left>11||A 89 2,2 1,2 0,2 HeadCollision by 1 in 11|B 89 2,2 3,2 4,2 4,1
 standard 5 10 0||A 90 1,2 0,2 0,1|B 90 3,2 4,2 4,1 4,0|C 90 2,3 2,4 3,4 4,4>1>A=right B=left C=down>11||A 89 2,2 1,2 0,2 HeadCollision by 1 in 11|B 89 2,2 3,2 4,2 4,1 HeadCollision by 2 in 11|C 89 2,2 2,3 2,4 3,4 HeadCollision by 1 in 11
@@ -31,10 +31,10 @@ standard 5 10 0||A 90 0,2 1,2 2,2|B 90 1,1 1,0 2,0>1>A=left B=up>11||A 89 -1,2 0
 standard 5 10 0||A 90 2,2 1,2 0,2|B 90 3,2 4,2 4,1>1>A=right B=left>11||A 89 3,2 2,2 1,2 BodyCollision by 1 in 11|B 89 2,2 3,2 4,2 BodyCollision by 0 in 11
 solo 5 10 0||s 90 2,2 2,3 1,3 1,2 1,1>1>s=left>11||s 89 1,2 2,2 2,3 1,3 1,2 SelfCollision by 0 in 11";
 
-/// One head that hits twice. In order: its own body and another's; a body and a head; its own body
-/// and a head. Then of several that qualify the longest is the killer, whatever its seat: two
-/// heads; two bodies; three heads, of which the first two are equally long and the third is
-/// shorter; and the same with a longer third.
+/// One head with two hits. In order: its own body and another's; a body and a head; its own body
+/// and a head. Then the longest of several candidates is the killer, whatever its seat: two heads;
+/// two bodies; three heads, of which the first two are equally long and the third is shorter; and
+/// the same three with a longer third.
 const DOUBLE_HITS: &str =
     r"standard 5 10 0||A 90 2,2 2,3 1,3 1,2 1,1|B 90 0,3 0,2 1,2 1,1>1>A=left B=up>11||A 89 1,2 2,2 2,3 1,3 1,2 SelfCollision by 0 in 11|B 89 0,4 0,3 0,2 1,2
 standard 5 10 0||A 90 1,2 0,2 0,1|B 90 2,3 2,2 3,2|C 90 2,1 3,1 4,1 4,0>1>A=right B=up C=up>11||A 89 2,2 1,2 0,2 BodyCollision by 1 in 11|B 89 2,4 2,3 2,2|C 89 2,2 2,1 3,1 4,1 BodyCollision by 1 in 11
@@ -44,29 +44,29 @@ standard 5 10 0||A 90 1,2 0,2 0,1|B 90 2,3 2,2 2,2|C 90 3,2 2,2 2,1 1,1>1>A=righ
 standard 5 10 0||A 90 1,2 0,2 0,3|B 90 3,2 4,2 4,1 4,0|C 90 2,3 2,4 3,4 4,4|D 90 2,1 2,0 1,0>1>A=right B=left C=down D=up>11||A 89 2,2 1,2 0,2 HeadCollision by 1 in 11|B 89 2,2 3,2 4,2 4,1 HeadCollision by 2 in 11|C 89 2,2 2,3 2,4 3,4 HeadCollision by 1 in 11|D 89 2,2 2,1 2,0 HeadCollision by 1 in 11
 standard 5 10 0||A 90 1,2 0,2 0,3|B 90 3,2 4,2 4,1 4,0|C 90 2,3 2,4 3,4 4,4|D 90 2,1 2,0 1,0 0,0 0,1>1>A=right B=left C=down D=up>11||A 89 2,2 1,2 0,2 HeadCollision by 3 in 11|B 89 2,2 3,2 4,2 4,1 HeadCollision by 3 in 11|C 89 2,2 2,3 2,4 3,4 HeadCollision by 3 in 11|D 89 2,2 2,1 2,0 1,0 0,0";
 
-/// With nothing ordered: a snake that has just started goes up, and then straight on, into the
-/// wall; straight on to each side. On a board wider than it is high a snake is within its width
-/// and not within its height.
+/// Without a direction: a snake that has just started goes up, then straight on, into the wall;
+/// straight on to each side. On a board wider than it is high, a snake may be inside its width and
+/// outside its height.
 const MOTION: &str = r"solo 3 0 0||s 100 1,1 1,1 1,1>1>>1||s 99 1,2 1,1 1,1
 solo 3 0 0||s 100 1,1 1,1 1,1>2>>2||s 98 1,3 1,2 1,1 WallCollision in 2
 standard 7 9 0||A 90 2,2 3,2 4,2|B 90 4,4 3,4 2,4|C 90 5,3 5,4 5,5>1>>10||A 89 1,2 2,2 3,2|B 89 5,4 4,4 3,4 BodyCollision by 2 in 10|C 89 5,2 5,3 5,4
 solo 7x5 10 0||s 90 5,1 4,1 3,1>1>s=right>11||s 89 6,1 5,1 4,1
 solo 7x5 10 0||s 90 5,4 4,4 3,4>1>s=up>11||s 89 5,5 5,4 4,4 WallCollision in 11";
 
-/// The word chooses the last but one of seven free cells. A word above 65,535 counts as a whole.
+/// The word selects the last but one of seven free cells. A word above 65,535 is used whole.
 const FOOD: &str = r"solo 3 0 1||s 100 1,1 1,1 1,1>1>5>1| 0,2|s 99 1,2 1,1 1,1
 solo 3 0 1||s 100 1,1 1,1 1,1>1>65536>1| 2,0|s 99 1,2 1,1 1,1
 solo 3 0 1||s 100 1,1 1,1 1,1>1>4294967295>1| 0,1|s 99 1,2 1,1 1,1";
 
-/// In constrictor bodies grow as soon as they are stretched, those of snakes that are out do not.
+/// In constrictor bodies grow as soon as they are stretched, except those of eliminated snakes.
 const CONSTRICTOR: &str =
     r"constrictor 7 0 0||s 100 1,1 1,1 1,1|t 100 5,1 5,1 5,1>1>>1||s 100 1,2 1,1 1,1|t 100 5,2 5,1 5,1
 constrictor 7 0 0||s 100 1,1 1,1 1,1|t 100 5,1 5,1 5,1>3>>3||s 100 1,4 1,3 1,2 1,1 1,1|t 100 5,4 5,3 5,2 5,1 5,1
 constrictor 7 3 0||s 100 1,4 1,3 1,2 1,1 1,1|t 100 5,4 5,3 5,2 5,1 5,1|u 99 3,2 3,1 3,0 HeadCollision by 1 in 2>1>>4||s 100 1,5 1,4 1,3 1,2 1,1 1,1|t 100 5,5 5,4 5,3 5,2 5,1 5,1|u 99 3,2 3,1 3,0 HeadCollision by 1 in 2";
 
-/// Two snakes cross the right edge, first by an order and then straight on; two heads meet on a
+/// Two snakes cross the right edge, first by a direction, then straight on; two heads meet on a
 /// cell beyond an edge; a snake starves on the far side; straight on over three edges. Then boards
-/// that are no squares: over an edge by an order, and straight on, each side by its own length.
+/// that are not square: over an edge by a direction, and straight on, each side by its own length.
 const WRAPPED: &str =
     r"wrapped 5 0 0||s 100 3,1 3,1 3,1|t 100 3,3 3,3 3,3>1>s=right t=right>1||s 99 4,1 3,1 3,1|t 99 4,3 3,3 3,3
 wrapped 5 1 0||s 99 4,1 3,1 3,1|t 99 4,3 3,3 3,3>1>>2||s 98 0,1 4,1 3,1|t 98 0,3 4,3 3,3
@@ -77,7 +77,7 @@ wrapped 7 10 0||A 90 0,0 0,1 0,2|B 90 6,3 5,3 4,3|C 90 3,6 3,5 3,4>2>>12||A 88 0
 wrapped 7x5 10 0||A 90 5,1 4,1 3,1|B 90 2,4 2,3 2,2>2>A=right B=up>12||A 88 0,1 6,1 5,1|B 88 2,1 2,0 2,4
 wrapped 5x7 10 0||A 90 0,6 0,5 0,4|B 90 0,2 4,2 3,2>2>>12||A 88 0,1 0,0 0,6|B 88 2,2 1,2 0,2";
 
-/// The board after so many turns of the same move.
+/// Returns the board after `turns` turns of the same move.
 fn played(alloc: Global, before: &Board, order: &Move, turns: u32) -> Result<Board, Fail> {
     let mut next = before.copy(alloc)?;
     for _ in 0..turns {
@@ -129,7 +129,7 @@ const COLLIDED: &str =
 const FINISHED: &str =
     "11||A 100 2,2 1,2 0,2 0,2 HeadCollision by 1 in 11|B 100 2,2 3,2 4,2 4,2 HeadCollision by 0 in 11";
 
-/// The board on which two snakes have moved to one food.
+/// Makes the board on which two snakes have moved to one food.
 #[tactic(auto, using(bs_rules::proofs::Movable::legal_is_movable))]
 fn meeting(alloc: Global) -> Result<Board, Fail> {
     let mut next = board(alloc, MEETING)?;
@@ -148,7 +148,7 @@ fn meeting(alloc: Global) -> Result<Board, Fail> {
     Ok(next)
 }
 
-/// The steps by themselves, on two snakes that meet at one food.
+/// The steps one by one, with two snakes that meet at one food.
 #[test]
 fn two_heads_meet_at_food(rt: HostRuntime) -> Result<(), Fail> {
     let alloc = rt.alloc();
@@ -167,7 +167,7 @@ fn two_heads_meet_at_food(rt: HostRuntime) -> Result<(), Fail> {
     )
 }
 
-/// All steps after the moves.
+/// All steps after the motion.
 #[test]
 fn the_rest_of_a_turn(rt: HostRuntime) -> Result<(), Fail> {
     let alloc = rt.alloc();

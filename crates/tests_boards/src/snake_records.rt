@@ -1,5 +1,4 @@
-//! A snake's part of a record: the bytes of one snake, each of them changed, and what is no snake's
-//! part.
+//! The record of one snake: each of its bytes changed, and bytes that are no snake's record.
 use crate::compare::same_snake;
 use bs_board::{Cause, Decode, Snake, decode_snake, encode_snake_into, snake_size};
 use bs_samples::{holds, same, snake};
@@ -9,7 +8,7 @@ use std::test::Fail;
 // Bytes 12 to 26 of the first record of the three by three solo game.
 const S: [u8; 15] = [1, 115, 100, 0, 0, 0, 0, 0, 3, 2, 2, 2, 2, 2, 2];
 
-/// The snake that these bytes are, with another head and health.
+/// Makes the snake of these bytes, with another head and health.
 fn snake_at(alloc: Global, x: i16, y: i16, health: u8) -> Result<Snake, AllocError> {
     snake(alloc, "s", health, &[(x, y), (1, 1), (1, 1)])
 }
@@ -32,7 +31,8 @@ fn a_snake_both_ways(rt: HostRuntime) -> Result<(), Fail> {
     check_both_ways(alloc, &S, &first)
 }
 
-/// A snake that has just moved may have no health left, or its head off the board, and no cause yet.
+/// A snake that has just moved may have no health left or its head off the board, with no cause
+/// yet.
 #[test]
 fn a_snake_that_has_just_moved(rt: HostRuntime) -> Result<(), Fail> {
     let alloc = rt.alloc();
@@ -44,7 +44,7 @@ fn a_snake_that_has_just_moved(rt: HostRuntime) -> Result<(), Fail> {
     check_both_ways(alloc, &beside, &snake_at(alloc, 25, 1, 99)?)
 }
 
-/// The first and the last value that one byte of the snake may have, the others being as they are.
+/// The first and the last value that one byte of the snake may have while the others stay.
 fn range(place: usize) -> (u8, u8) {
     match place {
         // the length of the id, and its only byte, a text of its own
@@ -65,7 +65,7 @@ fn range(place: usize) -> (u8, u8) {
     }
 }
 
-/// Whether the bytes are read. A snake that is read is written as those bytes again.
+/// Whether the bytes are read. Checks that a snake that is read is written as those bytes again.
 fn is_read(alloc: Global, bytes: &[u8; 15]) -> Result<bool, Fail> {
     match decode_snake(alloc, bytes) {
         Ok(read) => {
@@ -99,7 +99,7 @@ fn a_snake_with_one_byte_changed(rt: HostRuntime) -> Result<(), Fail> {
     Ok(())
 }
 
-/// The bytes are no snake.
+/// Checks that the bytes are no snake's record.
 fn check_no_snake(alloc: Global, bytes: &[u8]) -> Result<(), Fail> {
     match decode_snake(alloc, bytes) {
         Err(Decode::NotARecord) => Ok(()),
@@ -119,7 +119,7 @@ fn a_snake_cut_short_or_followed(rt: HostRuntime) -> Result<(), Fail> {
     check_no_snake(alloc, &longer)
 }
 
-/// The ends of what two bytes tell: a turn of elimination of 10,000, and one more.
+/// The last turn of elimination that two bytes may hold, 10,000, and the turn after it.
 #[test]
 fn a_snake_that_is_out_last(rt: HostRuntime) -> Result<(), Fail> {
     let alloc = rt.alloc();

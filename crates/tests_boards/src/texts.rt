@@ -1,4 +1,4 @@
-//! Boards and moves that are written as texts.
+//! Boards and moves written as texts.
 use bs_board::{Board, Cause, Cells, Direction, Id, Mode, Move, Point, Snake, Snakes};
 use bs_samples::orders;
 use std::alloc::{AllocError, Global};
@@ -20,7 +20,7 @@ fn small(text: &str) -> Result<u8, Fail> {
     Ok(text.parse::<u8>().ok().ok_or(NO_NUMBER)?)
 }
 
-/// The cells among the words of the text, "X,Y" each.
+/// Reads the cells among the words of the text, each as "X,Y".
 fn cells(alloc: Global, text: &str) -> Result<Cells, Fail> {
     let mut cells = Cells::new(alloc);
     for word in text.split(' ') {
@@ -42,7 +42,7 @@ fn cause(word: &str) -> Option<Cause> {
     }
 }
 
-/// What a word says.
+/// The kind of a word.
 #[derive(Clone, Copy)]
 enum Field {
     Cause,
@@ -50,7 +50,7 @@ enum Field {
     Turn,
 }
 
-/// What the word behind this one says.
+/// The kind of the word after this one.
 fn field_after(word: &str) -> Field {
     match word {
         "by" => Field::Seat,
@@ -59,7 +59,8 @@ fn field_after(word: &str) -> Field {
     }
 }
 
-/// The cause, the killer and the turn of "CELLS CAUSE by SEAT in TURN", as far as they are there.
+/// Reads the cause, the killer and the turn of "CELLS CAUSE by SEAT in TURN", as far as they are
+/// given.
 fn put_out(snake: &mut Snake, text: &str) -> Result<(), Fail> {
     let mut field = Field::Cause;
     for word in text.split(' ') {
@@ -77,7 +78,8 @@ fn put_out(snake: &mut Snake, text: &str) -> Result<(), Fail> {
     Ok(())
 }
 
-/// The snake "ID HEALTH CELLS", or "ID HEALTH CELLS CAUSE by SEAT in TURN" of one that is out.
+/// Reads the snake "ID HEALTH CELLS", or "ID HEALTH CELLS CAUSE by SEAT in TURN" of an eliminated
+/// one.
 fn snake(alloc: Global, text: &str) -> Result<Snake, Fail> {
     let (id, rest) = text.split_once(' ').ok_or("an id")?;
     let (health, rest) = rest.split_once(' ').ok_or("a health")?;
@@ -110,8 +112,8 @@ fn mode(word: &str) -> Mode {
     }
 }
 
-/// The board "MODE SIDES TURN MIN_FOOD|FOOD|SNAKE|SNAKE", whose sides are "WIDTHxHEIGHT", or one
-/// number for a square. Its chance of food is 0.
+/// Reads the board "MODE SIDES TURN MIN_FOOD|FOOD|SNAKE|SNAKE", whose sides are "WIDTHxHEIGHT", or
+/// one number for a square. Its chance of food is 0.
 pub fn board(alloc: Global, text: &str) -> Result<Board, Fail> {
     let (head, rest) = text.split_once('|').ok_or("a head")?;
     let (food, seats) = rest.split_once('|').ok_or("food")?;
@@ -131,7 +133,7 @@ pub fn board(alloc: Global, text: &str) -> Result<Board, Fail> {
     })
 }
 
-/// The board "TURN|FOOD|SNAKE|SNAKE" of the game of that other board.
+/// Reads the board "TURN|FOOD|SNAKE|SNAKE" of the same game as another board.
 pub fn board_after(alloc: Global, before: &Board, text: &str) -> Result<Board, Fail> {
     let (turn, rest) = text.split_once('|').ok_or("a turn")?;
     let (food, seats) = rest.split_once('|').ok_or("food")?;
@@ -157,7 +159,7 @@ fn direction(text: &str) -> Result<Direction, Fail> {
     }
 }
 
-/// The move of "ID=DIRECTION" and words for food, each in its order.
+/// Reads a move from "ID=DIRECTION" and words for food, each in order.
 pub fn order(alloc: Global, text: &str) -> Result<Move, Fail> {
     let mut directions = Vec::new(alloc);
     let mut words = Vec::new(alloc);

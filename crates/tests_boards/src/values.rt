@@ -1,4 +1,4 @@
-//! Copies of values with text or lists, which are as their sources, and the versions of files.
+//! Copies of values with text or lists equal their sources; the versions of files.
 use crate::compare::same_board;
 use bs_board::{
     Command, Direction, Id, KeptBoard, Mode, New, Point, Reply, Version, Word, is_legal,
@@ -15,7 +15,7 @@ fn boards_and_replies_are_copied(rt: HostRuntime) -> Result<(), Fail> {
     let solo = solo_after(alloc, 3, 1)?;
     holds("a legal board", is_legal(&solo))?;
     let reply = Reply::Shown(Word::Show, KeptBoard::of(alloc, &solo)?, 64);
-    let Reply::Shown(word, shown, charge) = reply.copy(alloc)? else {
+    let Reply::Shown(word, shown, charge) = reply.copy()? else {
         return Err(Fail::from("another reply"));
     };
     same("word and charge", (word, charge), (Word::Show, 64))?;
@@ -45,7 +45,7 @@ fn check_start(start: &(Id, Point), id: &str, cell: Point) -> Result<(), Fail> {
     same("a start", (start.0.as_str(), start.1), (id, cell))
 }
 
-/// A setup with the defaults of food.
+/// Makes a setup with the defaults for food.
 fn two_starts(alloc: Global) -> Result<New, Fail> {
     let starts = starts(alloc, &[("s", 1, 1), ("t", 2, 0)])?;
     let food = cells(alloc, &[(0, 2)])?;

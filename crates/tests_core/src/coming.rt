@@ -1,4 +1,4 @@
-//! Runs in which games come and go, and whose acts are refused.
+//! Runs in which games are admitted and leave, and runs whose acts are refused.
 use crate::player::CAP;
 use crate::runs::{TWO, push, run_games};
 use bs_board::{Command, Direction};
@@ -17,8 +17,8 @@ use std::thread;
 use std::thread::Threads;
 use std::time::{Clock, Duration};
 
-/// A game that is admitted, plays and leaves while another plays, and one of its name after it.
-/// There are blocks for either only once another has left.
+/// A game is admitted, plays and leaves while another plays; then one of the same name. There are
+/// blocks for each of them only once another game has left.
 pub(crate) fn coming_and_going(alloc: Global) -> Result<Vec<Act>, Fail> {
     let mut acts = Vec::new(alloc);
     push(alloc, &mut acts, 0, new_of_three(alloc)?)?;
@@ -33,7 +33,7 @@ pub(crate) fn coming_and_going(alloc: Global) -> Result<Vec<Act>, Fail> {
     Ok(acts)
 }
 
-/// Whether the stay is open, how many replies it has, and whether it has a board.
+/// Checks whether the stay is open, how many replies it has, and whether it has a board.
 fn check_stay(
     alloc: Global,
     core: &Core<CAP>,
@@ -47,7 +47,7 @@ fn check_stay(
     same("a board", core.board(alloc, game)?.is_some(), has_board)
 }
 
-/// Each game leaves once it has answered, however many threads there are, and its answers stay.
+/// Each game leaves once it has answered, whatever the number of threads, and its answers are kept.
 #[test]
 fn games_come_and_go(rt: HostRuntime) -> Result<(), Fail> {
     let alloc = rt.alloc();
@@ -72,7 +72,7 @@ fn check_broken<R: Threads + Wait + Sync + AllocGlobal>(
     same("fault", ran.err(), Some(Run::Broken))
 }
 
-/// A command for a row that the plan does not have stops the run, alone and among others.
+/// A command for a row that the plan does not have stops the run, alone and among other acts.
 #[test]
 fn a_command_for_no_row_breaks_the_run(rt: HostRuntime) -> Result<(), Fail> {
     let alloc = rt.alloc();
@@ -86,9 +86,9 @@ fn a_command_for_no_row_breaks_the_run(rt: HostRuntime) -> Result<(), Fail> {
     check_broken(&rt, alone.as_slice(), 2)
 }
 
-/// Lists of acts, the last of which is refused: an admission of a name that is taken and one whose
-/// blocks are not left; a leave and a command of a game that has left; a leave of a game that never
-/// came.
+/// Makes lists of acts of which the last is refused: an admission whose name is taken, and one
+/// whose blocks are not free; a leave and a command of a game that has left; a leave of a game that
+/// was never admitted.
 fn refused(alloc: Global) -> Result<Vec<Vec<Act>>, Fail> {
     let named = vec![in alloc; Act::Leave(0), Act::Admit(row(alloc, "b", 64)?)]?;
     let short = vec![in alloc; Act::Admit(row(alloc, "c", 64)?)]?;
@@ -99,7 +99,7 @@ fn refused(alloc: Global) -> Result<Vec<Vec<Act>>, Fail> {
     Ok(vec![in alloc; named, short, closed, handed, absent]?)
 }
 
-/// A refused act stops the run, as the last one and before others.
+/// A refused act stops the run, both as the last act and before others.
 #[test]
 fn a_refused_act_breaks_the_run(rt: HostRuntime) -> Result<(), Fail> {
     let alloc = rt.alloc();
@@ -113,10 +113,10 @@ fn a_refused_act_breaks_the_run(rt: HostRuntime) -> Result<(), Fail> {
     Ok(())
 }
 
-/// How many acts are made one after the other: more than four times 1,024.
+/// The number of acts in one list: more than four times 1,024.
 const MANY: usize = 5_000;
 
-/// A setup, and `show` for both games in turn.
+/// Makes a setup, and `show` for the two games by turns.
 fn many_acts(alloc: Global) -> Result<Vec<Act>, Fail> {
     let show = SharedCommand::new(alloc, Command::Show)?;
     let mut acts = Vec::new(alloc);
@@ -140,7 +140,7 @@ fn all_acts_of_a_long_list_are_made(rt: HostRuntime) -> Result<(), Fail> {
     Ok(())
 }
 
-/// Lets the thread that makes the acts pass once another thread is at a job, which takes a while.
+/// Lets the thread that makes the acts pass once another thread is at a job, which it delays.
 #[derive(Drop)]
 struct Slow {
     is_other_here: AtomicBool,
@@ -164,8 +164,8 @@ impl Gate for Slow {
     }
 }
 
-/// Both games are set up and leave. One of them is done by a thread that is slow, so that the
-/// thread that makes the acts has nothing to run and waits.
+/// Both games are set up and leave. One of them is played by a slow thread, so that the thread that
+/// makes the acts has nothing to run and waits.
 fn leaving(alloc: Global) -> Result<Vec<Act>, Fail> {
     let mut acts = Vec::new(alloc);
     push(alloc, &mut acts, 0, new_of_three(alloc)?)?;
@@ -175,7 +175,7 @@ fn leaving(alloc: Global) -> Result<Vec<Act>, Fail> {
     Ok(acts)
 }
 
-/// How many of the runs in which a leave waits for another thread end with a core.
+/// Counts the runs in which a leave waits for another thread and which end with a core.
 fn count_left<R: Threads + Wait + Sync + AllocGlobal>(
     rt: &R,
     acts: &[Act],
@@ -194,7 +194,7 @@ fn count_left<R: Threads + Wait + Sync + AllocGlobal>(
     Ok(count)
 }
 
-/// Ends the test where the work is not done after 20 seconds.
+/// Aborts the test if the work is not done after 20 seconds.
 fn watch<R: Abort + Clock>(rt: &R, is_done: &AtomicBool) {
     for _ in 0..2_000u32 {
         if is_done.load(SeqCst) {
@@ -205,7 +205,7 @@ fn watch<R: Abort + Clock>(rt: &R, is_done: &AtomicBool) {
     assert!(rt; false, "a run has not ended after 20 seconds");
 }
 
-/// A thread that completes what a leave waits for wakes the thread that makes the acts.
+/// A thread that completes the last job of a leaving game wakes the thread that makes the acts.
 #[test]
 fn a_waiting_leave_is_woken(rt: HostRuntime) -> Result<(), Fail> {
     let acts = leaving(rt.alloc())?;

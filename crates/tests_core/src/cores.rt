@@ -13,12 +13,12 @@ use std::alloc::Global;
 use std::sync::Wait;
 use std::test::Fail;
 
-/// A core of one game and six blocks.
+/// Opens a core of one game and six blocks.
 fn core_of_one(alloc: Global, name: &str, quota: u32) -> Result<Core<CAP>, Fail> {
     core_of(alloc, &[(name, quota)], 6)
 }
 
-/// The ticket of `show`, the second command, after the first one left one record.
+/// Checks the ticket of `show`, the second command, after the first one left one record.
 fn check_second_ticket(core: &Core<CAP>, ticket: &Ticket<CAP>) -> Result<(), Fail> {
     same("number of the command", ticket.seq(), 2)?;
     same("kept records", ticket.kept(), 1)?;
@@ -31,7 +31,8 @@ fn check_second_ticket(core: &Core<CAP>, ticket: &Ticket<CAP>) -> Result<(), Fai
     holds("no parts", ticket.parts().is_empty())
 }
 
-/// A ticket that was spent on `new` becomes that of `show`: all of it is the second command's.
+/// A ticket that was spent on `new` becomes that of `show`: everything in it is the second
+/// command's.
 #[test]
 fn a_ticket_takes_the_place_of_a_spent_one(rt: HostRuntime) -> Result<(), Fail> {
     let alloc = rt.alloc();
@@ -91,7 +92,7 @@ fn opens_within_its_blocks(rt: HostRuntime) -> Result<(), Fail> {
     check_opened(alloc, &core)
 }
 
-/// A core of two games that were not played.
+/// Checks a core of two games that were not played.
 fn check_opened(alloc: Global, core: &Core<CAP>) -> Result<(), Fail> {
     holds("quiet", core.is_quiet())?;
     holds("two games", core.rows() == 2)?;
@@ -102,7 +103,7 @@ fn check_opened(alloc: Global, core: &Core<CAP>) -> Result<(), Fail> {
     holds("no board", core.board(alloc, 0)?.is_none())
 }
 
-/// What the readers of a core of one game show.
+/// What the readers of a core of one game return.
 #[derive(Clone, Copy, Debug, PartialEq, Eq)]
 struct Readings {
     events: usize,
@@ -127,15 +128,15 @@ fn read_all(core: &Core<CAP>) -> Result<Readings, Fail> {
     })
 }
 
-/// The turn of the board of a core of one game.
+/// Checks the turn of the board of a core of one game.
 fn check_turn(alloc: Global, core: &Core<CAP>, turn: u16) -> Result<(), Fail> {
     holds("a game", core.rows() == 1)?;
     let board = core.board(alloc, 0)?.ok_or("a board")?;
     same("turn", board.turn, turn)
 }
 
-/// While a second command is worked, what is brought back of another core is a stray, and so is the
-/// job from a worker that has not taken it.
+/// While a job is out, the result of another core is a stray, and so is the job if it comes from a
+/// worker that has not taken it.
 fn check_two_strays(alloc: Global, core: &mut Core<CAP>, foreign: Done<CAP>) -> Result<(), Fail> {
     hand(alloc, core, 0, Command::Show)?;
     let done = take_done(alloc, core, 0)?;
@@ -173,7 +174,7 @@ fn check_nothing(alloc: Global, core: &mut Core<CAP>, worker: usize) -> Result<(
     holds("nothing to take", is_nothing)
 }
 
-/// The result is none of the core's, and leaves it as it was.
+/// Checks that the core refuses the result, and that this leaves it unchanged.
 fn check_stray(core: &mut Core<CAP>, done: Done<CAP>) -> Result<Done<CAP>, Fail> {
     let before = read_all(core)?;
     let Err(stray) = core.put(0, done) else {
@@ -183,7 +184,7 @@ fn check_stray(core: &mut Core<CAP>, done: Done<CAP>) -> Result<Done<CAP>, Fail>
     Ok(stray.done)
 }
 
-/// The list is none of the core's, and leaves it as it was.
+/// Checks that the core refuses the list, and that this leaves it unchanged.
 fn check_strays(core: &mut Core<CAP>, parts: DoneParts) -> Result<DoneParts, Fail> {
     let before = read_all(core)?;
     let Err(strays) = core.put_parts(parts) else {
@@ -193,7 +194,7 @@ fn check_strays(core: &mut Core<CAP>, parts: DoneParts) -> Result<DoneParts, Fai
     Ok(strays.parts)
 }
 
-/// A part is a stray by itself, and so is a list of it alone where the move has two.
+/// A part by itself is a stray, and so is a list of it alone while the move has two parts.
 fn check_part_strays(core: &mut Core<CAP>, done: Done<CAP>) -> Result<Done<CAP>, Fail> {
     let done = check_stray(core, done)?;
     drop(check_strays(core, ArrayVec::new())?);
@@ -204,7 +205,7 @@ fn check_part_strays(core: &mut Core<CAP>, done: Done<CAP>) -> Result<Done<CAP>,
     Ok(one.remove(0).ok_or("the part")?)
 }
 
-/// The part that the worker gets is of that number.
+/// Takes a job as that worker and checks that it is that part.
 fn take_part_of(
     alloc: Global,
     core: &mut Core<CAP>,
@@ -216,7 +217,7 @@ fn take_part_of(
     Ok((done, key))
 }
 
-/// Both parts are out with one worker. The second is finished first, and the parts come back at
+/// Both parts are out with one worker. The second is finished first, and both are completed at
 /// once.
 fn play_parts(alloc: Global, core: &mut Core<CAP>) -> Result<(), Fail> {
     let (one, first_key) = take_part_of(alloc, core, 0, 0)?;
@@ -274,7 +275,7 @@ fn a_move_goes_in_parts(rt: HostRuntime) -> Result<(), Fail> {
     check_turn(alloc, &core, 1)
 }
 
-/// Each part that is taken draws a block. They stay drawn while the parts come back.
+/// Each part that is taken draws a block, which stays drawn while the parts are completed.
 fn play_counted_parts(alloc: Global, core: &mut Core<CAP>) -> Result<(), Fail> {
     let (one, first_key) = take_part(alloc, core, 0)?;
     check_free(core, 4)?;
@@ -288,7 +289,7 @@ fn play_counted_parts(alloc: Global, core: &mut Core<CAP>) -> Result<(), Fail> {
     check_free(core, 3)
 }
 
-/// The answer gives back the blocks of both parts.
+/// Completing the Join gives the blocks of both parts back.
 fn play_counted_join(alloc: Global, core: &mut Core<CAP>) -> Result<(), Fail> {
     let join = take_done(alloc, core, 0)?;
     check_job(&join, JobKind::Join, 0)?;
@@ -313,7 +314,8 @@ fn each_part_holds_a_block_until_the_answer(rt: HostRuntime) -> Result<(), Fail>
     play_counted_join(alloc, &mut core)
 }
 
-/// The reply to the command of that number shows a board: its word, its turn and the charge.
+/// Checks that the reply to the command of that number shows a board: its word, its turn and the
+/// charge.
 fn check_shown(
     alloc: Global,
     core: &Core<CAP>,
@@ -329,7 +331,7 @@ fn check_shown(
     same("turn", kept.board(alloc)?.turn, turn)
 }
 
-/// The reply to the command of that number is that refusal.
+/// Checks that the reply to the command of that number is that refusal.
 fn check_refused(core: &Core<CAP>, number: usize, reason: Refusal) -> Result<(), Fail> {
     holds("a game", core.rows() == 1)?;
     let Some(Reply::Refused(why)) = core.replies(0).get(number) else {
@@ -343,7 +345,7 @@ fn hand_turn(alloc: Global, core: &mut Core<CAP>, turn: u16) -> Result<(), Fail>
     hand(alloc, core, 0, Command::Turn(turn))
 }
 
-/// A game whose quota is that of two records is asked for a third one, frees one, and goes on.
+/// A game with a quota of two records is refused a third one, frees one, and goes on.
 fn hand_over_quota(alloc: Global, core: &mut Core<CAP>) -> Result<(), Fail> {
     hand(alloc, core, 0, new_solo(alloc, 5)?)?;
     hand(alloc, core, 0, straight_on(alloc))?;
@@ -378,7 +380,7 @@ fn quota_of_two_records(rt: HostRuntime) -> Result<(), Fail> {
     check_over_quota(alloc, &core)
 }
 
-/// A core of that game, which was handed the same command twice.
+/// Opens a core of that game in which the same command was queued twice.
 fn core_with_shared(alloc: Global, name: &str, shared: &SharedCommand) -> Result<Core<CAP>, Fail> {
     let mut core = core_of_one(alloc, name, 4096)?;
     holds("a game", core.rows() == 1)?;
@@ -390,7 +392,7 @@ fn core_with_shared(alloc: Global, name: &str, shared: &SharedCommand) -> Result
     Ok(core)
 }
 
-/// A command that two cores hold is answered in each of them.
+/// A command that two cores share is answered in each of them.
 #[test]
 fn two_cores_hold_one_command(rt: HostRuntime) -> Result<(), Fail> {
     let alloc = rt.alloc();

@@ -28,8 +28,8 @@ fn finish(key: PartKey<Piece>, value: u64) -> Finish<Piece> {
     key.finish(Piece { part, value })
 }
 
-/// Finishes the key's part with that value. The values of all parts, in the order of the answer,
-/// where this was the last finisher.
+/// Finishes the key's part with that value. Returns the values of all parts, in order, if this was
+/// the last part.
 fn finish_last(alloc: Global, key: PartKey<Piece>, value: u64) -> Result<Option<Vec<u64>>, Fail> {
     match finish(key, value) {
         Finish::More(spent) => {
@@ -59,7 +59,7 @@ fn the_only_part_is_the_last(rt: HostRuntime) -> Result<(), Fail> {
     same("values", values.as_slice(), [7].as_slice())
 }
 
-/// Finishes the part whose key lies at that place, which is not the last part.
+/// Finishes the part whose key is at that index, which is not the last part.
 fn finish_at(
     alloc: Global,
     keys: &mut Vec<PartKey<Piece>>,
@@ -88,8 +88,7 @@ fn the_last_of_four_parts_gets_all_values(rt: HostRuntime) -> Result<(), Fail> {
     same("values", values.as_slice(), [10, 11, 12, 13].as_slice())
 }
 
-/// Finishes each key on a thread of its own, and counts those that were told that theirs was the
-/// last.
+/// Finishes each key on a thread of its own, and counts the threads whose part was the last.
 fn count_last<R: Threads + Sync>(rt: &R, keys: Vec<PartKey<Piece>>) -> Result<usize, AllocError> {
     let told = thread::map_vec(
         rt,

@@ -1,5 +1,5 @@
-//! Two games side by side in one core, by calls that are drawn from a fixed seed, against each of
-//! them in a core of its own.
+//! Two games in one core, by calls that are drawn from a fixed seed, compared with each of them in
+//! a core of its own.
 use crate::player::{CAP, Worked, complete, hand, take_worked};
 use bs_board::{Command, Direction};
 use bs_samples::{holds, new_of_three, new_solo, plan_of, same, straight_on, third_goes};
@@ -12,13 +12,13 @@ const BLOCKS: usize = 12;
 
 const WORKERS: usize = 3;
 
-/// How many lists of calls are drawn.
+/// The number of lists of calls.
 const LISTS: u64 = 200;
 
-/// How many calls a list has at most.
+/// The largest number of calls in a list.
 const CALLS: u32 = 60;
 
-/// Numbers that look drawn, the same ones each time.
+/// A pseudo-random sequence from a fixed seed.
 #[derive(Clone, Copy)]
 struct Draws {
     state: u64,
@@ -34,7 +34,7 @@ impl Draws {
     }
 }
 
-/// A job that is out with that worker, done in both cores.
+/// A job that the worker has taken in both cores.
 #[derive(Drop)]
 struct Out {
     worker: usize,
@@ -43,7 +43,7 @@ struct Out {
     lone: Worked,
 }
 
-/// The core of both games, and that of each of them alone.
+/// The core of both games, and the core of each of them alone.
 #[derive(Drop)]
 struct Hosts {
     shared: Core<CAP>,
@@ -51,7 +51,7 @@ struct Hosts {
     out: Vec<Out>,
 }
 
-/// What the two games are asked, in the order of their lines.
+/// Makes the commands of the two games, in the order of their lines.
 fn commands(alloc: Global) -> Result<Vec<(usize, Command)>, Fail> {
     let mut commands = Vec::new(alloc);
     commands.push((0, new_solo(alloc, 5)?))?;
@@ -79,14 +79,15 @@ fn open_hosts(alloc: Global) -> Result<Hosts, Fail> {
     })
 }
 
-/// A command goes to its game in both cores.
+/// Queues the command for its game in both cores.
 fn hand_next(alloc: Global, hosts: &mut Hosts, game: usize, command: &Command) -> Result<(), Fail> {
     hand(alloc, &mut hosts.shared, game, command.copy(alloc)?)?;
     let lone = hosts.lone.get_mut(game).ok_or("a game")?;
     hand(alloc, lone, 0, command.copy(alloc)?)
 }
 
-/// Where the worker gets a job among both games, it gets that job in the game's own core.
+/// Takes a job as that worker in the core of both games, and checks that the game's own core gives
+/// the same job.
 fn take_next(alloc: Global, hosts: &mut Hosts, worker: usize) -> Result<(), Fail> {
     let Some(shared) = take_worked(alloc, &mut hosts.shared, worker)? else {
         return Ok(());
@@ -116,7 +117,7 @@ fn put_next(hosts: &mut Hosts, place: usize) -> Result<(), Fail> {
     complete(&mut hosts.shared, out.worker, out.shared)
 }
 
-/// All that one game of a core shows, as a text.
+/// Returns all that one game of a core shows, as a text.
 fn shown(alloc: Global, core: &Core<CAP>, game: usize) -> Result<String, Fail> {
     holds("a game", game < core.rows())?;
     let mut text = String::new(alloc);
@@ -138,8 +139,8 @@ fn check_alike(alloc: Global, hosts: &Hosts) -> Result<(), Fail> {
     Ok(())
 }
 
-/// Makes the next call of the list: hands the next command, completes a job, or takes one. How many
-/// commands were handed after it.
+/// Makes the next call of the list: queues the next command, completes a job, or takes one. Returns
+/// the number of commands queued so far.
 fn call(
     alloc: Global,
     hosts: &mut Hosts,
@@ -163,7 +164,7 @@ fn call(
     Ok(handed)
 }
 
-/// How many commands were answered by a list of calls that is drawn.
+/// Returns the number of commands that a drawn list of calls answered.
 fn play(alloc: Global, commands: &[(usize, Command)], draws: &mut Draws) -> Result<usize, Fail> {
     let mut hosts = open_hosts(alloc)?;
     let mut handed = 0;
@@ -186,6 +187,6 @@ fn games_among_others_are_as_alone(rt: HostRuntime) -> Result<(), Fail> {
         let replies = play(alloc, commands.as_slice(), &mut draws)?;
         answered = answered.saturating_add(replies);
     }
-    // most of the 1,200 commands were answered on the way
+    // most of the 1,200 commands were answered before the lists ended
     holds("most are answered", answered > 600)
 }

@@ -1,10 +1,11 @@
-//! The jobs of a command on a board of three snakes, as a core gives them out, with the boards that
-//! the rules give.
+//! The jobs of a command on a board of three snakes, as a core gives them out, and the boards by
+//! the rules.
 use crate::player::{
     CAP, DoneParts, core_of, finish, hand, play_one, put, put_parts, take_done, take_part,
 };
 use bs_board::{
-    Board, Command, Direction, Mode, Point, Reply, Snake, TurnNumber, Word, encode, is_legal,
+    Board, Command, Direction, Mode, Point, Record, Reply, Snake, TurnNumber, Word, encode,
+    is_legal,
 };
 use bs_fiber::{
     Done, Expected, Handed, Handles, Input, JobKind, JobName, Moved, Out, SharedCommand,
@@ -18,7 +19,7 @@ use std::test::Fail;
 /// The game that is played: the second of two.
 const GAME: usize = 1;
 
-/// Three snakes, the first of them below the only food.
+/// Makes a board of three snakes, the first of them below the only food.
 fn before(alloc: Global) -> Result<Board, AllocError> {
     let s = snake(alloc, "s", 100, &[(1, 1), (1, 1), (1, 1)])?;
     let t = snake(alloc, "t", 100, &[(5, 1), (5, 1), (5, 1)])?;
@@ -29,7 +30,7 @@ fn before(alloc: Global) -> Result<Board, AllocError> {
     Ok(before)
 }
 
-/// The same board after a move that turns the third snake down.
+/// Makes the same board after a move in which the third snake goes down.
 fn after(alloc: Global) -> Result<Board, AllocError> {
     let s = snake(alloc, "s", 100, &[(1, 2), (1, 1), (1, 1), (1, 1)])?;
     let t = snake(alloc, "t", 99, &[(5, 2), (5, 1), (5, 1)])?;
@@ -55,7 +56,7 @@ fn third_goes_down(alloc: Global) -> Result<Command, Fail> {
     third_goes(alloc, Direction::Down)
 }
 
-/// A core whose second game is at the board `before`, and waits for that command.
+/// Opens a core whose second game is at the board `before` and has that command queued.
 fn core_at(alloc: Global, command: Command) -> Result<Core<CAP>, Fail> {
     let mut core = core_of(alloc, &[("a", 64), ("b", 4096)], 12)?;
     hand(alloc, &mut core, GAME, new_of_three(alloc)?)?;
@@ -64,7 +65,7 @@ fn core_at(alloc: Global, command: Command) -> Result<Core<CAP>, Fail> {
     Ok(core)
 }
 
-/// The Begin of a move of the third snake, run.
+/// Runs the Begin of a move of the third snake.
 fn begun(alloc: Global) -> Result<Done<CAP>, Fail> {
     let mut core = core_at(alloc, third_goes_down(alloc)?)?;
     take_done(alloc, &mut core, 1)
@@ -87,8 +88,13 @@ fn begin_lets_the_move_go(rt: HostRuntime) -> Result<(), Fail> {
     holds("a move", matches!(ticket.command(), Command::Move(_)))
 }
 
-/// What a core expects of the Begin of that command, on a game whose newest board has that record.
-fn expected<'a>(record: &'a [u8], command: &'a SharedCommand) -> Expected<'a> {
+fn kept_of(alloc: Global, board: &Board) -> Result<Record, Fail> {
+    holds("a legal board", is_legal(board))?;
+    Ok(Record::of(alloc, board)?)
+}
+
+/// What a core expects of the Begin of that command, in a game whose newest board has that record.
+fn expected<'a>(record: &'a Record, command: &'a SharedCommand) -> Expected<'a> {
     Expected {
         job: job(JobKind::Begin, 0),
         worker: 1,
@@ -106,16 +112,16 @@ fn expected<'a>(record: &'a [u8], command: &'a SharedCommand) -> Expected<'a> {
 fn a_ticket_is_of_its_own_command(rt: HostRuntime) -> Result<(), Fail> {
     let alloc = rt.alloc();
     let done = begun(alloc)?;
-    let record = record_of(alloc, &before(alloc)?)?;
+    let record = kept_of(alloc, &before(alloc)?)?;
     let moved = SharedCommand::new(alloc, third_goes_down(alloc)?)?;
     let show = SharedCommand::new(alloc, Command::Show)?;
-    let is_of_move = done.ticket().is_of(&expected(record.as_slice(), &moved));
+    let is_of_move = done.ticket().is_of(&expected(&record, &moved));
     holds("the ticket of a move", is_of_move)?;
-    let is_of_show = done.ticket().is_of(&expected(record.as_slice(), &show));
+    let is_of_show = done.ticket().is_of(&expected(&record, &show));
     holds("no ticket of another command", !is_of_show)
 }
 
-/// The numbers of the input, and the lengths of its records.
+/// Checks the numbers of the input, and the lengths of its records.
 fn check_input(input: &Input, seq: u64, last: &[u8], asked: Option<&[u8]>) -> Result<(), Fail> {
     same("worker", input.worker, 1)?;
     same("number of the command", input.seq, seq)?;
@@ -128,14 +134,18 @@ fn check_input(input: &Input, seq: u64, last: &[u8], asked: Option<&[u8]>) -> Re
 }
 
 #[test]
-fn an_expected_input_is_copied(rt: HostRuntime) -> Result<(), Fail> {
+fn an_expected_input_is_made(rt: HostRuntime) -> Result<(), Fail> {
     let alloc = rt.alloc();
+    let (first, second) = (before(alloc)?, after(alloc)?);
+    let (one, other) = (kept_of(alloc, &first)?, kept_of(alloc, &second)?);
     let show = SharedCommand::new(alloc, Command::Show)?;
     holds("a bare command", show.is_bare())?;
-    let mut expected = expected(&[7, 8], &show);
-    expected.asked = Some(&[9]);
-    let contents = expected.to_contents::<CAP>(alloc, None, None)?;
-    check_input(&contents.input, 2, &[7, 8], Some(&[9]))?;
+    let shown = Expected {
+        asked: Some(other.as_slice()),
+        ..expected(&one, &show)
+    };
+    let contents = shown.to_contents::<CAP>(alloc, None, None)?;
+    check_input(&contents.input, 2, one.as_slice(), Some(other.as_slice()))?;
     holds(
         "show",
         matches!(contents.input.command.get(), Command::Show),
@@ -144,17 +154,14 @@ fn an_expected_input_is_copied(rt: HostRuntime) -> Result<(), Fail> {
     let end = SharedCommand::new(alloc, Command::End)?;
     let later = Expected {
         seq: 3,
-        last: Some(&[4, 5, 6]),
-        asked: None,
-        command: &end,
-        ..expected
+        ..expected(&other, &end)
     };
     let contents = later.to_contents(alloc, Some(end.share()?), Some(contents))?;
-    check_input(&contents.input, 3, &[4, 5, 6], None)?;
+    check_input(&contents.input, 3, other.as_slice(), None)?;
     holds("end", matches!(contents.input.command.get(), Command::End))
 }
 
-/// A queued move has a handle for the job that begins it, once. It stays a move after that.
+/// A queued move has a handle for its Begin, once. It stays a move after that.
 #[test]
 fn a_handed_move_has_a_handle(rt: HostRuntime) -> Result<(), Fail> {
     let alloc = rt.alloc();
@@ -169,7 +176,7 @@ fn a_handed_move_has_a_handle(rt: HostRuntime) -> Result<(), Fail> {
     holds("still a move", handed.is_move())
 }
 
-/// A queued `turn` has the turn that it asks for, and no handle.
+/// A queued `turn` has the turn that it names, and no handle.
 #[test]
 fn a_handed_turn_has_its_number(rt: HostRuntime) -> Result<(), Fail> {
     let alloc = rt.alloc();
@@ -215,7 +222,7 @@ fn moved_by(done: &Done<CAP>) -> Result<&Moved, Fail> {
     }
 }
 
-/// The first part moved two snakes, and wrote them into its block.
+/// Checks that the first part moved two snakes and wrote them into its block.
 fn check_first(done: &Done<CAP>) -> Result<(), Fail> {
     let moved = moved_by(done)?;
     same("pieces", moved.pieces().len(), 2)?;
@@ -236,7 +243,7 @@ fn check_first(done: &Done<CAP>) -> Result<(), Fail> {
     )
 }
 
-/// The second part moved one snake, and wrote it into its block.
+/// Checks that the second part moved one snake and wrote it into its block.
 fn check_second(done: &Done<CAP>) -> Result<(), Fail> {
     let [u] = moved_by(done)?.as_slice() else {
         return Err(Fail::from("not one snake"));
@@ -248,7 +255,7 @@ fn check_second(done: &Done<CAP>) -> Result<(), Fail> {
     same("bytes of a snake", owned.block().len(), 16)
 }
 
-/// Runs both parts of the move. The completed parts, and the number of part 0's block.
+/// Runs both parts of the move. Returns the completed parts, and the number of part 0's block.
 fn both_parts(alloc: Global, core: &mut Core<CAP>) -> Result<(DoneParts, usize), Fail> {
     let (first, first_key) = take_part(alloc, core, 1)?;
     let (second, second_key) = take_part(alloc, core, 1)?;
@@ -263,7 +270,7 @@ fn both_parts(alloc: Global, core: &mut Core<CAP>) -> Result<(DoneParts, usize),
     Ok((parts, number))
 }
 
-/// The answer shows the board after the move, and adds its record.
+/// Checks that the answer shows the board after the move and adds its record.
 fn check_joined(alloc: Global, out: &Out) -> Result<(), Fail> {
     let Out::Joined(
         Answer {
@@ -280,7 +287,8 @@ fn check_joined(alloc: Global, out: &Out) -> Result<(), Fail> {
     same("record", record.as_slice(), wanted.as_slice())
 }
 
-/// The new record lies behind the snakes of part 0, and the block of part 1 is as it was.
+/// Checks that the new record follows the snakes of part 0, and that the block of part 1 is
+/// unchanged.
 fn check_added(alloc: Global, done: &Done<CAP>, number: usize) -> Result<(), Fail> {
     let added = done.added().ok_or("a record in part 0's block")?;
     let wanted = record_of(alloc, &after(alloc)?)?;

@@ -1,4 +1,4 @@
-//! The gate of a run: which jobs it is asked about, and what becomes of a run where it is shut.
+//! The gate of a run: for which jobs it is consulted, and how a run ends if it refuses one.
 use crate::coming::coming_and_going;
 use crate::runs::{TWO, commands, run_with};
 use bs_fiber::{JobKind, JobName};
@@ -34,7 +34,7 @@ fn check_refused<R: Threads + Wait + Sync + AllocGlobal>(
     Ok(())
 }
 
-/// A gate that refuses a Begin, a part or a Join breaks the run.
+/// A gate that refuses a Begin, a part or a Join stops the run.
 #[test]
 fn a_shut_gate_breaks_the_run(rt: HostRuntime) -> Result<(), Fail> {
     let acts = commands(rt.alloc())?;
@@ -44,7 +44,7 @@ fn a_shut_gate_breaks_the_run(rt: HostRuntime) -> Result<(), Fail> {
     Ok(())
 }
 
-/// A run ends though the game that is to leave is never done.
+/// A run ends even though the game that is to leave never becomes idle.
 #[test]
 fn a_shut_gate_breaks_the_run_at_a_leave(rt: HostRuntime) -> Result<(), Fail> {
     let acts = coming_and_going(rt.alloc())?;
@@ -54,7 +54,7 @@ fn a_shut_gate_breaks_the_run_at_a_leave(rt: HostRuntime) -> Result<(), Fail> {
     Ok(())
 }
 
-/// Notes each job that it is asked about, with the number of the thread.
+/// Records each job for which it is consulted, with the number of the thread.
 #[derive(Drop)]
 struct Noting {
     noted: Mutex<Vec<(usize, JobName)>>,
@@ -79,8 +79,8 @@ impl Gate for Noting {
     }
 }
 
-/// Each job that the journal says was taken was noted once, with the number of the thread that has
-/// the worker's number; no other job was.
+/// Checks that each job that was taken, by the journal, was recorded once, with the number of the
+/// thread that has the worker's number; and no other job.
 fn check_noted(
     journal: &[Event],
     mut noted: Vec<(usize, JobName)>,
@@ -99,7 +99,7 @@ fn check_noted(
     same("jobs too many", noted.len(), 0)
 }
 
-/// The gate is asked about each job once, by the thread that takes it.
+/// The gate is consulted once for each job, by the thread that takes it.
 #[test]
 fn the_gate_is_asked_about_each_job(rt: HostRuntime) -> Result<(), Fail> {
     let acts = commands(rt.alloc())?;

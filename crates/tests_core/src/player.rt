@@ -1,4 +1,4 @@
-//! Plays the jobs of a core one by one: a worker takes a job, runs it and completes it.
+//! Plays the jobs of a core one by one: a worker takes, runs and completes each.
 use arrayvec::ArrayVec;
 use bs_board::Command;
 use bs_counter::{Finish, PartKey, Parted};
@@ -35,7 +35,7 @@ pub(crate) fn hand(
     Ok(core.hand(alloc, game, command)?)
 }
 
-/// What the worker gets.
+/// Takes a job as that worker.
 pub(crate) fn take(alloc: Global, core: &mut Core<CAP>, worker: usize) -> Result<Taken<CAP>, Fail> {
     holds("the worker is there", worker <= core.workers())?;
     Ok(core.take(alloc, worker)?)
@@ -48,7 +48,7 @@ pub(crate) struct Worked {
     key: Option<PartKey<Done<CAP>>>,
 }
 
-/// The job that the worker gets, run. None where there is none or the worker is busy.
+/// Takes a job as that worker and runs it. `None` if no job is ready or the worker is busy.
 pub(crate) fn take_worked(
     alloc: Global,
     core: &mut Core<CAP>,
@@ -70,7 +70,7 @@ pub(crate) fn take_worked(
     }
 }
 
-/// The Begin or Join that the worker gets, run.
+/// Takes a Begin or Join as that worker and runs it.
 pub(crate) fn take_done(
     alloc: Global,
     core: &mut Core<CAP>,
@@ -81,7 +81,7 @@ pub(crate) fn take_done(
     Ok(done)
 }
 
-/// The part that the worker gets, run, with its key.
+/// Takes a part as that worker and runs it. Returns it with its key.
 pub(crate) fn take_part(
     alloc: Global,
     core: &mut Core<CAP>,
@@ -91,7 +91,7 @@ pub(crate) fn take_part(
     Ok((done, key.ok_or("a part")?))
 }
 
-/// Finishes the part by its key. All parts, if this was the last.
+/// Finishes the part by its key. Returns all parts if this was the last.
 pub(crate) fn finish(key: PartKey<Done<CAP>>, done: Done<CAP>) -> Result<Option<DoneParts>, Fail> {
     holds("the key of the part", key.part() == done.part())?;
     match key.finish(done) {
@@ -115,7 +115,7 @@ pub(crate) fn put(core: &mut Core<CAP>, worker: usize, done: Done<CAP>) -> Resul
         .map_err(|_| Fail::from("a stray of its own core"))
 }
 
-/// Completes the job. A part is finished by its key, and the last one completes all parts.
+/// Completes the job. A part is finished by its key; the last one completes all parts.
 pub(crate) fn complete(core: &mut Core<CAP>, worker: usize, worked: Worked) -> Result<(), Fail> {
     let Worked { done, key } = worked;
     let Some(key) = key else {
@@ -127,13 +127,13 @@ pub(crate) fn complete(core: &mut Core<CAP>, worker: usize, worked: Worked) -> R
     }
 }
 
-/// Plays the Begin or Join that the worker gets.
+/// Takes, runs and completes a Begin or Join as that worker.
 pub(crate) fn play_one(alloc: Global, core: &mut Core<CAP>, worker: usize) -> Result<(), Fail> {
     let done = take_done(alloc, core, worker)?;
     put(core, worker, done)
 }
 
-/// Plays all jobs that there are as that worker.
+/// Plays all ready jobs as that worker.
 pub(crate) fn play_all<R: Wait>(
     rt: &R,
     alloc: Global,

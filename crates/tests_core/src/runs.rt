@@ -1,4 +1,4 @@
-//! Runs of two games of three snakes: their acts, and the replies that they end with.
+//! Runs of two games of three snakes: their acts, and their replies.
 use crate::player::CAP;
 use bs_board::{Command, Direction, TurnNumber};
 use bs_fiber::SharedCommand;
@@ -27,7 +27,7 @@ pub(crate) fn push(
     Ok(())
 }
 
-/// Six moves of the third snake, three in each game, and each time `show` in the other game.
+/// Adds six moves of the third snake, three in each game, each with a `show` in the other game.
 fn push_moves(alloc: Global, acts: &mut Vec<Act>) -> Result<(), Fail> {
     for (game, direction) in [
         (0usize, Direction::Down),
@@ -43,7 +43,7 @@ fn push_moves(alloc: Global, acts: &mut Vec<Act>) -> Result<(), Fail> {
     Ok(())
 }
 
-/// The commands of both games in turn, nine for each.
+/// Makes the commands of both games by turns, nine for each.
 pub(crate) fn commands(alloc: Global) -> Result<Vec<Act>, Fail> {
     let mut acts = Vec::new(alloc);
     for game in 0..2usize {

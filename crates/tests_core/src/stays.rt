@@ -1,4 +1,4 @@
-//! Stays that come and go, call by call.
+//! Stays that are admitted and leave, call by call.
 use crate::player::{CAP, core_of, hand, play_one};
 use bs_board::{Command, Refusal, Reply};
 use bs_samples::{holds, new_solo, row, same};
@@ -13,7 +13,7 @@ fn core_with_a(alloc: Global) -> Result<Core<CAP>, Fail> {
     core_of(alloc, &[("a", 64)], BLOCKS)
 }
 
-/// The answer to the admission of a stay of that name, whose quota is 64.
+/// Checks the answer to the admission of a stay of that name with a quota of 64.
 fn check_admit(
     alloc: Global,
     core: &mut Core<CAP>,
@@ -23,7 +23,7 @@ fn check_admit(
     same(name, core.admit(alloc, row(alloc, name, 64)?), answer)
 }
 
-/// The answer to the leave of that stay.
+/// Checks the answer to the leave of that stay.
 fn check_leave(
     alloc: Global,
     core: &mut Core<CAP>,
@@ -43,7 +43,7 @@ fn check_free(core: &Core<CAP>, free: usize) -> Result<(), Fail> {
     same("blocks", core.counts(), counts)
 }
 
-/// Whether the stay is open, its charge, and how many records and replies it has.
+/// Checks whether the stay is open, its charge, and how many records and replies it has.
 fn check_stay(
     core: &Core<CAP>,
     game: usize,
@@ -58,14 +58,14 @@ fn check_stay(
     same("replies", core.replies(game).len(), replies)
 }
 
-/// The turn of the stay's last board.
+/// Checks the turn of the stay's last board.
 fn check_turn(alloc: Global, core: &Core<CAP>, game: usize, turn: Option<u16>) -> Result<(), Fail> {
     holds("a stay", game < core.rows())?;
     let board = core.board(alloc, game)?;
     same("turn", board.as_ref().map(|board| board.turn), turn)
 }
 
-/// A core that a second stay came to, played in and left.
+/// Opens a core to which a second stay was admitted, in which it played and which it left.
 fn core_left_by_b(alloc: Global) -> Result<Core<CAP>, Fail> {
     let mut core = core_with_a(alloc)?;
     check_admit(alloc, &mut core, "b", Ok(1))?;
@@ -93,7 +93,7 @@ fn a_stay_comes_and_goes(rt: HostRuntime) -> Result<(), Fail> {
     check_stay(&core, 1, false, 32, 1)?;
     check_stay(&core, 2, true, 0, 0)?;
     check_admit(alloc, &mut core, "c", Err(Admit::NameOpen))?;
-    // Three stays came or left, one command was handed in, and its job was taken and completed.
+    // Three admissions and leaves; one command was queued, and its job taken and completed.
     same("events", core.journal().len(), 6)
 }
 
@@ -107,7 +107,7 @@ fn check_no_game(core: &Core<CAP>, game: usize) -> Result<(), Fail> {
     )
 }
 
-/// A stay of a name that left begins from nothing, also after the core was told to fail.
+/// A stay with the name of one that left starts empty, also after `fail`.
 #[test]
 fn a_name_comes_again(rt: HostRuntime) -> Result<(), Fail> {
     let alloc = rt.alloc();
@@ -129,7 +129,7 @@ fn a_name_comes_again(rt: HostRuntime) -> Result<(), Fail> {
     check_free(&core, BLOCKS)
 }
 
-/// 64 stays can be open: the next one is refused, and comes once another has left.
+/// At most 64 stays are open: the next one is refused, and admitted once another has left.
 #[test]
 fn sixty_four_are_open(rt: HostRuntime) -> Result<(), Fail> {
     let alloc = rt.alloc();

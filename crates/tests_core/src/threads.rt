@@ -13,7 +13,7 @@ use std::sync::atomic::Ordering::SeqCst;
 use std::test::Fail;
 use std::thread::Threads;
 
-/// The replies of that game and of the one behind it, nine each, as text.
+/// Returns the replies of that game and of the next one, nine each, as text.
 fn replies(alloc: Global, core: &Core<CAP>, game: usize) -> Result<String, Fail> {
     holds("quiet", core.is_quiet())?;
     holds("two games", core.rows() > 1)?;
@@ -62,7 +62,7 @@ const SIXTEEN: [(&str, u32); 16] = [
     ("p", 4096),
 ];
 
-/// The commands of both games, for each pair of sixteen games in turn.
+/// Makes the commands of both games, for each pair of sixteen games by turns.
 fn commands_of_pairs(alloc: Global) -> Result<Vec<Act>, Fail> {
     let mut all = Vec::new(alloc);
     for act in commands(alloc)?.as_slice() {
@@ -75,7 +75,7 @@ fn commands_of_pairs(alloc: Global) -> Result<Vec<Act>, Fail> {
     Ok(all)
 }
 
-/// Each pair of sixteen games has these replies.
+/// Checks that each pair of sixteen games has these replies.
 fn check_pairs(alloc: Global, core: &Core<CAP>, alone: &str) -> Result<(), Fail> {
     for pair in 0..8usize {
         let others = replies(alloc, core, 2 * pair)?;
@@ -84,8 +84,8 @@ fn check_pairs(alloc: Global, core: &Core<CAP>, alone: &str) -> Result<(), Fail>
     Ok(())
 }
 
-/// Each pair of sixteen games is as it is alone, also where the workers are fewer than the threads
-/// or no multiple of them.
+/// Each pair of sixteen games is answered as it is alone, also when there are fewer workers than
+/// threads or no multiple of them.
 #[test]
 fn threads_with_batches_give_the_same_replies(rt: HostRuntime) -> Result<(), Fail> {
     let alone = replies_by(&rt, 1)?;
@@ -113,7 +113,7 @@ fn threads_with_batches_give_the_same_replies(rt: HostRuntime) -> Result<(), Fai
     Ok(())
 }
 
-/// Whether the event queues the command that the act hands to a game.
+/// Whether the event queues the command of the act.
 fn hands(event: &Event, act: &Act) -> bool {
     match (event, act) {
         (Event::Hand(row, queued), Act::Hand(game, command)) => {
@@ -123,7 +123,7 @@ fn hands(event: &Event, act: &Act) -> bool {
     }
 }
 
-/// The commands of the journal are those of the acts, in their order.
+/// Checks that the commands of the journal are those of the acts, in order.
 fn check_journal(journal: &[Event], acts: &[Act]) -> Result<(), Fail> {
     let mut made = 0usize;
     for event in journal {
@@ -150,14 +150,14 @@ fn a_run_has_its_plan_and_commands(rt: HostRuntime) -> Result<(), Fail> {
     check_journal(core.journal(), acts.as_slice())
 }
 
-/// Lets no part go before both are out.
+/// Delays the parts until two are out.
 #[derive(Drop)]
 struct Meeting {
     first: AtomicBool,
     second: AtomicBool,
 }
 
-/// Sets its own flag and waits for the other's. False where that does not come.
+/// Sets its own flag and waits for the other's. Returns false if that is never set.
 fn meet(own: &AtomicBool, other: &AtomicBool) -> bool {
     own.store(true, SeqCst);
     for _ in 0..1_000_000_000u32 {
@@ -194,11 +194,11 @@ fn two_threads_are_at_one_move(rt: HostRuntime) -> Result<(), Fail> {
     holds("part 1", gate.second.load(SeqCst))
 }
 
-/// Lets no job go before so many threads are at one.
+/// Delays the jobs until that many threads are at one.
 #[derive(Drop)]
 struct Together {
     wanted: usize,
-    /// For each number of a thread whether that thread is at a job.
+    /// For each thread number, whether that thread is at a job.
     here: [AtomicBool; 5],
 }
 
@@ -216,7 +216,7 @@ impl Together {
         }
     }
 
-    /// How many threads have been at a job.
+    /// Counts the threads that have been at a job.
     fn count(&self) -> usize {
         self.here
             .iter()
@@ -240,7 +240,7 @@ impl Gate for Together {
     }
 }
 
-/// As many threads work as are asked for, each with a number of its own.
+/// As many threads work as were requested, each with a number of its own.
 #[test]
 fn as_many_threads_work_as_are_asked(rt: HostRuntime) -> Result<(), Fail> {
     let alloc = rt.alloc();

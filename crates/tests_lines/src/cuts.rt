@@ -1,4 +1,4 @@
-//! What is left of a file for one game.
+//! The cut of a file to one game.
 use crate::files::{SOLO, TWO_GAMES};
 use crate::lengths::feeds_to;
 use crate::rows::{joined, rows_text};
@@ -17,8 +17,9 @@ const SECOND_GAME: &str = r#"{"games":[{"game":"b","quota":4096}]}
 {"game":"b","do":"move","moves":{"u":"down"}}
 {"game":"b","do":"show"}"#;
 
-// A plan whose text is not the shortest, a game without lines, and lines that stay as they stand: a
-// bad one, one with spaces, one whose name has an escape. Blank lines and strays are left out.
+// A plan that is not written in the shortest form, a game without lines, and lines that the cut
+// copies unchanged: a bad one, one with spaces, one whose name has an escape. Blank lines and
+// strays are left out.
 const LOOSE: &str =
     r#" { "version" : 1, "games": [ {"quota": 16, "game": "\u0061\n", "more": 0}, {"game":"b","quota":17} ] }
 {"do":"jump","game":"a\n"}
@@ -34,7 +35,7 @@ const LOOSE_FIRST: &str = r#"{"games":[{"game":"a\n","quota":16}]}
   {"game" : "\u0061\u000a", "do" : "show" } 
 {"game":"a\n","do":"end"}"#;
 
-// The cut of a file of version 2 is of version 2, however its plan is written.
+// The cut of a file of version 2 has version 2, however the plan is written.
 const VERSION_TWO: &str =
     r#"{"version":2, "games":[{"game":"a","quota":64},{"game":"b","quota":4096}]}
 {"game":"b","do":"new","mode":"wrapped","width":5,"height":5,"snakes":[{"id":"s","x":3,"y":1},{"id":"t","x":3,"y":3}],"food":[],"min_food":0,"food_chance":0}

@@ -1,4 +1,4 @@
-//! Writers and readers of the host that fail at each place: nothing is tried again.
+//! Writers and readers that fail at each place: the host retries nothing.
 use crate::fakes::{FalteringReader, NarrowWriter, StumblingWriter};
 use crate::files::{SOLO, SOLO_TEXT, TWO_GAMES};
 use crate::serving::{Run, outcome};
@@ -24,7 +24,7 @@ const KINDS: [Option<ErrorKind>; 4] = [
     None,
 ];
 
-// What is wanted of a writer that fails after so many bytes of the text.
+// The fault of a writer that fails after that many bytes of the text.
 fn fault_after(alloc: Global, place: usize) -> Result<String, AllocError> {
     if place < SOLO_TEXT.len() {
         format!(in alloc; "write failed after {place} bytes")
@@ -38,7 +38,7 @@ fn is_front(taken: &[u8], place: usize) -> Result<(), Fail> {
     same("what was taken", taken, &text[..place.min(text.len())])
 }
 
-// Wherever a writer fails once, the run ends with the bytes that it took till then.
+// Wherever a writer fails, the run ends, and its output is what the writer took before.
 #[test]
 fn writers_that_fail_once(rt: HostRuntime) -> Result<(), Fail> {
     let alloc = rt.alloc();
@@ -55,7 +55,7 @@ fn writers_that_fail_once(rt: HostRuntime) -> Result<(), Fail> {
     Ok(())
 }
 
-// Compares the fault of a writer that takes a byte a call, so many of them, and what it took.
+// Compares the fault of a writer that takes `room` bytes, one a call, and what it took.
 fn is_cut_off<R: Threads + Wait + Sync>(
     rt: &R,
     alloc: Global,
@@ -84,7 +84,7 @@ fn writers_that_fail_have_a_prefix(rt: HostRuntime) -> Result<(), Fail> {
     is_cut_off(&rt, rt.alloc(), 5_000, None, "served")
 }
 
-// What is told of a reader that fails at that place.
+// Describes the fault of a reader that fails at that place.
 fn told_of_reader(alloc: Global, place: usize, kind: ErrorKind) -> Result<String, AllocError> {
     let mut reader = FalteringReader::new(TWO_GAMES.as_bytes(), place, kind);
     match read_input(alloc, &mut reader) {
@@ -93,7 +93,7 @@ fn told_of_reader(alloc: Global, place: usize, kind: ErrorKind) -> Result<String
     }
 }
 
-// Wherever a reader fails once, also behind the last byte, the file is not read.
+// Wherever a reader fails, also after the last byte, the file is not read.
 #[test]
 fn readers_that_fail_once(rt: HostRuntime) -> Result<(), Fail> {
     let alloc = rt.alloc();

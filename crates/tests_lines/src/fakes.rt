@@ -3,7 +3,7 @@ use std::alloc::Global;
 use std::io;
 use std::io::{ErrorKind, Read, Write};
 
-/// Takes so many bytes, some at a time, and then fails at each call: by an error, or by taking
+/// Takes a number of bytes, some at a time, and then fails at each call: by an error, or by taking
 /// nothing.
 #[derive(Drop)]
 pub struct NarrowWriter {
@@ -48,7 +48,7 @@ impl Write for NarrowWriter {
     }
 }
 
-/// Takes all that it is given, but fails once, after so many bytes: by an error, or by taking
+/// Takes all that it is given, but fails once, after a number of bytes: by an error, or by taking
 /// nothing.
 #[derive(Drop)]
 pub struct StumblingWriter {
@@ -93,7 +93,7 @@ impl Write for StumblingWriter {
     }
 }
 
-/// Gives a file a few bytes at a time, and fails once, after so many of them.
+/// Gives a file a few bytes at a time, and fails once, after a number of them.
 #[derive(Drop)]
 pub struct FalteringReader<'a> {
     left: &'a [u8],

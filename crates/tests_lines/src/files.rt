@@ -1,6 +1,6 @@
 //! Command files, and the transcript of each.
 
-/// A snake alone goes straight on and into the wall; what is asked of it then is refused.
+/// A solo snake goes straight on and into the wall; the commands after that are refused.
 pub const SOLO: &str = r#"{"games":[{"game":"a","quota":4096}]}
 {"game":"a","do":"new","mode":"solo","width":3,"height":3,"snakes":[{"id":"s","x":1,"y":1}],"food":[],"min_food":0,"food_chance":0}
 {"game":"a","do":"move","moves":{}}
@@ -16,7 +16,7 @@ pub const SOLO_TEXT: &str =
 {"board":{"food":[],"food_chance":0,"height":3,"min_food":0,"mode":"solo","over":true,"snakes":[{"body":[{"x":1,"y":3},{"x":1,"y":2},{"x":1,"y":1}],"by":null,"cause":"wall-collision","health":98,"id":"s","out":2}],"turn":2,"width":3},"charge":96,"final":true,"game":"a"}
 "#;
 
-/// Two games whose lines take turns: each is answered by its own lines alone.
+/// Two games whose lines alternate: each is answered by its own lines alone.
 pub const TWO_GAMES: &str = r#"{"games":[{"game":"a","quota":64},{"game":"b","quota":4096}]}
 {"game":"a","do":"new","mode":"solo","width":5,"height":5,"snakes":[{"id":"s","x":1,"y":1}],"food":[],"min_food":0,"food_chance":0}
 {"game":"b","do":"new","mode":"standard","width":7,"height":7,"snakes":[{"id":"s","x":1,"y":1},{"id":"t","x":5,"y":1},{"id":"u","x":3,"y":5}],"food":[{"x":1,"y":2}],"min_food":0,"food_chance":0}
@@ -26,7 +26,7 @@ pub const TWO_GAMES: &str = r#"{"games":[{"game":"a","quota":64},{"game":"b","qu
 {"game":"b","do":"show"}
 "#;
 
-/// What is written for the first and for the second of the two games that take turns.
+/// The sections of the first and of the second of the two games whose lines alternate.
 pub const FIRST_TEXT: &str =
     r#"{"board":{"food":[],"food_chance":0,"height":5,"min_food":0,"mode":"solo","over":false,"snakes":[{"body":[{"x":1,"y":1},{"x":1,"y":1},{"x":1,"y":1}],"by":null,"cause":null,"health":100,"id":"s","out":null}],"turn":0,"width":5},"charge":32,"do":"new","game":"a","seq":1}
 {"board":{"food":[],"food_chance":0,"height":5,"min_food":0,"mode":"solo","over":false,"snakes":[{"body":[{"x":1,"y":2},{"x":1,"y":1},{"x":1,"y":1}],"by":null,"cause":null,"health":99,"id":"s","out":null}],"turn":1,"width":5},"charge":64,"do":"move","game":"a","seq":2}
@@ -41,7 +41,7 @@ pub const SECOND_TEXT: &str =
 {"board":{"food":[],"food_chance":0,"height":7,"min_food":0,"mode":"standard","over":false,"snakes":[{"body":[{"x":1,"y":2},{"x":1,"y":1},{"x":1,"y":1},{"x":1,"y":1}],"by":null,"cause":null,"health":100,"id":"s","out":null},{"body":[{"x":5,"y":2},{"x":5,"y":1},{"x":5,"y":1}],"by":null,"cause":null,"health":99,"id":"t","out":null},{"body":[{"x":3,"y":4},{"x":3,"y":5},{"x":3,"y":5}],"by":null,"cause":null,"health":99,"id":"u","out":null}],"turn":1,"width":7},"charge":128,"final":true,"game":"b"}
 "#;
 
-/// A quota of two records: the third is refused until the older ones are given up.
+/// A quota of two records: the third is refused until the older ones are freed.
 pub const TWO_RECORDS: &str = r#"{"games":[{"game":"a","quota":64}]}
 {"game":"a","do":"new","mode":"solo","width":5,"height":5,"snakes":[{"id":"s","x":1,"y":1}],"food":[],"min_food":0,"food_chance":0}
 {"game":"a","do":"move","moves":{}}
@@ -63,7 +63,7 @@ pub const TWO_RECORDS_TEXT: &str =
 {"board":{"food":[],"food_chance":0,"height":5,"min_food":0,"mode":"solo","over":false,"snakes":[{"body":[{"x":1,"y":3},{"x":1,"y":2},{"x":1,"y":1}],"by":null,"cause":null,"health":98,"id":"s","out":null}],"turn":2,"width":5},"charge":64,"final":true,"game":"a"}
 "#;
 
-/// A game that runs is not started again, and after its end another may start.
+/// A running game cannot be started again; after its end another may start.
 pub const AGAIN: &str = r#"{"games":[{"game":"a","quota":4096}]}
 {"game":"a","do":"new","mode":"solo","width":3,"height":3,"snakes":[{"id":"s","x":1,"y":1}],"food":[],"min_food":0,"food_chance":0}
 {"game":"a","do":"new","mode":"solo","width":3,"height":3,"snakes":[{"id":"s","x":1,"y":1}],"food":[],"min_food":0,"food_chance":0}
@@ -81,7 +81,7 @@ pub const AGAIN_TEXT: &str =
 {"board":{"food":[],"food_chance":0,"height":3,"min_food":0,"mode":"solo","over":false,"snakes":[{"body":[{"x":1,"y":1},{"x":1,"y":1},{"x":1,"y":1}],"by":null,"cause":null,"health":100,"id":"s","out":null}],"turn":0,"width":3},"charge":32,"final":true,"game":"a"}
 "#;
 
-/// Lines that belong to no game, among those of one.
+/// Lines that belong to no game, among those of one game.
 pub const STRAYS: &str = r#"{"games":[{"game":"a","quota":4096}]}
 {"game":"a","do":"jump"}
 {oops
@@ -97,7 +97,7 @@ pub const STRAYS_TEXT: &str = r#"{"game":"a","no":"G1","seq":1,"why":"command"}
 {"line":4,"no":"L2","why":"game"}
 "#;
 
-/// A quota that has no room for one record.
+/// A quota smaller than one record.
 pub const TINY: &str = r#"{"games":[{"game":"a","quota":16}]}
 {"game":"a","do":"new","mode":"solo","width":3,"height":3,"snakes":[{"id":"s","x":1,"y":1}],"food":[],"min_food":0,"food_chance":0}
 "#;
@@ -106,7 +106,7 @@ pub const TINY_TEXT: &str = r#"{"game":"a","no":"G7","seq":1,"why":"quota"}
 {"board":null,"charge":0,"final":true,"game":"a"}
 "#;
 
-/// Two snakes that cross the right edge of a wrapped board, first by an order and then straight on.
+/// Two snakes that cross the right edge of a wrapped board, first by a direction, then straight on.
 pub const WRAPPED: &str = r#"{"games":[{"game":"a","quota":4096}],"version":2}
 {"game":"a","do":"new","mode":"wrapped","width":5,"height":5,"snakes":[{"id":"s","x":3,"y":1},{"id":"t","x":3,"y":3}],"food":[],"min_food":0,"food_chance":0}
 {"game":"a","do":"move","moves":{"s":"right","t":"right"}}
@@ -122,7 +122,7 @@ pub const WRAPPED_TEXT: &str =
 {"board":{"food":[],"food_chance":0,"height":5,"min_food":0,"mode":"wrapped","over":false,"snakes":[{"body":[{"x":1,"y":1},{"x":0,"y":1},{"x":4,"y":1}],"by":null,"cause":null,"health":97,"id":"s","out":null},{"body":[{"x":1,"y":3},{"x":0,"y":3},{"x":4,"y":3}],"by":null,"cause":null,"health":97,"id":"t","out":null}],"turn":3,"width":5},"charge":192,"final":true,"game":"a"}
 "#;
 
-/// The same lines in version 1, which has no such mode.
+/// The transcript of the same lines in version 1, which has no such mode.
 pub const WRAPPED_TOO_EARLY_TEXT: &str = r#"{"game":"a","no":"G1","seq":1,"why":"command"}
 {"game":"a","no":"G2","seq":2,"why":"none"}
 {"game":"a","no":"G2","seq":3,"why":"none"}
@@ -130,7 +130,7 @@ pub const WRAPPED_TOO_EARLY_TEXT: &str = r#"{"game":"a","no":"G1","seq":1,"why":
 {"board":null,"charge":0,"final":true,"game":"a"}
 "#;
 
-/// A game of one snake, and lines that are no JSON, of no game of the plan, and no command.
+/// A game of one snake, and lines that are not JSON, of no game of the plan, or no command.
 pub const SOLO_STRAYS: &str = r#"{"games":[{"game":"a","quota":4096}]}
 {"game":"a","do":"new","mode":"solo","width":3,"height":3,"snakes":[{"id":"s","x":1,"y":1}],"food":[],"min_food":0,"food_chance":0}
 {oops

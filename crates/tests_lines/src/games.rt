@@ -1,4 +1,4 @@
-//! Games whose lines take turns, and a game with stray lines among its own.
+//! Games whose lines alternate, and a game with stray lines among its own.
 use crate::files::{
     FIRST_TEXT, SECOND_TEXT, SOLO, SOLO_STRAYS, SOLO_STRAYS_TEXT, SOLO_TEXT, TWO_GAMES,
 };
@@ -6,7 +6,7 @@ use crate::serving::{StayName, cut_text, is_served_by_all};
 use std::alloc::Global;
 use std::test::Fail;
 
-// A stray line is told behind all games, and takes no number of any.
+// A stray line is written after all games, and is not counted in any game's numbers.
 #[test]
 fn solo_game_with_strays(rt: HostRuntime) -> Result<(), Fail> {
     is_served_by_all(&rt, rt.alloc(), SOLO_STRAYS, 6, SOLO_STRAYS_TEXT)
@@ -47,7 +47,7 @@ fn line_of(game: usize, line: usize) -> Option<&'static str> {
     }
 }
 
-// What the lines of that game are answered.
+// The section of that game.
 fn text_of(game: usize) -> &'static str {
     if game % 2 == 0 {
         SOLO_TEXT
@@ -56,14 +56,14 @@ fn text_of(game: usize) -> &'static str {
     }
 }
 
-// The same text of the game with that name.
+// Replaces the name of the game in the text.
 fn named(alloc: Global, text: &str, name: &str) -> Result<String, Fail> {
     let own = format!(in alloc; "\"game\":\"{name}\"")?;
     let text = text.replace(alloc, "\"game\":\"a\"", own.as_str())?;
     Ok(text.replace(alloc, "\"game\":\"b\"", own.as_str())?)
 }
 
-// Eight games whose lines take turns.
+// Makes a file of eight games whose lines alternate.
 fn eight_games(alloc: Global) -> Result<String, Fail> {
     let mut file = String::from_str(alloc, EIGHT_PLAN)?;
     for line in 1..5 {
@@ -77,7 +77,7 @@ fn eight_games(alloc: Global) -> Result<String, Fail> {
     Ok(file)
 }
 
-// With two games or more a thread, a thread takes several jobs at once.
+// With two or more games for each thread, a thread takes several jobs at once.
 #[test]
 fn eight_games_by_all_numbers_of_workers(rt: HostRuntime) -> Result<(), Fail> {
     let alloc = rt.alloc();

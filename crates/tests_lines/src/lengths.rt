@@ -16,7 +16,7 @@ const END: &str = r#"{"board":null,"charge":0,"final":true,"game":"a"}"#;
 
 const LONG: &str = r#"{"line":2,"no":"L3","why":"long"}"#;
 
-// The first and the last line that are written where a line is filled up with spaces.
+// Compares the first and the last line of the transcript of a file with a line padded with spaces.
 fn filled_line_is_answered<R: Threads + Wait + Sync>(
     rt: &R,
     alloc: Global,
@@ -39,7 +39,7 @@ fn filled_line_is_answered<R: Threads + Wait + Sync>(
     same("the last line", text.lines().last(), Some(last))
 }
 
-// A line may have 65,536 bytes without its line feed. A longer one is a stray, white space too.
+// A line may have 65,536 bytes without its line feed. A longer one is a stray, even if it is blank.
 #[test]
 fn lines_at_their_limit(rt: HostRuntime) -> Result<(), Fail> {
     let alloc = rt.alloc();
@@ -49,7 +49,7 @@ fn lines_at_their_limit(rt: HostRuntime) -> Result<(), Fail> {
     filled_line_is_answered(&rt, alloc, "", 65_537, (END, LONG))
 }
 
-/// A plan without a game, and line feeds to that length.
+/// Makes a file of that length: a plan without a game, then line feeds.
 pub fn feeds_to(alloc: Global, length: usize) -> Result<String, AllocError> {
     let mut file = String::from_str(alloc, r#"{"games":[]}"#)?;
     file.push_str(
@@ -59,7 +59,7 @@ pub fn feeds_to(alloc: Global, length: usize) -> Result<String, AllocError> {
     Ok(file)
 }
 
-// "read", where all bytes were, or the fault.
+// Describes how a file is read: "read", or the fault.
 fn told_of_reading(alloc: Global, file: &str) -> Result<String, Fail> {
     match read_input(alloc, &mut file.as_bytes()) {
         Ok(read) => {
@@ -70,13 +70,13 @@ fn told_of_reading(alloc: Global, file: &str) -> Result<String, Fail> {
     }
 }
 
-// Compares what is told of the reading of a file.
+// Compares how a file is read with a text.
 fn is_read(alloc: Global, file: &str, wanted: &str) -> Result<(), Fail> {
     let told = told_of_reading(alloc, file)?;
     same("what is read", told.as_str(), wanted)
 }
 
-// A run of a file without a game.
+// Makes a run of a file without a game.
 fn run_of(file: &str) -> Run<'_> {
     Run {
         file,

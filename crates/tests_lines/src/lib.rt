@@ -1,4 +1,4 @@
-//! Tests of bs_json, bs_transcript and bs_host, which call them as any other crate does.
+//! Tests of bs_json, bs_transcript and bs_host by their public calls.
 #![tactic(auto)]
 
 #[cfg(test)]

@@ -1,4 +1,4 @@
-//! The limits as numbers: contracts cite their names.
+//! The limits as numbers. Contracts cite their names.
 use bs_block::{MOST_CAPACITY, UNIT};
 use bs_board::limits::{
     FIRST_PARTS, FULL_HEALTH, LAST_TURN, LEAST_QUOTA, LONGEST_ID, LONGEST_RECORD, LONGEST_SIDE,
@@ -11,7 +11,7 @@ use bs_samples::same;
 use bs_sched::{LEAST_CAPACITY, MOST_STAYS, MOST_WORKERS};
 use std::test::Fail;
 
-// Of a board and its snakes.
+// The limits of boards and snakes.
 fn are_of_boards() -> Result<(), Fail> {
     same("sides", (SHORTEST_SIDE, LONGEST_SIDE), (3, 25))?;
     same("snakes", MOST_SNAKES, 8)?;
@@ -26,7 +26,7 @@ fn are_of_boards() -> Result<(), Fail> {
     same("words", (MOST_WORDS, MOST_WORD), (32, 4_294_967_295))
 }
 
-// Of files, plans and quotas.
+// The limits of files, plans and quotas.
 fn are_of_files() -> Result<(), Fail> {
     same("games", MOST_ROWS, 64)?;
     same("names", LONGEST_ID, 64)?;
@@ -36,7 +36,7 @@ fn are_of_files() -> Result<(), Fail> {
     same("stays of a file", MOST_STAYS, 2_147_483_648)
 }
 
-// Of blocks and records.
+// The limits of blocks and records.
 fn are_of_memory() -> Result<(), Fail> {
     same("bytes of a block", BLOCK_BYTES, 2_097_152)?;
     same(

@@ -1,4 +1,4 @@
-//! What each line of a file is read to, in each version of the format.
+//! How each line of a file is parsed, in each version of the format.
 use crate::summaries::summary_of;
 use bs_board::Version;
 use bs_json::read_line;
@@ -6,13 +6,13 @@ use bs_samples::same;
 use std::alloc::Global;
 use std::test::Fail;
 
-/// Compares what a line is read to in that version.
+/// Compares how a line is parsed in that version.
 fn is_read(alloc: Global, line: &str, version: Version, wanted: &str) -> Result<(), Fail> {
     let read = read_line(alloc, line.as_bytes(), version)?;
     same(line, summary_of(alloc, &read)?.as_str(), wanted)
 }
 
-// What is read in each version, and behind the bar the line.
+// Each row: how the line is parsed in each version, a bar, and the line.
 const LINES: &str =
     r#"a: new Solo 3x3 min 0 chance 0 s@1,1|{"game":"a","do":"new","mode":"solo","width":3,"height":3,"snakes":[{"id":"s","x":1,"y":1}],"food":[],"min_food":0,"food_chance":0}
 b: new Standard 7x7 min 0 chance 0 s@1,1 t@5,1 u@3,5 food 1,2|{"game":"b","do":"new","mode":"standard","width":7,"height":7,"snakes":[{"id":"s","x":1,"y":1},{"id":"t","x":5,"y":1},{"id":"u","x":3,"y":5}],"food":[{"x":1,"y":2}],"min_food":0,"food_chance":0}
@@ -90,7 +90,8 @@ fn wrapped_is_a_mode_from_version_two_on(rt: HostRuntime) -> Result<(), Fail> {
     is_read(rt.alloc(), NEW_WRAPPED, Version::Three, wrapped)
 }
 
-// What is read in version 3, what in the versions before it, and behind the bars the line.
+// Each row: how the line is parsed in version 3, how in earlier versions, and the line, between
+// bars.
 const STAYS: &str = r#"admit c 64|c: bad|{"game":"c","do":"admit","quota":64}
 admit c 16|c: bad|{"do":"admit","quota":16,"more":[1],"game":"c"}
 admit c 16777216|c: bad| {"quota":16777216,"game":"c", "do":"admit"}

@@ -1,17 +1,20 @@
-//! What is written for replies, final boards and strays.
+//! The lines of replies, final boards and strays.
 use bs_board::{Board, Cause, Id, KeptBoard, Mode, Refusal, Reply, Snake, Snakes, Word, is_legal};
-use bs_json::{Stray, board_value, final_line, push_reply_line, reply_line, stray_line};
+use bs_json::{
+    Stray, TextBuffer, board_value, final_line, push_final_line, push_reply_line, push_stray_line,
+    reply_line, stray_line,
+};
 use bs_samples::{cells, holds, same, snake, solo_after};
 use std::alloc::{AllocError, Global};
 use std::test::Fail;
 
-/// Compares what was written with a text.
+/// Compares written bytes with a text.
 fn is_text(what: &str, written: Vec<u8>, wanted: &str) -> Result<(), Fail> {
     let text = String::from_utf8(written).ok().ok_or("text")?;
     same(what, text.as_str(), wanted)
 }
 
-// The line of each reply with its number, made by itself.
+// Makes the line of each reply with its number, by itself.
 fn lines_of(alloc: Global, game: &Id, replies: &[(u64, Reply)]) -> Result<Vec<u8>, AllocError> {
     let mut text = Vec::new(alloc);
     for (seq, reply) in replies {
@@ -20,17 +23,23 @@ fn lines_of(alloc: Global, game: &Id, replies: &[(u64, Reply)]) -> Result<Vec<u8
     Ok(text)
 }
 
-// The same lines, pushed behind each other.
+fn push_lines(game: &Id, replies: &[(u64, Reply)], text: &mut TextBuffer) {
+    for (seq, reply) in replies {
+        push_reply_line(game, *seq, reply, text);
+    }
+}
+
+// The same lines, counted and then pushed behind each other.
 fn pushed_lines_of(
     alloc: Global,
     game: &Id,
     replies: &[(u64, Reply)],
 ) -> Result<Vec<u8>, AllocError> {
-    let mut text = Vec::new(alloc);
-    for (seq, reply) in replies {
-        push_reply_line(alloc, game, *seq, reply, &mut text)?;
-    }
-    Ok(text)
+    let mut counted = TextBuffer::new(alloc);
+    push_lines(game, replies, &mut counted);
+    let mut text = TextBuffer::with_room(alloc, counted.missing())?;
+    push_lines(game, replies, &mut text);
+    Ok(text.into_vec())
 }
 
 // Compares the lines of replies, made in both ways, with a text.
@@ -49,7 +58,7 @@ fn are_written(
     )
 }
 
-// The replies to a game of one snake that goes up until it is off the board.
+// The replies of a game of one snake that goes up until it is off the board.
 const SOLO_REPLIES: &str =
     r#"{"board":{"food":[],"food_chance":0,"height":3,"min_food":0,"mode":"solo","over":false,"snakes":[{"body":[{"x":1,"y":1},{"x":1,"y":1},{"x":1,"y":1}],"by":null,"cause":null,"health":100,"id":"s","out":null}],"turn":0,"width":3},"charge":32,"do":"new","game":"a","seq":1}
 {"board":{"food":[],"food_chance":0,"height":3,"min_food":0,"mode":"solo","over":false,"snakes":[{"body":[{"x":1,"y":2},{"x":1,"y":1},{"x":1,"y":1}],"by":null,"cause":null,"health":99,"id":"s","out":null}],"turn":1,"width":3},"charge":64,"do":"move","game":"a","seq":2}
@@ -85,15 +94,36 @@ fn a_last_board_is_written(rt: HostRuntime) -> Result<(), Fail> {
     let board = solo_after(alloc, 3, 2)?;
     let end = final_line(alloc, &game, Some(&board), 96)?;
     is_text("the last board", end, SOLO_END)?;
+    holds("the board is legal", is_legal(&board))?;
+    let kept = KeptBoard::of(alloc, &board)?;
+    is_text(
+        "pushed",
+        pushed_final(alloc, &game, Some(&kept), 96)?,
+        SOLO_END,
+    )?;
     let game = Id::from_str(alloc, "a\"")?;
     let end = final_line(alloc, &game, None, 0)?;
-    is_text("no board", end, NO_BOARD)
+    is_text("no board", end, NO_BOARD)?;
+    is_text("pushed", pushed_final(alloc, &game, None, 0)?, NO_BOARD)
+}
+
+// A final line that is pushed behind nothing, into ample room.
+fn pushed_final(
+    alloc: Global,
+    game: &Id,
+    board: Option<&KeptBoard>,
+    charge: u32,
+) -> Result<Vec<u8>, AllocError> {
+    let mut text = TextBuffer::with_room(alloc, 4096)?;
+    push_final_line(game, board, charge, &mut text);
+    Ok(text.into_vec())
 }
 
 const NO_BOARD: &str = r#"{"board":null,"charge":0,"final":true,"game":"a\""}
 "#;
 
-// A board of two digits a side: a snake that left it, one that collided with it, and one that lives.
+// Makes a board with sides of two digits: a snake that left it, one that collided with that, and
+// one that is alive.
 fn wide_board(alloc: Global, first: &str) -> Result<Board, AllocError> {
     let mut outside = snake(alloc, first, 7, &[(-1, 12), (0, 12), (1, 12)])?;
     outside.cause = Some(Cause::WallCollision);
@@ -123,7 +153,7 @@ const WIDE_REPLY_ESCAPED: &str =
     r#"{"board":{"food":[{"x":0,"y":0},{"x":9,"y":10},{"x":18,"y":18}],"food_chance":10,"height":19,"min_food":0,"mode":"standard","over":true,"snakes":[{"body":[{"x":-1,"y":12},{"x":0,"y":12},{"x":1,"y":12}],"by":null,"cause":"wall-collision","health":7,"id":"q\"","out":100},{"body":[{"x":10,"y":9},{"x":9,"y":9},{"x":9,"y":10},{"x":10,"y":10}],"by":"q\"","cause":"snake-collision","health":100,"id":"b","out":10000},{"body":[{"x":18,"y":0},{"x":17,"y":0},{"x":17,"y":0}],"by":null,"cause":null,"health":10,"id":"c","out":null}],"turn":10000,"width":19},"charge":4294967295,"do":"move","game":"a","seq":12}
 "#;
 
-// The same board with an id that needs no escape, and with one that does.
+// The board with an id that needs no escape, and with one that does.
 #[test]
 fn a_wide_board_is_written(rt: HostRuntime) -> Result<(), Fail> {
     let alloc = rt.alloc();
@@ -139,8 +169,8 @@ fn a_wide_board_is_written(rt: HostRuntime) -> Result<(), Fail> {
     are_written(alloc, "a", &escaped, WIDE_REPLY_ESCAPED)
 }
 
-// The replies that show no board, of a game whose name has a mark that is escaped, and the same of
-// one whose name has none.
+// The replies that show no board, of a game whose name needs an escape, then of one whose name
+// needs none.
 const PLAIN_REPLIES: &str = r#"{"charge":0,"do":"end","game":"a\"","seq":3}
 {"charge":32,"do":"free","game":"a\"","seq":3}
 {"game":"a\"","no":"G1","seq":3,"why":"command"}
@@ -180,7 +210,7 @@ fn replies_without_a_board_are_written(rt: HostRuntime) -> Result<(), Fail> {
     are_written(rt.alloc(), "a", &plain_replies(), UNMARKED_REPLIES)
 }
 
-// Replies with the greatest numbers.
+// Replies with the largest numbers.
 const GREATEST: &str = r#"{"charge":4294967295,"do":"end","game":"a\"","seq":18446744073709551615}
 {"game":"a\"","no":"G4","seq":18446744073709551615,"why":"over"}
 "#;
@@ -207,6 +237,7 @@ const STRAYS: &str = r#"{"line":2,"no":"L1","why":"json"}
 #[test]
 fn strays_are_written(rt: HostRuntime) -> Result<(), Fail> {
     let mut text = Vec::new(rt.alloc());
+    let mut pushed = TextBuffer::with_room(rt.alloc(), 4096)?;
     for (line, stray) in [
         (2, Stray::Json),
         (4, Stray::Game),
@@ -218,8 +249,41 @@ fn strays_are_written(rt: HostRuntime) -> Result<(), Fail> {
         (8, Stray::NoStay),
     ] {
         text.extend_from_slice(&stray_line(rt.alloc(), line, stray)?)?;
+        push_stray_line(line, stray, &mut pushed);
     }
-    is_text("strays", text, STRAYS)
+    is_text("strays", text, STRAYS)?;
+    is_text("pushed strays", pushed.into_vec(), STRAYS)
+}
+
+// Of the control characters five have a short escape; a delete, a slash and what is not ASCII have
+// none.
+const MARKED: &str = "\u{8}\u{c}\n\r\t\"\\\u{0}\u{1f}\u{7f}/é\u{10348}";
+
+const MARKED_REPLY: &str = concat!(
+    r#"{"charge":0,"do":"end","game":"\b\f\n\r\t\"\\\u0000\u001f"#,
+    "\u{7f}/é\u{10348}",
+    r#"","seq":1}
+"#
+);
+
+#[test]
+fn marks_are_escaped(rt: HostRuntime) -> Result<(), Fail> {
+    let replies = [(1, Reply::Plain(Word::End, 0))];
+    are_written(rt.alloc(), MARKED, &replies, MARKED_REPLY)
+}
+
+#[test]
+fn a_buffer_keeps_to_its_room(rt: HostRuntime) -> Result<(), Fail> {
+    let mut text = TextBuffer::with_room(rt.alloc(), 5)?;
+    text.push(b"abc");
+    same("what is left", text.left(), 2)?;
+    text.push(b"defg");
+    text.push(b"h");
+    same("the text", text.as_slice(), b"abcde".as_slice())?;
+    same("what is missing", text.missing(), 3)?;
+    text.clear();
+    same("what is left", text.left(), 5)?;
+    same("what is missing", text.missing(), 0)
 }
 
 fn out(
@@ -236,7 +300,7 @@ fn out(
     Ok(snake)
 }
 
-// A snake for each way in which one is out, and one that lives.
+// Makes a snake for each cause of elimination, and one that is alive.
 fn seats_of_all_causes(alloc: Global) -> Result<Vec<Snake>, AllocError> {
     let mut seats = Vec::new(alloc);
     seats.push(out(alloc, "a", 0, (Cause::OutOfHealth, None), 9)?)?;

@@ -1,4 +1,4 @@
-//! Members of lines at both sides of each limit, and how the lines are answered.
+//! Members of lines at both sides of each limit, and the answers to the lines.
 use crate::serving::{Run, transcript};
 use bs_samples::holds;
 use bs_workers::OpenGate;
@@ -13,7 +13,7 @@ const NO_GAME: &str = r#"{"game":"a","no":"G2","seq":1,"why":"none"}"#;
 
 const SHOWN: &str = r#"{"board":{"food":["#;
 
-/// Members of a `new`, and how the line is answered. `ID` stands for 64 bytes.
+/// Members of a `new`, and the answer to the line. `ID` is replaced by 64 bytes.
 const SETUPS: [(&str, &str); 17] = [
     (
         r#""width":3,"height":25,"snakes":[{"id":"ID","x":2,"y":24}]"#,
@@ -82,7 +82,7 @@ const SETUPS: [(&str, &str); 17] = [
     ),
 ];
 
-/// Lines of a game that does not run, and how they are answered.
+/// Lines of a game that does not run, and the answers.
 const LINES: [(&str, &str); 4] = [
     (r#""do":"turn","at":10000"#, NO_GAME),
     (r#""do":"turn","at":10001"#, BAD),
@@ -90,7 +90,7 @@ const LINES: [(&str, &str); 4] = [
     (r#""do":"move","moves":{},"words":[4294967296]"#, BAD),
 ];
 
-// Compares how the transcript of a game with these members in its one line begins.
+// Compares the beginning of the transcript of a game whose one line has these members.
 fn is_answered<R: Threads + Wait + Sync>(
     rt: &R,
     alloc: Global,
@@ -132,7 +132,7 @@ fn turns_and_words_at_their_limits(rt: HostRuntime) -> Result<(), Fail> {
     Ok(())
 }
 
-// A move has at most 32 words.
+// A move may have up to 32 words.
 #[test]
 fn as_many_words_as_there_may_be(rt: HostRuntime) -> Result<(), Fail> {
     let alloc = rt.alloc();

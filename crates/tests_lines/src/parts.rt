@@ -1,4 +1,4 @@
-//! The parts of a move: how many there are, and that two threads are at two of them at once.
+//! The parts of a move: their number, and that two threads run two of them at the same time.
 use crate::files::{SECOND_TEXT, TWO_GAMES};
 use crate::serving::{Run, StayName, cut_text, transcript};
 use bs_fiber::{JobKind, JobName};
@@ -11,7 +11,7 @@ use std::sync::atomic::{AtomicBool, AtomicUsize};
 use std::test::Fail;
 use std::thread::Threads;
 
-/// Lets no part of the first move go before both are out.
+/// Delays each part of the first move until both are out.
 #[derive(Drop)]
 struct Meeting {
     first: AtomicBool,
@@ -25,7 +25,7 @@ fn new_meeting() -> Meeting {
     }
 }
 
-/// Sets its own flag and waits for the other's. False where that does not come.
+/// Sets its own flag and waits for the other's. Returns false if that is never set.
 fn meet(own: &AtomicBool, other: &AtomicBool) -> bool {
     own.store(true, SeqCst);
     for _ in 0..1_000_000_000u32 {
@@ -46,7 +46,8 @@ impl Gate for Meeting {
     }
 }
 
-// Two threads are at one move at once: on one thread no part would see the other's flag.
+// Two threads run parts of one move at the same time: on one thread no part would see the other's
+// flag.
 #[test]
 fn two_parts_of_one_move_at_once(rt: HostRuntime) -> Result<(), Fail> {
     let alloc = rt.alloc();
@@ -67,7 +68,7 @@ fn two_parts_of_one_move_at_once(rt: HostRuntime) -> Result<(), Fail> {
     holds("the second part met", gate.second.load(SeqCst))
 }
 
-// A game of the snakes for which `SNAKES` stands. In its first move a snake b leaves the board.
+// A game with the snakes that replace `SNAKES`. In its first move a snake b leaves the board.
 const TWO_MOVES: &str = r#"{"games":[{"game":"g","quota":4096}]}
 {"game":"g","do":"new","mode":"solo","width":25,"height":25,"snakes":[SNAKES],"food":[]}
 {"game":"g","do":"move","moves":{"b":"down"}}
@@ -88,7 +89,7 @@ impl Gate for CountedParts {
     }
 }
 
-// A snake for each letter, side by side at the lower edge.
+// Makes a snake for each letter, side by side at the lower edge.
 fn snakes_of(alloc: Global, names: &str) -> Result<String, AllocError> {
     let mut snakes = String::new(alloc);
     for (index, name) in names.chars().enumerate() {
@@ -101,7 +102,7 @@ fn snakes_of(alloc: Global, names: &str) -> Result<String, AllocError> {
     Ok(snakes)
 }
 
-// How many parts the two moves of these snakes have.
+// Counts the parts of the two moves of these snakes.
 fn parts_of<R: Threads + Wait + Sync>(rt: &R, alloc: Global, names: &str) -> Result<usize, Fail> {
     let snakes = snakes_of(alloc, names)?;
     let file = TWO_MOVES.replace(alloc, "SNAKES", snakes.as_str())?;
@@ -117,7 +118,7 @@ fn parts_of<R: Threads + Wait + Sync>(rt: &R, alloc: Global, names: &str) -> Res
     Ok(gate.count.load(SeqCst))
 }
 
-// The parts of two moves: of n seats each has n/2, rounded up; seats of snakes that are out count.
+// The parts of two moves: n/2 for n seats, rounded up. Seats of eliminated snakes count.
 #[test]
 fn parts_of_each_number_of_snakes(rt: HostRuntime) -> Result<(), Fail> {
     for (names, parts) in [

@@ -1,10 +1,10 @@
-//! Plans at both sides of each limit, and those that reserve more blocks than there are.
+//! Plans at both sides of each limit, and plans that reserve more blocks than there are.
 use crate::serving::{Run, is_refused, is_served};
 use bs_workers::OpenGate;
 use std::alloc::{AllocError, Global};
 use std::test::Fail;
 
-/// The rows of a plan: how many there are, how many bytes their names have, and their quota.
+/// The rows of a plan: their number, the number of bytes of their names, and their quota.
 #[derive(Clone, Copy)]
 struct Rows {
     games: u64,
@@ -40,7 +40,7 @@ fn plan_of(alloc: Global, rows: Rows) -> Result<String, AllocError> {
     Ok(plan)
 }
 
-// A plan that is refused for its blocks alone is one within its limits.
+// A plan that is refused only for its blocks is within its limits.
 #[test]
 fn plans_at_their_limits(rt: HostRuntime) -> Result<(), Fail> {
     for (games, letters, quota, fault) in [
@@ -104,7 +104,7 @@ fn plans_are_refused(rt: HostRuntime) -> Result<(), Fail> {
     Ok(())
 }
 
-// Two games of small quotas reserve 12 blocks, one of the greatest quota 15.
+// Two games of small quotas reserve 12 blocks, one of the largest quota 15.
 #[test]
 fn plans_have_just_enough_blocks(rt: HostRuntime) -> Result<(), Fail> {
     for (file, blocks, text) in [

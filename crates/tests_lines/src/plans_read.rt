@@ -1,4 +1,4 @@
-//! What the first line of a file is read to.
+//! How the first line of a file is parsed.
 use crate::rows::{joined, rows_text};
 use crate::summaries::{summary_of, summary_of_plan};
 use bs_board::Version;
@@ -7,7 +7,7 @@ use bs_samples::same;
 use std::alloc::Global;
 use std::test::Fail;
 
-// What is read, and behind the bar the line of the plan.
+// Each row: how the plan is parsed, a bar, and its line.
 const PLANS: &str = r#"version 1|{"games":[]}
 version 1 a 4096|{"games":[{"game":"a","quota":4096}]}
 version 1 b 16777216 a 16|{"version":1,"games":[{"game":"b","quota":16777216},{"quota":16,"game":"a","x":[]}]}
@@ -44,7 +44,7 @@ fn fault_of(alloc: Global, line: &[u8]) -> Option<PlanFault> {
     read_plan(alloc, line).err()
 }
 
-// What a line of so many spaces is read to behind a plan, and as one.
+// Compares how a line of that many spaces is parsed after a plan, and as the plan.
 fn spaces_are_read(alloc: Global, spaces: usize, wanted: &str) -> Result<(), Fail> {
     let line = vec![in alloc; b' '; spaces]?;
     let read = read_line(alloc, line.as_slice(), Version::One)?;
@@ -63,7 +63,7 @@ fn a_long_line_is_judged_first(rt: HostRuntime) -> Result<(), Fail> {
     spaces_are_read(rt.alloc(), 65_537, "stray Long")
 }
 
-// Compares the fault of a plan of 65 games, or of these and what is behind them.
+// Compares the fault of a plan of 65 games, followed by a text.
 fn is_faulty(alloc: Global, what: &str, behind: &str, fault: PlanFault) -> Result<(), Fail> {
     let rows = rows_text(alloc, 65, 16)?;
     let plan = joined(alloc, &["{\"games\":[", rows.as_str(), behind, "]}"])?;

@@ -1,7 +1,7 @@
 //! The rows of plans of many games.
 use std::alloc::{AllocError, Global};
 
-/// So many rows with commas between them: games g0, g1 and so on, each with that quota.
+/// Writes `games` rows with commas between them: games g0, g1 and so on, each with that quota.
 pub fn rows_text(alloc: Global, games: u8, quota: u32) -> Result<String, AllocError> {
     let mut rows = String::new(alloc);
     for game in 0..games {
@@ -12,7 +12,7 @@ pub fn rows_text(alloc: Global, games: u8, quota: u32) -> Result<String, AllocEr
     Ok(rows)
 }
 
-/// The texts behind each other.
+/// Joins the texts.
 pub fn joined(alloc: Global, texts: &[&str]) -> Result<String, AllocError> {
     let mut whole = String::new(alloc);
     for text in texts {

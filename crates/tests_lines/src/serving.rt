@@ -1,4 +1,4 @@
-//! Serves files, and compares what they are answered.
+//! Serves files and compares their transcripts.
 use bs_host::{cut, serve};
 use bs_samples::same;
 use bs_workers::{Gate, OpenGate};
@@ -16,7 +16,7 @@ pub struct Run<'a> {
     pub workers: usize,
 }
 
-// What a failed check names a file by.
+// The name of a file in the message of a failed check.
 fn first_line(file: &str) -> &str {
     match file.split_once('\n') {
         Some((first, _)) => first,
@@ -39,7 +39,7 @@ pub fn outcome<R: Threads + Wait + Sync, G: Gate, W: Write>(
     }
 }
 
-/// The transcript of a file that is served, whose jobs the gate lets pass.
+/// Returns the transcript of a file that is served, whose jobs the gate lets pass.
 pub fn transcript<R: Threads + Wait + Sync, G: Gate>(
     rt: &R,
     alloc: Global,
@@ -63,7 +63,7 @@ pub fn is_served<R: Threads + Wait + Sync>(
     same(first_line(run.file), text.as_str(), wanted)
 }
 
-/// Compares the transcripts that 1 to 4 workers write with a text.
+/// Compares the transcripts by 1 to 4 workers with a text.
 pub fn is_served_by_all<R: Threads + Wait + Sync>(
     rt: &R,
     alloc: Global,
@@ -82,7 +82,7 @@ pub fn is_served_by_all<R: Threads + Wait + Sync>(
     Ok(())
 }
 
-/// Compares the fault of a file that is not served, of which nothing is written.
+/// Compares the fault of a file that is refused, and checks that nothing is written.
 pub fn is_refused<R: Threads + Wait + Sync, G: Gate>(
     rt: &R,
     alloc: Global,
@@ -96,14 +96,14 @@ pub fn is_refused<R: Threads + Wait + Sync, G: Gate>(
     same("what is written", written.len(), 0)
 }
 
-/// Which stay of which game a file is cut to.
+/// A game, and which of its stays a file is cut to.
 #[derive(Clone, Copy)]
 pub struct StayName<'a> {
     pub game: &'a str,
     pub number: usize,
 }
 
-/// The cut of a file to one stay, or the fault.
+/// Returns the cut of a file to one stay, or the fault.
 pub fn cut_text(
     alloc: Global,
     file: &str,

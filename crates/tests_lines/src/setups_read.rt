@@ -1,11 +1,11 @@
-//! Members of a new game at the ends of each range, and beyond.
+//! Members of a new game at both ends of each range, and outside it.
 use bs_board::Version;
 use bs_json::{Line, read_line};
 use bs_samples::same;
 use std::alloc::{AllocError, Global};
 use std::test::Fail;
 
-// Whether the line is read to a command, and behind the bar the line.
+// Each row: whether the line is parsed as a command, a bar, and the line.
 const NEW_GAMES: &str =
     r#"read|{"game":"a","do":"new","mode":"solo","width":25,"height":25,"snakes":[{"id":"a","x":0,"y":0},{"id":"b","x":3,"y":0},{"id":"c","x":6,"y":0},{"id":"d","x":9,"y":0},{"id":"e","x":12,"y":0},{"id":"f","x":15,"y":0},{"id":"g","x":18,"y":0},{"id":"h","x":21,"y":0}],"food":[]}
 bad|{"game":"a","do":"new","mode":"solo","width":25,"height":25,"snakes":[{"id":"a","x":0,"y":0},{"id":"b","x":3,"y":0},{"id":"c","x":6,"y":0},{"id":"d","x":9,"y":0},{"id":"e","x":12,"y":0},{"id":"f","x":15,"y":0},{"id":"g","x":18,"y":0},{"id":"h","x":21,"y":0},{"id":"s","x":1,"y":1}],"food":[]}

@@ -1,4 +1,4 @@
-//! Files whose games come and go: what is written for them, and the cut of each stay.
+//! Files whose games are admitted and leave: their transcripts, and the cut of each stay.
 use crate::files::TWO_GAMES;
 use crate::rows::{joined, rows_text};
 use crate::serving::{StayName, cut_text, is_served_by_all};
@@ -7,7 +7,7 @@ use std::alloc::{AllocError, Global};
 use std::test::Fail;
 
 // Two stays of one name, an admission that fits only once another game has left, and each refusal
-// but that of the 65th game. From 12 blocks, of which each game has six.
+// except that of the 65th game. For 12 blocks, of which each game reserves six.
 const STAYS: &str = r#"{"games":[{"game":"a","quota":64}],"version":3}
 {"game":"b","do":"admit","quota":64}
 {"game":"c","do":"admit","quota":64}
@@ -24,7 +24,7 @@ const STAYS: &str = r#"{"games":[{"game":"a","quota":64}],"version":3}
 {"game":"b","do":"show"}
 "#;
 
-// What each stay of the file is answered.
+// The section of each stay of the file.
 const STAY_A: &str = r#"{"board":null,"charge":0,"final":true,"game":"a"}
 "#;
 
@@ -41,7 +41,7 @@ const SECOND_STAY_B: &str = r#"{"game":"b","no":"G2","seq":1,"why":"none"}
 {"board":null,"charge":0,"final":true,"game":"b"}
 "#;
 
-// The strays of the file from 12 blocks, from 18, and from 11.
+// The strays of the file with 12 blocks, with 18, and with 11.
 const STRAYS: &str = r#"{"line":3,"no":"A4","why":"pool"}
 {"line":6,"no":"L2","why":"game"}
 {"line":9,"no":"A2","why":"open"}
@@ -71,8 +71,8 @@ const STRAYS_OF_FEW_BLOCKS: &str = r#"{"line":2,"no":"A4","why":"pool"}
 {"line":14,"no":"L2","why":"game"}
 "#;
 
-// The blocks decide which games are admitted: with room for three, line 3 admits c, which has not
-// left at line 7; with room for one, no game is.
+// The number of blocks decides which games are admitted: with blocks for three, line 3 admits c,
+// which has not left at line 7; with blocks for one, no game is admitted.
 #[test]
 fn lines_admit_and_dismiss_games(rt: HostRuntime) -> Result<(), Fail> {
     let cases: [(usize, &[&str]); 3] = [
@@ -122,7 +122,7 @@ fn stays_and_their_cuts(rt: HostRuntime) -> Result<(), Fail> {
     Ok(())
 }
 
-// A cut is cut to itself, and in the versions before no number of blocks is too small.
+// A cut is cut to itself. In earlier versions no number of blocks is too small.
 #[test]
 fn cuts_of_cuts_and_of_earlier_versions(rt: HostRuntime) -> Result<(), Fail> {
     let alloc = rt.alloc();
@@ -139,7 +139,7 @@ fn cuts_of_cuts_and_of_earlier_versions(rt: HostRuntime) -> Result<(), Fail> {
     same("a second stay", none.as_str(), "no such game")
 }
 
-// What each stay's cut is answered is its part of the file's transcript.
+// The section of each stay's cut is its part of the file's transcript.
 #[test]
 fn stays_are_answered_alone(rt: HostRuntime) -> Result<(), Fail> {
     for (game, number, section) in [
@@ -155,7 +155,7 @@ fn stays_are_answered_alone(rt: HostRuntime) -> Result<(), Fail> {
     Ok(())
 }
 
-// In a file of version 2 no line admits a game, and all that would be for one are strays.
+// In a file of version 2 no line admits a game, and all lines of such games are strays.
 #[test]
 fn earlier_versions_have_no_stays(rt: HostRuntime) -> Result<(), Fail> {
     let alloc = rt.alloc();
@@ -170,7 +170,7 @@ fn earlier_versions_have_no_stays(rt: HostRuntime) -> Result<(), Fail> {
     is_served_by_all(&rt, alloc, file.as_str(), 12, text.as_str())
 }
 
-// The last lines of the 64 games, of which none was asked anything.
+// Makes the last lines of the 64 games, none of which had a command.
 fn full_ends(alloc: Global) -> Result<String, AllocError> {
     let mut text = String::new(alloc);
     for index in 0..64u8 {
@@ -195,8 +195,8 @@ const MORE_GAMES_TEXT: &str = r#"{"game":"g63","no":"G2","seq":1,"why":"none"}
 {"line":6,"no":"A3","why":"games"}
 "#;
 
-// Where 64 games are open a new one is refused, and before that the name of one that is open; once
-// one has left another is admitted in its place.
+// While 64 games are open a new one is refused, and before that the name of an open one; once one
+// has left another is admitted in its place.
 #[test]
 fn at_most_as_many_open_games_as_a_plan_has(rt: HostRuntime) -> Result<(), Fail> {
     let alloc = rt.alloc();

@@ -1,10 +1,10 @@
-//! Short texts that say what a line was read to, for comparison.
+//! Short descriptions of parsed lines, for comparison.
 use bs_board::{Cells, Command, Move, New, Plan};
 use bs_json::{Line, PlanFault};
 use std::alloc::{AllocError, Global};
 use std::fmt::Debug;
 
-/// Appends a word and the value as its `Debug` writes it.
+/// Appends a word, then the value as its `Debug` writes it.
 fn push_value<T: Debug + Copy>(
     alloc: Global,
     text: &mut String,
@@ -70,7 +70,7 @@ fn push_command(alloc: Global, text: &mut String, command: &Command) -> Result<(
     }
 }
 
-/// What a line was read to, in a few words.
+/// Describes a parsed line in a few words.
 pub fn summary_of(alloc: Global, line: &Line) -> Result<String, AllocError> {
     let mut text = String::new(alloc);
     match line {
@@ -100,7 +100,7 @@ pub fn summary_of(alloc: Global, line: &Line) -> Result<String, AllocError> {
     Ok(text)
 }
 
-/// The version of a plan with its names and quotas, or its fault.
+/// Describes a plan by its version, its names and its quotas, or by its fault.
 pub fn summary_of_plan(
     alloc: Global,
     plan: &Result<Plan, PlanFault>,

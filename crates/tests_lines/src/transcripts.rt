@@ -1,13 +1,12 @@
-//! Transcripts of replies and strays, as one text and in shares, and writers that fail.
+//! Transcripts of replies and strays, as one text and through a buffer, and writers that fail.
 use crate::fakes::NarrowWriter;
 use bs_board::{Id, Refusal, Reply, Word};
 use bs_json::Stray;
-use bs_samples::same;
-use bs_transcript::{Section, Shares, WriteFault, text, text_by, write_all_of, write_shares};
+use bs_samples::{holds, same};
+use bs_transcript::{Section, TranscriptFault, WriteFault, text, write_all_of, write_transcript};
 use std::alloc::{AllocError, Global};
 use std::io::ErrorKind;
 use std::test::Fail;
-use std::thread::Threads;
 
 const TEXT: &str = r#"{"charge":32,"do":"free","game":"a","seq":1}
 {"game":"a","no":"G4","seq":2,"why":"over"}
@@ -21,7 +20,7 @@ const TEXT: &str = r#"{"charge":32,"do":"free","game":"a","seq":1}
 
 const STRAYS: [(u64, Stray); 2] = [(3, Stray::Json), (7, Stray::Long)];
 
-/// What a game was answered and is charged; it has ended.
+/// A finished game: its replies and its charge.
 #[derive(Drop)]
 struct Ended {
     name: Id,
@@ -42,7 +41,7 @@ fn ended_game(
     })
 }
 
-// Three games, the last of which was asked nothing.
+// Makes three games, the last of them without commands.
 fn three_games(alloc: Global) -> Result<Vec<Ended>, AllocError> {
     let first = vec![in alloc; Reply::Plain(Word::Free, 32), Reply::Refused(Refusal::Over)]?;
     let second = vec![in alloc; Reply::Refused(Refusal::NoGame)]?;
@@ -77,38 +76,27 @@ fn sections_and_strays(rt: HostRuntime) -> Result<(), Fail> {
     same("no section", text(alloc, &[], &[])?.len(), 0)
 }
 
-// What a writer that takes everything has of these shares.
-fn written(alloc: Global, shares: &Shares) -> Result<Vec<u8>, AllocError> {
+// What a writer that takes everything has of a transcript with these sections and the two strays.
+fn written(alloc: Global, sections: &[Section<'_>]) -> Result<Vec<u8>, AllocError> {
     let mut output = Vec::new(alloc);
-    match write_shares(shares, &mut output) {
+    match write_transcript(alloc, sections, &STRAYS, &mut output) {
         Ok(()) => Ok(output),
         Err(_) => Err(AllocError),
     }
 }
 
-// Compares what so many threads make with a text.
-fn is_made_by<R: Threads + Sync>(
-    rt: &R,
-    alloc: Global,
-    sections: &[Section<'_>],
-    threads: usize,
-    wanted: &[u8],
-) -> Result<(), Fail> {
-    let shares = text_by(rt, alloc, sections, &STRAYS, threads)?;
-    same("how long the shares are", shares.len(), wanted.len())?;
-    same("the shares", written(alloc, &shares)?.as_slice(), wanted)
-}
-
-// As many threads as there are lines, fewer, and more: the same text.
+// The same text, written; and nothing where there is no line.
 #[test]
-fn any_threads_make_the_same_text(rt: HostRuntime) -> Result<(), Fail> {
+fn sections_and_strays_are_written(rt: HostRuntime) -> Result<(), Fail> {
     let alloc = rt.alloc();
     let games = three_games(alloc)?;
     let sections = sections_of(alloc, games.as_slice())?;
-    for threads in 0..11 {
-        is_made_by(&rt, alloc, sections.as_slice(), threads, TEXT.as_bytes())?;
-    }
-    same("no line", text_by(&rt, alloc, &[], &[], 4)?.len(), 0)
+    let whole = written(alloc, sections.as_slice())?;
+    same("what is written", whole.as_slice(), TEXT.as_bytes())?;
+    let mut output = Vec::new(alloc);
+    let told = write_transcript(alloc, &[], &[], &mut output);
+    same("no line is written", told.is_ok(), true)?;
+    same("of no line", output.len(), 0)
 }
 
 fn many_replies(alloc: Global) -> Result<Vec<Reply>, AllocError> {
@@ -123,29 +111,54 @@ fn many_replies(alloc: Global) -> Result<Vec<Reply>, AllocError> {
     Ok(replies)
 }
 
-// More lines than a thread renders alone: the same text as in one piece.
-#[test]
-fn any_threads_share_many_lines(rt: HostRuntime) -> Result<(), Fail> {
-    let alloc = rt.alloc();
-    let mut games = Vec::new(alloc);
-    games.push(ended_game(alloc, "a", vec![in alloc; Reply::Plain(Word::Free, 0)]?, 0)?)?;
-    games.push(ended_game(alloc, "b", many_replies(alloc)?, 0)?)?;
-    let sections = sections_of(alloc, games.as_slice())?;
-    let whole = text(alloc, sections.as_slice(), &STRAYS)?;
-    for threads in 1..8 {
-        is_made_by(&rt, alloc, sections.as_slice(), threads, whole.as_slice())?;
+// The lines of those replies, of a game named b.
+fn many_lines(alloc: Global) -> Result<String, AllocError> {
+    let mut lines = String::new(alloc);
+    for seq in 0..3000u32 {
+        let number = seq + 1;
+        let line = if seq % 3 == 0 {
+            format!(in alloc;
+                "{{\"charge\":{seq},\"do\":\"free\",\"game\":\"b\",\"seq\":{number}}}\n"
+            )?
+        } else {
+            format!(in alloc;
+                "{{\"game\":\"b\",\"no\":\"G2\",\"seq\":{number},\"why\":\"none\"}}\n"
+            )?
+        };
+        lines.push_str(line.as_str())?;
     }
-    Ok(())
+    Ok(lines)
 }
 
-/// A writer's room, and how it fails behind it.
+// The transcript of a game with those replies, which is longer than the buffer: 141,000 bytes.
+fn long_text(alloc: Global) -> Result<String, AllocError> {
+    let mut text = many_lines(alloc)?;
+    text.push_str("{\"board\":null,\"charge\":7,\"final\":true,\"game\":\"b\"}\n")?;
+    text.push_str("{\"line\":3,\"no\":\"L1\",\"why\":\"json\"}\n")?;
+    text.push_str("{\"line\":7,\"no\":\"L3\",\"why\":\"long\"}\n")?;
+    Ok(text)
+}
+
+// A text that is longer than the buffer is written whole.
+#[test]
+fn a_long_transcript_is_written(rt: HostRuntime) -> Result<(), Fail> {
+    let alloc = rt.alloc();
+    let games = vec![in alloc; ended_game(alloc, "b", many_replies(alloc)?, 7)?]?;
+    let sections = sections_of(alloc, games.as_slice())?;
+    let wanted = long_text(alloc)?;
+    holds("longer than the buffer", wanted.len() > 131_072)?;
+    let whole = written(alloc, sections.as_slice())?;
+    same("a long text", whole.as_slice(), wanted.as_bytes())
+}
+
+/// The number of bytes that a writer takes, and how it fails after that.
 #[derive(Clone, Copy)]
 struct Room {
     bytes: usize,
     failure: Option<ErrorKind>,
 }
 
-// Compares the fault and what was taken of a text by a writer with so much room.
+// Compares the fault, and what a writer of that room took of a text.
 fn is_cut_off(
     told: Result<(), WriteFault>,
     taken: &[u8],
@@ -174,7 +187,8 @@ const FAILURES: [Option<ErrorKind>; 3] = [
     None,
 ];
 
-// A writer that fails anywhere is told how many bytes it took, and they are the first of the text.
+// If a writer fails anywhere, the fault counts the bytes that it took, which are a prefix of the
+// text.
 #[test]
 fn writers_that_fail_have_a_prefix(rt: HostRuntime) -> Result<(), Fail> {
     for bytes in 0..TEXT.len() + 1 {
@@ -185,31 +199,39 @@ fn writers_that_fail_have_a_prefix(rt: HostRuntime) -> Result<(), Fail> {
     Ok(())
 }
 
-fn are_shares_cut_off(
+// The fault of a writer. Want of memory is another error.
+fn as_write_fault(told: Result<(), TranscriptFault>) -> Result<Result<(), WriteFault>, AllocError> {
+    match told {
+        Ok(()) => Ok(Ok(())),
+        Err(TranscriptFault::Write(fault)) => Ok(Err(fault)),
+        Err(TranscriptFault::Memory) => Err(AllocError),
+    }
+}
+
+fn is_transcript_cut_off(
     alloc: Global,
-    shares: &Shares,
+    sections: &[Section<'_>],
     whole: &[u8],
     room: Room,
 ) -> Result<(), Fail> {
     let mut output = NarrowWriter::new(alloc, room.bytes, 40, room.failure);
-    let told = write_shares(shares, &mut output);
+    let told = as_write_fault(write_transcript(alloc, sections, &STRAYS, &mut output))?;
     is_cut_off(told, output.taken.as_slice(), whole, room)
 }
 
-// The same of a text in several shares, which a writer takes as one.
+// The same of a transcript, which is written through a buffer.
 #[test]
-fn writers_of_shares_that_fail_have_a_prefix(rt: HostRuntime) -> Result<(), Fail> {
+fn transcripts_that_fail_have_a_prefix(rt: HostRuntime) -> Result<(), Fail> {
     let alloc = rt.alloc();
-    let games = vec![in alloc; ended_game(alloc, "b", many_replies(alloc)?, 0)?]?;
+    let games = vec![in alloc; ended_game(alloc, "b", many_replies(alloc)?, 7)?]?;
     let sections = sections_of(alloc, games.as_slice())?;
-    let whole = text(alloc, sections.as_slice(), &STRAYS)?;
-    let shares = text_by(&rt, alloc, sections.as_slice(), &STRAYS, 4)?;
-    for place in 0..200 {
+    let whole = long_text(alloc)?;
+    for place in 0..20 {
         let room = Room {
-            bytes: (whole.len() / 199).saturating_mul(place),
+            bytes: (whole.len() / 19).saturating_mul(place),
             failure: FAILURES[place % 3],
         };
-        are_shares_cut_off(alloc, &shares, whole.as_slice(), room)?;
+        is_transcript_cut_off(alloc, sections.as_slice(), whole.as_bytes(), room)?;
     }
     Ok(())
 }

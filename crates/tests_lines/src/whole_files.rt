@@ -1,4 +1,4 @@
-//! Whole files, by any number of workers.
+//! Whole files, with any number of workers.
 use crate::files::{
     AGAIN, AGAIN_TEXT, SOLO, SOLO_TEXT, STRAYS, STRAYS_TEXT, TINY, TINY_TEXT, TWO_GAMES,
     TWO_RECORDS, TWO_RECORDS_TEXT, WRAPPED, WRAPPED_TEXT, WRAPPED_TOO_EARLY_TEXT,
@@ -50,7 +50,7 @@ fn files_without_a_game(rt: HostRuntime) -> Result<(), Fail> {
     is_served_by_all(&rt, rt.alloc(), "{\"games\":[]}\nx", 0, stray)
 }
 
-// Compares a core that served both games with so many workers: what was answered and is charged.
+// Compares a core that served both games with `workers` workers: its replies and charges.
 fn is_finished<R: Threads + Wait + Sync>(
     rt: &R,
     alloc: Global,
@@ -73,7 +73,7 @@ fn is_finished<R: Threads + Wait + Sync>(
     same("charges", (core.charge(0), core.charge(1)), (0, 128))
 }
 
-// The core that is returned has answered all.
+// The core that is returned has answered all commands.
 #[test]
 fn any_workers_answer_all(rt: HostRuntime) -> Result<(), Fail> {
     for workers in 1..5 {
@@ -82,8 +82,8 @@ fn any_workers_answer_all(rt: HostRuntime) -> Result<(), Fail> {
     Ok(())
 }
 
-/// So many that the file has some 90,000 bytes: it is read by several threads where there are
-/// several workers.
+/// The number of rounds in the file, which has some 90,000 bytes: several threads parse it if there
+/// are several workers.
 const ROUNDS: u16 = 400;
 
 const MANY_PLAN: &str =
@@ -91,7 +91,7 @@ const MANY_PLAN: &str =
 {"game":"a","do":"new","mode":"solo","width":9,"height":9,"snakes":[{"id":"s","x":1,"y":1}],"food":[],"min_food":0,"food_chance":0}
 {"game":"b","do":"new","mode":"solo","width":9,"height":9,"snakes":[{"id":"s","x":1,"y":1}],"food":[],"min_food":0,"food_chance":0}"#;
 
-// A line of each game, one of a game that is not there, a blank one, and one that is no JSON.
+// A line of each game, one of an unknown game, a blank line, and one that is not JSON.
 const ROUND: &str = r#"
 {"game":"a","do":"turn","at":0}
 {"game":"b","do":"turn","at":0}
@@ -102,7 +102,7 @@ const ROUND: &str = r#"
 
 {oops"#;
 
-// Compares how many lines the file has, and that each number of workers writes the same.
+// Compares the number of lines of the file, and that each number of workers writes the same.
 #[test]
 fn any_workers_share_the_work(rt: HostRuntime) -> Result<(), Fail> {
     let alloc = rt.alloc();
@@ -131,7 +131,7 @@ impl Gate for ShutGate {
     }
 }
 
-// A run that the gate breaks off writes nothing. Where there is no job, the gate is not asked.
+// A run that the gate stops writes nothing. If there is no job, the gate is not consulted.
 #[test]
 fn runs_that_are_broken_off(rt: HostRuntime) -> Result<(), Fail> {
     let alloc = rt.alloc();

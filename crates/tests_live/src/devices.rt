@@ -3,7 +3,7 @@ use std::cell::Cell;
 use std::io;
 use std::io::{ErrorKind, Read, Write};
 
-/// Gives its bytes at most `most` at a time. Fails behind so many bytes, or never.
+/// Gives its bytes at most `most` at a time. Fails after a number of bytes, or never.
 #[derive(Drop)]
 pub(crate) struct Input<'a> {
     pub(crate) left: &'a [u8],
@@ -37,7 +37,7 @@ impl<'a> Read for Input<'a> {
     }
 }
 
-/// Gives a text in two reads, cut at that place, and then the end.
+/// Gives a text in two reads, split at that place, then the end.
 #[derive(Drop)]
 pub(crate) struct Halves<'a> {
     pub(crate) first: &'a [u8],
@@ -63,8 +63,8 @@ impl<'a> Read for Halves<'a> {
     }
 }
 
-/// Takes so many bytes, at most seven at a time, and then fails: by an error or taking nothing. A
-/// flush fails once so many went well.
+/// Takes `room` bytes, at most seven at a time, and then fails: by an error or by taking nothing.
+/// The first `flushes` flushes succeed, the later ones fail.
 #[derive(Drop)]
 pub(crate) struct Output {
     pub(crate) taken: Vec<u8>,
@@ -96,19 +96,18 @@ impl Write for Output {
     }
 }
 
-/// What a client at the other end of both pipes has seen.
+/// What a client at the other end of both pipes has received.
 #[derive(Drop)]
 pub(crate) struct Seen {
     /// The bytes that were written.
     pub(crate) written: Cell<usize>,
     /// The bytes that were written before the last flush.
     pub(crate) flushed: Cell<usize>,
-    /// Whether an answer was not there when the next line was to be sent.
+    /// Whether an answer was missing when the next line was to be sent.
     pub(crate) late: Cell<bool>,
 }
 
-/// Sends a line in each read, and looks first whether all answers to the lines before it were
-/// flushed.
+/// Sends a line in each read, and first checks whether all answers to earlier lines were flushed.
 #[derive(Drop)]
 pub(crate) struct Client<'a> {
     pub(crate) lines: &'a [(&'a str, &'a str)],
@@ -134,7 +133,7 @@ impl<'a> Read for Client<'a> {
     }
 }
 
-/// Counts what it takes.
+/// Counts the bytes that it takes.
 #[derive(Drop)]
 pub(crate) struct Counting<'a> {
     pub(crate) seen: &'a Seen,

@@ -23,7 +23,7 @@ fn readers_that_fail(rt: HostRuntime) -> Result<(), Fail> {
     Ok(())
 }
 
-// What the writer took of the file, and the fault.
+// Returns what the writer took of the file's answers, and the fault.
 fn taken(alloc: Global, most: usize, mut output: Output) -> Result<(Vec<u8>, String), Fail> {
     let file = stays_file(alloc)?;
     let mut input = Input::new(file.as_bytes(), most);
@@ -34,7 +34,7 @@ fn taken(alloc: Global, most: usize, mut output: Output) -> Result<(Vec<u8>, Str
     Ok((output.taken, end))
 }
 
-// The fault says how many bytes the writer took since the start.
+// The fault gives the number of bytes that the writer took since the start.
 #[test]
 fn writers_that_fail(rt: HostRuntime) -> Result<(), Fail> {
     let alloc = rt.alloc();
@@ -65,7 +65,7 @@ fn writers_that_fail(rt: HostRuntime) -> Result<(), Fail> {
     Ok(())
 }
 
-// Each line comes in a read of its own, so a flush fails behind the answer to one more line.
+// Each line comes in a read of its own, so each failing flush is that of one more line's answer.
 #[test]
 fn flushes_that_fail(rt: HostRuntime) -> Result<(), Fail> {
     let alloc = rt.alloc();

@@ -1,4 +1,4 @@
-//! A file whose games come and go, with the answer to each of its lines, cut at every place.
+//! A file whose games are admitted and leave, with the answer to each line, split at every place.
 use crate::devices::{Halves, Input};
 use bs_host::serve_live;
 use bs_samples::same;
@@ -7,7 +7,7 @@ use std::io::Read;
 use std::test::Fail;
 
 /// Two stays of one name, an admission that fits only once another game has left, and stray lines.
-/// From 12 blocks, of which each game has six. Each line is beside its answer.
+/// For 12 blocks, of which each game reserves six. Each line is beside its answer.
 pub(crate) const STAYS: [(&str, &str); 15] = [
     (
         "{\"games\":[{\"game\":\"a\",\"quota\":64}],\"version\":3}\n",
@@ -59,13 +59,13 @@ pub(crate) const STAYS: [(&str, &str); 15] = [
     ),
 ];
 
-/// What is written at the end of that file.
+/// The closing lines of that file.
 pub(crate) const CLOSING: &str =
     "{\"board\":null,\"charge\":0,\"final\":true,\"game\":\"a\"}\n{\"board\":null,\"charge\":0,\"final\":true,\"game\":\"b\"}\n";
 
 pub(crate) const BLOCKS: usize = 12;
 
-/// The file.
+/// Makes the file.
 pub(crate) fn stays_file(alloc: Global) -> Result<String, AllocError> {
     let mut file = String::new(alloc);
     for (line, _) in &STAYS {
@@ -88,14 +88,14 @@ pub(crate) fn answers_to(alloc: Global, count: usize) -> Result<String, AllocErr
     Ok(answers)
 }
 
-/// All that is written for the file.
+/// The whole output for the file.
 pub(crate) fn whole_text(alloc: Global) -> Result<String, AllocError> {
     let mut text = answers_to(alloc, usize::MAX)?;
     text.push_str(CLOSING)?;
     Ok(text)
 }
 
-/// What is written for an input, then the fault, if there is one.
+/// Returns the output for an input, then the fault, if there is one.
 pub(crate) fn told<R: Read>(alloc: Global, input: &mut R, blocks: usize) -> Result<String, Fail> {
     let mut output = Vec::new(alloc);
     let end = match serve_live(alloc, input, blocks, &mut output) {
@@ -134,7 +134,7 @@ fn reads_may_cut_anywhere(rt: HostRuntime) -> Result<(), Fail> {
     Ok(())
 }
 
-// What follows the last line feed is a line too.
+// The text after the last line feed is a line too.
 #[test]
 fn the_last_line_needs_no_feed(rt: HostRuntime) -> Result<(), Fail> {
     let alloc = rt.alloc();

@@ -1,4 +1,4 @@
-//! Tests of the live host: what it writes for each line, and when.
+//! Tests of the live host: its output for each line, and when it is flushed.
 #![tactic(auto)]
 
 #[cfg(test)]

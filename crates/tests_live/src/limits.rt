@@ -17,7 +17,7 @@ const LONG: &str = "{\"line\":2,\"no\":\"L3\",\"why\":\"long\"}\n";
 
 const LAST: &str = "{\"board\":null,\"charge\":0,\"final\":true,\"game\":\"a\"}\n";
 
-/// The text, and spaces behind it up to that length.
+/// Pads the text with spaces up to that length.
 fn padded(alloc: Global, text: &str, length: usize) -> Result<String, AllocError> {
     let mut line = String::from_str(alloc, text)?;
     for _ in text.len()..length {
@@ -26,8 +26,8 @@ fn padded(alloc: Global, text: &str, length: usize) -> Result<String, AllocError
     Ok(line)
 }
 
-// A line of 65,536 bytes is read. A longer one is refused, however long it is, and the next line is
-// read as ever.
+// A line of 65,536 bytes is read. A longer one is refused, whatever its length, and the next line
+// is read as usual.
 #[test]
 fn lines_at_their_longest(rt: HostRuntime) -> Result<(), Fail> {
     let alloc = rt.alloc();
@@ -50,7 +50,7 @@ fn lines_at_their_longest(rt: HostRuntime) -> Result<(), Fail> {
     Ok(())
 }
 
-// A first line that is too long is refused before its end is there: the reader would fail next.
+// A first line that is too long is refused before its end arrives: the reader would fail next.
 #[test]
 fn a_long_first_line_is_refused_at_once(rt: HostRuntime) -> Result<(), Fail> {
     let alloc = rt.alloc();
@@ -64,7 +64,7 @@ fn a_long_first_line_is_refused_at_once(rt: HostRuntime) -> Result<(), Fail> {
     Ok(())
 }
 
-// Nothing is written for a plan that is refused, whatever follows.
+// Nothing is written for a refused plan, whatever follows it.
 #[test]
 fn plans_that_are_refused(rt: HostRuntime) -> Result<(), Fail> {
     let alloc = rt.alloc();

@@ -6,7 +6,7 @@ use bs_samples::{holds, same};
 use std::cell::Cell;
 use std::test::Fail;
 
-// A client that waits for each answer before it sends the next line gets it, flushed.
+// A client that waits for each answer before it sends the next line receives it.
 #[test]
 fn each_answer_is_flushed_before_the_next_read(rt: HostRuntime) -> Result<(), Fail> {
     let alloc = rt.alloc();

@@ -1,5 +1,5 @@
--- The cells of a board and their places, counted row after row. A board holds no more cells than it
--- has places.
+-- The cells of a board and their indices, row after row. A board has no more distinct cells than
+-- indices.
 use Rattle.std.proofs.Common.{◌≡◌, ℕ, zero, suc, ◌+◌, ◌*◌, ◌<◌, ◌≤◌, true, false, not, List, [], ◌∷◌, length, map, ℤ, pos, negsuc, nat_abs, refl, sym, ap, ◌∙◌, arith, inl, inr}
 use Rattle.std.specs.Prelude.{int_le, int_lt, nat_lt, nat_eq}
 use Rattle.std.specs.Ordering.{int_eq}
@@ -19,7 +19,7 @@ within_side : (z : ℤ) (side : ℕ) → int_le (pos 0) z ≡ true → int_lt z 
 within_side (pos n) side low high = (refl, ltb-true n side high)
 within_side (negsuc n) side low high = let wrong : false ≡ true = low in cc
 
--- where a cell of the board stands
+-- the index of a cell of the board
 pub record StandsAt (width height : ℕ) (p : Point) : Type 0 where
   pub x_is : p.x ≡ pos (nat_abs p.x)
   pub y_is : p.y ≡ pos (nat_abs p.y)
@@ -41,7 +41,7 @@ same_int x y = (Decides-int_eq x y).1
 pub int_is : (x y : ℤ) → int_eq x y ≡ true → x ≡ y
 int_is x y = (Decides-int_eq x y).0
 
--- cells of one place are one cell
+-- cells with the same index are equal
 same_place : (width height : ℕ) (p q : Point) → StandsAt width height p → StandsAt width height q
     → cell_index width p ≡ cell_index width q → is_same_cell p q ≡ true
 same_place width height p q at_p at_q same =
@@ -61,7 +61,7 @@ all_below n (x ∷ xs) none all =
     let here : nat_lt x n ≡ true = lt-ltb x n (omega arith) in
     rw (here) (all_below n xs apart.1 parts.1)
 
--- at most one of several numbers below n + 1 that differ is n
+-- among distinct numbers below n + 1, at most one is n
 less_one : (n : ℕ) (xs : List ℕ) → are_distinct nat_eq xs ≡ true → list_all (λ k. nat_lt k (suc n)) xs ≡ true
     → length xs ≤ suc (length (filter (λ k. nat_lt k n) xs))
 less_one n [] distinct all = omega arith
@@ -78,7 +78,7 @@ less_one n (x ∷ xs) distinct all =
           rw (top, rest) (omega arith)
     ]
 
--- numbers below n that differ are at most n
+-- there are at most n distinct numbers below n
 distinct_below : (n : ℕ) (xs : List ℕ) → are_distinct nat_eq xs ≡ true → list_all (λ k. nat_lt k n) xs ≡ true → length xs ≤ n
 distinct_below zero [] distinct all = omega arith
 distinct_below zero (x ∷ xs) distinct all =
@@ -125,7 +125,7 @@ places_distinct width height (p ∷ cells) all distinct =
     let here = other_places width height p cells (stands_at width height p parts.0) parts.1 (not-true _ apart.0) in
     rw here (places_distinct width height cells parts.1 apart.1)
 
--- a board holds at most as many cells as it has places
+-- a board has at most as many distinct cells as indices
 pub cells_on_board : (width height : ℕ) (cells : List Point) → list_all (is_on_board width height) cells ≡ true → are_distinct_cells cells ≡ true
     → length cells ≤ width * height
 cells_on_board width height cells all distinct =

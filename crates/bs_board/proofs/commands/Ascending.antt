@@ -29,7 +29,7 @@ below_before a b c h k = rw (nat_list_cmp_total.trans a b c (less_is (slice_cmp 
 below_is_other : (a b : List ℕ) → is_text_below a b ≡ true → is_same_text a b ≡ false
 below_is_other a b h = texts_ties a b ∙ rw (less_is (slice_cmp nat_cmp a b) h) refl
 
--- an id below the first one is none of theirs
+-- an id below the first one is not among them
 below_is_none : (id : List ℕ) (x : List ℕ × Direction) (rest : List (List ℕ × Direction)) → is_text_below id x.0 ≡ true → is_ascending (x ∷ rest) ≡ true
     → list_any (λ entry. is_same_text id entry.0) (x ∷ rest) ≡ false
 below_is_none id x [] below h = rw (below_is_other id x.0 below) refl
@@ -45,6 +45,6 @@ ascending_ids_are_distinct (x ∷ y ∷ rest) h =
     let parts = and_both (is_text_below x.0 y.0) (is_ascending (y ∷ rest)) h in
     rw (below_is_none x.0 y rest parts.0 parts.1) (ascending_ids_are_distinct (y ∷ rest) parts.1)
 
--- what the type `Move` keeps is within the limits
+-- a value of the type `Move` is within the limits
 pub ascending_orders_fit : (orders : Orders) → IsAscendingOrders orders → IsFitOrders orders
 ascending_orders_fit orders kept = record { texts = kept.texts; distinct = ascending_ids_are_distinct orders.moves kept.ascending; words = kept.words }

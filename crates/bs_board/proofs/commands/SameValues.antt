@@ -1,4 +1,4 @@
--- Tests that compare lists member by member tell when they are equal.
+-- Tests that compare lists member by member decide whether they are equal.
 use Rattle.std.proofs.Common.{◌≡◌, ℕ, true, ◌&&◌, List, refl, ap, rules}
 use Rattle.std.specs.Bool.{Decides}
 use Rattle.std.proofs.lemmas.Slice.Eq.{bytes_eq-Decides}

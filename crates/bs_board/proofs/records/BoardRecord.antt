@@ -25,7 +25,7 @@ use Rattle.bs_board.proofs.records.SnakeRecord.{snake_takes, snake_again}
 use Rattle.bs_board.proofs.records.Repeats.{many_takes, many_again}
 use Rattle.bs_board.proofs.records.Writable.{legal_is_writable}
 
--- ---- what stands before the cells of the food
+-- ---- the bytes before the cells of the food
 
 abbrev head_text : Head → List ℕ
 head_text h = (version_byte h.mode ∷ mode_byte h.mode ∷ h.width ∷ h.height ∷ two_bytes h.turn) ++ (h.min_food ∷ h.chance ∷ h.snakes ∷ two_bytes h.food)
@@ -163,7 +163,7 @@ legal_texts b legal =
 pub record_is_read : (bytes : List ℕ) (b : Board) → IsLegal b → bytes ≡ record_of b → read_board is_utf8 bytes ≡ Some b
 record_is_read bytes b legal is = ap (read_board is_utf8) is ∙ board_again is_utf8 b (legal_is_writable b legal) (legal_texts b legal)
 
--- where a board stands, only memory can be wanting
+-- if there is a board, reading can fail only for memory
 pub failed_for_memory : (error : Decode) (read : Option Board) (b : Board) → read ≡ Some b → Fails error read → error ≡ Memory
 failed_for_memory NotARecord read b is none = absurd cc
 failed_for_memory Memory read b is none = refl

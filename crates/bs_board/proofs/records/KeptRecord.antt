@@ -1,4 +1,4 @@
--- What is read of a record that is known to be a legal board's.
+-- Reading a record that is known to be a legal board's.
 use Rattle.std.proofs.Common.{◌≡◌, ℕ, zero, suc, ◌+◌, ◌-◌, ◌*◌, ◌<◌, ◌≤◌, true, false, List, [], ◌∷◌, ◌++◌, length, take, drop, min, ltb, Option, Some, None, Result, Ok, Err, refl, sym, ap, subst, ◌∙◌, append_assoc, arith, length-append}
 use Rattle.std.specs.Prelude.{IfOk, IfErr}
 use Rattle.std.specs.List.{flat_map, list_all, AllByRecursion}
@@ -24,7 +24,7 @@ use Rattle.bs_board.proofs.records.Repeats.{many_again, some_again}
 use Rattle.bs_board.proofs.records.SnakeRecord.{piece_again, snake_again}
 use Rattle.bs_board.proofs.records.Writable.{legal_is_writable}
 
--- where a value stands, only memory can be wanting
+-- if there is a value, reading can fail only for memory
 fails_for_memory : {X : Type 0} (read : Result X Decode) (stands : Option X) (x : X) → stands ≡ Some x → Gives (λ x. x) read stands → IfErr read (λ error. error ≡ Memory)
 fails_for_memory (Ok y) stands x is given = tt
 fails_for_memory (Err NotARecord) stands x is given = absurd cc
@@ -74,7 +74,7 @@ legal_board_in bytes kept = rw (only_board_in bytes kept.board kept.legal kept.i
 pub record_of_board_in : (bytes : List ℕ) → IsLegalRecord bytes → bytes ≡ record_of (board_in bytes)
 record_of_board_in bytes kept = kept.is ∙ ap record_of (sym (only_board_in bytes kept.board kept.legal kept.is))
 
--- ---- the board with nobody on it
+-- ---- the board without its snakes
 
 regrouped : (b : Board) → record_of b ≡ head_bytes b ++ (flat_map (cell_bytes 0) b.food ++ flat_map snake_record b.snakes)
 unfolding record_of

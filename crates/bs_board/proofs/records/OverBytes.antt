@@ -1,4 +1,4 @@
--- Where it stands in a record whether a snake lives, and where the next snake begins.
+-- The bytes of a record that say whether a snake is alive, and the place of the next snake.
 use Rattle.std.proofs.Common.{◌≡◌, ℕ, suc, ◌+◌, ◌-◌, ◌*◌, ◌/◌, ◌%◌, ◌<◌, ◌≤◌, Bool, true, false, List, [], ◌∷◌, ◌++◌, length, take, drop, get_or, Option, Some, None, refl, sym, ap, ◌∙◌, append_assoc, arith, length-append}
 use Rattle.std.specs.Prelude.{nat_eq, nat_le, count_by, flat_map, is_none, slice_index_or, if◌then◌else◌}
 use Rattle.std.proofs.lemmas.List.{drop_at, drop_more, length-drop, take_all}

@@ -70,7 +70,7 @@ many_again one text P law [] rest fits = refl
 many_again one text P law (x ∷ xs) rest fits =
     rw (append_assoc (text x) (flat_map text xs) rest, law x (flat_map text xs ++ rest) fits.0, many_again one text P law xs rest fits.1) refl
 
--- of values that are written, as many are read as are asked for and there are
+-- of values that are written, as many are read as are requested, as far as there are any
 pub some_again : {X : Type 0} (one : List ℕ → Option (X × List ℕ)) (text : X → List ℕ) (P : X → Type 0)
     → ((x : X) (rest : List ℕ) → P x → one (text x ++ rest) ≡ Some (x, rest))
     → (count : ℕ) (xs : List X) → AllByRecursion P xs

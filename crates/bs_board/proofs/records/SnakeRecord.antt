@@ -53,7 +53,7 @@ id_again : (is_text : List ℕ → Bool) (id rest : List ℕ) → is_text id ≡
 unfolding read_id
 id_again is_text id rest text = rw (piece_again id rest, text) refl
 
--- ---- what stands between the id and the parts
+-- ---- the bytes between the id and the parts
 
 abbrev state_text : State → List ℕ
 state_text s = (s.health ∷ cause_byte s.cause ∷ killer_byte s.killer ∷ two_bytes (unwrap_or s.out 0)) ++ two_bytes s.parts

@@ -1,4 +1,4 @@
--- Where the turn and the number of seats stand in a record.
+-- The places of the turn and of the number of seats in a record.
 use Rattle.std.proofs.Common.{◌≡◌, ℕ, ◌+◌, ◌*◌, ◌≤◌, List, ◌++◌, length, refl, ◌∙◌, arith, length-append}
 use Rattle.std.specs.Prelude.{slice_index, slice_index_or, flat_map, nat_eq, if◌then◌else◌, Option, Some, None}
 use Rattle.std.proofs.Math.Nat.{div-add-mod}
@@ -6,6 +6,7 @@ use Rattle.bs_board.specs.declared.boards.board.Board.{Board}
 use Rattle.bs_board.specs.declared.boards.board.Mode.{Mode}
 use Rattle.bs_board.specs.declared.boards.board.Mode.TheVariants.{Standard, Solo, Constrictor, Wrapped}
 use Rattle.bs_board.specs.boards.Wrap.{is_wrapped, wrap_of}
+use Rattle.bs_board.specs.records.Kept.{IsLegalRecord}
 use Rattle.bs_board.specs.records.Record.{mode_byte, record_of, head_bytes, cell_bytes, snake_record}
 
 pub record_reaches_seats : (b : Board) (bytes : List ℕ) → bytes ≡ record_of b → 11 ≤ length bytes
@@ -15,6 +16,9 @@ record_reaches_seats b bytes is =
     let food = length-append (head_bytes b) (flat_map (cell_bytes 0) b.food) in
     let head : length (head_bytes b) ≡ 11 = refl in
     rw is (omega arith)
+
+pub kept_reaches_seats : (bytes : List ℕ) → IsLegalRecord bytes → 11 ≤ length bytes
+kept_reaches_seats bytes kept = record_reaches_seats kept.board bytes kept.is
 
 turn_bytes : (b : Board) → slice_index (record_of b) 4 * 256 + slice_index (record_of b) 5 ≡ b.turn
 unfolding record_of

@@ -1,4 +1,4 @@
--- The numbers of a legal board have the room that its record gives them.
+-- The numbers of a legal board fit the bytes of its record.
 use Rattle.std.proofs.Common.{◌≡◌, ℕ, ◌+◌, ◌*◌, ◌<◌, ◌≤◌, Bool, true, false, not, List, [], ◌∷◌, length, drop, get_or, All, MatchOption, Option, Some, None, ℤ, pos, negsuc, ◌+ℤ◌, arith}
 use Rattle.std.specs.Prelude.{int_le, int_lt}
 use Rattle.std.proofs.lemmas.Int.{ints}
@@ -41,7 +41,7 @@ near_is_byte width height p wide high near =
     let first = and_both _ _ low.0 in
     record { x = near_side_is_byte p.x width wide first.0 first.1; y = near_side_is_byte p.y height high low.1 last.1 }
 
--- where the head of a snake that is out may stand
+-- the cells where the head of an eliminated snake may be
 out_is_byte : (cause : Cause) (wraps : Bool) (width height : ℕ) (p : Point) → width ≤ 25 → height ≤ 25 → is_head_of wraps cause width height p ≡ true → IsByteCell 1 p
 out_is_byte OutOfHealth true width height p wide high head = (on_board_is_byte width height p wide high head).1
 out_is_byte OutOfHealth false width height p wide high head = near_is_byte width height p wide high head

@@ -22,6 +22,6 @@ is_on_board width height p = int_le (pos 0) p.x && int_lt p.x (pos width) && int
 abbrev pub are_distinct_cells : List Point → Bool
 are_distinct_cells = are_distinct is_same_cell
 
--- a cell's number among those of the board, counted row after row from the bottom left
+-- the index of a cell, row after row from the bottom left
 abbrev pub cell_index : ℕ → Point → ℕ
 cell_index width p = nat_abs p.y * width + nat_abs p.x

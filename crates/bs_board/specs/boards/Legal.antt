@@ -1,4 +1,4 @@
--- When a board is one that a game can reach.
+-- The boards that a game can reach.
 use Rattle.std.specs.Prelude.{◌≡◌, ◌≢◌, ℕ, ◌+◌, ◌<◌, ◌≤◌, Bool, true, not, ◌&&◌, if◌then◌else◌, List, length, slice_index_or, drop, All, MatchOption, Some, None, Option, pos, negsuc, int_le}
 use Rattle.bs_board.specs.declared.boards.point.Point.{Point}
 use Rattle.bs_board.specs.declared.boards.board.Board.{Board}
@@ -41,7 +41,7 @@ IsFreeOfFood Solo food = Unit {0}
 IsFreeOfFood Constrictor food = length food ≡ 0
 IsFreeOfFood Wrapped food = Unit {0}
 
--- cells of the board, none twice, and a minimum that a byte holds
+-- distinct cells of the board, and a minimum that fits into a byte
 pub record IsLegalFood (b : Board) : Type 0 where
   pub fits : is_fit_food b.width b.height b.food ≡ true
   pub mode : IsFreeOfFood b.mode b.food
@@ -67,8 +67,9 @@ IsHealthOf SelfCollision health = (1 ≤ health) × (health ≤ FULL_HEALTH)
 IsHealthOf BodyCollision health = (1 ≤ health) × (health ≤ FULL_HEALTH)
 IsHealthOf HeadCollision health = (1 ≤ health) × (health ≤ FULL_HEALTH)
 
--- a starved snake's head may be anywhere near, one that hit the wall is off the board, the others
--- are on it; on a wrapped board each head is on it, and no snake is out by the wall
+-- the head of a snake that starved may be on the board or next to it, of one that hit the wall is
+-- off the board, of any other is on it; on a wrapped board each head is on it, and no snake is
+-- eliminated by the wall
 abbrev pub is_head_of : Bool → Cause → ℕ → ℕ → Point → Bool
 is_head_of wraps OutOfHealth width height p = if wraps then is_on_board width height p else is_near width height p
 is_head_of wraps WallCollision width height p = not wraps && is_near width height p && not (is_on_board width height p)
@@ -87,7 +88,7 @@ IsKillerOf SelfCollision seats seat killer = killer ≡ Some seat
 IsKillerOf BodyCollision seats seat killer = IsOtherSeat seats seat killer
 IsKillerOf HeadCollision seats seat killer = IsOtherSeat seats seat killer
 
--- in a turn that was played
+-- the number of a turn that was played
 abbrev pub IsTurnBy : ℕ → Option ℕ → Type 0
 IsTurnBy turn out = MatchOption out ⊥ (λ t. (1 ≤ t) × (t ≤ turn))
 

@@ -8,7 +8,7 @@ use Rattle.bs_board.specs.declared.boards.snake.Snake.{Snake}
 abbrev pub is_living : Snake → Bool
 is_living s = is_none s.cause
 
--- how many snakes may live when a game is over
+-- the largest number of living snakes with which a game is over
 abbrev pub last_living : Mode → ℕ
 last_living Standard = 1
 last_living Solo = 0

@@ -11,7 +11,7 @@ is_wrapped Solo = false
 is_wrapped Constrictor = false
 is_wrapped Wrapped = true
 
--- the width and height that a step is taken modulo, none where it may lead off the board
+-- the width and height that each step is taken modulo; none if a step may leave the board
 abbrev pub wrap_of : Board → Option (ℕ × ℕ)
 wrap_of b = if is_wrapped b.mode then Some (b.width, b.height) else None
 

@@ -1,4 +1,4 @@
--- What a `move` command asks for, and when it is within its limits.
+-- The contents of a `move` command, and their limits.
 use Rattle.std.specs.Prelude.{◌≡◌, ℕ, ◌≤◌, ◌<◌, ◌^◌, Bool, true, ◌&&◌, List, [], ◌∷◌, length, All}
 use Rattle.bs_board.specs.declared.boards.point.Direction.{Direction}
 use Rattle.bs_board.specs.declared.commands.orders.Move.TheInside.{Inside}
@@ -24,7 +24,7 @@ pub record AreFitWords (words : List ℕ) : Type 0 where
   pub few : length words ≤ MOST_WORDS
   pub small : All (λ word. word < 2 ^ 32) words
 
--- within the limits: no id twice
+-- within the limits, with distinct ids
 pub record IsFitOrders (orders : Orders) : Type 0 where
   pub texts : IdsAreTexts orders.moves
   pub distinct : are_distinct_moves orders.moves ≡ true
@@ -36,7 +36,7 @@ is_ascending [] = true
 is_ascending (_ ∷ []) = true
 is_ascending (first ∷ second ∷ rest) = is_text_below first.0 second.0 && is_ascending (second ∷ rest)
 
--- what the type `Move` keeps: its ids ascend, so none stands twice
+-- the invariant of the type `Move`: its ids ascend, so they are distinct
 pub record IsAscendingOrders (orders : Orders) : Type 0 where
   pub texts : IdsAreTexts orders.moves
   pub ascending : is_ascending orders.moves ≡ true

@@ -1,4 +1,4 @@
--- The board that a `new` command asks for, and when it is within the limits of a game.
+-- The contents of a `new` command, and their limits.
 use Rattle.std.specs.Prelude.{ℕ, Bool, ◌&&◌, List, length, nat_le}
 use Rattle.std.specs.List.{list_all}
 use Rattle.bs_board.specs.declared.boards.point.Point.{Point}
@@ -46,7 +46,7 @@ is_side cells = nat_le SHORTEST_SIDE cells && nat_le cells LONGEST_SIDE
 abbrev pub is_fit_start : ℕ → ℕ → List ℕ × Point → Bool
 is_fit_start width height start = is_short_text start.0 && is_on_board width height start.1
 
--- 1 to 8 snakes on the board, no id and no starting cell twice
+-- 1 to 8 snakes on the board, with distinct ids and starting cells
 abbrev pub are_fit_starts : ℕ → ℕ → List (List ℕ × Point) → Bool
 are_fit_starts width height starts =
     nat_le 1 (length starts) && nat_le (length starts) MOST_SNAKES
@@ -54,7 +54,7 @@ are_fit_starts width height starts =
     && are_distinct (λ s t. is_same_text s.0 t.0) starts
     && are_distinct (λ s t. is_same_cell s.1 t.1) starts
 
--- cells of the board, none twice
+-- distinct cells of the board
 abbrev pub is_fit_food : ℕ → ℕ → List Point → Bool
 is_fit_food width height food = list_all (is_on_board width height) food && are_distinct_cells food
 

@@ -17,7 +17,7 @@ has_wrapped One = false
 has_wrapped Two = true
 has_wrapped Three = true
 
--- whether games may come and go after the plan
+-- whether games may be admitted and leave after the plan
 abbrev pub has_stays : Version → Bool
 has_stays One = false
 has_stays Two = false

@@ -1,6 +1,6 @@
--- The steps of the decoder, which only the contracts of its private functions cite. What bytes mean
--- to a caller is said by `decode`: they are the record of a legal board, or of none. A reader gives
--- a value and the bytes behind it, or nothing where no value stands.
+-- The steps of the decoder, which only the contracts of its private functions cite. For callers
+-- `decode` defines the meaning of bytes: they are the record of a legal board, or of none. A reader
+-- gives a value and the bytes after it, or nothing if there is no value.
 use Rattle.std.specs.Prelude.{◌≡◌, ◌==◌, ℕ, zero, suc, ◌+◌, ◌*◌, ◌-◌, Bool, ◌&&◌, if◌then◌else◌, List, [], ◌∷◌, length, take, drop, min, find, Option, Some, None, Result, Ok, Err, nat_lt, pos, ◌-ℤ◌}
 use Rattle.bs_board.specs.declared.boards.board.Board.{Board}
 use Rattle.bs_board.specs.declared.boards.board.Mode.{Mode}
@@ -53,7 +53,7 @@ read_cell raised (x ∷ y ∷ rest) = Some (record { x = pos x -ℤ pos raised; 
 read_cell raised (x ∷ []) = None
 read_cell raised [] = None
 
--- so many values, one after the other
+-- `count` values, one after the other
 unfoldable pub read_many : {X : Type 0} → (List ℕ → Option (X × List ℕ)) → ℕ → List ℕ → Option (List X × List ℕ)
 read_many one zero bytes = Some ([], bytes)
 read_many one (suc count) bytes = do
@@ -76,7 +76,7 @@ read_state (health ∷ cause_is ∷ killer ∷ out_high ∷ out_low ∷ parts_hi
   )
 read_state _ = None
 
--- a length, and so many bytes
+-- a length, and that many bytes
 unfoldable pub read_piece : List ℕ → Option (List ℕ × List ℕ)
 read_piece (len ∷ rest) = if nat_lt (length rest) len then None else Some (take len rest, drop len rest)
 read_piece [] = None
@@ -103,7 +103,7 @@ read_snake is_text bytes = do
     body.1,
   )
 
--- a snake from all of the bytes
+-- a snake that takes all of the bytes
 unfoldable pub read_only_snake : (List ℕ → Bool) → List ℕ → Option Snake
 read_only_snake is_text bytes = do
   snake ← read_snake is_text bytes
@@ -127,7 +127,7 @@ read_head (version ∷ mode_is ∷ width ∷ height ∷ turn_high ∷ turn_low �
   )
 read_head _ = None
 
--- all of the bytes
+-- a board that takes all of the bytes
 unfoldable pub read_board : (List ℕ → Bool) → List ℕ → Option Board
 read_board is_text bytes = do
   head ← read_head bytes
@@ -144,9 +144,9 @@ read_board is_text bytes = do
     snakes = snakes.0;
   }) else None
 
--- ---- what of a record that is known to be one is asked for
+-- ---- reading parts of a record that is known to be one
 
--- the board with nobody on it
+-- the board without its snakes
 unfoldable pub read_ground : List ℕ → Option Board
 read_ground bytes = do
   head ← read_head bytes
@@ -166,7 +166,7 @@ read_ground bytes = do
 unfoldable pub skip_cells : ℕ → List ℕ → Option (List ℕ)
 skip_cells count bytes = if nat_lt (length bytes) (2 * count) then None else Some (drop (2 * count) bytes)
 
--- the number of parts, which ends what stands between an id and the parts
+-- the number of parts, which is the last field between an id and the parts
 unfoldable pub skip_state : List ℕ → Option (ℕ × List ℕ)
 skip_state (health ∷ cause ∷ killer ∷ out_high ∷ out_low ∷ parts_high ∷ parts_low ∷ rest) = Some (from_two_bytes parts_high parts_low, rest)
 skip_state _ = None
@@ -177,14 +177,14 @@ skip_snake bytes = do
   state ← skip_state id.1
   skip_cells state.0 state.1
 
--- so many snakes, one after the other
+-- `count` snakes, one after the other
 unfoldable pub skip_snakes : ℕ → List ℕ → Option (List ℕ)
 skip_snakes zero bytes = Some bytes
 skip_snakes (suc count) bytes = do
   rest ← skip_snake bytes
   skip_snakes count rest
 
--- so many snakes from that seat on, as far as there are any
+-- `count` snakes from that seat on, as far as there are any
 unfoldable pub read_seats : (List ℕ → Bool) → ℕ → ℕ → List ℕ → Option (List Snake)
 read_seats is_text from count bytes = do
   head ← read_head bytes

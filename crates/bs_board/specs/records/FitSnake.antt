@@ -1,5 +1,5 @@
--- The snakes that bytes of their own stand for: a snake's part of a record, as it lies in a frame
--- block.
+-- The snakes that can be written as bytes of their own: the record of one snake, as it lies in a
+-- frame block.
 use Rattle.std.specs.Prelude.{◌≡◌, ℕ, ◌+◌, ◌<◌, ◌≤◌, true, length, All, MatchOption, Option}
 use Rattle.bs_board.specs.declared.boards.snake.Snake.{Snake}
 use Rattle.bs_board.specs.declared.limits.TheConstants.{FIRST_PARTS, FULL_HEALTH, LAST_TURN, LONGEST_SIDE, MOST_SNAKES}
@@ -15,7 +15,7 @@ abbrev pub IsOutInRange : Option ℕ → Type 0
 IsOutInRange out = MatchOption out (Unit {0}) (λ turn. (1 ≤ turn) × (turn ≤ LAST_TURN))
 
 -- Each field is in its own range, whatever the other fields and the board are. So a snake that has
--- just moved is fit: it may have health 0, or its head off the board, and no cause yet.
+-- just moved fits: it may have health 0, or its head off the board, and no cause yet.
 pub record IsFitSnake (s : Snake) : Type 0 where
   pub id : is_short_text s.id ≡ true
   pub health : s.health ≤ FULL_HEALTH

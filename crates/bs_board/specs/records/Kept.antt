@@ -16,6 +16,6 @@ pub record IsLegalRecord (bytes : List ℕ) : Type 0 where
 abbrev no_board : Board
 no_board = record { mode = Standard; width = 0; height = 0; turn = 0; min_food = 0; chance = 0; food = []; snakes = [] }
 
--- the board that the bytes are the record of; one of no cells where they are none's
+-- the board whose record the bytes are; one without cells if they are no record
 unfoldable pub board_in : List ℕ → Board
 board_in bytes = unwrap_or (read_board is_utf8 bytes) no_board

@@ -1,4 +1,4 @@
--- The bytes that a board is kept as.
+-- The bytes of a board.
 use Rattle.std.specs.Prelude.{ℕ, ◌+◌, ◌/◌, ◌%◌, List, [], ◌∷◌, ◌++◌, length, Option, Some, None, unwrap_or, flat_map, pos, ◌+ℤ◌, nat_abs}
 use Rattle.bs_board.specs.declared.boards.point.Point.{Point}
 use Rattle.bs_board.specs.declared.boards.board.Board.{Board}
@@ -38,12 +38,12 @@ abbrev pub killer_byte : Option ℕ → ℕ
 killer_byte None = 0
 killer_byte (Some seat) = seat + 1
 
--- the column and the row, raised by so much: by 1 in a body, since its head may stand one cell
--- beyond an edge
+-- the column and the row, each with an offset added: 1 in a body, since its head may be one cell
+-- outside the board
 abbrev pub cell_bytes : ℕ → Point → List ℕ
 cell_bytes raised p = nat_abs (p.x +ℤ pos raised) ∷ nat_abs (p.y +ℤ pos raised) ∷ []
 
--- what stands between the id and the parts
+-- the bytes between the id and the parts
 abbrev pub state_bytes : Snake → List ℕ
 state_bytes s =
     (s.health ∷ cause_byte s.cause ∷ killer_byte s.killer ∷ two_bytes (unwrap_or s.out 0)) ++ two_bytes (length s.body)
@@ -51,7 +51,7 @@ state_bytes s =
 unfoldable pub snake_record : Snake → List ℕ
 snake_record s = (length s.id ∷ s.id) ++ state_bytes s ++ flat_map (cell_bytes 1) s.body
 
--- what stands before the cells of the food
+-- the bytes before the cells of the food
 abbrev pub head_bytes : Board → List ℕ
 head_bytes b =
     (version_byte b.mode ∷ mode_byte b.mode ∷ b.width ∷ b.height ∷ two_bytes b.turn)

@@ -4,13 +4,13 @@ use Rattle.bs_board.specs.declared.boards.board.Board.{Board}
 use Rattle.bs_board.specs.declared.boards.point.Point.{Point}
 use Rattle.bs_board.specs.declared.boards.snake.Snake.{Snake}
 
--- behind what stands before the place come the bytes, up to the next place
+-- the bytes are written at the place, up to the next place; what is before it is unchanged
 pub record Puts (at : ℕ) (bytes old new : List ℕ) (next : ℕ) : Type 0 where
   pub place : next ≡ at + length bytes
   pub front : take next new ≡ take at old ++ bytes
   pub room : length new ≡ length old
 
--- a column or a row that is raised to a byte
+-- a column or row, with the offset added, fits into a byte
 abbrev pub IsByte : ℤ → Type 0
 IsByte z = (pos 0 ≤ℤ z) × (z <ℤ pos 256)
 
@@ -18,7 +18,7 @@ pub record IsByteCell (raised : ℕ) (p : Point) : Type 0 where
   pub x : IsByte (p.x +ℤ pos raised)
   pub y : IsByte (p.y +ℤ pos raised)
 
--- a snake whose numbers have the room that a record gives them; a turn of 0 would be read as none
+-- a snake whose numbers fit their bytes in a record; a turn of 0 would be read as none
 pub record IsWritable (s : Snake) : Type 0 where
   pub id : length s.id < 256
   pub killer : MatchOption s.killer (Unit {0}) (λ seat. seat + 1 < 256)
@@ -26,7 +26,7 @@ pub record IsWritable (s : Snake) : Type 0 where
   pub parts : length s.body < 65536
   pub cells : All (IsByteCell 1) s.body
 
--- a board with such snakes, whose other numbers have their room too
+-- a board with such snakes, whose own numbers fit too
 pub record IsWritableBoard (b : Board) : Type 0 where
   pub few : length b.snakes < 256
   pub food : length b.food < 65536

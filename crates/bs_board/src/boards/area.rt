@@ -8,21 +8,21 @@ ghost use Rattle.bs_board.specs.commands.Setup.{is_side, is_fit_food};
 use crate::boards::point::Point;
 use crate::limits::{LONGEST_SIDE, SHORTEST_SIDE};
 
-/// Whether a side of a board may have so many cells.
+/// Whether a side of a board may have `cells` cells.
 pub fn is_side(cells: u8) -> bool
     ensures { result ≡ is_side cells }
 {
     SHORTEST_SIDE <= cells && cells <= LONGEST_SIDE
 }
 
-/// Whether the cell is among them.
+/// Whether the cell is in the list.
 pub fn has_cell(cells: &[Point], cell: Point) -> bool
     ensures { result ≡ list_any (is_same_cell cell) cells.now }
 {
     cells.iter().any(|other| cell.is_same_cell(*other))
 }
 
-/// Whether no cell stands twice.
+/// Whether no cell occurs twice.
 pub fn are_distinct_cells(cells: &[Point]) -> bool
     ensures { result ≡ are_distinct_cells cells.now }
 {
@@ -40,7 +40,7 @@ fn are_on_board(width: u8, height: u8, cells: &[Point]) -> bool
     cells.iter().all(|cell| cell.is_on_board(width, height))
 }
 
-/// Whether the food lies on the board, no two on one cell.
+/// Whether the food is on the board, with no two on one cell.
 pub fn is_fit_food(width: u8, height: u8, food: &[Point]) -> bool
     ensures { result ≡ is_fit_food width height food.now }
 {

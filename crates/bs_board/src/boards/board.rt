@@ -32,17 +32,17 @@ impl Mode {
     }
 }
 
-/// A board as it stands after a turn.
+/// A board after a turn.
 #[derive(Debug, Drop)]
 pub struct Board {
     pub mode: Mode,
-    /// Columns.
+    /// The number of columns.
     pub width: u8,
-    /// Rows.
+    /// The number of rows.
     pub height: u8,
     /// The number of turns played.
     pub turn: u16,
-    /// The food that is always made up to.
+    /// The minimum of food; each turn adds food up to it.
     pub min_food: u8,
     /// The chance of one more food in a turn, in percent.
     pub chance: u8,
@@ -51,7 +51,7 @@ pub struct Board {
 }
 
 impl Board {
-    /// The same value in memory of its own.
+    /// Copies the board.
     pub fn copy(&self, alloc: Global) -> Result<Board, AllocError>
         ensures { IfOk result (λ board. board ≡ self.now) }
     {
@@ -67,7 +67,7 @@ impl Board {
         })
     }
 
-    /// The width and height that a step is taken modulo, `None` where it may lead off the board.
+    /// The width and height that each step is taken modulo; `None` if a step may leave the board.
     pub fn wrap(&self) -> Option<(u8, u8)>
         ensures { result ≡ wrap_of self.now }
     {

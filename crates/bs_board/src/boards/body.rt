@@ -5,8 +5,7 @@ ghost use Rattle.bs_board.specs.boards.Cell.{head_of};
 
 use crate::boards::point::{ORIGIN, Point};
 
-/// The first part. Each snake of a board has one; of no parts at all the corner of the board is
-/// answered.
+/// The first part. Each snake of a board has one; without parts, the corner of the board.
 pub fn head_of(body: &[Point]) -> Point
     ensures { result ≡ head_of body.now }
 {

@@ -22,7 +22,7 @@ impl Model for Cells {
 impl Cells {
     ghost use Rattle.std.specs.Prelude.{◌≡◌, ◌++◌, ◌∷◌, [], IfOk, OnOk, OnErr, length};
 
-    /// No cells.
+    /// Makes an empty list.
     pub fn new(alloc: Global) -> Cells
         ensures { result ≡ [] }
     {
@@ -31,14 +31,14 @@ impl Cells {
         }
     }
 
-    /// The list of these entries, in their order.
+    /// Makes the list of these entries, in order.
     pub fn from_vec(points: Vec<Point>) -> Cells
         ensures { result ≡ points.items }
     {
         Cells { points }
     }
 
-    /// The entries as a vector.
+    /// Converts the list into a vector.
     pub fn into_vec(self) -> Vec<Point>
         ensures { result.items ≡ self }
     {
@@ -46,7 +46,7 @@ impl Cells {
         points
     }
 
-    /// The entries, in their order.
+    /// The entries, in order.
     pub fn as_slice(&self) -> &[Point]
         ensures { result.now ≡ self.now }
     {
@@ -69,7 +69,7 @@ impl Cells {
         Ok(())
     }
 
-    /// The same value in memory of its own.
+    /// Copies the list.
     pub fn copy(&self, alloc: Global) -> Result<Cells, AllocError>
         ensures { IfOk result (λ cells. cells ≡ self.now) }
     {

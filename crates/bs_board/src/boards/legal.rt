@@ -1,4 +1,4 @@
-//! When a board is one that a game can have.
+//! The legality of a board.
 
 ghost use Rattle.std.specs.Prelude.{◌≡◌, ◌≢◌, ◌↔◌, ◌+◌, ◌<◌, ◌≤◌, true, length, IsTrue, All, drop};
 ghost use Rattle.std.specs.List.{list_any};
@@ -32,7 +32,7 @@ use crate::id::Id;
 use crate::limits::{FIRST_PARTS, FULL_HEALTH, LAST_TURN, MOST_CHANCE, MOST_SNAKES};
 
 /// Whether a game can have this board: its sides, turn, chance and number of snakes are within the
-/// limits, and each snake is as the turn, its health and its cause allow.
+/// limits, and each snake is consistent with the turn, its health and its cause.
 pub fn is_legal(board: &Board) -> bool
     ensures { IsTrue result ↔ IsLegal board.now }
 {

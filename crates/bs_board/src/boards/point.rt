@@ -4,7 +4,7 @@ ghost use Rattle.std.specs.Prelude.{◌≡◌, ◌↔◌, IsTrue};
 ghost use Rattle.bs_board.specs.boards.Cell.{is_same_cell, is_on_board};
 
 /// A cell by column and row. `(0, 0)` is the bottom left of the board. A head that has left the
-/// board stands one cell beyond an edge, so both numbers are signed.
+/// board is one cell outside it, so both numbers are signed.
 #[derive(Clone, Copy, Debug, PartialEq, Eq)]
 pub struct Point {
     pub x: i16,
@@ -12,14 +12,14 @@ pub struct Point {
 }
 
 impl Point {
-    /// Whether both are one cell.
+    /// Whether both are the same cell.
     pub fn is_same_cell(self, other: Point) -> bool
         ensures { result ≡ is_same_cell self other }
     {
         self.x == other.x && self.y == other.y
     }
 
-    /// Whether a board with these sides has the cell.
+    /// Whether the cell is on a board with these sides.
     pub fn is_on_board(self, width: u8, height: u8) -> bool
         ensures { result ≡ is_on_board width height self }
     {
@@ -30,7 +30,7 @@ impl Point {
 /// The bottom left of the board.
 pub const ORIGIN: Point = Point { x: 0, y: 0 };
 
-/// Where a snake's head goes. Up is towards greater rows, right towards greater columns.
+/// The direction of a step. Up is towards higher rows, right towards higher columns.
 #[derive(Clone, Copy, Debug, PartialEq, Eq)]
 pub enum Direction {
     Up,

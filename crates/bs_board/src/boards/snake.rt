@@ -1,4 +1,4 @@
-//! One snake, and why it is out.
+//! One snake, and the cause of its elimination.
 
 ghost use Rattle.std.specs.Prelude.{◌≡◌, IfOk, IsTrue, is_none};
 
@@ -6,7 +6,7 @@ use crate::boards::cells::Cells;
 use crate::id::Id;
 use std::alloc::{AllocError, Global};
 
-/// Why a snake is out.
+/// The cause of a snake's elimination.
 #[derive(Clone, Copy, Debug, PartialEq, Eq)]
 pub enum Cause {
     OutOfHealth,
@@ -16,14 +16,13 @@ pub enum Cause {
     HeadCollision,
 }
 
-/// One snake. It lives as long as it has no cause; once it is out it keeps its last body and
-/// health.
+/// One snake. It is alive while it has no cause; once eliminated it keeps its last body and health.
 #[derive(Debug, Drop)]
 pub struct Snake {
     pub id: Id,
     /// The parts, the head first.
     pub body: Cells,
-    /// 0 to 100.
+    /// The health, 0 to 100.
     pub health: u8,
     pub cause: Option<Cause>,
     /// The seat of the snake that it ran into, from 0.
@@ -33,14 +32,14 @@ pub struct Snake {
 }
 
 impl Snake {
-    /// Whether it is not out.
+    /// Whether it is alive.
     pub fn is_living(&self) -> bool
         ensures { result ≡ is_none self.now.cause }
     {
         self.cause.is_none()
     }
 
-    /// The same value in memory of its own.
+    /// Copies the snake.
     pub fn copy(&self, alloc: Global) -> Result<Snake, AllocError>
         ensures { IfOk result (λ snake. snake ≡ self.now) }
     {

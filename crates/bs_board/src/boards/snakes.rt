@@ -24,14 +24,14 @@ impl Snakes {
     ghost use Rattle.std.specs.Borrow.{sem};
     ghost use Rattle.bs_board.specs.boards.Lending.{LendsSeat};
 
-    /// The list of these entries, in their order.
+    /// Makes the list of these entries, in order.
     pub fn from_vec(seats: Vec<Snake>) -> Snakes
         ensures { result ≡ seats.items }
     {
         Snakes { seats }
     }
 
-    /// The entries as a vector.
+    /// Converts the list into a vector.
     pub fn into_vec(self) -> Vec<Snake>
         ensures { result.items ≡ self }
     {
@@ -39,7 +39,7 @@ impl Snakes {
         seats
     }
 
-    /// The entries, in their order.
+    /// The entries, in order.
     pub fn as_slice(&self) -> &[Snake]
         ensures { result.now ≡ self.now }
     {
@@ -53,7 +53,7 @@ impl Snakes {
         self.seats.len()
     }
 
-    /// One snake for writing; the others stay as they are.
+    /// One snake, to write; the others are unchanged.
     pub fn seat_mut(&mut self, seat: usize) -> &mut Snake
         requires { seat < length self.old }
         ensures value { slice_get self.old seat ≡ Some result.now }
@@ -62,7 +62,7 @@ impl Snakes {
         &mut self.seats[seat]
     }
 
-    /// The same value in memory of its own.
+    /// Copies the list.
     pub fn copy(&self, alloc: Global) -> Result<Snakes, AllocError>
         ensures { IfOk result (λ snakes. snakes ≡ self.now) }
     {

@@ -30,7 +30,7 @@ impl Model for TurnNumber {
 impl TurnNumber {
     ghost use Rattle.std.specs.Prelude.{◌≤◌, SomeIff};
 
-    /// None exactly where the number is above the last turn.
+    /// Makes a turn number. `None` exactly if it is above the last turn.
     pub fn new(number: u16) -> Option<TurnNumber>
         ensures { SomeIff result (number ≤ LAST_TURN) number }
     {
@@ -41,7 +41,7 @@ impl TurnNumber {
         }
     }
 
-    /// The number itself.
+    /// The turn as a number.
     pub fn number(self) -> u16
         ensures value { result ≡ self }
         ensures fits { result ≤ LAST_TURN }
@@ -50,7 +50,7 @@ impl TurnNumber {
     }
 }
 
-/// What one line asks of its game.
+/// A command of a game, as one line gives it.
 #[derive(Debug, Drop)]
 pub enum Command {
     New(New),
@@ -60,12 +60,12 @@ pub enum Command {
     Turn(TurnNumber),
     Free,
     End,
-    /// A line that names its game, and no command that can be carried out.
+    /// A line that names its game and is no valid command.
     Bad,
 }
 
 impl Command {
-    /// The same value in memory of its own.
+    /// Copies the command.
     pub fn copy(&self, alloc: Global) -> Result<Command, AllocError>
         ensures { IfOk result (λ command. command ≡ self.now) }
     {
@@ -81,7 +81,7 @@ impl Command {
     }
 }
 
-/// The six words of a command's `do`.
+/// The values of a command's `do`.
 #[derive(Clone, Copy, Debug, PartialEq, Eq)]
 pub enum Word {
     New,

@@ -1,4 +1,4 @@
-//! Whether two commands are the same.
+//! Equality of commands.
 
 ghost use Rattle.std.specs.Prelude.{◌≡◌, ◌↔◌, IsTrue};
 
@@ -69,7 +69,7 @@ impl New {
 }
 
 impl Command {
-    /// Whether both ask the same.
+    /// Whether both are the same command.
     pub fn is_same(&self, other: &Command) -> bool
         ensures { IsTrue result ↔ self.now ≡ other.now }
     {

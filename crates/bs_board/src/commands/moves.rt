@@ -27,7 +27,7 @@ impl Model for Moves {
 }
 
 #[tactic(auto, using(crate::proofs::Seen::all_and_next, crate::proofs::Seen::all_seen))]
-/// That each id is a text, as any `Id` is. It is said here of a whole list, and does nothing.
+/// Recalls for the prover that each id of a list is a text, as any `Id` is.
 fn ids_are_texts(moves: &[(Id, Direction)])
     ensures { IdsAreTexts moves.now }
 {
@@ -40,7 +40,7 @@ impl Moves {
     ghost use Rattle.std.specs.Prelude.{IfOk};
     ghost use Rattle.bs_board.specs.Texts.{IdsAreTexts};
 
-    /// The list of these entries, in their order.
+    /// Makes the list of these entries, in order.
     pub fn from_vec(moves: Vec<(Id, Direction)>) -> Moves
         ensures { result ≡ moves.items }
     {
@@ -48,7 +48,7 @@ impl Moves {
         Moves { moves }
     }
 
-    /// The entries, in their order.
+    /// The entries, in order.
     pub fn as_slice(&self) -> &[(Id, Direction)]
         ensures value { result.now ≡ self.now }
         ensures texts { IdsAreTexts self.now }
@@ -56,7 +56,7 @@ impl Moves {
         self.moves.as_slice()
     }
 
-    /// The same value in memory of its own.
+    /// Copies the list.
     pub fn copy(&self, alloc: Global) -> Result<Moves, AllocError>
         ensures { IfOk result (λ moves. moves ≡ self.now) }
     {

@@ -1,4 +1,4 @@
-//! What a `move` command asks for.
+//! The contents of a `move` command.
 
 ghost use Rattle.std.specs.Prelude.{◌≡◌};
 ghost use Rattle.bs_board.specs.commands.Orders.{is_ascending};
@@ -11,7 +11,7 @@ use crate::limits::MOST_WORDS;
 use std::alloc::{AllocError, Global};
 use std::marker::Model;
 
-/// What a `move` command asks for. A value of this type names no snake twice and brings at most 32
+/// The contents of a `move` command. No value of this type names a snake twice or has more than 32
 /// words.
 #[derive(Debug, Drop)]
 pub struct Move {
@@ -29,7 +29,7 @@ impl Model for Move {
     ghost invariant = { λ m. IsAscendingOrders (orders_in m) };
 }
 
-/// Whether each id is above the one before it, by their bytes. Then none stands twice.
+/// Whether each id is above the one before it, by bytes, so that no id occurs twice.
 #[tactic(auto, using(crate::proofs::commands::Ascending::ascending_at_end))]
 pub fn is_ascending(moves: &[(Id, Direction)]) -> bool
     ensures { result ≡ is_ascending moves.now }
@@ -46,7 +46,7 @@ impl Move {
     ghost use Rattle.std.specs.Prelude.{true, ◌≤◌, length, IfOk};
     ghost use Rattle.bs_board.specs.commands.Orders.{Orders, orders_of, IsFitOrders};
 
-    /// A move with these directions and words.
+    /// Makes a move with these directions and words.
     pub fn new(moves: Moves, words: Words) -> Move
         requires ascending { is_ascending moves ≡ true }
         requires few { length words ≤ MOST_WORDS }
@@ -56,7 +56,7 @@ impl Move {
         Move { moves, words }
     }
 
-    /// That any value is within the limits. It does nothing.
+    /// Recalls for the prover that the value is within the limits.
     #[tactic(auto, using(crate::proofs::commands::Ascending::ascending_orders_fit))]
     pub fn fits(&self)
         ensures { IsFitOrders self.now }
@@ -64,7 +64,7 @@ impl Move {
         let _moves = &self.moves;
     }
 
-    /// The same value in memory of its own.
+    /// Copies the move.
     pub fn copy(&self, alloc: Global) -> Result<Move, AllocError>
         ensures { IfOk result (λ order. order ≡ self.now) }
     {

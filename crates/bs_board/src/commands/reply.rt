@@ -4,12 +4,12 @@ ghost use Rattle.std.specs.Prelude.{◌≡◌, IfOk};
 
 use crate::commands::command::Word;
 use crate::records::kept_board::KeptBoard;
-use std::alloc::{AllocError, Global};
+use std::alloc::AllocError;
 
 /// Why a command was refused, in the order in which the reasons are judged.
 #[derive(Clone, Copy, Debug, PartialEq, Eq)]
 pub enum Refusal {
-    /// G1: no command that can be carried out.
+    /// G1: the line is no valid command.
     Unknown,
     /// G2: no game runs.
     NoGame,
@@ -25,8 +25,8 @@ pub enum Refusal {
     Quota,
 }
 
-/// What a command is answered. The number is the charge of the game after the command, in bytes. A
-/// board is kept as its record: a transcript holds as many as there are moves.
+/// The reply to a command. Its number is the charge of the game after the command, in bytes. A
+/// board is kept as its record, since a transcript has as many boards as there are moves.
 #[derive(Debug, Drop)]
 pub enum Reply {
     Shown(Word, KeptBoard, u32),
@@ -35,16 +35,12 @@ pub enum Reply {
 }
 
 impl Reply {
-    /// The same value in memory of its own.
-    pub fn copy(&self, alloc: Global) -> Result<Reply, AllocError>
+    /// Copies the reply. A board that it shows is shared.
+    pub fn copy(&self) -> Result<Reply, AllocError>
         ensures { IfOk result (λ reply. reply ≡ self.now) }
     {
         match self {
-            Reply::Shown(word, board, charge) => Ok(Reply::Shown(
-                *word,
-                board.copy(alloc)?,
-                *charge,
-            )),
+            Reply::Shown(word, board, charge) => Ok(Reply::Shown(*word, board.share()?, *charge)),
             Reply::Plain(word, charge) => Ok(Reply::Plain(*word, *charge)),
             Reply::Refused(refusal) => Ok(Reply::Refused(*refusal)),
         }

@@ -1,4 +1,4 @@
-//! What a `new` command asks for.
+//! The contents of a `new` command.
 
 ghost use Rattle.std.specs.Prelude.{◌≡◌};
 
@@ -10,21 +10,21 @@ use crate::limits::MOST_CHANCE;
 use std::alloc::{AllocError, Global};
 use std::marker::Model;
 
-/// What a `new` command asks for: the board of turn 0. A value of this type is within the limits of
-/// a game.
+/// The contents of a `new` command: the board of turn 0. A value of this type is within the limits
+/// of a game.
 #[derive(Debug, Drop)]
 pub struct New {
     pub mode: Mode,
-    /// Columns, 3 to 25.
+    /// The number of columns, 3 to 25.
     pub width: u8,
-    /// Rows, 3 to 25.
+    /// The number of rows, 3 to 25.
     pub height: u8,
-    /// 1 to 8 snakes on the board, with ids of 1 to 64 bytes; no id and no cell twice.
+    /// 1 to 8 snakes on the board, with distinct ids of 1 to 64 bytes and distinct cells.
     pub snakes: Starts,
-    /// Cells of the board, none twice.
+    /// Distinct cells of the board.
     pub food: Cells,
     pub min_food: u8,
-    /// 0 to 100, in percent.
+    /// The chance of food in percent, 0 to 100.
     pub chance: u8,
 }
 
@@ -43,7 +43,7 @@ impl New {
     ghost use Rattle.std.specs.Prelude.{◌≡◌, true, Some, None, if◌then◌else◌, IfOk};
     ghost use Rattle.bs_board.specs.commands.Setup.{Setup, is_fit_setup, setup_of};
 
-    /// None exactly where a limit of a game is passed.
+    /// Makes a setup. `None` exactly if it exceeds a limit.
     #[tactic(auto, unfolding(crate::specs::commands::Setup::is_fit_setup))]
     pub fn new(
         mode: Mode,
@@ -77,7 +77,7 @@ impl New {
         }
     }
 
-    /// The same value in memory of its own.
+    /// Copies the setup.
     pub fn copy(&self, alloc: Global) -> Result<New, AllocError>
         ensures { IfOk result (λ new. new ≡ self.now) }
     {

@@ -1,4 +1,4 @@
-//! Who starts where on a new board, and whether it may.
+//! The starting cells of a new board, and their limits.
 
 ghost use Rattle.std.specs.Prelude.{◌≡◌};
 ghost use Rattle.std.specs.List.{list_all, list_any};
@@ -13,7 +13,7 @@ use crate::limits::MOST_SNAKES;
 use std::alloc::{AllocError, Global};
 use std::marker::Model;
 
-/// Who starts where, in the order of the seats.
+/// The id and the starting cell of each snake, in the order of the seats.
 #[derive(Debug, Drop)]
 pub struct Starts {
     starts: Vec<(Id, Point)>,
@@ -31,21 +31,21 @@ impl Model for Starts {
 impl Starts {
     ghost use Rattle.std.specs.Prelude.{IfOk, length};
 
-    /// The list of these entries, in their order.
+    /// Makes the list of these entries, in order.
     pub fn from_vec(starts: Vec<(Id, Point)>) -> Starts
         ensures { result ≡ starts.items }
     {
         Starts { starts }
     }
 
-    /// The entries, in their order.
+    /// The entries, in order.
     pub fn as_slice(&self) -> &[(Id, Point)]
         ensures { result.now ≡ self.now }
     {
         self.starts.as_slice()
     }
 
-    /// The same value in memory of its own.
+    /// Copies the list.
     pub fn copy(&self, alloc: Global) -> Result<Starts, AllocError>
         ensures { IfOk result (λ starts. starts ≡ self.now) }
     {
@@ -105,7 +105,7 @@ fn have_fit_members(width: u8, height: u8, starts: &[(Id, Point)]) -> bool
         .all(|start| is_fit_start(width, height, start))
 }
 
-/// Whether the snakes may start so: 1 to 8 of them, all on the board, no id and no cell twice.
+/// Whether the snakes may start so: 1 to 8, all on the board, with distinct ids and cells.
 pub fn are_fit_starts(width: u8, height: u8, starts: &[(Id, Point)]) -> bool
     ensures { result ≡ are_fit_starts width height starts.now }
 {

@@ -1,11 +1,11 @@
-//! The words that a move brings.
+//! The words of a move.
 
 ghost use Rattle.std.specs.Prelude.{◌≡◌};
 
 use std::alloc::{AllocError, Global};
 use std::marker::Model;
 
-/// The words that decide where food appears in one turn, the next to be taken first.
+/// The words that decide where food appears in a turn. The first is used first.
 #[derive(Debug, Drop)]
 pub struct Words {
     words: Vec<u32>,
@@ -24,14 +24,14 @@ impl Model for Words {
 impl Words {
     ghost use Rattle.std.specs.Prelude.{◌<◌, ◌^◌, All, IfOk};
 
-    /// The list of these entries, in their order.
+    /// Makes the list of these entries, in order.
     pub fn from_vec(words: Vec<u32>) -> Words
         ensures { result ≡ words.items }
     {
         Words { words }
     }
 
-    /// The entries, in their order.
+    /// The entries, in order.
     pub fn as_slice(&self) -> &[u32]
         ensures value { result.now ≡ self.now }
         ensures fits { All (λ word. word < 2 ^ 32) self.now }
@@ -39,7 +39,7 @@ impl Words {
         self.words.as_slice()
     }
 
-    /// The same value in memory of its own.
+    /// Copies the list.
     pub fn copy(&self, alloc: Global) -> Result<Words, AllocError>
         ensures { IfOk result (λ words. words ≡ self.now) }
     {

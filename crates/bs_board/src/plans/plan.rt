@@ -1,4 +1,4 @@
-//! The games of a plan, in its order.
+//! The games of a plan, in order.
 
 ghost use Rattle.std.specs.Prelude.{◌≡◌, true, All, IfOk};
 ghost use Rattle.std.specs.List.{list_any};
@@ -17,7 +17,7 @@ fn has_name(rows: &[Row], row: &Row) -> bool
     rows.iter().any(|other| row.game.is_same(&other.game))
 }
 
-/// Whether no name stands twice.
+/// Whether no name occurs twice.
 pub fn have_distinct_names(rows: &[Row]) -> bool
     ensures { result ≡ have_distinct_names rows.now }
 {
@@ -29,7 +29,7 @@ pub fn have_distinct_names(rows: &[Row]) -> bool
     true
 }
 
-/// The games of a plan in its order, at most 64, no name twice.
+/// The games of a plan in order, at most 64, with distinct names.
 #[derive(Debug, Drop)]
 pub struct Rows {
     rows: Vec<Row>,
@@ -53,8 +53,7 @@ fn row_fits(row: &Row)
 }
 
 #[tactic(auto, using(crate::proofs::Seen::all_and_next, crate::proofs::Seen::all_seen))]
-/// That each game is within its limits, as any `Row` is. It is said here of a whole list, and does
-/// nothing.
+/// Recalls for the prover that each game of a list is within its limits, as any `Row` is.
 fn rows_fit(rows: &[Row])
     ensures { All (λ row. is_fit_row row ≡ true) rows.now }
 {
@@ -67,7 +66,7 @@ impl Rows {
     ghost use Rattle.std.specs.Prelude.{◌≤◌, true, length};
     ghost use Rattle.bs_board.specs.plans.Plan.{GameRow, IsFitPlan};
 
-    /// The list of these entries, in their order.
+    /// Makes the list of these entries, in order.
     pub fn from_vec(rows: Vec<Row>) -> Rows
         requires distinct { have_distinct_names rows.items ≡ true }
         requires few { length rows.items ≤ MOST_ROWS }
@@ -77,7 +76,7 @@ impl Rows {
         Rows { rows }
     }
 
-    /// The entries, in their order.
+    /// The entries, in order.
     pub fn as_slice(&self) -> &[Row]
         ensures value { result.now ≡ self.now }
         ensures fits { IsFitPlan self.now }
@@ -85,7 +84,7 @@ impl Rows {
         self.rows.as_slice()
     }
 
-    /// The same value in memory of its own.
+    /// Copies the list.
     pub fn copy(&self, alloc: Global) -> Result<Rows, AllocError>
         ensures { IfOk result (λ rows. rows ≡ self.now) }
     {
@@ -105,7 +104,7 @@ pub struct Plan {
 }
 
 impl Plan {
-    /// The same value in memory of its own.
+    /// Copies the plan.
     pub fn copy(&self, alloc: Global) -> Result<Plan, AllocError>
         ensures { IfOk result (λ plan. plan ≡ self.now) }
     {

@@ -11,7 +11,7 @@ use std::marker::Model;
 #[derive(Debug, Drop)]
 pub struct Row {
     pub game: Id,
-    /// The most that the game's records may be charged, 16 to 16,777,216 bytes.
+    /// The largest charge of the game's records, 16 to 16,777,216 bytes.
     pub quota: u32,
 }
 
@@ -30,7 +30,7 @@ impl Row {
     ghost use Rattle.std.specs.Prelude.{Some, None, if◌then◌else◌};
     ghost use Rattle.bs_board.specs.plans.Plan.{GameRow, row_of, is_fit_row};
 
-    /// None exactly where the name or the quota is out of its range.
+    /// Makes a row. `None` exactly if the name or the quota is out of range.
     pub fn new(game: Id, quota: u32) -> Option<Row>
         ensures { result ≡ (if is_fit_row (row_of game quota) then Some (row_of game quota) else None) }
     {
@@ -41,7 +41,7 @@ impl Row {
         }
     }
 
-    /// The same value in memory of its own.
+    /// Copies the row.
     pub fn copy(&self, alloc: Global) -> Result<Row, AllocError>
         ensures { IfOk result (λ row. row ≡ self.now) }
     {

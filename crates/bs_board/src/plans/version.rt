@@ -3,7 +3,7 @@
 ghost use Rattle.std.specs.Prelude.{◌≡◌};
 ghost use Rattle.bs_board.specs.plans.Version.{has_stays, has_wrapped, version_number, version_numbered};
 
-/// A version of the format of command files. Each has all that the versions before it have.
+/// A version of the format of command files. Each includes all of the versions before it.
 #[derive(Clone, Copy, Debug, PartialEq, Eq)]
 pub enum Version {
     One,
@@ -14,7 +14,7 @@ pub enum Version {
 }
 
 impl Version {
-    /// The version of that number, `None` for any other number.
+    /// The version of that number; `None` for any other number.
     pub fn from_number(number: u64) -> Option<Version>
         ensures { result ≡ version_numbered number }
     {
@@ -26,7 +26,7 @@ impl Version {
         }
     }
 
-    /// The number that a plan gives for the version.
+    /// The number of the version in a plan.
     pub fn number(self) -> u8
         ensures { result ≡ version_number self }
     {

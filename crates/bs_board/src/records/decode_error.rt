@@ -6,7 +6,7 @@ use thiserror::Error;
 /// Why bytes were not read as a board.
 #[derive(Clone, Copy, Debug, PartialEq, Eq, Error)]
 pub enum Decode {
-    /// The bytes are the record of no legal board.
+    /// The bytes are not the record of a legal board.
     #[error("not the record of a legal board")]
     NotARecord,
     #[error("out of memory")]

@@ -1,4 +1,4 @@
-//! Reading the record of a board.
+//! Decodes the record of a board.
 
 ghost use Rattle.std.specs.Prelude.{◌≡◌, true, false, IfOk, MatchOption, MatchResult};
 ghost use Rattle.std.specs.Str.{is_utf8};
@@ -33,12 +33,12 @@ use crate::id::Id;
 use crate::records::decode_error::Decode;
 use std::alloc::Global;
 
-/// The board that the bytes are the record of. `NotARecord` where they are no legal board's, for
-/// one because anything follows the last snake; `Memory` for want of memory alone.
+/// Decodes a board from its record. `NotARecord` if the bytes are not the record of a legal board,
+/// trailing bytes included; `Memory` only if memory runs out.
 pub fn decode(alloc: Global, bytes: &[u8]) -> Result<Board, Decode>
-    // What is read is a legal board, and the bytes are its record.
+    // The result is a legal board, and the bytes are its record.
     ensures found { IfOk result (λ b. IsLegal b × (bytes.now ≡ record_of b)) }
-    // The record of a legal board is read unless memory runs out.
+    // The record of a legal board is decoded unless memory runs out.
     ensures only { (b : AnyBoard) → IsLegal b → bytes.now ≡ record_of b
         → MatchResult result (λ read. read ≡ b) (λ error. error ≡ Memory) }
 {
@@ -46,7 +46,7 @@ pub fn decode(alloc: Global, bytes: &[u8]) -> Result<Board, Decode>
     if_legal(board)
 }
 
-/// The board itself where it is legal.
+/// Returns the board if it is legal.
 fn if_legal(board: Board) -> Result<Board, Decode>
     ensures { MatchResult result (λ b. IsLegal board × (b ≡ board)) (λ error. (error ≡ NotARecord) × (IsLegal board → ⊥)) }
 {
@@ -57,7 +57,7 @@ fn if_legal(board: Board) -> Result<Board, Decode>
     }
 }
 
-/// What stands before the cells of the food.
+/// The fields before the cells of the food.
 #[derive(Drop)]
 pub(crate) struct Head {
     pub(crate) mode: Mode,
@@ -70,7 +70,7 @@ pub(crate) struct Head {
     pub(crate) food: u16,
 }
 
-/// What stands between the id and the parts of a snake.
+/// The fields between the id and the parts of a snake.
 #[derive(Drop)]
 struct State {
     health: u8,
@@ -80,7 +80,7 @@ struct State {
     parts: u16,
 }
 
-/// The mode with that version and byte; any other pair is in no record.
+/// The mode of that version and byte. No record has any other pair.
 fn mode_from_bytes(version: u8, byte: u8) -> Result<Mode, Decode>
     ensures { Gives (λ mode. mode) result (mode_from_bytes version byte) }
 {
@@ -119,7 +119,7 @@ pub(crate) fn out_from_number(number: u16) -> Option<u16>
     if number == 0 { None } else { Some(number) }
 }
 
-/// The higher byte first.
+/// Reads a number of two bytes, the higher byte first.
 pub(crate) fn from_two_bytes(high: u8, low: u8) -> u16
     ensures { result ≡ from_two_bytes high low }
 {
@@ -170,7 +170,7 @@ fn read_state(bytes: &[u8]) -> Result<(State, &[u8]), Decode>
     }
 }
 
-/// So many cells, whose numbers were raised by so much.
+/// Reads `count` cells, each coordinate stored with `raised` added.
 pub(crate) fn read_cells(
     alloc: Global,
     count: u16,
@@ -189,7 +189,7 @@ pub(crate) fn read_cells(
     Ok((cells, rest))
 }
 
-/// A length, and so many bytes.
+/// Reads a length, then that many bytes.
 #[tactic(auto, unfolding(crate::specs::records::Decoder::read_piece))]
 pub(crate) fn read_piece(bytes: &[u8]) -> Result<(&[u8], &[u8]), Decode>
     ensures { Gives (λ x. (x.0.now, x.1.now)) result (read_piece bytes.now) }
@@ -294,7 +294,7 @@ pub(crate) fn read_head(bytes: &[u8]) -> Result<(Head, &[u8]), Decode>
     }
 }
 
-/// A board, legal or not, from all of the bytes.
+/// Reads a board, legal or not, that takes all of the bytes.
 #[tactic(auto, unfolding(crate::specs::records::Decoder::read_board))]
 pub(crate) fn read_board(alloc: Global, bytes: &[u8]) -> Result<Board, Decode>
     ensures { Gives (λ b. b) result (read_board is_utf8 bytes.now) }

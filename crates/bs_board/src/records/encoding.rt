@@ -1,4 +1,4 @@
-//! Writing the record of a board.
+//! Encodes the record of a board.
 
 ghost use Rattle.std.specs.Prelude.{◌≡◌, ◌+◌, ◌<◌, ◌≤◌, ◌*◌, ◌∷◌, ◌+ℤ◌, nat_abs, true, length, All, flat_map, pos, MatchOption, IfOk, OnOk};
 ghost use Rattle.bs_board.specs.boards.Legal.{IsLegal};
@@ -23,7 +23,7 @@ use crate::id::Id;
 use crate::records::sizes::size;
 use std::alloc::{AllocError, Global};
 
-/// The record of a legal board, at most 161,885 bytes.
+/// Encodes a legal board as its record of at most 161,885 bytes.
 #[tactic(auto, using(crate::proofs::records::Longest::legal_size_fits))]
 pub fn encode(alloc: Global, board: &Board) -> Result<Vec<u8>, AllocError>
     requires { IsLegal board.now }
@@ -34,7 +34,7 @@ pub fn encode(alloc: Global, board: &Board) -> Result<Vec<u8>, AllocError>
     Ok(bytes)
 }
 
-/// Writes the record of a legal board over all of a slice of the record's length.
+/// Writes the record of a legal board over a whole slice of the record's length.
 pub fn encode_into(board: &Board, into: &mut [u8])
     requires legal { IsLegal board.now }
     requires room { length into.old ≡ length (record_of board.now) }
@@ -45,7 +45,7 @@ pub fn encode_into(board: &Board, into: &mut [u8])
     put_snakes(into, snakes, board.snakes.as_slice());
 }
 
-/// What stands before the cells of the food.
+/// The bytes before the cells of the food.
 fn head_bytes(board: &Board) -> [u8; 11]
     requires snakes { length board.now.snakes < 256 }
     requires food { length board.now.food < 65536 }
@@ -68,7 +68,7 @@ fn head_bytes(board: &Board) -> [u8; 11]
     ]
 }
 
-/// Writes bytes from a place on, and answers the place behind them.
+/// Writes the bytes from index `at` on, and returns the index after them.
 fn put(into: &mut [u8], at: usize, bytes: &[u8]) -> usize
     requires { at + length bytes.now ≤ length into.old }
     ensures { Puts at bytes.now into.old into.new result }
@@ -95,7 +95,7 @@ fn mode_byte(mode: Mode) -> u8
     }
 }
 
-/// The record's version, which depends on the mode alone.
+/// The version of the record, which depends on the mode alone.
 fn version_byte(mode: Mode) -> u8
     ensures { result ≡ version_byte mode }
 {
@@ -130,7 +130,7 @@ fn killer_byte(killer: Option<usize>) -> u8
     }
 }
 
-/// A column or a row, raised by so much.
+/// A coordinate with `raised` added, as a byte.
 fn raised_byte(number: i16, raised: u8) -> u8
     requires { IsByte (number +ℤ pos raised) }
     ensures { result ≡ nat_abs (number +ℤ pos raised) }
@@ -151,7 +151,7 @@ fn put_cell(into: &mut [u8], at: usize, cell: Point, raised: u8) -> usize
 }
 
 #[tactic(auto, using(crate::proofs::records::Parts::puts_nothing, crate::proofs::records::Parts::puts_next, crate::proofs::records::Parts::cell_room))]
-/// Cells with both numbers raised by so much.
+/// Writes the cells, each coordinate with `raised` added.
 fn put_cells(into: &mut [u8], at: usize, cells: &[Point], raised: u8) -> usize
     requires room { at + 2 * length cells.now ≤ length into.old }
     requires bytes { All (IsByteCell raised) cells.now }
@@ -164,7 +164,7 @@ fn put_cells(into: &mut [u8], at: usize, cells: &[Point], raised: u8) -> usize
     next
 }
 
-/// The length of an id, and the id.
+/// Writes the length of an id, then the id.
 #[tactic(auto, using(crate::proofs::records::Parts::puts_both))]
 fn put_id(into: &mut [u8], at: usize, id: &Id) -> usize
     requires room { at + 1 + length id.now ≤ length into.old }
@@ -176,7 +176,7 @@ fn put_id(into: &mut [u8], at: usize, id: &Id) -> usize
     put(into, next, bytes)
 }
 
-/// What stands between the id and the parts of a snake.
+/// The bytes between the id and the parts of a snake.
 fn state_bytes(snake: &Snake) -> [u8; 7]
     requires { IsWritable snake.now }
     ensures { result ≡ state_bytes snake.now }

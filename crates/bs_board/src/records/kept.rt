@@ -1,11 +1,8 @@
-//! Reading a record that is known to be a legal board's: nothing is judged again, and no more is
-//! read than is asked for.
+//! Readers of parts of a record. None reads more than it needs.
 
-ghost use Rattle.std.specs.Prelude.{◌≡◌, [], take, drop, Ok, IfOk, IfErr};
+ghost use Rattle.std.specs.Prelude.{◌≡◌, Ok, IfOk, IfErr};
 ghost use Rattle.std.specs.Str.{is_utf8};
-ghost use Rattle.bs_board.specs.declared.boards.board.Board.{Board as AnyBoard};
 ghost use Rattle.bs_board.specs.declared.records.decode_error.Decode.TheVariants.{Memory};
-ghost use Rattle.bs_board.specs.boards.Legal.{IsLegal};
 ghost use Rattle.bs_board.specs.records.Decoder.{
   Gives,
   read_ground,
@@ -15,54 +12,15 @@ ghost use Rattle.bs_board.specs.records.Decoder.{
   skip_snakes,
   read_seats,
 };
-ghost use Rattle.bs_board.specs.records.Kept.{IsLegalRecord};
-ghost use Rattle.bs_board.specs.records.Record.{record_of};
 
 use crate::boards::board::Board;
 use crate::boards::snakes::Snakes;
 use crate::records::decode_error::Decode;
-use crate::records::decoding::{
-    from_two_bytes, read_board, read_cells, read_head, read_piece, read_snakes,
-};
+use crate::records::decoding::{from_two_bytes, read_cells, read_head, read_piece, read_snakes};
 use std::alloc::{AllocError, Global};
 
-/// The board of the record.
-#[tactic(auto, using(crate::proofs::records::KeptRecord::board_fails_for_memory))]
-pub fn kept_board(alloc: Global, bytes: &[u8]) -> Result<Board, AllocError>
-    requires { IsLegalRecord bytes.now }
-    ensures legal { IfOk result IsLegal }
-    ensures record { IfOk result (λ board. bytes.now ≡ record_of board) }
-    ensures only { (b : AnyBoard) → IsLegal b → bytes.now ≡ record_of b → IfOk result (λ board. board ≡ b) }
-{
-    found(read_board(alloc, bytes))
-}
-
-/// The board of the record with nobody on it: all that it says but for its snakes.
-#[tactic(auto, using(crate::proofs::records::KeptRecord::ground_fails_for_memory))]
-pub fn kept_ground(alloc: Global, bytes: &[u8]) -> Result<Board, AllocError>
-    requires { IsLegalRecord bytes.now }
-    ensures { (b : AnyBoard) → IsLegal b → bytes.now ≡ record_of b → IfOk result (λ board. board ≡ record b { snakes = [] }) }
-{
-    found(read_ground(alloc, bytes))
-}
-
-/// The snakes of the record at `count` seats, from the seat `from` on; fewer where the board has no
-/// more. The others are skipped by their lengths.
-#[tactic(auto, using(crate::proofs::records::KeptRecord::seats_fail_for_memory))]
-pub fn kept_snakes(
-    alloc: Global,
-    bytes: &[u8],
-    from: usize,
-    count: usize,
-) -> Result<Snakes, AllocError>
-    requires { IsLegalRecord bytes.now }
-    ensures { (b : AnyBoard) → IsLegal b → bytes.now ≡ record_of b → IfOk result (λ snakes. snakes ≡ take count (drop from b.snakes)) }
-{
-    found(read_seats(alloc, bytes, from, count))
-}
-
-/// What was read where it is known to stand: the allocator alone can have failed.
-fn found<T>(read: Result<T, Decode>) -> Result<T, AllocError>
+/// Unwraps a read that can fail only for memory.
+pub(crate) fn found<T>(read: Result<T, Decode>) -> Result<T, AllocError>
     requires { IfErr read (λ error. error ≡ Memory) }
     ensures { IfOk result (λ x. read ≡ Ok x) }
 {
@@ -74,7 +32,7 @@ fn found<T>(read: Result<T, Decode>) -> Result<T, AllocError>
 }
 
 #[tactic(auto, unfolding(crate::specs::records::Decoder::read_ground))]
-fn read_ground(alloc: Global, bytes: &[u8]) -> Result<Board, Decode>
+pub(crate) fn read_ground(alloc: Global, bytes: &[u8]) -> Result<Board, Decode>
     ensures { Gives (λ board. board) result (read_ground bytes.now) }
 {
     let (head, rest) = read_head(bytes)?;
@@ -91,7 +49,7 @@ fn read_ground(alloc: Global, bytes: &[u8]) -> Result<Board, Decode>
     })
 }
 
-/// What follows so many cells, of two bytes each.
+/// Skips `count` cells of two bytes each.
 #[tactic(auto, unfolding(crate::specs::records::Decoder::skip_cells))]
 fn skip_cells(count: u16, bytes: &[u8]) -> Result<&[u8], Decode>
     ensures { Gives (λ rest. rest.now) result (skip_cells count bytes.now) }
@@ -103,7 +61,7 @@ fn skip_cells(count: u16, bytes: &[u8]) -> Result<&[u8], Decode>
     Ok(&bytes[len..])
 }
 
-/// The number of a snake's parts, which is the last of what stands between its id and them.
+/// Skips to the parts of a snake, whose number is the last field before them.
 #[tactic(auto, unfolding(crate::specs::records::Decoder::skip_state))]
 fn skip_state(bytes: &[u8]) -> Result<(u16, &[u8]), Decode>
     ensures { Gives (λ x. (x.0, x.1.now)) result (skip_state bytes.now) }
@@ -136,7 +94,12 @@ fn skip_snakes(count: usize, bytes: &[u8]) -> Result<&[u8], Decode>
 }
 
 #[tactic(auto, unfolding(crate::specs::records::Decoder::read_seats))]
-fn read_seats(alloc: Global, bytes: &[u8], from: usize, count: usize) -> Result<Snakes, Decode>
+pub(crate) fn read_seats(
+    alloc: Global,
+    bytes: &[u8],
+    from: usize,
+    count: usize,
+) -> Result<Snakes, Decode>
     ensures { Gives (λ snakes. snakes) result (read_seats is_utf8 from count bytes.now) }
 {
     let (head, rest) = read_head(bytes)?;

@@ -1,17 +1,15 @@
-//! Legal boards that are kept as their records.
+//! Legal boards, kept as their records.
 
 use crate::boards::board::Board;
-use crate::records::encoding::encode;
-use crate::records::kept::kept_board;
+use crate::records::record::Record;
 use std::alloc::{AllocError, Global};
 use std::marker::Model;
 
-/// A legal board that lies in memory as its record, which is smaller than the board and one piece.
-/// Clauses see the board.
+/// A legal board, kept as its record, which is smaller than the board. It is one pointer, so that a
+/// reply of any kind takes two words. Contracts see the board.
 #[derive(Debug, Drop)]
 pub struct KeptBoard {
-    /// Behind a pointer, so that a reply of any kind is two words.
-    bytes: Box<Vec<u8>>,
+    record: Record,
 }
 
 impl Model for KeptBoard {
@@ -20,69 +18,67 @@ impl Model for KeptBoard {
 
     ghost Value = { Board };
 
-    ghost view = { λ k. board_in k.bytes.value.items };
+    ghost view = { λ k. board_in k.record };
 
-    ghost invariant = { λ k. IsLegalRecord k.bytes.value.items };
+    ghost invariant = { λ k. IsLegalRecord k.record };
 }
 
 impl KeptBoard {
     ghost use Rattle.std.specs.Prelude.{◌≡◌, IfOk};
     ghost use Rattle.bs_board.specs.declared.boards.board.Board.{Board as AnyBoard};
     ghost use Rattle.bs_board.specs.boards.Legal.{IsLegal};
-    ghost use Rattle.bs_board.specs.records.Kept.{IsLegalRecord, board_in};
     ghost use Rattle.bs_board.specs.records.Record.{record_of};
 
-    /// The board of these bytes, which are a legal board's record.
+    /// The board of a record.
     #[tactic(auto, using(crate::proofs::records::KeptRecord::only_board_in))]
-    fn from_vec(alloc: Global, bytes: Vec<u8>) -> Result<KeptBoard, AllocError>
-        requires { IsLegalRecord bytes.items }
-        ensures { IfOk result (λ kept. kept ≡ board_in bytes.items) }
+    pub fn of_record(shared: Record) -> KeptBoard
+        ensures { (b : AnyBoard) → IsLegal b → shared ≡ record_of b → result ≡ b }
     {
-        Ok(KeptBoard {
-            bytes: Box::new(alloc, bytes)?,
-        })
+        let _bytes = shared.as_slice();
+        KeptBoard { record: shared }
     }
 
-    /// The board of a record, which is copied.
-    #[tactic(auto, using(crate::proofs::records::KeptRecord::only_board_in))]
-    pub fn of_record(alloc: Global, bytes: &[u8]) -> Result<KeptBoard, AllocError>
-        requires { IsLegalRecord bytes.now }
-        ensures { (b : AnyBoard) → IsLegal b → bytes.now ≡ record_of b → IfOk result (λ kept. kept ≡ b) }
-    {
-        KeptBoard::from_vec(alloc, Vec::from_slice(alloc, bytes)?)
-    }
-
-    /// A legal board, written as its record.
-    #[tactic(auto, using(crate::proofs::records::KeptRecord::only_board_in))]
+    /// Encodes a legal board.
     pub fn of(alloc: Global, board: &Board) -> Result<KeptBoard, AllocError>
         requires { IsLegal board.now }
         ensures { IfOk result (λ kept. kept ≡ board.now) }
     {
-        KeptBoard::from_vec(alloc, encode(alloc, board)?)
+        Ok(KeptBoard::of_record(Record::of(alloc, board)?))
     }
 
-    /// The board, read from its record.
+    /// Decodes the board.
     #[tactic(auto, using(crate::proofs::records::KeptRecord::legal_board_in, crate::proofs::records::KeptRecord::record_of_board_in))]
     pub fn board(&self, alloc: Global) -> Result<Board, AllocError>
         ensures value { IfOk result (λ board. board ≡ self.now) }
         ensures legal { IsLegal self.now }
     {
-        kept_board(alloc, self.bytes.as_slice())
+        self.record.board(alloc)
     }
 
-    /// The record of the board, which is legal.
+    /// The record of the board.
+    #[tactic(auto, using(crate::proofs::records::KeptRecord::record_of_board_in))]
+    pub fn shared(&self) -> &Record
+        ensures value { result.now ≡ record_of self.now }
+        ensures legal { IsLegal self.now }
+    {
+        &self.record
+    }
+
+    /// The bytes of the board's record.
     #[tactic(auto, using(crate::proofs::records::KeptRecord::record_of_board_in))]
     pub fn record(&self) -> &[u8]
         ensures value { result.now ≡ record_of self.now }
         ensures legal { IsLegal self.now }
     {
-        self.bytes.as_slice()
+        self.record.as_slice()
     }
 
-    /// The same value in memory of its own.
-    pub fn copy(&self, alloc: Global) -> Result<KeptBoard, AllocError>
+    /// Adds a handle to the same record, in no memory of its own.
+    pub fn share(&self) -> Result<KeptBoard, AllocError>
         ensures { IfOk result (λ kept. kept ≡ self.now) }
     {
-        KeptBoard::from_vec(alloc, Vec::from_slice(alloc, self.bytes.as_slice())?)
+        Ok(KeptBoard {
+            record: self.record.share()?,
+        })
     }
 }

@@ -70,7 +70,7 @@ fn split_id(bytes: &[u8]) -> (&[u8], &[u8])
     }
 }
 
-/// The cause that a record's byte stands for.
+/// The cause of that byte in a record.
 fn known_cause(byte: u8) -> Option<Cause>
     ensures { result ≡ unwrap_or (cause_from_byte byte) None }
 {
@@ -84,7 +84,7 @@ fn known_cause(byte: u8) -> Option<Cause>
     }
 }
 
-/// The mode that a record's version and byte stand for.
+/// The mode of that version and byte in a record.
 fn known_mode(version: u8, byte: u8) -> Mode
     ensures { result ≡ unwrap_or (mode_from_bytes version byte) Standard }
 {

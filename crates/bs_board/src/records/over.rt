@@ -1,4 +1,4 @@
-//! Whether a game is over, by the record of its newest board with no board decoded.
+//! Whether a game is over, read from the record of its newest board without decoding it.
 
 ghost use Rattle.std.specs.Prelude.{◌≡◌, ◌++◌, ◌*◌, ◌≤◌, ℕ, List, drop, length, flat_map, count_by, nat_eq, if◌then◌else◌};
 ghost use Rattle.bs_board.specs.declared.boards.board.Board.{Board as AnyBoard};
@@ -8,13 +8,13 @@ ghost use Rattle.bs_board.specs.records.Record.{cell_bytes, record_of, snake_rec
 
 use crate::records::decoding::from_two_bytes;
 
-/// How many bytes a cell has.
+/// The number of bytes of a cell.
 const CELL: usize = 2;
 
 /// The mode's byte of a solo game, which goes on while one snake lives.
 const SOLO: u8 = 1;
 
-/// What follows so many bytes.
+/// Skips `count` bytes.
 fn behind(count: usize, bytes: &[u8]) -> &[u8]
     ensures { result.now ≡ drop count bytes.now }
 {
@@ -25,7 +25,7 @@ fn behind(count: usize, bytes: &[u8]) -> &[u8]
     }
 }
 
-/// Whether the snake lives of which this is what follows its id, and what follows the snake.
+/// Reads a snake's state and skips its body: whether it is alive, and the rest.
 fn pass_state(bytes: &[u8]) -> (bool, &[u8])
     ensures { (s : AnySnake) (rest : List ℕ) → bytes.now ≡ state_bytes s ++ (flat_map (cell_bytes 1) s.body ++ rest)
         → (result.0 ≡ is_living s) × (result.1.now ≡ rest) }
@@ -39,7 +39,7 @@ fn pass_state(bytes: &[u8]) -> (bool, &[u8])
     }
 }
 
-/// Whether the first snake lives, and what follows it.
+/// Whether the first snake is alive, and the bytes after it.
 fn pass_snake(bytes: &[u8]) -> (bool, &[u8])
     ensures { (s : AnySnake) (rest : List ℕ) → bytes.now ≡ snake_record s ++ rest → (result.0 ≡ is_living s) × (result.1.now ≡ rest) }
 {
@@ -55,7 +55,7 @@ fn count_if(lives: bool) -> usize
     if lives { 1 } else { 0 }
 }
 
-/// How many live of so many snakes.
+/// Counts the living among the first `count` snakes.
 fn count_living(count: usize, bytes: &[u8]) -> usize
     ensures { (snakes : List AnySnake) → length snakes ≡ count → bytes.now ≡ flat_map snake_record snakes → result ≡ count_by is_living snakes }
 {
@@ -82,14 +82,14 @@ fn snakes_of_record(bytes: &[u8]) -> &[u8]
     }
 }
 
-/// How many snakes may live when a game of that mode is over.
+/// The largest number of living snakes with which a game of that mode is over.
 fn last_living(mode: u8) -> usize
     ensures { result ≡ (if nat_eq mode 1 then 0 else 1) }
 {
     if mode == SOLO { 0 } else { 1 }
 }
 
-/// Whether the game is over on the board whose record the bytes are.
+/// Whether the game is over, by the record of its board.
 pub fn over_of_record(bytes: &[u8]) -> bool
     requires { 9 ≤ length bytes.now }
     ensures { (b : AnyBoard) → bytes.now ≡ record_of b → result ≡ is_over b }

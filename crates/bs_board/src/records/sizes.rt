@@ -1,4 +1,4 @@
-//! How long the record of a board is.
+//! The length of a board's record.
 
 ghost use Rattle.std.specs.Prelude.{◌≡◌, ◌+◌, ◌<◌, ◌^◌, length, sum_by};
 ghost use Rattle.bs_board.specs.records.Record.{record_of, snake_record};
@@ -7,8 +7,8 @@ use crate::boards::board::Board;
 use crate::boards::snake::Snake;
 use crate::records::snake::snake_size;
 
-/// How many bytes the board's record has. It is asked of boards whose record has a length at all; a
-/// legal board's has at most 161,885.
+/// The length of the board's record in bytes: at most 161,885 for a legal board. Requires that the
+/// length fits a `usize`.
 #[tactic(auto, using(crate::proofs::records::Lengths::length_of_record))]
 pub fn size(board: &Board) -> usize
     requires { length (record_of board.now) < 2 ^ 64 }

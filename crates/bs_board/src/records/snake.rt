@@ -37,9 +37,9 @@ pub fn encode_snake_into(snake: &Snake, into: &mut [u8])
     put_snake(into, 0, snake);
 }
 
-/// Reads a snake from its part of a record. A snake that has just moved is read too: health 0, or
-/// its head off the board, with no cause yet. `NotARecord` where the bytes are not those of a fit
-/// snake, or where any byte follows them; `Memory` only if memory runs out.
+/// Decodes a snake from its record. `NotARecord` if the bytes are not the record of a fit snake,
+/// trailing bytes included; `Memory` only if memory runs out. A snake that has just moved is fit
+/// too: it may have health 0, or its head off the board, with no cause yet.
 pub fn decode_snake(alloc: Global, bytes: &[u8]) -> Result<Snake, Decode>
     // The snake that is read is fit, and the bytes are its part of a record.
     ensures found { IfOk result (λ s. IsFitSnake s × (bytes.now ≡ snake_record s)) }
@@ -63,7 +63,7 @@ fn read_only_snake(alloc: Global, bytes: &[u8]) -> Result<Snake, Decode>
     Ok(snake)
 }
 
-/// Returns the snake itself where it is fit.
+/// Returns the snake if it is fit.
 fn if_fit(snake: Snake) -> Result<Snake, Decode>
     ensures { MatchResult result
         (λ s. IsFitSnake snake × (s ≡ snake))
@@ -94,7 +94,7 @@ fn is_out_in_range(out: Option<u16>) -> bool
     }
 }
 
-/// Tests whether no cell is more than one beyond an edge of the largest board.
+/// Whether no cell is more than one cell outside the largest board.
 fn are_near(body: &[Point]) -> bool
     ensures { IsTrue result ↔ All (λ p. is_near LONGEST_SIDE LONGEST_SIDE p ≡ true) body.now }
 {
@@ -102,7 +102,7 @@ fn are_near(body: &[Point]) -> bool
         .all(|part| is_near(LONGEST_SIDE, LONGEST_SIDE, *part))
 }
 
-/// Tests each field of the snake by itself, in the order of its record.
+/// Checks each field of the snake by itself, in the order of its record.
 fn is_fit_snake(snake: &Snake) -> bool
     ensures { IsTrue result ↔ IsFitSnake snake.now }
 {

@@ -1,4 +1,4 @@
--- `deallocate` makes one block of the places, whatever they hold, and hands it back with the
+-- `deallocate` joins the places, whatever they hold, into one block and returns it with the
 -- allocator's token. Assumes `Logic`.
 use mathlib.Core.Path.{◌≡◌, refl, sym, ap, subst, ◌∙◌}
 use Prim.Native.Nat.{ℕ}

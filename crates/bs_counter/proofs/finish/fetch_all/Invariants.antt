@@ -4,7 +4,7 @@ use Rattle.bs_counter.specs.Tally.{IsSeatAt}
 use Rattle.bs_counter.specs.Outcomes.{AreOutcomes}
 use Rattle.bs_counter.proofs.finish.fetch_all.Given as goal
 
--- the outcomes before this part are out
+-- the outcomes before this part are taken
 abbrev pub invariant-loop-part : goal.invariant-loop-part
 invariant-loop-part g l = record {
   seat : IsSeatAt l.tally.shared.table_id l.seat;

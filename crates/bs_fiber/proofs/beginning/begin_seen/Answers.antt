@@ -4,7 +4,7 @@ use Rattle.bs_fiber.specs.Work.{begun}
 use Rattle.bs_fiber.proofs.Seen.{begun_once}
 use Rattle.bs_fiber.proofs.beginning.begin_seen.Goals as goal
 
--- what comes of the view that was seen comes of each
+-- the outcome in the view that was read is the one in each view
 pub returns : goal.returns
 returns c =
     IfOk-weaker c.begin_on.result _ _

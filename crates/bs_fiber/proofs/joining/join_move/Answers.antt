@@ -11,7 +11,7 @@ joined_within-requires g c =
     moved_from_some c.args.input.now c.args.orders.now c.args.last.now c.requires.fit c.requires.kind c.requires.command c.requires.last c.in_ok-moved.moved
     (λ b legal is. c.in_ok-moved.ensures b legal is ∙ ap (λ (parts : List (List Snake)). record b { snakes = flat_map (λ part. part) parts }) c.as_slice.ensures)
 
--- what is answered is the answer in each view that is seen
+-- the answer is the one in each view
 pub returns-clause-value : goal.returns-clause-value
 returns-clause-value g c =
     IfOk-weaker c.joined_within.result _ _

@@ -11,5 +11,5 @@ write_record-requires g c =
     let block = bytes_at c.args.frames.now.items c.args.parts.now 0 c.index_mut.result.now first c.requires.frames (omega (arith, c.requires.some)) c.index_mut.ensures.value c.index-parts-0.is in
     let room =
     record_has_room c.args.quota c.args.charge c.args.effect.now c.in-Add.record c.index_mut.result.now.block first c.requires.fits c.in-Add.is c.keeps.ensures.few c.keeps.ensures.fit block in
-    let size : rounded (length c.as_slice-bytes.result.now) ≡ rounded (length c.in-Add.record) = ap (λ l. rounded (length l)) c.as_slice-bytes.ensures in
+    let size : rounded (length c.as_slice-bytes.result.now) ≡ rounded (length c.in-Add.record) = ap (λ l. rounded (length l)) c.as_slice-bytes.ensures.value in
     (omega arith, omega (arith, c.requires.wide))

@@ -3,7 +3,7 @@ use Rattle.bs_heap.specs.HeldBlocks.{all_given}
 use Rattle.bs_heap.specs.Lent.{AreLent, owned_numbers}
 use Rattle.bs_heap.proofs.blocks.give_back.Given as goal
 
--- what is left is still lent, and to give it too gives all
+-- the remaining blocks are still lent, and giving them too gives all
 abbrev pub invariant-loop-owned : goal.invariant-loop-owned
 invariant-loop-owned g l =
     record {

@@ -8,7 +8,7 @@ use Rattle.bs_host.specs.Routing.{capacity_of}
 use Rattle.bs_host.proofs.CutFile.{bytes_left}
 use Rattle.bs_host.proofs.cutting.find_admitted.Given as goal
 
--- what is found among the rows that the lines that are left admit is what is looked for
+-- the result of a search in the rows that the remaining lines admit is the stay that is looked for
 abbrev pub invariant-lines : goal.invariant-lines
 invariant-lines l =
     nth_from l.guests.made (rows_by_guests (capacity_of l.file.blocks) l.file.plan.now.version l.guests (pieces_after (option_copied l.left))) l.search.name.now l.search.left

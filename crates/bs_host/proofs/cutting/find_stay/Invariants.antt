@@ -3,7 +3,7 @@ use Rattle.bs_board.specs.plans.Plan.{GameRow}
 use Rattle.bs_host.specs.Cut.{nth_from}
 use Rattle.bs_host.proofs.cutting.find_stay.Given as goal
 
--- what is found among the rows that are left, and any behind them, is what is looked for
+-- the result of a search in the remaining rows and any after them is the stay that is looked for
 abbrev pub invariant-loop-stay : goal.invariant-loop-stay
 invariant-loop-stay l =
     (more : List GameRow) → nth_from l.stay (drop l.stay l.rows ++ more) l.search.name.now l.search.left ≡ nth_from 0 (l.rows ++ more) l.name l.nth

@@ -8,7 +8,7 @@ use Rattle.bs_host.specs.Routing.{capacity_of}
 use Rattle.bs_host.proofs.CutFile.{bytes_left}
 use Rattle.bs_host.proofs.cutting.push_own_lines.Given as goal
 
--- what was written and what the lines that are left will bring
+-- the text so far, and what the remaining lines add
 abbrev pub invariant-lines : goal.invariant-lines
 invariant-lines l =
     l.text.items ++ behind_feeds (own_by_guests (capacity_of l.file.blocks) l.file.plan.now.version l.guests l.stay (pieces_after (option_copied l.left)))

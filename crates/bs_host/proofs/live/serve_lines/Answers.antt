@@ -15,6 +15,7 @@ pub loop-init : goal.loop-init
 loop-init g c = (
   refl,
   refl,
+  c.requires,
   λ plan is.
       let host = c.args.host.now in
       let pending = c.args.pending.now.items in
@@ -39,8 +40,9 @@ loop-preserved g c =
     let (more, read, got) = c.in_ok-read_more.ensures.bytes in (
       c.in_ok-answer_ready.ensures.blocks ∙ inv.0,
       c.in_ok-answer_ready.ensures.version ∙ inv.1,
+      c.in_ok-answer_ready.ensures.cores,
       λ plan is.
-          let (bytes, before, serving) = inv.2 plan is in (
+          let (bytes, before, serving) = inv.3 plan is in (
             bytes ++ more,
             consumes_both (g.R.Read.remaining c.args.input.now) (g.R.Read.remaining c.loop.input) (g.R.Read.remaining c.read_more.new.input) bytes more before read,
             subst (λ after. IsServing host.blocks host.version plan after c.read_more.new.pending.items first now count new.cores.open.items new.guests new.number)
@@ -64,7 +66,7 @@ returns-then-not-branch-clause-written g c =
     let inv = c.loop.invariant in
     let serves = rw (inv.0, inv.1) at c.in_ok-answer_ready.ensures.serving in
     let (more, read, got) = c.in_ok-read_more.ensures.bytes in
-    let (bytes, before, serving) = inv.2 plan is in
+    let (bytes, before, serving) = inv.3 plan is in
     let served : IsServing host.blocks host.version plan (pending ++ (bytes ++ more)) c.read_more.new.pending.items first now count new.cores.open.items new.guests new.number
     = subst (λ after. IsServing host.blocks host.version plan after c.read_more.new.pending.items first now count new.cores.open.items new.guests new.number)
     (append_assoc pending bytes more)
@@ -94,7 +96,7 @@ returns-in_err-answer_ready-clause-left g c =
     let left : (plan : List GameRow) → HasAnswered host.blocks host.version plan [] host.cores.open.items host.guests host.number
     → IfSome input (λ left. LeavesLines host.blocks host.version plan (pieces_of (pending ++ left)) first next fault)
     = λ plan is.
-    let (bytes, before, serving) = inv.2 plan is in
+    let (bytes, before, serving) = inv.3 plan is in
     of_lines host.blocks host.version plan input (g.R.Read.remaining c.loop.input) pending bytes first next fault before
     (λ more. stops plan (pending ++ bytes) first serving more) in
     let same : c.from_residual.result ≡ Err c.in_err-answer_ready.field-0.0 = search rules in
@@ -115,7 +117,7 @@ returns-in_err-read_more-clause-left g c =
     let left : (plan : List GameRow) → HasAnswered host.blocks host.version plan [] host.cores.open.items host.guests host.number
     → IfSome input (λ left. LeavesLines host.blocks host.version plan (pieces_of (pending ++ left)) first now fault)
     = λ plan is.
-    let (bytes, before, serving) = inv.2 plan is in
+    let (bytes, before, serving) = inv.3 plan is in
     of_lines host.blocks host.version plan input (g.R.Read.remaining c.loop.input) pending bytes first now fault before
     (λ more.
     read_leaves host.blocks host.version plan (pieces_of ((pending ++ bytes) ++ more)) first now fault c.in_err-read_more.ensures.fault
@@ -145,7 +147,7 @@ returns-in_err-end_live-clause-left g c =
     let left : (plan : List GameRow) → HasAnswered host.blocks host.version plan [] host.cores.open.items host.guests host.number
     → IfSome input (λ left. LeavesLines host.blocks host.version plan (pieces_of (pending ++ left)) first next fault)
     = λ plan is.
-    let (bytes, before, serving) = inv.2 plan is in
+    let (bytes, before, serving) = inv.3 plan is in
     let served : IsServing host.blocks host.version plan (pending ++ (bytes ++ more)) c.read_more.new.pending.items first now count new.cores.open.items new.guests new.number
     = subst (λ after. IsServing host.blocks host.version plan after c.read_more.new.pending.items first now count new.cores.open.items new.guests new.number)
     (append_assoc pending bytes more)
@@ -166,8 +168,8 @@ returns-clause-left g c =
     let pending = c.args.pending.now.items in
     let first = g.W.Write.contents c.args.output.now in
     let now = g.W.Write.contents c.loop.output in
-    let (bytes, before, serving) = c.loop.invariant.2 plan is in
-    of_lines host.blocks host.version plan (g.R.Read.remaining c.args.input.now) (g.R.Read.remaining c.loop.input) pending bytes first now live.Broken before
+    let (bytes, before, serving) = c.loop.invariant.3 plan is in
+    of_lines host.blocks host.version plan (g.R.Read.remaining c.args.input.now) (g.R.Read.remaining c.loop.input) pending bytes first now live.Memory before
     (λ more.
     serving_first host.blocks host.version plan (pending ++ bytes) c.loop.pending.items more first now c.loop.written c.loop.host.cores.open.items c.loop.host.guests
     c.loop.host.number serving)

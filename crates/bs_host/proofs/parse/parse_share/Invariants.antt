@@ -5,7 +5,7 @@ use Rattle.bs_host.specs.Parsed.{parsed_lines}
 use Rattle.bs_host.proofs.ParsedLines.{bytes_left}
 use Rattle.bs_host.proofs.parse.parse_share.Given as goal
 
--- the lines so far, then those that are left
+-- the lines so far, then the remaining ones
 abbrev pub invariant-lines : goal.invariant-lines
 invariant-lines l = l.lines.items ++ parsed_lines l.version (pieces_after (option_copied l.left)) ≡ parsed_lines l.version (pieces_of l.fn.text)
 

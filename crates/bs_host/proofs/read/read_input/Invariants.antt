@@ -3,7 +3,7 @@ use Rattle.std.specs.Io.KnownBytes.{Consumes}
 use Rattle.bs_host.specs.declared.limits.TheConstants.{MOST_FILE_BYTES}
 use Rattle.bs_host.proofs.read.read_input.Given as goal
 
--- what was read is what the reader gave
+-- the bytes read are those that the reader gave
 abbrev pub invariant-reads : goal.invariant-reads
 invariant-reads g l = Consumes (g.R.Read.remaining l.fn.input) (g.R.Read.remaining l.input) l.bytes.items
 

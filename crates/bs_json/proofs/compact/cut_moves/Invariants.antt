@@ -3,6 +3,6 @@ use Rattle.bs_json.specs.Compact.{are_plain_moves, moves_text}
 use Rattle.bs_json.proofs.CutTexts.{are_some}
 use Rattle.bs_json.proofs.compact.cut_moves.Given as goal
 
--- what stands before the part that is left is the text of the moves that were found
+-- the text before the remaining part is that of the moves found
 abbrev pub invariant-loop-turn : goal.invariant-loop-turn
 invariant-loop-turn l = (l.fn.line ≡ moves_text false l.moves.items ++ l.left) × (are_plain_moves l.moves.items ≡ true) × (l.later ≡ are_some l.moves.items)

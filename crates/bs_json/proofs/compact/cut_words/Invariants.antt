@@ -3,6 +3,6 @@ use Rattle.bs_json.specs.Compact.{words_text}
 use Rattle.bs_json.proofs.CutTexts.{are_some}
 use Rattle.bs_json.proofs.compact.cut_words.Given as goal
 
--- what stands before the part that is left is the text of the words that were found
+-- the text before the remaining part is that of the words found
 abbrev pub invariant-loop-turn : goal.invariant-loop-turn
 invariant-loop-turn l = (l.fn.line ≡ words_text false l.words.items ++ l.left) × (l.later ≡ are_some l.words.items)

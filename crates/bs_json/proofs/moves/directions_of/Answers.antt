@@ -1,4 +1,4 @@
--- What was found is what the definition says of the whole object, which keeps its members in order.
+-- The directions found are the definition's for the whole object, which keeps its members in order.
 use Rattle.std.proofs.Common.{◌≡◌, rules}
 use Rattle.serde_json.specs.View.{members_view}
 use Rattle.bs_json.specs.Moves.{directions_of}

@@ -1,10 +1,14 @@
-use Rattle.std.proofs.Common.{◌≡◌, ◌++◌, length}
-use Rattle.bs_json.specs.BoardText.{cell_text, cells_of, cells_text, list_text}
+use Rattle.std.proofs.Common.{◌≡◌, length, map}
+use Rattle.serde_json.specs.View.{items_of}
+use Rattle.serde_json.specs.Written.{compact_text, items_text}
+use Rattle.bs_json.specs.Boards.{cell_data, cells_data}
+use Rattle.bs_json.specs.BoardText.{cells_of}
+use Rattle.bs_json.specs.Text.{put}
 use Rattle.bs_json.proofs.shown_bytes.push_cells.Given as goal
 
--- the text so far, and that of the cells that are left
+-- the text so far, and that of the remaining cells
 abbrev pub invariant-loop-left : goal.invariant-loop-left
-invariant-loop-left l = l.text.items ++ list_text cell_text l.later (cells_of l.raised l.left) ≡ l.fn.text.items ++ cells_text (cells_of l.raised l.cells)
+invariant-loop-left l = put l.text (items_text l.later (items_of (map cell_data (cells_of l.raised l.left)))) ≡ put l.fn.text (compact_text (cells_data (cells_of l.raised l.cells)))
 
 abbrev pub decreases-loop-left : goal.decreases-loop-left
 decreases-loop-left l = length l.left

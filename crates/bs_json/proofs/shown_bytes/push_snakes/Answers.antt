@@ -1,10 +1,14 @@
-use Rattle.std.proofs.Common.{◌+◌, ◌<◌, arith, drop, get_or, length}
+use Rattle.std.proofs.Common.{◌+◌, ◌<◌, arith, codes, drop, get_or, length}
 use Rattle.std.specs.Prelude.{flat_map}
 use Rattle.std.proofs.lemmas.List.{drop_more}
 use Rattle.bs_board.specs.records.Record.{snake_record}
-use Rattle.bs_json.specs.BoardText.{snake_text}
+use Rattle.bs_json.specs.Boards.{snake_data}
+use Rattle.bs_json.proofs.Puts.{put_more}
 use Rattle.bs_json.proofs.ShownSnakes.{nobody, one_listed, split_at}
 use Rattle.bs_json.proofs.shown_bytes.push_snakes.Goals as goal
+
+pub loop-init : goal.loop-init
+loop-init c b fits whole = (whole.snakes, put_more _ _ (codes "[") _ c.push.ensures)
 
 pub loop-preserved : goal.loop-preserved
 loop-preserved c b fits whole =
@@ -14,5 +18,5 @@ loop-preserved c b fits whole =
     let s = get_or b.snakes i nobody in
     let own = fits.snakes i nobody below in
     let parts = c.split_snake.ensures s (flat_map snake_record (drop (i + 1) b.snakes)) own (split_at b.snakes i c.loop.left.now below so_far.0) in
-    let pushed = c.in_ok-push_snake.ensures b s fits own whole parts.0 in
-    (parts.1, one_listed (snake_text b.snakes) _ _ _ _ c.loop.later (drop i b.snakes) s (drop (i + 1) b.snakes) (drop_more b.snakes i nobody below) c.in_ok-push_comma.ensures pushed so_far.1)
+    let pushed = c.push_snake.ensures b s fits own whole parts.0 in
+    (parts.1, one_listed (snake_data b.snakes) _ _ _ c.loop.later (drop i b.snakes) s (drop (i + 1) b.snakes) (drop_more b.snakes i nobody below) pushed so_far.1)

@@ -3,7 +3,7 @@ use Rattle.bs_rules.specs.Collision.{map_seats}
 use Rattle.bs_rules.specs.Elimination.{judged}
 use Rattle.bs_rules.proofs.collision.put_all_out.Given as goal
 
--- judged so far, and the others
+-- the seats so far are judged, the others are unchanged
 abbrev pub invariant-loop-seat : goal.invariant-loop-seat
 invariant-loop-seat l =
     (length l.snakes ≡ length l.fn.snakes)

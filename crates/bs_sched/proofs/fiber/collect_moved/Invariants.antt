@@ -4,7 +4,7 @@ use Rattle.std.specs.List.{filter_map}
 use Rattle.bs_sched.specs.Slots.{emptied, moved_in}
 use Rattle.bs_sched.proofs.fiber.collect_moved.Given as goal
 
--- the slots before this one are empty, and what was in them is collected
+-- the slots before this one are empty, and their contents are collected
 abbrev pub invariant-loop-part : goal.invariant-loop-part
 invariant-loop-part l = record {
   slots : l.slots.items ≡ map emptied (take l.part l.fn.slots.items) ++ drop l.part l.fn.slots.items;

@@ -4,7 +4,7 @@ use Rattle.bs_sched.specs.FrameSlots.{number_in}
 use Rattle.bs_sched.specs.Frames.{known}
 use Rattle.bs_sched.proofs.frames.are_named.Given as goal
 
--- the blocks that are left are those of the slots that are left, just where all are
+-- the remaining blocks are those of the remaining slots exactly if all are
 abbrev pub invariant-loop-slot : goal.invariant-loop-slot
 invariant-loop-slot g l =
     (names_of (frames_in l.blocks) ≡ map (λ n. (l.tag, n)) (known (map number_in l.slots)))

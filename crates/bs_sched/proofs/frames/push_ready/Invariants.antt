@@ -2,7 +2,7 @@ use Rattle.std.proofs.Common.{◌≡◌, ◌+◌, ◌++◌, map, length, vec_cap
 use Rattle.bs_sched.specs.declared.frames.FrameSlot.TheVariants as slot
 use Rattle.bs_sched.proofs.frames.push_ready.Given as goal
 
--- the parts pushed so far, and those that are left
+-- the parts pushed so far, and the remaining ones
 abbrev pub invariant-loop-part : goal.invariant-loop-part
 invariant-loop-part g l = record {
   slots : l.slots.items ++ map (λ key. slot.Ready key) l.keys.items ≡ map (λ key. slot.Ready key) l.fn.keys.items;

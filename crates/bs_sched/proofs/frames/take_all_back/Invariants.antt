@@ -3,7 +3,7 @@ use Rattle.std.specs.Prelude.{flat_map, option_to_list}
 use Rattle.bs_sched.specs.FrameSlots.{sent_off, back_in}
 use Rattle.bs_sched.proofs.frames.take_all_back.Given as goal
 
--- the slots before this one are empty, and what was in them is collected
+-- the slots before this one are empty, and their contents are collected
 abbrev pub invariant-loop-part : goal.invariant-loop-part
 invariant-loop-part g l = record {
   slots : l.slots.items ≡ map sent_off (take l.part l.fn.slots.items) ++ drop l.part l.fn.slots.items;

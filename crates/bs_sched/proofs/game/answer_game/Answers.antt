@@ -1,7 +1,7 @@
 use Rattle.std.proofs.Common.{arith, subst, sym}
 use Rattle.bs_sched.specs.GamesLayout.{IsHeapOf}
 use Rattle.bs_sched.specs.Lane.{Lane}
-use Rattle.bs_sched.proofs.Answered.{is_at_command, told_reply, fit_effect, answered_heap}
+use Rattle.bs_sched.proofs.Answered.{is_at_command, told_last, told_reply, fit_effect, answered_heap}
 use Rattle.bs_sched.proofs.game.answer_game.Goals as goal
 
 pub change_records-requires : goal.change_records-requires
@@ -28,6 +28,11 @@ pub answer-requires-clause-reply : goal.answer-requires-clause-reply
 answer-requires-clause-reply g c =
     let at = is_at_command c.args.fiber.now c.requires.out.0 c.requires.out.1 in
     told_reply c.args.fiber.now c.args.answer c.keeps.ensures at.0 c.requires.answer
+
+pub answer-requires-clause-last : goal.answer-requires-clause-last
+answer-requires-clause-last g c =
+    let at = is_at_command c.args.fiber.now c.requires.out.0 c.requires.out.1 in
+    told_last c.args.fiber.now c.args.answer c.keeps.ensures at.0 c.requires.answer
 
 pub returns-clause-heap : goal.returns-clause-heap
 returns-clause-heap g c =

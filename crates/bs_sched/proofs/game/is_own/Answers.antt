@@ -11,7 +11,7 @@ pub returns : goal.returns
 returns g c =
     let x = c.args.fiber.now in
     let number : c.worker-number.result ≡ c.args.worker = c.if-number-worker.false in
-    let given = subst (λ (w : ℕ). IsOf (input_for x c.command.result.now c.seq.result w c.job-job.result) c.expected.result) number c.expected.ensures in
+    let given = subst (λ (w : ℕ). IsOf (input_for x c.command.result.now c.seq.result w c.job-job.result) c.expected.result) number c.expected.ensures.value in
     let expects = subst (λ (job : JobName). IsOf (input_for x c.command.result.now c.seq.result c.args.worker job) c.expected.result) c.job-job.ensures given in
     let out = subst (λ (job : JobName). is_out c.args.worker x job.kind job.part ≡ true) c.job-job.ensures (sym c.has_out.ensures ∙ c.if-not-has_out.false) in
     own_of_expected x c.args.worker c.args.ticket.now c.command.result.now c.seq.result c.expected.result c.is_of.result c.keeps.ensures

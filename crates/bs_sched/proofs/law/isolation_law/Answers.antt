@@ -1,4 +1,4 @@
--- What holds of all events is the law itself.
+-- The lemma for all events is the law itself.
 use Rattle.bs_sched.proofs.Registry.{registry_law, journal_law, served_law}
 use Rattle.bs_sched.proofs.Isolation.{isolation_law}
 use Rattle.bs_sched.proofs.MemoryLaw.{memory_law}

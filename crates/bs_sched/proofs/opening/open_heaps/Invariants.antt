@@ -1,4 +1,4 @@
--- The heaps that were made so far, and then those that are left to make.
+-- The heaps made so far, then those still to be made.
 use Rattle.std.proofs.Common.{◌≡◌, ◌++◌, drop}
 use Rattle.bs_sched.specs.GamesLayout.{opened_heaps, opened_heaps_from}
 use Rattle.bs_sched.proofs.opening.open_heaps.Given as goal

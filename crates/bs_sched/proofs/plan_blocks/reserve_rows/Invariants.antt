@@ -3,7 +3,7 @@ use Rattle.bs_pool.specs.Reservations.{all_reserved}
 use Rattle.bs_sched.specs.PlanBlocks.{blocks_of_all, reservations_from, reservations_of}
 use Rattle.bs_sched.proofs.plan_blocks.reserve_rows.Given as goal
 
--- what was reserved, and then what is left to reserve
+-- the reservations made so far, then those still to be made
 abbrev pub invariant-loop-game : goal.invariant-loop-game
 invariant-loop-game g l = record {
   owners : l.pool.owners ≡ l.fn.pool.owners;

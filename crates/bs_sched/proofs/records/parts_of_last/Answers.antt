@@ -1,4 +1,4 @@
--- The newest record says how many seats its board has, at most eight.
+-- The newest record gives the number of seats of its board, at most eight.
 use Rattle.std.proofs.Common.{arith}
 use Rattle.bs_sched.proofs.NewestRecords.{newest_at, reaches_seats, few_seats, some_seats, parts_of_seats}
 use Rattle.bs_sched.proofs.records.parts_of_last.Goals as goal

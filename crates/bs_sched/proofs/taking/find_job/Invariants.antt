@@ -1,6 +1,6 @@
 use Rattle.bs_sched.specs.Taking.{AreNoneReadyBetween}
 use Rattle.bs_sched.proofs.taking.find_job.Given as goal
 
--- no lane looked at has a job that is ready
+-- no lane so far has a ready job
 abbrev pub invariant-loop-place : goal.invariant-loop-place
 invariant-loop-place l = AreNoneReadyBetween l.from l.place l.rows l.fibers

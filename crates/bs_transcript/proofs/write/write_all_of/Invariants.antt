@@ -2,7 +2,7 @@ use Rattle.std.proofs.Common.{◌≤◌, ◌-◌, length, take}
 use Rattle.std.specs.Io.KnownBytes.{Appends}
 use Rattle.bs_transcript.proofs.write.write_all_of.Given as goal
 
--- the writer took what stands before `written`
+-- the writer took the bytes before `written`
 abbrev pub invariant-writes : goal.invariant-writes
 invariant-writes g l = (l.written ≤ length l.text) × Appends (g.W.Write.contents l.fn.output) (g.W.Write.contents l.output) (take l.written l.text)
 

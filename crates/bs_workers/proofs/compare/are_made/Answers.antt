@@ -1,4 +1,4 @@
--- One event more.
+-- One more event.
 use Rattle.bs_workers.proofs.Acted.{acts_more, not_made}
 use Rattle.bs_workers.proofs.compare.are_made.Goals as goal
 
@@ -7,7 +7,7 @@ loop-event-preserved c =
     acts_more c.args.events.now c.loop-event.event-index c.event-item.result c.args.acts.now c.loop-event.left.now c.in-Some.rest.now
     c.loop-event-test.true c.event-item.is c.loop-event.invariant c.in-Some.ensures
 
--- One that can't be made next.
+-- An event that cannot be made next.
 pub returns-in-None : goal.returns-in-None
 returns-in-None c = (
   λ no. absurd cc,

@@ -1,4 +1,4 @@
--- The events looked at so far make all acts but those that are left.
+-- The events so far make all acts but the remaining ones.
 use Rattle.std.proofs.Common.{◌≡◌, ◌++◌, take}
 use Rattle.bs_workers.specs.Run.{acts_of}
 use Rattle.bs_workers.proofs.compare.are_made.Given as goal

@@ -1,4 +1,4 @@
--- One row more is the same.
+-- One more row is the same.
 use Rattle.std.proofs.Common.{◌<◌, length, sym, ◌∙◌, arith}
 use Rattle.bs_workers.proofs.Compared.{first_rows_more}
 use Rattle.bs_workers.proofs.compare.has_first_rows.Goals as goal

@@ -1,4 +1,4 @@
--- The rows looked at so far are the same.
+-- The rows so far are the same.
 use Rattle.std.proofs.Common.{◌≡◌, take}
 use Rattle.bs_workers.specs.Run.{rows_made}
 use Rattle.bs_workers.proofs.compare.has_first_rows.Given as goal

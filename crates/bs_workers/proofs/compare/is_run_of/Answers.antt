@@ -1,4 +1,4 @@
--- A core that has ended and made the acts is the result of the run, and no other is.
+-- Exactly a core that has ended and made the acts is the result of the run.
 use Rattle.std.proofs.Common.{◌≡◌, true, false, List, sym, ap, ◌∙◌}
 use Rattle.bs_sched.specs.declared.event.Event.{Event}
 use Rattle.bs_workers.specs.Run.{acts_of}
@@ -17,7 +17,7 @@ returns-then-has_ended g c =
       λ run. c.are_made.ensures.1 (sym told ∙ run.acted),
     )
 
--- One that has not ended is the result of no run.
+-- A core that has not ended is the result of no run.
 pub returns-else-has_ended : goal.returns-else-has_ended
 returns-else-has_ended g c =
     λ old same many. (

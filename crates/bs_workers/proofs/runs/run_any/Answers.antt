@@ -1,4 +1,4 @@
--- What was compared are the rows and the number of blocks of the core before the run.
+-- The rows and the number of blocks that are compared are those of the core before the run.
 use Rattle.std.proofs.Common.{◌∙◌}
 use Rattle.bs_pool.specs.Ledger.{size}
 use Rattle.bs_workers.proofs.Compared.{rows_fresh}

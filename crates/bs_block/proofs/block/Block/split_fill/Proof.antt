@@ -1,5 +1,4 @@
--- `split_fill` asks whether the zeros fit, hands the block to `fill`, and wraps the loan. Assumes
--- `Logic`.
+-- `split_fill` tests whether the zeros fit, calls `fill` and wraps its loan. Assumes `Logic`.
 use mathlib.Core.Path.{◌≡◌, refl, sym, ap, subst}
 use Prim.Native.Nat.{ℕ, ◌+◌, ◌<◌, ◌^◌}
 use native.Mathlib.Omega.{arith}

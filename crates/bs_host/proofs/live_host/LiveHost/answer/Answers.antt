@@ -1,13 +1,33 @@
-use Rattle.std.proofs.Common.{◌≡◌, ◌+◌, length, ap, ◌∙◌, rules}
+use Rattle.std.proofs.Common.{◌≡◌, ◌+◌, length, ap, sym, subst, ◌∙◌, rules}
 use Rattle.bs_json.specs.Line.{line_of}
 use Rattle.bs_host.specs.Guests.{guests_then, route_by}
 use Rattle.bs_host.specs.Parsed.{route_parsed}
 use Rattle.bs_host.specs.Routing.{capacity_of}
-use Rattle.bs_host.specs.Live.{acts_behind, rows_behind}
+use Rattle.bs_host.specs.Live.{HaveCores, acts_behind, finds_core, numbers_of, numbers_then, rows_behind}
+use Rattle.bs_host.proofs.LiveCores.{cores_then, route_finds}
 use Rattle.bs_host.proofs.LiveLines.{answered_more, written_more}
 use Rattle.bs_host.proofs.LiveTexts.{as_many_made}
 use Rattle.bs_host.proofs.ParsedLines.{route_of_parsed}
 use Rattle.bs_host.proofs.live_host.LiveHost.answer.Goals as goal
+
+pub follow-requires : goal.follow-requires
+follow-requires c =
+    let live = c.args.self.now in
+    let capacity = capacity_of live.blocks in
+    let l = line_of live.version c.args.line.now in
+    let to : c.in_ok-route.route ≡ route_by capacity live.guests l
+    = c.in_ok-route.ensures.route ∙ ap (route_parsed capacity live.guests) c.in_ok-parsed.ensures ∙ route_of_parsed capacity live.guests l in
+    ap (λ goes. finds_core goes live.cores.open.items) to ∙ route_finds capacity live.guests live.cores.open.items l c.requires
+
+pub returns-clause-cores : goal.returns-clause-cores
+returns-clause-cores c =
+    let live = c.args.self.now in
+    let made : c.made-made.result ≡ live.guests.made = c.made-made.ensures in
+    let after : c.follow.new.self.guests ≡ guests_then live.guests c.in_ok-route.route = c.in_ok-follow.ensures.guests ∙ c.in_ok-route.ensures.after in
+    let moved : numbers_of c.follow.new.self.cores.open.items ≡ numbers_then live.guests.made (numbers_of live.cores.open.items) c.in_ok-route.route
+    = c.in_ok-follow.ensures.cores ∙ ap (λ n. numbers_then n (numbers_of live.cores.open.items) c.in_ok-route.route) made in
+    subst (λ guests. HaveCores guests c.follow.new.self.cores.open.items) (sym after)
+    (cores_then live.guests c.in_ok-route.route live.cores.open.items c.follow.new.self.cores.open.items c.requires moved)
 
 pub returns-clause-answered : goal.returns-clause-answered
 returns-clause-answered c =

@@ -16,8 +16,9 @@ lines-preserved c =
     let told = rw (inv.0, inv.1) at c.in_ok-answer.ensures.text in (
       c.in_ok-answer.ensures.blocks ∙ inv.0,
       c.in_ok-answer.ensures.version ∙ inv.1,
+      c.in_ok-answer.ensures.cores,
       λ plan before is.
           one_more_answered host.blocks host.version plan before (pieces_of c.args.lines.now) (pieces_after (option_copied c.lines.left)) more line
           c.args.text.now.items c.lines.text.items c.answer.new.text.items c.lines.self.cores.open.items c.answer.new.self.cores.open.items c.lines.self.guests c.answer.new.self.guests
-          c.lines.self.number c.answer.new.self.number (inv.2 plan before is) left (λ lines has. (answered plan lines has, told plan lines has)),
+          c.lines.self.number c.answer.new.self.number (inv.3 plan before is) left (λ lines has. (answered plan lines has, told plan lines has)),
     )

@@ -1,7 +1,8 @@
 use Rattle.std.proofs.Common.{◌≡◌, ℕ, ◌++◌, ◌<◌, [], length, get_or, ap, ◌∙◌, arith}
 use Rattle.bs_board.specs.plans.Plan.{GameRow, row_of}
 use Rattle.bs_host.specs.Cut.{row_at}
-use Rattle.bs_host.specs.Live.{acts_behind, closing_behind, closing_line, commands_given, rows_behind}
+use Rattle.bs_host.specs.Live.{acts_behind, closing_behind, closing_line, commands_given, has_core, rows_behind}
+use Rattle.bs_host.proofs.LiveCores.{guest_has_core}
 use Rattle.bs_host.proofs.LiveTexts.{closing_begins, guest_row, one_more_closed}
 use Rattle.bs_host.proofs.live_host.LiveHost.close.Goals as goal
 
@@ -31,3 +32,11 @@ loop-index-preserved c =
     one_more_closed host.blocks host.version plan lines host.guests index d c.loop-index.text.items c.show_final.new.text.items
     (c.args.text.now.items ++ closing_behind host.blocks host.version plan lines) inside
     told (c.loop-index.invariant plan lines is)
+
+pub show_final-requires : goal.show_final-requires
+show_final-requires c =
+    let host = c.args.self.now in
+    let d : ℕ × GameRow = (0, row_of [] 0) in
+    let index = c.loop-index.index in
+    let inside : index < length host.guests.stays = omega arith in
+    ap (λ n. has_core n host.cores.open.items) c.number.ensures ∙ guest_has_core host.guests host.cores.open.items index d c.requires inside

@@ -1,4 +1,4 @@
--- The final lines so far, and those that are left.
+-- The final lines so far, then the remaining ones.
 use Rattle.std.proofs.Common.{◌≡◌, ℕ, List, ◌++◌, drop}
 use Rattle.bs_board.specs.plans.Plan.{GameRow}
 use Rattle.bs_host.specs.Live.{HasAnswered, acts_behind, closing_behind, closing_of}

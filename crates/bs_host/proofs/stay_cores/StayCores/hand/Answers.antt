@@ -3,15 +3,24 @@ use Rattle.bs_sched.specs.Core.{CoreView}
 use Rattle.bs_workers.specs.declared.act.Act.TheVariants as act
 use Rattle.bs_host.specs.Cut.{row_at}
 use Rattle.bs_host.specs.Live.{ArePlayed, IsAt, IsCoreOf, commands_given, rows_behind}
+use Rattle.bs_host.proofs.LiveCores.{handed_core}
 use Rattle.bs_host.proofs.LivePlays.{fed_at, plays_handed}
 use Rattle.bs_host.proofs.stay_cores.StayCores.hand.Goals as goal
+
+pub returns-clause-open : goal.returns-clause-open
+returns-clause-open c =
+    let games = c.args.self.now.open.items in
+    let at = c.place_of-at.result in
+    let game : ℕ × CoreView = c.index_mut.result.now in
+    let value : game ≡ get_or games at game = search rules in
+    handed_core at game c.answer_command.new.core games value
 
 pub returns-clause-played : goal.returns-clause-played
 returns-clause-played c =
     λ plan acts are.
     let games = c.args.self.now.open.items in
     let stay = c.args.stay in
-    let at = c.in_ok-at.at in
+    let at = c.place_of-at.result in
     let game : ℕ × CoreView = c.index_mut.result.now in
     let is : IsAt games stay at = search rules in
     let value : game ≡ get_or games at game = search rules in
@@ -26,7 +35,7 @@ returns-clause-text c =
     λ plan acts are.
     let games = c.args.self.now.open.items in
     let stay = c.args.stay in
-    let at = c.in_ok-at.at in
+    let at = c.place_of-at.result in
     let game : ℕ × CoreView = c.index_mut.result.now in
     let is : IsAt games stay at = search rules in
     let value : game ≡ get_or games at game = search rules in

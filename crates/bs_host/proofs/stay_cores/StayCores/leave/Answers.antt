@@ -1,8 +1,12 @@
 use Rattle.std.proofs.Common.{[], ◌∷◌, ◌++◌, sym, subst}
 use Rattle.bs_workers.specs.declared.act.Act.TheVariants as act
 use Rattle.bs_host.specs.Live.{ArePlayed}
+use Rattle.bs_host.proofs.LiveCores.{filtered_cores}
 use Rattle.bs_host.proofs.LivePlays.{plays_left}
 use Rattle.bs_host.proofs.stay_cores.StayCores.leave.Goals as goal
+
+pub returns-clause-open : goal.returns-clause-open
+returns-clause-open c = filtered_cores c.args.stay c.args.self.now.open.items c.drop_core.new.open.items c.drop_core.ensures
 
 pub returns-clause-played : goal.returns-clause-played
 returns-clause-played c =

@@ -1,13 +1,16 @@
 use Rattle.std.proofs.Common.{◌≡◌, [], ◌-◌, None, Some, slice_set, ap, sym, subst, arith, ◌∙◌}
 use Rattle.std.proofs.lemmas.Option.{slice_get_within}
-use Rattle.bs_pool.specs.Accounts.{Recounts, counted}
+use Rattle.bs_pool.specs.Accounts.{AreDistinct, Recounts, counted}
 use Rattle.bs_pool.specs.Ledger.{Owns, given, ledger_of}
 use Rattle.bs_pool.specs.Marks.{SetsMark}
 use Rattle.bs_pool.proofs.Parts.{given_lent, owner_counts}
 use Rattle.bs_pool.proofs.pool.Pool.give.Goals as goal
 
-pub count_given-requires : goal.count_given-requires
-count_given-requires g c =
+pub count_given-requires-clause-distinct : goal.count_given-requires-clause-distinct
+count_given-requires-clause-distinct g c = subst AreDistinct (sym c.deref_mut-2.ensures.value) c.self.invariant.sound.distinct
+
+pub count_given-requires-clause-some : goal.count_given-requires-clause-some
+count_given-requires-clause-some g c =
     let owners = c.self.inside.slots.items in let accounts = c.self.inside.reservations.items in
     let tag = c.args.owned.tag in let n = c.args.owned.number in
     let owns = subst (λ p. Owns tag n p) (sym c.self.view_is) c.requires in

@@ -1,8 +1,11 @@
-use Rattle.std.proofs.Common.{◌∙◌, ap}
-use Rattle.bs_pool.specs.Accounts.{counted}
+use Rattle.std.proofs.Common.{◌∙◌, ap, sym, subst}
+use Rattle.bs_pool.specs.Accounts.{counted, AreDistinct}
 use Rattle.bs_pool.specs.Ledger.{held}
 use Rattle.bs_pool.proofs.Parts.{held_counted}
 use Rattle.bs_pool.proofs.pool.Pool.held.Goals as goal
+
+pub counted-requires : goal.counted-requires
+counted-requires g c = subst AreDistinct (sym c.as_slice.ensures.value) c.self.invariant.sound.distinct
 
 pub returns : goal.returns
 returns g c =

@@ -1,4 +1,4 @@
--- The first reason that holds of the lanes is the first that their registry tells.
+-- The first reason that holds of the lanes is the first one by their registry.
 use Rattle.std.proofs.Common.{rules, ◌≡◌, ℕ, Option, Some, None, refl, sym, subst, ◌∙◌, arith}
 use Rattle.std.proofs.lemmas.Result.{err_from_is_err_and}
 use Rattle.bs_board.specs.plans.Plan.{GameRow}

@@ -24,6 +24,6 @@ invariant_of-self-2 g c =
     let len = c.note.ensures.len in
     let capacity = c.note.ensures.capacity in
     let room = c.in_ok-reserve_events.ensures.room in
-    journaled_after g.row.CAP inside e _ c.self.invariant enabled tt c.in_ok-leave.ensures.ok items
+    journaled_after g.row.CAP inside e _ c.self.invariant enabled tt c.leave.ensures items
     (c.self.invariant.out ∙ sym (as_many_left inside.games.lanes game within)) (omega (arith, len, capacity, room))
     (leave_marks_none inside.games.workers inside.games.lanes inside.busy.items game within c.self.invariant.busy)

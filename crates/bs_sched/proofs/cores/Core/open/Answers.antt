@@ -1,4 +1,4 @@
--- A core that was just opened has an empty journal.
+-- A newly opened core has an empty journal.
 use Rattle.std.proofs.Common.{◌≡◌, None, sym, ap, subst, ◌∙◌, arith}
 use Rattle.std.specs.Prelude.{List}
 use Rattle.std.proofs.lemmas.List.{length-replicate}

@@ -3,7 +3,7 @@ use Rattle.bs_sched.specs.Parts.{core_run, puts_of}
 use Rattle.bs_sched.proofs.OwnParts.{AreOwnFrom}
 use Rattle.bs_sched.proofs.cores.Core.settle_parts.Given as goal
 
--- the parts before this one are back, and the others are still the core's own
+-- the parts before this one are completed, and the others are still the core's own
 abbrev pub invariant-loop-part : goal.invariant-loop-part
 invariant-loop-part g l = record {
   own : (game : ℕ) × AreOwnFrom l.self.games game l._part l.rest.items;

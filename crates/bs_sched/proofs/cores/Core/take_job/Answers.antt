@@ -5,7 +5,7 @@ use Rattle.bs_sched.specs.Machine.{is_enabled_there, lane_effect}
 use Rattle.bs_sched.specs.Busy.{IsBusyTable}
 use Rattle.bs_sched.proofs.BusyTable.{take_marks}
 use Rattle.bs_sched.proofs.JobsOut.{one_more_out}
-use Rattle.bs_sched.proofs.Journal.{journaled_after}
+use Rattle.bs_sched.proofs.Journal.{journaled_told}
 use Rattle.bs_sched.proofs.cores.Core.take_job.Goals as goal
 
 pub invariant_of-self-2 : goal.invariant_of-self-2
@@ -19,7 +19,7 @@ invariant_of-self-2 g c =
     let len = c.note.ensures.len in
     let capacity = c.note.ensures.capacity in
     let room = c.in_ok-reserve_events.ensures.room in
-    journaled_after g.row.CAP inside e _ c.self.invariant enabled tt (rw c.worker_number-number.ensures at c.in_ok-taken.ensures.ok) items
+    journaled_told g.row.CAP inside e c.take_job.new.self.tallies _ c.self.invariant enabled tt (rw c.worker_number-number.ensures at c.in_ok-taken.ensures.ok) items
     (ap (λ n. n + 1) c.self.invariant.out ∙ sym more) (omega (arith, len, capacity, room))
     (subst (IsBusyTable inside.games.workers (lane_effect inside.games.lanes e)) (sym c.mark.ensures)
     (take_marks inside.games.workers inside.games.lanes inside.busy.items c.args.worker c.args.job enabled c.self.invariant.busy))

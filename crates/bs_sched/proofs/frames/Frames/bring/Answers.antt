@@ -10,4 +10,4 @@ returns g c =
     let out : slice_get (map number_in inside.slots.items) c.args.part ≡ Some (Some c.args.owned.number) =
     subst (λ (f : FramesView). slice_get f.numbers c.args.part ≡ Some (Some c.args.owned.number)) (sym c.self.view_is) c.requires.out in
     let both = brought inside.slots.items c.args.part c.args.owned out in
-    same_view inside.tag _ _ _ _ _ both.0 both.1 ∙ ap (with_bytes c.args.part c.args.owned.block) c.self.view_is
+    same_view inside.tag inside.tally _ _ _ _ _ both.0 both.1 ∙ ap (with_bytes c.args.part c.args.owned.block) c.self.view_is

@@ -31,7 +31,7 @@ returns-clause-frames g c =
     let number : c.number.result ≡ next_number c.args.pool.now = c.number.ensures ∙ c.draw_block-owned.ensures.number in
     let written : slice_set inside.slots.items c.args.part place ≡ slice_set inside.slots.items c.args.part (slot.Out c.number.result) =
     ap (λ (s : FrameSlot g.row.CAP). slice_set inside.slots.items c.args.part s) c.take_key-key.ensures.place in
-    same_view inside.tag inside.keys.items _ _ _ _
+    same_view inside.tag inside.tally inside.keys.items _ _ _ _
     (ap (λ (l : List (FrameSlot g.row.CAP)). map number_in l) written ∙ both.0 ∙ ap (λ (n : ℕ). slice_set (map number_in inside.slots.items) c.args.part (Some n)) number)
     (ap (λ (l : List (FrameSlot g.row.CAP)). map bytes_in l) written ∙ both.1)
     ∙ ap (with_number c.args.part (next_number c.args.pool.now)) c.self.view_is

@@ -1,5 +1,5 @@
 use Rattle.std.proofs.Common.{◌≡◌, ◌≤◌, ℕ, [], List, length, map, ap, sym, subst, ◌∙◌, All, arith}
-use Rattle.bs_counter.specs.Keys.{AreKeys}
+use Rattle.bs_sched.specs.Keyed.{AreKeysOf}
 use Rattle.bs_sched.specs.declared.frames.FrameSlot.{FrameSlot}
 use Rattle.bs_sched.specs.FrameSlots.{number_in, bytes_in, AreReadyAt, IsSlotOf}
 use Rattle.bs_sched.specs.Frames.{FramesView, forked_frames}
@@ -10,10 +10,11 @@ pub invariant_of-self : goal.invariant_of-self
 invariant_of-self g c =
     let inside = c.self.inside in
     let room = c.self.invariant.room in
-    let keys : AreKeys c.requires.keys.0 inside.keys.items = subst (λ (f : FramesView). AreKeys c.requires.keys.0 f.keys) (sym c.self.view_is) c.requires.keys.1 in
+    let keys : AreKeysOf inside.tally (length inside.keys.items) inside.keys.items
+    = subst (λ (f : FramesView). AreKeysOf f.tally (length f.keys) f.keys) (sym c.self.view_is) c.requires.keys in
     record {
       slots = subst (λ (l : List (FrameSlot g.row.CAP)). All (IsSlotOf inside.tag) l) (sym c.push_ready.ensures.slots) (no_slot_stands inside.tag inside.keys.items);
-      ready = subst (λ (l : List (FrameSlot g.row.CAP)). AreReadyAt l) (sym c.push_ready.ensures.slots) (ready_with_keys g.row.CAP c.requires.keys.0 inside.keys.items keys);
+      ready = subst (λ (l : List (FrameSlot g.row.CAP)). AreReadyAt inside.tally l) (sym c.push_ready.ensures.slots) (ready_with_keys g.row.CAP inside.tally inside.keys.items keys);
       room = omega (arith, room, c.push_ready.ensures.room);
     }
 
@@ -22,7 +23,7 @@ returns g c =
     let inside = c.self.inside in
     let ready = ready_slots g.row.CAP inside.keys.items in
     rw c.push_ready.ensures.keys
-    (same_view inside.tag [] _ _ _ _
+    (same_view inside.tag inside.tally [] _ _ _ _
     (ap (λ (l : List (FrameSlot g.row.CAP)). map number_in l) c.push_ready.ensures.slots ∙ ready.0)
     (ap (λ (l : List (FrameSlot g.row.CAP)). map bytes_in l) c.push_ready.ensures.slots ∙ ready.1))
-    ∙ ap (λ (f : FramesView). forked_frames f.tag (length f.keys)) c.self.view_is
+    ∙ ap (λ (f : FramesView). forked_frames f.tag f.tally (length f.keys)) c.self.view_is

@@ -14,14 +14,14 @@ invariant_of-self g c =
     let room = c.self.invariant.room in
     record {
       slots = subst (λ (l : List (FrameSlot g.row.CAP)). All (IsSlotOf inside.tag) l) (sym c.take_all_back.ensures.slots) (all_sent_fit inside.tag inside.slots.items);
-      ready = subst (λ (l : List (FrameSlot g.row.CAP)). AreReadyAt l) (sym c.take_all_back.ensures.slots) (all_sent_ready inside.slots.items c.self.invariant.ready);
+      ready = subst (λ (l : List (FrameSlot g.row.CAP)). AreReadyAt inside.tally l) (sym c.take_all_back.ensures.slots) (all_sent_ready inside.tally inside.slots.items c.self.invariant.ready);
       room = omega (arith, c.take_all_back.ensures.room);
     }
 
 pub returns-clause-frames : goal.returns-clause-frames
 returns-clause-frames g c =
     let inside = c.self.inside in
-    same_view inside.tag _ _ _ _ _
+    same_view inside.tag inside.tally _ _ _ _ _
     (ap (λ (l : List (FrameSlot g.row.CAP)). map number_in l) c.take_all_back.ensures.slots ∙ numbers_stay inside.slots.items)
     (ap (λ (l : List (FrameSlot g.row.CAP)). map bytes_in l) c.take_all_back.ensures.slots ∙ nothing_stays inside.slots.items)
     ∙ ap joining_frames c.self.view_is

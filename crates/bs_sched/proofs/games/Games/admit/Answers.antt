@@ -1,14 +1,17 @@
-use Rattle.std.proofs.Common.{◌≡◌, ℕ, ◌+◌, ◌-◌, ◌*◌, ◌<◌, ◌≤◌, length, refl, sym, ap, subst, ◌∙◌, arith}
+use Rattle.std.proofs.Common.{◌≡◌, ℕ, ◌+◌, ◌-◌, ◌*◌, ◌<◌, ◌≤◌, List, length, refl, sym, ap, subst, ◌∙◌, arith}
 use Rattle.bs_board.specs.plans.Plan.{GameRow}
 use Rattle.bs_pool.specs.Ledger.{size}
 use Rattle.bs_sched.specs.declared.games.Games.TheInside.{Inside}
 use Rattle.bs_sched.specs.declared.plan_blocks.TheConstants.{MOST_STAYS}
+use Rattle.bs_sched.specs.Frames.{FramesView}
 use Rattle.bs_sched.specs.Games.{GamesView}
+use Rattle.bs_sched.specs.GamesLayout.{tallies_in}
 use Rattle.bs_sched.specs.Lane.{Lane}
 use Rattle.bs_sched.specs.Machine.{open_blocks}
 use Rattle.bs_sched.specs.PlanBlocks.{blocks_of}
-use Rattle.bs_sched.specs.Storage.{record_tag}
+use Rattle.bs_sched.specs.Storage.{frame_tag, record_tag}
 use Rattle.bs_sched.proofs.ChangedStays.{Comes, LooksSame, can_reserve, sound_comes, sound_same, storage_comes}
+use Rattle.bs_sched.proofs.Tallies.{tallies_come}
 use Rattle.bs_sched.proofs.games.Games.admit.Goals as goal
 
 pub reserve_row-requires : goal.reserve_row-requires
@@ -116,4 +119,5 @@ returns-clause-ok g c =
       listed = rw (c.push_reserved-4.ensures.items, c.make_room.ensures.rows, number) refl;
       pool = rw (c.in_ok-reserve_row.ensures.ok, row, number) refl;
     } in
-    rw (← c.self.view_is, storage_comes g.row.CAP inside new c.args.row comes, comes.fibers) refl
+    let tallies = ap (λ (frames : List FramesView). tallies_in frames) comes.frames ∙ tallies_come inside.frames.items (frame_tag (length inside.fibers.items)) in
+    rw (← c.self.view_is, storage_comes g.row.CAP inside new c.args.row comes, tallies, comes.fibers) refl

@@ -14,6 +14,7 @@ use Rattle.bs_sched.specs.Machine.{lane_of}
 use Rattle.bs_sched.specs.Storage.{frame_tag, frames_of, record_tag}
 use Rattle.bs_sched.proofs.ChangedFrames.{frames_there, own_frames}
 use Rattle.bs_sched.proofs.ChangedGames.{open_out, read_at, changed_storage, heap_there, numbers_there, own_heap, sound_game}
+use Rattle.bs_sched.proofs.Tallies.{same_tallies}
 use Rattle.bs_sched.proofs.games.Games.answer.Goals as goal
 
 -- a record's tag is no frame's
@@ -107,4 +108,5 @@ returns g c =
     ∙ none_begun c.index_mut.result.now c.requires.out.0 job.part (frame_tag game) c.index_mut-3.result.now pool
     (subst (λ (k : JobKind). is_out c.requires.out.0 c.index_mut.result.now k job.part ≡ true) begins out) are in
     let answered_is = answered_storage job.kind g.row.CAP game c.index_mut.result.now before c.requires.kind none in
-    rw (← c.self.view_is, c.answer_job.ensures.lane, storage, answered_is, lane) refl
+    let tallies = same_tallies game all_frames _ c.answer_job.new.frames frames_is (ap (λ (f : FramesView). f.tally) c.answer_job.ensures.given) in
+    rw (← c.self.view_is, c.answer_job.ensures.lane, storage, tallies, answered_is, lane) refl

@@ -9,6 +9,7 @@ use Rattle.bs_sched.specs.Storage.{frame_tag, record_tag}
 use Rattle.bs_sched.proofs.ChangedFrames.{frames_there, own_frames}
 use Rattle.bs_sched.proofs.ChangedGames.{open_out, read_at, sound_turn, forked_storage}
 use Rattle.bs_sched.proofs.Heaps.{same_heap}
+use Rattle.bs_sched.proofs.Tallies.{same_tallies}
 use Rattle.bs_sched.proofs.games.Games.fork.Goals as goal
 
 pub fork_of-requires : goal.fork_of-requires
@@ -65,4 +66,5 @@ returns g c =
     let are = frames_there game fibers all_frames pool _ _ c.self.invariant.frames within stands lane frames_is in
     let storage = forked_storage game (length (forked c.index_mut.result.now).parts) c.self.inside.heaps.items all_frames pool c.fork_of.new.frames
     (ap (λ (f : FramesView). f.numbers) c.fork_of.ensures.forked) in
-    rw (← c.self.view_is, storage, c.fork_of.ensures.lane, lane) refl
+    let tallies = same_tallies game all_frames _ c.fork_of.new.frames frames_is (ap (λ (f : FramesView). f.tally) c.fork_of.ensures.forked) in
+    rw (← c.self.view_is, storage, tallies, c.fork_of.ensures.lane, lane) refl

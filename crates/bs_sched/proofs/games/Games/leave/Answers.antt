@@ -1,7 +1,7 @@
 use Rattle.std.proofs.Common.{◌≡◌, ℕ, ◌<◌, true, length, refl, sym, ap, subst, ◌∙◌, arith}
 use Rattle.std.specs.Prelude.{slice_set}
 use Rattle.std.specs.Vec.{with_item}
-use Rattle.bs_game.specs.Game.{game_charge, last_board}
+use Rattle.bs_game.specs.Game.{game_charge}
 use Rattle.bs_heap.specs.Heap.{Heap, empty_heap, without_records}
 use Rattle.bs_heap.specs.HeldBlocks.{IsKeptIn, LeavesOthers, all_given}
 use Rattle.bs_heap.specs.Packing.{numbers_of}
@@ -67,8 +67,7 @@ close-requires g c =
     let same : lane_of c.args.self.now.lanes game ≡ c.index_mut-2.result.now = ap (λ (v : GamesView). lane_of v.lanes game) (sym c.self.view_is) ∙ sym lane in
     record {
       quiet = subst (λ (x : Lane). is_quiet x ≡ true) (sym lane) both.1;
-      board = c.in_ok-board.ensures ∙ ap (λ (x : Lane). last_board x.game) same;
-      charge = c.charge.ensures ∙ ap (λ (x : Lane). game_charge x.game) same;
+      charge = c.charge-charge.ensures ∙ ap (λ (x : Lane). game_charge x.game) same;
     }
 
 pub invariant_of-self : goal.invariant_of-self
@@ -106,8 +105,8 @@ invariant_of-self g c =
     } in
     sound_left g.row.CAP c.self.inside new game c.free.new.self c.free.new.pool c.self.invariant within both.0 both.1 leaves
 
-pub returns-clause-ok : goal.returns-clause-ok
-returns-clause-ok g c =
+pub returns : goal.returns
+returns g c =
     let fibers = c.self.inside.fibers.items in
     let heaps = c.self.inside.heaps.items in
     let game = c.args.game in

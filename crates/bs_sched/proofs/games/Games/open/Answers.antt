@@ -1,4 +1,4 @@
--- A core that was just opened is sound.
+-- A newly opened core is sound.
 use Rattle.std.proofs.Common.{◌≤◌, arith}
 use Rattle.bs_sched.specs.PlanBlocks.{blocks_of_all}
 use Rattle.bs_sched.proofs.OpenedGames.{sound_opened}

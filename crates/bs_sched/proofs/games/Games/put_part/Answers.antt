@@ -12,6 +12,7 @@ use Rattle.bs_sched.specs.Storage.{frame_tag, frames_of, record_tag}
 use Rattle.bs_sched.proofs.ChangedFrames.{frames_there, own_frames}
 use Rattle.bs_sched.proofs.ChangedGames.{open_out, read_at, sound_turn, same_numbers, numbers_there}
 use Rattle.bs_sched.proofs.Heaps.{same_heap, no_answer_parts}
+use Rattle.bs_sched.proofs.Tallies.{same_tallies}
 use Rattle.bs_sched.proofs.games.Games.put_part.Goals as goal
 
 pub put_part_of-requires : goal.put_part_of-requires
@@ -77,4 +78,5 @@ returns g c =
     let frames_is : c.index_mut-2.result.now ≡ frames_at all_frames game = read_at all_frames game _ (no_frames 0) (omega (arith, as_many)) c.index_mut-2.ensures.value in
     let are = frames_there game fibers all_frames pool _ _ c.self.invariant.frames within stands lane frames_is in
     let numbers = same_numbers game all_frames _ c.put_part_of.new.frames frames_is (ap (λ (f : FramesView). f.numbers) c.put_part_of.ensures.brought) in
-    rw (← c.self.view_is, c.put_part_of.ensures.lane, numbers, lane) refl
+    let tallies = same_tallies game all_frames _ c.put_part_of.new.frames frames_is (ap (λ (f : FramesView). f.tally) c.put_part_of.ensures.brought) in
+    rw (← c.self.view_is, c.put_part_of.ensures.lane, numbers, tallies, lane) refl

@@ -1,0 +1,40 @@
+-- The pieces of replies are the texts of their data.
+use Rattle.std.proofs.Common.{◌≡◌, ℕ, List, ◌++◌, codes, Option, refl}
+use Rattle.std.specs.Prelude.{decimal}
+use Rattle.json.specs.Print.{escape_byte}
+use Rattle.serde_json.specs.Data.{string}
+use Rattle.serde_json.specs.Written.{compact_text}
+use Rattle.bs_board.specs.declared.boards.board.Board.{Board}
+use Rattle.bs_board.specs.declared.commands.command.Word.{Word}
+use Rattle.bs_board.specs.declared.commands.reply.Refusal.{Refusal}
+use Rattle.bs_board.specs.declared.commands.reply.Reply.TheVariants.{Shown, Plain, Refused}
+use Rattle.bs_json.specs.declared.line.Stray.{Stray}
+use Rattle.bs_json.specs.Boards.{board_data}
+use Rattle.bs_json.specs.Replies.{final_data, last_data, refusal_code, refusal_text, reply_data, stray_code, stray_data, stray_text, tail_pieces}
+
+pub shown_is : (game : List ℕ) (seq : ℕ) (word : Word) (board : Board) (charge : ℕ)
+    → codes "{\"board\":" ++ (compact_text (board_data board) ++ (codes ",\"charge\":" ++ tail_pieces game seq word charge)) ≡ compact_text (reply_data game seq (Shown word board charge))
+unfolding escape_byte reply_data
+shown_is game seq word board charge = refl
+
+pub plain_is : (game : List ℕ) (seq : ℕ) (word : Word) (charge : ℕ) → codes "{\"charge\":" ++ tail_pieces game seq word charge ≡ compact_text (reply_data game seq (Plain word charge))
+unfolding escape_byte reply_data
+plain_is game seq word charge = refl
+
+pub refused_is : (game : List ℕ) (seq : ℕ) (refusal : Refusal)
+    → codes "{\"game\":" ++ (compact_text (string game) ++ (codes ",\"no\":" ++ (compact_text (string (refusal_code refusal)) ++ (codes ",\"seq\":" ++ (decimal seq
+    ++ (codes ",\"why\":" ++ (compact_text (string (refusal_text refusal)) ++ codes "}"))))))) ≡ compact_text (reply_data game seq (Refused refusal))
+unfolding escape_byte reply_data
+refused_is game seq refusal = refl
+
+pub final_is : (game : List ℕ) (board : Option Board) (charge : ℕ)
+    → codes "{\"board\":" ++ (compact_text (last_data board) ++ (codes ",\"charge\":" ++ (decimal charge ++ (codes ",\"final\":true,\"game\":" ++ (compact_text (string game) ++ codes "}")))))
+    ≡ compact_text (final_data game board charge)
+unfolding escape_byte final_data
+final_is game board charge = refl
+
+pub stray_is : (line : ℕ) (stray : Stray)
+    → codes "{\"line\":" ++ (decimal line ++ (codes ",\"no\":" ++ (compact_text (string (stray_code stray)) ++ (codes ",\"why\":" ++ (compact_text (string (stray_text stray)) ++ codes "}")))))
+    ≡ compact_text (stray_data line stray)
+unfolding escape_byte stray_data
+stray_is line stray = refl

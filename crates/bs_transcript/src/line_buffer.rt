@@ -1,0 +1,115 @@
+//! A buffer between the lines of a transcript and a writer.
+ghost use Rattle.std.specs.Prelude.{◌≡◌, ◌+◌, ◌<◌, ◌≤◌, ◌++◌, ◌∷◌, [], List, ℕ, Option, length, slice_index_or, IfOk, MatchResult, OnOk};
+ghost use Rattle.bs_json.specs.Text.{blank};
+ghost use Rattle.bs_transcript.specs.Buffer.{IsOnItsWay};
+ghost use Rattle.bs_transcript.specs.Parts.{all_lines_of, lines_of_part};
+ghost use Rattle.bs_transcript.specs.Written.{IsCutOff};
+
+use crate::section::{Part, Section};
+use crate::write::{WriteFault, write_all_of};
+use bs_json::{Stray, TextBuffer};
+use std::alloc::{AllocError, Global};
+use std::io::Write;
+
+/// The number of bytes that are written at once, or more: a larger buffer gains no time.
+const USUAL_WRITE: usize = 65_536;
+
+/// Lines that a writer has not taken yet. Only opening the buffer asks for memory.
+#[derive(Drop)]
+pub(crate) struct LineBuffer {
+    text: TextBuffer,
+    /// No line is longer.
+    longest: usize,
+    /// The number of bytes that the writer took.
+    written: usize,
+}
+
+impl LineBuffer {
+    /// An empty buffer with room for the longest line behind what is written at once.
+    pub(crate) fn open(alloc: Global, longest: usize) -> Result<LineBuffer, AllocError>
+        ensures empty { IfOk result (λ buffer. buffer.text ≡ blank buffer.text.room) }
+        ensures longest { IfOk result (λ buffer. buffer.longest ≡ longest) }
+        ensures room { IfOk result (λ buffer. longest ≤ buffer.text.room) }
+        ensures written { IfOk result (λ buffer. buffer.written ≡ 0) }
+    {
+        let room = longest.saturating_add(USUAL_WRITE);
+        Ok(LineBuffer {
+            text: TextBuffer::with_room(alloc, room)?,
+            longest,
+            written: 0,
+        })
+    }
+
+    /// Writes what is in the buffer, and empties it.
+    pub(crate) fn write_out<W: Write>(&mut self, output: &mut W) -> Result<(), WriteFault>
+        ensures sent { (first : Option (List ℕ)) (text : List ℕ) (left : List (List ℕ)) → IsOnItsWay first (W.contents output.old) self.old text left
+            → MatchResult result (λ _. IsOnItsWay first (W.contents output.new) self.new text left) (λ fault. IsCutOff fault.written first (W.contents output.new) text) }
+        ensures empty { OnOk result (self.new.text ≡ blank self.old.text.room) }
+        ensures longest { OnOk result (self.new.longest ≡ self.old.longest) }
+    {
+        if let Err(fault) = write_all_of(self.text.as_slice(), output) {
+            return Err(WriteFault {
+                written: self.written.saturating_add(fault.written),
+            });
+        }
+        self.written = self.written.saturating_add(self.text.as_slice().len());
+        self.text.clear();
+        Ok(())
+    }
+
+    /// Makes room for one line.
+    fn make_room<W: Write>(&mut self, output: &mut W) -> Result<(), WriteFault>
+        ensures sent { (first : Option (List ℕ)) (text : List ℕ) (left : List (List ℕ)) → IsOnItsWay first (W.contents output.old) self.old text left
+            → MatchResult result (λ _. IsOnItsWay first (W.contents output.new) self.new text left) (λ fault. IsCutOff fault.written first (W.contents output.new) text) }
+        ensures room { self.old.longest ≤ self.old.text.room → OnOk result (length self.new.text.bytes + self.new.longest ≤ self.new.text.room) }
+    {
+        if self.text.left() < self.longest {
+            self.write_out(output)?;
+        }
+        Ok(())
+    }
+
+    /// Appends the line of that index, and writes what was in the buffer before where it leaves no
+    /// room for a line.
+    fn push_line<W: Write>(
+        &mut self,
+        part: &Part<'_>,
+        index: usize,
+        output: &mut W,
+    ) -> Result<(), WriteFault>
+        requires { index < length (lines_of_part part.now) }
+        ensures { (first : Option (List ℕ)) (text : List ℕ) (left : List (List ℕ)) → IsOnItsWay first (W.contents output.old) self.old text (slice_index_or (lines_of_part part.now) index [] ∷ left)
+            → MatchResult result (λ _. IsOnItsWay first (W.contents output.new) self.new text left) (λ fault. IsCutOff fault.written first (W.contents output.new) text) }
+    {
+        self.make_room(output)?;
+        part.push_line(index, &mut self.text);
+        Ok(())
+    }
+
+    fn push_part<W: Write>(&mut self, part: &Part<'_>, output: &mut W) -> Result<(), WriteFault>
+        ensures { (first : Option (List ℕ)) (text : List ℕ) (left : List (List ℕ)) → IsOnItsWay first (W.contents output.old) self.old text (lines_of_part part.now ++ left)
+            → MatchResult result (λ _. IsOnItsWay first (W.contents output.new) self.new text left) (λ fault. IsCutOff fault.written first (W.contents output.new) text) }
+    {
+        for index in 0..part.len() {
+            self.push_line(part, index, output)?;
+        }
+        Ok(())
+    }
+
+    /// Appends all lines of a transcript. What finds no room is written meanwhile.
+    pub(crate) fn push_all<W: Write>(
+        &mut self,
+        sections: &[Section<'_>],
+        strays: &[(u64, Stray)],
+        output: &mut W,
+    ) -> Result<(), WriteFault>
+        ensures { (first : Option (List ℕ)) (text : List ℕ) → IsOnItsWay first (W.contents output.old) self.old text (all_lines_of sections.now strays.now)
+            → MatchResult result (λ _. IsOnItsWay first (W.contents output.new) self.new text []) (λ fault. IsCutOff fault.written first (W.contents output.new) text) }
+    {
+        for section in sections {
+            self.push_part(&Part::Game(section), output)?;
+        }
+        self.push_part(&Part::Strays(strays), output)?;
+        Ok(())
+    }
+}

@@ -1,0 +1,73 @@
+//! What a transcript is made of: sections and stray lines, each a list of lines.
+ghost use Rattle.std.specs.Prelude.{◌≡◌, ◌<◌, ◌+◌, length, slice_index_or, []};
+ghost use Rattle.bs_json.specs.Text.{put};
+ghost use Rattle.bs_transcript.specs.Parts.{lines_of_part, lines_of_section, lines_of_strays};
+
+use bs_board::{Id, KeptBoard, Reply};
+use bs_json::{Stray, TextBuffer, push_final_line, push_reply_line, push_stray_line};
+
+/// What the transcript shows of one game.
+#[derive(Debug, Drop)]
+pub struct Section<'t> {
+    pub name: &'t Id,
+    pub replies: &'t [Reply],
+    /// The newest board, where a game runs.
+    pub board: Option<&'t KeptBoard>,
+    pub charge: u32,
+}
+
+/// Appends the line of that index of a game's section: a reply line, or behind them the final line.
+#[tactic(auto, using(crate::proofs::PartLines::reply_line_at, crate::proofs::PartLines::final_line_at))]
+fn push_section_line(section: &Section<'_>, index: usize, text: &mut TextBuffer)
+    requires { index < length (lines_of_section section.now) }
+    ensures { text.new ≡ put text.old (slice_index_or (lines_of_section section.now) index []) }
+{
+    if index < section.replies.len() {
+        let seq = index as u64 + 1;
+        push_reply_line(section.name, seq, &section.replies[index], text);
+    } else {
+        push_final_line(section.name, section.board, section.charge, text);
+    }
+}
+
+/// Appends the stray line of that index.
+#[tactic(auto, using(crate::proofs::PartLines::stray_line_at))]
+fn push_stray(strays: &[(u64, Stray)], index: usize, text: &mut TextBuffer)
+    requires { index < length strays.now }
+    ensures { text.new ≡ put text.old (slice_index_or (lines_of_strays strays.now) index []) }
+{
+    let (number, stray) = strays[index];
+    push_stray_line(number, stray, text);
+}
+
+/// The lines of one game, or those that belong to no game, each with its number in the file.
+#[derive(Clone, Copy)]
+pub(crate) enum Part<'t> {
+    Game(&'t Section<'t>),
+    Strays(&'t [(u64, Stray)]),
+}
+
+impl Part<'_> {
+    /// The number of lines.
+    #[tactic(auto, using(crate::proofs::PartLines::section_count, crate::proofs::PartLines::strays_count))]
+    pub(crate) fn len(&self) -> usize
+        ensures { result ≡ length (lines_of_part self.now) }
+    {
+        match self {
+            Part::Game(section) => section.replies.len() + 1,
+            Part::Strays(strays) => strays.len(),
+        }
+    }
+
+    /// Appends the line of that index.
+    #[tactic(auto, using(crate::proofs::PartLines::strays_count))]
+    pub(crate) fn push_line(&self, index: usize, text: &mut TextBuffer)
+        requires { index < length (lines_of_part self.now) }
+        ensures { text.new ≡ put text.old (slice_index_or (lines_of_part self.now) index []) }
+    {
+        match self {
+            Part::Game(section) => push_section_line(section, index, text),
+            Part::Strays(strays) => push_stray(strays, index, text),
+        }
+    }
+}
