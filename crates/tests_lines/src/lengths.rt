@@ -49,7 +49,7 @@ fn lines_at_their_limit(rt: HostRuntime) -> Result<(), Fail> {
     filled_line_is_answered(&rt, alloc, "", 65_537, (END, LONG))
 }
 
-/// Makes a file of that length, of 65,536 bytes or more: a plan without a game, then lines of spaces.
+/// Makes a file of that length, 65,536 bytes or more: a plan without a game, then lines of spaces.
 pub fn blanks_to(alloc: Global, length: usize) -> Result<String, AllocError> {
     let mut file = String::from_str(alloc, "{\"games\":[]}\n")?;
     let line = format!(in alloc; "{}\n", " ".repeat(alloc, 65_535)?.as_str())?;
@@ -91,7 +91,8 @@ fn run_of(file: &str) -> Run<'_> {
     }
 }
 
-// A file may have 16,777,216 bytes, and not one more. All lines of this one but the first are blank.
+// A file may have 16,777,216 bytes, and not one more. All lines of this one after its plan are
+// blank.
 #[test]
 fn files_have_a_longest_length(rt: HostRuntime) -> Result<(), Fail> {
     let alloc = rt.alloc();
