@@ -107,7 +107,7 @@ impl Expected<'_> {
         Ok(Box::new(alloc, contents)?)
     }
 
-    /// Writes the input over a spent one, field by field, since an input has more than 100 bytes.
+    /// Overwrites a used input field by field, because moving one copies more than 100 bytes.
     fn write_over(
         &self,
         alloc: Global,
@@ -151,7 +151,7 @@ impl Expected<'_> {
 
     /// Makes the contents of a ticket, without parts and blocks: shares the newest record, copies
     /// the one that the command names, and takes `handle` or a new handle to the command. Reuses
-    /// the memory of `spent`; then memory is requested only for a named record.
+    /// the memory of `spent`, if given; then only the copy of a named record is allocated.
     pub fn to_contents<const CAP: usize>(
         &self,
         alloc: Global,

@@ -1,4 +1,4 @@
-//! A command as its game keeps it, with what its Begin needs of it.
+//! A queued command, with the data that its Begin job needs.
 ghost use Rattle.std.specs.Prelude.{◌≡◌, IfOk, IfSome};
 ghost use Rattle.bs_board.specs.declared.commands.command.Command.{Command};
 ghost use Rattle.bs_fiber.specs.Asking.{IsWantedOf, asked_turn};
@@ -10,16 +10,16 @@ use std::alloc::AllocError;
 use std::marker::Model;
 use std::mem::replace;
 
-/// What the Begin of a command needs of it.
+/// The data that the Begin job of a command needs.
 #[derive(Debug, Drop)]
 pub(crate) enum Wanted {
     /// Nothing: a bare command that names no turn, or a setup whose handle was taken.
     Nothing,
-    /// A handle of its own to a setup.
+    /// A further handle to a setup.
     Setup(SharedCommand),
-    /// A handle of its own to a move.
+    /// A further handle to a move.
     Orders(SharedCommand),
-    /// No more of a move: its handle was taken.
+    /// Nothing: a move whose handle was taken.
     Moves,
     /// The turn that the command names.
     Turn(TurnNumber),
@@ -52,9 +52,9 @@ fn handle_in(wanted: Wanted) -> Option<SharedCommand>
     }
 }
 
-/// A queued command, with what its Begin needs of it. The Begin is taken while a lock is held, when
-/// the command is in no cache of the processor; so the command is not read then. Contracts see the
-/// command.
+/// A queued command, with the data that its Begin job needs. That job is taken under a lock, when
+/// the command is in no processor cache; the data is kept here so that the command is not read
+/// then. Contracts see the command.
 #[derive(Debug, Drop)]
 pub struct Handed {
     command: SharedCommand,
@@ -133,8 +133,8 @@ impl Handed {
     }
 }
 
-/// A command with all handles that a core keeps of it: its game's and the journal's. The caller
-/// makes them before it locks the core. Contracts see the command.
+/// The handles of a command that a core keeps: its game's and the journal's. The caller makes
+/// them before it locks the core. Contracts see the command.
 #[derive(Debug, Drop)]
 pub struct Handles {
     handed: Handed,

@@ -8,7 +8,7 @@ use bs_game::Answer;
 pub enum Out {
     /// Begin: the move is accepted, and its parts are next.
     Goes,
-    /// Begin: any other command is answered.
+    /// Begin: the answer, unless the command is an accepted move.
     Answered(Answer),
     /// Part: its moved snakes, with their pieces of its block.
     Moved(Moved),

@@ -1,4 +1,4 @@
--- A game by itself: its commands one after the other, from no game on.
+-- A game by itself: its commands in order, starting with no game.
 use Rattle.std.specs.Prelude.{ℕ, List, [], ◌∷◌, ◌++◌, fold}
 use Rattle.bs_board.specs.declared.commands.command.Command.{Command}
 use Rattle.bs_board.specs.declared.commands.reply.Reply.{Reply}

@@ -13,7 +13,7 @@ Game = List Board
 abbrev pub last_board : Game → Option Board
 last_board game = slice_get game (length game - 1)
 
--- the last one alone; the empty list of the empty list
+-- the list of the last element alone; empty if the list is empty
 abbrev pub newest : {X : Type 0} → List X → List X
 newest xs = drop (length xs - 1) xs
 
@@ -28,7 +28,7 @@ board_charge board = rounded (length (record_of board))
 unfoldable pub game_charge : Game → ℕ
 game_charge game = sum_by board_charge game
 
--- each board is one turn after the one before it
+-- each board's turn is one more than that of the board before it
 abbrev pub AreConsecutive : List Board → Type 0
 AreConsecutive [] = Unit {0}
 AreConsecutive (_ ∷ []) = Unit {0}

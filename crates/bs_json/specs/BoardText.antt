@@ -46,7 +46,7 @@ abbrev pub text_data : Option (List ℕ) → Data
 text_data None = null
 text_data (Some text) = string text
 
--- A snake, whose killer is told by that value.
+-- A snake, with that value for its killer.
 abbrev pub snake_pieces : Data → Snake → List ℕ
 snake_pieces by s =
     codes "{\"body\":" ++ (compact_text (cells_data s.body) ++ (codes ",\"by\":" ++ (compact_text by ++ (codes ",\"cause\":" ++ (compact_text (cause_data s.cause)
@@ -59,6 +59,6 @@ front_pieces over b =
     ++ (codes ",\"min_food\":" ++ (decimal b.min_food ++ (codes ",\"mode\":" ++ (compact_text (string (mode_text b.mode)) ++ (codes ",\"over\":" ++ (compact_text (boolean over)
     ++ codes ",\"snakes\":")))))))))))
 
--- A board from behind its snakes on.
+-- The rest of a board, after its snakes.
 abbrev pub back_pieces : Board → List ℕ
 back_pieces b = codes ",\"turn\":" ++ (decimal b.turn ++ (codes ",\"width\":" ++ (decimal b.width ++ codes "}")))

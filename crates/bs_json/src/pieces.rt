@@ -69,7 +69,7 @@ fn hex_digit(digit: u8) -> u8
     }
 }
 
-/// Appends what stands for a byte in a string.
+/// Appends the text of a byte in a string.
 #[tactic(auto, unfolding(json::specs::Print::escape_byte))]
 fn push_escape(byte: u8, text: &mut TextBuffer)
     ensures { text.new ≡ put text.old (escape_byte byte) }

@@ -235,7 +235,7 @@ fn push_front(board: &BoardBytes<'_>, text: &mut TextBuffer)
     text.push(b",\"snakes\":");
 }
 
-/// Appends a board from behind its snakes on.
+/// Appends the rest of a board, after its snakes.
 fn push_back(board: &BoardBytes<'_>, text: &mut TextBuffer)
     ensures { text.new ≡ put text.old (back_pieces (board_of board.now [])) }
 {

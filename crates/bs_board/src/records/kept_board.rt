@@ -73,7 +73,7 @@ impl KeptBoard {
         self.record.as_slice()
     }
 
-    /// Adds a handle to the same record, in no memory of its own.
+    /// Adds a handle to the same record. Allocates nothing.
     pub fn share(&self) -> Result<KeptBoard, AllocError>
         ensures { IfOk result (λ kept. kept ≡ self.now) }
     {
