@@ -6,7 +6,7 @@ ghost use Rattle.bs_counter.specs.declared.views.SeatView.TheVariants.{Owes, Wri
 
 use crate::parted::Parted;
 use crate::plays::{End, Fetch, FirstPart, Start};
-use crate::views::{TallyRule, SeatView};
+use crate::views::{SeatView, TallyRule};
 use atomic_table::{Seat, Table};
 use std::alloc::Global;
 
