@@ -1,17 +1,18 @@
 -- Records of games.
-use Rattle.std.proofs.Common.{◌≡◌, ℕ, zero, suc, Option, ◌-◌, ◌<◌, ◌≤◌, List, [], ◌∷◌, length, slice_index_or, refl, sym, ap, ◌∙◌, arith}
+use Rattle.std.proofs.Common.{◌≡◌, ℕ, zero, suc, Option, ◌<◌, ◌≤◌, List, [], ◌∷◌, length, refl, sym, ap, ◌∙◌, arith}
 use Rattle.std.specs.Prelude.{Some, None, option_map, slice_get}
 use Rattle.std.proofs.lemmas.Option.{slice_get-map}
 use Rattle.bs_board.specs.records.Record.{record_of}
 use Rattle.bs_board.specs.declared.boards.board.Board.{Board}
 use Rattle.bs_game.specs.Turns.{place_of_turn}
-use Rattle.bs_game.proofs.Recorded.{board_at_place, nothing_of_turn, turn_is_gone, turn_is_there, turn_is_within}
+use Rattle.bs_game.proofs.Recorded.{turn_is_gone, turn_is_there, turn_is_within}
 use Rattle.bs_board.specs.declared.commands.command.Command.{Command}
 use Rattle.bs_board.specs.declared.commands.command.Command.TheVariants as command
 use Rattle.bs_fiber.specs.Asking.{asked_turn}
 use Rattle.bs_game.specs.Answer.{asked_board}
 use Rattle.bs_sched.specs.Inputs.{board_asked}
 use Rattle.bs_sched.specs.Turns.{FindsTurn}
+use Rattle.bs_sched.proofs.NewestRecords.{Newest}
 use Rattle.bs_game.specs.Game.{Game, last_board, board_of_turn}
 use Rattle.bs_game.specs.Recorded.{IsRecorded}
 use Rattle.bs_game.proofs.Recorded.{as_many}
@@ -46,37 +47,8 @@ one_there [] place within = absurd (omega arith)
 one_there (x ∷ xs) zero within = (x, refl)
 one_there (x ∷ xs) (suc place) within = one_there xs place (omega arith)
 
-no_last : (game : Game) → length game ≡ 0 → None ≡ last_board game
-no_last [] none = refl
-no_last (first ∷ game) none = absurd (omega arith)
-
--- the newest board and its record
-
-pub record Newest (game : Game) (bytes : List ℕ) : Type 0 where
-  pub board : Board
-  pub last : Some board ≡ last_board game
-  pub is : bytes ≡ record_of board
-
-pub newest : (game : Game) (records : List (List ℕ)) (bytes : List ℕ) → IsRecorded game records → 0 < length records
-    → bytes ≡ slice_index_or records (length records - 1) [] → Newest game bytes
-newest game records bytes kept some is =
-    let many = as_many game records kept in
-    let place = length game - 1 in
-    let at = board_at_place game records place bytes kept (omega (arith, many)) (is ∙ ap (λ n. slice_index_or records (n - 1) []) many) in
-    record { board = at.board; last = sym at.there; is = at.recorded }
-
-pub newest_counted : (game : Game) (records : List (List ℕ)) (bytes : List ℕ) (count : ℕ) → IsRecorded game records → count ≡ length records → 0 < count
-    → bytes ≡ slice_index_or records (count - 1) [] → Newest game bytes
-newest_counted game records bytes count kept counted some is =
-    newest game records bytes kept (omega (arith, counted, some)) (is ∙ ap (λ n. slice_index_or records (n - 1) []) counted)
-
-pub no_turn : (game : Game) (records : List (List ℕ)) (at : ℕ) → IsRecorded game records → 0 ≡ length records → board_of_turn at game ≡ None
-no_turn game records at kept none =
-    let many = as_many game records kept in
-    nothing_of_turn game at (no_last game (omega (arith, many)))
-
 pub finds_turn : (game : Game) (records : List (List ℕ)) (bytes : List ℕ) (last count at : ℕ) (result : Option ℕ) → IsRecorded game records
-    → (new : Newest game bytes) → last ≡ new.board.turn → count ≡ length records → result ≡ place_of_turn count last at → FindsTurn game records at result
+    → (new : Newest (last_board game) bytes) → last ≡ new.board.turn → count ≡ length records → result ≡ place_of_turn count last at → FindsTurn game records at result
 finds_turn game records bytes last count at None kept new turn counted is =
     turn_is_gone game records new.board count at kept new.last counted (rw (← turn) is)
 finds_turn game records bytes last count at (Some place) kept new turn counted is =

@@ -1,12 +1,12 @@
 //! The records of one game: what its jobs read of them, and how an answer changes them.
-ghost use Rattle.std.specs.Prelude.{◌≡◌, ◌<◌, ◌≤◌, length, option_map, IfSome};
+ghost use Rattle.std.specs.Prelude.{◌≡◌, ◌<◌, ◌≤◌, true, length, option_map, IfSome, MatchOption};
 ghost use Rattle.bs_board.specs.boards.Over.{is_over};
+ghost use Rattle.bs_board.specs.declared.boards.board.Board.{Board as AnyBoard};
 ghost use Rattle.bs_board.specs.records.Record.{record_of};
 ghost use Rattle.bs_fiber.specs.Expected.{IsLegalAsked, IsOf};
 ghost use Rattle.bs_fiber.specs.Work.{parts_of, snakes_in};
-ghost use Rattle.bs_game.specs.Game.{Game, board_of_turn, last_board};
+ghost use Rattle.bs_game.specs.Game.{board_of_turn, last_board};
 ghost use Rattle.bs_game.specs.Law.{IsFitEffect, effected};
-ghost use Rattle.bs_game.specs.Recorded.{IsRecorded};
 ghost use Rattle.bs_heap.specs.Charge.{charge_of, blocks_for};
 ghost use Rattle.bs_heap.specs.HeldBlocks.{IsKeptIn, LeavesOthers, next_number};
 ghost use Rattle.bs_pool.specs.Ledger.{reserved};
@@ -16,7 +16,7 @@ ghost use Rattle.bs_sched.specs.Storage.{packing_after, pool_after};
 ghost use Rattle.bs_sched.specs.Turns.{FindsTurn};
 
 use crate::fiber::Fiber;
-use bs_board::{Record, TurnNumber, over_of_record, seats_of_record, turn_of_record};
+use bs_board::{Record, TurnNumber};
 use bs_fiber::{Expected, Handed, JobName};
 use bs_game::{Effect, place_of_turn};
 use bs_heap::TagHeap;
@@ -33,37 +33,43 @@ fn last_record(fiber: &Fiber) -> Option<&Record>
 }
 
 /// The index of the record of that turn among the kept ones, if it is kept.
-fn place_of<const CAP: usize>(heap: &TagHeap<CAP>, at: TurnNumber) -> Option<usize>
-    requires { (game : Game) × IsRecorded game heap.now.records }
-    ensures { (game : Game) → IsRecorded game heap.now.records → FindsTurn game heap.now.records at result }
+fn place_of<const CAP: usize>(fiber: &Fiber, heap: &TagHeap<CAP>, at: TurnNumber) -> Option<usize>
+    requires { KeepsBoards fiber.now heap.now }
+    ensures { FindsTurn fiber.now.game heap.now.records at result }
 {
-    match heap.count() {
-        0 => None,
-        count => {
-            let last = turn_of_record(heap.record(count - 1));
-            place_of_turn(count, last, at)
-        }
+    fiber.keeps();
+    match last_record(fiber) {
+        None => None,
+        Some(last) => place_of_turn(heap.count(), last.turn(), at),
     }
 }
 
-fn turn_record<const CAP: usize>(heap: &TagHeap<CAP>, at: TurnNumber) -> Option<&[u8]>
-    requires { (game : Game) × IsRecorded game heap.now.records }
-    ensures { (game : Game) → IsRecorded game heap.now.records → option_map (λ bytes. bytes.now) result ≡ option_map record_of (board_of_turn at game) }
+fn turn_record<'a, const CAP: usize>(
+    fiber: &Fiber,
+    heap: &'a TagHeap<CAP>,
+    at: TurnNumber,
+) -> Option<&'a [u8]>
+    requires { KeepsBoards fiber.now heap.now }
+    ensures { option_map (λ bytes. bytes.now) result ≡ option_map record_of (board_of_turn at fiber.now.game) }
 {
-    match place_of(heap, at) {
+    match place_of(fiber, heap, at) {
         None => None,
         Some(place) => Some(heap.record(place)),
     }
 }
 
 /// The record of the turn that a command names, if it names one that is kept.
-fn asked_record<const CAP: usize>(heap: &TagHeap<CAP>, asks: Option<TurnNumber>) -> Option<&[u8]>
-    requires { (game : Game) × IsRecorded game heap.now.records }
-    ensures { (game : Game) → IsRecorded game heap.now.records → option_map (λ bytes. bytes.now) result ≡ option_map record_of (board_asked asks game) }
+fn asked_record<'a, const CAP: usize>(
+    fiber: &Fiber,
+    heap: &'a TagHeap<CAP>,
+    asks: Option<TurnNumber>,
+) -> Option<&'a [u8]>
+    requires { KeepsBoards fiber.now heap.now }
+    ensures { option_map (λ bytes. bytes.now) result ≡ option_map record_of (board_asked asks fiber.now.game) }
 {
     match asks {
         None => None,
-        Some(at) => turn_record(heap, at),
+        Some(at) => turn_record(fiber, heap, at),
     }
 }
 
@@ -89,29 +95,35 @@ pub(crate) fn expected<'a, const CAP: usize>(
         charge: heap.charge(),
         kept: heap.count(),
         last: last_record(fiber),
-        asked: asked_record(heap, command.asks()),
+        asked: asked_record(fiber, heap, command.asks()),
         command: command.shared(),
     }
 }
 
-/// The number of parts of a move on the newest board: one for two seats.
-pub(crate) fn parts_of_last<const CAP: usize>(heap: &TagHeap<CAP>) -> usize
-    requires kept { (game : Game) × IsRecorded game heap.now.records }
-    requires some { 0 < length heap.now.records }
-    ensures value { (game : Game) → IsRecorded game heap.now.records → result ≡ parts_of (length (snakes_in (last_board game))) }
-    ensures some { 1 ≤ result }
-    ensures few { result ≤ 4 }
+/// The number of parts of a move on the board of the record, one for two seats; `None` if the game
+/// is over.
+fn parts_of_record(record: &Record) -> Option<usize>
+    ensures value { (b : AnyBoard) → record.now ≡ record_of b → MatchOption result (is_over b ≡ true) (λ parts. parts ≡ parts_of (length b.snakes)) }
+    ensures few { IfSome result (λ parts. (1 ≤ parts) × (parts ≤ 4)) }
 {
-    (seats_of_record(heap.record(heap.count() - 1)) + 1) / 2
+    if record.is_over() {
+        return None;
+    }
+    let _bytes = record.as_slice();
+    Some((record.seats() + 1) / 2)
 }
 
-/// Whether the game is over on its newest board.
-pub(crate) fn is_last_over<const CAP: usize>(heap: &TagHeap<CAP>) -> bool
-    requires kept { (game : Game) × IsRecorded game heap.now.records }
-    requires some { 0 < length heap.now.records }
-    ensures { (game : Game) → IsRecorded game heap.now.records → IfSome (last_board game) (λ board. result ≡ is_over board) }
+/// The number of parts of a move on the newest board; `None` if no game runs or it is over.
+pub(crate) fn parts_of_last(fiber: &Fiber) -> Option<usize>
+    ensures value { MatchOption result
+        (IfSome (last_board fiber.now.game) (λ board. is_over board ≡ true))
+        (λ parts. parts ≡ parts_of (length (snakes_in (last_board fiber.now.game)))) }
+    ensures few { IfSome result (λ parts. (1 ≤ parts) × (parts ≤ 4)) }
 {
-    over_of_record(heap.record(heap.count() - 1))
+    match last_record(fiber) {
+        None => None,
+        Some(last) => parts_of_record(last),
+    }
 }
 
 /// Applies an answer's effect to the records.

@@ -24,7 +24,7 @@ use crate::frames::Frames;
 use crate::games::Games;
 use crate::last_games::{last_game, note_game};
 use crate::plan_blocks::MOST_STAYS;
-use crate::records::{expected, is_last_over, parts_of_last};
+use crate::records::{expected, parts_of_last};
 use bs_counter::{PartKey, Tally, TallyName};
 use bs_fiber::{Contents, Done, JobKind, JobName, Ticket};
 use bs_heap::TagHeap;
@@ -107,23 +107,17 @@ fn place_from(rows: &[u32], first: usize) -> usize
 fn open_keys<const CAP: usize>(
     alloc: Global,
     fiber: &Fiber,
-    heap: &TagHeap<CAP>,
 ) -> Result<(Option<TallyName<Done<CAP>>>, Vec<PartKey<Done<CAP>>>), AllocError>
-    requires waits { 0 < length fiber.now.waiting }
-    requires heap { KeepsBoards fiber.now heap.now }
+    requires { 0 < length fiber.now.waiting }
     ensures { IfOk result (λ opened. (worker : ℕ) → HasKeys (with_taken worker kind.Begin 0 fiber.now) opened.0 opened.1.items) }
 {
-    fiber.keeps();
     if !fiber.next().is_move() {
         return Ok((None, Vec::new(alloc)));
     }
-    if heap.count() == 0 {
+    let Some(parts) = parts_of_last(fiber) else {
         return Ok((None, Vec::new(alloc)));
-    }
-    if is_last_over(heap) {
-        return Ok((None, Vec::new(alloc)));
-    }
-    let (tally, keys) = Tally::open_named(alloc, parts_of_last(heap))?;
+    };
+    let (tally, keys) = Tally::open_named(alloc, parts)?;
     Ok((Some(tally), keys))
 }
 
@@ -150,7 +144,7 @@ fn begin_input<const CAP: usize>(
     ensures err_frames { OnErr result (frames.new ≡ frames.old) }
 {
     let seq = fiber.next_seq();
-    let (tally, keys) = open_keys(alloc, fiber, heap)?;
+    let (tally, keys) = open_keys(alloc, fiber)?;
     let handle = fiber.take_handle();
     let contents = expected(fiber, heap, fiber.next(), seq, worker, job).to_contents(
         alloc, handle, spent,

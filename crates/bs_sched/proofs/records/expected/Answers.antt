@@ -23,7 +23,7 @@ returns-clause-value g c =
       };
       contents = record {
         last = sym c.last_record.ensures;
-        asked = sym (rw c.asks.ensures at c.asked_record.ensures game kept ∙ asked_of c.args.command.now game);
+        asked = sym (rw c.asks.ensures at c.asked_record.ensures ∙ asked_of c.args.command.now game);
         command = sym c.shared.ensures;
       };
     }
@@ -31,7 +31,6 @@ returns-clause-value g c =
 pub returns-clause-legal : goal.returns-clause-legal
 returns-clause-legal g c =
     let game = c.args.fiber.now.game in
-    let kept : IsRecorded game c.args.heap.now.records = record { right = c.keeps.ensures.right; is = c.requires.records } in
     subst (λ (asked : Option (List ℕ)). IfSome asked IsLegalRecord)
-    (sym (rw c.asks.ensures at c.asked_record.ensures game kept ∙ asked_of c.args.command.now game))
+    (sym (rw c.asks.ensures at c.asked_record.ensures ∙ asked_of c.args.command.now game))
     (legal_asked c.args.command.now game c.keeps.ensures.right)
