@@ -33,8 +33,6 @@ pub use records::decoding::decode;
 pub use records::encoding::{encode, encode_into};
 pub use records::kept_board::KeptBoard;
 pub use records::layout::{BoardBytes, SnakeBytes, split_board, split_snake};
-pub use records::over::over_of_record;
 pub use records::record::Record;
 pub use records::sizes::size;
 pub use records::snake::{decode_snake, encode_snake_into, snake_size};
-pub use records::turn::{seats_of_record, turn_of_record};

@@ -10,4 +10,3 @@ pub mod over;
 pub mod record;
 pub mod sizes;
 pub mod snake;
-pub mod turn;

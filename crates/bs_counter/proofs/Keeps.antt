@@ -8,8 +8,8 @@ use lib.ListN.{get_elem?}
 use Rattle.std.proofs.lemmas.List.{length-map, length-replicate}
 use Rattle.atomic_table.specs.Table.{State, Me, step, takes, gives, stepped, opening, Allows, Splits}
 use Rattle.atomic_table.proofs.Lists.{at_set, set_here, set_else, at_longer, at_last}
-use Rattle.bs_counter.specs.declared.views.View.{View}
-use Rattle.bs_counter.specs.declared.views.View.TheVariants.{Owes, Writes, Past, Last}
+use Rattle.bs_counter.specs.declared.views.SeatView.{SeatView}
+use Rattle.bs_counter.specs.declared.views.SeatView.TheVariants.{Owes, Writes, Past, Last}
 use Rattle.bs_counter.specs.Missing.{IsMissing, IsSet}
 use Rattle.bs_counter.specs.Tally.{Covers, Waits, weight, owing, IsFilled, IsFinished, Tallied, started, ended, fetched, without_first, first_alone}
 
@@ -36,37 +36,37 @@ at_copies (suc n) (suc p) a h = at_copies n p a (omega arith)
 
 -- views
 
-covers_weighs : (v : View) (p : ℕ) → Covers v p → 0 < weight v
+covers_weighs : (v : SeatView) (p : ℕ) → Covers v p → 0 < weight v
 covers_weighs (Owes a b) p c = let l = c.0 in let r = c.1 in omega arith
 covers_weighs (Writes q) p c = omega arith
 covers_weighs Past p c = absurd c
 covers_weighs (Last k) p c = absurd c
 
-waits_covers : (v : View) (p : ℕ) → Waits v p → Covers v p
+waits_covers : (v : SeatView) (p : ℕ) → Waits v p → Covers v p
 waits_covers (Owes a b) p c = c
 waits_covers (Writes q) p c = absurd c
 waits_covers Past p c = absurd c
 waits_covers (Last k) p c = absurd c
 
-owing_set : (l : List View) (i : ℕ) (v w : View) → get_elem? l i ≡ some v → owing (set l i w) + weight v ≡ owing l + weight w
+owing_set : (l : List SeatView) (i : ℕ) (v w : SeatView) → get_elem? l i ≡ some v → owing (set l i w) + weight v ≡ owing l + weight w
 owing_set [] i v w e = absurd (some-ne-none v (sym e))
 owing_set (x ∷ xs) zero v w e = let is : weight x ≡ weight v = ap weight (some-injective x v e) in omega arith
 owing_set (x ∷ xs) (suc i) v w e = let r = owing_set xs i v w e in omega arith
 
-owing_end : (l : List View) (v : View) → owing (l ++ v ∷ []) ≡ owing l + weight v
+owing_end : (l : List SeatView) (v : SeatView) → owing (l ++ v ∷ []) ≡ owing l + weight v
 owing_end [] v = let none : owing (v ∷ []) ≡ weight v + 0 = refl in omega arith
 owing_end (x ∷ xs) v = let r = owing_end xs v in omega arith
 
-owing_at : (l : List View) (i : ℕ) (v : View) → get_elem? l i ≡ some v → weight v ≤ owing l
+owing_at : (l : List SeatView) (i : ℕ) (v : SeatView) → get_elem? l i ≡ some v → weight v ≤ owing l
 owing_at l i v e = let s : owing (set l i Past) + weight v ≡ owing l + 0 = owing_set l i v Past e in omega arith
 
-covered : (v : View) → 0 < weight v → (p : ℕ) × Covers v p
+covered : (v : SeatView) → 0 < weight v → (p : ℕ) × Covers v p
 covered (Owes a b) some_left = (a, (omega arith, omega arith))
 covered (Writes q) some_left = (q, refl)
 covered Past some_left = absurd (omega arith)
 covered (Last k) some_left = absurd (omega arith)
 
-some_missing : (l : List View) → 0 < owing l → (p : ℕ) × IsMissing l p
+some_missing : (l : List SeatView) → 0 < owing l → (p : ℕ) × IsMissing l p
 some_missing [] left = absurd (omega arith)
 some_missing (x ∷ xs) left =
     elim (eq-zero-or-pos (weight x)) [
@@ -79,10 +79,10 @@ injective k l e = cc
 
 module _ {T : Type 0} (part : T → ℕ) (n : ℕ) where
   abbrev St : Type 0
-  St = State (Option T) View
+  St = State (Option T) SeatView
 
   abbrev M : Type 0
-  M = Me (Option T) View
+  M = Me (Option T) SeatView
 
   abbrev Homes : Type 0
   Homes = List (maybe.Option (Option T))
@@ -92,17 +92,17 @@ module _ {T : Type 0} (part : T → ℕ) (n : ℕ) where
 
   -- a tally is made
 
-  opened : (i : ℕ) (v : View) → get_elem? (Owes 0 n ∷ []) i ≡ some v → (i ≡ 0) × (Owes 0 n ≡ v)
+  opened : (i : ℕ) (v : SeatView) → get_elem? (Owes 0 n ∷ []) i ≡ some v → (i ≡ 0) × (Owes 0 n ≡ v)
   opened zero v e = (refl, some-injective (Owes 0 n) v e)
   opened (suc i) v e = absurd (some-ne-none v (sym e))
 
   none_last_yet : (i k : ℕ) → get_elem? (Owes 0 n ∷ []) i ≡ some (Last k) → ⊥
   none_last_yet i k e = let is : Owes 0 n ≡ Last k = (opened i (Last k) e).1 in cc
 
-  opened_inside : (i p : ℕ) (v : View) → get_elem? (Owes 0 n ∷ []) i ≡ some v → Covers v p → p < n
-  opened_inside i p v e c = let there : Covers (Owes 0 n) p = subst (λ (u : View). Covers u p) (sym (opened i v e).1) c in there.1
+  opened_inside : (i p : ℕ) (v : SeatView) → get_elem? (Owes 0 n ∷ []) i ≡ some v → Covers v p → p < n
+  opened_inside i p v e c = let there : Covers (Owes 0 n) p = subst (λ (u : SeatView). Covers u p) (sym (opened i v e).1) c in there.1
 
-  opened_empty : (i p : ℕ) (v : View) → get_elem? (Owes 0 n ∷ []) i ≡ some v → Waits v p → get_elem? (map some (replicate n nothing)) p ≡ some (some nothing)
+  opened_empty : (i p : ℕ) (v : SeatView) → get_elem? (Owes 0 n ∷ []) i ≡ some v → Waits v p → get_elem? (map some (replicate n nothing)) p ≡ some (some nothing)
   opened_empty i p v e c = at_copies n p nothing (opened_inside i p v e (waits_covers v p c))
 
   pub opens : 0 < n → Tallied part n (opening (n ∷ []) (replicate n None) (Owes 0 n))
@@ -121,21 +121,21 @@ module _ {T : Type 0} (part : T → ℕ) (n : ℕ) where
       }
 
   -- A seat's view v becomes w, which covers no more.
-  module _ (s : St) (r : Tallied part n s) (id : ℕ) (v w : View) (at : get_elem? s.views id ≡ some v) (less : (p : ℕ) → Covers w p → Covers v p) where
+  module _ (s : St) (r : Tallied part n s) (id : ℕ) (v w : SeatView) (at : get_elem? s.views id ≡ some v) (less : (p : ℕ) → Covers w p → Covers v p) where
     -- what a seat covers after the step it covered before
-    before : (i p : ℕ) (u : View) → get_elem? (set s.views id w) i ≡ some u → Covers u p → (u' : View) × (get_elem? s.views i ≡ some u') × Covers u' p
+    before : (i p : ℕ) (u : SeatView) → get_elem? (set s.views id w) i ≡ some u → Covers u p → (u' : SeatView) × (get_elem? s.views i ≡ some u') × Covers u' p
     before i p u e c =
-        ⊎_elim (λ t. (v, subst (λ (j : ℕ). get_elem? s.views j ≡ some v) (sym t.0) at, less p (subst (λ (x : View). Covers x p) (sym t.1) c)))
+        ⊎_elim (λ t. (v, subst (λ (j : ℕ). get_elem? s.views j ≡ some v) (sym t.0) at, less p (subst (λ (x : SeatView). Covers x p) (sym t.1) c)))
         (λ t. (u, t.1, c)) (at_set s.views id i w u e)
 
-    inside_after : (i p : ℕ) (u : View) → get_elem? (set s.views id w) i ≡ some u → Covers u p → p < n
+    inside_after : (i p : ℕ) (u : SeatView) → get_elem? (set s.views id w) i ≡ some u → Covers u p → p < n
     inside_after i p u e c = let b = before i p u e c in r.inside i p b.0 b.1 b.2
 
-    disjoint_after : (i j p : ℕ) (a b : View) → get_elem? (set s.views id w) i ≡ some a → get_elem? (set s.views id w) j ≡ some b → Covers a p → Covers b p → i ≡ j
+    disjoint_after : (i j p : ℕ) (a b : SeatView) → get_elem? (set s.views id w) i ≡ some a → get_elem? (set s.views id w) j ≡ some b → Covers a p → Covers b p → i ≡ j
     disjoint_after i j p a b e f c d = let x = before i p a e c in let y = before j p b f d in r.disjoint i j p x.0 y.0 x.1 y.1 x.2 y.2
 
     -- a seat other than this one covers none of its parts
-    apart : (i p q : ℕ) (u : View) → i ≢ id → get_elem? s.views i ≡ some u → Covers u q → Covers v p → q ≢ p
+    apart : (i p q : ℕ) (u : SeatView) → i ≢ id → get_elem? s.views i ≡ some u → Covers u q → Covers v p → q ≢ p
     apart i p q u other e c d same = other (r.disjoint i id q u v e at c (subst (λ (x : ℕ). Covers v x) (sym same) d))
 
     -- no seat was last while a part was missing
@@ -150,14 +150,14 @@ module _ {T : Type 0} (part : T → ℕ) (n : ℕ) where
     finished_before : (q : ℕ) → ¬ Covers v q → IsFinished (set s.views id w) q → IsFinished s.views q
     finished_before q mine done i u e c =
         dite (ℕ_discrete i id)
-        (λ same. mine (subst (λ (x : View). Covers x q) (some-injective u v (sym e ∙ subst (λ (j : ℕ). get_elem? s.views j ≡ some v) (sym same) at)) c))
+        (λ same. mine (subst (λ (x : SeatView). Covers x q) (some-injective u v (sym e ∙ subst (λ (j : ℕ). get_elem? s.views j ≡ some v) (sym same) at)) c))
         (λ other. done i u (at_new_other s.views id i u w other e) c)
 
     -- an empty slot of another seat is still empty
-    empty_after : (p : ℕ) (h : maybe.Option (Option T)) → Covers v p → ((q : ℕ) → ¬ Waits w q) → (i q : ℕ) (u : View) → get_elem? (set s.views id w) i ≡ some u → Waits u q
+    empty_after : (p : ℕ) (h : maybe.Option (Option T)) → Covers v p → ((q : ℕ) → ¬ Waits w q) → (i q : ℕ) (u : SeatView) → get_elem? (set s.views id w) i ≡ some u → Waits u q
         → get_elem? (set s.homes p h) q ≡ some (some None)
     empty_after p h mine waits i q u e c =
-        ⊎_elim (λ t. absurd (waits q (subst (λ (x : View). Waits x q) (sym t.1) c)))
+        ⊎_elim (λ t. absurd (waits q (subst (λ (x : SeatView). Waits x q) (sym t.1) c)))
         (λ t. set_else s.homes p q h (apart i p q u t.0 t.1 (waits_covers u q c) mine) ∙ r.empty i q u t.1 c) (at_set s.views id i w u e)
 
   filled_other : (homes : Homes) (p q : ℕ) (h : maybe.Option (Option T)) → q ≢ p → IsFilled part homes q → IsFilled part (set homes p h) q
@@ -175,8 +175,8 @@ module _ {T : Type 0} (part : T → ℕ) (n : ℕ) where
   starts_at : (s : St) (id p : ℕ) → Tallied part n s → get_elem? s.views id ≡ some (Owes p (p + 1))
       → Tallied part n (stepped s 0 (get_or s.words 0 0) id [] (Writes p) (takes p None))
   starts_at s id p r at =
-      let v : View = Owes p (p + 1) in
-      let w : View = Writes p in
+      let v : SeatView = Owes p (p + 1) in
+      let w : SeatView = Writes p in
       let less : (q : ℕ) → Covers w q → Covers v q = λ q c. let e : q ≡ p = c in (omega arith, omega arith) in
       let mine : Covers v p = (omega arith, omega arith) in
       let one : weight v ≡ p + 1 - p = refl in
@@ -211,7 +211,7 @@ module _ {T : Type 0} (part : T → ℕ) (n : ℕ) where
   -- a slot is put back with the outcome of its part
 
   -- the part whose slot is put back is filled, and so is each other that was finished before
-  filled_after : (s : St) (id p q : ℕ) (x : T) (w : View) → Tallied part n s → get_elem? s.views id ≡ some (Writes p) → part x ≡ p → q < n
+  filled_after : (s : St) (id p q : ℕ) (x : T) (w : SeatView) → Tallied part n s → get_elem? s.views id ≡ some (Writes p) → part x ≡ p → q < n
       → ((p' : ℕ) → Covers w p' → Covers (Writes p) p') → IsFinished (set s.views id w) q → IsFilled part (set s.homes p (some (Some x))) q
   filled_after s id p q x w r at is within less done =
       dite (ℕ_discrete q p)
@@ -226,8 +226,8 @@ module _ {T : Type 0} (part : T → ℕ) (n : ℕ) where
   goes_home : (s : St) (id p k : ℕ) (x : T) → Tallied part n s → get_elem? s.views id ≡ some (Writes p) → part x ≡ p → owing s.views ≡ k + 1 → 0 < k
       → Tallied part n (stepped s 0 k id ((p, Some x) ∷ []) Past gives)
   goes_home s id p k x r at is many some_more =
-      let v : View = Writes p in
-      let w : View = Past in
+      let v : SeatView = Writes p in
+      let w : SeatView = Past in
       let less : (q : ℕ) → Covers w q → Covers v q = λ q c. absurd c in
       let sum : owing (set s.views id w) + 1 ≡ owing s.views + 0 = owing_set s.views id v w at in
       let some_left : 0 < weight v = omega arith in
@@ -246,14 +246,14 @@ module _ {T : Type 0} (part : T → ℕ) (n : ℕ) where
       }
 
   -- if no part is missing, each is finished
-  all_finished : (views : List View) (q : ℕ) → owing views ≡ 0 → IsFinished views q
+  all_finished : (views : List SeatView) (q : ℕ) → owing views ≡ 0 → IsFinished views q
   all_finished views q none_left i u e c = let l = owing_at views i u e in let m = covers_weighs u q c in absurd (omega arith)
 
   goes_home_last : (s : St) (id p : ℕ) (x : T) → Tallied part n s → get_elem? s.views id ≡ some (Writes p) → part x ≡ p → owing s.views ≡ 1
       → Tallied part n (stepped s 0 0 id ((p, Some x) ∷ []) (Last 0) gives)
   goes_home_last s id p x r at is many =
-      let v : View = Writes p in
-      let w : View = Last 0 in
+      let v : SeatView = Writes p in
+      let w : SeatView = Last 0 in
       let less : (q : ℕ) → Covers w q → Covers v q = λ q c. absurd c in
       let sum : owing (set s.views id w) + 1 ≡ owing s.views + 0 = owing_set s.views id v w at in
       let none_left : owing (set s.views id w) ≡ 0 = omega arith in
@@ -310,8 +310,8 @@ module _ {T : Type 0} (part : T → ℕ) (n : ℕ) where
   fetches_at : (s : St) (id k : ℕ) (c : List (ℕ × Option T)) → Tallied part n s → get_elem? s.views id ≡ some (Last k) → (y : Option T)
       → Tallied part n (stepped s 0 (get_or s.words 0 0) id c (Last (k + 1)) (takes k y))
   fetches_at s id k c r at y =
-      let v : View = Last k in
-      let w : View = Last (k + 1) in
+      let v : SeatView = Last k in
+      let w : SeatView = Last (k + 1) in
       let less : (q : ℕ) → Covers w q → Covers v q = λ q c. absurd c in
       let mine = r.last id k at in
       let sum : owing (set s.views id w) + 0 ≡ owing s.views + 0 = owing_set s.views id v w at in
@@ -341,22 +341,22 @@ module _ {T : Type 0} (part : T → ℕ) (n : ℕ) where
 
   pub fetches : (slots id k : ℕ) (me : M) → k < n → me.0 ≡ Last k → Allows (Tallied part n) slots id me 0 (λ x. x) (fetched part (step slots 0 0 0 none) me)
   fetches slots id k me within is =
-      subst (λ (v : View). Allows (Tallied part n) slots id (v, me.1) 0 (λ x. x) (fetched part (step slots 0 0 0 none) (v, me.1))) (sym is)
+      subst (λ (v : SeatView). Allows (Tallied part n) slots id (v, me.1) 0 (λ x. x) (fetched part (step slots 0 0 0 none) (v, me.1))) (sym is)
       (fetches_from slots id k me.1 within)
 
   -- a key is split off
 
   module _ (s : St) (r : Tallied part n s) (id a b : ℕ) (more : a < b) (at : get_elem? s.views id ≡ some (Owes a b)) where
-    abbrev v : View
+    abbrev v : SeatView
     v = Owes a b
 
-    abbrev w : View
+    abbrev w : SeatView
     w = Owes (a + 1) b
 
-    abbrev u : View
+    abbrev u : SeatView
     u = Owes a (a + 1)
 
-    abbrev views' : List View
+    abbrev views' : List SeatView
     views' = set s.views id w ++ u ∷ []
 
     less' : (p : ℕ) → Covers w p → Covers v p
@@ -370,41 +370,41 @@ module _ {T : Type 0} (part : T → ℕ) (n : ℕ) where
         omega arith
 
     -- a seat other than the new one is as after the step; the new one is the last
-    old_or_new : (i : ℕ) (x : View) → get_elem? views' i ≡ some x → (get_elem? (set s.views id w) i ≡ some x) ⊎ ((i ≡ length s.views) × (u ≡ x))
+    old_or_new : (i : ℕ) (x : SeatView) → get_elem? views' i ≡ some x → (get_elem? (set s.views id w) i ≡ some x) ⊎ ((i ≡ length s.views) × (u ≡ x))
     old_or_new i x e = ⊎_elim (λ t. inl t) (λ t. inr (t.0 ∙ length-set s.views id w, t.1)) (at_end (set s.views id w) u x i e)
 
     -- only the new seat covers its part
-    not_first : (i p : ℕ) (x : View) → get_elem? (set s.views id w) i ≡ some x → Covers x p → Covers u p → ⊥
+    not_first : (i p : ℕ) (x : SeatView) → get_elem? (set s.views id w) i ≡ some x → Covers x p → Covers u p → ⊥
     not_first i p x e c d =
-        ⊎_elim (λ t. let m : Covers w p = subst (λ (y : View). Covers y p) (sym t.1) c in let l = m.0 in let h = d.1 in absurd (omega arith))
+        ⊎_elim (λ t. let m : Covers w p = subst (λ (y : SeatView). Covers y p) (sym t.1) c in let l = m.0 in let h = d.1 in absurd (omega arith))
         (λ t. let l = d.0 in let h = d.1 in apart s r id v w at less' i p p x t.0 t.1 c (omega arith, omega arith) refl) (at_set s.views id i w x e)
 
-    split_inside : (i p : ℕ) (x : View) → get_elem? views' i ≡ some x → Covers x p → p < n
+    split_inside : (i p : ℕ) (x : SeatView) → get_elem? views' i ≡ some x → Covers x p → p < n
     split_inside i p x e c =
         ⊎_elim (λ t. inside_after s r id v w at less' i p x t c)
-        (λ t. let d : Covers u p = subst (λ (y : View). Covers y p) (sym t.1) c in let l = d.0 in let h = d.1 in r.inside id p v at (omega arith, omega arith))
+        (λ t. let d : Covers u p = subst (λ (y : SeatView). Covers y p) (sym t.1) c in let l = d.0 in let h = d.1 in r.inside id p v at (omega arith, omega arith))
         (old_or_new i x e)
 
-    split_disjoint : (i j p : ℕ) (x y : View) → get_elem? views' i ≡ some x → get_elem? views' j ≡ some y → Covers x p → Covers y p → i ≡ j
+    split_disjoint : (i j p : ℕ) (x y : SeatView) → get_elem? views' i ≡ some x → get_elem? views' j ≡ some y → Covers x p → Covers y p → i ≡ j
     split_disjoint i j p x y e f c d =
         ⊎_elim
         (λ t. ⊎_elim (λ t'. disjoint_after s r id v w at less' i j p x y t t' c d)
-        (λ t'. absurd (not_first i p x t c (subst (λ (z : View). Covers z p) (sym t'.1) d))) (old_or_new j y f))
-        (λ t. ⊎_elim (λ t'. absurd (not_first j p y t' d (subst (λ (z : View). Covers z p) (sym t.1) c)))
+        (λ t'. absurd (not_first i p x t c (subst (λ (z : SeatView). Covers z p) (sym t'.1) d))) (old_or_new j y f))
+        (λ t. ⊎_elim (λ t'. absurd (not_first j p y t' d (subst (λ (z : SeatView). Covers z p) (sym t.1) c)))
         (λ t'. t.0 ∙ sym t'.0) (old_or_new j y f))
         (old_or_new i x e)
 
-    split_empty : (i p : ℕ) (x : View) → get_elem? views' i ≡ some x → Waits x p → get_elem? s.homes p ≡ some (some None)
+    split_empty : (i p : ℕ) (x : SeatView) → get_elem? views' i ≡ some x → Waits x p → get_elem? s.homes p ≡ some (some None)
     split_empty i p x e c =
-        ⊎_elim (λ t. ⊎_elim (λ q. let m : Covers w p = subst (λ (y : View). Waits y p) (sym q.1) c in r.empty id p v at (less' p m)) (λ q. r.empty i p x q.1 c) (at_set s.views id i w x t))
-        (λ t. let d : Covers u p = subst (λ (y : View). Waits y p) (sym t.1) c in let l = d.0 in let h = d.1 in r.empty id p v at (omega arith, omega arith))
+        ⊎_elim (λ t. ⊎_elim (λ q. let m : Covers w p = subst (λ (y : SeatView). Waits y p) (sym q.1) c in r.empty id p v at (less' p m)) (λ q. r.empty i p x q.1 c) (at_set s.views id i w x t))
+        (λ t. let d : Covers u p = subst (λ (y : SeatView). Waits y p) (sym t.1) c in let l = d.0 in let h = d.1 in r.empty id p v at (omega arith, omega arith))
         (old_or_new i x e)
 
     split_finished : (p : ℕ) → IsFinished views' p → IsFinished s.views p
     split_finished p done i x e c =
         dite (ℕ_discrete i id)
         (λ same.
-        let m : Covers v p = subst (λ (y : View). Covers y p) (some-injective x v (sym e ∙ subst (λ (j : ℕ). get_elem? s.views j ≡ some v) (sym same) at)) c in
+        let m : Covers v p = subst (λ (y : SeatView). Covers y p) (some-injective x v (sym e ∙ subst (λ (j : ℕ). get_elem? s.views j ≡ some v) (sym same) at)) c in
         let l = m.0 in
         let h = m.1 in
         dite (ℕ_discrete p a)
@@ -436,29 +436,29 @@ module _ {T : Type 0} (part : T → ℕ) (n : ℕ) where
           some_last = λ e. absurd (omega arith);
         }
 
-  pub splits : (id a b : ℕ) (x : View) → a < b → x ≡ Owes a b → Splits (Tallied part n) id x (without_first x) (first_alone x)
+  pub splits : (id a b : ℕ) (x : SeatView) → a < b → x ≡ Owes a b → Splits (Tallied part n) id x (without_first x) (first_alone x)
   splits id a b x more is =
-      subst (λ (y : View). Splits (Tallied part n) id y (without_first y) (first_alone y)) (sym is) (λ s r at. split_keeps s r id a b more at)
+      subst (λ (y : SeatView). Splits (Tallied part n) id y (without_first y) (first_alone y)) (sym is) (λ s r at. split_keeps s r id a b more at)
 
   -- the tally as a set
 
   module _ (s : St) (r : Tallied part n s) where
-    finish_takes : (id p : ℕ) (w : View) → get_elem? s.views id ≡ some (Writes p) → ((q : ℕ) → ¬ Covers w q) → (q : ℕ) → IsMissing (set s.views id w) q
+    finish_takes : (id p : ℕ) (w : SeatView) → get_elem? s.views id ≡ some (Writes p) → ((q : ℕ) → ¬ Covers w q) → (q : ℕ) → IsMissing (set s.views id w) q
         → IsMissing s.views q × (q ≢ p)
     finish_takes id p w at spent q missing =
         let less : (k : ℕ) → Covers w k → Covers (Writes p) k = λ k c. absurd (spent k c) in
         let e = missing.2 in
         let c = missing.3 in
-        ⊎_elim (λ t. absurd (spent q (subst (λ (x : View). Covers x q) (sym t.1) c)))
+        ⊎_elim (λ t. absurd (spent q (subst (λ (x : SeatView). Covers x q) (sym t.1) c)))
         (λ t. ((missing.0, missing.1, t.1, c), apart s r id (Writes p) w at less missing.0 p q missing.1 t.0 t.1 c refl)) (at_set s.views id missing.0 w missing.1 e)
 
-    finish_leaves : (id p : ℕ) (w : View) → get_elem? s.views id ≡ some (Writes p) → (q : ℕ) → IsMissing s.views q × (q ≢ p) → IsMissing (set s.views id w) q
+    finish_leaves : (id p : ℕ) (w : SeatView) → get_elem? s.views id ≡ some (Writes p) → (q : ℕ) → IsMissing s.views q × (q ≢ p) → IsMissing (set s.views id w) q
     finish_leaves id p w at q missing =
         let i = missing.0.0 in
         let v = missing.0.1 in
         let e = missing.0.2 in
         let c = missing.0.3 in
-        let other : i ≢ id = λ same. missing.1 (subst (λ (x : View). Covers x q) (some-injective v (Writes p) (sym e ∙ subst (λ (j : ℕ). get_elem? s.views j ≡ some (Writes p)) (sym same) at)) c) in
+        let other : i ≢ id = λ same. missing.1 (subst (λ (x : SeatView). Covers x q) (some-injective v (Writes p) (sym e ∙ subst (λ (j : ℕ). get_elem? s.views j ≡ some (Writes p)) (sym same) at)) c) in
         (i, v, at_new_other s.views id i v w other e, c)
 
     -- if no seat has to finish a part, the word is 0

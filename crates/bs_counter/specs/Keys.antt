@@ -2,8 +2,8 @@
 use Rattle.std.specs.Prelude.{◌≡◌, ℕ, ◌+◌, ◌<◌, ◌≤◌, List, [], length, Option, Some, slice_get}
 use Rattle.atomic_table.specs.Seated.{TableId}
 use Rattle.atomic_table.specs.declared.shared.Seat.{Seat}
-use Rattle.bs_counter.specs.declared.views.View.{View}
-use Rattle.bs_counter.specs.declared.views.View.TheVariants.{Owes}
+use Rattle.bs_counter.specs.declared.views.SeatView.{SeatView}
+use Rattle.bs_counter.specs.declared.views.SeatView.TheVariants.{Owes}
 
 -- which tally it is
 abbrev pub TallyId : Type 0
@@ -17,11 +17,11 @@ pub record Key : Type 0 where
   pub tally : TableId
   pub seat : ℕ
 
-abbrev pub key_at : {T : Type 0} → ℕ → ℕ → Seat (Option T) View → Key
+abbrev pub key_at : {T : Type 0} → ℕ → ℕ → Seat (Option T) SeatView → Key
 key_at part parts s = record { part = part; parts = parts; tally = s.table_id; seat = s.id }
 
 -- the seat, at that tally of `parts` parts, owes the one part
-pub record IsKeyAt {T : Type 0} (tally : TableId) (key part parts : ℕ) (s : Seat (Option T) View) : Type 0 where
+pub record IsKeyAt {T : Type 0} (tally : TableId) (key part parts : ℕ) (s : Seat (Option T) SeatView) : Type 0 where
   pub table : s.table_id ≡ tally
   pub word : tally.words ≡ 1
   pub count : key ≡ parts

@@ -2,7 +2,7 @@
 use Rattle.std.specs.Prelude.{◌≡◌, ℕ, ◌<◌, List, [], length, Option, Some, slice_get}
 use Rattle.bs_counter.specs.declared.finish.Finish.{Finish}
 use Rattle.bs_counter.specs.declared.finish.Finish.TheVariants as finish
-use Rattle.bs_counter.specs.declared.views.View.TheVariants.{Past}
+use Rattle.bs_counter.specs.declared.views.SeatView.TheVariants.{Past}
 use Rattle.bs_counter.specs.Keys.{Key}
 
 -- one outcome for each of n parts, in order

@@ -2,7 +2,7 @@
 ghost use Rattle.std.specs.Prelude.{◌≡◌, ◌≤◌};
 ghost use Rattle.bs_counter.specs.Tally.{IsSeatAt};
 ghost use Rattle.bs_counter.specs.Outcomes.{AreOutcomes};
-ghost use Rattle.bs_counter.specs.declared.views.View.TheVariants.{Last};
+ghost use Rattle.bs_counter.specs.declared.views.SeatView.TheVariants.{Last};
 
 use crate::parted::Parted;
 use crate::steps::{TallySeat, TallyTable, fetch};

@@ -1,7 +1,7 @@
 //! A tally is a set of missing parts.
 ghost use Rattle.std.specs.Prelude.{ℕ, Option};
 ghost use Rattle.atomic_table.specs.Table.{State};
-ghost use Rattle.bs_counter.specs.declared.views.View.{View};
+ghost use Rattle.bs_counter.specs.declared.views.SeatView.{SeatView};
 ghost use Rattle.bs_counter.specs.Missing.{IsSet};
 ghost use Rattle.bs_counter.specs.Tally.{Tallied};
 
@@ -11,5 +11,5 @@ use crate::parted::Parted;
 /// is empty, and a seat that finishes its part removes that part and no other. Where no part is
 /// missing exactly one seat is the last finisher, else none.
 pub fn tally_law<T: Parted>()
-    ensures { (n : ℕ) (s : State (Option T) View) → Tallied T.part_of n s → IsSet s }
+    ensures { (n : ℕ) (s : State (Option T) SeatView) → Tallied T.part_of n s → IsSet s }
 {}

@@ -18,4 +18,4 @@ pub use name::TallyName;
 pub use parted::Parted;
 pub use tally::Tally;
 #[doc(hidden)]
-pub use views::{Turn, View};
+pub use views::{SeatView, TallyRule};

@@ -2,19 +2,19 @@
 //! the calling seat holds alone.
 ghost use Rattle.std.specs.Prelude.{◌≡◌, ◌≢◌, ◌+◌, ◌<◌, [], ◌∷◌, Some, None};
 ghost use Rattle.bs_counter.specs.Tally.{IsSeatAt, IsSameSeat};
-ghost use Rattle.bs_counter.specs.declared.views.View.TheVariants.{Owes, Writes, Past, Last};
+ghost use Rattle.bs_counter.specs.declared.views.SeatView.TheVariants.{Owes, Writes, Past, Last};
 
 use crate::parted::Parted;
 use crate::plays::{End, Fetch, FirstPart, Start};
-use crate::views::{Turn, View};
+use crate::views::{SeatView, TallyRule};
 use atomic_table::{Seat, Table};
 use std::alloc::Global;
 
 /// One word, the number of missing parts, and one slot for the outcome of each part.
-pub type TallyTable<T> = Table<Option<T>, View, usize, Turn, Global>;
+pub type TallyTable<T> = Table<Option<T>, SeatView, usize, TallyRule, Global>;
 
 /// A seat at that table.
-pub type TallySeat<T> = Seat<Option<T>, View>;
+pub type TallySeat<T> = Seat<Option<T>, SeatView>;
 
 /// Splits the first of the seat's parts off to a new seat.
 pub(crate) fn split<T: Parted>(

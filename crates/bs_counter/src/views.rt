@@ -3,7 +3,7 @@ use crate::parted::Parted;
 use atomic_table::TableRule;
 
 /// What a seat knows. No value of this type is made.
-pub enum View {
+pub enum SeatView {
     /// The seat is to finish the parts from the first number to the second, exclusive.
     Owes(u64, u64),
     /// The seat is finishing that part and holds its slot.
@@ -15,11 +15,11 @@ pub enum View {
 }
 
 /// The rule of a tally. The key of its table is the number of parts.
-pub struct Turn;
+pub struct TallyRule;
 
-impl<T: Parted> TableRule<Option<T>, View, usize> for Turn {
+impl<T: Parted> TableRule<Option<T>, SeatView, usize> for TallyRule {
     ghost use Rattle.bs_counter.specs.Tally.{Tallied};
-    ghost use Rattle.bs_counter.specs.declared.views.View.TheVariants.{Owes};
+    ghost use Rattle.bs_counter.specs.declared.views.SeatView.TheVariants.{Owes};
 
     ghost holds = { λ n. Tallied T.part_of n };
 

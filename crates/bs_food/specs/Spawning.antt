@@ -1,4 +1,4 @@
--- Where new food appears: a function of the board and the random words alone.
+-- Where new food appears: a function of the board and the words of the move alone.
 use Rattle.std.specs.Prelude.{ℕ, ◌-◌, ◌%◌, ◌==◌, if◌then◌else◌, List, [], ◌∷◌, ◌++◌, length, take, fold, nat_lt, slice_index_or}
 use Rattle.bs_board.specs.declared.boards.point.Point.{Point}
 use Rattle.bs_board.specs.declared.boards.board.Board.{Board}

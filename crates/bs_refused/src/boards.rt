@@ -174,8 +174,8 @@ impl Question for CopyReply {
 
     type Answer = Reply;
 
-    fn call(_alloc: Global, on: &Reply) -> Result<Reply, Fault> {
-        Ok(on.copy()?)
+    fn call(alloc: Global, on: &Reply) -> Result<Reply, Fault> {
+        Ok(on.copy(alloc)?)
     }
 }
 

@@ -12,7 +12,7 @@ use Rattle.bs_board.specs.boards.Wrap.{is_wrapped, wrap_of}
 use Rattle.bs_modes.specs.Growth.{grown_snake}
 use Rattle.bs_rules.specs.Motion.{moved, moved_board, given_to}
 use Rattle.bs_rules.specs.Feeding.{fed, fed_snake, eats}
-use Rattle.bs_rules.specs.Elimination.{starved_or_outside, first_judged, first_verdict, judged}
+use Rattle.bs_rules.specs.Elimination.{starved_or_outside, starved_or_outside_snake, starved_or_outside_verdict, judged}
 use Rattle.bs_rules.specs.Collision.{collided, collision_verdict}
 use Rattle.bs_rules.proofs.Ids.{ids_of, ids_of_map, ids_of_map_seats}
 
@@ -26,23 +26,23 @@ judged_id : (turn : ℕ) (verdict : Option Verdict) (s : Snake) → (judged turn
 judged_id turn None s = refl
 judged_id turn (Some v) s = refl
 
-first_id : (wraps : Bool) (width height turn : ℕ) (s : Snake) → (first_judged wraps width height turn s).id ≡ s.id
+first_id : (wraps : Bool) (width height turn : ℕ) (s : Snake) → (starved_or_outside_snake wraps width height turn s).id ≡ s.id
 first_id wraps width height turn s =
-    cond_both (is_living s) (judged turn (first_verdict wraps width height s) s) s (λ t. t.id ≡ s.id) (λ _. judged_id turn (first_verdict wraps width height s) s) (λ _. refl)
+    cond_both (is_living s) (judged turn (starved_or_outside_verdict wraps width height s) s) s (λ t. t.id ≡ s.id) (λ _. judged_id turn (starved_or_outside_verdict wraps width height s) s) (λ _. refl)
 
 pub ids_stay : (b : Board) (orders : List (List ℕ × Direction)) → ids_of (collided (starved_or_outside (fed (moved_board orders b)))).snakes ≡ ids_of b.snakes
 ids_stay b orders =
     let moving = λ (s : Snake). moved (wrap_of b) (given_to orders s.id) s in
-    let at_first = map (first_judged (is_wrapped b.mode) b.width b.height (b.turn + 1)) (map (fed_snake b.food) (map moving b.snakes)) in
+    let at_first = map (starved_or_outside_snake (is_wrapped b.mode) b.width b.height (b.turn + 1)) (map (fed_snake b.food) (map moving b.snakes)) in
     ids_of_map_seats (λ seat s. judged (b.turn + 1) (collision_verdict at_first seat) s) (λ seat s. judged_id (b.turn + 1) (collision_verdict at_first seat) s) at_first
-    ∙ ids_of_map (first_judged (is_wrapped b.mode) b.width b.height (b.turn + 1)) (first_id (is_wrapped b.mode) b.width b.height (b.turn + 1)) (map (fed_snake b.food) (map moving b.snakes))
+    ∙ ids_of_map (starved_or_outside_snake (is_wrapped b.mode) b.width b.height (b.turn + 1)) (first_id (is_wrapped b.mode) b.width b.height (b.turn + 1)) (map (fed_snake b.food) (map moving b.snakes))
     ∙ ids_of_map (fed_snake b.food) (fed_id b.food) (map moving b.snakes)
     ∙ ids_of_map moving (λ s. moved_id (wrap_of b) (given_to orders s.id) s) b.snakes
 
 pub seats_stay : (b : Board) (orders : List (List ℕ × Direction)) → length (starved_or_outside (fed (moved_board orders b))).snakes ≡ length b.snakes
 seats_stay b orders =
     let moving = λ (s : Snake). moved (wrap_of b) (given_to orders s.id) s in
-    length-map (map (fed_snake b.food) (map moving b.snakes)) (first_judged (is_wrapped b.mode) b.width b.height (b.turn + 1))
+    length-map (map (fed_snake b.food) (map moving b.snakes)) (starved_or_outside_snake (is_wrapped b.mode) b.width b.height (b.turn + 1))
     ∙ length-map (map moving b.snakes) (fed_snake b.food)
     ∙ length-map b.snakes moving
 

@@ -14,7 +14,7 @@ use Rattle.bs_board.specs.boards.Wrap.{is_wrapped}
 use Rattle.bs_modes.specs.Growth.{grown_body, grown_snake}
 use Rattle.bs_modes.proofs.GrownBodies.{grown_at_most_one, grown_keeps_length, grown_keeps_head, grown_stays_inside}
 use Rattle.bs_rules.specs.Feeding.{fed_snake, last_of}
-use Rattle.bs_rules.specs.Elimination.{first_judged, judged}
+use Rattle.bs_rules.specs.Elimination.{starved_or_outside_snake, judged}
 use Rattle.bs_rules.proofs.Sound.{IsSoundBody, IsMoved, IsMovedLiving, IsSound, longer_parts}
 
 -- the part that is repeated comes after the head
@@ -158,10 +158,10 @@ first_by b parts seat s false false false c e w f played body living =
     }
 
 first_at : (b : Board) (parts seat : ℕ) (s : Snake) (cause : Option Cause) → 1 ≤ b.turn → IsMoved b parts seat (record s { cause = cause })
-    → IsSound b parts seat (first_judged (is_wrapped b.mode) b.width b.height b.turn (record s { cause = cause }))
+    → IsSound b parts seat (starved_or_outside_snake (is_wrapped b.mode) b.width b.height b.turn (record s { cause = cause }))
 first_at b parts seat s None played m =
     first_by b parts seat (record s { cause = None }) (eqb s.health 0) (is_wrapped b.mode) (is_on_board b.width b.height (head_of s.body)) refl refl refl refl played m.body m.state
 first_at b parts seat s (Some cause) played m = record { body = m.body; state = m.state }
 
-pub first_judges : (b : Board) (parts seat : ℕ) (s : Snake) → 1 ≤ b.turn → IsMoved b parts seat s → IsSound b parts seat (first_judged (is_wrapped b.mode) b.width b.height b.turn s)
+pub first_judges : (b : Board) (parts seat : ℕ) (s : Snake) → 1 ≤ b.turn → IsMoved b parts seat s → IsSound b parts seat (starved_or_outside_snake (is_wrapped b.mode) b.width b.height b.turn s)
 first_judges b parts seat s played m = first_at b parts seat s s.cause played m

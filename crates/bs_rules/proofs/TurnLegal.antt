@@ -19,7 +19,7 @@ use Rattle.bs_food.proofs.NewFood.{spawned_refed}
 use Rattle.bs_modes.specs.Growth.{grown, grown_snake}
 use Rattle.bs_rules.specs.Motion.{moved, moved_board, given_to}
 use Rattle.bs_rules.specs.Feeding.{fed, fed_snake, food_left, has_head_on}
-use Rattle.bs_rules.specs.Elimination.{starved_or_outside, first_judged}
+use Rattle.bs_rules.specs.Elimination.{starved_or_outside, starved_or_outside_snake}
 use Rattle.bs_rules.specs.Collision.{collided}
 use Rattle.bs_rules.specs.Turn.{replenished, finished, turn_of}
 use Rattle.bs_rules.proofs.FoodLeft.{fit_food_left, free_of_food_left}
@@ -54,7 +54,7 @@ sound_judged : (b : Board) (orders : List (List ℕ × Direction)) (parts : ℕ)
     → EachSeat (IsSound (later b) parts) (survivors orders b).snakes
 sound_judged b orders parts fed_ones =
     let judged = starved_or_outside (fed (moved_board orders b)) in
-    let first = each_map (IsMoved (later b) parts) (IsSound (later b) parts) (first_judged (is_wrapped b.mode) b.width b.height (b.turn + 1)) (fed (moved_board orders b)).snakes
+    let first = each_map (IsMoved (later b) parts) (IsSound (later b) parts) (starved_or_outside_snake (is_wrapped b.mode) b.width b.height (b.turn + 1)) (fed (moved_board orders b)).snakes
     (λ seat s. first_judges (later b) parts seat s (omega arith)) fed_ones in
     collides_sound judged (later b) parts refl (sym (seats_stay b orders)) first
 

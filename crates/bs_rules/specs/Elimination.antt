@@ -15,15 +15,15 @@ judged turn None s = s
 judged turn (Some v) s = record s { cause = Some v.cause; killer = v.killer; out = Some turn }
 
 -- starved, else off a board that is not wrapped; there is no killer
-abbrev pub first_verdict : Bool → ℕ → ℕ → Snake → Option Verdict
-first_verdict wraps width height s =
+abbrev pub starved_or_outside_verdict : Bool → ℕ → ℕ → Snake → Option Verdict
+starved_or_outside_verdict wraps width height s =
     if nat_eq s.health 0 then Some (record { cause = OutOfHealth; killer = None })
     else if wraps || is_on_board width height (head_of s.body) then None
     else Some (record { cause = WallCollision; killer = None })
 
-abbrev pub first_judged : Bool → ℕ → ℕ → ℕ → Snake → Snake
-first_judged wraps width height turn s = if is_living s then judged turn (first_verdict wraps width height s) s else s
+abbrev pub starved_or_outside_snake : Bool → ℕ → ℕ → ℕ → Snake → Snake
+starved_or_outside_snake wraps width height turn s = if is_living s then judged turn (starved_or_outside_verdict wraps width height s) s else s
 
 -- the board's turn number is still that of the turn before
 abbrev pub starved_or_outside : Board → Board
-starved_or_outside b = record b { snakes = map (first_judged (is_wrapped b.mode) b.width b.height (b.turn + 1)) b.snakes }
+starved_or_outside b = record b { snakes = map (starved_or_outside_snake (is_wrapped b.mode) b.width b.height (b.turn + 1)) b.snakes }

@@ -2,17 +2,17 @@
 #![tactic(auto)]
 
 mod collision;
-mod elimination;
 mod feeding;
 mod law;
 mod motion;
 mod parts;
+mod starved_or_outside;
 mod turns;
 mod verdict;
 
 pub use collision::collide;
-pub use elimination::first_out;
 pub use feeding::feed;
 pub use law::collision_law;
 pub use motion::{move_snake, move_snakes};
+pub use starved_or_outside::first_out;
 pub use turns::{finish_turn, turn};

@@ -7,9 +7,9 @@ ghost use Rattle.bs_rules.specs.Motion.{moved_board, IsMovable};
 ghost use Rattle.bs_rules.specs.Turn.{replenished, finished, turn_of};
 
 use crate::collision::collide;
-use crate::elimination::first_out;
 use crate::feeding::feed;
 use crate::motion::move_snakes;
+use crate::starved_or_outside::first_out;
 use bs_board::limits::{LAST_TURN, MOST_SNAKES};
 use bs_board::{Board, Direction, Id, Mode, Move};
 use bs_food::spawn;

@@ -3,7 +3,7 @@ use crate::boards::wrapped;
 use crate::compare::{same_board, same_snakes};
 use bs_board::{
     Board, Cause, Decode, KeptBoard, Mode, Record, Snakes, decode, encode, encode_into, is_legal,
-    seats_of_record, size, turn_of_record,
+    size,
 };
 use bs_samples::{board, cells, holds, same, snake, solo_after};
 use std::alloc::{AllocError, Global};
@@ -41,8 +41,8 @@ fn records_both_ways(rt: HostRuntime) -> Result<(), Fail> {
             record.as_slice(),
         )?;
         same_board("the board", &decode(alloc, &record)?, &board)?;
-        same("its turn", turn_of_record(&record), turn)?;
-        same("its seats", seats_of_record(&record), 1)?;
+        let kept = kept_of(alloc, &board)?;
+        same("its turn and seats", (kept.turn(), kept.seats()), (turn, 1))?;
     }
     Ok(())
 }

@@ -15,7 +15,7 @@ fn boards_and_replies_are_copied(rt: HostRuntime) -> Result<(), Fail> {
     let solo = solo_after(alloc, 3, 1)?;
     holds("a legal board", is_legal(&solo))?;
     let reply = Reply::Shown(Word::Show, KeptBoard::of(alloc, &solo)?, 64);
-    let Reply::Shown(word, shown, charge) = reply.copy()? else {
+    let Reply::Shown(word, shown, charge) = reply.copy(alloc)? else {
         return Err(Fail::from("another reply"));
     };
     same("word and charge", (word, charge), (Word::Show, 64))?;

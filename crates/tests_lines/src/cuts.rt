@@ -1,6 +1,6 @@
 //! The cut of a file to one game.
 use crate::files::{SOLO, TWO_GAMES};
-use crate::lengths::feeds_to;
+use crate::lengths::blanks_to;
 use crate::rows::{joined, rows_text};
 use crate::serving::{StayName, cut_text};
 use bs_samples::same;
@@ -81,8 +81,8 @@ fn cuts_are_refused_in_order(rt: HostRuntime) -> Result<(), Fail> {
     let rows = rows_text(alloc, 65, 64)?;
     let plan = joined(alloc, &["{\"games\":[", rows.as_str(), "]}"])?;
     is_cut_to(alloc, plan.as_str(), "a", "plan P3")?;
-    let mut file = feeds_to(alloc, 16_777_216)?;
+    let mut file = blanks_to(alloc, 16_777_216)?;
     is_cut_to(alloc, file.as_str(), "a", "no such game")?;
-    file.push('\n')?;
+    file.push(' ')?;
     is_cut_to(alloc, file.as_str(), "a", "file too long")
 }

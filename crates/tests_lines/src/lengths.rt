@@ -49,11 +49,17 @@ fn lines_at_their_limit(rt: HostRuntime) -> Result<(), Fail> {
     filled_line_is_answered(&rt, alloc, "", 65_537, (END, LONG))
 }
 
-/// Makes a file of that length: a plan without a game, then line feeds.
-pub fn feeds_to(alloc: Global, length: usize) -> Result<String, AllocError> {
-    let mut file = String::from_str(alloc, r#"{"games":[]}"#)?;
+/// Makes a file of that length, 65,536 bytes or more: a plan without a game, then lines of spaces.
+pub fn blanks_to(alloc: Global, length: usize) -> Result<String, AllocError> {
+    let mut file = String::from_str(alloc, "{\"games\":[]}\n")?;
+    let line = format!(in alloc; "{}\n", " ".repeat(alloc, 65_535)?.as_str())?;
     file.push_str(
-        "\n".repeat(alloc, length.saturating_sub(file.len()))?
+        line.as_str()
+            .repeat(alloc, (length / 65_536).saturating_sub(1))?
+            .as_str(),
+    )?;
+    file.push_str(
+        " ".repeat(alloc, length.saturating_sub(file.len()))?
             .as_str(),
     )?;
     Ok(file)
@@ -85,14 +91,16 @@ fn run_of(file: &str) -> Run<'_> {
     }
 }
 
-// A file may have 16,777,216 bytes, and not one more. Most of this one is line feeds.
+// A file may have 16,777,216 bytes, and not one more. All lines of this one after its plan are
+// blank.
 #[test]
 fn files_have_a_longest_length(rt: HostRuntime) -> Result<(), Fail> {
     let alloc = rt.alloc();
-    let mut file = feeds_to(alloc, 16_777_216)?;
+    let mut file = blanks_to(alloc, 16_777_216)?;
+    same("its length", file.len(), 16_777_216)?;
     is_read(alloc, file.as_str(), "read")?;
     is_served(&rt, alloc, run_of(file.as_str()), "")?;
-    file.push('\n')?;
+    file.push(' ')?;
     is_read(alloc, file.as_str(), "file too long")?;
     is_refused(
         &rt,

@@ -4,7 +4,7 @@ ghost use Rattle.std.specs.Prelude.{◌≡◌, IfOk};
 
 use crate::commands::command::Word;
 use crate::records::kept_board::KeptBoard;
-use std::alloc::AllocError;
+use std::alloc::{AllocError, Global};
 
 /// Why a command was refused, in the order in which the reasons are judged.
 #[derive(Clone, Copy, Debug, PartialEq, Eq)]
@@ -35,8 +35,8 @@ pub enum Reply {
 }
 
 impl Reply {
-    /// Copies the reply. A board that it shows is shared.
-    pub fn copy(&self) -> Result<Reply, AllocError>
+    /// Copies the reply. A board that it shows is shared, so nothing is allocated.
+    pub fn copy(&self, _alloc: Global) -> Result<Reply, AllocError>
         ensures { IfOk result (λ reply. reply ≡ self.now) }
     {
         match self {

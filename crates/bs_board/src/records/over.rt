@@ -90,7 +90,7 @@ fn last_living(mode: u8) -> usize
 }
 
 /// Whether the game is over, by the record of its board.
-pub fn over_of_record(bytes: &[u8]) -> bool
+pub(crate) fn over_of_record(bytes: &[u8]) -> bool
     requires { 9 ≤ length bytes.now }
     ensures { (b : AnyBoard) → bytes.now ≡ record_of b → result ≡ is_over b }
 {

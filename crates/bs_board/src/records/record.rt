@@ -8,7 +8,6 @@ use crate::records::decoding::read_board;
 use crate::records::encoding::encode;
 use crate::records::kept::{found, read_ground, read_seats};
 use crate::records::over::over_of_record;
-use crate::records::turn::{seats_of_record, turn_of_record};
 use std::alloc::{AllocError, Global};
 use std::marker::Model;
 use std::sync::Arc;
@@ -125,19 +124,20 @@ impl Record {
     }
 
     /// The turn of the board.
-    #[tactic(auto, using(crate::proofs::records::TurnBytes::kept_reaches_seats))]
+    #[tactic(auto, using(crate::proofs::records::TurnBytes::kept_reaches_seats, crate::proofs::records::TurnBytes::turn_in_record))]
     pub fn turn(&self) -> u16
         ensures { (b : AnyBoard) → self.now ≡ record_of b → result ≡ b.turn }
     {
-        turn_of_record(self.as_slice())
+        let bytes = self.as_slice();
+        u16::from_be_bytes([bytes[4], bytes[5]])
     }
 
     /// The number of seats.
-    #[tactic(auto, using(crate::proofs::records::TurnBytes::kept_reaches_seats))]
+    #[tactic(auto, using(crate::proofs::records::TurnBytes::kept_reaches_seats, crate::proofs::records::TurnBytes::seats_in_record))]
     pub fn seats(&self) -> usize
         ensures { (b : AnyBoard) → self.now ≡ record_of b → result ≡ length b.snakes }
     {
-        seats_of_record(self.as_slice())
+        usize::from(self.as_slice()[8])
     }
 
     /// Whether the game is over.

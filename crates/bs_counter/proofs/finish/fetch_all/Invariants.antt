@@ -1,5 +1,5 @@
 use Rattle.std.proofs.Common.{◌≡◌}
-use Rattle.bs_counter.specs.declared.views.View.TheVariants.{Last}
+use Rattle.bs_counter.specs.declared.views.SeatView.TheVariants.{Last}
 use Rattle.bs_counter.specs.Tally.{IsSeatAt}
 use Rattle.bs_counter.specs.Outcomes.{AreOutcomes}
 use Rattle.bs_counter.proofs.finish.fetch_all.Given as goal

@@ -1,7 +1,7 @@
 use Rattle.std.proofs.Common.{◌≡◌, [], ◌≤◌}
 use Rattle.std.specs.Prelude.{vec_capacity}
 use Rattle.std.specs.Arc.{arc_value}
-use Rattle.bs_counter.specs.declared.views.View.TheVariants.{Owes}
+use Rattle.bs_counter.specs.declared.views.SeatView.TheVariants.{Owes}
 use Rattle.bs_counter.specs.Tally.{IsSeatAt}
 use Rattle.bs_counter.specs.Keys.{AreFirstKeys}
 use Rattle.bs_counter.proofs.tally.Tally.open_named.Given as goal

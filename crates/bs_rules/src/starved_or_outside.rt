@@ -1,14 +1,14 @@
 //! The first eliminations of a turn: starved snakes and snakes off the board.
 
 ghost use Rattle.std.specs.Prelude.{◌≡◌, ◌+◌, ◌<◌, map};
-ghost use Rattle.bs_rules.specs.Elimination.{first_verdict, first_judged, starved_or_outside};
+ghost use Rattle.bs_rules.specs.Elimination.{starved_or_outside_verdict, starved_or_outside_snake, starved_or_outside};
 
 use crate::verdict::{Verdict, put_out};
 use bs_board::limits::LAST_TURN;
 use bs_board::{Board, Cause, Snake, Snakes, head_of};
 
-fn first_verdict(wraps: bool, width: u8, height: u8, snake: &Snake) -> Option<Verdict>
-    ensures { result ≡ first_verdict wraps width height snake.now }
+fn starved_or_outside_verdict(wraps: bool, width: u8, height: u8, snake: &Snake) -> Option<Verdict>
+    ensures { result ≡ starved_or_outside_verdict wraps width height snake.now }
 {
     if snake.health == 0 {
         Some(Verdict {
@@ -25,21 +25,21 @@ fn first_verdict(wraps: bool, width: u8, height: u8, snake: &Snake) -> Option<Ve
     }
 }
 
-fn judge_first(wraps: bool, width: u8, height: u8, turn: u16, snake: &mut Snake)
-    ensures { snake.new ≡ first_judged wraps width height turn snake.old }
+fn judge_snake(wraps: bool, width: u8, height: u8, turn: u16, snake: &mut Snake)
+    ensures { snake.new ≡ starved_or_outside_snake wraps width height turn snake.old }
 {
     if snake.is_living() {
-        let verdict = first_verdict(wraps, width, height, snake);
+        let verdict = starved_or_outside_verdict(wraps, width, height, snake);
         put_out(verdict, turn, snake);
     }
 }
 
 #[tactic(auto, using(bs_modes::proofs::InPlace::set_next))]
-fn judge_all_first(wraps: bool, width: u8, height: u8, turn: u16, snakes: &mut Snakes)
-    ensures { snakes.new ≡ map (first_judged wraps width height turn) snakes.old }
+fn judge_snakes(wraps: bool, width: u8, height: u8, turn: u16, snakes: &mut Snakes)
+    ensures { snakes.new ≡ map (starved_or_outside_snake wraps width height turn) snakes.old }
 {
     for seat in 0..snakes.len() {
-        judge_first(wraps, width, height, turn, snakes.seat_mut(seat));
+        judge_snake(wraps, width, height, turn, snakes.seat_mut(seat));
     }
 }
 
@@ -51,5 +51,5 @@ pub fn first_out(board: &mut Board)
 {
     let wraps = board.mode.is_wrapped();
     let (width, height, turn) = (board.width, board.height, board.turn + 1);
-    judge_all_first(wraps, width, height, turn, &mut board.snakes);
+    judge_snakes(wraps, width, height, turn, &mut board.snakes);
 }
