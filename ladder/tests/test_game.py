@@ -144,7 +144,7 @@ def test_resumed_game_tells_what_was_said_before(program: Path, tmp_path: Path) 
 def test_game_goes_on_from_a_file_that_was_cut_anywhere(
     program: Path, tmp_path: Path, monkeypatch: pytest.MonkeyPatch, free_at: int
 ) -> None:
-    """Cut at drawn bytes, also within a line, the file becomes what it was; records freed or not."""
+    """Cut at drawn bytes, even in a line, the file becomes what it was; records freed or not."""
     monkeypatch.setattr(game, "FREE_AT", free_at)
 
     async def work() -> None:
