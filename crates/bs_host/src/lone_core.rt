@@ -1,13 +1,16 @@
 //! A core of a single stay: it is opened, given commands, and shown.
-ghost use Rattle.std.specs.Prelude.{◌≡◌, [], ◌∷◌, ◌++◌, List, IfOk, OnOk};
+ghost use Rattle.std.specs.Prelude.{◌≡◌, ◌<◌, [], ◌∷◌, ◌++◌, List, length, IfOk, OnOk};
 ghost use Rattle.bs_board.specs.declared.commands.command.Command.{Command};
 ghost use Rattle.bs_board.specs.plans.Plan.{GameRow};
+ghost use Rattle.bs_game.specs.Game.{game_charge, last_board};
+ghost use Rattle.bs_json.specs.Replies.{final_line_of};
+ghost use Rattle.bs_sched.specs.Machine.{lane_of};
 ghost use Rattle.bs_host.specs.Live.{IsCoreOf, closing_line, next_line};
 
 use crate::limits::BLOCK_BYTES;
 use bs_board::{Plan, Row, Rows, Version};
 use bs_fiber::{Contents, SharedCommand};
-use bs_json::{final_line, reply_line};
+use bs_json::{TextBuffer, push_final_line, reply_line};
 use bs_sched::{Core, Open, blocks_of};
 use bs_workers::{Run, is_settled, run_command};
 use std::alloc::{AllocError, Global};
@@ -34,6 +37,24 @@ fn push_reply(alloc: Global, core: &Core<BLOCK_BYTES>, text: &mut Vec<u8>) -> Re
     Ok(())
 }
 
+/// The final line of the core's stay.
+#[tactic(auto, using(bs_json::proofs::Puts::put_measured))]
+fn last_line(alloc: Global, core: &Core<BLOCK_BYTES>) -> Result<Vec<u8>, AllocError>
+    requires { 0 < length core.now.games.lanes }
+    ensures { IfOk result
+        (λ line. line.items ≡ final_line_of (lane_of core.now.games.lanes 0).row.game
+        (last_board (lane_of core.now.games.lanes 0).game) (game_charge (lane_of core.now.games.lanes 0).game)) }
+{
+    let game = &core.row(STAY).game;
+    let board = core.last(STAY);
+    let charge = core.charge(STAY);
+    let mut counted = TextBuffer::new(alloc);
+    push_final_line(game, board, charge, &mut counted);
+    let mut line = TextBuffer::with_room(alloc, counted.missing())?;
+    push_final_line(game, board, charge, &mut line);
+    Ok(line.into_vec())
+}
+
 /// Appends the final line of the core's stay.
 pub(crate) fn push_final(
     alloc: Global,
@@ -46,9 +67,7 @@ pub(crate) fn push_final(
     if core.rows() == 0 {
         return Err(Run::Broken);
     }
-    let board = core.board(alloc, STAY)?;
-    let charge = core.charge(STAY);
-    let line = final_line(alloc, &core.row(STAY).game, board.as_ref(), charge)?;
+    let line = last_line(alloc, core)?;
     text.extend_from_slice(&line)?;
     Ok(())
 }

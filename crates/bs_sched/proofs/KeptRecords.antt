@@ -3,7 +3,6 @@ use Rattle.std.proofs.Common.{◌≡◌, ℕ, zero, suc, Option, ◌<◌, ◌≤
 use Rattle.std.specs.Prelude.{Some, None, option_map, slice_get}
 use Rattle.std.proofs.lemmas.Option.{slice_get-map}
 use Rattle.bs_board.specs.records.Record.{record_of}
-use Rattle.bs_board.specs.declared.boards.board.Board.{Board}
 use Rattle.bs_game.specs.Turns.{place_of_turn}
 use Rattle.bs_game.proofs.Recorded.{turn_is_gone, turn_is_there, turn_is_within}
 use Rattle.bs_board.specs.declared.commands.command.Command.{Command}
@@ -13,7 +12,7 @@ use Rattle.bs_game.specs.Answer.{asked_board}
 use Rattle.bs_sched.specs.Inputs.{board_asked}
 use Rattle.bs_sched.specs.Turns.{FindsTurn}
 use Rattle.bs_sched.proofs.NewestRecords.{Newest}
-use Rattle.bs_game.specs.Game.{Game, last_board, board_of_turn}
+use Rattle.bs_game.specs.Game.{Game, last_board}
 use Rattle.bs_game.specs.Recorded.{IsRecorded}
 use Rattle.bs_game.proofs.Recorded.{as_many}
 use Rattle.bs_block.specs.Rounding.{rounded}
@@ -50,13 +49,13 @@ one_there (x ∷ xs) (suc place) within = one_there xs place (omega arith)
 pub finds_turn : (game : Game) (records : List (List ℕ)) (bytes : List ℕ) (last count at : ℕ) (result : Option ℕ) → IsRecorded game records
     → (new : Newest (last_board game) bytes) → last ≡ new.board.turn → count ≡ length records → result ≡ place_of_turn count last at → FindsTurn game records at result
 finds_turn game records bytes last count at None kept new turn counted is =
-    turn_is_gone game records new.board count at kept new.last counted (rw (← turn) is)
+    turn_is_gone game records new.board count at kept new.there counted (rw (← turn) is)
 finds_turn game records bytes last count at (Some place) kept new turn counted is =
     let found : Some place ≡ place_of_turn count new.board.turn at = rw (← turn) is in
     let many = as_many game records kept in
     let within = turn_is_within game records new.board count at place kept counted found in
     let here = one_there game place within in
-    let there = turn_is_there game records new.board here.0 count at place kept new.last counted found here.1 in
+    let there = turn_is_there game records new.board here.0 count at place kept new.there counted found here.1 in
     let same : slice_get records place ≡ option_map record_of (slice_get game place)
     = ap (λ all. slice_get all place) kept.is ∙ slice_get-map record_of game place in
     (omega (arith, many), same ∙ ap (option_map record_of) (here.1 ∙ sym there))

@@ -6,12 +6,12 @@ use Rattle.bs_board.specs.records.Record.{record_of}
 
 pub record Newest (last : Option Board) (bytes : List ℕ) : Type 0 where
   pub board : Board
-  pub last : Some board ≡ last
+  pub there : Some board ≡ last
   pub is : bytes ≡ record_of board
 
 pub newest : (last : Option Board) (bytes : List ℕ) → Some bytes ≡ option_map record_of last → Newest last bytes
 newest None bytes is = let wrong : Some bytes ≡ None = is in absurd cc
-newest (Some board) bytes is = record { board = board; last = refl; is = cc }
+newest (Some board) bytes is = record { board = board; there = refl; is = cc }
 
 pub no_newest : (last : Option Board) → None ≡ option_map record_of last → None ≡ last
 no_newest None is = refl

@@ -102,15 +102,15 @@ pub(crate) fn expected<'a, const CAP: usize>(
 
 /// The number of parts of a move on the board of the record, one for two seats; `None` if the game
 /// is over.
-fn parts_of_record(record: &Record) -> Option<usize>
-    ensures value { (b : AnyBoard) → record.now ≡ record_of b → MatchOption result (is_over b ≡ true) (λ parts. parts ≡ parts_of (length b.snakes)) }
+fn parts_of_record(last: &Record) -> Option<usize>
+    ensures value { (b : AnyBoard) → last.now ≡ record_of b → MatchOption result (is_over b ≡ true) (λ parts. parts ≡ parts_of (length b.snakes)) }
     ensures few { IfSome result (λ parts. (1 ≤ parts) × (parts ≤ 4)) }
 {
-    if record.is_over() {
+    if last.is_over() {
         return None;
     }
-    let _bytes = record.as_slice();
-    Some((record.seats() + 1) / 2)
+    let _bytes = last.as_slice();
+    Some((last.seats() + 1) / 2)
 }
 
 /// The number of parts of a move on the newest board; `None` if no game runs or it is over.
