@@ -82,7 +82,8 @@ def run_play(given: argparse.Namespace) -> int:
     make_folders(folder)
     with locked(folder), closing(Store(folder)) as store:
         asyncio.run(play_job(job, store, counts, given.page))  # which waits for its threads
-    print(f"ladder: {counts.summary()}")
+    for line in counts.summary():
+        print(f"ladder: {line}")
     return 0
 
 

@@ -60,18 +60,18 @@ class Counts(Watch):
             f"{self.missed.total()} of {self.moves} moves missed"
         )
 
-    def summary(self) -> str:
-        """What the run came to, in one line."""
+    def summary(self) -> list[str]:
+        """What the run came to, in two lines: the games, and the moves with the own time."""
         took = time.monotonic() - self.began
-        parts = [
-            f"{self.done} of {self.fixtures} games are done, {self.played} of them now",
-            f"{self.turns} turns in {took:.1f} s, {self.rate():.0f} a second",
-            f"{self.missed.total()} of {self.moves} moves missed",
-        ]
+        games = (
+            f"{self.done} of {self.fixtures} games are done, {self.played} of them now; "
+            f"{self.turns} turns in {took:.1f} s, {self.rate():.0f} a second"
+        )
+        moves = f"{self.missed.total()} of {self.moves} moves missed"
         own = self.own_times()
         if own is not None:
-            parts.append(f"own time between turns {own[0]:.1f} ms, 99 % {own[1]:.1f} ms")
-        return "; ".join(parts)
+            moves += f"; own time between turns {own[0]:.1f} ms, 99 % {own[1]:.1f} ms"
+        return [games, moves]
 
     def own_times(self) -> tuple[float, float] | None:
         """The median and the 99th percentile of the ladder's own time between turns, in ms."""

@@ -26,6 +26,10 @@ def test_simulator_prints_what_the_page_says(program: Path) -> None:
     assert f"`{ran.stdout.strip()}`" in PAGE
 
 
+def without_times(text: str) -> str:
+    return re.sub(r"[0-9.]+ (s|a second|ms)\b", r"TIME \1", text)
+
+
 def test_five_bots_come_to_the_standings_of_the_page(
     program: Path, small_bots: Served, tmp_path: Path
 ) -> None:
@@ -39,6 +43,8 @@ def test_five_bots_come_to_the_standings_of_the_page(
     config.write_text("timeout = 5000\n" + text.replace("out/five", str(tmp_path / "five")))
     ran = run_ladder("play", config, "--program", program)
     assert ran.returncode == 0, ran.stderr
+    said = without_times(ran.stdout).splitlines()
+    assert len(said) == 2 and all(f"    {line}\n" in without_times(PAGE) for line in said), said
     table = run_ladder("standings", tmp_path / "five").stdout.splitlines()
     assert len(table) == len(bots) + 1
     for line in table[1:]:
