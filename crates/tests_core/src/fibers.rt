@@ -8,7 +8,7 @@ use bs_board::{
     is_legal,
 };
 use bs_fiber::{
-    Done, Expected, Handed, Handles, Input, JobKind, JobName, Moved, Out, SharedCommand,
+    Contents, Done, Expected, Handed, Handles, Input, JobKind, JobName, Moved, Out, SharedCommand,
 };
 use bs_game::{Answer, Effect};
 use bs_samples::{board, cells, holds, new_of_three, same, snake, third_goes};
@@ -133,32 +133,52 @@ fn check_input(input: &Input, seq: u64, last: &[u8], asked: Option<&[u8]>) -> Re
     holds("no parts", input.parts.as_slice().is_empty())
 }
 
-#[test]
-fn an_expected_input_is_made(rt: HostRuntime) -> Result<(), Fail> {
-    let alloc = rt.alloc();
-    let (first, second) = (before(alloc)?, after(alloc)?);
-    let (one, other) = (kept_of(alloc, &first)?, kept_of(alloc, &second)?);
+/// Makes and checks the contents of the Begin of a `show`, for which the other record is named.
+fn contents_of_show(
+    alloc: Global,
+    one: &Record,
+    other: &Record,
+) -> Result<Box<Contents<CAP>>, Fail> {
     let show = SharedCommand::new(alloc, Command::Show)?;
-    holds("a bare command", show.is_bare())?;
     let shown = Expected {
         asked: Some(other.as_slice()),
-        ..expected(&one, &show)
+        ..expected(one, &show)
     };
     let contents = shown.to_contents::<CAP>(alloc, None, None)?;
     check_input(&contents.input, 2, one.as_slice(), Some(other.as_slice()))?;
+    Ok(contents)
+}
+
+/// Makes and checks the contents of the Begin of an `end` in the memory of a spent ticket.
+fn check_end_over(alloc: Global, last: &Record, spent: Box<Contents<CAP>>) -> Result<(), Fail> {
+    let end = SharedCommand::new(alloc, Command::End)?;
+    let later = Expected {
+        job: job(JobKind::Begin, 0),
+        worker: 1,
+        seq: 3,
+        quota: 4096,
+        charge: 64,
+        kept: 1,
+        last: Some(last),
+        asked: None,
+        command: &end,
+    };
+    let contents = later.to_contents(alloc, Some(end.share()?), Some(spent))?;
+    check_input(&contents.input, 3, last.as_slice(), None)?;
+    holds("end", matches!(contents.input.command.get(), Command::End))
+}
+
+#[test]
+fn an_expected_input_is_made(rt: HostRuntime) -> Result<(), Fail> {
+    let alloc = rt.alloc();
+    let one = kept_of(alloc, &before(alloc)?)?;
+    let other = kept_of(alloc, &after(alloc)?)?;
+    let contents = contents_of_show(alloc, &one, &other)?;
     holds(
         "show",
         matches!(contents.input.command.get(), Command::Show),
     )?;
-
-    let end = SharedCommand::new(alloc, Command::End)?;
-    let later = Expected {
-        seq: 3,
-        ..expected(&other, &end)
-    };
-    let contents = later.to_contents(alloc, Some(end.share()?), Some(contents))?;
-    check_input(&contents.input, 3, other.as_slice(), None)?;
-    holds("end", matches!(contents.input.command.get(), Command::End))
+    check_end_over(alloc, &other, contents)
 }
 
 /// A queued move has a handle for its Begin, once. It stays a move after that.
