@@ -1,19 +1,18 @@
 #!/usr/bin/env python3
 """Compares the peer with the program, byte by byte: output, status and standard error.
 
-    benches/compare.py [FILE..]            these command files, or the files of cases
+    benches/compare.py [FILE..]            these command files, by default the cases
     benches/compare.py --shapes            the shapes of measure.py, of versions 1 and 2
     benches/compare.py --limits            files and command lines at the ends of limits
-    benches/compare.py --drawn N           N files drawn by chance, from --seed S on
+    benches/compare.py --drawn N           N random files, from --seed S on
     benches/compare.py --time RUNS FILE..  times both in turns as well
 
     --program PATH   crates/arena/out/arena if not given
     --stored         the peer against NAME.transcript beside each file, without the program
     --version 1|2    up to which version of plans to compare: 2 if not given
-    --keep FOLDER    for drawn files on which the two disagree, cut to the lines that matter
+    --keep FOLDER    for drawn files on which the two disagree, reduced to the lines that matter
 
-The peer is built by benches/peer/build, and reads no file of version 3. The status is 0 where all
-agreed.
+benches/peer/build builds the peer, which reads no file of version 3. The status is 0 if all agreed.
 """
 import os
 import random
@@ -42,13 +41,13 @@ NEWER = [measure.stays.__name__]  # shapes of version 3, which the peer does not
 
 
 def run(file, words, text=None):
-    """Status, output and standard error, of which a refused command line gives only the status."""
+    """Status, output and standard error; of a refused command line only the status."""
     done = subprocess.run([file, *words], input=text, capture_output=True)
     return (2, b"", b"") if done.returncode == 2 else (done.returncode, done.stdout, done.stderr)
 
 
 def describe(answer):
-    """An answer in a few words."""
+    """A result in a few words."""
     status, output, errors = answer
     return f"status {status}, {len(output)} bytes, {errors.decode(errors='replace').strip()!r}"
 
@@ -66,25 +65,25 @@ class Comparison:
         self.program, self.compared, self.disagreements = program, 0, 0
 
     def differs(self, words, text=None):
-        """In words, where the two differ."""
+        """The difference of the two, in words; None if they agree."""
         peer, program = run(PEER, words, text), run(self.program, words, text)
         self.compared += 1
         if peer == program:
             return None
-        said = f"peer: {describe(peer)}; program: {describe(program)}"
-        return said + first_difference(peer, program)
+        results = f"peer: {describe(peer)}; program: {describe(program)}"
+        return results + first_difference(peer, program)
 
     def file(self, path, more=()):
-        """A file with 1 to 4 workers."""
+        """Compares a file with 1 to 4 workers."""
         for workers in "1234":
             self.note(path, ["serve", str(path), "--workers", workers, *more])
 
     def note(self, name, words, text=None):
-        said = self.differs(words, text)
-        if said:
+        difference = self.differs(words, text)
+        if difference:
             self.disagreements += 1
-            print(f"{name}: {' '.join(words)}\n  {said}", flush=True)
-        return said
+            print(f"{name}: {' '.join(words)}\n  {difference}", flush=True)
+        return difference
 
     def stored(self, path, transcript):
         self.compared += 1
@@ -109,7 +108,7 @@ class Comparison:
                 print(f"  cut to {len(small)} bytes: {path}\n  {self.differs(words, small)}")
 
     def smallest(self, words, text):
-        """The text without lines that the difference does not need."""
+        """The text without the lines that are not needed for a difference."""
         lines = text.split(b"\n")
         size = len(lines) // 2
         while size:
@@ -134,7 +133,7 @@ def seconds(program, path, workers):
 
 
 def time_both(program, paths, runs):
-    """Both in turns on each file, so that what else the machine does falls on both."""
+    """Times both in turns on each file, so that other load on the machine affects both."""
     heads = f"{'least s':>10}{'median s':>10}{'cpu s':>8}{'MB':>8}"
     print(f"{'file':24}{'workers':>8}{'':>9}{heads}")
     for path in paths:

@@ -1,7 +1,7 @@
-"""Command files drawn by chance: games of every mode, and lines that are no command.
+"""Random command files: games of every mode, and lines that are no command.
 
-`command_file(rng, version)` is one file. A tracker of bodies, which is not exact, keeps most snakes
-off walls and bodies, so that games last; the rest is chance.
+`command_file(rng, version)` makes one file. An approximate tracker of bodies keeps most snakes off
+walls and bodies, so that games last; the rest is random.
 """
 import json
 
@@ -17,7 +17,7 @@ IDS = [
 WORDS = [0, 1, 5, 14, 15, 99, 100, 114, 115, 4294967294, 4294967295]
 QUOTAS = [16, 31, 32, 48, 64, 96, 128, 256, 1024, 1_835_008, 16_777_216]
 QUOTAS += [4096, 65_536, 1_048_576] * 12
-# Values of members, each wrong in a way of its own; some are right for some members.
+# Values of members, each wrong in a different way; some are right for some members.
 WRONG = """
 -1 -0 0.0 1.0 1e0 3E0 1.5 true false null [] {} [1] 01 +1 .5 1. 0x1 NaN 1e999 -1e-999
 2 3 25 26 100 101 255 256 10000 10001 4294967296 18446744073709551615 18446744073709551616
@@ -26,7 +26,7 @@ WRONG = """
 """.split()
 WRONG += ["1" + "0" * 40, f'"{"x" * 65}"', f'"{"é" * 33}"', '"a\tb"']
 WRONG += ["[" * depth + "]" * depth for depth in (125, 126, 127, 128)]
-# Lines that are no command, or one that members given twice change.
+# Lines that are no command, or commands with a duplicate member.
 LINES = rb"""
 {oops
 []
@@ -63,7 +63,7 @@ LINES += [b'{"game":"g0","do":"show","x":"\xed\xa0\x80"}']
 
 
 class Raw(str):
-    """A text that is written as it stands."""
+    """A text that is written without quotation marks or escapes."""
 
 
 def chance(rng, percent):
@@ -71,10 +71,10 @@ def chance(rng, percent):
 
 
 def text(rng, value):
-    said = json.dumps(value, ensure_ascii=chance(rng, 20))
+    literal = json.dumps(value, ensure_ascii=chance(rng, 20))
     if chance(rng, 2) and value.isascii() and value.isalnum():
-        said = '"' + "".join(f"\\u{ord(it):04x}" for it in value) + '"'
-    return said
+        literal = '"' + "".join(f"\\u{ord(it):04x}" for it in value) + '"'
+    return literal
 
 
 def written(rng, value, loose):
@@ -101,7 +101,7 @@ def written(rng, value, loose):
 
 
 def spoiled(rng, line):
-    """The line with a byte or a few changed, or made long."""
+    """The line with one or a few bytes changed, or made long."""
     at = rng.randrange(len(line))
     kind = rng.randrange(5)
     if kind == 0:
@@ -169,7 +169,7 @@ class Game:
     def move(self):
         rng = self.rng
         self.turn += 1
-        # Sometimes all that can meet in one cell.
+        # Sometimes all snakes that can meet in one cell do.
         body = rng.choice(list(self.bodies.values()) or [[(0, 0)]])
         meeting = self.step(body[0], rng.choice(list(STEPS))) if chance(rng, 15) else None
         moves = {id: self.go(id, meeting) for id in list(self.bodies)}
@@ -192,7 +192,7 @@ class Game:
         return x, y
 
     def go(self, id, meeting):
-        """Moves a snake, mostly to a free cell. Its direction, or nothing where it goes on."""
+        """Moves a snake, mostly to a free cell. Returns its direction, or None for straight on."""
         rng, body = self.rng, self.bodies[id]
         taken = {cell for it in self.bodies.values() for cell in it[:-1]}
         ahead = [it for it in STEPS if self.step(body[1], it) == body[0]] or ["up"]
@@ -219,9 +219,9 @@ def plan(rng, version):
     if chance(rng, 20):
         names = rng.sample(IDS, len(names))
     rows = [{"game": name, "quota": rng.choice(QUOTAS)} for name in names]
-    said = {"games": rows}
+    members = {"games": rows}
     if version == 2 or chance(rng, 30):
-        said["version"] = version
+        members["version"] = version
     if chance(rng, 3):
         wrong, count = Raw(rng.choice(WRONG)), rng.choice([10, 11, 64, 65])
         broken = rng.choice(
@@ -235,12 +235,12 @@ def plan(rng, version):
                 {"games": [{"game": f"h{at}", "quota": 64} for at in range(count)]},
             ]
         )
-        said = {**said, **broken}
-    return names, said
+        members = {**members, **broken}
+    return names, members
 
 
 def spoil_member(rng, members):
-    """Sets a member, or one of a list or object in it, to a wrong value, or leaves it out."""
+    """Sets a member, or a part of a list or object in it, to a wrong value, or removes it."""
     where = members
     while True:
         keys = list(where) if isinstance(where, dict) else list(range(len(where)))
@@ -258,11 +258,11 @@ def spoil_member(rng, members):
 
 
 def command_file(rng, version):
-    """The names in its plan, and its bytes; of a version up to that one."""
+    """The names in the plan of a file, and its bytes; the file has at most that version."""
     version = rng.choice([1, 2, 2, 2]) if version == 2 else 1
-    names, said = plan(rng, version)
+    names, first = plan(rng, version)
     games = [Game(rng, name, version) for name in names]
-    lines = [written(rng, said, chance(rng, 10)).encode()]
+    lines = [written(rng, first, chance(rng, 10)).encode()]
     for _ in range(rng.choice([0, 3, 20, 100, 200, 400])):
         members = rng.choice(games).command()
         if chance(rng, 2):

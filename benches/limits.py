@@ -1,4 +1,4 @@
-"""Files and command lines at the ends of limits: `runs(version)` yields names, words and bytes."""
+"""Files and command lines at the limits: `runs(version)` yields names, arguments and bytes."""
 import itertools
 import json
 
@@ -20,11 +20,11 @@ def plan(*rows, **more):
 
 
 def lines(*values):
-    said = [
+    encoded = [
         it if isinstance(it, bytes) else json.dumps(it, ensure_ascii=False).encode()
         for it in values
     ]
-    return b"\n".join(said)
+    return b"\n".join(encoded)
 
 
 def command(do, **members):
@@ -129,8 +129,8 @@ def to_the_last_turn(version):
 
 
 def hunger(version):
-    """Two snakes go round in four cells, and at the end of their health into food, a wall, or
-    on."""
+    """Two snakes go round in four cells; at the end of their health they go into food, into a wall,
+    or on."""
     snakes = [{"id": "s", "x": 0, "y": 0}, {"id": "t", "x": 3, "y": 3}]
     food = [{"x": x, "y": y} for x, y in ((2, 0), (2, 1), (0, 2), (1, 2))]
     for mode in ("standard", "constrictor", "wrapped")[: version + 1]:

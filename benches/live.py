@@ -5,14 +5,14 @@
 
 PROGRAM is crates/arena/out/arena if not given. PART is one of
 
-    memory     N stays (100,000) come, play 20 turns and leave, 64 of them open at a time. Told is
-               the peak of the resident memory in each tenth of the run, as /proc has it; a step
-               of all 64 is written at once, and the next one when it is answered
+    memory     N stays (100,000) come, play 20 turns and leave, 64 of them open at a time. Prints
+               the peak of the resident memory in each tenth of the run, from /proc; a step of all
+               64 is written at once, and the next one after its answers
     latency    with 64 stays open one line is written and its answer read, 100 times
     lines      6,400 such stays from a file, by `live` and by `serve` with one worker, in turn
 
-and all of them if not given. The status is 1 where the peak of the last tenth is more than 1.1
-times that of the first, and else 0.
+and all of them if not given. The status is 1 if the peak of the last tenth is more than 1.1 times
+that of the first, and else 0.
 """
 import argparse
 import json
@@ -30,7 +30,7 @@ TURNS = 20
 BLOCKS = 6 * OPEN
 TENTHS = 10
 MOST_GROWTH = 1.1
-ASKED = 100  # lines of which the time is taken
+ASKED = 100  # timed lines
 ROUNDS_OF_FILE = 100
 RUNS_OF_FILE = 3
 PARTS = ("memory", "latency", "lines")
@@ -46,7 +46,7 @@ NEW = {
 }
 ADMIT = {"do": "admit", "quota": 4096}
 MOVE = {"do": "move", "moves": {"s": "up", "t": "up"}}
-# What each stay of a round is asked, step by step: one line of each step has an answer.
+# The lines of each stay of a round, step by step: one line of each step has an answer.
 STEPS = [[ADMIT, NEW], *[[MOVE]] * TURNS, [{"do": "leave"}]]
 LINES = sum(map(len, STEPS))  # of a stay
 PLAN = b'{"games":[],"version":3}\n'
@@ -60,7 +60,7 @@ TEXTS = [b"".join(line(members) * OPEN for members in step) for step in STEPS]
 
 
 def steps_of(number):
-    """The lines of the stays of one round, step by step. No other round has their names."""
+    """The lines of the stays of one round, step by step. Names differ from round to round."""
     names = tuple(b"r%dg%d" % (number, game) for game in range(OPEN))
     return [text % (names * len(step)) for text, step in zip(TEXTS, STEPS)]
 
@@ -80,7 +80,7 @@ class Live:
             left = left[self.run.stdin.write(left) :]
 
     def hear(self, count):
-        """Reads until so many lines were read."""
+        """Reads at least `count` lines."""
         while count > 0:
             some = self.run.stdout.read(1 << 20)
             if not some:
@@ -88,9 +88,9 @@ class Live:
             count -= some.count(b"\n")
 
     def memory(self, field):
-        """A line of /proc/PID/status in KiB: VmHWM is the peak, VmRSS what is resident."""
+        """A field of /proc/PID/status, in KiB: VmHWM is the peak, VmRSS the resident memory."""
         status = Path(f"/proc/{self.run.pid}/status").read_text()
-        return int(next(said for said in status.splitlines() if said.startswith(field)).split()[1])
+        return int(next(row for row in status.splitlines() if row.startswith(field)).split()[1])
 
     def forget_peak(self):
         Path(f"/proc/{self.run.pid}/clear_refs").write_text("5")

@@ -1,9 +1,9 @@
 #!/usr/bin/env python3
 """Times the proved program on command files of known shape.
 
-Each shape is served at a size and at twice that size. Printed are the bytes read and written, the
-time (the best of five runs), turns a second, MB a second, the greatest resident memory, and by how
-much time and bytes grew when the file doubled. Run it from anywhere:
+Each shape is served at a size and at twice that size. It prints the bytes read and written, the
+time (the best of five runs), turns a second, MB a second, the peak of the resident memory, and the
+growth of time and bytes when the file doubles. It runs from any folder:
 
     benches/measure.py [--program PATH]
     benches/measure.py --write FOLDER
@@ -24,7 +24,7 @@ sys.path.insert(0, str(Path(__file__).resolve().parent.parent / "tests"))
 from program import argument_parser, existing, line
 
 RUNS = 5
-# Enough for every shape. Each block is a mapping of its own, so thousands of them cost time.
+# Enough for every shape. Each block is a separate mapping, so thousands of them cost time.
 BLOCKS = "512"
 
 
@@ -39,8 +39,8 @@ def new(name, mode, side, snakes, **more):
 
 
 def rounds_of(games, rounds, turns, moves):
-    """The lines of games that are begun, played for so many turns side by side and ended, round by
-    round. games are the members of `new`, by name; moves gives the members of a turn's moves."""
+    """The lines of games that are begun, played for `turns` turns in parallel and ended, round by
+    round. `games` has the members of `new` by name; `moves` gives the members of a turn's moves."""
     for _ in range(rounds):
         for name, members in games.items():
             yield new(name, **members)
@@ -72,8 +72,8 @@ def many_games(rounds):
 
 
 def tour(width, height):
-    """The cells of a board of even width in a round: along the bottom row, then up and down the
-    columns from the right."""
+    """All cells of a board of even width in a closed path: along the bottom row, then up and down
+    the columns from the right."""
     cells = [(x, 0) for x in range(width)]
     for x in reversed(range(width)):
         column = range(1, height)
@@ -190,8 +190,8 @@ def constrictor(rounds):
 
 
 def wrapped(rounds):
-    """Eight wrapped games, in each of which eight snakes go to the right, each in a row of its own
-    and again and again across the edge."""
+    """Eight wrapped games, in each of which eight snakes go to the right, each in a different row,
+    again and again across the edge."""
     snakes = [{"id": id, "x": 0, "y": 3 * index} for index, id in enumerate("abcdefgh")]
     game = {"mode": "wrapped", "side": LARGE, "snakes": snakes, **NO_FOOD}
     games = {f"g{index}": game for index in range(8)}
@@ -208,7 +208,7 @@ COMING = 4  # games that are admitted between two turns, until 64 are open
 
 
 def stays(count):
-    """So many stays of twenty turns each, at most 64 open at once: a game of two snakes is
+    """`count` stays of twenty turns each, at most 64 open at once: a game of two snakes is
     admitted, played, and leaves."""
     snakes = [{"id": "a", "x": 2, "y": 2}, {"id": "b", "x": 7, "y": 7}]
     turns_of, names = {}, iter(f"g{index}" for index in range(count))
@@ -230,15 +230,14 @@ def stays(count):
 
 
 def short_commands(count):
-    """Commands that are short and change nothing: turns that are not kept, of a game of one
-    record."""
+    """Short commands that change nothing: `turn` commands for turns without a record."""
     yield plan(["g"], 4096)
     yield new("g", "solo", 3, [{"id": "s", "x": 1, "y": 1}], **NO_FOOD)
     for _ in range(count):
         yield line(game="g", do="turn", at=9)
 
 
-# The shape, its size, and how many turns are played in it.
+# The name of a shape, the shape, its size, and its number of turns.
 SHAPES = [
     ("64 games, four snakes", many_games, 10, lambda rounds: 64 * ROUND * rounds),
     ("one long game", long_game, 5_000, lambda turns: turns),
@@ -258,7 +257,7 @@ def write(path, lines):
 
 
 def run(program, path, output):
-    """The seconds and the greatest resident memory, in MB, of one run."""
+    """The seconds, and the peak of the resident memory in MB, of one run."""
     with open(output, "wb") as file:
         began = time.perf_counter()
         child = subprocess.Popen([program, "serve", str(path), "--blocks", BLOCKS], stdout=file)

@@ -3,11 +3,11 @@
 
     benches/pace.py [--program PATH] [--games N] [--turns N] [--runs N]
 
-Games of four snakes are all played at once. The ladder has one processor for itself, the host
-another one, and the bots, which go round in squares without looking at the board, have the rest.
-For each run a row: the turns a second; the median and the 99th percentile of the ladder's own time,
-from the last answer of a turn to the next request of the same game; the processor time of the
-ladder and of the host for a turn. The program is crates/arena/out/arena if not given.
+All games, of four snakes each, are played at once. The ladder has one processor, the host another,
+and the bots the rest; they go round in squares and ignore the board. A row for each run has the
+turns a second; the median and the 99th percentile of the ladder's own time, from the last answer of
+a turn to the next request of the same game; and the processor time of the ladder and of the host
+for a turn. The program is crates/arena/out/arena if not given.
 """
 import argparse
 import asyncio
@@ -36,7 +36,7 @@ TITLES = ("turns a second", "own median ms", "own 99 % ms", "ladder ms a turn", 
 
 
 async def serve(reader, writer):
-    """Answers each request of a connection at once, by the number of the turn alone."""
+    """Answers each request of a connection at once, from the number of the turn alone."""
     try:
         while head := await reader.readuntil(b"\r\n\r\n"):
             length = next(
@@ -46,14 +46,14 @@ async def serve(reader, writer):
             body = await reader.readexactly(length)
             at = body.find(b'"turn":') + 7
             turn = int(body[at : body.find(b",", at)] or 0) if at > 6 else 0
-            said = b'{"move":"%b"}' % STEPS[turn % 4]
-            writer.write(b"HTTP/1.1 200 OK\r\nContent-Length: %d\r\n\r\n%b" % (len(said), said))
+            answer = b'{"move":"%b"}' % STEPS[turn % 4]
+            writer.write(b"HTTP/1.1 200 OK\r\nContent-Length: %d\r\n\r\n%b" % (len(answer), answer))
     except (ConnectionError, asyncio.IncompleteReadError):
         writer.close()
 
 
 def serve_bots(processors, pipe):
-    """Serves bots on a free port, which is told, until the process is ended."""
+    """Serves bots on a free port, which it sends through the pipe, until the process ends."""
     os.sched_setaffinity(0, processors)
 
     async def run():
@@ -65,7 +65,7 @@ def serve_bots(processors, pipe):
 
 
 def started(processors):
-    """A process with bots, and its port."""
+    """Starts a process with bots. Returns it and its port."""
     ours, theirs = Pipe()
     process = Process(target=serve_bots, args=(processors, theirs), daemon=True)
     process.start()
@@ -99,7 +99,7 @@ def measure(given, ports, program):
 
 
 def host_on(program, processor, folder):
-    """A program that runs the host on a processor of its own."""
+    """Writes a program that runs the host on one processor."""
     path = Path(folder) / "arena"
     path.write_text(f'#!/bin/sh\nexec taskset -c {processor} {program} "$@"\n')
     path.chmod(0o755)

@@ -1,15 +1,15 @@
 #!/usr/bin/env python3
-"""Puts the transcripts of the files that examples/split.py wrote into one.
+"""Merges the transcripts of the files that examples/split.py wrote.
 
     examples/merge.py FOLDER > TRANSCRIPT
 
 FOLDER/NAME.transcript is what `arena serve FOLDER/NAME.jsonl` wrote. The result has the games in
-the order of the whole file's plan and then its stray lines, with their numbers in the whole file:
-byte for byte what one host would write for it, were it allowed that many games.
+the order of the whole file's plan and then its stray lines, with their numbers in the whole file.
+These are the bytes that one host would write for the file if it could have that many games.
 
 Before anything is written, each transcript is checked: it has a reply for each command of each of
 its games, numbered from 1, and each game's final line. Status 1, with the reason and nothing
-written, where one is missing or not whole; 2: the command line.
+written, if one is missing or incomplete; 2: a fault of the command line.
 """
 import argparse
 import json
@@ -32,14 +32,14 @@ def wanted(games: list[tuple[str, int]]) -> Iterator[tuple[str, int | None]]:
 
 
 def fault_of(path: Path, games: list[tuple[str, int]]) -> str | None:
-    """Why the transcript is not that of these games, if so."""
+    """Why the transcript is not that of these games; None if it is."""
     rest = wanted(games)
     number = 0
     with open(path, "rb") as file:
         for number, text in enumerate(file, 1):
             try:
-                said = json.loads(text)
-                found = said.get("game"), said.get("seq")
+                reply = json.loads(text)
+                found = reply.get("game"), reply.get("seq")
             except (ValueError, AttributeError):
                 return f"{path}: line {number} is no line of a transcript"
             if found != next(rest, None) or not text.endswith(b"\n"):

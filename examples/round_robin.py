@@ -1,18 +1,18 @@
 #!/usr/bin/env python3
-"""Writes the command file of a round robin: each of the given bots meets each other one once a
-round, in a game of two snakes.
+"""Writes the command file of a round robin: each two of the given bots meet once a round, in a
+game of two snakes.
 
     examples/round_robin.py [--turns N] [--rounds N] [--seed N] [--open N] BOT.moves .. > FILE
 
-A bot is a file of its moves: the words up, down, left and right, from the first turn on; after the
-last word it begins with the first again, and # starts a comment. It plays under the file's name
-without the ending. All games go on at once, turn by turn. The numbers that decide where food
-appears are drawn from the seed, so the same words on the command line give the same file. The last
-line, on the standard error, says how many blocks the games need, or that they are more than a plan
-may have: then examples/split.py comes next.
+A bot is a file of its moves: the words up, down, left and right, from the first turn on. After the
+last word the bot starts again at the first; # starts a comment. Its name is the name of the file
+without the ending. All games are played at once, turn by turn. The numbers that decide where food
+appears are drawn from the seed, so the same command line gives the same file. A line on the
+standard error reports the number of blocks that the games need, or that a plan can't have this
+number of games: then examples/split.py splits the file.
 
 With --open the file has version 3 and its plan no game: N games are admitted, play all their turns
-and leave, then the next N. Each game is given the same moves and numbers as without.
+and leave, then the next N. Each game has the same moves and numbers as without --open.
 """
 import argparse
 import json
@@ -25,7 +25,7 @@ DIRECTIONS = ("up", "down", "left", "right")
 SIDE = 11  # cells
 STARTS = ({"x": 3, "y": 5}, {"x": 7, "y": 5})
 FOOD = [{"x": 5, "y": 8}]
-QUOTA = 1_835_007  # the most for which a game needs no more than six blocks
+QUOTA = 1_835_007  # the largest quota of a game that needs only six blocks
 MOST_GAMES = 64
 LONGEST_NAME = 64  # bytes
 WORDS = 2  # of a move: one for the chance of food, one for its place
@@ -47,8 +47,8 @@ def moves_of(text):
 
 
 def pairings(names):
-    """Each two names once. Who is named first starts on the left; that goes back and forth, so no
-    bot starts there always."""
+    """Each two names once. The first of a pair starts on the left; the sides alternate, so that no
+    bot always starts there."""
     pairs = []
     for (one, a), (other, b) in combinations(enumerate(names), 2):
         pairs.append((a, b) if (one + other) % 2 else (b, a))
@@ -58,7 +58,7 @@ def pairings(names):
 def named_games(names, rounds):
     """The two bots of each game by its name. They change sides with each round.
 
-    From the second round on its number is in the name.
+    From the second round on the name ends with the number of the round.
     """
     games = {}
     for at in range(1, rounds + 1):
@@ -69,7 +69,7 @@ def named_games(names, rounds):
 
 
 def blocks_for(games, quota=QUOTA):
-    """The blocks that so many games of that quota need: docs/FORMATS.md says how many for each."""
+    """The blocks that `games` games of that quota need, by docs/FORMATS.md."""
     return games * (quota // 1_835_008 + 2 + 4)
 
 
@@ -79,8 +79,8 @@ def batches(names, most):
 
 
 def command_lines(bots, turns, seed, rounds=1, most_open=None):
-    """The lines of the file; bots has the moves of each by its name. With most_open, so many games
-    are open at once."""
+    """The lines of the file. `bots` has the moves of each bot by its name. With `most_open` at most
+    that many games are open at once."""
     draw = random.Random(seed)
     games = named_games(sorted(bots), rounds)
     for name in games:
@@ -132,14 +132,14 @@ def read_bots(paths):
 
 
 def summary(games, turns, most_open=None):
-    """What the standard error says of so many games."""
-    said = f"{games} games of {turns} moves"
+    """The line for the standard error about a file of `games` games."""
+    size = f"{games} games of {turns} moves"
     if games > MOST_GAMES and not most_open:
         many = f"a plan has at most {MOST_GAMES}"
-        return f"{said}: {many}, so give it to examples/split.py, or use --open"
+        return f"{size}: {many}, so give it to examples/split.py, or use --open"
     blocks = blocks_for(min(games, most_open) if most_open else games)
     at_once = f", {most_open} at once" if most_open else ""
-    return f"{said}{at_once}: arena serve needs --blocks {blocks} or more"
+    return f"{size}{at_once}: arena serve needs --blocks {blocks} or more"
 
 
 def open_games(word):

@@ -1,5 +1,5 @@
 #!/usr/bin/env python3
-"""Cuts a command file of any number of games into files that `arena serve` takes.
+"""Splits a command file of any number of games into files that `arena serve` accepts.
 
     examples/split.py PLAN_FILE --games N --into FOLDER
 
@@ -7,19 +7,19 @@ Each file has at most N games (N is 1 to 64), which follow each other in the pla
 in their order. The plan may have any number of rows, and PLAN_FILE any length. FOLDER must be new
 or empty. It then holds
 
-    0001.jsonl ..   the command files; a file is closed early where it would be too long
+    0001.jsonl ..   the command files; a file has fewer games if it would be too long
     0001.lines ..   for each line of the file beside it, its number in PLAN_FILE
     files.tsv       a row for each file: file, blocks, memory, games, bytes; memory is in MB
     files.json      the games of each file with the number of their commands, and the stray lines:
                     what examples/merge.py reads
 
-The plan is of version 1 or 2. A line is judged as the host judges it (docs/FORMATS.md). The lines
-that belong to no game are told on the standard error and stand in no file; the last line there says
-how many files there are.
+The plan has version 1 or 2. Lines are assigned to games as by the host (docs/FORMATS.md). The lines
+that belong to no game are counted on the standard error and are in no file; the last line there has
+the number of files.
 
-Status 1, with the reason, where the plan is refused (P1, P2) or of version 3, where one game's
-lines alone make a file too long, and where a file can't be read or written; then there is no
-files.json. 2: the command line.
+Status 1, with the reason and without files.json: the plan is refused (P1, P2) or has version 3, the
+lines of one game make a file too long, or a file can't be read or written. 2: a fault of the
+command line.
 """
 import argparse
 import json
@@ -40,7 +40,7 @@ LONGEST_FILE = 16_777_216  # bytes
 LONGEST_LINE = 65_536  # bytes without the line feed
 QUOTAS = range(16, 16_777_217)
 VERSIONS = (1, 2)
-DEEPEST = 127  # arrays and objects within each other
+DEEPEST = 127  # nested arrays and objects
 SPACE = b" \t\r\n"
 WHY = {"L1": "json", "L2": "game", "L3": "long"}
 BLOCK = 2.097152  # MB
@@ -68,9 +68,9 @@ class Plan:
 
 @dataclass(frozen=True)
 class Routed:
-    """Where the lines of a file go, by their numbers, which begin with 1."""
+    """The assignment of the lines of a file to games, by line numbers from 1."""
 
-    starts: "array[int]"  # of each line, and of one behind the last
+    starts: "array[int]"  # of each line, and the end of the last
     games: "list[array[int]]"  # the lines of each game
     strays: list[tuple[int, str]]
 
@@ -94,7 +94,7 @@ DECODER = json.JSONDecoder(parse_int=whole, parse_float=finite, parse_constant=n
 
 
 def depth(text: str) -> int:
-    """How deep arrays and objects lie within each other."""
+    """The depth to which arrays and objects are nested."""
     now = deepest = 0
     for found in STRING_OR_BRACKET.finditer(text):
         if found[0] in "[{":
@@ -106,9 +106,9 @@ def depth(text: str) -> int:
 
 
 def json_of(text: bytes) -> object:
-    """The value as `serde_json` reads it; ValueError where it reads none.
+    """Parses JSON as `serde_json` does; raises ValueError if it would refuse the text.
 
-    Python's reader also takes NaN, numbers beyond a binary64, lone surrogates and deeper values.
+    Python's parser also accepts NaN, numbers beyond a binary64, lone surrogates and more nesting.
     """
     decoded = text.decode()
     if decoded.count("[") + decoded.count("{") > DEEPEST and depth(decoded) > DEEPEST:
@@ -119,7 +119,7 @@ def json_of(text: bytes) -> object:
 
 
 def game_of(row: object) -> Game | None:
-    """None where the host refuses the row."""
+    """The game of a row; None if the host refuses the row."""
     if not isinstance(row, dict):
         return None
     name, quota = row.get("game"), row.get("quota")
@@ -129,7 +129,7 @@ def game_of(row: object) -> Game | None:
 
 
 def plan_of(text: bytes) -> Plan:
-    """The plan of the first line. It may be longer than a line where it has more than 64 rows."""
+    """Parses the plan in the first line; with over 64 rows it may be longer than other lines."""
     try:
         value = json_of(text)
     except ValueError:
@@ -156,7 +156,7 @@ def plan_of(text: bytes) -> Plan:
 
 
 def route_of(text: bytes, rows: dict[str, int]) -> int | str | None:
-    """The row of the line's game, the code of a stray line, or None where it is passed over."""
+    """The row of the line's game, the code of a stray line, or None for a blank line."""
     if len(text) > LONGEST_LINE:
         return "L3"
     if not text.strip(SPACE):
@@ -172,7 +172,7 @@ def route_of(text: bytes, rows: dict[str, int]) -> int | str | None:
 
 
 def line_starts(data: Data) -> "array[int]":
-    """Where each line begins, and where one behind the last would: each is closed by one byte."""
+    """The start of each line, and of a line after the last; one byte ends each line."""
     starts = array("Q", [0])
     end = data.find(b"\n")
     while end >= 0:
@@ -208,15 +208,15 @@ def plan_text(games: list[Game], version: int) -> str:
 
 
 def groups(plan: Plan, found: Routed, most: int) -> Iterator[range]:
-    """The rows of each file: at most so many, and no more than the longest file has room for."""
+    """The rows of each file: at most `most`, and fewer if the file would be too long."""
     frame = len(plan_text([], plan.version))
     first, size = 0, frame
     for row, game in enumerate(plan.games):
         own = sum(found.starts[at] - found.starts[at - 1] for at in found.games[row])
         own += len(row_text(game).encode()) + 1
         if frame + own > LONGEST_FILE:
-            said = f"the file of the game {game.name} alone has {frame + own} bytes"
-            raise ValueError(f"{said}, and a file has at most {LONGEST_FILE}")
+            size = f"the file of the game {game.name} alone has {frame + own} bytes"
+            raise ValueError(f"{size}, and a file has at most {LONGEST_FILE}")
         if row - first == most or size + own > LONGEST_FILE:
             yield range(first, row)
             first, size = row, frame
@@ -226,7 +226,7 @@ def groups(plan: Plan, found: Routed, most: int) -> Iterator[range]:
 
 
 def write_file(path: Path, data: Data, plan: Plan, found: Routed, rows: range) -> None:
-    """The command file of these rows, and beside it the number of each of its lines."""
+    """Writes the command file of these rows, and a file with the number of each of its lines."""
     numbers = sorted(chain.from_iterable(found.games[row] for row in rows))
     with open(path, "wb") as file:
         file.write(plan_text(plan.games[rows.start : rows.stop], plan.version).encode() + b"\n")
@@ -236,7 +236,7 @@ def write_file(path: Path, data: Data, plan: Plan, found: Routed, rows: range) -
 
 
 def write_files(folder: Path, data: Data, plan: Plan, found: Routed, most: int) -> list[list[int]]:
-    """Writes the folder. The blocks and the memory of each file are answered."""
+    """Writes the folder. Returns the blocks and the memory of each file."""
     parts = list(groups(plan, found, most))
     folder.mkdir(parents=True, exist_ok=True)
     if any(folder.iterdir()):
@@ -262,7 +262,7 @@ def describe_strays(strays: list[tuple[int, str]]) -> str:
 
 
 def split(path: Path, most: int, folder: Path) -> str:
-    """Writes the folder, and returns what the standard error is to say."""
+    """Writes the folder, and returns the text for the standard error."""
     with open(path, "rb") as file:
         empty = path.stat().st_size == 0
         data: Data = b"" if empty else mmap.mmap(file.fileno(), 0, access=mmap.ACCESS_READ)
@@ -270,12 +270,12 @@ def split(path: Path, most: int, folder: Path) -> str:
         plan = plan_of(line_at(data, starts, 1))
         found = routed(data, plan, starts)
         sizes = write_files(folder, data, plan, found, most)
-    said = [describe_strays(found.strays)] if found.strays else []
-    said.append(f"{len(plan.games)} games in {len(sizes)} files of at most {most}")
+    summary = [describe_strays(found.strays)] if found.strays else []
+    summary.append(f"{len(plan.games)} games in {len(sizes)} files of at most {most}")
     if sizes:
         blocks, memory = map(max, zip(*sizes))
-        said[-1] += f": --array=1-{len(sizes)} --mem={memory} ({blocks} blocks at most)"
-    return "\n".join(said)
+        summary[-1] += f": --array=1-{len(sizes)} --mem={memory} ({blocks} blocks at most)"
+    return "\n".join(summary)
 
 
 def games_to_a_file(word: str) -> int:

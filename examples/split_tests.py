@@ -1,4 +1,4 @@
-"""Tests of split.py and merge.py against the program, which examples/test names and runs."""
+"""Tests of split.py and merge.py with the built program; examples/test runs them."""
 import json
 import subprocess
 import tempfile
@@ -74,16 +74,16 @@ TAKEN = [
 
 
 def served(plan: bytes) -> bytes:
-    """What one host writes for a command file, or the line with which it refuses it."""
+    """The output of one host for a command file, or its error line if it refuses the file."""
     status, output, errors = program.run_bytes("serve", "-", "--blocks", "960", text=plan)
     return errors if status else output
 
 
 def split_and_served(plan: bytes, most: int, folder: Path) -> tuple[bytes, str]:
-    """The merged transcript of the parts of a command file, and what split.py said of it."""
+    """The merged transcript of the parts of a command file, and the summary of split.py."""
     whole, parts, merged = folder / "whole", folder / "parts", folder / "merged"
     whole.write_bytes(plan)
-    said = split.split(whole, most, parts)
+    summary = split.split(whole, most, parts)
     for row in rows_of(parts):
         status, output, errors = program.run_bytes("serve", parts / row[0], "--blocks", row[1])
         if status:
@@ -91,7 +91,7 @@ def split_and_served(plan: bytes, most: int, folder: Path) -> tuple[bytes, str]:
         (parts / row[0]).with_suffix(".transcript").write_bytes(output)
     with open(merged, "wb") as out:
         merge.merge(parts, out)
-    return merged.read_bytes(), said
+    return merged.read_bytes(), summary
 
 
 def rows_of(parts: Path) -> list[list[str]]:
@@ -180,10 +180,10 @@ class Split(InFolder):
         for most in (1, 8, 64):
             self.assertEqual(self.merged(plan, most), b"".join(sections) + strays)
 
-    def test_what_is_said_and_listed(self):
-        said = self.cut(b"\n".join([PLAN, NEW % b"b", b"", b"x", NEW % b"a", b"{}", b"y"]), 2)
+    def test_the_summary_and_the_lists(self):
+        summary = self.cut(b"\n".join([PLAN, NEW % b"b", b"", b"x", NEW % b"a", b"{}", b"y"]), 2)
         self.assertEqual(
-            said.splitlines(),
+            summary.splitlines(),
             [
                 "lines of no game: L1 json 2, L2 game 1; the first is line 4",
                 "3 games in 2 files of at most 2: --array=1-2 --mem=92 (13 blocks at most)",
@@ -206,8 +206,8 @@ class Split(InFolder):
         self.cut(plan % two + SHOW % b"c" + b"\n" + full + last, 64)
         games_and_bytes = [row[3:] for row in rows_of(self.parts)]
         self.assertEqual(games_and_bytes, [["1", "16777216"], ["2", "85"]])
-        said = "the file of the game a alone has 16777217 bytes, and a file has at most 16777216"
-        self.assertEqual(self.refused(plan % b"" + full + last + b" "), said)
+        fault = "the file of the game a alone has 16777217 bytes, and a file has at most 16777216"
+        self.assertEqual(self.refused(plan % b"" + full + last + b" "), fault)
 
     def test_version_two_stays(self):
         rows = b'{"game":"a","quota":16},{"game":"b","quota":16}'
@@ -221,8 +221,8 @@ class Split(InFolder):
         )
 
     def test_a_file_of_version_three_is_refused(self):
-        said = "a file of version 3 is not split: which games it admits depends on all its lines"
-        self.assertEqual(self.refused(b'{"games":[],"version":3}'), said)
+        fault = "a file of version 3 is not split: which games it admits depends on all its lines"
+        self.assertEqual(self.refused(b'{"games":[],"version":3}'), fault)
 
     def test_a_folder_that_is_not_empty_is_refused(self):
         self.parts.mkdir()
@@ -256,7 +256,7 @@ class Merge(InFolder):
     def test_a_broken_transcript_is_reported(self):
         text = self.second.read_bytes()
         lines = text.splitlines(True)
-        for broken, said in [
+        for broken, fault in [
             (b"", "it ends after line 0"),
             (text[:-1], "is not the one that comes next"),
             (text[:-9], "is no line of a transcript"),
@@ -266,9 +266,9 @@ class Merge(InFolder):
             (self.first.read_bytes(), "line 1 is not the one"),
             (b"7\n", "line 1 is no line"),
         ]:
-            with self.subTest(said=said):
+            with self.subTest(fault=fault):
                 self.second.write_bytes(broken)
-                self.assertIn(said, self.refused())
+                self.assertIn(fault, self.refused())
 
     def test_the_standings_of_the_parts_are_those_of_the_whole(self):
         of_parts = standings.report(standings.lines_of([self.first, self.second]))

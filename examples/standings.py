@@ -4,12 +4,12 @@ lived, and how it went out.
 
     examples/standings.py [TRANSCRIPT ..]
 
-All games of all files are counted in one table. The standard input is read where no file is named.
-A snake wins where it alone lives on the final board of a game that is over. It draws where it lives
-on the final board of a game that is not over, or where nobody lives and it was among the last to go
-out. Any other game is lost. Turns lived are up to the turn in which the snake went out, or to the
-final board's. A game of one snake gives no win, draw or loss. Snakes stand in the order of wins,
-then draws, then turns lived. Below the table stands what the host turned down.
+All games of all files are counted in one table. Without a file the standard input is read. A snake
+wins if it alone lives on the final board of a game that is over. It draws if it lives on the final
+board of a game that is not over, or if no snake lives and it was among the last to go out. Any
+other game is lost. Turns lived count up to the turn in which the snake went out, or to that of the
+final board. A game of one snake gives no win, draw or loss. Snakes are sorted by wins, then draws,
+then turns lived. Below the table are the numbers of refused commands and stray lines.
 """
 import argparse
 import json
@@ -21,7 +21,7 @@ TITLES = ("snake", "games", "wins", "draws", "losses", "turns lived", "went out 
 
 
 class Tally:
-    """What one snake did in all its games."""
+    """The totals of one snake over all its games."""
 
     def __init__(self):
         self.games = self.wins = self.draws = self.losses = self.turns = 0
@@ -57,22 +57,22 @@ def counted(counter):
 
 
 def read_transcript(lines):
-    """The tally of each snake by its id, the refusals and stray lines by their word, and the games
-    that have no final board."""
+    """The tally of each snake by its id, the number of refusals and stray lines by reason, and the
+    games without a final board."""
     tallies, refused, empty = {}, Counter(), []
     for text in lines:
-        said = json.loads(text)
-        if "no" in said:
-            refused[f"{said['no']} {said['why']}"] += 1
-        elif "final" in said and said["board"] is None:
-            empty.append(said["game"])
-        elif "final" in said:
-            add_board(tallies, said["board"])
+        entry = json.loads(text)
+        if "no" in entry:
+            refused[f"{entry['no']} {entry['why']}"] += 1
+        elif "final" in entry and entry["board"] is None:
+            empty.append(entry["game"])
+        elif "final" in entry:
+            add_board(tallies, entry["board"])
     return tallies, refused, empty
 
 
 def table(tallies):
-    """The rows of the standings, as one text with columns."""
+    """The standings as a text with columns."""
     ranked = sorted(
         tallies.items(), key=lambda item: (-item[1].wins, -item[1].draws, -item[1].turns, item[0])
     )

@@ -1,4 +1,4 @@
-"""A client of bots: it asks them for their moves, and trusts nothing that they answer."""
+"""An HTTP client of bots: asks for their moves, and checks and limits every answer."""
 
 from __future__ import annotations
 
@@ -36,7 +36,7 @@ Call = Callable[[str, bytes], Coroutine[Any, Any, Given]]
 
 
 class NoAnswer(Exception):
-    """An answer that is none, with its cause."""
+    """A request without a usable answer, with the cause."""
 
     def __init__(self, cause: str) -> None:
         super().__init__(cause)
@@ -45,7 +45,7 @@ class NoAnswer(Exception):
 
 @dataclass(frozen=True, slots=True)
 class Answer:
-    """What a bot said to a request for its move: a direction, or why there is none."""
+    """The answer of a bot to a request for its move: a direction, or why there is none."""
 
     move: str | None
     cause: str | None
@@ -56,7 +56,7 @@ class Answer:
 
 
 class BotClient:
-    """Calls bots over HTTP, each request within the timeout, in seconds."""
+    """Calls bots over HTTP; `timeout` is in seconds and limits each request."""
 
     def __init__(self, timeout: float) -> None:
         self.timeout = timeout
@@ -75,7 +75,7 @@ class BotClient:
         await self.session.close()
 
     async def look(self, url: str) -> Look:
-        """Asks how a bot is to be drawn; raises `NoAnswer` where it does not say."""
+        """Asks a bot for its look; raises `NoAnswer` if it sends none."""
         try:
             async with asyncio.timeout(LOOK_SECONDS):
                 return look_of(object_of(await self._call("GET", url + "/", b"")))
@@ -85,23 +85,23 @@ class BotClient:
     async def moves(self, requests: Sequence[Request]) -> list[Answer]:
         """Asks bots for their moves, all at once, and waits no longer than the timeout.
 
-        What had come in when the time was over is still taken, be it that this program was too busy
-        to look at it before.
+        An answer that has arrived by the end of the timeout counts, even if this program was too
+        busy to read it earlier.
         """
         began = time.perf_counter()
         found = await self._all(self._move, requests)
         late = Answer(None, "late", self._latency(self.timeout), "", began, time.perf_counter())
         return [answer or late for answer in found]
 
-    async def tell(self, requests: Sequence[Request]) -> None:
-        """Sends requests whose answers say nothing, such as /end, within the timeout."""
-        await self._all(self._tell, requests)
+    async def notify(self, requests: Sequence[Request]) -> None:
+        """Sends requests whose answers are ignored, such as /end, within the timeout."""
+        await self._all(self._notify, requests)
 
     async def _all(self, call: Call[Given], requests: Sequence[Request]) -> list[Given | None]:
-        """What the calls give, in their order; None for one that is not done in time.
+        """The results of the calls, in their order; None for a call that is not done in time.
 
-        One timer is for all. At its end the event loop has handed what lay in the sockets to the
-        calls, which have gone on before this one does. A timer of each call would cancel it first.
+        All calls share one timer. When it ends, the event loop first reads the sockets and resumes
+        the calls, and then this method. A timer for each call would cancel the call before that.
         """
         tasks = [asyncio.create_task(call(url, body)) for url, body in requests]
         try:
@@ -126,14 +126,14 @@ class BotClient:
         """The time of an answer in milliseconds, no longer than the timeout."""
         return round(1000 * min(seconds, self.timeout))
 
-    async def _tell(self, url: str, body: bytes) -> None:
+    async def _notify(self, url: str, body: bytes) -> None:
         try:
             await self._call("POST", url, body)
         except NoAnswer:
             pass
 
     async def _call(self, method: str, url: str, body: bytes) -> bytes:
-        """The body of the answer with status 200; an answer that is none is raised by its cause."""
+        """The body of the answer with status 200; raises `NoAnswer` for any other answer."""
         try:
             try:
                 return await self._request(method, url, body)
@@ -154,18 +154,18 @@ class BotClient:
                     raise NoAnswer("status")
                 return await limited(response)
             except BaseException:
-                response.close()  # what it would still send is not read
+                response.close()  # the rest of the answer is not read
                 raise
 
 
 @lru_cache(MOST_ADDRESSES)
 def parsed(url: str) -> URL:
-    """The parts of an address, found once."""
+    """Parses an address, which is cached."""
     return URL(url)
 
 
 async def limited(response: aiohttp.ClientResponse) -> bytes:
-    """The body of an answer, which is read no further than its limit."""
+    """Reads the body of an answer; raises `NoAnswer` if it exceeds the limit."""
     body = bytearray()
     async for piece in response.content.iter_any():
         body += piece
@@ -175,7 +175,7 @@ async def limited(response: aiohttp.ClientResponse) -> bytes:
 
 
 def object_of(text: bytes) -> dict[str, Any]:
-    """The JSON object of a text."""
+    """Parses a JSON object; raises `NoAnswer` for any other text."""
     try:
         value = json.loads(text)
     except (ValueError, RecursionError):
@@ -185,21 +185,21 @@ def object_of(text: bytes) -> dict[str, Any]:
     return value
 
 
-def answer_of(said: dict[str, Any]) -> Answer:
-    """The move that a bot said; its shout is cut where it is too long."""
-    move, shout = said.get("move"), said.get("shout")
+def answer_of(members: dict[str, Any]) -> Answer:
+    """The move in a bot's answer, and its shout, cut if it is too long."""
+    move, shout = members.get("move"), members.get("shout")
     if move not in DIRECTIONS:
         raise NoAnswer("direction")
     return Answer(move, None, 0, shout[:LONGEST_SHOUT] if isinstance(shout, str) else "")
 
 
-def look_of(said: dict[str, Any]) -> Look:
-    """The look that a bot asked for, as far as it is one; its API has to be version 1."""
-    if said.get("apiversion") != "1":
+def look_of(members: dict[str, Any]) -> Look:
+    """The look in a bot's answer, with defaults for bad members; its API has to be version 1."""
+    if members.get("apiversion") != "1":
         raise NoAnswer("apiversion")
 
     def part(name: str, pattern: str, usual: str) -> str:
-        value = said.get(name)
+        value = members.get(name)
         return value if isinstance(value, str) and re.fullmatch(pattern, value) else usual
 
     usual = Look()

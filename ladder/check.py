@@ -1,4 +1,4 @@
-"""Plays the games of a folder again by `arena serve`, and compares."""
+"""Replays the games of a folder by `arena serve`, and compares them with the results."""
 
 from __future__ import annotations
 
@@ -26,18 +26,18 @@ SERVE_SECONDS = 600
 
 @dataclass(frozen=True)
 class Checked:
-    """What a check found: the number of games, and the faults of those that do not agree."""
+    """The result of a check: the number of games, and the faults of those that do not agree."""
 
     games: int
     faults: dict[str, str]
 
 
 def check(folder: Path, program: Path, note: Callable[[int], None]) -> Checked:
-    """Checks every game of a folder that is done; `note` takes the number of those checked.
+    """Checks every game of a folder that is done; calls `note` with the number checked so far.
 
-    A game agrees where its bots, places, food and words are those that the seed gives, where
-    `arena serve` writes for its file the very lines that the live host wrote, and where its last
-    board is the one in the results.
+    A game agrees if its bots, places, food and words are those drawn from the seed, if `arena
+    serve` writes for its file the same lines as the live host wrote, and if its last board is the
+    one in the results.
     """
     with closing(open_store(folder)) as store:
         store.names()
@@ -63,7 +63,7 @@ def check(folder: Path, program: Path, note: Callable[[int], None]) -> Checked:
 def fault_of(
     outcome: Outcome, config: Config, fixture: Fixture | None, program: Path
 ) -> str | None:
-    """Why a game does not agree, or None where it does."""
+    """Why a game does not agree, or None if it does."""
     if fixture is None:
         return "the pairings have no such game"
     path = command_file(config.folder, outcome.name)
@@ -75,15 +75,15 @@ def fault_of(
 
 
 def fault_of_lines(lines: list[bytes], config: Config, fixture: Fixture) -> str | None:
-    """Why lines are not those of this game: its opening, moves with the drawn words, its leave."""
+    """Why lines are not the opening of this game, moves with the drawn words, and its leave."""
     first = [PLAN, *opening(config, fixture)]
     if lines[: len(first)] != first or lines[-1:] != [line_of(game=fixture.name, do="leave")]:
-        return "its file does not begin as the seed says, or has no end"
+        return "its file does not begin as drawn from the seed, or has no end"
     turn = 0
     for line in lines[len(first) : -1]:
         try:
-            said = json.loads(line)
-            do, words = said["do"], said.get("words")
+            command = json.loads(line)
+            do, words = command["do"], command.get("words")
         except (ValueError, LookupError, TypeError):
             return "a line of its file is no command"
         if do == "move":
@@ -96,7 +96,7 @@ def fault_of_lines(lines: list[bytes], config: Config, fixture: Fixture) -> str 
 
 
 def fault_of_replies(path: Path, outcome: Outcome, program: Path) -> str | None:
-    """Why what `arena serve` writes is not what the live host wrote, or not this outcome."""
+    """Why the replies of `arena serve` are not those of the live host, or not this outcome."""
     words = [str(program), "serve", str(path), "--blocks", str(BLOCKS_OF_GAME), "--workers", "1"]
     try:
         ran = subprocess.run(words, capture_output=True, timeout=SERVE_SECONDS)

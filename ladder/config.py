@@ -1,4 +1,4 @@
-"""Reads what a ladder plays from a TOML file, and checks it."""
+"""Reads the configuration of a ladder from a TOML file, and checks it."""
 
 from __future__ import annotations
 
@@ -18,11 +18,11 @@ PAIRINGS = ("round_robin", "duels", "tables")
 MOST_BOTS = 200
 MOST_AT_ONCE = 64  # games that are open in a host
 MOST_TURNS = 10_000
-LONGEST_FOOD = 32  # words of a move, so that many foods can be missing in a turn
+LONGEST_FOOD = 32  # words of a move: at most this number of foods can appear in a turn
 
 
 class ConfigFault(ValueError):
-    """Something that the file says and a ladder can't play."""
+    """A configuration that can't be played, with the reason."""
 
 
 @dataclass(frozen=True)
@@ -35,7 +35,7 @@ class Bot:
 
 @dataclass(frozen=True)
 class Rules:
-    """What each game is played by."""
+    """The rules of each game."""
 
     mode: str
     width: int
@@ -46,13 +46,13 @@ class Rules:
 
     @property
     def words(self) -> int:
-        """How many words a move can need."""
+        """The number of words that a move can need."""
         return max(2, self.min_food)
 
 
 @dataclass(frozen=True)
 class Config:
-    """A ladder: its bots, rules and pairings, and where its results are kept."""
+    """A ladder: its bots, rules and pairings, and the folder of its results."""
 
     folder: Path
     bots: tuple[Bot, ...]
@@ -66,9 +66,9 @@ class Config:
 
     @property
     def identity(self) -> dict[str, Any]:
-        """What decides the games: in a folder with results of another identity nothing is played.
+        """What decides the games. A folder with results of another identity is refused.
 
-        The addresses of the bots, the number of rounds and of games at once may change.
+        The addresses of the bots, the number of rounds and the number of games at once may change.
         """
         return {
             "bots": [bot.name for bot in self.bots],
@@ -81,7 +81,7 @@ class Config:
 
 
 def config_again(identity: dict[str, Any], folder: Path, rounds: int) -> Config:
-    """The configuration of an identity, whose bots have no addresses."""
+    """The configuration of an identity. Its bots have no addresses."""
     return Config(
         folder=folder,
         bots=tuple(Bot(name, "") for name in identity["bots"]),
@@ -96,7 +96,7 @@ def config_again(identity: dict[str, Any], folder: Path, rounds: int) -> Config:
 
 
 class Members:
-    """Takes the members of a table one after the other; what is left over is a fault."""
+    """Takes the members of a table one by one; `finish` raises a fault if one is left over."""
 
     def __init__(self, table: dict[str, Any], place: str) -> None:
         self.table = dict(table)
@@ -112,7 +112,7 @@ class Members:
         return value
 
     def word(self, name: str, choices: Sequence[str]) -> str:
-        """One of the choices, of which the first is taken where the member is missing."""
+        """One of the choices, the first if the member is missing."""
         value = self.table.pop(name, choices[0])
         if not isinstance(value, str) or value not in choices:
             raise self.fault(f"{name} is {value!r}, and has to be one of {', '.join(choices)}")
@@ -130,7 +130,7 @@ class Members:
 
 
 def read_config(path: Path) -> Config:
-    """Reads a file; raises `ConfigFault` with the reason where it can't be played."""
+    """Reads a file; raises `ConfigFault` if it can't be played."""
     try:
         table = tomllib.loads(path.read_text())
     except (OSError, ValueError) as fault:
@@ -139,7 +139,7 @@ def read_config(path: Path) -> Config:
 
 
 def config_of(table: dict[str, Any], place: str) -> Config:
-    """Makes a configuration of a table that was read."""
+    """Makes a configuration from a parsed table."""
     members = Members(table, place)
     bots = bots_of(members)
     folder = Path(members.text("folder"))
@@ -174,7 +174,7 @@ def rules_of(members: Members) -> Rules:
 
 
 def snakes_of(members: Members, rules: Rules, pairing: str) -> int:
-    """The number of snakes of a game; one alone plays only in solo."""
+    """The number of snakes of a game; a game of one snake is possible in solo only."""
     usual = {"tables": 4}.get(pairing, 1 if rules.mode == "solo" else 2)
     most = min(8, most_snakes(rules.width, rules.height))
     snakes = members.number("snakes", usual, 1 if rules.mode == "solo" else 2, most)
@@ -184,7 +184,7 @@ def snakes_of(members: Members, rules: Rules, pairing: str) -> int:
 
 
 def bots_of(members: Members) -> tuple[Bot, ...]:
-    """The bots of the tables [[bot]], whose names are checked and differ."""
+    """The bots of the tables [[bot]]; their names have to be valid and different."""
     tables = members.table.pop("bot", [])
     if not isinstance(tables, list) or not 1 <= len(tables) <= MOST_BOTS:
         raise members.fault(f"there have to be 1 to {MOST_BOTS} tables [[bot]]")
@@ -208,7 +208,7 @@ def bot_of(table: Any, place: str) -> Bot:
 
 
 def checked_url(url: str, members: Members) -> str:
-    """The address without a slash at its end; its parts are those that a bot's address can have."""
+    """Checks the address of a bot, and removes slashes at its end."""
     try:
         parts = urlsplit(url)
         is_fit = parts.scheme in ("http", "https") and bool(parts.hostname) and parts.port != 0

@@ -1,4 +1,4 @@
-"""Numbers drawn from a seed: the same on every machine, and easy to draw again."""
+"""Numbers drawn from a seed, the same on every machine."""
 
 from __future__ import annotations
 
@@ -10,10 +10,10 @@ Item = TypeVar("Item")
 
 
 class Draw:
-    """A list of drawn numbers, which depends on the given words alone.
+    """A sequence of drawn numbers that depends on the given words alone.
 
-    Number n, from 0, is the first eight bytes of the SHA-256 of the words and n, with slashes
-    between them, the higher byte first.
+    Number n, from 0, is the first eight bytes, big-endian, of the SHA-256 of the words and n with
+    slashes between them.
     """
 
     def __init__(self, *words: str | int) -> None:
@@ -30,7 +30,7 @@ class Draw:
         return self.number() % bound
 
     def shuffled(self, items: Iterable[Item]) -> list[Item]:
-        """The items in a drawn order: from the last place on, each changes with one before it."""
+        """The items in a drawn order, by Fisher and Yates from the last place to the first."""
         order = list(items)
         for at in range(len(order) - 1, 0, -1):
             other = self.below(at + 1)

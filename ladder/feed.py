@@ -1,4 +1,4 @@
-"""What the page of a run is told: server-sent events with the running games and the standings."""
+"""The server-sent events for the page of a run: its running games and its standings."""
 
 from __future__ import annotations
 
@@ -15,21 +15,21 @@ from ladder.watch import Watch
 
 TICK_SECONDS = 0.25
 STANDINGS_SECONDS = 2.0
-REST = 20  # times as long as the standings took, until they are made again
+REST = 20  # the pause before the next standings, as a multiple of the time that they took
 MOST_READERS = 32
-MOST_WAITING = 16  # events of a reader; one that takes them too slowly is let go
+MOST_WAITING = 16  # events of a reader; a slower reader is disconnected
 
 Rows = list[dict[str, Any]]
 
 
 class Reader:
-    """The events that wait for one open page; None is the end."""
+    """The queue of events for one open page; None is its end."""
 
     def __init__(self) -> None:
         self.events: asyncio.Queue[bytes | None] = asyncio.Queue(MOST_WAITING)
 
     def put(self, event: bytes) -> bool:
-        """Adds an event; false where too many wait, after which the end comes."""
+        """Adds an event. If the queue is full, ends it and returns False."""
         if self.events.full():
             self.end()
             return False
@@ -37,18 +37,18 @@ class Reader:
         return True
 
     def end(self, *last: bytes) -> None:
-        """Ends the events with these, in place of what waits."""
+        """Replaces the waiting events by these and the end."""
         while not self.events.empty():
             self.events.get_nowait()
-        for told in (*last, None):
-            self.events.put_nowait(told)
+        for item in (*last, None):
+            self.events.put_nowait(item)
 
 
 class Feed(Watch):
-    """Keeps the last board of each running game, and tells all readers what has changed.
+    """Keeps the last board of each running game, and sends the changes to all readers.
 
-    A reader is told all when it joins, and then only what changed since the last tick, the newest
-    board of each game. So what a page costs does not grow with the speed of the games.
+    A reader gets the whole state when it joins, and then at each tick the newest board of each game
+    that changed. So the cost of a page does not grow with the speed of the games.
     """
 
     def __init__(self, standings: Callable[[], Rows], summary: Callable[[], str]) -> None:
@@ -72,7 +72,7 @@ class Feed(Watch):
         self.is_stale = True
 
     def join(self) -> Reader | None:
-        """A new reader, who is told all first; None where there are too many."""
+        """Adds a reader, whose first event is the whole state; None if there are too many."""
         if len(self.readers) >= MOST_READERS:
             return None
         reader = Reader()
@@ -87,7 +87,7 @@ class Feed(Watch):
         return {"summary": self.summary(), "boards": boards, "standings": self.rows}
 
     async def run(self) -> None:
-        """Tells all readers what has changed, tick by tick, until it is cancelled."""
+        """Sends the changes to all readers, tick by tick, until it is cancelled."""
         while True:
             await asyncio.sleep(TICK_SECONDS)
             await self.tick()
@@ -104,13 +104,14 @@ class Feed(Watch):
         self.changed.clear()
         self.gone.clear()
         if self.readers:
-            self.tell(event("changes", state))
+            self.publish(event("changes", state))
 
-    def tell(self, told: bytes) -> None:
-        self.readers = {reader for reader in self.readers if reader.put(told)}
+    def publish(self, event: bytes) -> None:
+        """Sends an event to all readers, and drops those whose queue is full."""
+        self.readers = {reader for reader in self.readers if reader.put(event)}
 
     async def close(self) -> None:
-        """Tells all readers how the run ended, and ends their events."""
+        """Sends the final state to all readers, and ends their events."""
         self.rows = await asyncio.to_thread(self.standings)
         last = event("end", {**self.state(self.boards), "gone": sorted(self.gone)})
         for reader in self.readers:
@@ -118,5 +119,5 @@ class Feed(Watch):
 
 
 def event(kind: str, value: Any) -> bytes:
-    """An event as it is sent: JSON has no line feed, so it is one line of data."""
+    """The bytes of an event. JSON has no line feed, so its data is one line."""
     return f"event: {kind}\ndata: {json.dumps(value, separators=(',', ':'))}\n\n".encode()

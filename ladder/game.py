@@ -1,4 +1,4 @@
-"""Plays one game: asks its bots, hands their moves to the host, and keeps all in its files."""
+"""Plays one game: asks its bots, sends their moves to the host, and writes both to its files."""
 
 from __future__ import annotations
 
@@ -17,15 +17,15 @@ from ladder.payloads import Look, Seat, bodies, game_text, living_of
 from ladder.starts import first_food, start_cells
 from ladder.watch import Watch
 
-FREE_AT = 1_000_000  # bytes of records, beyond which all but the last are freed
+FREE_AT = 1_000_000  # bytes of records; above that all but the last are freed
 
 
 class GameFault(Exception):
-    """A file of a game that is not of this ladder."""
+    """A game whose file is not of this ladder, or a line of which the host refused."""
 
 
 @dataclass(frozen=True)
-class Surroundings:
+class RunContext:
     """What all games of a run share."""
 
     config: Config
@@ -37,7 +37,7 @@ class Surroundings:
 
 
 def opening(config: Config, fixture: Fixture) -> list[bytes]:
-    """The lines by which a game is admitted and begun, which its name, bots and seed decide."""
+    """The lines that admit and begin a game; its name, bots and seed determine them."""
     rules = config.rules
     draw = Draw(config.seed, fixture.name, "start")
     heads = start_cells(draw, rules.width, rules.height, len(fixture.bots))
@@ -60,11 +60,11 @@ def opening(config: Config, fixture: Fixture) -> list[bytes]:
 class Game:
     """A game between some bots, from its first request to its outcome."""
 
-    def __init__(self, around: Surroundings, fixture: Fixture) -> None:
-        self.around = around
+    def __init__(self, context: RunContext, fixture: Fixture) -> None:
+        self.context = context
         self.fixture = fixture
-        self.text = game_text(around.config, fixture.name)
-        self.seats = {bot: Seat(bot, around.looks.get(bot, Look())) for bot in fixture.bots}
+        self.text = game_text(context.config, fixture.name)
+        self.seats = {bot: Seat(bot, context.looks.get(bot, Look())) for bot in fixture.bots}
         self.tallies: dict[str, Tally] = {}
         self.answered_at: float | None = None
         self.stay: Stay
@@ -72,27 +72,27 @@ class Game:
     async def play(self, host: Host) -> None:
         """Plays the game to its end, from where its files end.
 
-        What it does next depends on the last board, the charge and the lines so far alone. So a
-        game that was cut off goes on as it would have done.
+        Each step depends only on the last board, the charge and the lines so far. So an interrupted
+        game continues as it would have without the interruption.
         """
-        with GameFiles(self.around.folder, self.fixture.name) as files:
+        with GameFiles(self.context.folder, self.fixture.name) as files:
             self.stay = stay = await self.enter(host, files)
             if stay.board["turn"] == 0:
-                await self.tell_all("start", stay.board)
+                await self.notify_all("start", stay.board)
             while not self.is_done(stay.board):
                 if stay.charge > FREE_AT:
                     await stay.free()
                 await self.play_turn(stay, files)
             if stay.is_open:
-                await self.tell_all("end", stay.board)
+                await self.notify_all("end", stay.board)
                 await stay.leave()
 
     async def enter(self, host: Host, files: GameFiles) -> Stay:
-        """Admits and begins the game, and plays again what its file has."""
-        first = opening(self.around.config, self.fixture)
+        """Admits and begins the game, and replays the moves of its file."""
+        first = opening(self.context.config, self.fixture)
         old = files.old_lines
         if old[:2] != first[: len(old)]:
-            raise GameFault(f"the file of {self.fixture.name} has not begun as this ladder begins")
+            raise GameFault(f"the file of {self.fixture.name} does not begin as in this ladder")
         turns = files.old_answers()
         self.tallies = tallies_of(self.fixture.bots, turns)
         for answers in turns:
@@ -102,15 +102,15 @@ class Game:
         stay = await host.admit(self.fixture.name, QUOTA)
         await stay.replay([*first[1:], *old[2:]])
         stay.log = files.commands
-        self.around.watch.show(self.fixture, stay.board)
+        self.context.watch.show(self.fixture, stay.board)
         return stay
 
     def is_done(self, board: Board) -> bool:
-        return bool(board["over"]) or board["turn"] >= self.around.config.rules.turns
+        return bool(board["over"]) or board["turn"] >= self.context.config.rules.turns
 
     async def play_turn(self, stay: Stay, files: GameFiles) -> None:
-        """Asks the living for their moves, and plays them."""
-        config, board = self.around.config, stay.board
+        """Asks the living snakes' bots for their moves, and plays them."""
+        config, board = self.context.config, stay.board
         answers = await self.ask_all(board)
         self.hear(answers)
         for name, answer in answers.items():
@@ -118,34 +118,35 @@ class Game:
         files.add_answers(answers)
         moves = {name: answer.move for name, answer in answers.items() if answer.move is not None}
         words = words_of(config.seed, self.fixture.name, board["turn"], config.rules.words)
-        self.around.watch.show(self.fixture, await stay.move(moves, words))
+        self.context.watch.show(self.fixture, await stay.move(moves, words))
 
     async def ask_all(self, board: Board) -> dict[str, Answer]:
-        """Asks all living snakes at once; each has an answer, be it that there is none."""
+        """Asks the bots of all living snakes at once; an answer may be that there is none."""
         names = living_of(board)
-        urls = [self.around.urls[name] for name in names]
+        urls = [self.context.urls[name] for name in names]
         requests = list(zip(urls, bodies(self.text, board, self.seats, names)))
-        answers = dict(zip(names, await self.around.client.moves(requests)))
+        answers = dict(zip(names, await self.context.client.moves(requests)))
         asked_at = min(answer.asked_at for answer in answers.values())
         own = None if self.answered_at is None else asked_at - self.answered_at
         self.answered_at = max(answer.answered_at for answer in answers.values())
-        self.around.watch.count(answers, own)
+        self.context.watch.count(answers, own)
         return answers
 
     def hear(self, answers: Mapping[str, Answer]) -> None:
-        """Keeps what the others will be told of each bot."""
+        """Keeps the latency and the shout of each bot, which the next requests contain."""
         for name, answer in answers.items():
             self.seats[name].latency = answer.latency
             self.seats[name].shout = answer.shout
 
-    async def tell_all(self, what: str, board: Board) -> None:
-        """Tells all bots that the game begins or ends; what they answer says nothing."""
+    async def notify_all(self, what: str, board: Board) -> None:
+        """Notifies all bots of the start or the end of the game; their answers are ignored."""
         names = self.fixture.bots
-        urls = [f"{self.around.urls[name]}/{what}" for name in names]
-        await self.around.client.tell(list(zip(urls, bodies(self.text, board, self.seats, names))))
+        urls = [f"{self.context.urls[name]}/{what}" for name in names]
+        requests = list(zip(urls, bodies(self.text, board, self.seats, names)))
+        await self.context.client.notify(requests)
 
     def outcome(self) -> Outcome:
-        """What the game came to, once it was played."""
+        """The result of the game, after it was played."""
         stay = self.stay
         return Outcome(
             name=self.fixture.name,

@@ -1,7 +1,7 @@
-"""The files of a game: its command file, and while it is played what its bots said.
+"""The files of a game: its command file and, while it is played, the answers of its bots.
 
-Each line is written by one call before anything depends on it. So a game that was cut off at any
-moment goes on from its files: what follows the last line feed was not sent, and is removed.
+Each line is written by one call before anything depends on it. So a game that was interrupted at
+any moment continues from its files: bytes after the last line feed were not sent, and are removed.
 """
 
 from __future__ import annotations
@@ -17,7 +17,7 @@ from ladder.host import PLAN
 
 
 class LineFile:
-    """A file of whole lines, to which lines are added."""
+    """A file of whole lines that can be extended."""
 
     def __init__(self, path: Path) -> None:
         self.file = open(path, "a+b", buffering=0)
@@ -27,12 +27,12 @@ class LineFile:
         self.cut(len(self.lines))
 
     def cut(self, count: int) -> None:
-        """Keeps so many lines of those that were there when the file was opened."""
+        """Keeps the first `count` of the lines that the file had when it was opened."""
         del self.lines[count:]
         self.file.truncate(sum(map(len, self.lines)))
 
     def write(self, line: bytes) -> None:
-        """Writes a line; raises OSError where not all of it could be written."""
+        """Writes a line; raises OSError if it could not be written completely."""
         if self.file.write(line) != len(line):
             raise OSError(errno.ENOSPC, os.strerror(errno.ENOSPC), self.file.name)
 
@@ -43,8 +43,8 @@ class LineFile:
 class GameFiles:
     """The files of one game in the folder of a ladder.
 
-    `commands` is what `arena serve` plays again, and `old_lines` what it had when it was opened,
-    without the plan. `answers` has a line for each turn, written before the move of that turn.
+    `commands` is the command file, and `old_lines` its lines when it was opened, without the plan.
+    `answers` has a line for each turn, written before the move of that turn.
     """
 
     def __init__(self, folder: Path, name: str) -> None:
@@ -65,7 +65,7 @@ class GameFiles:
         self.answers.close()
 
     def old_answers(self) -> list[dict[str, Answer]]:
-        """What the bots said in the turns that the command file has."""
+        """The answers of the bots in the turns that the command file has."""
         return [answers_in(line) for line in self.answers.lines]
 
     def add_answers(self, answers: dict[str, Answer]) -> None:
@@ -92,10 +92,10 @@ def answers_file(folder: Path, name: str) -> Path:
 
 
 def forget_answers(folder: Path, name: str) -> None:
-    """Removes what the bots of a game said, once its result is kept."""
+    """Removes the file of the answers of a game whose result is stored."""
     answers_file(folder, name).unlink(missing_ok=True)
 
 
 def running_games(folder: Path) -> set[str]:
-    """The names of the games of which a folder has answers."""
+    """The names of the games for which a folder has a file of answers."""
     return {path.stem for path in (folder / "running").glob("*.answers")}

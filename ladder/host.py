@@ -1,4 +1,4 @@
-"""A client of `arena live`: games that are moved turn by turn through a pipe.
+"""A client of `arena live`: plays games turn by turn through a pipe.
 
     async with Host(blocks=384) as host:
         stay = await host.admit("a")
@@ -6,9 +6,9 @@
         board = await stay.move({"s": "up"})
         await stay.leave()
 
-The host answers its lines in their order, so each line that comes back belongs to the first line
-sent that still waits. A task reads all the time, so no pipe can fill up while a line is written.
-Any number of tasks may use one host, each with stays of its own.
+The host answers lines in their order, so each line of its output answers the first line sent that
+has no answer yet. A task reads the output all the time, so no pipe fills up during a write.
+Any number of tasks may use one host, each with separate stays.
 """
 
 from __future__ import annotations
@@ -27,15 +27,15 @@ Board = dict[str, Any]  # as docs/FORMATS.md has it
 
 PROGRAM = Path(__file__).resolve().parent.parent / "crates/arena/out/arena"
 PLAN = b'{"games":[],"version":3}\n'
-NO_GAME = b"{}\n"  # a line that belongs to no game: it is answered by L2, and changes nothing
-QUOTA = 1_835_007  # the most for which a game needs no more than BLOCKS_OF_GAME
+NO_GAME = b"{}\n"  # a line of no game: the answer is L2, and nothing changes
+QUOTA = 1_835_007  # the largest quota of a game that needs only BLOCKS_OF_GAME
 BLOCKS_OF_GAME = 6
-LONGEST_LINE = 16 * 1024 * 1024  # of the host; the longest board has 1.3 MB
+LONGEST_LINE = 16 * 1024 * 1024  # of the host's output; the longest board has 1.3 MB
 CLOSING_SECONDS = 30
 
 
 class Log(Protocol):
-    """Where a stay's lines are written before they are sent."""
+    """A file to which a stay's lines are written before they are sent."""
 
     def write(self, data: bytes, /) -> object:
         ...
@@ -59,7 +59,7 @@ class HostDied(Exception):
 
 
 class HostFault(Exception):
-    """A line of the host that answers nothing that was sent."""
+    """A line of the host that answers no line that was sent."""
 
 
 def line_of(**members: Any) -> bytes:
@@ -69,38 +69,38 @@ def line_of(**members: Any) -> bytes:
 
 @dataclass(slots=True)
 class Asked:
-    """A line that was sent and waits for its answer."""
+    """A line that was sent and has no answer yet."""
 
     number: int
     stay: Stay | None
     is_admit: bool
     answer: asyncio.Future[dict[str, Any] | None]
 
-    def is_answered_by(self, said: dict[str, Any]) -> bool:
-        """Whether a line of the host is the answer: it names the game, or has the number."""
-        if "line" in said:
-            return bool(said["line"] == self.number)
+    def is_answered_by(self, reply: dict[str, Any]) -> bool:
+        """Whether a reply of the host answers this line: by its line number or its game."""
+        if "line" in reply:
+            return bool(reply["line"] == self.number)
         if self.stay is None or self.is_admit:
             return False
-        return bool(said.get("game") == self.stay.name)
+        return bool(reply.get("game") == self.stay.name)
 
-    def settle(self, said: dict[str, Any] | None) -> None:
-        """Hands the answer to whoever waits; None says that the line was accepted in silence."""
+    def settle(self, reply: dict[str, Any] | None) -> None:
+        """Completes the answer; None means that the line was accepted without a reply."""
         if not self.answer.done():
-            self.answer.set_result(said)
+            self.answer.set_result(reply)
 
     def fail(self, fault: Exception) -> None:
         if not self.answer.done():
             self.answer.set_exception(fault)
-            self.answer.exception()  # so that nobody has to wait for it
+            self.answer.exception()  # marks it as retrieved: nobody has to await it
 
 
 class Stay:
     """A game from its admission until it leaves, one command at a time.
 
     `board` is the last board, `charge` the charge of the kept records in bytes, `replies` the
-    number of lines that the host wrote for the stay. Each command raises `Refused` where the host
-    refuses it, and `HostDied` where the host has ended.
+    number of lines that the host wrote for the stay. Each command raises `Refused` if the host
+    refuses it, and `HostDied` if the host has ended.
     """
 
     def __init__(self, host: Host, name: str, log: Log | None) -> None:
@@ -119,8 +119,8 @@ class Stay:
         return self._digest.hexdigest()
 
     async def new(self, **members: Any) -> Board:
-        """Begins the game; the members are those of docs/FORMATS.md, and without `food` there is
-        none.
+        """Begins the game. The members are those of docs/FORMATS.md; `food` may be missing: then
+        there is none.
         """
         members.setdefault("food", [])
         return await self._command(do="new", **members)
@@ -146,14 +146,14 @@ class Stay:
         await self._command(do="end")
 
     async def leave(self) -> Board | None:
-        """Closes the stay; the board is the last one, None where no game runs."""
+        """Closes the stay; returns the last board, None if no game runs."""
         line = line_of(game=self.name, do="leave")
         self.write(line)
         board: Board | None = self._taken(await self.host.ask(line, self))["board"]
         return board
 
     async def replay(self, lines: Iterable[bytes]) -> None:
-        """Sends lines that were logged before, and waits for all their answers."""
+        """Sends lines that are in the log already, and waits for all answers."""
         waiting = [await self.host.send(line, self) for line in lines]
         for answer in waiting:
             self._taken(await answer)
@@ -164,7 +164,7 @@ class Stay:
             self.log.write(line)
 
     def count(self, line: bytes) -> None:
-        """Adds a line of the host to the digest."""
+        """Adds a line of the host to the digest and counts it."""
         self._digest.update(line)
         self.replies += 1
 
@@ -174,21 +174,21 @@ class Stay:
         self._taken(await self.host.ask(line, self))
         return self.board
 
-    def _taken(self, said: dict[str, Any] | None) -> dict[str, Any]:
-        assert said is not None
-        if "no" in said:
-            raise Refused(said["no"], said["why"])
-        self.charge = said["charge"]
-        self.board = said.get("board") or self.board
-        self.is_open = "final" not in said
-        return said
+    def _taken(self, reply: dict[str, Any] | None) -> dict[str, Any]:
+        assert reply is not None
+        if "no" in reply:
+            raise Refused(reply["no"], reply["why"])
+        self.charge = reply["charge"]
+        self.board = reply.get("board") or self.board
+        self.is_open = "final" not in reply
+        return reply
 
 
 class Host:
-    """A running `arena live`. `blocks` are the blocks of memory that its open games share.
+    """A running `arena live`. `blocks` is the number of memory blocks that its open games share.
 
-    It is entered by `async with`. Left in peace, it ends at the end of its input; left by an
-    exception, it is killed.
+    It is an `async with` context. At the end of the block its input is closed and it ends; if the
+    block raises an exception, it is killed.
     """
 
     def __init__(self, blocks: int = 64, program: Path | str = PROGRAM) -> None:
@@ -207,10 +207,10 @@ class Host:
             stdout=asyncio.subprocess.PIPE,
             stderr=asyncio.subprocess.PIPE,
             limit=LONGEST_LINE,
-            start_new_session=True,  # Ctrl-C is for this program alone
+            start_new_session=True,  # Ctrl-C ends this program alone, not the host
         )
         self._reader = asyncio.create_task(self._read())
-        with suppress(HostDied):  # which the first call raises
+        with suppress(HostDied):  # the first call raises it
             await self._write(PLAN)
         return self
 
@@ -234,19 +234,19 @@ class Host:
         return self._process.pid
 
     async def admit(self, name: str, quota: int = QUOTA, log: Log | None = None) -> Stay:
-        """Admits a game under a name of 1 to 64 bytes; `Refused` says why it can't be.
+        """Admits a game under a name of 1 to 64 bytes; raises `Refused` if the host refuses it.
 
         The lines of the stay are written to the log before they are sent, this one too. An accepted
-        admission has no answer, so a line that belongs to no game follows it, whose answer comes.
+        admission has no reply. So a line of no game follows it, whose reply shows the acceptance.
         """
         stay = Stay(self, name, log)
         line = line_of(game=name, do="admit", quota=quota)
         stay.write(line)
         admitted = await self.send(line, stay, is_admit=True)
         await self.ask(NO_GAME)
-        said = await admitted
-        if said is not None:
-            raise Refused(said["no"], said["why"])
+        reply = await admitted
+        if reply is not None:
+            raise Refused(reply["no"], reply["why"])
         return stay
 
     async def ask(self, line: bytes, stay: Stay | None = None) -> dict[str, Any] | None:
@@ -256,7 +256,7 @@ class Host:
     async def send(
         self, line: bytes, stay: Stay | None = None, is_admit: bool = False
     ) -> asyncio.Future[dict[str, Any] | None]:
-        """Sends a line, and returns where its answer will be."""
+        """Sends a line, and returns the future of its answer."""
         if self._fault is not None:
             raise self._fault
         answer = asyncio.get_running_loop().create_future()
@@ -276,12 +276,12 @@ class Host:
                 self._input.write(line)
                 await self._input.drain()
                 return
-        await asyncio.wait([self._reader])  # which finds out why the input is closed
+        await asyncio.wait([self._reader])  # it finds the reason why the input is closed
         assert self._fault is not None
         raise self._fault
 
     async def _read(self) -> None:
-        """Takes the lines of the host until it ends."""
+        """Reads the lines of the host until it ends."""
         assert self._process.stdout is not None and self._process.stderr is not None
         try:
             async for line in self._process.stdout:
@@ -293,26 +293,26 @@ class Host:
         self._end(HostDied(await self._process.wait(), error.decode(errors="replace").strip()))
 
     def _take(self, line: bytes) -> None:
-        """Hands a line to what it answers: admissions before that were accepted."""
-        said = json.loads(line)
-        if not isinstance(said, dict):
-            raise HostFault(f"arena live wrote a line that is none: {line[:200]!r}")
+        """Passes a reply to the line that it answers; admissions before that were accepted."""
+        reply = json.loads(line)
+        if not isinstance(reply, dict):
+            raise HostFault(f"arena live wrote a line that is no object: {line[:200]!r}")
         while self._asked:
             asked = self._asked[0]
-            is_answered = asked.is_answered_by(said)
+            is_answered = asked.is_answered_by(reply)
             if not is_answered and not asked.is_admit:
                 break
             self._asked.popleft()
-            asked.settle(said if is_answered else None)
+            asked.settle(reply if is_answered else None)
             if is_answered:
-                if asked.stay is not None and "line" not in said:
+                if asked.stay is not None and "line" not in reply:
                     asked.stay.count(line)
                 return
-        if not (self._closing and said.get("final")):
+        if not (self._closing and reply.get("final")):
             raise HostFault(f"arena live wrote a line that answers nothing: {line[:200]!r}")
 
     def _end(self, fault: Exception) -> None:
-        """Tells all who wait, and all who will ask, that no answer comes."""
+        """Fails all lines without an answer, and all that will be sent."""
         self._fault = self._fault or fault
         while self._asked:
             self._asked.popleft().fail(self._fault)

@@ -1,4 +1,4 @@
-"""Keeps a host running: one that dies is followed by another, in which its games go on."""
+"""Keeps a host running: starts another when it dies, in which its games continue."""
 
 from __future__ import annotations
 
@@ -11,12 +11,12 @@ from ladder.host import Host, HostDied
 from ladder.watch import Watch
 
 FAULTS = (5, 7)  # out of memory, and broken: statuses after which another host is started
-MOST_IDLE_DEATHS = 5  # one after the other, with no turn played between them
+MOST_IDLE_DEATHS = 5  # in succession, without a turn between them
 MOST_DEATHS = 100
 
 
 class HostKeeper(Watch):
-    """The host of a run. It gives up where hosts die at once, or far too often."""
+    """The host of a run. Gives up if hosts die at once, or too often."""
 
     def __init__(self, program: Path, blocks: int) -> None:
         self.program = program
@@ -38,20 +38,20 @@ class HostKeeper(Watch):
             pass  # all games that were played are stored
 
     def count(self, answers: Mapping[str, Answer], own_seconds: float | None) -> None:
-        """Takes note of a turn that was asked for: the host is of use."""
+        """Resets the count of idle deaths: a turn was requested."""
         self.idle_deaths = 0
 
     async def host(self) -> Host:
-        """The host that runs; the first one is started here."""
+        """The running host; starts one if there is none."""
         async with self._lock:
             if self._host is None:
                 self._host = await Host(self.blocks, self.program).__aenter__()
             return self._host
 
     async def bury(self, host: Host, death: HostDied) -> bool:
-        """Puts away a host that has died; raises its death where no other is to follow.
+        """Removes a host that has died; raises `death` if no other may be started.
 
-        False where another game of that host was first.
+        Returns False if another game of that host has removed it already.
         """
         async with self._lock:
             if self._host is not host:

@@ -34,28 +34,28 @@ FAULTS = (ConfigFault, GameFault, HostDied, HostFault, StoreFault, OSError, sqli
 
 
 def program_of(given: argparse.Namespace) -> Path:
-    """The program that plays; it has to be there."""
+    """The path of the arena program, which has to exist."""
     program = Path(given.program)
     if not program.is_file():
         raise StoreFault(f"there is no program {program}: ./arena --help proves and builds it")
     return program.resolve()
 
 
-def pass_over_lost_connections(loop: asyncio.AbstractEventLoop, context: dict[str, Any]) -> None:
-    """Says nothing where a task of aiohttp's own loses its bot: the request is told as well."""
+def ignore_lost_connections(loop: asyncio.AbstractEventLoop, context: dict[str, Any]) -> None:
+    """Ignores a lost connection in a task of aiohttp: the request reports it too."""
     if not isinstance(context.get("exception"), ConnectionError):
         loop.default_exception_handler(context)
 
 
 async def play_job(job: Job, store: Store, counts: Counts, address: Address | None) -> None:
-    """Plays a job with its progress and, where it has an address, its page.
+    """Plays a job with its progress bar and, if there is an address, its page.
 
-    A signal to end cancels it, as Ctrl-C does; raised anywhere in the libraries it might be lost.
+    SIGTERM cancels the task, as Ctrl-C does: an exception raised in a library might be lost.
     """
     task = asyncio.current_task()
     assert task is not None
     asyncio.get_running_loop().add_signal_handler(signal.SIGTERM, task.cancel)
-    asyncio.get_running_loop().set_exception_handler(pass_over_lost_connections)
+    asyncio.get_running_loop().set_exception_handler(ignore_lost_connections)
     async with AsyncExitStack() as stack:
         bar = stack.enter_context(ProgressBar(counts))
         watches: list[Watch] = [counts, bar]
@@ -67,13 +67,13 @@ async def play_job(job: Job, store: Store, counts: Counts, address: Address | No
 
 
 def rows_of(folder: Path) -> list[dict[str, Any]]:
-    """The standings of a folder, read anew: another thread may ask for them."""
+    """Reads the standings of a folder, by a new connection, since another thread calls this."""
     with closing(open_store(folder)) as store:
         return [standing.row() for standing in standings_of(store)]
 
 
 def run_play(given: argparse.Namespace) -> int:
-    """Plays what is missing of a ladder."""
+    """Plays the games of a ladder that are not done."""
     config = read_config(given.config)
     part = given.part or Part(1, 1)
     folder = config.folder / str(part) if given.part else config.folder
@@ -81,7 +81,7 @@ def run_play(given: argparse.Namespace) -> int:
     counts = Counts()
     make_folders(folder)
     with locked(folder), closing(Store(folder)) as store:
-        asyncio.run(play_job(job, store, counts, given.page))  # which waits for its threads
+        asyncio.run(play_job(job, store, counts, given.page))  # waits for its threads
     for line in counts.summary():
         print(f"ladder: {line}")
     return 0
@@ -99,7 +99,7 @@ def run_standings(given: argparse.Namespace) -> int:
 
 
 def run_check(given: argparse.Namespace) -> int:
-    """Plays all games of a folder again; the status is 1 where one does not agree."""
+    """Replays all games of a folder; the status is 1 if one does not agree."""
     console = Console(stderr=True)
     with console.status("checking") as status:
         checked = check(
@@ -112,7 +112,7 @@ def run_check(given: argparse.Namespace) -> int:
 
 
 def run_merge(given: argparse.Namespace) -> int:
-    """Joins folders."""
+    """Merges folders."""
     added = merge(given.into, given.folders)
     print(f"ladder: {added} games were added to {given.into}")
     return 0
@@ -151,7 +151,7 @@ def add_program(words: argparse.ArgumentParser) -> None:
 
 
 def main(words: Sequence[str] | None = None) -> int:
-    """Runs a command; a fault is said in a line on the standard error, with status 1."""
+    """Runs a command. A fault is a line on the standard error, and status 1."""
     given = parser().parse_args(words)
     try:
         return int(given.run(given))

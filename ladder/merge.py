@@ -1,4 +1,4 @@
-"""Joins the folders of the parts of a ladder into one."""
+"""Merges the folders of the parts of a ladder into one."""
 
 from __future__ import annotations
 
@@ -15,9 +15,9 @@ from ladder.store import Store, StoreFault, open_store
 
 
 def merge(into: Path, folders: Sequence[Path]) -> int:
-    """Adds the games of some folders to another, and returns how many were added.
+    """Adds the games of some folders to another, and returns the number of games added.
 
-    All have to be of one ladder, and a game that two of them have has to be the same there.
+    All have to be of one ladder. A game that is in two folders has to be the same in both.
     """
     for folder in folders:
         open_store(folder).close()
@@ -27,7 +27,7 @@ def merge(into: Path, folders: Sequence[Path]) -> int:
 
 
 def add_folder(into: Path, store: Store, folder: Path) -> int:
-    """Adds the games of a folder that are missing, files first."""
+    """Adds the missing games of a folder: first their files, then their results."""
     with closing(open_store(folder)) as part:
         part.names()
         identity = part.identity()
@@ -54,7 +54,7 @@ def with_tallies(
 
 
 def copy(source: Path, target: Path) -> None:
-    """Copies a file; under its name it is whole or not there."""
+    """Copies a file atomically: the target is complete or missing."""
     unfinished = target.with_suffix(".unfinished")
     shutil.copyfile(source, unfinished)
     os.replace(unfinished, target)

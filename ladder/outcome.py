@@ -1,4 +1,4 @@
-"""What a game came to, for each of its seats."""
+"""The result of a game, for each of its seats."""
 
 from __future__ import annotations
 
@@ -14,7 +14,7 @@ from ladder.payloads import living_of
 
 @dataclass
 class Tally:
-    """The answers of one bot in one game: how long they took, and the moves missed by cause."""
+    """Statistics of one bot in one game: the latencies, and the missed moves by cause."""
 
     latencies: Counter[int] = field(default_factory=Counter)  # by milliseconds
     missed: Counter[str] = field(default_factory=Counter)
@@ -27,7 +27,7 @@ class Tally:
 
 @dataclass(frozen=True)
 class Finish:
-    """How a seat ended: `result` is win, draw, loss, or nothing in a game of one snake."""
+    """The result of a seat. `result` is win, draw, loss, or empty in a game of one snake."""
 
     bot: str
     result: str
@@ -35,12 +35,12 @@ class Finish:
     cause: str | None
     killer: str | None
     length: int
-    turns: int  # that its snake lived
+    turns: int  # in which its snake lived
 
 
 @dataclass(frozen=True)
 class Outcome:
-    """A game that is done. The digest is that of the lines that the host wrote for it."""
+    """The result of a game. `digest` is the SHA-256 of the lines that the host wrote for it."""
 
     name: str
     round: int
@@ -51,7 +51,7 @@ class Outcome:
 
 
 def finishes_of(board: Board) -> tuple[Finish, ...]:
-    """How each seat ended by the last board of its game."""
+    """The result of each seat, from the last board of the game."""
     return tuple(finish_of(snake, board) for snake in board["snakes"])
 
 
@@ -68,10 +68,10 @@ def finish_of(snake: dict[str, Any], board: Board) -> Finish:
 
 
 def result_of(snake: dict[str, Any], board: Board) -> str:
-    """A snake wins where it alone lives when the game is over.
+    """A snake wins if it alone lives when the game is over.
 
-    It draws where it lives in a game that is not over, or where nobody lives and it was among the
-    last to go out.
+    It draws if it lives in a game that is not over, or if no snake lives and it was among the last
+    to go out.
     """
     living = living_of(board)
     if len(board["snakes"]) == 1:

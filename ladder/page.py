@@ -1,4 +1,4 @@
-"""The page of a run: its standings and its running games, live in a browser."""
+"""Serves the page of a run: its standings and its running games, live in a browser."""
 
 from __future__ import annotations
 
@@ -27,7 +27,7 @@ HEADERS = {
 
 @dataclass(frozen=True)
 class Address:
-    """Where the page is served."""
+    """The address at which the page is served."""
 
     host: str
     port: int
@@ -37,7 +37,7 @@ class Address:
 
 
 def address_of(word: str) -> Address:
-    """Reads `PORT`, on this machine alone, or `HOST:PORT`."""
+    """Parses `PORT`, which is on 127.0.0.1, or `HOST:PORT`."""
     host, _, port = word.rpartition(":")
     if not port.isascii() or not port.isdigit() or not int(port) < 65536:
         raise ValueError(f"{word!r} is no port and no address with one")
@@ -46,7 +46,7 @@ def address_of(word: str) -> Address:
 
 @asynccontextmanager
 async def page(feed: Feed, address: Address) -> AsyncIterator[Address]:
-    """Serves the page while it is entered, and gives its address; port 0 is a free one."""
+    """Serves the page within the context, whose value is its address; port 0 chooses a free one."""
     runner = web.AppRunner(application(feed), access_log=None)
     await runner.setup()
     ticking = asyncio.create_task(feed.run())
@@ -61,7 +61,7 @@ async def page(feed: Feed, address: Address) -> AsyncIterator[Address]:
 
 
 def application(feed: Feed) -> web.Application:
-    """The page's server: its files, what draws boards, and the events."""
+    """The web application: the page's files, the scripts that draw boards, and the events."""
 
     def file(name: str) -> web.Response:
         kind = {"html": "text/html", "js": "text/javascript", "css": "text/css"}
@@ -85,15 +85,15 @@ def application(feed: Feed) -> web.Application:
 
 
 async def send_events(request: web.Request, feed: Feed) -> web.StreamResponse:
-    """Sends events until the run has ended, the page was left, or it takes them too slowly."""
+    """Sends events until the run ends, the page is closed, or the page reads too slowly."""
     reader = feed.join()
     if reader is None:
         raise web.HTTPServiceUnavailable(text="too many pages are open")
     response = web.StreamResponse(headers={"Content-Type": "text/event-stream"})
     try:
         await response.prepare(request)
-        while (told := await reader.events.get()) is not None:
-            await response.write(told)
+        while (event := await reader.events.get()) is not None:
+            await response.write(event)
     except ConnectionError:
         pass
     finally:

@@ -1,4 +1,4 @@
-"""Who meets whom: the games of a ladder, which depend on its bots and its seed alone."""
+"""The pairings: the games of a ladder, which depend on its configuration alone."""
 
 from __future__ import annotations
 
@@ -16,7 +16,7 @@ MOST_GAMES = 1_000_000
 
 @dataclass(frozen=True)
 class Fixture:
-    """A game to be played: its name, and the bots in the order of their seats."""
+    """A game to be played: its name, its round, and the bots in the order of their seats."""
 
     name: str
     round: int
@@ -25,7 +25,7 @@ class Fixture:
 
 @dataclass(frozen=True)
 class Part:
-    """Part `number` of `parts`, counted from 1: of the games in their order every so many-th."""
+    """Part `number` of `parts`, from 1: every `parts`-th game, from the `number`-th on."""
 
     number: int
     parts: int
@@ -35,7 +35,7 @@ class Part:
 
 
 def part_of(word: str) -> Part:
-    """Reads `K/N`."""
+    """Parses `K/N`."""
     found = re.fullmatch(r"([0-9]{1,5})/([0-9]{1,5})", word)
     part = Part(int(found[1]), int(found[2])) if found else Part(0, 0)
     if not 1 <= part.number <= part.parts:
@@ -62,13 +62,13 @@ def all_fixtures(config: Config) -> Iterator[Fixture]:
 
 
 def every_table(names: Sequence[str], config: Config) -> Iterator[Iterable[Iterable[str]]]:
-    """Each so many bots once a round."""
+    """Every combination of `config.snakes` bots, once a round."""
     for _ in range(config.rounds):
         yield combinations(names, config.snakes)
 
 
 def drawn_tables(names: Sequence[str], config: Config) -> Iterator[Iterable[Iterable[str]]]:
-    """As many drawn tables a round as can be filled; who has played most sits out."""
+    """As many drawn tables a round as can be filled; the bots that played most sit out."""
     size = config.snakes
     played = dict.fromkeys(names, 0)
     for number in range(1, config.rounds + 1):

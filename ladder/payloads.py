@@ -1,4 +1,4 @@
-"""The bodies of requests to a bot, as the official API has them (version 1)."""
+"""The bodies of the requests to a bot, by version 1 of the official API."""
 
 from __future__ import annotations
 
@@ -13,7 +13,7 @@ from ladder.host import Board
 
 @dataclass(frozen=True)
 class Look:
-    """How a bot wants to be drawn, which the others are told."""
+    """The look that a bot chose; it is sent to all bots of a game."""
 
     color: str = "#888888"
     head: str = "default"
@@ -22,7 +22,7 @@ class Look:
 
 @dataclass
 class Seat:
-    """A bot in a game, with what it last did."""
+    """A bot in a game, with its last latency and shout."""
 
     name: str
     look: Look = field(default_factory=Look)
@@ -54,7 +54,7 @@ def game_text(config: Config, name: str) -> str:
 
 
 def snake_text(snake: dict[str, Any], seat: Seat) -> str:
-    """A snake of a board with what the API tells of its bot."""
+    """A snake of a board in the API's form, with the members about its bot."""
     return text_of(
         {
             "id": snake["id"],
@@ -83,7 +83,7 @@ def living_of(board: Board) -> list[str]:
 def bodies(game: str, board: Board, seats: dict[str, Seat], names: Iterable[str]) -> list[bytes]:
     """The body for each of the named bots.
 
-    The board has the living snakes alone; a bot whose snake is out sees it as it went.
+    The board contains the living snakes only; `you` of a bot whose snake is out is its last state.
     """
     texts = {snake["id"]: snake_text(snake, seats[snake["id"]]) for snake in board["snakes"]}
     snakes = ",".join(texts[name] for name in living_of(board))

@@ -1,4 +1,4 @@
-"""Plays the games of a ladder that are not done yet, many at once."""
+"""Plays the games of a ladder that are not done yet, several at once."""
 
 from __future__ import annotations
 
@@ -11,7 +11,7 @@ from pathlib import Path
 
 from ladder.bots import BotClient, NoAnswer
 from ladder.config import Bot, Config
-from ladder.game import Game, GameFault, Surroundings
+from ladder.game import Game, GameFault, RunContext
 from ladder.game_files import forget_answers, make_folders, running_games
 from ladder.host import BLOCKS_OF_GAME, HostDied, Refused
 from ladder.keeper import HostKeeper
@@ -23,7 +23,7 @@ from ladder.watch import Watch, Watches
 
 @dataclass(frozen=True)
 class Job:
-    """What is to be played, where, and by which program."""
+    """What to play, the folder of the results, and the arena program."""
 
     config: Config
     folder: Path
@@ -33,7 +33,7 @@ class Job:
 
 @contextmanager
 def locked(folder: Path) -> Iterator[None]:
-    """Holds a folder, so that no other ladder plays in it meanwhile."""
+    """Locks a folder, so that no other ladder plays in it meanwhile."""
     with open(folder / "lock", "w") as file:
         try:
             fcntl.flock(file, fcntl.LOCK_EX | fcntl.LOCK_NB)
@@ -43,7 +43,7 @@ def locked(folder: Path) -> Iterator[None]:
 
 
 async def play(job: Job, store: Store, watches: Sequence[Watch]) -> None:
-    """Plays what is missing in the folder of a job, whose results are in the store."""
+    """Plays the games of a job that are not in the store."""
     store.begin(job.config.identity, job.config.bots)
     config = job.config
     fixtures = fixtures_of(config, job.part)
@@ -56,13 +56,13 @@ async def play(job: Job, store: Store, watches: Sequence[Watch]) -> None:
     ):
         watch = Watches([*watches, keeper])
         watch.begin(len(done), len(fixtures))
-        around = await surroundings(job, client, watch)
-        run = Run(around, store, keeper)
+        context = await run_context(job, client, watch)
+        run = Run(context, store, keeper)
         await run.play([fixture for fixture in fixtures if fixture.name not in done])
 
 
-async def surroundings(job: Job, client: BotClient, watch: Watch) -> Surroundings:
-    """Asks all bots how they look; one that does not say gets the usual look."""
+async def run_context(job: Job, client: BotClient, watch: Watch) -> RunContext:
+    """Makes the context of a run. Asks all bots for their looks; one that sends none is grey."""
 
     async def look(bot: Bot) -> Look:
         try:
@@ -73,7 +73,7 @@ async def surroundings(job: Job, client: BotClient, watch: Watch) -> Surrounding
 
     bots = job.config.bots
     looks = await asyncio.gather(*map(look, bots))
-    return Surroundings(
+    return RunContext(
         config=job.config,
         folder=job.folder,
         client=client,
@@ -86,42 +86,42 @@ async def surroundings(job: Job, client: BotClient, watch: Watch) -> Surrounding
 class Run:
     """The games that one call of a ladder plays."""
 
-    def __init__(self, around: Surroundings, store: Store, keeper: HostKeeper) -> None:
-        self.around = around
+    def __init__(self, context: RunContext, store: Store, keeper: HostKeeper) -> None:
+        self.context = context
         self.store = store
         self.keeper = keeper
         self.storing = asyncio.Lock()
 
     async def play(self, fixtures: Sequence[Fixture]) -> None:
-        """Plays games, as many at once as the configuration says. The first fault ends all."""
+        """Plays games, as many at once as the configuration says. The first fault stops all."""
         waiting = iter(fixtures)
         try:
             async with asyncio.TaskGroup() as group:
-                for _ in range(min(len(fixtures), self.around.config.at_once)):
+                for _ in range(min(len(fixtures), self.context.config.at_once)):
                     group.create_task(self.play_some(waiting))
         except BaseExceptionGroup as faults:
             raise faults.exceptions[0] from None
 
     async def play_some(self, waiting: Iterator[Fixture]) -> None:
-        """Plays games one after the other while there are any."""
+        """Plays waiting games one after the other until none is left."""
         for fixture in waiting:
             game = await self.play_one(fixture)
             outcome = game.outcome()
             async with self.storing:
                 await asyncio.to_thread(self.store.add, [(outcome, game.tallies)])
-            forget_answers(self.around.folder, fixture.name)
-            self.around.watch.end(outcome)
+            forget_answers(self.context.folder, fixture.name)
+            self.context.watch.end(outcome)
 
     async def play_one(self, fixture: Fixture) -> Game:
-        """Plays a game, with another host where one dies."""
+        """Plays a game; if its host dies, continues it in another host."""
         while True:
             host = await self.keeper.host()
-            game = Game(self.around, fixture)
+            game = Game(self.context, fixture)
             try:
                 await game.play(host)
                 return game
             except HostDied as death:
                 if await self.keeper.bury(host, death):
-                    self.around.watch.say(f"{death}; its games go on in another")
+                    self.context.watch.say(f"{death}; its games go on in another")
             except Refused as fault:
                 raise GameFault(f"the host refused a line of {fixture.name}: {fault}") from None

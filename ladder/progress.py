@@ -1,4 +1,4 @@
-"""The progress of a run on a terminal, and what it came to in a few lines."""
+"""The progress of a run on a terminal, and its summary."""
 
 from __future__ import annotations
 
@@ -18,18 +18,18 @@ from ladder.pairing import Fixture
 from ladder.standings import quantile
 from ladder.watch import Watch
 
-LOOKS_A_SECOND = 4
+REFRESHES_A_SECOND = 4
 
 
 class Counts(Watch):
-    """Counts what a run has done."""
+    """Counts the games, turns and moves of a run."""
 
     def __init__(self) -> None:
         self.began = time.monotonic()
         self.running: set[str] = set()
         self.done = self.fixtures = self.played = self.turns = self.moves = 0
         self.missed: Counter[str] = Counter()
-        self.own: Counter[int] = Counter()  # turns by tenths of a millisecond before them
+        self.own: Counter[int] = Counter()  # turns by own time, in tenths of a millisecond
 
     def begin(self, done: int, fixtures: int) -> None:
         self.done, self.fixtures = done, fixtures
@@ -54,14 +54,14 @@ class Counts(Watch):
         return self.turns / max(0.001, time.monotonic() - self.began)
 
     def line(self) -> str:
-        """What was done so far, in words."""
+        """The progress so far, as a line."""
         return (
             f"{len(self.running)} running, {self.rate():.0f} turns a second, "
             f"{self.missed.total()} of {self.moves} moves missed"
         )
 
     def summary(self) -> list[str]:
-        """What the run came to, in two lines: the games, and the moves with the own time."""
+        """The summary of the run, in two lines: the games, and the moves with the own time."""
         took = time.monotonic() - self.began
         games = (
             f"{self.done} of {self.fixtures} games are done, {self.played} of them now; "
@@ -80,7 +80,7 @@ class Counts(Watch):
 
 
 class ProgressBar(Watch):
-    """A line that moves, where the standard error is a terminal; elsewhere nothing."""
+    """A progress bar, if the standard error is a terminal; otherwise only messages."""
 
     def __init__(self, counts: Counts) -> None:
         self.counts = counts
@@ -92,7 +92,7 @@ class ProgressBar(Watch):
             TimeElapsedColumn(),
             TextColumn("{task.description}", markup=False),
             console=self.console,
-            refresh_per_second=LOOKS_A_SECOND,
+            refresh_per_second=REFRESHES_A_SECOND,
         )
         self.task = self.bar.add_task("", total=None)
 

@@ -1,11 +1,11 @@
-"""Elo ratings with their errors, from who outlived whom.
+"""Elo ratings with their errors, from which bot outlived which.
 
 The model is Bradley and Terry's: of two bots whose ratings differ by 400 points the higher one
-outlives the other ten times as often as not. Of a game each two seats are compared: who lived
-longer has won, and two that went out in one turn, or that both live at the end, have half a win
+outlives the other ten times as often as not. Each two seats of a game are compared: the one that
+lived longer has won; two that went out in one turn, or that both live at the end, have half a win
 each. A game of k seats has k(k-1)/2 such pairs, which are not independent; each counts 2/k, so that
-the game counts as k-1 games of two. The ratings are those under which the results are likeliest,
-with one draw of each bot against a bot of 1500 added, which keeps them finite. Their mean is 1500.
+the game counts as k-1 games of two. The ratings are those of maximum likelihood, with one draw of
+each bot against a bot of 1500 added, which keeps them finite. Their mean is 1500.
 """
 
 from __future__ import annotations
@@ -17,7 +17,7 @@ from itertools import combinations
 
 MEAN = 1500.0
 POINTS = 400 / math.log(10)  # for each unit of the model
-SURE = 1.96  # standard errors: an interval with the true rating 95 times of 100
+SURE = 1.96  # standard errors: half of the 95 % confidence interval
 MOST_STEPS = 100
 LONGEST_STEP = 1.0
 EXACT = 1e-9
@@ -27,7 +27,7 @@ Matrix = list[list[float]]
 
 @dataclass(frozen=True)
 class Rating:
-    """A rating, and how far off it is at most in 95 cases of 100."""
+    """A rating, and half of its 95 % confidence interval."""
 
     elo: float
     error: float
@@ -43,7 +43,7 @@ class Comparisons:
         self.wins: Matrix = [[0.0] * size for _ in range(size)]
 
     def add(self, lived: Sequence[tuple[str, float]]) -> None:
-        """Adds a game: its bots, each with how long it lived, in any unit."""
+        """Adds a game: its bots, each with the time that it lived, in any unit."""
         weight = 2 / len(lived)
         for (one, its), (other, others) in combinations(lived, 2):
             share = 0.5 if its == others else float(its > others)
@@ -54,7 +54,7 @@ class Comparisons:
 def ratings(
     names: Sequence[str], games: Iterable[Sequence[tuple[str, float]]]
 ) -> dict[str, Rating]:
-    """The rating of each bot by these games, by Newton's method."""
+    """The rating of each bot from these games, by Newton's method."""
     results = Comparisons(names)
     for lived in games:
         results.add(lived)
@@ -72,7 +72,7 @@ def ratings(
 
 
 def derivatives(wins: Matrix, strengths: Sequence[float]) -> tuple[list[float], Matrix]:
-    """The slope of the logarithm of the likelihood, and its curvature with the sign turned."""
+    """The gradient of the log-likelihood, and its negated Hessian."""
     size = len(strengths)
     slopes = [0.5 - expected(strength) for strength in strengths]
     curvature = [[0.0] * size for _ in range(size)]
@@ -93,12 +93,12 @@ def derivatives(wins: Matrix, strengths: Sequence[float]) -> tuple[list[float], 
 
 
 def expected(ahead: float) -> float:
-    """The share of wins of a bot that is so many units ahead."""
+    """The expected share of wins of a bot whose strength is `ahead` units higher."""
     return 1 / (1 + math.exp(-ahead)) if ahead > 0 else 1 - 1 / (1 + math.exp(ahead))
 
 
 def inverted(matrix: Matrix) -> Matrix:
-    """The inverse of a symmetric matrix whose diagonal outweighs the rest, by Gauss and Jordan."""
+    """The inverse of a symmetric, diagonally dominant matrix, by Gauss and Jordan."""
     size = len(matrix)
     rows = [[*row, *(float(at == other) for other in range(size))] for at, row in enumerate(matrix)]
     for at in range(size):
@@ -114,7 +114,7 @@ def inverted(matrix: Matrix) -> Matrix:
 def in_points(
     names: Sequence[str], strengths: Sequence[float], inverse: Matrix
 ) -> dict[str, Rating]:
-    """The ratings in points around their mean; errors are those of the difference to the mean."""
+    """The ratings in points; each error is that of the difference from the mean."""
     size = len(names)
     if size == 0:
         return {}

@@ -1,4 +1,4 @@
-"""The standings of a ladder, and how they are written: as a table, as CSV and as JSON."""
+"""The standings of a ladder, as a table, as CSV and as JSON."""
 
 from __future__ import annotations
 
@@ -21,12 +21,12 @@ from ladder.store import Store
 
 @dataclass
 class Standing:
-    """What one bot did in all its games."""
+    """The totals of one bot over all its games."""
 
     bot: str
     games: int = 0
     results: Counter[str] = field(default_factory=Counter)
-    turns: int = 0  # that it lived
+    turns: int = 0  # in which its snakes lived
     rating: Rating = Rating(0.0, 0.0)
     latencies: Mapping[int, int] = field(default_factory=dict)
     missed: Mapping[str, int] = field(default_factory=dict)
@@ -51,7 +51,7 @@ class Standing:
 
 
 def quantile(counts: Mapping[int, int], share: float) -> int | None:
-    """The least value that so large a share of the counted ones does not exceed."""
+    """The least value that a `share` of the counted values does not exceed; None without values."""
     wanted = math.ceil(share * sum(counts.values()))
     seen = 0
     for value in sorted(counts):
@@ -62,7 +62,7 @@ def quantile(counts: Mapping[int, int], share: float) -> int | None:
 
 
 def lived_in(outcome: Outcome) -> list[tuple[str, float]]:
-    """How long each bot of a game lived; who lives at its end has outlived the others."""
+    """The turns that each bot of a game lived; infinite if it lives at the end."""
     return [(it.bot, math.inf if it.out is None else float(it.out)) for it in outcome.finishes]
 
 
@@ -86,7 +86,7 @@ def standings_of(store: Store) -> list[Standing]:
 
 
 def place_of(standing: Standing) -> tuple[float, int, str]:
-    """What the standings are sorted by; in solo, where nobody wins, by the turns lived."""
+    """The sort key: rating, then turns lived, which decide in solo, then name."""
     return (-round(standing.rating.elo, 6), -standing.turns, standing.bot)
 
 
@@ -111,7 +111,7 @@ def cells_of(standing: Standing) -> list[str]:
 
 
 def as_csv(standings: Iterable[Standing]) -> str:
-    """Lines of CSV, with the names of the columns first."""
+    """Lines of CSV after a line with the names of the columns."""
     rows = [standing.row() for standing in standings]
     text = io.StringIO()
     writer = csv.DictWriter(text, list(rows[0]) if rows else [], lineterminator="\n")

@@ -1,4 +1,4 @@
-"""Where snakes start and where the first food lies, as on the official standard map."""
+"""The starting cells and the first food, as on the official standard map."""
 
 from __future__ import annotations
 
@@ -7,7 +7,7 @@ from typing import NamedTuple
 
 from ladder.draws import Draw
 
-SMALLEST_FIXED = 7  # cells a side; on smaller boards all is drawn
+SMALLEST_FIXED = 7  # cells a side; on smaller boards all cells are drawn
 MEDIUM = 11
 
 
@@ -25,7 +25,7 @@ def centre_of(width: int, height: int) -> Cell:
 
 
 def is_fixed(width: int, height: int) -> bool:
-    """Whether the places of a board are fixed: on squares that are large enough."""
+    """Whether a board has fixed starting cells: if it is square and large enough."""
     return width == height and width >= SMALLEST_FIXED
 
 
@@ -52,7 +52,7 @@ def start_cells(draw: Draw, width: int, height: int, count: int) -> list[Cell]:
 
 
 def first_food(draw: Draw, width: int, height: int, heads: list[Cell]) -> list[Cell]:
-    """The food at the start: near each head and in the centre, or drawn where starts are drawn."""
+    """The first food: near each head and in the centre, or drawn if starting cells are drawn."""
     if not is_fixed(width, height):
         return drawn_food(draw, width, height, heads)
     food: list[Cell] = []
@@ -66,7 +66,7 @@ def first_food(draw: Draw, width: int, height: int, heads: list[Cell]) -> list[C
 
 
 def food_near(head: Cell, width: int, height: int) -> list[Cell]:
-    """The diagonal neighbours of a head where its first food may lie.
+    """The diagonal neighbours of a head on which its first food may lie.
 
     They are further from the centre than the head, by column or by row, and in no corner.
     """
@@ -88,7 +88,7 @@ def is_outward(place: int, head: int, centre: int) -> bool:
 
 
 def drawn_food(draw: Draw, width: int, height: int, heads: Iterable[Cell]) -> list[Cell]:
-    """One food for each snake, on cells that no snake has and none can reach in one step."""
+    """One food for each snake, on cells that no head is on or can reach in one step."""
     taken = {
         Cell(head.x + x, head.y + y)
         for head in heads

@@ -1,4 +1,4 @@
-"""The results of a ladder, in a database of SQLite: one transaction for each game that is done."""
+"""The results of a ladder in an SQLite database, with one transaction for each game."""
 
 from __future__ import annotations
 
@@ -34,7 +34,7 @@ CREATE TABLE IF NOT EXISTS latency (
 
 
 class StoreFault(Exception):
-    """A folder whose results are not those of this ladder, or that has none."""
+    """A folder whose results are missing, locked, or not of this ladder."""
 
 
 class Store:
@@ -42,7 +42,7 @@ class Store:
 
     def __init__(self, folder: Path) -> None:
         self.path = folder / "results.sqlite"
-        # Games are added by a thread of their own, one after the other.
+        # Another thread adds the games, one after the other.
         self.base = sqlite3.connect(self.path, timeout=BUSY_SECONDS, check_same_thread=False)
         self.base.executescript(SCHEMA)
 
@@ -50,12 +50,12 @@ class Store:
         self.base.close()
 
     def identity(self) -> dict[str, Any] | None:
-        """What decides the games of this folder; None where nothing was played yet."""
+        """What decides the games of this folder (`Config.identity`); None if it is new."""
         row = self.base.execute("SELECT identity FROM ladder").fetchone()
         return json.loads(row[0]) if row else None
 
     def begin(self, identity: Mapping[str, Any], bots: Iterable[Bot]) -> None:
-        """Makes the folder that of a ladder, unless it is another's; addresses may change."""
+        """Stores the ladder's identity and bots; refuses the folder of another ladder."""
         known = self.identity()
         if known is not None and known != dict(identity):
             other = sorted(key for key in identity if known.get(key) != identity[key])
@@ -67,7 +67,7 @@ class Store:
             self.base.executemany("INSERT OR REPLACE INTO bot VALUES (?, ?)", rows)
 
     def add(self, played: Iterable[tuple[Outcome, Mapping[str, Tally]]]) -> None:
-        """Adds games that are done, with all that is known of them, in one transaction."""
+        """Adds games that are done, with their seats and tallies, in one transaction."""
         with self.base:
             for outcome, tallies in played:
                 name = outcome.name
@@ -85,7 +85,7 @@ class Store:
         self.base.executemany("INSERT INTO latency VALUES (?, ?, ?, ?)", latencies)
 
     def names(self) -> set[str]:
-        """The names of the games that are done; one that is no game's name is a fault."""
+        """The names of the games that are done; raises `StoreFault` for an invalid name."""
         names = {name for (name,) in self.base.execute("SELECT name FROM game")}
         wrong = sorted(name for name in names if not GAME_NAME.fullmatch(name))
         if wrong:
@@ -97,7 +97,7 @@ class Store:
         return [Bot(*row) for row in rows]
 
     def outcomes(self) -> Iterator[Outcome]:
-        """The games that are done, by their names."""
+        """The games that are done, in the order of their names."""
         finishes: dict[str, list[Finish]] = {}
         seats = self.base.execute(
             "SELECT game, bot, result, out, cause, killer, length, turns FROM seat"
@@ -124,8 +124,8 @@ class Store:
         return {bot: tallies[seat] for seat, bot in rows}
 
     def counts(self, table: str, key: str) -> dict[str, Counter[Any]]:
-        """Of each bot how many of its moves were of each kind: of `missed` by cause, or of
-        `latency` by milliseconds."""
+        """The number of moves of each bot by value of a column: of `missed` by cause, of `latency`
+        by milliseconds."""
         found: dict[str, Counter[Any]] = {}
         rows = self.base.execute(
             f"SELECT bot, {table}.{key}, SUM(moves) FROM {table} JOIN seat USING (game, seat)"
@@ -143,7 +143,7 @@ class Store:
 
 
 def open_store(folder: Path) -> Store:
-    """Opens the results of a folder that has some."""
+    """Opens the results of a folder, which have to exist."""
     if not (folder / "results.sqlite").is_file():
         raise StoreFault(f"{folder} has no results of a ladder")
     return Store(folder)

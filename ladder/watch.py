@@ -1,4 +1,4 @@
-"""Who watches a run: its progress, its page, and what keeps its host."""
+"""Observers of a run: its progress, its page, and the keeper of its host."""
 
 from __future__ import annotations
 
@@ -11,29 +11,29 @@ from ladder.pairing import Fixture
 
 
 class Watch:
-    """Is told what happens in a run. Each method does nothing where it is not overridden."""
+    """An observer of a run. Each method does nothing unless it is overridden."""
 
     def begin(self, done: int, fixtures: int) -> None:
-        """Takes how many games are done already, of how many."""
+        """Called first: `done` of `fixtures` games are done already."""
 
     def show(self, fixture: Fixture, board: Board) -> None:
-        """Takes a board of a game that runs, the first one and that after each turn."""
+        """Called with the first board of a game, and with the board after each turn."""
 
     def count(self, answers: Mapping[str, Answer], own_seconds: float | None) -> None:
-        """Takes the answers of a turn, and the time from those of the turn before to its requests.
+        """Called with the answers of a turn, and the time from the last answers to its requests.
 
-        That time is None in the first turn that a call of the ladder plays of a game.
+        The time is None in the first turn that this run plays of a game.
         """
 
     def end(self, outcome: Outcome) -> None:
-        """Takes a game that is done and stored."""
+        """Called with the result of a game after it was stored."""
 
     def say(self, text: str) -> None:
-        """Takes a line that whoever runs the ladder should read."""
+        """Called with a message for the person who runs the ladder."""
 
 
 class Watches(Watch):
-    """Tells several what happens."""
+    """Passes each event to several observers."""
 
     def __init__(self, watches: Sequence[Watch]) -> None:
         self.watches = watches

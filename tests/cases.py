@@ -1,7 +1,7 @@
-"""The files of cases: command files with the transcript that each gives, and what each is for.
+"""The cases: command files, each with its transcript and its purpose.
 
-They lie in examples/, NAME.jsonl beside NAME.transcript, with a line in examples/README.md that
-says what NAME is for. One more lies where the gate looks for what it runs the program on:
+They are in examples/: NAME.jsonl, NAME.transcript, and a line in examples/README.md with the
+purpose of NAME. One more case is where the gate expects the program's input and output:
 crates/arena/stdin with crates/arena/stdout.
 """
 import json
@@ -30,7 +30,7 @@ COMMAND_LINES += [
     ["serve", b"\xff"],
 ]
 COMMAND_LINES += [["alone", "-", "--game", "a", "--stay", "0"]]
-# The blocks that a case is served from, where they are not the program's own number.
+# The number of blocks of a case, if it is not the program's default.
 BLOCKS = {"stays": 12}
 USUAL_BLOCKS = 64
 PURPOSE = re.compile(r"^- `([a-z0-9_./]+)`: (\S.*)$")
@@ -44,7 +44,7 @@ class Case:
 
     @property
     def blocks(self):
-        """The number of blocks that the transcript is of. It matters in files of version 3."""
+        """The number of blocks for the transcript, which depends on it in files of version 3."""
         return BLOCKS.get(self.name, USUAL_BLOCKS)
 
     @property
@@ -58,20 +58,20 @@ class Case:
 
     @property
     def live_words(self):
-        """The command line that answers the case's lines as they come."""
+        """The command line of `arena live` for the case."""
         return ["live", "--blocks", str(self.blocks)]
 
 
 @dataclass(frozen=True)
 class Alone:
-    """One stay of a case: the words that play it alone, and the lines that they write."""
+    """One stay of a case: the command line that plays it alone, and its output."""
 
     words: list
     section: bytes
 
 
 def cases():
-    """Each case, by its name."""
+    """All cases, sorted by name."""
     found = [
         Case(file.stem, file, file.with_suffix(".transcript")) for file in FOLDER.glob("*.jsonl")
     ]
@@ -83,36 +83,36 @@ def cases():
 
 
 def purposes():
-    """What each case is for, as examples/README.md has it under its first heading of cases."""
+    """The purpose of each case, from the section Cases of examples/README.md."""
     part = (FOLDER / "README.md").read_text().split("\n## Cases\n")[1].split("\n## ")[0]
     lines = [PURPOSE.match(line) for line in part.splitlines() if line.startswith("- ")]
     return {line[1]: line[2] for line in lines if line}
 
 
 def sections(transcript):
-    """The lines of each stay of a transcript with the name of its game, in their order."""
+    """The sections of a transcript: pairs of a game's name and the lines of one stay."""
     found, open_section = [], b""
     for line in transcript.splitlines(True):
-        said = json.loads(line)
+        reply = json.loads(line)
         open_section += line
-        if "final" in said:
-            found.append((said["game"], open_section))
+        if "final" in reply:
+            found.append((reply["game"], open_section))
             open_section = b""
     return found
 
 
 def lines_by_game(text):
-    """The lines of each game by its name, stay after stay, and the stray lines: the same of a
-    transcript and of what `arena live` writes for the file."""
+    """The lines of each game by its name, stay after stay, and the stray lines. The result is the
+    same for a transcript and for the output of `arena live` for the file."""
     found, strays = {}, []
     for line in text.splitlines(True):
-        said = json.loads(line)
-        if "line" in said:
+        reply = json.loads(line)
+        if "line" in reply:
             strays.append(line)
             continue
-        stays_of_game = found.setdefault(said["game"], [[]])
+        stays_of_game = found.setdefault(reply["game"], [[]])
         stays_of_game[-1].append(line)
-        if "final" in said:
+        if "final" in reply:
             stays_of_game.append([])
     return found, strays
 
@@ -136,6 +136,6 @@ def stays(case):
 
 
 def played_alone(case):
-    """The stays that a test plays alone where runs are dear: the first, and in version 3 each."""
+    """The stays that a slow test plays alone: the first, and in version 3 all."""
     all_stays = list(stays(case))
     return all_stays if case.version == 3 else all_stays[:1]

@@ -1,11 +1,11 @@
-"""Commands that a tool needs, from Debian's packages where they are missing."""
+"""Installs commands that a tool needs from Debian's packages."""
 import shutil
 import subprocess
 
 
 def install(command, *packages):
-    """Installs the packages where the command is not there. Where it can't be had, the reason in
-    words, and else nothing."""
+    """Installs the packages if the command is missing. Returns the reason if that fails, else
+    None."""
     if shutil.which(command):
         return None
     for words in (
@@ -17,6 +17,6 @@ def install(command, *packages):
         except FileNotFoundError as fault:
             return f"{command} is missing, and there is no {fault.filename}"
         if ran.returncode != 0:
-            said = f"'{' '.join(words)}' ended with status {ran.returncode}"
-            return f"{command} is missing, and {said}: {ran.stderr.strip()[-300:]}"
+            failure = f"'{' '.join(words)}' ended with status {ran.returncode}"
+            return f"{command} is missing, and {failure}: {ran.stderr.strip()[-300:]}"
     return None if shutil.which(command) else f"{command} is not in {' '.join(packages)}"

@@ -1,4 +1,4 @@
-"""The built program as the tests use it: its path, a run of it, a line of a file, and the words of
+"""Shared by the tests: the path of the built program, runs of it, lines of files, and the parser of
 a test's command line."""
 import argparse
 import json
@@ -8,8 +8,8 @@ import unittest
 from pathlib import Path
 
 ROOT = Path(__file__).resolve().parent.parent
-BUILT = ROOT / "crates/arena/out/arena"  # which ./arena --help and the gate build
-SECONDS = 60  # that a run may take
+BUILT = ROOT / "crates/arena/out/arena"  # ./arena --help and the gate build it
+SECONDS = 60  # the limit of a run
 
 path = BUILT  # the program that is run; `run_tests` sets it
 
@@ -48,14 +48,14 @@ def argument_parser(about):
 
 
 def parse_args(parser):
-    """What the command line says. Ends with status 2 where the program is not there."""
+    """Parses the command line. Ends with status 2 if the program is missing."""
     given = parser.parse_args()
     given.program = existing(given.program, parser)
     return given
 
 
 def run_tests(about):
-    """Runs the test cases of the calling script. Words other than --program are unittest's."""
+    """Runs the test cases of the calling script. Arguments other than --program are unittest's."""
     global path
     parser = argument_parser(about)
     given, more = parser.parse_known_args()
@@ -64,7 +64,7 @@ def run_tests(about):
 
 
 def existing(file, parser):
-    """The whole path of the program. Ends with status 2 where it is not there."""
+    """The absolute path of the program. Ends with status 2 if it is missing."""
     if not file.is_file():
         parser.error(f"there is no {file}; ./arena --help builds it")
     return file.resolve()

@@ -1,14 +1,13 @@
-// Counts what a program asks of the C library for memory and for threads, and refuses those
-// requests that it is told to refuse.
-// Before the program ends it waits for threads that are ending. To be loaded before the C library,
-// with three words in the environment:
-//   REFUSING_FIRST, REFUSING_LAST   the requests that are refused, counted from 1; none where the
-// first is 0
-//   REFUSING_MARKS                  where it is set, requests are counted only while a call is
-// tried: from a `[` alone that is written to the standard error, to a `]`; neither is written
-//   REFUSING_REPORT                 a file of 24 bytes, which has the three numbers of `struct
-// report` as they change; without it nothing is counted
-// A thread's own requests inside the C library go with the thread: starting it is one request.
+// Counts a program's requests to the C library for memory and for threads, and refuses those that
+// the environment names. At the end of the program it waits for threads that are ending. It is
+// loaded before the C library (LD_PRELOAD), with these variables in the environment:
+//   REFUSING_FIRST, REFUSING_LAST   the first and the last refused request, counted from 1; none is
+//                                   refused if the first is 0
+//   REFUSING_MARKS                  if it is set, requests are counted only from a write of a lone
+//                                   `[` to the standard error until one of `]`; neither is written
+//   REFUSING_REPORT                 a file of 24 bytes, which holds the current `struct report`;
+//                                   without it nothing is counted
+// The requests of the C library itself for a new thread are not counted: its start is one request.
 #define _GNU_SOURCE
 #include <dlfcn.h>
 #include <errno.h>
@@ -26,8 +25,8 @@
 
 struct report {
     uint64_t made;    // requests so far
-    uint64_t refused; // of them refused
-    int64_t held;     // blocks of memory that were given and not given back
+    uint64_t refused; // refused requests
+    int64_t held;     // blocks of memory that are allocated and not freed
 };
 
 typedef int start_thread(pthread_t *, const pthread_attr_t *, void *(*)(void *), void *);
@@ -40,9 +39,9 @@ static void (*next_free)(void *);
 static start_thread *next_pthread_create;
 static ssize_t (*next_write)(int, const void *, size_t);
 
-static struct report *report; // where it is null nothing is counted
+static struct report *report; // null: nothing is counted
 static uint64_t first, last;
-static int marks, tried; // whether there are marks, and whether a call is tried
+static int marks, tried; // whether marks are used, and whether the last mark was `[`
 static __thread int starting; // the thread is inside pthread_create
 
 static uint64_t number(const char *name) {
@@ -76,9 +75,8 @@ __attribute__((constructor)) static void begin(void) {
     report = opened(getenv("REFUSING_REPORT"));
 }
 
-// A thread that has done its work may not yet have given back what it was started with when the
-// program ends: it has a second for that.
-// The folder has a link for each thread, and two of its own.
+// Waits until the program has one thread, at most a second: a thread that has done its work may not
+// yet have freed its own memory. The folder has a link for each thread, and two more.
 static void wait_for_threads(void) {
     struct timespec pause = {0, 1000000};
     struct stat threads;
@@ -88,13 +86,13 @@ static void wait_for_threads(void) {
     }
 }
 
-// By this the program ends, also where its main returns.
+// Called whenever the program ends, also when its main returns.
 void _exit(int status) {
     wait_for_threads();
     for (;;) syscall(SYS_exit_group, status);
 }
 
-// Counts one request, and tells whether it is refused.
+// Counts one request, and returns whether it is refused.
 static int is_refused(void) {
     if (!report || starting || (marks && !tried)) return 0;
     uint64_t at = __atomic_add_fetch(&report->made, 1, __ATOMIC_SEQ_CST);

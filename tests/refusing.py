@@ -1,5 +1,5 @@
-"""The library that tests/refusing.c makes, and runs with it that count and refuse requests for
-memory."""
+"""Compiles the library tests/refusing.c, and runs programs with it, which counts and refuses their
+requests for memory."""
 import os
 import struct
 import subprocess
@@ -10,13 +10,13 @@ from pathlib import Path
 import debian
 
 SOURCE = Path(__file__).resolve().parent / "refusing.c"
-REPORT = struct.Struct("QQq")  # what the library writes: the members of `Counts`
+REPORT = struct.Struct("QQq")  # the report of the library: the members of `Counts`
 
 
 @dataclass(frozen=True)
 class Counts:
-    """What a run asked for: its requests, those that were refused, and the blocks of memory that
-    were not given back."""
+    """The counts of a run: its requests, the refused ones, and the memory blocks that were not
+    freed."""
 
     made: int
     refused: int
@@ -24,12 +24,12 @@ class Counts:
 
 
 def install():
-    """Installs what compiles it. Where that can't be had, the reason in words, and else nothing."""
+    """Installs the compiler. Returns the reason if that fails, else None."""
     return debian.install("gcc", "gcc", "libc6-dev")
 
 
 def compile_library(folder):
-    """Makes the library in the folder, and returns its path."""
+    """Compiles the library in the folder, and returns its path."""
     library = Path(folder) / "refusing.so"
     words = ["gcc", "-shared", "-fPIC", "-O1", "-Wall", "-Wextra", "-Werror"]
     subprocess.run([*words, "-o", library, SOURCE, "-ldl"], check=True)
@@ -37,9 +37,9 @@ def compile_library(folder):
 
 
 def run_counted(library, words, seconds, refused=(0, 0), file=os.devnull, **more):
-    """Runs the words with the file as standard input, and with the requests from the first number
-    to the second refused; more are settings of the library. Returns the status, the output and the
-    errors, and the `Counts`. A run of more than so many seconds has a text for its status."""
+    """Runs a command with the file as standard input. The requests from the first number of
+    `refused` to the second are refused; `more` are settings of the library. Returns the status, the
+    output and the errors, and the `Counts`. After a timeout of `seconds` the status is a text."""
     settings = {"FIRST": str(refused[0]), "LAST": str(refused[1]), **more}
     with tempfile.NamedTemporaryFile(prefix="refusing-") as report, open(file, "rb") as given:
         report.write(bytes(REPORT.size))

@@ -1,4 +1,4 @@
-"""What tools/twins and tools/edits share: reading edits, and copies of crates to try them in."""
+"""Shared by tools/twins and tools/edits: parses edits, and copies crates to try them in."""
 import shutil
 import sys
 from pathlib import Path
@@ -17,7 +17,7 @@ def dependencies():
 
 
 def choose(names, uses):
-    """The named crates, or all. Ends the program where a name is no crate's."""
+    """The named crates, or all. Ends the program if a name is not in crates.txt."""
     unknown = [name for name in names if name not in uses]
     if unknown:
         sys.exit(f"no crate of crates.txt: {' '.join(unknown)}")
@@ -25,7 +25,7 @@ def choose(names, uses):
 
 
 def below(name, uses):
-    """The crate and the repository's crates that it stands on."""
+    """The crate and the repository's crates that it depends on."""
     found = [name]
     for crate in found:
         found += [d for d in uses.get(crate, []) if d in uses and d not in found]
@@ -33,8 +33,8 @@ def below(name, uses):
 
 
 def copy_crate(name, uses, scratch):
-    """Copies what a check of the crate reads, with its kept proofs and the built libraries that it
-    stands on. Returns its folder there."""
+    """Copies what a check of the crate reads, with its cached proofs and the built libraries of its
+    dependencies. Returns the folder of the copy."""
     if (ROOT / "HANDLES").exists():
         shutil.copy2(ROOT / "HANDLES", scratch)
     (scratch / "crates").mkdir()
@@ -60,7 +60,7 @@ def pairs(edit):
 
 
 def apply(edit):
-    """The file that an edit changes, its text after the edit or None, and why it is None."""
+    """The file that an edit changes, and its text after the edit, or None and the reason."""
     path, changes = pairs(edit)
     file = edit.parent.parent / path
     if not file.exists():
@@ -68,6 +68,6 @@ def apply(edit):
     text = file.read_text()
     for old, new in changes:
         if text.count(old) != 1:
-            return path, None, f"'old: {old}' stands {text.count(old)} times, and not once"
+            return path, None, f"'old: {old}' occurs {text.count(old)} times, not once"
         text = text.replace(old, new)
     return path, text, None

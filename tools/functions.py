@@ -1,4 +1,4 @@
-"""Which function of a source file a place lies in, and the files by which it is proved by hand."""
+"""Finds the function at a place of a source file, and the files of its proofs by hand."""
 import re
 
 BY_HAND = ("Answers.antt", "Proof.antt", "Invariants.antt")
@@ -11,7 +11,7 @@ IMPL = re.compile(
 
 
 def function_at(text, place):
-    """The type, or "", and the name of the function around a place of a file."""
+    """The type, or "", and the name of the function at a place of a file."""
     before = text[:place]
     heads, impls = list(FUNCTION.finditer(before)), list(IMPL.finditer(before))
     is_open = impls and not re.search(r"^}", before[impls[-1].end() :], re.M)
@@ -19,8 +19,8 @@ def function_at(text, place):
 
 
 def function_on(text, line):
-    """The type, or "", and the name of the function that the line of that number is part of, from
-    its first word to its last bracket, or None."""
+    """The type, or "", and the name of the function that contains the line of that number; None if
+    the line is outside every function."""
     starts = [0] + [found.end() for found in re.finditer("\n", text)]
     if not 1 <= line <= len(starts):
         return None
@@ -35,8 +35,8 @@ def function_on(text, line):
 
 
 def proofs_of(crate, source, kind, name):
-    """The files by which a function of a source file is proved by hand. The folder of one with
-    closures ends with its name."""
+    """The files of the proofs by hand of a function of a source file. The name of the folder of a
+    function with closures ends with the function's name."""
     module = source.relative_to(crate / "src").with_suffix("")
     folder = crate / "proofs" if module.name == "lib" else crate / "proofs" / module
     found = [

@@ -1,10 +1,10 @@
-"""Tries the edits of a crate side by side: in one check all those whose functions differ.
+"""Tries the edits of a crate in groups: one check for all edits whose functions differ.
 
-A check goes on after a function that it refuses, and says where each refusal is. So an edit counts
-as refused only by a refusal of its own function: a place inside it, its own line among what is not
-proved, or an error in the proof that is written for it by hand. An edit whose own refusal is not
-shown, such as one whose callee was refused and whose own goals therefore waited, is tried again
-beside others of that kind, and at last alone.
+A check continues after a function that it refuses, and reports the place of each refusal. So an
+edit counts as refused only by a refusal of its own function: a place inside it, its line in the
+list of what is not proved, or an error in its proof by hand. An edit whose own refusal is not
+reported, for example because a refused callee kept its goals from being tried, is tried again with
+others of that kind, and at last alone.
 """
 import os
 import re
@@ -18,13 +18,13 @@ from functions import function_on, proofs_of
 PLACE = re.compile(r"^(?:note: )?(?:\./)?((?:src|proofs)/\S+?):(\d+):\d+: (.*)$")
 LISTED = re.compile(r"^fn (\S+): (?:not proved|no proof)(.*)$", re.M)
 NOT_PROVED = re.compile(r"^logic=not-proved", re.M)
-# Words by which a text could not be read, or not be proved for a fault of the prover's own.
+# Messages that a text could not be parsed, or not be proved because of a fault of the prover.
 UNREAD = re.compile(
     r"is not in scope|has no field|is no name|operand is missing|expected the end|a bug in rattle"
 )
 
 
-# Words by which a proof no longer fits the text, whatever the edit means. Its twin shows the rest.
+# Messages that a proof no longer fits the text, whatever the edit means. Its twin shows the rest.
 NAMES = re.compile(r"has no `|has no field|is not in scope|was not admitted")
 
 
@@ -35,19 +35,19 @@ class Edit:
     file: Path
     path: str
     pairs: list
-    functions: set  # file, and type and name, of each that is changed
-    touched: set  # with those in which only spaces change
+    functions: set  # of the changed functions: file, and type and name
+    touched: set  # also those in which only spaces change
 
 
 @dataclass
 class Group:
-    """Edits of functions that all differ, and the texts with all of them applied."""
+    """Edits of different functions, and the texts with all of them applied."""
 
     edits: list = field(default_factory=list)
     texts: dict = field(default_factory=dict)
 
     def add(self, edit, crate):
-        """Adds the edit where its functions are free and its words still stand once."""
+        """Adds the edit if no other changes its functions and its old texts still occur once."""
         if any(edit.touched & other.touched for other in self.edits):
             return False
         text = self.texts.get(edit.path) or (crate / edit.path).read_text()
@@ -61,7 +61,7 @@ class Group:
 
 
 def read(file, crate):
-    """The edit, or None where it changes something else than the body of a function."""
+    """The edit, or None if it changes anything but function bodies."""
     path, changes = pairs(file)
     if not path.startswith("src/"):
         return None
@@ -79,7 +79,7 @@ def read(file, crate):
 
 
 def groups_of(edits, crate, is_shared=True):
-    """A few groups, of edits whose functions differ; or a group for each edit."""
+    """Groups of edits whose functions differ, as few as possible; or a group for each edit."""
     groups = []
     for edit in edits:
         if not (is_shared and any(group.add(edit, crate) for group in groups)):
@@ -89,7 +89,7 @@ def groups_of(edits, crate, is_shared=True):
 
 
 def check(folder, texts):
-    """What rt says of the crate in the folder with these texts in place of its own."""
+    """Checks the crate in the folder with these texts: whether it is proved, and rt's output."""
     kept = {path: (folder / path).read_text() for path in texts}
     for path, text in texts.items():
         (folder / path).write_text(text)
@@ -101,7 +101,7 @@ def check(folder, texts):
 
 
 def is_listed(edit, function):
-    """Whether a line of rt that lists this function means one that the edit changes."""
+    """Whether a function that rt lists is one that the edit changes."""
     parts = re.split(r"::", re.sub(r"<.*?>", "", function))
     for path, (kind, name) in edit.functions:
         modules = [it for it in Path(path).with_suffix("").parts[1:] if it not in ("lib", "main")]
@@ -110,16 +110,16 @@ def is_listed(edit, function):
     return False
 
 
-def refusal(edit, said, texts, crate):
-    """The first words by which one of the edit's own functions is refused, or None. An error by
-    which the proof only names what the edit took away is the last choice."""
+def refusal(edit, output, texts, crate):
+    """The first message of rt that refuses one of the edit's own functions, or None. An error that
+    the proof names something that the edit removed is the last choice."""
     by_hand = [
         str(file.relative_to(crate))
         for path, (kind, name) in edit.functions
         for file in proofs_of(crate, crate / path, kind, name)
     ]
     misfit = None
-    for line in said.splitlines():
+    for line in output.splitlines():
         found = PLACE.match(line)
         if not found:
             continue
@@ -136,7 +136,7 @@ def refusal(edit, said, texts, crate):
             return line
     if misfit:
         return misfit
-    for function, words in LISTED.findall(said):
+    for function, words in LISTED.findall(output):
         is_own = " did not prove " in words or "it calls" not in words
         if is_own and is_listed(edit, function) and not UNREAD.search(words):
             return f"fn {function}{words}"
@@ -144,23 +144,23 @@ def refusal(edit, said, texts, crate):
 
 
 def seconds():
-    """The processor time of all that this process has run."""
+    """The processor time of the child processes so far."""
     times = os.times()
     return times.children_user + times.children_system
 
 
 class Trial:
-    """The edits of one crate, tried in a copy of it. What is found is printed line by line."""
+    """The edits of one crate, tried in a copy of it. Prints a line for each result."""
 
     def __init__(self, name, folder):
         self.name, self.folder, self.refused = name, folder, 0
 
     def run(self, edits):
-        """Tries the edits, and returns those whose own functions were not seen to be refused."""
-        is_proved, said = self.check({}, "no edit")
+        """Tries the edits, and returns those whose own functions were not refused."""
+        is_proved, output = self.check({}, "no edit")
         if not is_proved:
             print(f"{self.name}: NOT PROVED without an edit, so none was tried")
-            print("\n".join(f"    {line}" for line in said.splitlines()[-6:]), flush=True)
+            print("\n".join(f"    {line}" for line in output.splitlines()[-6:]), flush=True)
             return edits
         unseen, left, is_helping = [], edits, True
         while left:
@@ -172,43 +172,43 @@ class Trial:
         return unseen
 
     def try_group(self, group):
-        """Tries a group in one check, and returns the edits whose own refusal is not shown."""
-        is_proved, said = self.check(group.texts, f"{len(group.edits)} edits")
-        is_reached = is_proved or NOT_PROVED.search(said) is not None
+        """Tries a group in one check, and returns the edits whose own refusal was not reported."""
+        is_proved, output = self.check(group.texts, f"{len(group.edits)} edits")
+        is_reached = is_proved or NOT_PROVED.search(output) is not None
         if not is_reached and len(group.edits) > 1:
             return self.try_halves(group.edits)
         left = []
         for edit in group.edits:
-            why = refusal(edit, said, group.texts, self.folder) if is_reached else None
+            why = refusal(edit, output, group.texts, self.folder) if is_reached else None
             if why:
                 self.refused += 1
                 print(f"{self.name}/{edit.file.stem}: refused: {why[:160]}", flush=True)
             else:
                 left.append(edit)
         if len(group.edits) == 1 and left:
-            why = verdict(is_proved, is_reached, said)
+            why = verdict(is_proved, is_reached, output)
             print(f"{self.name}/{left[0].file.stem}: {why}", flush=True)
         return left
 
     def try_halves(self, edits):
-        """Tries the edits in two parts, where one of them keeps all from the prover."""
+        """Tries the edits in two halves, since one of them kept the prover from starting."""
         middle = len(edits) // 2
         halves = [groups_of(part, self.folder) for part in (edits[:middle], edits[middle:])]
         return [edit for half in halves for group in half for edit in self.try_group(group)]
 
     def check(self, texts, what):
-        """Checks the crate with these texts, and prints what that took."""
+        """Checks the crate with these texts, and prints the processor time."""
         began = seconds()
-        is_proved, said = check(self.folder, texts)
+        is_proved, output = check(self.folder, texts)
         spent = f"{seconds() - began:.0f} s of a processor"
         print(f"{self.name}: a check with {what}, {spent}", flush=True)
-        return is_proved, said
+        return is_proved, output
 
 
-def verdict(is_proved, is_reached, said):
-    """What is wrong where an edit alone is not refused by its own function."""
+def verdict(is_proved, is_reached, output):
+    """Why an edit that was tried alone does not count as refused."""
     if is_proved:
         return "NOT REFUSED"
-    lines = [line for line in said.splitlines() if PLACE.match(line)]
-    first = lines[0][:160] if lines else said.strip()[-160:]
+    lines = [line for line in output.splitlines() if PLACE.match(line)]
+    first = lines[0][:160] if lines else output.strip()[-160:]
     return f"{'REFUSED ELSEWHERE' if is_reached else 'DID NOT REACH THE PROVER'}: {first}"

@@ -1,10 +1,10 @@
-// The address of one turn of one game, which stands behind the `#`; and the file that the address
-// names behind the `?`.
+// The address of the page: the part after the `#` names one turn of one game, the part after the
+// `?` a file.
 'use strict';
 
 /**
- * The place that an address names, in its own words, stay 1, round 1 and turn 0 where it leaves
- * them out; null where it names no game.
+ * The place that an address names, its members as text. By default the stay is 1, the round 1 and
+ * the turn 0. Null if it names no game.
  */
 function placeInAddress(hash) {
   const words = new URLSearchParams(hash.replace(/^#/, ''));
@@ -16,12 +16,12 @@ function placeInAddress(hash) {
   return { game: words.get('game'), stay, round, turn };
 }
 
-/** The number that a word of an address is; null where it is none. */
+/** The number that a text of digits denotes; null for other text. */
 function numberInAddress(word) {
   return /^\d+$/.test(word) ? Number(word) : null;
 }
 
-/** The address of a turn; a first stay is not named. */
+/** The address of a turn. Stay 1 is left out. */
 function addressOf(game, stay, round, turn) {
   const place = stay === 1 ? { game, round, turn } : { game, stay, round, turn };
   return `#${new URLSearchParams(place)}`;
@@ -32,10 +32,7 @@ function fileInAddress(search) {
   return new URLSearchParams(search).get('file');
 }
 
-/**
- * Drops the file from the address of the page, since another was chosen; and the turn as well,
- * where it was one of the file before.
- */
+/** Removes the file from the address of the page, and the turn as well if `withTurn` is true. */
 function forgetAddress(withTurn) {
   const address = new URL(location);
   address.search = '';
@@ -45,7 +42,7 @@ function forgetAddress(withTurn) {
   history.replaceState(null, '', address);
 }
 
-/** The bytes of a file of the server that the page came from. Its name is relative to the page. */
+/** Fetches a file, named relative to the page, from the server that the page came from. */
 async function fetchFile(name) {
   const address = new URL(name, document.baseURI);
   if (address.origin !== location.origin || !address.protocol.startsWith('http')) {

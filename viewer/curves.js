@@ -4,10 +4,7 @@
 const PLOT_WIDTH = 240;
 const PLOT_HEIGHT = 48;
 
-/**
- * The health and the length of each seat by turn; a snake's lists end with the turn in which it
- * goes out.
- */
+/** The health and the length of each snake by turn, until the turn in which it goes out. */
 class Curves {
   constructor() {
     this.seats = [];
@@ -26,14 +23,14 @@ class Curves {
   }
 }
 
-/** The place of a turn across a plot of a round that goes to a last turn. */
+/** The x coordinate of a turn in a plot that ends with turn `last`. */
 function plotX(turn, last) {
   return last === 0 ? 0 : turn / last * PLOT_WIDTH;
 }
 
 /**
- * The line through values by turn. Where more than one turn falls on a column of the plot, the line
- * goes through the least and the greatest of them, so that no peak is lost.
+ * The path through values by turn. If several turns fall on one column of the plot, it goes through
+ * the least and the greatest value of the column, so that every peak is visible.
  */
 function plotPath(values, greatest, last) {
   const perColumn = Math.max(1, Math.ceil(last / PLOT_WIDTH));
@@ -48,7 +45,7 @@ function plotPath(values, greatest, last) {
   return points.length === 0 ? '' : `M${points.join('L')}h.1`;
 }
 
-/** Draws the plot of a seat into its SVG element, with a line at the turn that is shown. */
+/** Draws the plot of a seat into its SVG element, with a line that `movePlotLine` places. */
 function drawPlot(svg, curves, seat, last) {
   const curve = curves.seats[seat] ?? { health: [], length: [] };
   svg.setAttribute('viewBox', `-2 -3 ${PLOT_WIDTH + 4} ${PLOT_HEIGHT + 6}`);
@@ -65,7 +62,7 @@ function movePlotLine(svg, turn, last) {
   line?.setAttribute('x2', plotX(turn, last));
 }
 
-/** The turn that a click on a plot means. */
+/** The turn at the place of a click on a plot. */
 function turnAtPlot(svg, event, last) {
   const { left, width } = svg.getBoundingClientRect();
   const across = ((event.clientX - left) / width * (PLOT_WIDTH + 4) - 2) / PLOT_WIDTH;

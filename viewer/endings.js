@@ -1,10 +1,7 @@
-// What a transcript leaves of each of its games: one row for the table of games.
+// The final state of each game of a transcript: its row in the table of games.
 'use strict';
 
-/**
- * What became of a game: only what its lines say. The last board is null where the game was never
- * begun.
- */
+/** The row of a game, from its lines alone. `board` is its last board, null if it has none. */
 function endingOf(game, stayText, board) {
   const snakes = board?.snakes ?? [];
   return {
@@ -31,8 +28,8 @@ function stateOf(game, board) {
 }
 
 /**
- * The endings of all games, in the order of their rows. Each board is waited for by itself, so the
- * page answers meanwhile.
+ * The rows of all games, in the order of the transcript. Each board is awaited separately, so that
+ * the page stays responsive.
  */
 async function endingsOf(transcript) {
   const endings = [];

@@ -1,13 +1,13 @@
-// The game that is looked at: its round and turn, the board, the snakes, the slider and the address
+// The chosen game: its round and turn, the board, the snakes, the slider and the address
 // of the turn.
 'use strict';
 
-// Milliseconds of rest before the address is written, which browsers let a page do only so often.
+// Milliseconds without a new turn before the address is written: browsers limit how often.
 const ADDRESS_DELAY = 300;
 const NOTHING = { game: null, round: null, turn: 0 };
 
 class GamePanel {
-  /** `onGame` is told which game is looked at, `onFault` what went wrong in reading. */
+  /** Calls `onGame` with the game that is shown, and `onFault` with an error in reading. */
   constructor(page, onGame, onFault) {
     this.page = page;
     this.onGame = onGame;
@@ -34,7 +34,7 @@ class GamePanel {
       'change', () => drawBoard(page.board, this.board, page.earlier.checked));
   }
 
-  /** Nothing is looked at any more, and what is still being read is not shown. */
+  /** Shows no game. A board that is still being read will not be shown. */
   close() {
     this.player.pause();
     clearTimeout(this.addressTimer);
@@ -49,7 +49,7 @@ class GamePanel {
     this.transcript = transcript;
   }
 
-  /** The last turn of the round that was asked for. */
+  /** The last turn of the requested round. */
   get lastTurn() {
     return this.asked.round ? this.asked.round.boards.length - 1 : 0;
   }
@@ -58,9 +58,7 @@ class GamePanel {
     return this.asked.turn === this.lastTurn;
   }
 
-  /**
-   * Shows the board after a turn of a round, unless another is asked for before it has been read.
-   */
+  /** Shows the board after a turn of a round, unless another is requested meanwhile. */
   async goTo(game, round, turn) {
     const asked = { game, round, turn };
     this.asked = asked;
@@ -78,7 +76,7 @@ class GamePanel {
     }
   }
 
-  /** What is shown stays, since what was asked for can't be. */
+  /** Keeps the board that is shown, since the requested one can't be shown. */
   stay() {
     this.player.pause();
     this.asked = { game: this.game, round: this.round, turn: this.board?.turn ?? 0 };
@@ -96,7 +94,7 @@ class GamePanel {
     await this.goTo(this.game, this.game.rounds[refusal.round - 1], refusal.turn);
   }
 
-  /** Goes so many turns on or back, at most to an end of the round. */
+  /** Goes a number of turns on, or back if it is negative, at most to an end of the round. */
   async step(turns) {
     const turn = Math.min(this.lastTurn, Math.max(0, this.asked.turn + turns));
     if (turn !== this.asked.turn) {
@@ -104,7 +102,7 @@ class GamePanel {
     }
   }
 
-  /** Plays or pauses; played at the end, the round begins anew. */
+  /** Plays or pauses. From the last turn the round is played again from turn 0. */
   async togglePlaying() {
     if (!this.player.isPlaying && this.isAtEnd) {
       await this.goToTurn(0);
@@ -112,7 +110,7 @@ class GamePanel {
     this.player.toggle();
   }
 
-  /** A game without a round has no board: only what is known of it is shown. */
+  /** Shows a game that has no round, and so no board. */
   showWithoutBoard(game) {
     this.player.pause();
     clearTimeout(this.addressTimer);
@@ -169,7 +167,7 @@ class GamePanel {
     this.writeAddress();
   }
 
-  /** The link names the turn at once, the address of the page when the turns have come to rest. */
+  /** Writes the turn into the link at once, and into the address of the page after a delay. */
   writeAddress() {
     const round = this.game.rounds.indexOf(this.round) + 1;
     const address = addressOf(this.game.name, this.game.stay, round, this.board.turn);
@@ -178,10 +176,7 @@ class GamePanel {
     this.addressTimer = setTimeout(() => history.replaceState(null, '', address), ADDRESS_DELAY);
   }
 
-  /**
-   * Reads all boards of the round for the plots, which grow meanwhile; stops when another round is
-   * looked at.
-   */
+  /** Reads all boards of the round and extends the plots; stops when another round is shown. */
   async readCurves() {
     const curves = new Curves();
     this.curves = curves;

@@ -1,7 +1,8 @@
-// The table of games with what became of them: sorted by any column, a game chosen by its name.
+// The table of games and their final states. A click on a heading sorts it, one on a name chooses
+// the game.
 'use strict';
 
-/** What a column sorts by. Numbers that are not known come first. */
+/** The value by which each column sorts. Unknown numbers come first. */
 const SORTED_BY = {
   name: (row) => row.name,
   state: (row) => row.state,
@@ -17,7 +18,7 @@ function compareValues(first, second) {
   return isText ? first.localeCompare(second, 'en', { numeric: true }) : first - second;
 }
 
-/** The rows in the order of a column; rows that are alike in it keep their order. */
+/** The rows sorted by a column; rows with equal values keep their order. */
 function sortedRows(rows, column, isDescending) {
   const valueOf = SORTED_BY[column];
   const sign = isDescending ? -1 : 1;
@@ -103,10 +104,7 @@ class GamesTable {
     }
   }
 
-  /**
-   * The game so many rows below the chosen one, as the table is sorted now; the first and the last
-   * row are the ends.
-   */
+  /** The game `step` rows below the chosen one, at most the one in the first or the last row. */
   gameBeside(step) {
     const rows = this.inOrder();
     const at = rows.findIndex((row) => row.game === this.chosen);

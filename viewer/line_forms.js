@@ -1,9 +1,9 @@
-// The forms that a line of a transcript can have, told by its two ends alone, without reading the
-// board between them.
+// The forms of the lines of a transcript. A form is recognised by the two ends of a line, without
+// parsing the board between them.
 'use strict';
 
 const HEAD_BYTES = 32;
-// More than follows a board: a game's name has 64 bytes, each at most six as JSON writes it.
+// More than can follow a board: a name has 64 bytes, and JSON writes each in at most six.
 const TAIL_BYTES = 640;
 
 const JSON_TEXT = String.raw`"(?:[^"\\]|\\.)*"`;
@@ -24,7 +24,7 @@ const LINE_FORMS = Object.entries({
 
 const lineDecoder = new TextDecoder();
 
-/** The text of a line; of a long one only its two ends. */
+/** The text of a line, or only its two ends if it is long. */
 function endsOf(bytes) {
   if (bytes.length <= HEAD_BYTES + TAIL_BYTES) {
     return lineDecoder.decode(bytes);
@@ -34,21 +34,21 @@ function endsOf(bytes) {
 }
 
 /**
- * The form of a line with what its ends tell, numbers as numbers and the game's name still as
- * JSON; null where it has no form.
+ * The form of a line and the members at its ends: numbers as numbers, the game's name as its JSON
+ * text. Null if the line has none of the forms.
  */
-function formOf(bytes) {
+function parseLine(bytes) {
   const ends = endsOf(bytes);
   for (const { name, pattern } of LINE_FORMS) {
     const match = pattern.exec(ends);
     if (match) {
-      const told = { ...match.groups, form: name };
+      const parsed = { ...match.groups, form: name };
       for (const number of ['turn', 'charge', 'seq', 'line']) {
-        if (told[number] !== undefined) {
-          told[number] = Number(told[number]);
+        if (parsed[number] !== undefined) {
+          parsed[number] = Number(parsed[number]);
         }
       }
-      return told;
+      return parsed;
     }
   }
   return null;

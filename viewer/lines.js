@@ -1,13 +1,13 @@
-// Cuts a file into its lines, slice by slice, so that the page answers however large the file is.
+// Splits a file into lines, slice by slice, so that the page stays responsive for large files.
 'use strict';
 
 const SLICE_BYTES = 512 * 1024;
 const LINE_FEED = 10;
 
-/** A reason why a file, or one of its lines, is not what a transcript holds. */
+/** The reason why a file is no transcript. */
 class TranscriptFault extends Error {}
 
-/** The bytes of both lists, one after the other. */
+/** Concatenates two byte arrays. */
 function joined(first, second) {
   const both = new Uint8Array(first.length + second.length);
   both.set(first);
@@ -16,8 +16,8 @@ function joined(first, second) {
 }
 
 /**
- * The whole lines in bytes that begin at a place of a file, without their line feeds, and the
- * bytes after the last of them.
+ * Splits bytes that begin at `place` of a file: the complete lines, without their line feeds, and
+ * the bytes after the last line feed.
  */
 function cutLines(bytes, place) {
   const lines = [];
@@ -30,9 +30,9 @@ function cutLines(bytes, place) {
 }
 
 /**
- * The lines between two places of a file, slice by slice. Each slice is waited for, and meanwhile
- * the browser draws and answers. With the lines of a slice come the place that was reached and the
- * number of bytes that no line feed has ended yet.
+ * The lines between two places of a file, slice by slice. The browser draws and handles events
+ * while a slice is read. Each slice has its lines, the place that was reached, and the number of
+ * bytes after the last line feed.
  */
 async function* lineSlices(file, from, to) {
   let rest = new Uint8Array(0);

@@ -1,9 +1,8 @@
-// Plays a round: one turn after the other at the chosen speed, until the last or until it is
-// stopped.
+// Plays a round: one turn after the other at the chosen speed, until the last turn or a pause.
 'use strict';
 
 class Player {
-  /** `step` shows the next turn, which is waited for; `isAtEnd` says whether there is none left. */
+  /** `step` shows the next turn and is awaited; `isAtEnd` returns whether the turn is the last. */
   constructor(button, speed, step, isAtEnd) {
     this.button = button;
     this.speed = speed;
@@ -52,7 +51,7 @@ class Player {
     }
   }
 
-  /** One speed more or less of those that can be chosen. */
+  /** Chooses the next higher or lower speed. */
   changeSpeed(by) {
     const wanted = Math.max(0, this.speed.selectedIndex + by);
     this.speed.selectedIndex = Math.min(this.speed.length - 1, wanted);

@@ -1,4 +1,4 @@
-// The lists of refused commands and of stray lines, with what each reason means.
+// The lists of refused commands and of stray lines, with the meaning of each reason.
 'use strict';
 
 const REASONS = {
@@ -30,7 +30,7 @@ function placeOf(refusal) {
   return `after turn ${turn} of round ${round}`;
 }
 
-/** A list that shows so many entries, and more when a button below it is pressed. */
+/** A list that shows 200 entries, and 200 more each time the button below it is pressed. */
 class LongList {
   constructor(section, itemFor) {
     this.list = section.querySelector('ol');
@@ -57,7 +57,8 @@ class LongList {
 }
 
 /**
- * One refused command; its place leads to the turn after which it was refused, where there is one.
+ * The list item of a refused command. Its place is a button that calls `onPlace`, unless no turn
+ * came before it.
  */
 function refusalItem(refusal, onPlace) {
   const why = `${refusal.reason} ${refusal.why}, ${REASONS[refusal.reason]}`;

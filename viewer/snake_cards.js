@@ -1,8 +1,8 @@
-// The list of a game's snakes: how each looks, whether it lives, its health and length, and the
-// plot of both.
+// The list of a game's snakes: each with its colour and mark, its fate, its health and length, and
+// the plot of both.
 'use strict';
 
-/** One snake's place in the list; what changes from turn to turn is written by `show`. */
+/** The list item of one snake. `show` updates it for a turn. */
 class SnakeCard {
   constructor(snake, seat, onTurn) {
     this.seat = seat;
@@ -39,7 +39,7 @@ class SnakeCards {
     this.cards = [];
   }
 
-  /** Makes a card for each snake of a board, with plots that are still empty. */
+  /** Makes a card for each snake of a board, with an empty plot. */
   begin(board) {
     this.cards = board.snakes.map((snake, seat) => new SnakeCard(snake, seat, this.onTurn));
     this.list.replaceChildren(...this.cards.map((card) => card.item));

@@ -1,14 +1,11 @@
-// A transcript: its games with their rounds and refused commands, and its stray lines, found from
-// the ends of its lines.
+// A transcript: its games with their rounds and refused commands, and its stray lines. It is read
+// from the two ends of each line.
 'use strict';
 
 // The largest board, eight snakes of 10,003 parts, is written in 1.3 MB.
 const MOST_LINE_BYTES = 2 * 1024 * 1024;
 
-/**
- * What a `turn` in a line has to be, by the word of its command, where so many boards of the round
- * have come before.
- */
+/** Whether the `turn` of a line is right, by its command, after `boards` boards of the round. */
 const FITTING_TURN = {
   new: (turn) => turn === 0,
   move: (turn, boards) => turn === boards,
@@ -16,7 +13,7 @@ const FITTING_TURN = {
   turn: (turn, boards) => turn < boards,
 };
 
-/** The board in the text of a line; a fault where it holds none that can be drawn. */
+/** The board in the text of a line. Throws a fault if the line holds no board to draw. */
 function boardInLine(text, number) {
   let board;
   try {
@@ -33,10 +30,10 @@ function boardInLine(text, number) {
 }
 
 /**
- * A game in one of its stays, which are counted from 1: a game that was admitted more than once has
- * as many sections. A round is what lies between a `new` and its `end`: its boards are the numbers
- * of the lines that show turn 0, turn 1 and so on. A refusal has the round and the turn after which
- * it came, both null before the first `new`.
+ * One stay of a game. Stays are counted from 1; a game has one for each time it was admitted. A
+ * round goes from a `new` to its `end`: its boards are the numbers of the lines that show turn 0,
+ * turn 1 and so on. A refusal has the round and the turn after which it came, both null before the
+ * first `new`.
  */
 class Game {
   constructor(name, stay) {
@@ -50,15 +47,13 @@ class Game {
     this.charge = null;
   }
 
-  /** The number of the line with the last board that is known of the game, or null. */
+  /** The number of the line with the game's last board, or null. */
   lastBoardLine() {
     return this.running ? this.finalLine : this.rounds.at(-1)?.boards.at(-1) ?? null;
   }
 }
 
-/**
- * A file whose lines have been found. Lines are numbered from 1, and read when they are asked for.
- */
+/** A file with the place of each line. Lines are numbered from 1, and read when needed. */
 class Transcript {
   constructor(file) {
     this.file = file;
@@ -72,10 +67,7 @@ class Transcript {
     return this.starts[number - 1] ?? this.file.size;
   }
 
-  /**
-   * The stays of the games of that name, in their order: none where the transcript has no such
-   * game.
-   */
+  /** The stays of the game of that name, in their order; empty if there is no such game. */
   staysOf(name) {
     return this.staysByName.get(name) ?? [];
   }
@@ -90,7 +82,7 @@ class Transcript {
     return game;
   }
 
-  /** Which stay of its name a game is, in words; nothing where there is no other. */
+  /** The number of a game's stay, in words; empty if the game has only one stay. */
   stayText(game) {
     return this.staysOf(game.name).length > 1 ? `stay ${game.stay.toLocaleString('en')}` : '';
   }
@@ -100,9 +92,7 @@ class Transcript {
     return boardInLine(text, number);
   }
 
-  /**
-   * The boards of a round, slice by slice, each slice a list from the turn that follows the last.
-   */
+  /** The boards of a round, in slices: lists of boards in the order of their turns. */
   async* boardSlices(round) {
     const first = round.boards[0];
     const last = round.boards.at(-1);
@@ -124,8 +114,8 @@ class Transcript {
 }
 
 /**
- * Takes the lines of a file one after the other, and throws a fault at the first that can't stand
- * in a transcript.
+ * Builds a transcript from the lines of a file, added one by one. Throws a fault at the first line
+ * that can't occur in a transcript at its place.
  */
 class TranscriptBuilder {
   constructor(file) {
@@ -141,43 +131,43 @@ class TranscriptBuilder {
 
   add(line) {
     this.transcript.starts.push(line.start);
-    const told = formOf(line.bytes);
-    if (!told) {
+    const parsed = parseLine(line.bytes);
+    if (!parsed) {
       throw this.fault('is no line of a transcript');
     }
-    if (told.form === 'stray') {
-      this.addStray(told);
+    if (parsed.form === 'stray') {
+      this.addStray(parsed);
       return;
     }
-    this.enterSection(told);
-    if (told.form === 'final' || told.form === 'finalWithout') {
-      this.addFinal(told);
+    this.enterSection(parsed);
+    if (parsed.form === 'final' || parsed.form === 'finalWithout') {
+      this.addFinal(parsed);
     } else {
-      this.addReply(told);
+      this.addReply(parsed);
     }
   }
 
-  addStray(told) {
+  addStray(parsed) {
     if (this.game) {
       throw this.fault('comes before the final line of a game');
     }
-    this.transcript.strays.push(told);
+    this.transcript.strays.push(parsed);
   }
 
-  /** Opens the section of the line's game, where it is not open already. */
-  enterSection(told) {
+  /** Opens the section of the line's game, unless it is open already. */
+  enterSection(parsed) {
     if (this.game) {
-      if (told.game !== this.openName) {
+      if (parsed.game !== this.openName) {
         throw this.fault('is of another game, and the one before has no final line');
       }
       return;
     }
-    const name = this.nameIn(told.game);
+    const name = this.nameIn(parsed.game);
     if (this.transcript.strays.length > 0) {
-      throw this.fault('is of a game whose lines have to stand further up');
+      throw this.fault('is of a game, and comes after a stray line');
     }
     this.game = this.transcript.addGame(name);
-    this.openName = told.game;
+    this.openName = parsed.game;
   }
 
   nameIn(text) {
@@ -188,22 +178,22 @@ class TranscriptBuilder {
     }
   }
 
-  addReply(told) {
+  addReply(parsed) {
     const { game } = this;
     game.replies += 1;
-    if (told.seq !== game.replies) {
-      throw this.fault(`has the number ${told.seq} where ${game.replies} has to stand`);
+    if (parsed.seq !== game.replies) {
+      throw this.fault(`has the number ${parsed.seq}, not ${game.replies}`);
     }
-    if (told.form === 'refused') {
-      game.refusals.push({ ...told, ...this.lastTurn() });
-    } else if (told.form === 'shown') {
-      this.addShown(told);
+    if (parsed.form === 'refused') {
+      game.refusals.push({ ...parsed, ...this.lastTurn() });
+    } else if (parsed.form === 'shown') {
+      this.addShown(parsed);
     } else {
-      this.addUnshown(told);
+      this.addUnshown(parsed);
     }
   }
 
-  /** The round and the turn that the game has come to. */
+  /** The number of the game's last round, and the turn of its last board. */
   lastTurn() {
     const { rounds } = this.game;
     if (rounds.length === 0) {
@@ -212,48 +202,51 @@ class TranscriptBuilder {
     return { round: rounds.length, turn: rounds.at(-1).boards.length - 1 };
   }
 
-  addShown(told) {
+  addShown(parsed) {
     const { game } = this;
-    if ((told.word === 'new') === (game.running !== null)) {
-      const where = game.running ? 'while a game runs' : 'where no game runs';
-      throw this.fault(`shows a board after ${told.word}, ${where}`);
+    if ((parsed.word === 'new') === (game.running !== null)) {
+      const when = game.running ? 'while a game runs' : 'while no game runs';
+      throw this.fault(`shows a board after ${parsed.word} ${when}`);
     }
-    if (!FITTING_TURN[told.word](told.turn, game.running?.boards.length ?? 0)) {
-      throw this.fault(`shows turn ${told.turn}, which can't follow the turns before it`);
+    if (!FITTING_TURN[parsed.word](parsed.turn, game.running?.boards.length ?? 0)) {
+      throw this.fault(`shows turn ${parsed.turn}, which can't follow the turns before it`);
     }
-    if (told.word === 'new') {
+    if (parsed.word === 'new') {
       game.running = { boards: [] };
       game.rounds.push(game.running);
     }
-    if (told.word === 'new' || told.word === 'move') {
+    if (parsed.word === 'new' || parsed.word === 'move') {
       game.running.boards.push(this.transcript.starts.length);
     }
   }
 
-  addUnshown(told) {
+  addUnshown(parsed) {
     if (!this.game.running) {
-      throw this.fault(`answers ${told.word}, where no game runs`);
+      throw this.fault(`answers ${parsed.word} while no game runs`);
     }
-    if (told.word === 'end') {
+    if (parsed.word === 'end') {
       this.game.running = null;
     }
   }
 
-  addFinal(told) {
+  addFinal(parsed) {
     const { game } = this;
-    if ((told.form === 'final') !== (game.running !== null)) {
+    if ((parsed.form === 'final') !== (game.running !== null)) {
       const what = `${game.running ? 'without' : 'with'} a board`;
       throw this.fault(`is a final line ${what}, which can't follow the lines before it`);
     }
-    if (game.running && !FITTING_TURN.show(told.turn, game.running.boards.length)) {
-      throw this.fault(`shows turn ${told.turn} at last, which is not the turn before it`);
+    if (game.running && !FITTING_TURN.show(parsed.turn, game.running.boards.length)) {
+      throw this.fault(`shows turn ${parsed.turn} at last, which is not the turn before it`);
     }
     game.finalLine = this.transcript.starts.length;
-    game.charge = told.charge;
+    game.charge = parsed.charge;
     this.game = null;
   }
 
-  /** The transcript, once all lines have been taken; bytes that no line feed ends are its fault. */
+  /**
+   * Returns the transcript after the last line. `unfinished` is the number of bytes after the last
+   * line feed.
+   */
   finish(unfinished) {
     if (unfinished > 0) {
       this.transcript.starts.push(null);
@@ -270,8 +263,8 @@ class TranscriptBuilder {
 }
 
 /**
- * The transcript in a file; `onProgress` is told the place that was reached, and `isWanted` asked
- * whether to go on. Null where not.
+ * Reads the transcript in a file. Calls `onProgress` with the number of bytes read so far. Returns
+ * null as soon as `isWanted` returns false.
  */
 async function findTranscript(file, onProgress, isWanted) {
   const builder = new TranscriptBuilder(file);

@@ -1,5 +1,5 @@
 // The page as a whole: opens a transcript that is chosen, dropped or named in the address, and
-// answers keys.
+// handles keys.
 'use strict';
 
 const FAR_STEP = 10;
@@ -20,7 +20,7 @@ function megabytes(bytes) {
   return `${(bytes / 1e6).toFixed(1)} MB`;
 }
 
-/** What an address names that the transcript does not hold. */
+/** The message that the transcript does not contain the place that the address names. */
 function noticeOf(place, isGame, isStay) {
   if (!isGame) {
     return `The transcript has no game ${place.game}.`;
@@ -29,7 +29,7 @@ function noticeOf(place, isGame, isStay) {
   return `The game ${place.game} has no ${what}.`;
 }
 
-/** The elements of the page by their ids. */
+/** The elements of the page that have an id, by their ids. */
 function elementsOfPage() {
   const elements = [...document.querySelectorAll('[id]')];
   return Object.fromEntries(elements.map((element) => [element.id, element]));
@@ -43,7 +43,7 @@ class Viewer {
     this.table = new GamesTable(page.games, (game) => this.chooseGame(game));
     this.strays = new LongList(page.strays, strayItem);
     this.panel = new GamePanel(
-      page, (game) => this.table.markChosen(game), (fault) => this.tell(fault));
+      page, (game) => this.table.markChosen(game), (fault) => this.showFault(fault));
     this.setState('empty');
   }
 
@@ -51,15 +51,15 @@ class Viewer {
     document.body.dataset.state = state;
   }
 
-  /** Says what is wrong. A fault of the program itself is left to the browser's console as well. */
-  tell(fault) {
+  /** Shows the message of a fault. An error in the viewer itself also goes to the console. */
+  showFault(fault) {
     this.page.notice.textContent = fault.message;
     if (!(fault instanceof TranscriptFault)) {
       throw fault;
     }
   }
 
-  /** Opens what `reading` promises, a file; whatever was open or being opened before is left. */
+  /** Opens the file that `reading` resolves to, in place of the one that was open or opening. */
   async open(name, reading) {
     this.opened += 1;
     const opened = this.opened;
@@ -78,8 +78,8 @@ class Viewer {
       if (isWanted()) {
         this.setState('fault');
         const isOfFile = fault instanceof TranscriptFault;
-        const said = `${name} can't be shown. ${fault.message}`;
-        this.tell(isOfFile ? new TranscriptFault(said) : fault);
+        const message = `${name} can't be shown. ${fault.message}`;
+        this.showFault(isOfFile ? new TranscriptFault(message) : fault);
       }
     }
   }
@@ -134,9 +134,7 @@ class Viewer {
     }
   }
 
-  /**
-   * Goes to the turn that the address names; says whether it names one that the transcript holds.
-   */
+  /** Goes to the turn that the address names. Returns whether the transcript contains it. */
   goToAddress() {
     const place = placeInAddress(location.hash);
     if (!place || !this.transcript) {
@@ -157,7 +155,7 @@ class Viewer {
   }
 }
 
-/** Whether a key is meant for the element that has the focus. */
+/** Whether the element that has the focus handles a key itself. */
 function isKeyOfElement(event) {
   const takesKeys = event.target.closest?.('input, select') ?? null;
   const takesSpace = event.target.closest?.('button, a, summary') !== null;

@@ -1,4 +1,4 @@
-"""A bot that keeps away from the heads of the others, and eats where it is hungry."""
+"""A bot that keeps away from the heads of the others, and seeks food when it is hungry."""
 
 from __future__ import annotations
 
@@ -11,7 +11,7 @@ HUNGRY = 30  # health below which it seeks food
 
 
 def choose(state: dict[str, Any]) -> str:
-    """The free step with room behind it that is farthest from the nearest head of another."""
+    """The free step to the cell with most free neighbours, then farthest from another's head."""
     you, board = state["you"], state["board"]
     if you["health"] < HUNGRY:
         return seeker.choose(state)

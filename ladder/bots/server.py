@@ -12,7 +12,7 @@ STEPS = {"up": (0, 1), "down": (0, -1), "left": (-1, 0), "right": (1, 0)}
 
 
 def free_steps(state: dict[str, Any]) -> dict[str, tuple[int, int]]:
-    """The directions in which no wall and no body is, with the cells that they lead to.
+    """The directions that lead to a cell without wall or body, with these cells.
 
     The last part of a body moves away, unless its snake has just eaten.
     """
@@ -33,8 +33,8 @@ def application(name: str, color: str, choose: Choose) -> web.Application:
     """The server of one bot by the official API."""
 
     async def look(_: web.Request) -> web.Response:
-        said = {"apiversion": "1", "author": "arena", "color": color, "head": "default"}
-        return web.json_response({**said, "tail": "default", "version": name})
+        info = {"apiversion": "1", "author": "arena", "color": color, "head": "default"}
+        return web.json_response({**info, "tail": "default", "version": name})
 
     async def move(request: web.Request) -> web.Response:
         return web.json_response({"move": choose(await request.json())})
@@ -49,7 +49,7 @@ def application(name: str, color: str, choose: Choose) -> web.Application:
 
 
 def serve(bots: Mapping[str, tuple[str, Choose]], port: int) -> None:
-    """Serves each bot below its name, on this machine alone, until it is told to end."""
+    """Serves each bot below its name, on 127.0.0.1, until the process is stopped."""
     app = web.Application()
     for name, (color, choose) in bots.items():
         app.add_subapp(f"/{name}/", application(name, color, choose))

@@ -1,8 +1,8 @@
-// The page of a running ladder: shows the standings and each running game as the events tell them.
-// All that comes from bots is put in as text.
+// The page of a running ladder: shows the standings and each running game from the server's events.
+// Names and other texts of bots are inserted as text, never as markup.
 'use strict';
 
-/** The numbers of a row of the standings, as the page writes them. */
+/** The texts of the cells of a row of the standings, after the bot's name. */
 function cellsOf(row) {
   const inMs = (value) => (value === null ? '-' : `${value} ms`);
   const rating = `${row.elo} ± ${row.error}`;
@@ -16,14 +16,14 @@ function showStandings(body, rows) {
     ...cellsOf(row).map((cell) => made('td', { className: 'number' }, String(cell))))));
 }
 
-/** A snake's line below its board: its colour, and while it lives its health and length. */
+/** A list item of a snake: its colour, its name, and its health and length or `out`. */
 function snakeItem(snake, seat) {
   const lives = isLiving(snake);
   return made('li', { className: lives ? '' : 'out' }, swatchPicture(seat, lives),
     `${snake.id} ${lives ? `${snake.health}, ${snake.body.length}` : 'out'}`);
 }
 
-/** A running game: its board, and its snakes in the order of their seats. */
+/** The card of a running game: its board, and its snakes in the order of their seats. */
 class GameCard {
   constructor(name) {
     this.turn = made('span', { className: 'turn' });
@@ -55,12 +55,12 @@ class LadderPage {
     document.body.dataset.state = state;
   }
 
-  /** Shows what an event tells; `gone` are the games that are done. */
-  show(told) {
-    this.summary.textContent = told.summary;
-    showStandings(this.standings, told.standings);
-    Object.entries(told.boards).forEach(([name, board]) => this.showBoard(name, board));
-    (told.gone ?? []).forEach((name) => this.remove(name));
+  /** Shows the state in an event; `gone` has the names of the games that are done. */
+  show(state) {
+    this.summary.textContent = state.summary;
+    showStandings(this.standings, state.standings);
+    Object.entries(state.boards).forEach(([name, board]) => this.showBoard(name, board));
+    (state.gone ?? []).forEach((name) => this.remove(name));
   }
 
   showBoard(name, board) {
@@ -77,7 +77,7 @@ class LadderPage {
     this.cards.delete(name);
   }
 
-  /** Forgets all games, since all that run are told next. */
+  /** Removes all games. */
   clear() {
     [...this.cards.keys()].forEach((name) => this.remove(name));
   }

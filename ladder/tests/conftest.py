@@ -1,4 +1,4 @@
-"""What the tests share: the program, bots on the loopback, and a folder for results."""
+"""The fixtures of the tests: the program, and bots on the loopback."""
 
 from __future__ import annotations
 
@@ -19,7 +19,7 @@ def pytest_addoption(parser: pytest.Parser) -> None:
 
 @pytest.fixture(scope="session")
 def program(request: pytest.FixtureRequest) -> Path:
-    """The program, which has to be there and to know `live`."""
+    """The path of the program, which has to exist and to have the command `live`."""
     path = Path(request.config.getoption("--program")).resolve()
     if not path.is_file():
         pytest.exit(f"there is no program {path}: ./arena --help proves and builds it", 1)
@@ -30,7 +30,7 @@ def program(request: pytest.FixtureRequest) -> Path:
 
 @pytest.fixture(scope="session")
 def kills(request: pytest.FixtureRequest) -> int:
-    """How often a kind of process is killed."""
+    """The number of kills of each kind of process."""
     return 10 if request.config.getoption("--all") else 2
 
 

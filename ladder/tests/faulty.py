@@ -1,12 +1,12 @@
-"""Bots that fail in planned turns, each in a way of its own, served on the loopback.
+"""Bots that fail in planned turns, each in a different way, served on the loopback.
 
     faulty.py --port PORT
 
-Below the port each bot has its name: good, slow, error, cut, garbage, text, huge, redirect,
-hanging, gone. In the turns that `is_planned` names they fail; else they answer as the bot seeker
-does. `gone` answers its first moves alone, and from then on closes each connection without an
-answer. Another bot, calm, takes its time for each answer and never fails. GET /counts tells how
-often each bot answered, and how often somebody followed a redirect.
+The path of a bot is its name: good, slow, error, cut, garbage, text, huge, redirect, hanging, gone.
+The bots of CAUSES fail in the turns of `is_planned`; otherwise they all answer as the bot seeker
+does. `gone` answers only its first moves, and then closes each connection without an answer.
+Another bot, calm, delays each answer and never fails. GET /counts returns how often each bot
+answered, and how often a redirect was followed.
 """
 
 from __future__ import annotations
@@ -27,7 +27,7 @@ import seeker  # noqa: E402
 NAMES = (
     *("good", "slow", "error", "cut", "garbage", "text", "huge", "redirect", "hanging", "gone"),
 )
-CAUSES = {  # of each bot that fails as planned
+CAUSES = {  # the cause of the missed moves, by bot
     "slow": "late",
     "error": "status",
     "cut": "cut",
@@ -45,7 +45,7 @@ COUNTS: Counter[str] = Counter()
 
 
 def is_planned(turn: int) -> bool:
-    """Whether the faulty bots fail in a turn."""
+    """Whether the bots of CAUSES fail in a turn."""
     return turn % 9 == 4
 
 
@@ -108,7 +108,7 @@ FAULTS: dict[str, Callable[..., Awaitable[bytes]]] = {
 
 
 async def answer(path: str, body: bytes, writer: asyncio.StreamWriter) -> bytes:
-    """What the bot that a path names answers; raises ConnectionError where it cuts."""
+    """The answer of the bot of a path; raises ConnectionError if the bot closes the connection."""
     _, name, *rest = path.split("/")
     if name == "counts":
         return response("200 OK", json.dumps(COUNTS).encode())

@@ -1,4 +1,4 @@
-"""Bots in processes of their own, and ladders that play them."""
+"""Runs bots in separate processes, and ladders that play them."""
 
 from __future__ import annotations
 
@@ -22,7 +22,7 @@ SMALL = ("seeker", "fleer", "hungry", "careful", "lazy")
 
 @dataclass(frozen=True)
 class Served:
-    """Bots that are served below one port."""
+    """The bots of one port."""
 
     port: int
 
@@ -30,7 +30,7 @@ class Served:
         return f"http://127.0.0.1:{self.port}/{name}"
 
     def counts(self) -> dict[str, int]:
-        """What the faulty bots have counted."""
+        """The counts of the faulty bots."""
         with urllib.request.build_opener(urllib.request.ProxyHandler({})).open(
             self.url("counts"), timeout=START_SECONDS
         ) as answer:
@@ -46,7 +46,7 @@ def free_port() -> int:
 
 @contextmanager
 def serving(words: Sequence[str | Path], port: int) -> Iterator[Served]:
-    """Runs a server until it is left; entered once it answers."""
+    """Runs a server within the context, which begins when the server answers."""
     process = subprocess.Popen([*words, "--port", str(port)])
     try:
         ends = time.monotonic() + START_SECONDS
@@ -72,7 +72,7 @@ def serve_faulty() -> Any:
 
 
 def write_config(path: Path, bots: Iterable[tuple[str, str]], **members: Any) -> Path:
-    """Writes a configuration; bots are names with their addresses."""
+    """Writes a configuration; `bots` are pairs of a name and an address."""
     lines = [f"{key} = {json.dumps(value)}" for key, value in members.items()]
     for name, url in bots:
         lines += ["[[bot]]", f"name = {json.dumps(name)}", f"url = {json.dumps(url)}"]
@@ -81,7 +81,7 @@ def write_config(path: Path, bots: Iterable[tuple[str, str]], **members: Any) ->
 
 
 def start_play(config: Path, program: Path, *words: str) -> subprocess.Popen[str]:
-    """Begins to play a ladder in a process of its own."""
+    """Starts to play a ladder in a separate process."""
     return subprocess.Popen(
         [LADDER, "play", config, "--program", program, *words],
         stdout=subprocess.PIPE,
@@ -91,12 +91,12 @@ def start_play(config: Path, program: Path, *words: str) -> subprocess.Popen[str
 
 
 def run_ladder(*words: str | Path) -> subprocess.CompletedProcess[str]:
-    """Runs a command of the ladder to its end."""
+    """Runs a command of the ladder, and waits for its end."""
     return subprocess.run([LADDER, *words], capture_output=True, text=True)
 
 
 def children_of(pid: int) -> list[int]:
-    """The processes that a process has started and that run."""
+    """The running child processes of a process."""
     found = []
     for entry in Path("/proc").iterdir():
         if entry.name.isdigit():
@@ -110,7 +110,7 @@ def children_of(pid: int) -> list[int]:
 
 
 def bytes_played(folder: Path) -> int:
-    """The size of all command files of a folder."""
+    """The total size of the command files of a folder."""
     return sum(path.stat().st_size for path in (folder / "games").glob("*.jsonl"))
 
 
@@ -128,7 +128,7 @@ def standings_without_times(folder: Path) -> list[dict[str, Any]]:
 
 
 def is_running(pid: int) -> bool:
-    """Whether a process runs; one that has ended and that nobody has asked for does not."""
+    """Whether a process runs; a zombie does not."""
     try:
         stat = Path(f"/proc/{pid}/stat").read_text()
     except OSError:

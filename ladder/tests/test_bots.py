@@ -1,4 +1,4 @@
-"""The client of bots: what it makes of each kind of answer, and of bots that mean harm."""
+"""Tests of the client of bots: each kind of answer, and hostile bots."""
 
 from __future__ import annotations
 
@@ -44,7 +44,7 @@ def saying(value: Any, status: str = "200 OK") -> Serve:
 
 
 async def ask(serve: Serve, count: int = 1) -> list[Answer]:
-    """What a client makes of a bot that is served so."""
+    """The answers that a client gets from a bot with this server."""
     server = await asyncio.start_server(serve, "127.0.0.1", 0)
     url = f"http://127.0.0.1:{server.sockets[0].getsockname()[1]}/bot"
     async with BotClient(TIMEOUT) as client:
@@ -99,7 +99,7 @@ def test_shouts_are_cut_and_no_other_type_is_taken() -> None:
 
 
 def test_no_body_is_read_past_its_limit() -> None:
-    """Of a body without end no more is taken than the buffers of the sockets hold."""
+    """Of an endless body only what the buffers of the sockets hold is read."""
     sent = 0
 
     async def flood(reader: asyncio.StreamReader, writer: asyncio.StreamWriter) -> None:
@@ -133,14 +133,14 @@ def test_headers_without_end_are_cut_off() -> None:
 
 
 def test_compressed_answers_are_not_unpacked() -> None:
-    """A small answer that would unpack to a large one is no JSON; none is asked for."""
+    """A compressed answer is no JSON; the client asks for none."""
     packed = b"\x1f\x8b\x08\x00\x00\x00\x00\x00\x00\x03\xabV\xca\xcd/KU\xb2R*-P\xaa\x05\x00"
     head = f"HTTP/1.1 200 OK\r\nContent-Encoding: gzip\r\nContent-Length: {len(packed)}\r\n\r\n"
     assert run(ask(answering(head.encode() + packed)))[0].cause == "json"
 
 
 def test_connection_that_was_closed_while_idle_is_no_missed_move() -> None:
-    """A bot that closes a connection without a word is asked once more, on another."""
+    """If a bot closes a connection without an answer, it is asked again on another."""
     served = 0
 
     async def closes_first(reader: asyncio.StreamReader, writer: asyncio.StreamWriter) -> None:
@@ -163,7 +163,7 @@ def test_all_are_asked_at_once() -> None:
 
 
 def test_answer_that_came_in_time_is_taken_however_busy_the_ladder_is() -> None:
-    """Where this program does not look until the time is over, no bot pays for it."""
+    """If this program is too busy to read answers within the timeout, none is late."""
     asked_for, listener = threading.Event(), socket.create_server(("127.0.0.1", 0))
 
     def serve() -> None:
@@ -171,7 +171,7 @@ def test_answer_that_came_in_time_is_taken_however_busy_the_ladder_is() -> None:
         with connection:
             connection.recv(4096)
             asked_for.set()
-            time.sleep(0.1)  # the event loop does not look by now
+            time.sleep(0.1)  # the event loop is blocked by now
             connection.sendall(b'HTTP/1.1 200 OK\r\nContent-Length: 13\r\n\r\n{"move":"up"}')
 
     async def work() -> Answer:

@@ -1,4 +1,4 @@
-"""The commands of the ladder: parts, checks, standings, and what they refuse."""
+"""Tests of the commands of the ladder: parts, checks, standings, and refusals."""
 
 from __future__ import annotations
 
@@ -27,7 +27,7 @@ from served import (
 
 @pytest.fixture(scope="module")
 def config(small_bots: Served, tmp_path_factory: pytest.TempPathFactory) -> Path:
-    """Games of every mode's rules that matter: wrapped, three snakes, more food than usual."""
+    """A ladder on a wrapped board with three snakes a game and more food than usual."""
     folder = tmp_path_factory.mktemp("commands")
     return write_config(
         folder / "small.toml",
@@ -45,7 +45,7 @@ def config(small_bots: Served, tmp_path_factory: pytest.TempPathFactory) -> Path
 
 @pytest.fixture(scope="module")
 def played(program: Path, config: Path) -> Path:
-    """The folder of ten games that were played."""
+    """The results of the ten games of the ladder."""
     ran = run_ladder("play", config, "--program", program)
     assert (ran.returncode, ran.stderr) == (0, "")
     return config.parent / "results"
@@ -100,7 +100,7 @@ Tamper = Callable[[bytes], bytes]
 TAMPERED: list[tuple[str, Tamper, str]] = [
     ("a move", lambda text: text.replace(b'"up"', b'"down"', 1), "other lines than the live host"),
     ("a word", lambda text: text.replace(b'"words":[', b'"words":[1', 1), "words of the move"),
-    ("the start", lambda text: text.replace(b'"x":', b'"x":1', 1), "does not begin as the seed"),
+    ("the start", lambda text: text.replace(b'"x":', b'"x":1', 1), "does not begin as drawn"),
     ("an end", lambda text: text[: text.rindex(b"{")], "has no end"),
     ("a line", lambda text: text + b"x", "has no end"),
 ]
@@ -160,11 +160,11 @@ def test_file_of_another_game_is_not_gone_on_with(
     mine.write_text(text)
     ran = run_ladder("play", mine, "--program", program)
     assert ran.returncode == 1
-    assert ran.stderr.startswith("ladder: the file of r0001-t001 has not begun as this ladder")
+    assert ran.stderr.startswith("ladder: the file of r0001-t001 does not begin as in this ladder")
 
 
 def test_progress_is_shown_on_a_terminal(program: Path, config: Path, tmp_path: Path) -> None:
-    """On a terminal the games done, those running, the rate and the missed moves are shown."""
+    """A terminal shows the games done and running, the rate and the missed moves."""
     mine = tmp_path / "mine.toml"
     mine.write_text(config.read_text().replace("results", "terminal"))
     ours, theirs = pty.openpty()
@@ -182,7 +182,7 @@ def test_progress_is_shown_on_a_terminal(program: Path, config: Path, tmp_path: 
 
 
 def read_terminal(terminal: int) -> bytes:
-    """What was written to a terminal, or nothing once its other end is closed."""
+    """Reads what was written to a terminal; empty after its other end was closed."""
     try:
         return os.read(terminal, 65_536)
     except OSError:
@@ -190,7 +190,7 @@ def read_terminal(terminal: int) -> bytes:
 
 
 def test_hosts_that_die_at_once_are_given_up(config: Path, tmp_path: Path) -> None:
-    """A program that is broken is started six times, and no seventh time."""
+    """A broken program is started six times, and then the run fails."""
     program, starts = tmp_path / "broken", tmp_path / "starts"
     program.write_text(f"#!/bin/sh\necho x >> {starts}\nexit 7\n")
     program.chmod(0o755)

@@ -1,4 +1,4 @@
-"""What a configuration may say, and what is refused, with its reason."""
+"""Tests of configurations: the accepted ones, and the reasons of refusals."""
 
 from __future__ import annotations
 
@@ -56,13 +56,13 @@ def test_what_is_left_out_is_usual() -> None:
         ({"bot": [{**BOTS[0], "url": "http://a/ b"}]}, "is no address"),
     ],
 )
-def test_faults_are_told(members: dict[str, Any], why: str) -> None:
+def test_faults_are_reported(members: dict[str, Any], why: str) -> None:
     with pytest.raises(ConfigFault, match="^here: ") as fault:
         config_of(table(**members), "here")
     assert why in str(fault.value)
 
 
-def test_file_that_is_no_toml_is_told(tmp_path: Path) -> None:
+def test_unreadable_file_is_reported(tmp_path: Path) -> None:
     path = tmp_path / "x.toml"
     with pytest.raises(ConfigFault, match="No such file"):
         read_config(path)

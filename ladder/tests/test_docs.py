@@ -1,4 +1,4 @@
-"""What docs/LADDER.md shows, done as it stands."""
+"""Runs the example of docs/LADDER.md."""
 
 from __future__ import annotations
 
@@ -30,10 +30,10 @@ def without_times(text: str) -> str:
     return re.sub(r"[0-9.]+ (s|a second|ms)\b", r"TIME \1", text)
 
 
-def test_five_bots_come_to_the_standings_of_the_page(
+def test_five_bots_give_the_standings_of_the_page(
     program: Path, small_bots: Served, tmp_path: Path
 ) -> None:
-    """Games, results, turns and ratings are those of the page; times are not compared."""
+    """Games, results, turns and ratings are those of LADDER.md; times are not compared."""
     example = ROOT / "ladder" / "five.toml"
     bots = read_config(example).bots
     text = example.read_text().replace(
@@ -43,8 +43,9 @@ def test_five_bots_come_to_the_standings_of_the_page(
     config.write_text("timeout = 5000\n" + text.replace("out/five", str(tmp_path / "five")))
     ran = run_ladder("play", config, "--program", program)
     assert ran.returncode == 0, ran.stderr
-    said = without_times(ran.stdout).splitlines()
-    assert len(said) == 2 and all(f"    {line}\n" in without_times(PAGE) for line in said), said
+    summary = without_times(ran.stdout).splitlines()
+    assert len(summary) == 2, summary
+    assert all(f"    {line}\n" in without_times(PAGE) for line in summary), summary
     table = run_ladder("standings", tmp_path / "five").stdout.splitlines()
     assert len(table) == len(bots) + 1
     for line in table[1:]:

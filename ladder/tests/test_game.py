@@ -1,4 +1,4 @@
-"""Games in this process: what bots are asked, and games that go on from files cut anywhere."""
+"""Games in this process: the requests to bots, and games continued from truncated files."""
 
 from __future__ import annotations
 
@@ -33,7 +33,7 @@ CUTS = 12
 
 @dataclass
 class Bots:
-    """Bots in this process that go round in squares, say so, and keep what they are asked."""
+    """Bots in this process that go round in squares, shout, and record their requests."""
 
     asked: list[tuple[str, str, dict[str, Any]]] = field(default_factory=list)
     port: int = 0
@@ -81,7 +81,7 @@ async def played(config: Config, program: Path, watches: Sequence[Watch] = ()) -
 
 
 class Breaks(Watch):
-    """Breaks a run off when a turn has been played."""
+    """Interrupts a run after a turn."""
 
     def __init__(self, turn: int) -> None:
         self.turn = turn
@@ -95,8 +95,8 @@ def run(work: Any) -> Any:
     return asyncio.run(asyncio.wait_for(work, 120))
 
 
-def test_bots_are_told_what_the_api_says(program: Path, tmp_path: Path) -> None:
-    """A start, a request a turn with what all did last, and an end, for each bot."""
+def test_bots_get_the_requests_of_the_api(program: Path, tmp_path: Path) -> None:
+    """Each bot gets a start, a request a turn with all last shouts, and an end."""
 
     async def work() -> None:
         async with Bots() as bots:
@@ -114,16 +114,16 @@ def test_bots_are_told_what_the_api_says(program: Path, tmp_path: Path) -> None:
                     {it["id"]: it["shout"] for it in each["board"]["snakes"]} for each in moves
                 ]
                 assert shouts[0] == {bot: "" for bot in NAMES}
-                for turn, told in enumerate(shouts[1:]):
-                    assert told == {bot: f"{bot} in turn {turn}" for bot in NAMES}
+                for turn, sent in enumerate(shouts[1:]):
+                    assert sent == {bot: f"{bot} in turn {turn}" for bot in NAMES}
                 looks = [it["customizations"]["color"] for it in end["board"]["snakes"]]
                 assert looks == ["#123456"] * 2
 
     run(work())
 
 
-def test_resumed_game_tells_what_was_said_before(program: Path, tmp_path: Path) -> None:
-    """After a break bots hear the shouts of the turn before it, and no second start."""
+def test_resumed_game_sends_the_last_shouts(program: Path, tmp_path: Path) -> None:
+    """After an interruption bots get the shouts of the turn before it, and no second start."""
 
     async def work() -> None:
         async with Bots() as bots:
@@ -144,7 +144,7 @@ def test_resumed_game_tells_what_was_said_before(program: Path, tmp_path: Path) 
 def test_game_goes_on_from_a_file_that_was_cut_anywhere(
     program: Path, tmp_path: Path, monkeypatch: pytest.MonkeyPatch, free_at: int
 ) -> None:
-    """Cut at drawn bytes, even in a line, the file becomes what it was; records freed or not."""
+    """From a file truncated at any byte the run restores the whole file, records freed or not."""
     monkeypatch.setattr(game, "FREE_AT", free_at)
 
     async def work() -> None:
@@ -167,7 +167,7 @@ def test_game_goes_on_from_a_file_that_was_cut_anywhere(
 
 
 def test_quota_is_never_exceeded(program: Path, tmp_path: Path) -> None:
-    """Eight snakes that fill a board of 25 by 25 for long are freed before the quota is full."""
+    """Records of the longest boards are freed before the quota is exhausted."""
     assert game.FREE_AT + 161_885 < 1_835_007  # the longest record, docs/FORMATS.md
 
 
@@ -183,7 +183,7 @@ def test_line_files_have_whole_lines_alone(tmp_path: Path) -> None:
 
 
 def test_line_that_was_written_in_part_is_a_fault(tmp_path: Path) -> None:
-    """Where a disk is full, the line is not sent; what was written of it is removed later."""
+    """If the disk is full, the line is not sent; the written part is removed later."""
     code = (
         "import resource, sys; from pathlib import Path; from ladder.game_files import LineFile\n"
         "resource.setrlimit(resource.RLIMIT_FSIZE, (10, 10))\n"

@@ -1,4 +1,4 @@
-"""The client of `arena live`: what the host answers, refuses and leaves unanswered when it dies."""
+"""Tests of the client of `arena live`: answers, refusals, and the death of the host."""
 
 from __future__ import annotations
 
@@ -25,7 +25,7 @@ def run(work: Coroutine[Any, Any, Any]) -> Any:
 
 
 async def refusal(work: Coroutine[Any, Any, Any]) -> str:
-    """The code and the word of the refusal that a call raises."""
+    """The code and the reason of the refusal that a call raises."""
     with pytest.raises(Refused) as fault:
         await work
     return str(fault.value)
@@ -84,7 +84,7 @@ def test_65th_game_is_refused(program: Path) -> None:
 
 
 def test_tasks_share_a_host(program: Path) -> None:
-    """64 games are played at once, each by a task of its own; every answer finds its game."""
+    """64 games are played at once, each by one task; every answer reaches its game."""
 
     async def play(host: Host, number: int) -> None:
         stay = await host.admit(f"game {number}")
@@ -104,7 +104,7 @@ def test_tasks_share_a_host(program: Path) -> None:
 
 
 def test_neither_pipe_fills_up(program: Path) -> None:
-    """A replay of many lines asks for 40 times what a pipe holds, before the first is read."""
+    """A replay sends lines whose answers fill a pipe 40 times, before it reads the first answer."""
 
     async def work() -> Stay:
         async with Host(program=program) as host:
@@ -117,7 +117,7 @@ def test_neither_pipe_fills_up(program: Path) -> None:
 
 
 def test_log_replays_to_the_same_lines(program: Path, tmp_path: Path) -> None:
-    """What `arena serve` writes for the log of a stay is what the digest is of."""
+    """The digest of a stay is that of the output of `arena serve` for its log."""
     log = io.BytesIO(PLAN)
     log.seek(len(PLAN))
 
@@ -138,7 +138,7 @@ def test_log_replays_to_the_same_lines(program: Path, tmp_path: Path) -> None:
     assert len(written.splitlines()) == stay.replies == 3
 
 
-def test_host_that_is_killed_is_told_to_all(program: Path) -> None:
+def test_death_of_the_host_is_raised_in_all_calls(program: Path) -> None:
     async def work() -> None:
         with pytest.raises(HostDied) as death:
             async with Host(program=program) as host:
@@ -155,7 +155,7 @@ def test_host_that_is_killed_is_told_to_all(program: Path) -> None:
 
 
 def test_open_stays_are_closed_at_the_end(program: Path) -> None:
-    """The final lines of games that never left answer nothing, and are no fault."""
+    """The final lines of games that did not leave are ignored."""
 
     async def work() -> None:
         async with Host(program=program) as host:
@@ -177,7 +177,7 @@ def test_words_that_the_host_refuses_are_its_death(program: Path) -> None:
 
 
 def test_line_that_answers_nothing_is_a_fault(tmp_path: Path) -> None:
-    """A program that writes a line of its own is not believed."""
+    """A line of the program that answers nothing is a fault."""
     program = tmp_path / "liar"
     program.write_text(
         '#!/bin/sh\nread plan; echo \'{"line":7,"no":"L2","why":"game"}\'; exec cat\n'

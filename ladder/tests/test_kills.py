@@ -1,4 +1,4 @@
-"""Ladders, hosts and bots that are killed at drawn moments, and ladders that are called again."""
+"""Kills ladders, hosts and bots at drawn moments, and plays the ladders again."""
 
 from __future__ import annotations
 
@@ -34,7 +34,7 @@ GAMES = 10
 
 @dataclass(frozen=True)
 class Undisturbed:
-    """What a run came to that nobody disturbed."""
+    """The results of a run without kills."""
 
     files: dict[str, bytes]
     standings: list[dict[str, Any]]
@@ -45,7 +45,7 @@ class Undisturbed:
 
 
 def config_in(folder: Path, bots: Served, **members: Any) -> Path:
-    """The configuration of ten games, four at once, with results in a folder of that folder."""
+    """A configuration of ten games, four at once, with the results below `folder`."""
     return write_config(
         folder / "small.toml",
         [(name, bots.url(name)) for name in SMALL],
@@ -70,7 +70,7 @@ def undisturbed(
 
 
 def wait_for(process: subprocess.Popen[str], is_so: Callable[[], bool]) -> None:
-    """Waits until something is so; the process has to run meanwhile."""
+    """Waits until a condition holds; the process has to run meanwhile."""
     ends = time.monotonic() + LONGEST
     while not is_so():
         assert process.poll() is None and time.monotonic() < ends
@@ -78,13 +78,13 @@ def wait_for(process: subprocess.Popen[str], is_so: Callable[[], bool]) -> None:
 
 
 def drawn_moments(kind: str, count: int, size: int) -> list[int]:
-    """Drawn numbers of bytes of command files, from nothing to nearly all."""
+    """Drawn sizes of command files at which to kill, from zero to nearly the total."""
     draw = random.Random(f"{SEED} {kind}")
     return [draw.randrange(size * 19 // 20) for _ in range(count)]
 
 
 def assert_same(folder: Path, expected: Undisturbed, program: Path) -> None:
-    """Files and standings are those of the undisturbed run, and all games agree."""
+    """Checks that files and standings are those of the undisturbed run, and all games agree."""
     assert files_of(folder) == expected.files
     assert standings_without_times(folder) == expected.standings
     assert not list((folder / "running").iterdir())
@@ -155,7 +155,7 @@ def test_second_ladder_in_a_folder_is_refused(
 def test_bots_that_die_lose_and_hold_up_no_game(
     program: Path, small_bots: Served, tmp_path: Path
 ) -> None:
-    """Once the process of two bots has died, their moves are refused, and all games end."""
+    """After the process of two bots has died, their moves are missed, and all games end."""
     with serve_small() as mortal:
         bots = [("dying1", mortal.url("fleer")), ("dying2", mortal.url("seeker"))]
         bots += [(name, small_bots.url(name)) for name in SMALL[:3]]

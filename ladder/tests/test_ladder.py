@@ -1,4 +1,4 @@
-"""Whole ladders against bots that fail: all games end, and what was missed is what was planned."""
+"""Whole ladders with failing bots: all games end, and only the planned moves are missed."""
 
 from __future__ import annotations
 
@@ -37,7 +37,7 @@ def test_64_games_of_four_with_every_fault(
 
 
 def assert_missed(folder: Path, counts: dict[str, int]) -> None:
-    """The moves missed by cause are those that the bots were asked for in planned turns."""
+    """Checks that the missed moves by cause are those of the planned turns."""
     store = open_store(folder)
     try:
         asked = dict.fromkeys(faulty.NAMES, 0)

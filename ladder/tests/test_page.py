@@ -1,4 +1,4 @@
-"""The page of a run: its events, its addresses, and what a browser shows of it."""
+"""Tests of the page of a run: its events, its addresses, and the page in a browser."""
 
 from __future__ import annotations
 
@@ -26,7 +26,7 @@ from ladder.pairing import Fixture
 
 GAME = Fixture("r0001-t001", 1, ("a", "b"))
 WATCH = """
-// Keeps what each board was drawn as, by its game and its turn.
+// Keeps the drawing of each board, by game and turn.
 window.seen = {};
 new MutationObserver(() => document.querySelectorAll('article').forEach((article) => {
   const body = article.querySelector('.body');
@@ -55,7 +55,7 @@ def test_addresses_are_of_this_machine_unless_another_is_named() -> None:
 
 
 def parse_event(raw: bytes | None) -> tuple[str, Any]:
-    """The kind of an event and what it tells."""
+    """Parses an event: its kind and its data."""
     assert raw is not None
     ((kind, data),) = re.findall(rb"\Aevent: (\w+)\ndata: (.*)\n\n\Z", raw)
     return kind.decode(), json.loads(data)
@@ -68,7 +68,7 @@ def join_feed(feed: Feed) -> Reader:
     return reader
 
 
-def test_readers_are_told_what_changed() -> None:
+def test_readers_get_the_changes() -> None:
     async def work() -> None:
         feed = Feed(lambda: [{"bot": "a"}], lambda: "one <line>\nand more")
         feed.show(GAME, {"turn": 0})
@@ -150,7 +150,7 @@ def browser() -> Iterator[chromium.Browser]:
 
 @contextmanager
 def playing(program: Path, config: Path) -> Iterator[tuple[subprocess.Popen[str], str]]:
-    """Plays a ladder with a page; entered with its address."""
+    """Plays a ladder with a page within the context, whose value has the page's address."""
     process = start_play(config, program, "--page", "0")
     try:
         assert process.stderr is not None
@@ -165,7 +165,7 @@ def playing(program: Path, config: Path) -> Iterator[tuple[subprocess.Popen[str]
 def test_board_moves_while_its_game_runs(
     program: Path, faulty_bots: Served, browser: chromium.Browser, tmp_path: Path
 ) -> None:
-    """Bots whose colour and head are markup move on the page; then the page tells the end."""
+    """Bots whose colour and head are markup move on the page; then it shows the end."""
     config = write_config(
         tmp_path / "slow.toml",
         [(name, faulty_bots.url("calm")) for name in ("one", "two", "three")],

@@ -1,4 +1,4 @@
-"""Who meets whom, and what is drawn."""
+"""Tests of pairings, draws and starting cells."""
 
 from __future__ import annotations
 
@@ -91,7 +91,7 @@ EDGES = {(1, 5), (5, 1), (5, 9), (9, 5)}
 
 
 def test_starts_on_the_usual_board() -> None:
-    """Up to four start all in corners or all at edges, eight on all these; both occur."""
+    """Up to four snakes start all in corners or all at edges, eight on all these cells."""
     kinds: Counter[bool] = Counter()
     for seed in range(40):
         cells = start_cells(Draw(seed), 11, 11, 4)

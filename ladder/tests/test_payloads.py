@@ -1,4 +1,4 @@
-"""The bodies of requests, held against the official API's members."""
+"""Compares the bodies of requests with the members of the official API."""
 
 from __future__ import annotations
 

@@ -1,4 +1,4 @@
-"""Results, ratings and standings of games whose outcome is known."""
+"""Tests results, ratings and standings with known outcomes."""
 
 from __future__ import annotations
 
@@ -54,7 +54,7 @@ def test_equal_bots_have_equal_ratings() -> None:
 
 
 def test_ratings_are_the_logarithm_of_the_odds() -> None:
-    """With many games the added draws weigh nothing: ten to one is 400 points."""
+    """With many games the added draws are negligible: ten to one is 400 points."""
     games = [[("a", 2.0), ("b", 1.0)]] * 10_000 + [[("a", 1.0), ("b", 2.0)]] * 1_000
     found = ratings(["a", "b"], games)
     assert found["a"].elo - found["b"].elo == pytest.approx(400, abs=0.5)
@@ -79,7 +79,7 @@ def test_undefeated_bots_have_finite_ratings() -> None:
 
 
 def test_games_of_four_count_as_three_of_two() -> None:
-    """A table that all four win equally often is as sure as three games of two for each."""
+    """A game of four, equally often won by each, has the error of three games of two."""
     names = ["a", "b", "c", "d"]
     tables = [
         [(name, float(rank)) for rank, name in enumerate(names[at:] + names[:at])]

@@ -1,8 +1,7 @@
-// The picture of a board: cells, food and snakes, with one cell round the edges for heads that have
-// left it.
+// The picture of a board: cells, food and snakes. A margin of one cell is for heads outside it.
 'use strict';
 
-/** All cells as one path of squares with a little room between them. */
+/** All cells, as one path of squares with small gaps between them. */
 function cellsPicture({ width, height }) {
   let path = '';
   for (let x = 0; x < width; x += 1) {
@@ -20,8 +19,8 @@ function foodPicture(cell, height) {
 }
 
 /**
- * The seats of the snakes that are drawn: those that are out below the living, and of an earlier
- * turn only where they are wished for.
+ * The seats of the snakes to draw, in drawing order: first those that are out, then the living.
+ * Snakes that went out in an earlier turn are included only if `withEarlier` is true.
  */
 function seatsToDraw(board, withEarlier) {
   const seats = [...board.snakes.keys()];
@@ -38,13 +37,13 @@ function wordsOfSnake(snake) {
   return isLiving(snake) ? state : fateOf(snake);
 }
 
-/** What a board holds, in words for those who don't see it. */
+/** A text of a board's snakes and its number of food, for screen readers. */
 function wordsOfBoard(board) {
   const snakes = board.snakes.map((snake) => `${snake.id} ${wordsOfSnake(snake)}`);
   return `Board of turn ${board.turn}. ${snakes.join('; ')}. Food: ${board.food.length}.`;
 }
 
-/** Draws a board into an SVG element, in place of what stood there. */
+/** Draws a board into an SVG element, in place of its old content. */
 function drawBoard(svg, board, withEarlier) {
   const { width, height } = board;
   const seats = seatsToDraw(board, withEarlier);

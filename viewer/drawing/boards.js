@@ -1,8 +1,8 @@
-// A board as a line of the host shows it, checked before anything is drawn, and what is said of its
+// Boards as the host writes them: checks to be made before a board is drawn, and texts about its
 // snakes.
 'use strict';
 
-/** Of each cause what it is called, and which ids its killer can have. */
+/** By cause of death: its text, and which ids the killer can have. */
 const CAUSES = {
   'out-of-health': { describe: () => 'out of health', isKiller: (by) => by === null },
   'wall-collision': { describe: () => 'ran into the wall', isKiller: (by) => by === null },
@@ -21,7 +21,7 @@ function isWhole(value, least, most) {
   return Number.isInteger(value) && value >= least && value <= most;
 }
 
-/** Whether a value is a cell of the board, or at most so many cells beyond its edges. */
+/** Whether a value is a cell of the board, or one at most `beyond` cells outside its edges. */
 function isCell(value, board, beyond) {
   return isWhole(value?.x, -beyond, board.width - 1 + beyond)
     && isWhole(value?.y, -beyond, board.height - 1 + beyond);
@@ -36,10 +36,10 @@ function isCause(snake, ids) {
     && isWhole(snake.out, 1, 10000);
 }
 
-/** What is missing in a snake of a board, in words, or null. */
+/** What is wrong with a snake of a board, in words, or null. */
 function faultOfSnake(snake, board, ids) {
   if (typeof snake?.id !== 'string' || ids.indexOf(snake.id) !== ids.lastIndexOf(snake.id)) {
-    return 'a snake has no id of its own';
+    return 'a snake has no unique id';
   }
   if (!isWhole(snake.health, 0, 100)) {
     return `the health of ${snake.id} is no number from 0 to 100`;
@@ -51,7 +51,7 @@ function faultOfSnake(snake, board, ids) {
   return isCause(snake, ids) ? null : `why ${snake.id} is out can't be read`;
 }
 
-/** What is missing in a board, in words, or null. */
+/** What is wrong with a board, in words, or null. */
 function faultOfBoard(board) {
   if (!isWhole(board?.width, 3, 25) || !isWhole(board.height, 3, 25)) {
     return 'its sides are no numbers from 3 to 25';
@@ -62,7 +62,7 @@ function faultOfBoard(board) {
   }
   const modes = ['standard', 'solo', 'constrictor', 'wrapped'];
   if (!modes.includes(board.mode) || typeof board.over !== 'boolean') {
-    return 'its mode, or whether it is over, is not told';
+    return 'its mode or its member over is missing or wrong';
   }
   if (!Array.isArray(board.food) || !board.food.every((cell) => isCell(cell, board, 0))) {
     return 'its food is no list of cells';
@@ -79,7 +79,7 @@ function isLiving(snake) {
   return snake.cause === null;
 }
 
-/** Who is out, why and by whom, in a sentence; of a living snake that it lives. */
+/** A text of when and why a snake went out and by whom, or that it lives. */
 function fateOf(snake) {
   if (isLiving(snake)) {
     return 'lives';
@@ -88,15 +88,15 @@ function fateOf(snake) {
 }
 
 /**
- * A difference of two columns or rows; on a wrapped board that from one edge to the opposite one
- * is a step across the edge.
+ * The step for a difference of two columns or rows. On a wrapped board the difference from one edge
+ * to the opposite one is a step of one cell across the edge.
  */
 function acrossEdge(difference, side, board) {
   const isAcross = board.mode === 'wrapped' && Math.abs(difference) === side - 1;
   return isAcross ? -Math.sign(difference) : difference;
 }
 
-/** The step from a cell to a neighbour or to itself; null where they are neither. */
+/** The step from a cell to a neighbour or to itself; null between other cells. */
 function stepBetween(from, to, board) {
   const x = acrossEdge(to.x - from.x, board.width, board);
   const y = acrossEdge(to.y - from.y, board.height, board);
@@ -104,8 +104,8 @@ function stepBetween(from, to, board) {
 }
 
 /**
- * The direction from a snake's second part to its head, where they are neighbours; null where the
- * board tells none.
+ * The direction from a snake's second part to its head; null if both are in one cell or in cells
+ * that are not neighbours.
  */
 function directionOf(body, board) {
   const step = stepBetween(body[1], body[0], board);

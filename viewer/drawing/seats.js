@@ -1,9 +1,9 @@
-// How the eight seats look: a colour and a mark along the body for each, so that no two are told
-// apart by hue alone.
+// The looks of the eight seats: each has a colour and a mark along the body, so that no two seats
+// differ by hue alone.
 'use strict';
 
 /**
- * The colours differ in lightness as well as hue; the test measures how far apart they are for
+ * The colours differ in lightness as well as in hue; a test measures their distances for
  * colour-blind eyes.
  */
 const SEATS = [
@@ -29,7 +29,7 @@ function drawn(name, attributes = {}, ...children) {
   return element;
 }
 
-/** An HTML element with its properties and children; text comes in as text, whatever it holds. */
+/** An HTML element with its properties and children. A string becomes text, never markup. */
 function made(name, properties = {}, ...children) {
   const element = Object.assign(document.createElement(name), properties);
   element.append(...children);

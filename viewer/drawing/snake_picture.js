@@ -1,15 +1,15 @@
-// The picture of one snake: a joined body in the colour and with the mark of its seat, and a head
-// that looks where it goes.
+// The picture of one snake: a connected body in the colour and with the mark of its seat, and a
+// head that faces its direction.
 'use strict';
 
-/** The middle of a cell in the picture, where y goes down; the board's y goes up. */
+/** The centre of a cell in the picture, where y grows downwards; on the board it grows upwards. */
 function middleOf(cell, height) {
   return { x: cell.x + 0.5, y: height - cell.y - 0.5 };
 }
 
 /**
- * The line from a part to the next: across an edge of a wrapped board to that edge, and on from
- * the opposite one.
+ * The path from a part to the next. Across an edge of a wrapped board it goes to that edge, and on
+ * from the opposite one.
  */
 function lineBetween(from, to, step, height) {
   const { x, y } = middleOf(to, height);
@@ -22,8 +22,8 @@ function lineBetween(from, to, step, height) {
 }
 
 /**
- * The line along a body. It is broken at an edge that the body crosses, and where two parts that
- * follow each other are no neighbours.
+ * The path along a body. It is broken at an edge that the body crosses, and between successive
+ * parts that are not neighbours.
  */
 function pathAlong(body, board) {
   let path = '';
@@ -42,8 +42,8 @@ function pathAlong(body, board) {
 }
 
 /**
- * A head with two eyes, drawn as it looks to the right and then turned; one without a direction
- * looks out of the picture.
+ * A head with two eyes, drawn facing right and then rotated to its direction. A head without a
+ * direction faces the viewer.
  */
 function headPicture(body, board, colour) {
   const { x, y } = middleOf(body[0], board.height);
@@ -66,15 +66,15 @@ function headPicture(body, board, colour) {
 }
 
 /**
- * The cross over the part behind the head of a snake that is out: its head may lie under the snake
- * that it ran into.
+ * The cross over a snake that is out. It is on the part behind the head, since the head may lie
+ * under the snake that it ran into.
  */
 function crossPicture(body, height) {
   const { x, y } = middleOf(body[1], height);
   return drawn('path', { class: 'cross', d: `M${x - 0.3} ${y - 0.3}l.6 .6m0-.6l-.6 .6` });
 }
 
-/** A snake of a seat on a board. */
+/** The picture of the snake of a seat on a board. */
 function snakePicture(snake, seat, board) {
   const { colour, mark } = SEATS[seat];
   const path = pathAlong(snake.body, board);

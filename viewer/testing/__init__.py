@@ -1,2 +1,2 @@
-# The viewer's tests: a driver for a real browser, an independent reading of transcripts, and the
-# cases.
+# The viewer's tests: a driver for a real browser, an independent parser of transcripts, and the
+# test cases.

@@ -1,5 +1,5 @@
-# What the test cases share: one browser and one server for all, and a page that may leave no error
-# in the console.
+# The base of the test cases: one browser and one server for all. A test fails if the page leaves
+# an error in the console.
 import tempfile
 import unittest
 from pathlib import Path
@@ -12,7 +12,7 @@ shared = {}
 
 
 def setUpModule():
-    """Starts the browser and the server where no module before has done so."""
+    """Starts the browser and the server, unless an earlier module has done so."""
     if not shared:
         shared.update(browser=Browser(), server=Server())
 
@@ -31,7 +31,7 @@ class PageCase(unittest.TestCase):
         self.addCleanup(lambda: self.assertEqual(self.browser.complaints(), []))
 
     def file(self, name, content):
-        """A file of that name with that text or those bytes, for as long as the test runs."""
+        """A file with that name and content. It is removed when the test ends."""
         folder = tempfile.TemporaryDirectory(prefix="viewer-test-")
         self.addCleanup(folder.cleanup)
         path = Path(folder.name) / name

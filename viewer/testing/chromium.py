@@ -1,5 +1,5 @@
-# Chromium without a window: found or installed from Debian's packages, and driven by the WebDriver
-# protocol.
+# Chromium without a window: found, or installed from Debian's packages, and driven over the
+# WebDriver protocol.
 import base64
 import json
 import os
@@ -13,8 +13,8 @@ import urllib.request
 PACKAGES = {
     "chromium": ["chromium", "fonts-dejavu-core"],
     "chromedriver": ["chromium-driver"],
-}  # what each program comes with
-# The key of an element's reference, as the protocol names it.
+}  # the packages of each program
+# The protocol's key for the reference of an element.
 ELEMENT = "element-6066-11e4-a52e-4f735466cecf"
 PATIENCE = [
     "-o",
@@ -33,7 +33,7 @@ class NotToBeHad(Exception):
 
 
 def install():
-    """Installs what is missing; raises NotToBeHad where that fails."""
+    """Installs the missing packages; raises NotToBeHad if that fails."""
     missing = [
         package
         for program, packages in PACKAGES.items()
@@ -62,8 +62,7 @@ def install():
 
 
 class Browser:
-    """One window of a Chromium, with a driver of its own. It resolves no name but the machine's
-    own."""
+    """A window of Chromium and its driver. It resolves no host name but 127.0.0.1."""
 
     def __init__(self):
         self.profile = tempfile.mkdtemp(prefix="viewer-chromium-")
@@ -84,7 +83,7 @@ class Browser:
             raise
 
     def port(self):
-        """The port that the driver chose, which it says in a line."""
+        """The port that the driver chose, from a line of its output."""
         for line in self.driver.stdout:
             if "started successfully on port" in line:
                 return int(line.split("port")[1].strip(" .\n"))
@@ -107,8 +106,7 @@ class Browser:
         }
 
     def call(self, method, path, body=None):
-        """What the driver answers to a request; a path that is not of the whole driver is of the
-        session."""
+        """The driver's answer to a request. Every path but /session is below the session."""
         address = self.root + (path if path == "/session" else f"/session/{self.session}{path}")
         request = urllib.request.Request(
             address, None if body is None else json.dumps(body).encode(), method=method
@@ -121,12 +119,12 @@ class Browser:
             raise RuntimeError(f"{method} {path}: {value['error']}: {value['message']}") from None
 
     def go(self, address):
-        """Loads a page anew, also where only what follows the `#` differs."""
+        """Loads a page, even if its address differs from the old one only after the `#`."""
         self.call("POST", "/url", {"url": "about:blank"})
         self.call("POST", "/url", {"url": address})
 
     def run(self, script, *arguments):
-        """What a script, the body of a function, returns in the page; a promise is waited for."""
+        """Runs the body of a function in the page; returns its value. A promise is awaited."""
         return self.call("POST", "/execute/sync", {"script": script, "args": list(arguments)})
 
     def element(self, selector):
@@ -136,7 +134,7 @@ class Browser:
         self.call("POST", f"/element/{self.element(selector)}/click", {})
 
     def type_into(self, selector, text):
-        """Types into an element; into an element that chooses files, their paths."""
+        """Types into an element. For a file input the text is the paths of the files."""
         self.call("POST", f"/element/{self.element(selector)}/value", {"text": text})
 
     def press(self, *keys):
@@ -152,7 +150,7 @@ class Browser:
         )
 
     def drop(self, path):
-        """Drops a file of the machine on the middle of the page, as a hand would."""
+        """Drops a file on the middle of the page."""
         data = {"items": [], "files": [str(path)], "dragOperationsMask": 1}
         for event in ("dragEnter", "dragOver", "drop"):
             self.call(
@@ -169,11 +167,11 @@ class Browser:
         return base64.b64decode(self.call("GET", f"/element/{self.element(selector)}/screenshot"))
 
     def complaints(self):
-        """What the page has left in the browser's console as errors since the last call."""
+        """The errors in the browser's console since the last call."""
         return [entry["message"] for entry in self.call("POST", "/se/log", {"type": "browser"})]
 
     def wait(self, script, *arguments, seconds=20):
-        """Waits until a script returns something true, and returns it."""
+        """Waits until a script returns a true value, and returns it."""
         ends = time.monotonic() + seconds
         while True:
             value = self.run(script, *arguments)

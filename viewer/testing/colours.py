@@ -1,8 +1,8 @@
-# How far apart two colours are for an eye: CIEDE2000, for normal sight and for the three kinds of
+# The distance of two colours for an eye: CIEDE2000, for normal sight and for the three kinds of
 # colour blindness.
 import math
 
-# What each kind of eye makes of linear red, green and blue, for a cone that is wholly missing.
+# By kind of eye, the matrix from linear red, green and blue to what an eye without the cone sees.
 EYES = {
     "normal": ((1, 0, 0), (0, 1, 0), (0, 0, 1)),
     "without red cones": (
@@ -52,7 +52,7 @@ def hue(a, b):
 
 
 def hue_step(first, second):
-    """From one hue to another by the shorter way, and the hue in the middle."""
+    """The shorter way from one hue to another, in degrees, and the hue in the middle."""
     step = (second - first + 180) % 360 - 180
     return step, (first + step / 2) % 360
 

@@ -1,5 +1,5 @@
-# Transcripts made for the tests: a large one of a real game's lines under other names, and one long
-# game of a single snake.
+# Generated transcripts: a large one of many copies of a real game, and one long game of a single
+# snake.
 import json
 
 
@@ -9,8 +9,7 @@ def text(line):
 
 
 def rounds_of(lines, game):
-    """The lines of a game that has one round, with an `end` behind them, so that they can stand
-    again and again."""
+    """The lines of a game of one round, with an `end` after them, so that they can be repeated."""
     own = [
         line
         for line in map(json.loads, lines)
@@ -20,8 +19,8 @@ def rounds_of(lines, game):
 
 
 def write_large(path, lines, game, games, size):
-    """Writes a transcript of so many games and at least so many bytes: each game is begun anew
-    until it has its share. Returns the rounds of each."""
+    """Writes a transcript of `games` games and at least `size` bytes: each game repeats its round.
+    Returns the number of rounds of each."""
     ends = [json.loads(text(line)) for line in rounds_of(lines, game)]
     rounds = size // games // sum(len(text(line)) + 1 for line in ends) + 1
     with open(path, "w") as file:
@@ -36,12 +35,12 @@ def write_large(path, lines, game, games, size):
 
 
 SIDE = 20
-MEAL = 90  # turns from one food to the next, fewer than a snake lives without
+MEAL = 90  # turns from one food to the next; a snake lives 100 without food
 
 
 def tour():
-    """The cells of the board in a round: along the bottom row, then up and down the columns from
-    the right."""
+    """All cells in a closed path: along the bottom row, then up and down the columns from the
+    right."""
     cells = [(x, 0) for x in range(SIDE)]
     for x in reversed(range(SIDE)):
         column = range(1, SIDE)
@@ -50,8 +49,7 @@ def tour():
 
 
 def tour_boards(turns):
-    """The boards of a solo game on the tour, in which food lies before the head every so many
-    turns."""
+    """The boards of a solo game on the tour; every MEAL turns there is food before the head."""
     cells = tour()
     body, health, food = [cells[0]] * 3, 100, []
     for turn in range(turns + 1):
@@ -87,8 +85,7 @@ def points(cells):
 
 
 def write_long(path, turns):
-    """Writes a transcript of one game of so many turns. Its charges are not those of the program:
-    nothing here is compared with them."""
+    """Writes a transcript of one game of `turns` turns. Its charges are 0, unlike the program's."""
     with open(path, "w") as file:
         for turn, board in enumerate(tour_boards(turns)):
             file.write(

@@ -1,4 +1,4 @@
-# The page as the tests see it: opened by a way of its own, and read for what stands on it.
+# The page as the tests see it: opens transcripts in it, and reads what it shows.
 from testing.served import ROOT
 
 PAGE = ROOT / "viewer" / "index.html"
@@ -14,8 +14,7 @@ return [...document.querySelectorAll('#games tbody tr')].map((row) => [...row.ce
 """
 
 BOARD = """
-// The direction from the middle of a head to the middle between its eyes, as the browser has turned
-// it.
+// The direction from the centre of a head to the point between its eyes, as the browser drew it.
 const looks = (head) => {
   const { a, b } = head.transform.baseVal.consolidate().matrix;
   const eyes = [...head.querySelectorAll('.eye')];
@@ -60,13 +59,13 @@ return [...document.querySelectorAll('#snakes .plot')].map((plot) => ({
 
 
 class Page:
-    """A transcript opened in the viewer."""
+    """The viewer in a browser."""
 
     def __init__(self, browser):
         self.browser = browser
 
     def open_empty(self, fragment=""):
-        """The page as a file of the machine, with nothing opened."""
+        """Opens the page from its file, without a transcript."""
         self.browser.go(PAGE.as_uri() + fragment)
 
     def choose(self, path, seconds=20):
@@ -126,7 +125,7 @@ class Page:
             """
             const marked = document.querySelector('#games [aria-current]');
             const [game, stay] = arguments;
-            const isMarked = marked.dataset.game === game && marked.dataset.stay === stay;
+            const isMarked = marked?.dataset.game === game && marked.dataset.stay === stay;
             return isMarked && document.getElementById('name').textContent === game;
         """,
             name,
@@ -155,8 +154,7 @@ class Page:
         )
 
     def seat_colours(self):
-        """The colours in which the bodies on the board are painted, and that of the board's
-        cells."""
+        """The colours of the bodies on the board, and that of the board's cells."""
         return self.browser.run(
             """
             const all = (selector) => [...document.querySelectorAll(selector)];

@@ -11,7 +11,7 @@ def paeth(left, above, corner):
 
 
 def unfiltered(kind, row, above, step):
-    """A row's bytes from what the filter left of them, and the row above."""
+    """Undoes the filter of a row, by the row above it."""
     row = bytearray(row)
     for index in range(len(row)):
         left = row[index - step] if index >= step else 0
@@ -30,7 +30,7 @@ def unfiltered(kind, row, above, step):
 
 
 def pixels(data):
-    """All pixels of a picture, row by row, each as red, green and blue."""
+    """The pixels of a picture, row by row, each as red, green and blue."""
     place, packed, head = 8, b"", None
     while place < len(data):
         length, name = struct.unpack(">I4s", data[place : place + 8])

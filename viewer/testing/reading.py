@@ -1,5 +1,5 @@
-# What a transcript says, read line by line with Python's own JSON, as docs/FORMATS.md has it: what
-# the page is compared with.
+# An independent parser of transcripts (docs/FORMATS.md), by Python's JSON. The tests compare the
+# page with its result.
 import json
 from dataclasses import dataclass, field
 
@@ -9,7 +9,7 @@ class Game:
     name: str
     stay: int = 1
     stays: int = 1  # of the games of that name
-    rounds: list = field(default_factory=list)  # of each round its boards by turn
+    rounds: list = field(default_factory=list)  # the boards of each round, by turn
     refusals: list = field(default_factory=list)  # (line, round, turn)
     runs: bool = False
     charge: int = 0

@@ -1,4 +1,4 @@
-# The repository's root, served over HTTP on a free port of the machine itself.
+# Serves the repository's root over HTTP on a free port of 127.0.0.1.
 import threading
 from functools import partial
 from http.server import SimpleHTTPRequestHandler, ThreadingHTTPServer
@@ -9,7 +9,7 @@ ROOT = Path(__file__).resolve().parent.parent.parent
 
 class Quiet(SimpleHTTPRequestHandler):
     def log_message(self, *_):
-        """Says nothing of a request."""
+        """Does not log requests."""
 
 
 class Server:

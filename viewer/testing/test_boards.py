@@ -1,4 +1,4 @@
-# Every board of every game, stepped through and compared with the transcript; and the plots.
+# Steps through every board of every game and compares it with the transcript; tests the plots.
 from testing.case import PageCase, setUpModule  # noqa: F401
 from testing.page import CASES, TOURNAMENT
 from testing.reading import read
@@ -22,8 +22,8 @@ def fate(snake):
 
 
 def step(before, cell, board):
-    """The columns and rows from a cell to another; on a wrapped board a step across an edge is one
-    to the neighbour."""
+    """The columns and rows from a cell to another. On a wrapped board a step across an edge counts
+    as a step to a neighbour."""
     found = []
     for axis, side in (("x", board["width"]), ("y", board["height"])):
         apart = cell[axis] - before[axis]
@@ -38,14 +38,14 @@ def looks(body, board):
 
 
 def middles(cells, height):
-    """The middles of cells in the picture, each once where it follows itself."""
+    """The centres of cells in the picture, without successive repetitions."""
     places = [[cell["x"] + 0.5, height - cell["y"] - 0.5] for cell in cells]
     return [place for index, place in enumerate(places) if index == 0 or place != places[index - 1]]
 
 
 def line_along(body, board):
-    """The points of the line along a body, and in how many pieces: where it crosses an edge, it
-    ends there and begins at the opposite edge."""
+    """The points of the path along a body, and the number of its pieces: at an edge that the body
+    crosses the path ends, and begins again at the opposite edge."""
     places, pieces = [], 1
     for before, cell in zip([None, *body], body):
         [here] = middles([cell], board["height"])
@@ -75,7 +75,7 @@ def drawn_snake(seat, snake, board):
 
 
 def expected(board, last, with_earlier=False):
-    """What has to stand on the page for a board of a round that goes to a last turn."""
+    """What the page has to show for a board of a round that ends with turn `last`."""
     snakes = list(enumerate(board["snakes"]))
     out = [
         (seat, snake)

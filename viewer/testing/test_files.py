@@ -1,4 +1,4 @@
-# Files that are no transcripts, dropped on the page: each gets a clear line, and the page goes on.
+# Drops files that are no transcripts on the page: it shows a clear message, and stays usable.
 import json
 
 from testing.case import PageCase, setUpModule  # noqa: F401
@@ -14,7 +14,7 @@ STRAY = '{"line":2,"no":"L1","why":"json"}\n'
 
 
 def changed(line, *path, to):
-    """The good transcript with one member of a line changed, which the path leads to."""
+    """The good transcript with one member of a line changed, the one at `path`."""
     value = json.loads(LINES[line - 1])
     inner = value
     for member in path[:-1]:
@@ -23,7 +23,7 @@ def changed(line, *path, to):
     return "".join([*LINES[: line - 1], text(value) + "\n", *LINES[line:]])
 
 
-# The file's content, and what the page says of it.
+# By name, a file's content and the message of the page.
 BROKEN = {
     "nothing": ("", "The file is empty."),
     "picture": (b"\x89PNG\r\n\x1a\n\0\0\0\rIHDR", "Line 1 is no line of a transcript."),
@@ -38,14 +38,14 @@ BROKEN = {
         "Line 7 is the last, and its game has no final line.",
     ),
     "an empty line": (GOOD + "\n", "Line 9 is no line of a transcript."),
-    "twice": ((GOOD + STRAY) * 2, "Line 10 is of a game whose lines have to stand further up."),
+    "twice": ((GOOD + STRAY) * 2, "Line 10 is of a game, and comes after a stray line."),
     "a reason that is none": (
         GOOD + STRAY.replace("L1", "A6"),
         "Line 9 is no line of a transcript.",
     ),
     "a line left out": (
         "".join(LINES[:2] + LINES[3:]),
-        "Line 3 has the number 4 where 3 has to stand.",
+        "Line 3 has the number 4, not 3.",
     ),
     "another game between": (
         changed(4, "game", to="b"),
@@ -57,11 +57,11 @@ BROKEN = {
     ),
     "a second new": (
         changed(2, "do", to="new"),
-        "Line 2 shows a board after new, while a game runs.",
+        "Line 2 shows a board after new while a game runs.",
     ),
     "a move first": (
         changed(1, "do", to="move"),
-        "Line 1 shows a board after move, where no game runs.",
+        "Line 1 shows a board after move while no game runs.",
     ),
     "another last board": (
         changed(8, "board", "turn", to=1),
@@ -81,7 +81,7 @@ BROKEN = {
     ),
     "another kind of board": (
         changed(8, "board", "mode", to="royale"),
-        "Line 8 holds no board that can be drawn: its mode, or whether it is over, is not told.",
+        "Line 8 holds no board that can be drawn: its mode or its member over is missing or wrong.",
     ),
     "an endless line": (
         b"x" * (3 << 20),
@@ -89,15 +89,15 @@ BROKEN = {
     ),
 }
 
-# A member of the board in line 2, which is read only when its turn is asked for, and what the page
-# says of it.
+# A member of the board in line 2, a wrong value for it, and the fault in the message. The board is
+# read only when its turn is shown.
 BROKEN_LATER = [
     (("width",), 26, "its sides are no numbers from 3 to 25"),
     (("min_food",), -1, "its turn or the numbers for its food are out of their range"),
-    (("over",), 0, "its mode, or whether it is over, is not told"),
+    (("over",), 0, "its mode or its member over is missing or wrong"),
     (("food",), [{"x": 5, "y": 0}], "its food is no list of cells"),
     (("snakes",), [], "it has no list of 1 to 8 snakes"),
-    (("snakes", 0, "id"), 7, "a snake has no id of its own"),
+    (("snakes", 0, "id"), 7, "a snake has no unique id"),
     (("snakes", 0, "body", 1, "x"), 5, "the body of s is no list of cells"),
     (("snakes", 0, "by"), "s", "why s is out can't be read"),
     (("snakes", 0, "cause"), "old age", "why s is out can't be read"),
@@ -107,11 +107,11 @@ BROKEN_LATER = [
 class FilesTest(PageCase):
     def test_what_is_no_transcript_gets_a_clear_line(self):
         self.page.open_empty()
-        for name, (content, said) in BROKEN.items():
+        for name, (content, message) in BROKEN.items():
             with self.subTest(name):
                 self.page.drop(self.file(f"{name}.txt", content))
                 self.assertEqual(self.page.state(), "fault")
-                self.assertEqual(self.page.text("#notice"), f"{name}.txt can't be shown. {said}")
+                self.assertEqual(self.page.text("#notice"), f"{name}.txt can't be shown. {message}")
                 self.assertFalse(
                     self.browser.run("return document.querySelector('main').checkVisibility()")
                 )
@@ -125,18 +125,19 @@ class FilesTest(PageCase):
         self.page.wait_for_turn(0, len(boards) - 1)
         self.assertEqual(self.page.board(), expected(boards[0], len(boards) - 1))
 
-    def test_a_board_that_cannot_be_drawn_is_told_when_it_is_asked_for(self):
-        for path, value, said in BROKEN_LATER:
-            with self.subTest(said):
+    def test_a_board_that_cannot_be_drawn_is_reported_when_its_turn_is_shown(self):
+        for path, value, fault in BROKEN_LATER:
+            with self.subTest(fault):
                 self.page.open_empty()
                 self.page.choose(
                     self.file("broken.transcript", changed(2, "board", *path, to=value))
                 )
                 self.assertEqual(self.page.state(), "open")
+                self.page.wait_for_turn(0, 2)
                 self.browser.click("#forward")
-                said_of_line = f"Line 2 holds no board that can be drawn: {said}."
+                message = f"Line 2 holds no board that can be drawn: {fault}."
                 self.browser.wait(
                     "return document.getElementById('notice').textContent === arguments[0]",
-                    said_of_line,
+                    message,
                 )
                 self.page.wait_for_turn(0, 2)

@@ -1,4 +1,4 @@
-# The table of games and the lists below it, compared with what the transcript says.
+# Compares the table of games and the lists below it with the transcript.
 import re
 
 from testing.case import PageCase, setUpModule  # noqa: F401
@@ -73,8 +73,7 @@ class GamesTest(PageCase):
                     )
 
     def numbered_games(self):
-        """A transcript of games that were never begun, named by numbers that are not in their
-        order."""
+        """A transcript of games that were never begun, named by numbers in no sorted order."""
         lines = [
             text({"board": None, "charge": 0, "final": True, "game": f"game {number}"})
             for number in (10, 9, 100, 1)

@@ -1,5 +1,5 @@
-# Large transcripts: 85 MB with 64 games, and one game of 10,000 turns. The page has to answer while
-# it reads them.
+# Large transcripts: 85 MB with 64 games, and one game of 10,000 turns. The page has to stay
+# responsive while it reads them.
 import tempfile
 import time
 from pathlib import Path
@@ -37,8 +37,8 @@ class LargeTest(PageCase):
         return Path(folder.name) / name
 
     def open_timed(self, path):
-        """Opens a file; says how long that took, and for how long at most the page did not
-        answer."""
+        """Opens a file. Returns how long that took, and the longest time without a response of the
+        page."""
         self.page.open_empty()
         self.browser.run(HEARTBEAT)
         began = time.monotonic()

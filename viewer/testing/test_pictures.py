@@ -1,5 +1,5 @@
-# Pictures of three boards, to be looked at; their colours are counted, and measured for
-# colour-blind eyes.
+# Takes pictures of three boards for people to look at; counts the colours, and measures their
+# distances for colour-blind eyes.
 import itertools
 import os
 import re
@@ -15,14 +15,14 @@ from testing.served import ROOT
 
 FOLDER = Path(os.environ.get("VIEWER_PICTURES", ROOT / "viewer" / "out"))
 
-# The name of a picture, the file, the game and the turn that it shows, and whether the bodies that
-# went out earlier are drawn.
+# The name of a picture; the file, game and turn that it shows; whether snakes that went out earlier
+# are drawn.
 PICTURES = [
     ("board_of_eight", TOURNAMENT, "eight", 10, False),
     ("board_of_constrictor", TOURNAMENT, "constrictor", 24, True),
     ("board_of_four", ROOT / "examples" / "four_snakes.transcript", "arena", 4, False),
 ]
-LEAST_DISTANCE = 20  # of two colours in lab, for each eye; 2 can just be told apart side by side
+LEAST_DISTANCE = 20  # of two colours in lab, for each eye; 2 is just visible side by side
 
 
 def rgb(painted):

@@ -150,10 +150,10 @@ class PlayingTest(PageCase):
         self.page.wait_for_turn(5, self.last)
         self.browser.type_into("#slider", END)
         self.page.wait_for_turn(self.last, self.last)
-        told = self.browser.run(
+        label = self.browser.run(
             "return document.getElementById('slider').getAttribute('aria-valuetext')"
         )
-        self.assertEqual(told, f"Turn {self.last} of {self.last}")
+        self.assertEqual(label, f"Turn {self.last} of {self.last}")
 
     def test_a_click_on_a_plot_goes_to_its_turn(self):
         self.page.wait_for_plots()
@@ -205,7 +205,7 @@ class AddressTest(PageCase):
             f"{shared['server'].root}/viewer/index.html#game=arena&round=1&turn=0",
         )
 
-    def test_an_address_of_nothing_is_told(self):
+    def test_an_address_of_nothing_is_reported(self):
         for fragment, notice in (
             ("game=nobody", "The transcript has no game nobody."),
             ("game=hungry&turn=101", "The game hungry has no turn 101 in round 1."),
@@ -216,7 +216,7 @@ class AddressTest(PageCase):
             self.page.choose(TOURNAMENT)
             self.assertEqual(self.page.text("#notice"), notice)
 
-    def test_a_file_that_is_not_there_is_told(self):
+    def test_a_missing_file_is_reported(self):
         name = "../examples/nothing.transcript"
         self.browser.go(f"{shared['server'].root}/viewer/index.html?file={name}")
         self.page.wait_until_read(name)

@@ -1,4 +1,4 @@
-# Games that come and go: stays of one name are told apart, and refused admissions are listed.
+# Games that come and go: stays of one name are shown separately, refused admissions are listed.
 import json
 
 from testing.case import PageCase, setUpModule  # noqa: F401
@@ -12,12 +12,12 @@ from testing.test_games import row_of, sorted_by
 EXAMPLES = ROOT / "examples"
 STAYS = EXAMPLES / "stays.transcript"
 NEXT, BEFORE = "n", "p"
-# Each refusal of a line that admits or dismisses a game, with the word beside it.
+# Each refusal of an `admit` or `leave` line, with its `why`.
 REFUSALS = [("A1", "admit"), ("A2", "open"), ("A3", "games"), ("A4", "pool"), ("A5", "none")]
 
 
 def section(case, game, name):
-    """The lines of a game of a case, under another name."""
+    """The lines of a game of an example, under another name."""
     lines = [
         json.loads(line) for line in (EXAMPLES / f"{case}.transcript").read_text().splitlines()
     ]
@@ -26,8 +26,8 @@ def section(case, game, name):
 
 class StaysTest(PageCase):
     def four_stays(self):
-        """A transcript in which a game has three stays, with other boards in each, and another game
-        one between them."""
+        """A transcript in which a game has three stays with different boards, and another game has
+        one stay between them."""
         lines = section("quota_of_two_records", "a", "b")
         lines += section("first_file", "a", "b stay 1")
         lines += section("first_file", "a", "b")

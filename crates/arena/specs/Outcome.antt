@@ -25,7 +25,7 @@ use Rattle.arena.specs.Words.{Asked, serve, alone, live, asked_of, mistakes_in}
 abbrev pub Answer : Type 0
 Answer = Result (Unit {0}) Failure
 
--- the bytes of an output, if its writer says them
+-- the bytes of an output, if they are known of its writer
 abbrev pub held_by : {W : Type 0} → (W → Option (List ℕ)) → Output W → Option (List ℕ)
 held_by contents output = contents output.writer
 
@@ -54,7 +54,7 @@ Finishes contents old new (Err Flush) = Keeps (held_by contents old) (held_by co
 abbrev pub Gains : {W : Type 0} → (W → Option (List ℕ)) → Output W → Output W → List ℕ → Type 0
 Gains contents old new = Appends (held_by contents old) (held_by contents new)
 
--- A file is served with that many blocks: the whole transcript, flushed; or a fault of `serve`, and
+-- A file is served with `blocks` blocks: the whole transcript, flushed; or a fault of `serve`, and
 -- what it leaves; or the whole transcript, and a flush that failed.
 abbrev pub Serves : {W : Type 0} → (W → Option (List ℕ)) → ℕ → List ℕ → Output W → Output W → Answer → Type 0
 Serves contents blocks file old new (Ok done) =
@@ -122,7 +122,7 @@ Does contents left (live blocks) = ServesLive contents left blocks
 
 -- The status and the line.
 
--- the errors have the reason's line, or its writer failed
+-- the reason's line was written to the errors, unless their writer failed
 abbrev pub Tells : {E : Type 0} → (E → Option (List ℕ)) → Reason → ℕ → Output E → Output E → Type 0
 Tells contents reason status old new = (status ≡ status_of reason) × (new.has_failed ≡ false → Gains contents old new (line_of reason))
 
@@ -131,8 +131,8 @@ abbrev pub Concludes : {E : Type 0} → (E → Option (List ℕ)) → Answer →
 Concludes contents (Ok done) status old new = (status ≡ 0) × (new ≡ old)
 Concludes contents (Err failure) status old new = Tells contents (reason_of failure) status old new
 
--- A command line that clap does not accept, by the kind of its error: memory ran out; or clap's
--- text was asked for, and was written and flushed or could not be; or it is refused. The texts are
+-- A command line that clap does not accept, by the kind of its error: memory ran out; or it asks
+-- for clap's text, which was written and flushed or could not be; or it is refused. The texts are
 -- clap's.
 pub record Explains {W E : Type 0} (contents : E → Option (List ℕ)) (kind : ErrorKind) (status : ℕ) (output after : Output W) (old new : Output E) : Type 0 where
   pub memory : kind ≡ clap.OutOfMemory → Tells contents OutOfMemory status old new × (after ≡ output)

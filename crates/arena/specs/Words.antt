@@ -24,7 +24,7 @@ file_rule = record (new_rule (codes "FILE")) { required = true; action = Some Se
 abbrev pub option_rule : Text → Rule
 option_rule name = record (new_rule name) { long = Some name; value_names = 1; action = Some Set }
 
--- an option for a whole number from `least` to `most`, and its text if it is left out
+-- an option for a whole number from `least` to `most`, whose default is this text
 abbrev pub number_rule : Text → ℕ → ℕ → Text → Rule
 number_rule name least most otherwise =
     record (option_rule name) { parser = Some (Signed (pos least) (pos most)); defaults = otherwise ∷ [] }
@@ -69,11 +69,11 @@ pub data Asked : Type 0 where
 abbrev pub is_number : ℕ → Text → Bool
 is_number bits text = nat_lt 0 (length text) && (list_all (λ digit. nat_lt (digit_value digit) 10) text && nat_lt (digits_value 10 text) (2 ^ bits))
 
--- the number of that many bits that a text says in decimal digits
+-- the value of a text of decimal digits, if it has at most `bits` bits
 abbrev pub number_of : ℕ → Text → Option ℕ
 number_of bits text = if is_number bits (without_leading_plus text) then Some (digits_value 10 (without_leading_plus text)) else None
 
--- the number given for an option, else this one
+-- the number given for an option; `otherwise` if there is none
 abbrev pub number_at : ℕ → Text → ℕ → List Row → ℕ
 number_at bits name otherwise rows = unwrap_or (option_and_then (number_of bits) (one_of name rows)) otherwise
 

@@ -32,7 +32,7 @@ pub struct Serving<'a> {
 pub struct Solo<'a> {
     pub file: &'a str,
     pub game: &'a str,
-    /// The stay of that game, from 1 on.
+    /// The number of the stay among those of that game, from 1.
     pub stay: u32,
     pub blocks: u16,
 }
@@ -175,7 +175,7 @@ fn stay_of(matches: &ArgMatches<'_>) -> u32
     matches.get_one::<u32>("stay").unwrap_or(FIRST_STAY)
 }
 
-/// The value of that argument.
+/// The value of that argument, or `otherwise` if it is not given.
 #[tactic(auto, using(crate::proofs::Numbers::text_read))]
 fn text_of<'a>(matches: &ArgMatches<'a>, name: &str, otherwise: &'a str) -> &'a str
     ensures { result.now ≡ text_at name.now otherwise.now (rows_of (found_of matches.now)) }

@@ -5,10 +5,9 @@ pub mod FitSnake
 pub mod KeptRecord
 pub mod LayoutBytes
 pub mod Lengths
+pub mod Living
 pub mod Parts
-pub mod Repeats
 pub mod Longest
-pub mod OverBytes
+pub mod Repeats
 pub mod SnakeRecord
 pub mod Writable
-pub mod TurnBytes

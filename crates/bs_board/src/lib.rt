@@ -32,7 +32,7 @@ pub use records::decode_error::Decode;
 pub use records::decoding::decode;
 pub use records::encoding::{encode, encode_into};
 pub use records::kept_board::KeptBoard;
-pub use records::layout::{BoardBytes, SnakeBytes, split_board, split_snake};
+pub use records::layout::{BoardBytes, SnakeBytes, skip_snakes, split_snake};
 pub use records::record::Record;
 pub use records::sizes::size;
 pub use records::snake::{decode_snake, encode_snake_into, snake_size};

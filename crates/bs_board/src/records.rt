@@ -6,7 +6,6 @@ pub mod encoding;
 pub mod kept;
 pub mod kept_board;
 pub mod layout;
-pub mod over;
 pub mod record;
 pub mod sizes;
 pub mod snake;

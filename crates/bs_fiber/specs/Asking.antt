@@ -1,4 +1,4 @@
--- What the Begin of a command needs of it.
+-- The data of a command that its Begin needs.
 use Rattle.std.specs.Prelude.{◌≡◌, ℕ, true, false, Option, Some, None}
 use Rattle.bs_board.specs.declared.commands.command.Command.{Command}
 use Rattle.bs_board.specs.declared.commands.command.Command.TheVariants as command
@@ -16,7 +16,7 @@ asked_turn command.Free = None
 asked_turn command.End = None
 asked_turn command.Bad = None
 
--- the handle is the command's; the turn is the one that it names; moves are marked as such
+-- a handle is one to the command; a turn is the one that the command names; moves are marked
 abbrev pub IsWantedOf : Command → Wanted → Type 0
 IsWantedOf c wanted.Nothing = (asked_turn c ≡ None) × (is_move c ≡ false)
 IsWantedOf c (wanted.Setup handle) = (handle ≡ c) × (asked_turn c ≡ None) × (is_move c ≡ false)

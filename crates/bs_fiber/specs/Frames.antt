@@ -14,7 +14,7 @@ unfoldable pub frame_of : List Snake → List ℕ
 frame_of [] = []
 frame_of (s ∷ snakes) = padded (snake_record s) ++ frame_of snakes
 
--- where the record of each snake lies, the first one's from that place on
+-- where the record of each snake lies; that of the first one begins at `at`
 unfoldable pub pieces_from : ℕ → List Snake → List Piece
 pieces_from at [] = []
 pieces_from at (s ∷ snakes) = record { at = at; len = length (snake_record s) } ∷ pieces_from (at + rounded (length (snake_record s))) snakes

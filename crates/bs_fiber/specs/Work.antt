@@ -40,7 +40,7 @@ move_begun (Some reason) = Answered (answer_with (Refused reason))
 abbrev pub shown : Word → Board → ℕ → Out
 shown word board charge = Answered (record { reply = Shown word board charge; effect = effect.Keep })
 
--- two seats a part; where the number of seats is odd the last part has one
+-- the number of parts: each has two seats, the last one has one if the number of seats is odd
 abbrev pub parts_of : ℕ → ℕ
 parts_of seats = (seats + 1) / 2
 
@@ -61,7 +61,7 @@ abbrev pub moves_in : Command → List (List ℕ × Direction)
 moves_in (command.Move orders) = orders.moves
 moves_in _ = []
 
--- the snakes of the part one step on
+-- the snakes of the part, moved one step
 abbrev pub moved_part : ℕ → View → Command → List Snake
 moved_part part view command = map (λ s. moved (wrap_in view.last) (given_to (moves_in command) s.id) s) (seats_of part (snakes_in view.last))
 
@@ -90,6 +90,6 @@ out_seen Begin part view command = begun view command
 out_seen Part part view command = Moved (moved_part part view command)
 out_seen Join part view command = Joined (answer_of view command) (piece_added (answer_of view command).effect (moved_part 0 view command))
 
--- the outcome of the job, from all that it reads, which is one view
+-- the outcome of the job in the view whose boards have the records of the input
 abbrev pub IsWorked : Input → Out → Type 0
 IsWorked input out = (view : View) → IsSeen view input → out ≡ out_seen input.job.kind input.job.part view input.command

@@ -19,7 +19,7 @@ use bs_board::{Command, KeptBoard, Record, Word};
 use bs_game::{View, answer, check, check_move, check_unseen, refuse, show};
 use std::alloc::{AllocError, Global};
 
-/// Whether the parts of a move follow.
+/// Whether the command is a move that `check` allows, so that its parts follow.
 pub(crate) fn goes(view: &View, command: &Command) -> bool
     ensures { result ≡ goes view.now command.now }
 {
@@ -45,7 +45,7 @@ fn begin_seen(alloc: Global, input: &Input) -> Result<Out, AllocError>
     begin_on(alloc, &view, input.command.get())
 }
 
-/// Accepts a move unless its game's record refuses it.
+/// Accepts a move, unless the record shows that the game is over or at its last turn.
 fn begin_move(last: &Record) -> Out
     ensures { (b : AnyBoard) → last.now ≡ record_of b
         → result ≡ move_begun (if is_over b then Some Refusal.Over else (if nat_le LAST_TURN b.turn then Some Refusal.Limit else None)) }
@@ -56,7 +56,7 @@ fn begin_move(last: &Record) -> Out
     }
 }
 
-/// Shows a record, which the reply shares.
+/// Answers with the board of a record. The reply shares the record.
 fn begin_show(word: Word, kept: &Record, charge: u32) -> Result<Out, AllocError>
     ensures { IfOk result (λ out. (b : AnyBoard) → IsLegal b → kept.now ≡ record_of b → out ≡ shown word b charge) }
 {
@@ -78,7 +78,7 @@ fn begin_unrefused(alloc: Global, input: &Input) -> Result<Out, AllocError>
     }
 }
 
-/// The output of a Begin. Decodes a board only if the answer depends on it.
+/// Runs a Begin. Decodes a board only if the answer depends on it.
 pub(crate) fn begin(alloc: Global, input: &Input) -> Result<Out, AllocError>
     requires { IsFitGame input.now }
     ensures { IfOk result (λ out. (view : AnyView) → IsSeen view input.now → out ≡ begun view input.now.command) }

@@ -13,7 +13,7 @@ use std::mem::replace;
 /// The data that the Begin job of a command needs.
 #[derive(Debug, Drop)]
 pub(crate) enum Wanted {
-    /// Nothing: a bare command that names no turn, or a setup whose handle was taken.
+    /// Nothing: a command without setup, moves or turn number, or a setup whose handle was taken.
     Nothing,
     /// A further handle to a setup.
     Setup(SharedCommand),
@@ -52,9 +52,9 @@ fn handle_in(wanted: Wanted) -> Option<SharedCommand>
     }
 }
 
-/// A queued command, with the data that its Begin job needs. That job is taken under a lock, when
-/// the command is in no processor cache; the data is kept here so that the command is not read
-/// then. Contracts see the command.
+/// A queued command, with the data that its Begin job needs. The data is kept here because the
+/// Begin is taken under a lock, and by then the command itself is in no processor cache. Contracts
+/// see the command.
 #[derive(Debug, Drop)]
 pub struct Handed {
     command: SharedCommand,
@@ -75,7 +75,8 @@ impl Model for Handed {
 const _: () = prove!(size_of::<Handed>() == 24);
 
 impl Handed {
-    /// Makes one or two handles to the command. Fails if the number of its handles would overflow.
+    /// Makes a handle to the command, and another one for the Begin of a setup or a move. Fails if
+    /// the number of the command's handles would overflow.
     pub fn new(command: &SharedCommand) -> Result<Handed, AllocError>
         ensures { IfOk result (λ handed. handed ≡ command.now) }
     {
@@ -92,7 +93,7 @@ impl Handed {
         &self.command
     }
 
-    /// The turn that it names.
+    /// The turn that a `turn` command names.
     pub fn asks(&self) -> Option<TurnNumber>
         ensures { result ≡ asked_turn self.now }
     {
@@ -118,7 +119,8 @@ impl Handed {
         }
     }
 
-    /// Takes the handle that a setup's or move's Begin needs, once.
+    /// Takes the handle that was made for the Begin of a setup or a move. `None` if it was taken
+    /// before, and for any other command.
     pub fn take_handle(&mut self) -> Option<SharedCommand>
         ensures same { self.new ≡ self.old }
         ensures handle { IfSome result (λ handle. handle ≡ self.old) }
@@ -133,8 +135,8 @@ impl Handed {
     }
 }
 
-/// The handles of a command that a core keeps: its game's and the journal's. The caller makes
-/// them before it locks the core. Contracts see the command.
+/// What a core keeps of a command: its game's `Handed`, and the journal's handle. The caller makes
+/// both before it locks the core. Contracts see the command.
 #[derive(Debug, Drop)]
 pub struct Handles {
     handed: Handed,
@@ -153,7 +155,7 @@ impl Model for Handles {
 }
 
 impl Handles {
-    /// Makes the handles. Fails if their number would overflow.
+    /// Makes the handles. Fails if the number of the command's handles would overflow.
     pub fn new(command: &SharedCommand) -> Result<Handles, AllocError>
         ensures { IfOk result (λ handles. handles ≡ command.now) }
     {

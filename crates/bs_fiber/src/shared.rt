@@ -24,7 +24,7 @@ impl Model for SharedCommand {
 }
 
 impl SharedCommand {
-    /// Moves the command into an allocation of its own, with one handle to it.
+    /// Moves the command into a new allocation, with one handle to it.
     pub fn new(alloc: Global, command: Command) -> Result<SharedCommand, AllocError>
         ensures { IfOk result (λ shared. shared ≡ command) }
     {
@@ -43,7 +43,7 @@ impl SharedCommand {
         })
     }
 
-    /// Whether the command has neither a setup nor moves, so that equal ones are frequent.
+    /// Whether the command has neither a setup nor moves. Equal commands of this kind are frequent.
     pub fn is_bare(&self) -> bool
         ensures { result ≡ is_bare self.now }
     {
@@ -58,9 +58,9 @@ impl SharedCommand {
         }
     }
 
-    /// Replaces this handle by one to that command, unless this is a handle to an equal bare
-    /// command: making or dropping a handle is an atomic step, which takes longer than comparing
-    /// two bare commands.
+    /// Replaces this handle by one to that command. Keeps it if the two commands are equal and
+    /// `is_bare` holds: comparing such commands takes less time than the atomic steps of making and
+    /// dropping a handle.
     pub(crate) fn hold(&mut self, command: &SharedCommand) -> Result<(), AllocError>
         ensures { OnOk result (self.new ≡ command.now) }
     {

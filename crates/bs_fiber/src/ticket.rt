@@ -72,7 +72,7 @@ impl<const CAP: usize> Ticket<CAP> {
     ghost use Rattle.bs_fiber.specs.Fit.{IsFitInput};
     ghost use Rattle.bs_fiber.specs.Tickets.{IsFresh, IsTicket, ticket_in, frames_in};
 
-    /// Makes a ticket. Requires records of legal boards, an asked record only for a `turn`, a
+    /// Makes a ticket. Requires records of legal boards, an `asked` record only for a `turn`, a
     /// charge within the quota, and for a Part or a Join an accepted move. A Part has one empty
     /// block; a Join has the moved snakes and the written block of each part.
     pub fn new(contents: Box<Contents<CAP>>) -> Ticket<CAP>

@@ -1,4 +1,5 @@
--- A move whose seats were all moved: of the game only its quota and its charge are still needed.
+-- The answer to a move from the last board with all seats moved. Besides that board it needs only
+-- the quota and the charge of the game.
 use Rattle.std.specs.Prelude.{◌≡◌, ℕ, Some, None, option_map}
 use Rattle.bs_board.specs.declared.boards.board.Board.{Board}
 use Rattle.bs_board.specs.declared.commands.command.Command.TheVariants as command

@@ -122,7 +122,7 @@ fn end() -> Answer
     }
 }
 
-/// Answers a command that `check` allows, so each board that it needs is there.
+/// Answers a command that `check` allows; so the view has each board that the answer needs.
 #[tactic(auto, using(crate::proofs::Acceptance::answered_at_once))]
 fn answer_passed(alloc: Global, view: &View, command: &Command) -> Result<Answer, AllocError>
     requires view { IsFitView view.now }
@@ -156,8 +156,8 @@ pub fn answer(alloc: Global, view: &View, command: &Command) -> Result<Answer, A
     }
 }
 
-/// The same answer to a move that `check` allows, from the last board with all its seats already
-/// moved.
+/// Answers a move that `check` allows, as `answer` does, but from the last board with all its seats
+/// already moved.
 #[tactic(auto, using(crate::proofs::Joining::moved_from))]
 pub fn joined(alloc: Global, view: &View, orders: &Move, moved: Board) -> Result<Answer, AllocError>
     requires view { IsFitView view.now }
@@ -169,7 +169,8 @@ pub fn joined(alloc: Global, view: &View, orders: &Move, moved: Board) -> Result
     joined_within(alloc, view.quota, view.charge, orders, moved)
 }
 
-/// Like `joined`, from the quota and the charge alone. Needs no board but the moved one.
+/// Like `joined`, but from the quota and the charge instead of a view: the only board needed is the
+/// moved one.
 pub fn joined_within(
     alloc: Global,
     quota: u32,

@@ -1,7 +1,7 @@
-//! The parts of an answer.
+//! An answer: a reply, and its effect on the records.
 use bs_board::{Record, Reply};
 
-/// The change of a game's records.
+/// The change that an answer makes to a game's records.
 #[derive(Debug, Drop)]
 pub enum Effect {
     /// No change.
@@ -17,7 +17,7 @@ pub enum Effect {
 /// The reply to a command, and its effect.
 #[derive(Debug, Drop)]
 pub struct Answer {
-    /// What it is answered.
+    /// The reply to the command.
     pub reply: Reply,
     /// The change of the game's records.
     pub effect: Effect,

@@ -61,7 +61,7 @@ pub held_back : (text : List ℕ) → position is_feed text ≡ None → MAX_LIN
 unfolding held_of
 held_back text none few = λ more. held_at (MAX_LINE + 1) text more none few
 
--- how a line is read does not depend on the rest of it
+-- how a line is read does not depend on the bytes after the kept ones
 
 pub by_length : {C : Type 0} (k at : ℕ) → (k ≤ at → C) → (at < k → C) → C
 by_length zero at short long = short (omega arith)

@@ -29,7 +29,7 @@ use Rattle.bs_host.specs.Transcript.{section_of, transcript_of}
 abbrev pub row_data : GameRow → Data
 row_data row = object_of ((codes "game", string row.game) ∷ (codes "quota", whole_data row.quota) ∷ [])
 
--- version 1 is left out
+-- version 1 is not written
 abbrev pub version_members : Version → List (List ℕ × Data)
 version_members One = []
 version_members Two = (codes "version", whole_data 2) ∷ []

@@ -39,7 +39,7 @@ abbrev pub refusal_of_plan : ℕ → Result Plan PlanFault → Option Fault
 refusal_of_plan blocks (Err fault) = Some (fault_of fault)
 refusal_of_plan blocks (Ok plan) = if nat_lt blocks (blocks_of_all BLOCK_BYTES plan.rows) then Some (OfPlan refusal.Short) else None
 
--- the first reason against serving the file with that many blocks
+-- the first reason against serving the file with `blocks` blocks
 unfoldable pub refusal_of : ℕ → List ℕ → Option Fault
 refusal_of blocks file = if nat_lt MOST_FILE_BYTES (length file) then Some TooLong else refusal_of_plan blocks (plan_of file)
 

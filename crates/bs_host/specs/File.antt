@@ -10,7 +10,7 @@ use Rattle.bs_json.specs.PlanLine.{plan_line_of}
 use Rattle.bs_host.specs.declared.lines.TheConstants.{LINE_FEED}
 
 -- The text after the last line feed is a piece too. In most files it is empty, and it is then read
--- as a blank line, so it needs no rule of its own.
+-- as a blank line, without a special rule.
 abbrev pub pieces_of : List ℕ → List (List ℕ)
 pieces_of file = slice_split (λ byte. byte == LINE_FEED) file
 

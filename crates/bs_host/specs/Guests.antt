@@ -51,8 +51,7 @@ found_in name (stay ∷ stays) = if bears name stay then Some stay.0 else found_
 abbrev pub blocks_in : ℕ → List (ℕ × GameRow) → ℕ
 blocks_in cap = sum_by (λ stay. blocks_of cap stay.1)
 
--- all that routing needs of the registry is determined by the open stays, and so are the open stays
--- after an act
+-- the open stays determine all that routing needs of the registry, and the open stays after an act
 pub record IsToldByOpen (cap : ℕ) (registry : List Stay) : Type 0 where
   pub named : (name : List ℕ) → stay_named registry name ≡ found_in name (open_of registry)
   pub any : (name : List ℕ) → list_any (has_name name) registry ≡ list_any (bears name) (open_of registry)

@@ -16,10 +16,9 @@ use Rattle.bs_host.specs.Faults.{refusal_of}
 use Rattle.bs_host.specs.File.{later_pieces, pieces_of, plan_in, plan_of, rows_of}
 use Rattle.bs_host.specs.Routing.{acts_in, commands_to, routes_of, stays_of}
 
--- The core has the file's plan and that many blocks, `fail` was not called, and it is idle. Its
--- stays have these rows. Its journal makes just the lines' acts, in the order of the lines, and
--- each stay is as its own lines alone leave it: one that has left keeps its last board and its
--- charge.
+-- The core has the file's plan and `blocks` blocks, `fail` was not called, and it is idle. Its
+-- stays have these rows. Its journal makes exactly the acts of the lines, in their order, and each
+-- stay is as its own lines alone leave it: one that has left keeps its last board and its charge.
 pub record HostsLines (blocks : ℕ) (plan stays : List GameRow) (routes : List (ℕ × Route)) (core : CoreView) : Type 0 where
   pub rows : core.games.rows ≡ plan
   pub made : rows_made core.games.lanes ≡ stays
@@ -29,11 +28,11 @@ pub record HostsLines (blocks : ℕ) (plan stays : List GameRow) (routes : List 
   pub acted : acts_of core.journal ≡ acts_in routes
   pub served : (stay : ℕ) → stay < length stays → IsServedAlone (row_at stays stay) (commands_to stay routes) (lane_of core.games.lanes stay)
 
--- the same for a file's plan, its stays and its lines
+-- a core that has answered a file: its plan, its stays and its lines
 abbrev pub Hosts : ℕ → List ℕ → CoreView → Type 0
 Hosts blocks file = HostsLines blocks (rows_of file) (stays_of blocks file) (routes_of blocks file)
 
--- the file is not refused; the core is opened with its plan and that many blocks; the lines are
+-- the file is not refused; the core is opened with its plan and `blocks` blocks; the lines are
 -- those after the plan
 pub record IsOpened (blocks : ℕ) (file : List ℕ) (core : CoreView) (plan : Plan) (lines : List (List ℕ)) : Type 0 where
   pub served : refusal_of blocks file ≡ None

@@ -1,6 +1,6 @@
 -- What a live host writes: the answer to each line, in the order of the lines; at the end of the
--- input the final lines of the open stays. It depends on the lines alone, and the answer to a line
--- on the lines up to it: not on when they arrived.
+-- input the final lines of the open stays. The answer to a line depends on the lines up to it
+-- alone, and not on when they arrived.
 use Rattle.std.specs.Prelude.{◌≡◌, ◌≢◌, ℕ, ◌+◌, ◌<◌, ◌≤◌, Ok, nat_eq, not, Bool, true, false, if◌then◌else◌, List, [], ◌∷◌, ◌++◌, length, map, take, slice_index_or, All, AllPairs, Option}
 use Rattle.std.specs.List.{enumerate_from, filter, filter_map, flat_map, list_any}
 use Rattle.std.specs.Io.KnownBytes.{Appends}
@@ -80,7 +80,7 @@ unfoldable pub answer_behind : ℕ → Version → List GameRow → List (List �
 answer_behind blocks version plan before text =
     route_line plan (acts_behind blocks version plan before) (2 + length before) (route_behind blocks version plan before text)
 
--- the answers to these lines, which follow those
+-- the answers to `lines`, which follow the lines `before`
 abbrev pub answers_from : ℕ → Version → List GameRow → List (List ℕ) → List (List ℕ) → List ℕ
 answers_from blocks version plan before [] = []
 answers_from blocks version plan before (text ∷ lines) =
@@ -104,7 +104,7 @@ live_of blocks file = live_lines_of blocks (version_of file) (rows_of file) (lat
 
 -- The state of a live host that has answered some lines: it keeps the open stays only.
 
--- The core has that row alone, was given just these commands, and is idle.
+-- The core has that row alone, was given exactly these commands, and is idle.
 pub record IsCoreOf (row : GameRow) (commands : List Command) (core : CoreView) : Type 0 where
   pub is_row : core.games.rows ≡ row ∷ []
   pub acted : acts_of core.journal ≡ map (λ command. act.Hand 0 command) commands
@@ -115,7 +115,7 @@ pub record IsPlayed (plan : List GameRow) (acts : List Act) (game : ℕ × CoreV
   pub made : game.0 < length (rows_behind plan acts)
   pub fed : IsCoreOf (row_at (rows_behind plan acts) game.0) (commands_given game.0 acts) game.1
 
--- such stays, with distinct numbers
+-- the numbers and the cores of stays, the numbers being distinct
 pub record ArePlayed (plan : List GameRow) (acts : List Act) (games : List (ℕ × CoreView)) : Type 0 where
   pub all : All (IsPlayed plan acts) games
   pub apart : AllPairs (λ a b. a.0 ≢ b.0) games
@@ -147,7 +147,7 @@ finds_core (route.Act (act.Leave stay)) games = has_core stay games
 finds_core (route.Stray kind) games = true
 finds_core route.Nowhere games = true
 
--- the numbers of the cores after a line; a stay that it admits gets that number
+-- the numbers of the cores after a line; a stay that it admits gets the number `made`
 abbrev pub numbers_then : ℕ → List ℕ → Route → List ℕ
 numbers_then made numbers (route.Act (act.Hand stay command)) = numbers
 numbers_then made numbers (route.Act (act.Admit row)) = numbers ++ made ∷ []
@@ -165,19 +165,19 @@ pub record HasAnswered (blocks : ℕ) (version : Version) (plan : List GameRow) 
 unfoldable pub held_of : List ℕ → List ℕ
 held_of = take (MAX_LINE + 1)
 
--- whatever follows the two texts, the same is kept of their lines
+-- the lines of both texts have the same kept bytes, whatever text follows them
 abbrev pub IsSameText : List ℕ → List ℕ → Type 0
 IsSameText old new = (more : List ℕ) → map held_of (pieces_of (old ++ more)) ≡ map held_of (pieces_of (new ++ more))
 
--- A text split at a line feed, whatever follows it: at the first one, and at any.
+-- A text is split at its first line feed, or at any one; this holds whatever text follows it.
 abbrev pub IsCutFirst : List ℕ → List ℕ → List ℕ → Type 0
 IsCutFirst text first rest = (more : List ℕ) → pieces_of (text ++ more) ≡ first ∷ pieces_of (rest ++ more)
 
 abbrev pub IsCutLast : List ℕ → List ℕ → List ℕ → Type 0
 IsCutLast text front back = (more : List ℕ) → pieces_of (text ++ more) ≡ pieces_of front ++ pieces_of (back ++ more)
 
--- Of the bytes after the plan's line some are answered, and their answers, of `count` bytes, are
--- written; the others are pending.
+-- Some lines after the plan's line are answered, and their answers, `count` bytes, are written; the
+-- bytes after these lines are pending.
 pub record IsServing (blocks : ℕ) (version : Version) (plan : List GameRow) (after pending : List ℕ) (old new : Option (List ℕ)) (count : ℕ) (games : List (ℕ × CoreView)) (guests : GuestList) (number : ℕ) : Type 0 where
   pub done : List (List ℕ)
   pub parts : (more : List ℕ) → map held_of (pieces_of (after ++ more)) ≡ map held_of done ++ map held_of (pieces_of (pending ++ more))
@@ -185,7 +185,7 @@ pub record IsServing (blocks : ℕ) (version : Version) (plan : List GameRow) (a
   pub written : Appends old new (answers_from blocks version plan [] done)
   pub counted : count ≡ length (answers_from blocks version plan [] done)
 
--- Of these lines, which follow `before`, some are answered; the others are left.
+-- Some of the lines `all`, which follow `before`, are answered; those in `left` are not.
 pub record AreAnswered (blocks : ℕ) (version : Version) (plan : List GameRow) (before all left : List (List ℕ)) (old new : List ℕ) (games : List (ℕ × CoreView)) (guests : GuestList) (number : ℕ) : Type 0 where
   pub done : List (List ℕ)
   pub parts : all ≡ done ++ left
@@ -219,7 +219,7 @@ is_stray (route.Act a) = false
 is_stray (route.Stray kind) = true
 is_stray route.Nowhere = false
 
--- the answers to those of these lines whose route passes the test, in order
+-- the answers to those of the lines whose route passes the test, in order
 abbrev pub some_answers : (Route → Bool) → ℕ → Version → List GameRow → List (List ℕ) → List (List ℕ) → List ℕ
 some_answers which blocks version plan before [] = []
 some_answers which blocks version plan before (text ∷ lines) =
@@ -239,8 +239,8 @@ own_live_of blocks file stay =
 abbrev pub stray_live_of : ℕ → List ℕ → List ℕ
 stray_live_of blocks file = some_answers is_stray blocks (version_of file) (rows_of file) [] (later_pieces (pieces_of file))
 
--- A live host writes for a stay its section of the transcript, byte for byte; what it writes for no
--- stay is the stray lines.
+-- What a live host writes for a stay is the stay's section of the transcript, byte for byte; what
+-- it writes for no stay is the stray lines.
 pub record IsSectioned (blocks : ℕ) (file : List ℕ) : Type 0 where
   pub sections : (stay : ℕ) → stay < length (stays_of blocks file)
       → own_live_of blocks file stay ≡ section_of (row_at (stays_of blocks file) stay) (commands_of blocks file stay)

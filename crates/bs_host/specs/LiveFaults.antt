@@ -26,7 +26,7 @@ abbrev pub live_fault_of_run : Run → LiveFault
 live_fault_of_run run.Memory = live.Memory
 live_fault_of_run run.Broken = live.Broken
 
--- the first reason against serving the file live with that many blocks: a live host refuses only
+-- the first reason against serving the file live with `blocks` blocks: a live host refuses only
 -- plans
 abbrev pub live_refusal_of : ℕ → List ℕ → Option Fault
 live_refusal_of blocks file = refusal_of_plan blocks (plan_of file)
@@ -72,9 +72,9 @@ pub record HasFirstAnswers (blocks : ℕ) (version : Version) (plan : List GameR
   pub few : count ≤ length lines
   pub written : Appends old new (first_answers blocks version plan lines count)
 
--- After a fault that comes after the plan's line, whole answers are written. If a writer failed, it
--- has a proper prefix of the answers, of the length that the fault gives; if the last flush failed,
--- all.
+-- After a fault that comes after the plan's line, whole answers are written. If the writer failed,
+-- it has a proper prefix of the answers, of the length that the fault gives. If the last flush
+-- failed, it has all answers.
 abbrev pub LeavesLines : ℕ → Version → List GameRow → List (List ℕ) → Option (List ℕ) → Option (List ℕ) → LiveFault → Type 0
 LeavesLines blocks version plan lines old new live.Device = HasFirstAnswers blocks version plan lines old new
 LeavesLines blocks version plan lines old new (live.Plan reason) = ⊥

@@ -26,8 +26,8 @@ use Rattle.bs_host.specs.File.{pieces_of, later_pieces, rows_of, version_of}
 
 -- One line.
 
--- The core's refusal of an admission as the kind of a stray line. The host never refuses one for
--- want of memory.
+-- The stray line for a core's refusal of an admission. The host never refuses one because memory
+-- ran out.
 abbrev pub stray_for : Option Admit → Option Stray
 stray_for None = None
 stray_for (Some admit.NameOpen) = Some stray.NameOpen
@@ -78,7 +78,7 @@ next_registry capacity version registry text = registry_then registry (route_at 
 abbrev pub registry_behind : Capacity → Version → List Stay → List (List ℕ) → List Stay
 registry_behind capacity version = fold (next_registry capacity version)
 
--- the routes of lines that are numbered from that number on
+-- the routes of lines; the first line has the number `number`
 abbrev pub routes_from : Capacity → Version → List Stay → ℕ → List (List ℕ) → List (ℕ × Route)
 routes_from capacity version registry number [] = []
 routes_from capacity version registry number (text ∷ lines) =
@@ -163,13 +163,13 @@ abbrev pub until_leave : Version → List ℕ → List (List ℕ) → List (List
 until_leave version name [] = []
 until_leave version name (text ∷ lines) = if is_leave_of name (line_of version text) then [] else text ∷ until_leave version name lines
 
--- the lines after the one that opens that stay; all, if it is there before
+-- the lines after the one that opens that stay; all lines, if the stay is open before them
 abbrev pub behind_admit : Capacity → Version → List Stay → ℕ → List (List ℕ) → List (List ℕ)
 behind_admit capacity version registry stay [] = []
 behind_admit capacity version registry stay (text ∷ lines) =
     if nat_lt stay (length registry) then text ∷ lines else behind_admit capacity version (next_registry capacity version registry text) stay lines
 
--- the requests are those of the lines
+-- the requests are the acts and the strays of these routes
 pub record IsRouted (routes : List (ℕ × Route)) (requests : Requests) : Type 0 where
   pub acts : requests.acts.items ≡ acts_in routes
   pub strays : requests.strays.items ≡ strays_in routes

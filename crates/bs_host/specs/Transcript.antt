@@ -17,8 +17,8 @@ course_lines_of name course = reply_lines_of name course.replies ++ last_line_of
 unfoldable pub section_of : GameRow → List Command → List ℕ
 section_of row commands = course_lines_of row.game (alone row commands)
 
--- the transcript of a file with that many blocks: the section of each stay, in the order of their
--- rows, then the strays
+-- the transcript of a file that is served with `blocks` blocks: the section of each stay, in the
+-- order of their rows, then the strays
 unfoldable pub transcript_of : ℕ → List ℕ → List ℕ
 transcript_of blocks file =
     flat_map (λ stay. section_of stay.1 (commands_of blocks file stay.0)) (enumerate_from 0 (stays_of blocks file))

@@ -34,7 +34,8 @@ fn lone_games(alloc: Global, row: &Row) -> Result<Value, AllocError>
     json!(in alloc; [{"game": row.game.as_str(), "quota": row.quota}])
 }
 
-/// The plan of that version with this row alone. Version 1 is not written.
+/// Makes the plan of that version with this row alone. A plan of version 1 does not name its
+/// version.
 #[tactic(auto, unfolding(crate::specs::Cut::lone_plan_data))]
 fn lone_plan(alloc: Global, version: Version, row: &Row) -> Result<Value, AllocError>
     ensures { IfOk result (λ plan. view plan ≡ lone_plan_data version row.now) }
@@ -130,8 +131,8 @@ fn cut_to(
     Ok(text)
 }
 
-/// A search for a stay by its game's name and by the number of stays of that name to pass, itself
-/// included.
+/// A search for a stay by its game's name. `left` is the number of rows of that name still to be
+/// seen, that of the stay included.
 #[derive(Drop)]
 struct Search<'n> {
     name: &'n Id,
@@ -139,7 +140,7 @@ struct Search<'n> {
 }
 
 impl Search<'_> {
-    /// Whether the next row is that of the stay.
+    /// Whether the row is that of the stay. Counts the row if it has the name.
     fn is_found_in(&mut self, row: &Row) -> bool
         ensures found { result ≡ (is_same_text self.old.name.now row.now.game && nat_eq self.old.left 1) }
         ensures left { self.new.left ≡ (if is_same_text self.old.name.now row.now.game then self.old.left - 1 else self.old.left) }
@@ -193,7 +194,7 @@ fn find_admitted(
     Ok(None)
 }
 
-/// Finds the `nth` stay of that name, from 1 on: its number and its row.
+/// Finds the `nth` stay of that name, counted from 1. Returns its number and its row.
 #[tactic(auto, using(crate::proofs::FoundLines::passed_planned))]
 fn find_stay(
     alloc: Global,
@@ -218,18 +219,18 @@ fn find_stay(
     }
 }
 
-/// Whether the plan reserves more than that many blocks. Judged only in versions with stays, where
-/// the blocks decide which games are admitted.
+/// Whether the plan reserves more than `blocks` blocks. Always false in versions without stays,
+/// where the blocks do not decide which games are admitted.
 fn is_too_small(plan: &Plan, blocks: usize) -> bool
     ensures { result ≡ is_too_small blocks plan.now }
 {
     plan.version.has_stays() && blocks_of_all(BLOCK_BYTES, plan.rows.as_slice()) > blocks
 }
 
-/// Makes the file of one stay alone: a plan of the same version with its row alone, then its lines,
-/// unchanged, each after a line feed. `stay` counts from 1 among the stays of that name of the
-/// file, which is served with that many blocks. Checks the file's length, its plan, in version 3
-/// the number of blocks, and the stay, and returns the first fault.
+/// Makes the file of one stay alone: a plan of the same version with its row alone, then its own
+/// lines, unchanged, each after a line feed. `stay` counts from 1 among the stays of that name, of
+/// the file as it is served with `blocks` blocks. Checks the file's length, its plan, in version 3
+/// the number of blocks, and the stay, in this order, and returns the first fault.
 #[tactic(auto, using(crate::proofs::CutFile::refusal_of_long, crate::proofs::CutFile::refusal_of_first, crate::proofs::CutRefusals::none_against, crate::proofs::CutRefusals::too_small, crate::proofs::CutRefusals::not_there))]
 pub fn cut(
     alloc: Global,

@@ -179,8 +179,8 @@ impl Guests {
         }
     }
 
-    /// Routes a parsed line of a file that is served with that many blocks, and admits or dismisses
-    /// its game.
+    /// Routes a parsed line of a file that is served with `blocks` blocks. Opens the stay that the
+    /// line admits, and closes the stay that it dismisses.
     pub(crate) fn route(
         &mut self,
         alloc: Global,

@@ -77,7 +77,7 @@ fn lacks_feed(text: &[u8]) -> bool
     first_feed(text).is_none()
 }
 
-/// Drops the pending bytes after the first 65,537 if these have no line feed: the line is too long,
+/// Drops the pending bytes after the first 65,537 if there is no line feed: the line is too long,
 /// whatever follows.
 #[tactic(auto, using(crate::proofs::LiveHeld::same_text))]
 fn hold_line(pending: &mut Vec<u8>)
@@ -223,10 +223,10 @@ pub fn serve_live<R: Read, W: Write>(
     }
 }
 
-/// States that the lines that a live host writes for a stay are the stay's section of the
-/// transcript, for every file, number of blocks and stay, and that it writes the same stray lines;
-/// so the transcript is its output, sorted by stays; and that later lines do not change what is
-/// written for earlier ones. Does nothing.
+/// States for every file, number of blocks and stay: the lines that a live host writes for a stay
+/// are the stay's section of the transcript, and it writes the same stray lines; so the transcript
+/// is the output sorted by stays. Later lines do not change what is written for earlier ones. Does
+/// nothing.
 pub fn live_law()
     ensures sections { LiveLaw }
     ensures transcript { TranscriptLaw }

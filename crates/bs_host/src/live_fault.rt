@@ -12,7 +12,7 @@ use thiserror::Error;
 /// Why a live host stopped before the end of its input was answered.
 #[derive(Debug, Drop, Error)]
 pub enum LiveFault {
-    /// The reader returned an error, also an interruption.
+    /// The reader returned an error; an interruption is an error too.
     #[error("cannot read the file")]
     Device,
     #[error("plan {0}")]

@@ -1,4 +1,4 @@
-//! A core of a single stay: it is opened, given commands, and shown.
+//! A core of a single stay: opens it, answers its commands, and writes its lines.
 ghost use Rattle.std.specs.Prelude.{◌≡◌, ◌<◌, [], ◌∷◌, ◌++◌, List, length, IfOk, OnOk};
 ghost use Rattle.bs_board.specs.declared.commands.command.Command.{Command};
 ghost use Rattle.bs_board.specs.plans.Plan.{GameRow};
@@ -37,7 +37,7 @@ fn push_reply(alloc: Global, core: &Core<BLOCK_BYTES>, text: &mut Vec<u8>) -> Re
     Ok(())
 }
 
-/// The final line of the core's stay.
+/// Makes the final line of the core's stay.
 #[tactic(auto, using(bs_json::proofs::Puts::put_measured))]
 fn last_line(alloc: Global, core: &Core<BLOCK_BYTES>) -> Result<Vec<u8>, AllocError>
     requires { 0 < length core.now.games.lanes }
@@ -101,7 +101,7 @@ pub(crate) fn open_core(
     Ok(core)
 }
 
-/// Gives the command to the core's stay, and appends its reply.
+/// Answers the command in the core's stay, and appends its reply.
 pub(crate) fn answer_command(
     alloc: Global,
     core: &mut Core<BLOCK_BYTES>,

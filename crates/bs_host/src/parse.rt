@@ -12,7 +12,7 @@ use bs_json::{Line, Stray, read_line};
 use std::alloc::{AllocError, Global};
 use std::thread::{Threads, join};
 
-/// A parsed line of a file, by the line's bytes and the plan's version alone.
+/// A parsed line of a file. It depends on the line's bytes and on the plan's version alone.
 #[derive(Debug, Drop)]
 pub enum ParsedLine {
     /// A command for the game of that name.
@@ -27,8 +27,8 @@ pub enum ParsedLine {
     Blank,
 }
 
-/// Allocates the command, or shares the command of the line before if that is equal and has neither
-/// setup nor moves.
+/// Allocates the command; or shares the command of the line before, if both are equal and have
+/// neither setup nor moves.
 #[inline(always)]
 fn to_shared(
     alloc: Global,
@@ -88,7 +88,7 @@ fn parse_share(alloc: Global, version: Version, text: &[u8]) -> Result<Vec<Parse
     Ok(lines)
 }
 
-/// The fewest bytes in a share: parsing them takes a few times as long as starting a thread.
+/// The least size of a share, in bytes: parsing it takes a few times as long as starting a thread.
 const FEWEST_BYTES: usize = 32_768;
 
 /// Splits a text in two near its middle, at a line feed; each half is for half of the threads.

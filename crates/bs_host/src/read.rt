@@ -9,14 +9,14 @@ use thiserror::Error;
 
 const BLOCK: usize = 65_536;
 
-/// The capacity that is reserved at once: the largest number of bytes that is ever read. Reserved
-/// memory costs nothing until it is written, and the bytes read are never moved.
+/// The capacity that is reserved at the start: the largest number of bytes that is ever read.
+/// Reserved memory costs nothing until it is written, and the bytes read are never moved.
 const ROOM: usize = MOST_FILE_BYTES + BLOCK;
 
 /// Why a command file was not read.
 #[derive(Debug, Drop, Error)]
 pub enum ReadFault {
-    /// The reader returned an error, also an interruption.
+    /// The reader returned an error; an interruption is an error too.
     #[error("cannot read the file")]
     Device,
     #[error("file too long")]
@@ -25,8 +25,8 @@ pub enum ReadFault {
     Memory,
 }
 
-/// Reads all bytes that the reader has left, at most 16,777,216. After an error it is not specified
-/// how many were taken.
+/// Reads all bytes that the reader has left. `TooLong` if they are more than 16,777,216. After an
+/// error the number of bytes taken from the reader is unspecified.
 pub fn read_input<R: Read>(alloc: Global, input: &mut R) -> Result<Vec<u8>, ReadFault>
     ensures all { IfOk result (λ bytes. IfSome (R.remaining input.old) (λ left. bytes.items ≡ left)) }
     ensures end { OnOk result (IsAtEnd (R.remaining input.new)) }

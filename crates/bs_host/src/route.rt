@@ -49,8 +49,8 @@ fn push_route(requests: &mut Requests, number: u64, route: Route) -> Result<(), 
     Ok(())
 }
 
-/// Routes the lines after the plan of a file that is served with that many blocks, in order. The
-/// blocks, the plan and these lines alone determine which games are admitted.
+/// Routes the lines after the plan of a file in their order. The file is served with `blocks`
+/// blocks; these, the plan and the lines alone determine which games are admitted.
 #[tactic(auto, using(crate::proofs::ParsedLines::none_read, crate::proofs::ParsedLines::goes_on, crate::proofs::ParsedLines::all_read))]
 pub(crate) fn route_lines(
     alloc: Global,

@@ -29,12 +29,13 @@ use std::thread::Threads;
 /// The largest number of threads. If more are requested, this many are used.
 const MOST_THREADS: usize = 1_024;
 
-/// The largest number of workers of a thread. With 16 jobs between two critical sections, the time
-/// at the lock is small beside them.
+/// The largest number of workers of a thread. With 16 jobs between two critical sections, a thread
+/// spends little of its time at the lock.
 const MOST_WORKERS_OF_THREAD: usize = 16;
 
-/// The number of workers of a core for that plan. Each thread has as many workers as there may be
-/// games for it at once, from 1 to 16, so that all games advance together. A single thread has one.
+/// The number of workers of a core for that plan. Each thread has as many as games may be open,
+/// divided by the number of threads, but at least 1 and at most 16, so that all games advance
+/// together. A single thread has one.
 #[tactic(auto, using(crate::proofs::HostedCore::few_workers))]
 fn count_workers(plan: &Plan, threads: usize) -> usize
     requires { threads ≤ MOST_THREADS }
@@ -91,9 +92,9 @@ fn read_requests<R: Threads + Sync>(
 
 /// Serves a command file with `blocks` blocks of memory and `workers` threads, the caller's
 /// included: a core answers each game's commands in the order of their lines, then the transcript
-/// is written, through a buffer of 64 KiB and the longest line. Before each job the gate is
-/// consulted, with the thread's number. Every fault but a writer's is found before anything is
-/// written, and no memory is asked for from then on. Returns the core.
+/// is written, through a buffer of 64 KiB and the longest line. `gate` is consulted before each
+/// job, with the thread's number. After every fault but a writer's the writer is unchanged, and
+/// nothing is allocated once the first byte is written. Returns the core.
 pub fn serve<R: Threads + Wait + Sync, G: Gate, W: Write>(
     rt: &R,
     alloc: Global,

@@ -75,7 +75,7 @@ impl StayCores {
         Ok(StayCores { open, spent: None })
     }
 
-    /// Gives the command to the open stay of that number, and appends its reply.
+    /// Answers the command in the open stay of that number, and appends its reply.
     pub(crate) fn hand(
         &mut self,
         alloc: Global,

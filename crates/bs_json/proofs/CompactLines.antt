@@ -54,7 +54,7 @@ read_printed d numbers shallow =
 
 -- ---- a plain text needs no escape
 
--- a byte with a meaning of its own is not plain
+-- a plain byte differs from each byte that is not plain
 is_other_byte : (byte other : ℕ) → is_plain other ≡ false → is_plain byte ≡ true → byte ≡ other → ⊥
 is_other_byte byte other marked plain same = let kept = subst (λ b. is_plain b ≡ true) same plain in cc
 
@@ -73,7 +73,7 @@ escape_plain (byte ∷ text) plain =
 
 -- ---- the members of a move
 
--- in their order, which `put` keeps where the ids ascend
+-- in their order, which `put` keeps since the ids ascend
 abbrev moves_members : List (List ℕ × Direction) → Members
 moves_members [] = no_members
 moves_members (move ∷ moves) = member move.0 (string (direction_name move.1)) (moves_members moves)

@@ -3,6 +3,7 @@ pub mod CompactBytes
 pub mod CompactLines
 pub mod CutTexts
 pub mod Floats
+pub mod LineBounds
 pub mod Lines
 pub mod Puts
 pub mod ReplyText

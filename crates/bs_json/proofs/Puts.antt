@@ -1,4 +1,4 @@
--- Pieces that are put one behind the other.
+-- Pieces that are appended one after the other.
 use Rattle.std.proofs.Common.{◌≡◌, ℕ, suc, ◌+◌, ◌-◌, ◌^◌, ◌≤◌, ◌<◌, List, [], ◌∷◌, ◌++◌, length, take, drop, min, refl, sym, ap, ap₂, ◌∙◌, append_assoc, length-append, take-append-drop, arith}
 use Rattle.std.proofs.lemmas.Bool.{le-ltb, lt-ltb}
 use Rattle.std.proofs.lemmas.List.{append-nil, length-take-le}
@@ -20,7 +20,7 @@ byte_counted : (text : Text) (byte : ℕ) → text.room ≤ length text.bytes
     → put_byte text byte ≡ record { bytes = text.bytes; missing = min (text.missing + 1) (2 ^ 64 - 1); room = text.room }
 byte_counted text byte full = rw (le-ltb (length text.bytes) text.room full) refl
 
--- a piece that finds room
+-- a piece for which there is room
 pub put_whole : (text : Text) (piece : List ℕ) → length text.bytes + length piece ≤ text.room
     → put text piece ≡ record { bytes = text.bytes ++ piece; missing = text.missing; room = text.room }
 unfolding put
@@ -32,7 +32,7 @@ put_whole text (byte ∷ piece) fits =
     ∙ put_whole more piece (omega (arith, fits, longer))
     ∙ ap (λ bytes. record { bytes = bytes; missing = text.missing; room = text.room }) (append_assoc text.bytes (byte ∷ []) piece)
 
--- a piece behind a room that is full
+-- a piece for which there is no room at all
 pub put_full : (text : Text) (piece : List ℕ) → text.room ≤ length text.bytes → text.missing < 2 ^ 64
     → put text piece ≡ record { bytes = text.bytes; missing = min (text.missing + length piece) (2 ^ 64 - 1); room = text.room }
 unfolding put
@@ -52,7 +52,7 @@ put_counted piece =
     let plain : min (0 + length piece) (2 ^ 64 - 1) ≡ min (length piece) (2 ^ 64 - 1) = omega arith in
     ap (λ (t : Text). t.missing) (put_full (blank 0) piece (omega arith) (omega arith)) ∙ plain
 
--- a piece in the room that it was found to need
+-- a piece that was counted first, and then put into a buffer of that capacity
 pub put_measured : (piece : List ℕ) (counted line : Text) (room : ℕ) → counted ≡ put (blank 0) piece → room ≡ counted.missing → room < 2 ^ 63
     → line ≡ put (blank room) piece → line.bytes ≡ piece
 put_measured piece counted line room counts is few puts =
@@ -60,7 +60,7 @@ put_measured piece counted line room counts is few puts =
     let fits : 0 + length piece ≤ room = omega (arith, long, few) in
     ap (λ (t : Text). t.bytes) (puts ∙ put_whole (blank room) piece fits)
 
--- a piece of which the front fills the room
+-- a piece whose first bytes fill the buffer
 pub put_part : (text middle : Text) (piece front rest : List ℕ) (left missing : ℕ) → front ≡ take left piece → rest ≡ drop left piece → left ≤ length piece
     → left + length text.bytes ≡ text.room → middle ≡ put text front → middle.missing < 2 ^ 64 → missing ≡ min (middle.missing + length rest) (2 ^ 64 - 1)
     → record { bytes = middle.bytes; missing = missing; room = middle.room } ≡ put text piece

@@ -70,7 +70,7 @@ cells_back : (raised : ℕ) (cells : List Point) → AllByRecursion (IsByteCell 
 cells_back raised [] fits = refl
 cells_back raised (p ∷ cells) fits = rw (raised_again p.x raised fits.0.x.0, raised_again p.y raised fits.0.y.0, cells_back raised cells fits.1) refl
 
--- the bytes stand for those cells
+-- cells are decoded from their own bytes
 pub cells_again : (raised : ℕ) (cells : List Point) (bytes : List ℕ) → All (IsByteCell raised) cells → bytes ≡ flat_map (cell_bytes raised) cells → cells_of raised bytes ≡ cells
 cells_again raised cells bytes fits is = ap (cells_of raised) is ∙ cells_back raised cells (recursion_from_All (IsByteCell raised) cells fits)
 

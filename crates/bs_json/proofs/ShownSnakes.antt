@@ -20,12 +20,12 @@ use Rattle.bs_json.specs.Text.{Text, put}
 use Rattle.bs_json.proofs.Puts.{put_put}
 use Rattle.bs_json.proofs.ShownCells.{cells_again}
 
--- ---- what the parts of a record tell
+-- ---- the snakes and the board in the bytes of a record
 
 pub is_snake : (s : Snake) (parts : SnakeBytes) → IsWritable s → IsSnakeBytes s parts → snake_of parts ≡ s
 is_snake s parts fits is =
     let body = cells_again 1 s.body parts.body.now fits.cells is.body in
-    rw (is.id, is.health, is.cause, is.killer, is.out, body) refl
+    rw (is.id, is.health, is.cause, is.killer, is.out fits, body) refl
 
 pub is_board : (b : Board) (parts : BoardBytes) → IsWritableBoard b → IsBoardBytes b parts → board_of parts b.snakes ≡ b
 is_board b parts fits is =
@@ -34,7 +34,7 @@ is_board b parts fits is =
 
 -- ---- one snake
 
-snake_is : (snakes : List Snake) (s : Snake) → snake_pieces (killer_data snakes s.killer) s ≡ compact_text (snake_data snakes s)
+pub snake_is : (snakes : List Snake) (s : Snake) → snake_pieces (killer_data snakes s.killer) s ≡ compact_text (snake_data snakes s)
 unfolding escape_byte snake_data
 snake_is snakes s = refl
 
@@ -49,7 +49,7 @@ snake_text snakes s parts by fits is by_is =
 pub nobody : Snake
 nobody = record { id = []; body = []; health = 0; cause = None; killer = None; out = None }
 
--- the record of the snake at i stands before those of the snakes behind it
+-- the record of the snake at i precedes those of the snakes after it
 pub split_at : (all : List Snake) (i : ℕ) (left : List ℕ) → i < length all → left ≡ flat_map snake_record (drop i all)
     → left ≡ snake_record (get_or all i nobody) ++ flat_map snake_record (drop (i + 1) all)
 split_at all i left within is = is ∙ ap (flat_map snake_record) (drop_more all i nobody within)
@@ -76,15 +76,15 @@ regroup_board : (a food b chance c height d min e mode f over g snakes back : Li
 regroup_board a food b chance c height d min e mode f over g snakes back = simp append_assoc
 
 -- the members up to the snakes, the snakes, and what follows them
-board_is : (b : Board) → front_pieces (is_over b) b ++ (compact_text (snakes_data b.snakes) ++ back_pieces b) ≡ compact_text (board_data b)
+pub board_is : (b : Board) → front_pieces (is_over b) b ++ (compact_text (snakes_data b.snakes) ++ back_pieces b) ≡ compact_text (board_data b)
 unfolding escape_byte board_data
 board_is b =
     regroup_board (codes "{\"food\":") (compact_text (cells_data b.food)) (codes ",\"food_chance\":") (decimal b.chance) (codes ",\"height\":") (decimal b.height)
     (codes ",\"min_food\":") (decimal b.min_food) (codes ",\"mode\":") (compact_text (string (mode_text b.mode))) (codes ",\"over\":") (compact_text (boolean (is_over b)))
     (codes ",\"snakes\":") (compact_text (snakes_data b.snakes)) (back_pieces b)
 
-pub board_text : (b : Board) (parts : BoardBytes) → IsWritableBoard b → IsBoardBytes b parts
-    → front_pieces parts.over (board_of parts []) ++ (compact_text (snakes_data b.snakes) ++ back_pieces (board_of parts [])) ≡ compact_text (board_data b)
-board_text b parts fits is =
+pub board_text : (b : Board) (parts : BoardBytes) (over : Bool) → IsWritableBoard b → IsBoardBytes b parts → over ≡ is_over b
+    → front_pieces over (board_of parts []) ++ (compact_text (snakes_data b.snakes) ++ back_pieces (board_of parts [])) ≡ compact_text (board_data b)
+board_text b parts over fits is over_is =
     let pieces = λ (over : Bool) (shown : Board). front_pieces over shown ++ (compact_text (snakes_data b.snakes) ++ back_pieces shown) in
-    ap (λ over. pieces over (board_of parts b.snakes)) is.over ∙ ap (pieces (is_over b)) (is_board b parts fits is) ∙ board_is b
+    ap (λ over. pieces over (board_of parts b.snakes)) over_is ∙ ap (pieces (is_over b)) (is_board b parts fits is) ∙ board_is b

@@ -1,4 +1,4 @@
--- The pieces from which the JSON text of a board is put together.
+-- The pieces of a board's JSON text.
 use Rattle.std.specs.Prelude.{ℕ, ℤ, codes, decimal, List, [], ◌∷◌, ◌++◌, Bool, Option, Some, None, pos, ◌-ℤ◌}
 use Rattle.serde_json.specs.Data.{Data, null, boolean, string}
 use Rattle.serde_json.specs.Find.{of_integer}
@@ -10,7 +10,7 @@ use Rattle.bs_board.specs.declared.records.layout.BoardBytes.{BoardBytes}
 use Rattle.bs_board.specs.declared.records.layout.SnakeBytes.{SnakeBytes}
 use Rattle.bs_json.specs.Boards.{cause_data, cells_data, mode_text, out_data}
 
--- ---- what the bytes of a record tell
+-- ---- the board in the bytes of a record
 
 abbrev pub cell_of : ℕ → ℕ → ℕ → Point
 cell_of raised x y = record { x = pos x -ℤ pos raised; y = pos y -ℤ pos raised }

@@ -26,7 +26,7 @@ direction_name Right = codes "right"
 abbrev pub move_text : List ℕ × Direction → List ℕ
 move_text move = codes "\"" ++ (move.0 ++ (codes "\":\"" ++ (direction_name move.1 ++ codes "\"")))
 
--- a comma before each, but before the first only if an entry was written before
+-- each move after a comma; the first one has a comma only if an entry was written before it
 abbrev pub moves_text : Bool → List (List ℕ × Direction) → List ℕ
 moves_text later [] = []
 moves_text later (move ∷ moves) = comma_if later ++ (move_text move ++ moves_text true moves)

@@ -1,7 +1,8 @@
--- Text that is put together piece by piece in a room of fixed size.
+-- Text that is appended piece by piece, with a fixed capacity.
 use Rattle.std.specs.Prelude.{ℕ, ◌+◌, ◌-◌, ◌^◌, List, [], ◌∷◌, ◌++◌, if◌then◌else◌, length, min, nat_lt}
 
--- The bytes that found room, the number of those that did not, at most 2 ^ 64 - 1, and the room.
+-- The stored bytes, the number of bytes for which there was no room (at most 2 ^ 64 - 1), and the
+-- capacity in bytes.
 pub record Text : Type 0 where
   pub bytes : List ℕ
   pub missing : ℕ

@@ -1,4 +1,4 @@
-//! The JSON value of a board, and the words in it.
+//! The JSON value of a board, and the texts of its mode and of causes.
 ghost use Rattle.std.specs.Prelude.{◌≡◌, IfOk, option_and_then, slice_get};
 ghost use Rattle.std.specs.Option.{option_copied};
 ghost use Rattle.serde_json.specs.View.{view};
@@ -126,7 +126,7 @@ pub fn is_over(board: &Board) -> bool
     }
 }
 
-/// Makes the JSON value of a board in a reply.
+/// Makes the JSON value of a board, as a reply shows it.
 #[tactic(auto, unfolding(crate::specs::Boards::board_data))]
 pub fn board_value(alloc: Global, board: &Board) -> Result<Value, AllocError>
     ensures { IfOk result (λ v. view v ≡ board_data board.now) }

@@ -25,7 +25,7 @@ pub(crate) fn is_plain(byte: u8) -> bool
     32 <= byte && byte < 127 && byte != b'"' && byte != b'\\'
 }
 
-/// Strips the text from the front of the line.
+/// Strips the text from the start of the line. `None` if the line does not start with it.
 #[tactic(auto, using(crate::proofs::CutTexts::behind_prefix))]
 fn behind<'l>(line: &'l [u8], text: &[u8]) -> Option<&'l [u8]>
     ensures { IfSome result (λ rest. line.now ≡ text.now ++ rest.now) }
@@ -129,7 +129,7 @@ fn are_shortest(digits: &[u8]) -> bool
     are_digits(digits) && (digits.len() <= 1 || digits[0] != b'0')
 }
 
-/// Parses a number.
+/// Parses a number of at most 32 bits in its shortest decimal form.
 #[tactic(auto, using(crate::proofs::CutTexts::written_number))]
 fn number_in(digits: &[u8]) -> Option<u32>
     ensures { IfSome result (λ number. digits.now ≡ decimal number) }
@@ -143,7 +143,7 @@ fn number_in(digits: &[u8]) -> Option<u32>
     }
 }
 
-/// Parses the number at the front of the line.
+/// Parses the number at the start of the line.
 fn cut_number<'l>(line: &'l [u8]) -> Option<(u32, &'l [u8])>
     ensures { IfSome result (λ found. line.now ≡ decimal found.0 ++ found.1.now) }
 {
@@ -202,7 +202,8 @@ fn turn_behind(line: &[u8]) -> Option<TurnNumber>
     TurnNumber::new(number as u16)
 }
 
-/// Parses the rest after the moves: the words, and whether they are written.
+/// Parses what follows the moves of a `move` line. Returns the words, and whether they are written:
+/// a line without words may leave them out.
 fn tail_behind(alloc: Global, line: &[u8]) -> Result<Option<(Words, bool)>, AllocError>
     ensures text { IfOk result (λ o. IfSome o (λ found. line.now ≡ tail_text found.1 found.0)) }
     ensures fit { IfOk result (λ o. IfSome o (λ found. AreFitWords found.0 × MayLeaveOut found.1 found.0)) }
@@ -224,7 +225,7 @@ fn tail_behind(alloc: Global, line: &[u8]) -> Result<Option<(Words, bool)>, Allo
     Ok(Some((words, true)))
 }
 
-/// Parses a `move` from its first id on; also says whether its words are written.
+/// Parses a `move` from its first id on. Also returns whether its words are written.
 fn move_behind(alloc: Global, line: &[u8]) -> Result<Option<(Move, bool)>, AllocError>
     ensures text { IfOk result
         (λ o. IfSome o (λ found. line.now ≡ moves_text false found.0.moves ++ (codes "}" ++ tail_text found.1 found.0.words))) }
@@ -269,7 +270,7 @@ fn short_behind(order: &[u8]) -> Option<Command>
     }
 }
 
-/// Parses a command, from its name on; also says whether its words are written.
+/// Parses a command from its name on. Also returns whether its words are written.
 fn order_behind(alloc: Global, order: &[u8]) -> Result<Option<(Command, bool)>, AllocError>
     ensures text { IfOk result (λ o. IfSome o (λ found. order.now ≡ order_text found.1 found.0)) }
     ensures compact { IfOk result (λ o. IfSome o (λ found. IsCompact found.1 found.0)) }
@@ -286,7 +287,7 @@ fn order_behind(alloc: Global, order: &[u8]) -> Result<Option<(Command, bool)>, 
     })
 }
 
-/// Parses the line up to its command's name: the game's name, and the rest of the line.
+/// Parses the line up to its command's name. Returns the game's name, and the rest of the line.
 fn cut_game<'l>(line: &'l [u8]) -> Option<(&'l [u8], &'l [u8])>
     ensures text { IfSome result
         (λ found. line.now ≡ codes "{\"game\":\"" ++ (found.0.now ++ (codes "\",\"do\":\"" ++ found.1.now))) }

@@ -1,6 +1,5 @@
-//! The lines of command files and of transcripts. A line is read to a plan or a command, and a
-//! reply is written to a line, each by itself; what the lines of a whole file are together is
-//! another crate's matter.
+//! The lines of command files and of transcripts: parses a line as a plan or a command, and writes
+//! a reply as a line. Each line is taken by itself; bs_host combines the lines of a file.
 #![tactic(auto)]
 
 mod boards;
@@ -8,6 +7,7 @@ mod commands;
 mod compact;
 mod limits;
 pub mod line;
+mod line_bounds;
 mod moves;
 mod pieces;
 pub mod plan;
@@ -20,6 +20,7 @@ mod values;
 pub use boards::board_value;
 pub use limits::{MAX_LINE, MOST_WORD, USUAL_CHANCE, USUAL_MIN_FOOD};
 pub use line::{Line, Stray, read_line};
+pub use line_bounds::{final_line_bound, reply_line_bound, stray_line_bound};
 pub use plan::{PlanFault, read_plan};
 pub use replies::{
     final_line, push_final_line, push_reply_line, push_stray_line, reply_line, stray_line,

@@ -50,8 +50,8 @@ pub enum Line {
     Admit(Row),
     /// It admits a game, but its name or its quota is missing or out of range.
     BadAdmit,
-    /// It dismisses the game of that name, from version 3 on. `None` if the name is missing or no
-    /// text.
+    /// It dismisses the game of that name, from version 3 on. `None` if the name is missing or not
+    /// a string.
     Leave { game: Option<Id> },
 }
 
@@ -77,7 +77,7 @@ fn does(value: &Value, word: &str) -> bool
     }
 }
 
-/// A line that neither admits nor dismisses a game.
+/// Reads a line that neither admits nor dismisses a game.
 fn command_line(alloc: Global, version: Version, value: &mut Value) -> Result<Line, AllocError>
     ensures { IfOk result
         (λ line. line ≡ command_line version (view value.old) (text_at (codes "game") (view value.old))) }
@@ -91,7 +91,7 @@ fn command_line(alloc: Global, version: Version, value: &mut Value) -> Result<Li
     }
 }
 
-/// A line that admits a game.
+/// Reads a line that admits a game.
 fn admit_line(alloc: Global, value: &Value) -> Result<Line, AllocError>
     ensures { IfOk result (λ line. line ≡ admit_line (row_from (view value.now))) }
 {

@@ -1,5 +1,5 @@
-//! The lines of a transcript. Each is put together from its pieces, with no JSON value made, and what
-//! appends a line to a buffer asks for no memory.
+//! The lines of a transcript. All calls but `final_line` put a line together from pieces of text,
+//! without a JSON value. Appending a line to a buffer allocates nothing.
 ghost use Rattle.std.specs.Prelude.{◌≡◌, IfOk, decimal};
 ghost use Rattle.std.specs.Option.{option_copied};
 ghost use Rattle.serde_json.specs.Data.{string};
@@ -19,44 +19,50 @@ use bs_board::{Board, Id, KeptBoard, Refusal, Reply, Word};
 use serde_json::{Value, json};
 use std::alloc::{AllocError, Global};
 
-fn word_text(word: Word) -> &'static str
-    ensures { result.now ≡ word_text word }
+/// The name of a command, in quotation marks.
+#[tactic(auto, unfolding(json::specs::Print::escape_byte))]
+fn quoted_word(word: Word) -> &'static [u8]
+    ensures { result.now ≡ compact_text (string (word_text word)) }
 {
     match word {
-        Word::New => "new",
-        Word::Move => "move",
-        Word::Show => "show",
-        Word::Turn => "turn",
-        Word::Free => "free",
-        Word::End => "end",
+        Word::New => b"\"new\"",
+        Word::Move => b"\"move\"",
+        Word::Show => b"\"show\"",
+        Word::Turn => b"\"turn\"",
+        Word::Free => b"\"free\"",
+        Word::End => b"\"end\"",
     }
 }
 
-fn refusal_code(refusal: Refusal) -> &'static str
-    ensures { result.now ≡ refusal_code refusal }
+/// The code of a refusal, in quotation marks.
+#[tactic(auto, unfolding(json::specs::Print::escape_byte))]
+fn quoted_code(refusal: Refusal) -> &'static [u8]
+    ensures { result.now ≡ compact_text (string (refusal_code refusal)) }
 {
     match refusal {
-        Refusal::Unknown => "G1",
-        Refusal::NoGame => "G2",
-        Refusal::Running => "G3",
-        Refusal::Over => "G4",
-        Refusal::Limit => "G5",
-        Refusal::NoRecord => "G6",
-        Refusal::Quota => "G7",
+        Refusal::Unknown => b"\"G1\"",
+        Refusal::NoGame => b"\"G2\"",
+        Refusal::Running => b"\"G3\"",
+        Refusal::Over => b"\"G4\"",
+        Refusal::Limit => b"\"G5\"",
+        Refusal::NoRecord => b"\"G6\"",
+        Refusal::Quota => b"\"G7\"",
     }
 }
 
-fn refusal_text(refusal: Refusal) -> &'static str
-    ensures { result.now ≡ refusal_text refusal }
+/// The reason of a refusal, in quotation marks.
+#[tactic(auto, unfolding(json::specs::Print::escape_byte))]
+fn quoted_reason(refusal: Refusal) -> &'static [u8]
+    ensures { result.now ≡ compact_text (string (refusal_text refusal)) }
 {
     match refusal {
-        Refusal::Unknown => "command",
-        Refusal::NoGame => "none",
-        Refusal::Running => "running",
-        Refusal::Over => "over",
-        Refusal::Limit => "limit",
-        Refusal::NoRecord => "record",
-        Refusal::Quota => "quota",
+        Refusal::Unknown => b"\"command\"",
+        Refusal::NoGame => b"\"none\"",
+        Refusal::Running => b"\"running\"",
+        Refusal::Over => b"\"over\"",
+        Refusal::Limit => b"\"limit\"",
+        Refusal::NoRecord => b"\"record\"",
+        Refusal::Quota => b"\"quota\"",
     }
 }
 
@@ -94,21 +100,21 @@ fn stray_text(stray: Stray) -> &'static str
 fn push_word(word: Word, text: &mut TextBuffer)
     ensures { text.new ≡ put text.old (compact_text (string (word_text word))) }
 {
-    push_string(word_text(word).as_bytes(), text);
+    text.push(quoted_word(word));
 }
 
 /// Appends the code of a refusal.
 fn push_code(refusal: Refusal, text: &mut TextBuffer)
     ensures { text.new ≡ put text.old (compact_text (string (refusal_code refusal))) }
 {
-    push_string(refusal_code(refusal).as_bytes(), text);
+    text.push(quoted_code(refusal));
 }
 
 /// Appends the reason of a refusal.
 fn push_reason(refusal: Refusal, text: &mut TextBuffer)
     ensures { text.new ≡ put text.old (compact_text (string (refusal_text refusal))) }
 {
-    push_string(refusal_text(refusal).as_bytes(), text);
+    text.push(quoted_reason(refusal));
 }
 
 /// Appends the code of a stray.
@@ -219,7 +225,7 @@ fn push_final(game: &Id, board: Option<&KeptBoard>, charge: u32, text: &mut Text
     text.push(b"}");
 }
 
-/// Appends the final line of a game. There is no board where no game runs.
+/// Appends the final line of a game. `board` is `None` if no game runs.
 #[tactic(auto, using(crate::proofs::Puts::put_put))]
 pub fn push_final_line(game: &Id, board: Option<&KeptBoard>, charge: u32, text: &mut TextBuffer)
     ensures { text.new ≡ put text.old (final_line_of game.now (option_copied board.entry) charge) }
@@ -250,7 +256,7 @@ pub fn push_stray_line(line: u64, stray: Stray, text: &mut TextBuffer)
     text.push(b"\n");
 }
 
-/// The line of one answered command. `seq` is its number within the game, from 1.
+/// Makes the line of one answered command. `seq` is its number within the game, from 1.
 #[tactic(auto, using(crate::proofs::Puts::put_measured))]
 pub fn reply_line(alloc: Global, game: &Id, seq: u64, reply: &Reply) -> Result<Vec<u8>, AllocError>
     ensures { IfOk result (λ line. line.items ≡ reply_line_of game.now seq reply.now) }
@@ -262,7 +268,7 @@ pub fn reply_line(alloc: Global, game: &Id, seq: u64, reply: &Reply) -> Result<V
     Ok(line.into_vec())
 }
 
-/// The line of a stray. `line` is its number in the file, from 1.
+/// Makes the line of a stray. `line` is its number in the file, from 1.
 #[tactic(auto, using(crate::proofs::Puts::put_measured))]
 pub fn stray_line(alloc: Global, line: u64, stray: Stray) -> Result<Vec<u8>, AllocError>
     ensures { IfOk result (λ text. text.items ≡ stray_line_of line stray) }
@@ -303,7 +309,7 @@ fn final_value(
     })
 }
 
-/// The text of a JSON value, and a line feed.
+/// Makes the text of a JSON value, and a line feed.
 fn value_line(alloc: Global, value: &Value) -> Result<Vec<u8>, AllocError>
     ensures { IfOk result (λ line. IsLineOf (SendsValue (view value.now)) line.items) }
 {
@@ -312,13 +318,13 @@ fn value_line(alloc: Global, value: &Value) -> Result<Vec<u8>, AllocError>
             line.push(b'\n')?;
             Ok(line)
         }
-        // Nothing that is sent here is refused but for want of memory.
+        // The serializer fails on such a value only if memory runs out.
         Err(_) => Err(AllocError),
     }
 }
 
-/// The final line of a game, with a board that need not be legal. There is no board where no game
-/// runs.
+/// Makes the final line of a game, with a board that need not be legal. `board` is `None` if no
+/// game runs.
 #[tactic(auto, using(crate::proofs::Lines::final_text))]
 pub fn final_line(
     alloc: Global,

@@ -1,5 +1,5 @@
-//! Appends the JSON text of a board straight from the bytes of its record. No board is decoded and no
-//! JSON value is made.
+//! Appends the JSON text of a board directly from the bytes of its record: no board is decoded, and
+//! no JSON value is made.
 ghost use Rattle.std.specs.Prelude.{◌≡◌, ◌++◌, ◌≤◌, ◌<◌, ◌-◌, ◌-ℤ◌, All, List, [], Some, codes, decimal, flat_map, option_copied, option_map, pos, slice_get};
 ghost use Rattle.serde_json.specs.Data.{boolean, string};
 ghost use Rattle.serde_json.specs.Written.{comma_if, compact_text};
@@ -15,7 +15,7 @@ ghost use Rattle.bs_json.specs.Text.{put};
 use crate::boards::{cause_text, mode_text};
 use crate::pieces::{push_small, push_string, push_string_or_null, push_turn};
 use crate::text_buffer::TextBuffer;
-use bs_board::{BoardBytes, Cause, KeptBoard, Mode, SnakeBytes, split_board, split_snake};
+use bs_board::{BoardBytes, Cause, KeptBoard, Mode, SnakeBytes, skip_snakes, split_snake};
 
 /// Appends a column or a row, which the record stores with `raised` added.
 #[tactic(auto, using(crate::proofs::ShownCells::coordinate_inside, crate::proofs::ShownCells::beyond_pieces))]
@@ -30,7 +30,7 @@ fn push_coordinate(raised: u8, byte: u8, text: &mut TextBuffer)
     }
 }
 
-/// Appends what precedes the column of a cell. All but the first of a list follow a comma.
+/// Appends the text before the column of a cell, after a comma unless it is the first of a list.
 fn push_start(later: bool, text: &mut TextBuffer)
     ensures { text.new ≡ put text.old (comma_if later ++ codes "{\"x\":") }
 {
@@ -41,7 +41,7 @@ fn push_start(later: bool, text: &mut TextBuffer)
     }
 }
 
-/// Appends a cell, whatever the signs and digits of its column and row.
+/// Appends a cell whose column and row may be negative or have several digits.
 #[tactic(auto, using(crate::proofs::ShownCells::cell_pieces))]
 fn push_any_cell(later: bool, raised: u8, x: u8, y: u8, text: &mut TextBuffer)
     ensures { text.new ≡ put text.old (comma_if later ++ compact_text (cell_data (cell_of raised x y))) }
@@ -142,20 +142,15 @@ fn push_parts(killer: Option<&[u8]>, snake: &SnakeBytes<'_>, text: &mut TextBuff
 
 /// Finds the id of the snake in a seat.
 fn id_in_seat<'r>(snakes: &'r [u8], seat: usize) -> &'r [u8]
-    ensures { (all : List AnySnake) (s : AnySnake) → All IsWritable all → snakes.now ≡ flat_map snake_record all → slice_get all seat ≡ Some s → result.now ≡ s.id }
+    ensures { (all : List AnySnake) (s : AnySnake) → snakes.now ≡ flat_map snake_record all → slice_get all seat ≡ Some s → result.now ≡ s.id }
 {
-    let mut left = snakes;
-    for _ in 0..seat {
-        let (_, rest) = split_snake(left);
-        left = rest;
-    }
-    let (snake, _) = split_snake(left);
+    let (snake, _) = split_snake(skip_snakes(seat, snakes));
     snake.id
 }
 
 /// Finds the id of the killer from its seat.
 fn killer_id<'r>(board: &BoardBytes<'r>, killer: Option<usize>) -> Option<&'r [u8]>
-    ensures { (b : AnyBoard) → IsWritableBoard b → IsBoardBytes b board.now → text_data (option_copied result) ≡ killer_data b.snakes killer }
+    ensures { (b : AnyBoard) → IsBoardBytes b board.now → text_data (option_copied result) ≡ killer_data b.snakes killer }
 {
     match killer {
         Some(seat) if seat < board.seats => Some(id_in_seat(board.snakes, seat)),
@@ -173,7 +168,7 @@ fn push_comma(later: bool, text: &mut TextBuffer)
     }
 }
 
-/// Appends one of the board's snakes. All but the first follow a comma.
+/// Appends one of the board's snakes, after a comma unless it is the first.
 fn push_snake(later: bool, board: &BoardBytes<'_>, snake: &SnakeBytes<'_>, text: &mut TextBuffer)
     ensures { (b : AnyBoard) (s : AnySnake) → IsWritableBoard b → IsWritable s → IsBoardBytes b board.now → IsSnakeBytes s snake.now
         → text.new ≡ put text.old (comma_if later ++ compact_text (snake_data b.snakes s)) }
@@ -216,9 +211,9 @@ fn push_mode(mode: Mode, text: &mut TextBuffer)
     push_string(mode_text(mode).as_bytes(), text);
 }
 
-/// Appends a board up to its snakes.
-fn push_front(board: &BoardBytes<'_>, text: &mut TextBuffer)
-    ensures { text.new ≡ put text.old (front_pieces board.now.over (board_of board.now [])) }
+/// Appends a board up to its snakes, and whether its game is over.
+fn push_front(over: bool, board: &BoardBytes<'_>, text: &mut TextBuffer)
+    ensures { text.new ≡ put text.old (front_pieces over (board_of board.now [])) }
 {
     text.push(b"{\"food\":");
     push_cells(0, board.food, text);
@@ -231,7 +226,7 @@ fn push_front(board: &BoardBytes<'_>, text: &mut TextBuffer)
     text.push(b",\"mode\":");
     push_mode(board.mode, text);
     text.push(b",\"over\":");
-    push_over(board.over, text);
+    push_over(over, text);
     text.push(b",\"snakes\":");
 }
 
@@ -250,7 +245,7 @@ fn push_back(board: &BoardBytes<'_>, text: &mut TextBuffer)
 fn push_board_parts(board: &BoardBytes<'_>, text: &mut TextBuffer)
     ensures { (b : AnyBoard) → IsWritableBoard b → IsBoardBytes b board.now → text.new ≡ put text.old (compact_text (board_data b)) }
 {
-    push_front(board, text);
+    push_front(board.is_over(), board, text);
     push_snakes(board, text);
     push_back(board, text);
 }
@@ -259,7 +254,5 @@ fn push_board_parts(board: &BoardBytes<'_>, text: &mut TextBuffer)
 pub(crate) fn push_board(kept: &KeptBoard, text: &mut TextBuffer)
     ensures { text.new ≡ put text.old (compact_text (board_data kept.now)) }
 {
-    if let Some(board) = split_board(kept.record()) {
-        push_board_parts(&board, text);
-    }
+    push_board_parts(&kept.shared().parts(), text);
 }

@@ -1,11 +1,12 @@
-//! A buffer for text that asks for its memory once.
+//! A text buffer of fixed capacity, which is allocated once.
 ghost use Rattle.std.specs.Prelude.{◌≡◌, ◌+◌, ◌<◌, ◌≤◌, ◌^◌, length, IfOk};
 ghost use Rattle.bs_json.specs.Text.{blank, put};
 
 use std::alloc::{AllocError, Global};
 use std::marker::Model;
 
-/// Text that is put together piece by piece. Its room is fixed, and what finds no room is counted.
+/// Text that is appended piece by piece. The capacity is fixed; the bytes beyond it are counted and
+/// dropped. Contracts see the stored bytes, the count and the capacity.
 #[derive(Debug, Drop)]
 pub struct TextBuffer {
     bytes: Vec<u8>,
@@ -25,7 +26,8 @@ impl Model for TextBuffer {
 }
 
 impl TextBuffer {
-    /// A buffer without room, which counts the bytes that are appended. It asks for no memory.
+    /// Makes a buffer without capacity, which counts the bytes that are appended. Allocates
+    /// nothing.
     pub fn new(alloc: Global) -> TextBuffer
         ensures { result ≡ blank 0 }
     {
@@ -36,7 +38,8 @@ impl TextBuffer {
         }
     }
 
-    /// An empty buffer. Only this call asks for memory, `room` bytes at once.
+    /// Makes an empty buffer with a capacity of `room` bytes. No other call allocates. Fails if
+    /// memory runs out or `room` is above `isize::MAX`.
     pub fn with_room(alloc: Global, room: usize) -> Result<TextBuffer, AllocError>
         ensures value { IfOk result (λ text. text ≡ blank room) }
         ensures most { IfOk result (λ _. room < 2 ^ 63) }
@@ -51,7 +54,7 @@ impl TextBuffer {
         })
     }
 
-    /// Empties the buffer. It keeps its memory.
+    /// Empties the buffer and resets its count. Keeps its memory.
     pub fn clear(&mut self)
         ensures { self.new ≡ blank self.old.room }
     {
@@ -59,46 +62,46 @@ impl TextBuffer {
         self.missing = 0;
     }
 
-    /// The bytes that found room.
+    /// The stored bytes.
     pub fn as_slice(&self) -> &[u8]
         ensures { result.now ≡ self.now.bytes }
     {
         self.bytes.as_slice()
     }
 
-    /// The bytes that found room.
+    /// Converts the buffer into the stored bytes.
     pub fn into_vec(self) -> Vec<u8>
         ensures { result.items ≡ self.bytes }
     {
         self.bytes
     }
 
-    /// The number of bytes that still find room.
+    /// The number of bytes for which there is still room.
     pub fn left(&self) -> usize
         ensures { result + length self.now.bytes ≡ self.now.room }
     {
         self.room - self.bytes.len()
     }
 
-    /// The number of bytes that found no room, at most `usize::MAX`.
+    /// The number of bytes for which there was no room, at most `usize::MAX`.
     pub fn missing(&self) -> usize
         ensures { result ≡ self.now.missing }
     {
         self.missing
     }
 
-    /// Appends a piece that finds room.
+    /// Appends a piece for which there is room.
     #[tactic(auto, using(crate::proofs::Puts::put_whole))]
     #[inline(always)]
     fn store(&mut self, piece: &[u8])
         requires { length self.old.bytes + length piece.now ≤ self.old.room }
         ensures { self.new ≡ put self.old piece.now }
     {
-        // It does not fail, as the vector has this room.
+        // Cannot fail: the vector has the capacity.
         let _stored = self.bytes.extend_from_slice(piece);
     }
 
-    /// Appends the front of a piece that is longer than the room left, and counts its other bytes.
+    /// Appends the first bytes of a piece, as many as there is room for, and counts the others.
     #[tactic(auto, using(crate::proofs::Puts::put_part))]
     fn push_part(&mut self, piece: &[u8])
         requires { self.old.room < length self.old.bytes + length piece.now }
@@ -109,7 +112,7 @@ impl TextBuffer {
         self.missing = self.missing.saturating_add(rest.len());
     }
 
-    /// Appends a piece. It asks for no memory.
+    /// Appends a piece; counts the bytes for which there is no room. Allocates nothing.
     #[inline(always)]
     pub fn push(&mut self, piece: &[u8])
         ensures { self.new ≡ put self.old piece.now }

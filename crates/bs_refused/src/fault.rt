@@ -6,7 +6,7 @@ use bs_pool::Reserve;
 use bs_sched::{Admit, Leave, Open};
 use std::alloc::{AllocError, AllocFailed};
 
-/// The tried call reported want of memory, or something other than what the scene expects.
+/// The tried call reported that memory ran out, or something other than what the scene expects.
 #[derive(Clone, Copy, Debug)]
 pub enum Fault {
     Memory,

@@ -30,7 +30,7 @@ fn tell_frames(page: &mut Page, what: &str, frames: &[Owned<CAP>]) -> Result<(),
     Ok(())
 }
 
-/// Takes the job after that many others.
+/// Takes the job after `jobs` others.
 fn job_behind(alloc: Global, jobs: usize) -> Result<Job, Fail> {
     let mut core = played(alloc, jobs)?;
     Ok(next_job(alloc, &mut core)?)
@@ -41,8 +41,8 @@ fn tell_done(page: &mut Page, done: &Done<CAP>) {
     page.line("answer", done.out());
 }
 
-/// Takes the blocks of its ticket back from a stopped job. The same job of another core, which was
-/// played the same way, is then run in its place.
+/// Writes the names of the blocks that a stopped job returned. Then runs the same job of another
+/// core, which was played in the same way.
 fn work_again(page: &mut Page, jobs: usize, stopped: Stopped<CAP>) -> Result<Done<CAP>, Fail> {
     tell_frames(page, "memory", stopped.blocks.as_slice())?;
     let Job { ticket, key: _key } = job_behind(page.alloc(), jobs)?;

@@ -1,6 +1,6 @@
-//! Scenes that make the calls of the libraries one by one, each a second time if it reported want
-//! of memory. Each is a test, which passes if nothing is refused. `tests/refused_calls` refuses the
-//! requests of each call in turn.
+//! Scenes that make the calls of the libraries one by one, each a second time if it reported that
+//! memory ran out. Each is a test, which passes if nothing is refused. `tests/refused_calls`
+//! refuses the requests of each call in turn.
 #![tactic(auto)]
 
 #[cfg(test)]

@@ -1,5 +1,5 @@
 //! Calls that are tried: the requests for memory of each are marked, and it is repeated if it
-//! reported want of memory.
+//! reported that memory ran out.
 use crate::fault::Fault;
 use crate::page::Page;
 use std::alloc::Global;
@@ -57,8 +57,8 @@ pub fn look<A: Act>(page: &mut Page, what: &str, state: &A::State) -> Result<(),
     Ok(())
 }
 
-/// Makes the call, and repeats it if it reported want of memory. Writes what the readers return
-/// before each.
+/// Makes the call, and repeats it if it reported that memory ran out. Writes what the readers
+/// return before each.
 pub fn tried<A: Act>(page: &mut Page, act: &A, state: &mut A::State) -> Result<A::Answer, Fault> {
     look::<A>(page, "before", state)?;
     page.begin();

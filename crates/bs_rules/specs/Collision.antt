@@ -81,7 +81,7 @@ pub record IsCollided (old now : Board) : Type 0 where
   pub seats : length now.snakes ≡ length old.snakes
   pub judged : EachSeat (IsJudged old) now.snakes
 
--- The same as a function.
+-- The board after the collisions as a function of the board before them.
 
 abbrev pub is_on_later_part : Snake → Snake → Bool
 is_on_later_part s t = list_any (is_same_cell (head_of s.body)) (drop 1 t.body)

@@ -31,7 +31,7 @@ food_left snakes food = filter (λ cell. not (list_any (has_head_on cell) snakes
 abbrev pub fed : Board → Board
 fed b = record b { food = food_left b.snakes b.food; snakes = map (fed_snake b.food) b.snakes }
 
--- The same without the lists' order, by what lies on a cell.
+-- Which food is left, stated cell by cell and without the order of the lists.
 
 -- a living snake has its head on the cell
 abbrev pub IsUnderHead : List Snake → Point → Type 0

@@ -66,8 +66,8 @@ fn feed_snakes(food: &[Point], snakes: &mut Snakes) -> Result<(), AllocError>
     Ok(())
 }
 
-/// Each living snake whose head is on food has full health and its last part once more, and the
-/// food under such a head is gone. After an error the board is unspecified.
+/// Feeds each living snake whose head is on food: sets its health to full, and repeats its last
+/// part. Removes the food under such heads. After an error the board is unspecified.
 pub fn feed(alloc: Global, board: &mut Board) -> Result<(), AllocError>
     ensures value { OnOk result (board.new ≡ fed board.old) }
     ensures meaning { OnOk result (LeavesFood board.old board.new) }

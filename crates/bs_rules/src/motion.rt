@@ -116,8 +116,8 @@ fn move_body(
 }
 
 /// Moves a living snake one step, in the given direction or else straight on: it gets a new head,
-/// loses its last part, and has one health less. One that is out is unchanged. `wrap` is the width
-/// and height of a wrapped board, which each step is taken modulo.
+/// loses its last part, and has one health less. An eliminated snake is copied unchanged. `wrap` is
+/// the width and height of a wrapped board: each step is taken modulo these.
 pub fn move_snake(
     alloc: Global,
     snake: &Snake,
@@ -151,7 +151,7 @@ fn given_to(moves: &[(Id, Direction)], id: &Id) -> Option<Direction>
 }
 
 /// Moves any number of seats, each in the direction given for its id. A whole turn moves all seats
-/// by this call, and a part of a turn some.
+/// by this call; a part of a move moves some of them.
 pub fn move_snakes(
     alloc: Global,
     snakes: &[Snake],

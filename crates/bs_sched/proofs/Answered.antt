@@ -20,9 +20,7 @@ use Rattle.bs_game.specs.Recorded.{IsRecorded}
 use Rattle.bs_game.proofs.Recorded.{same_charge}
 use Rattle.bs_heap.specs.Charge.{charge_of}
 use Rattle.bs_heap.specs.Heap.{Heap}
-use Rattle.bs_heap.specs.HeldBlocks.{IsKeptIn, LeavesOthers}
-use Rattle.bs_pool.specs.Ledger.{Ledger}
-use Rattle.bs_sched.specs.GamesLayout.{IsHeapOf}
+use Rattle.bs_sched.specs.Game.{KeepsBoards}
 use Rattle.bs_sched.specs.Courses.{IsRight}
 use Rattle.bs_sched.specs.Insides.{may_answer}
 use Rattle.bs_sched.specs.LastBoards.{last_after}
@@ -89,26 +87,22 @@ told_last x answer right busy is =
     let effect : answer.effect ≡ effect_of (lane_outcome x).reply = ap (λ (a : Answer). a.effect) is ∙ here.told in
     ap (λ e. last_after e (last_board x.game)) effect ∙ last_by (lane_outcome x).reply x.game here.right
 
-pub recorded : (cap own : ℕ) (x : Lane) (heap : Heap) (pool : Ledger) → IsRight x → IsHeapOf cap own x heap pool → IsRecorded x.game heap.records
-recorded cap own x heap pool right kept = record { right = right.right; is = kept.records }
+pub recorded : (x : Lane) (heap : Heap) → IsRight x → KeepsBoards x heap → IsRecorded x.game heap.records
+recorded x heap right kept = record { right = right.right; is = kept.records }
 
-pub fit_effect : (cap own : ℕ) (x : Lane) (answer : Answer) (heap : Heap) (pool : Ledger) → IsRight x → is_idle x.stage ≡ false
-    → answer ≡ answer_of (lane_view x) (lane_command x) → IsHeapOf cap own x heap pool → IsFitEffect heap.quota (charge_of heap.records) answer.effect
-fit_effect cap own x answer heap pool right busy is kept =
-    let charge : charge_of heap.records ≡ game_charge x.game = same_charge x.game heap.records (recorded cap own x heap pool right kept) in
+pub fit_effect : (x : Lane) (answer : Answer) (heap : Heap) → IsRight x → is_idle x.stage ≡ false
+    → answer ≡ answer_of (lane_view x) (lane_command x) → KeepsBoards x heap → IsFitEffect heap.quota (charge_of heap.records) answer.effect
+fit_effect x answer heap right busy is kept =
+    let charge : charge_of heap.records ≡ game_charge x.game = same_charge x.game heap.records (recorded x heap right kept) in
     rw (is, charge, kept.quota) (told x right busy).fits
 
 -- the heap after the answer keeps the records of the boards after it
-pub answered_heap : (cap own : ℕ) (x : Lane) (answer : Answer) (heap new : Heap) (pool pool' : Ledger) → IsRight x → is_idle x.stage ≡ false
-    → answer ≡ answer_of (lane_view x) (lane_command x) → IsHeapOf cap own x heap pool → new.records ≡ effected answer.effect heap.records
-    → new.tag ≡ heap.tag → new.quota ≡ heap.quota → IsKeptIn new pool' → LeavesOthers heap.tag pool pool' → IsHeapOf cap own (answered x) new pool'
-answered_heap cap own x answer heap new pool pool' right busy is kept records tag quota held others =
+pub answered_boards : (x : Lane) (answer : Answer) (heap new : Heap) → IsRight x → is_idle x.stage ≡ false
+    → answer ≡ answer_of (lane_view x) (lane_command x) → KeepsBoards x heap → new.records ≡ effected answer.effect heap.records
+    → new.quota ≡ heap.quota → KeepsBoards (answered x) new
+answered_boards x answer heap new right busy is kept records quota =
     record {
-      tag = tag ∙ kept.tag;
       quota = quota ∙ kept.quota;
       records = records ∙ ap (λ (a : Answer). effected a.effect heap.records) is ∙ ap (effected (answer_of (lane_view x) (lane_command x)).effect) kept.records
           ∙ (told x right busy).records;
-      held = held;
-      blocks = rw (quota, tag, others.reservations) kept.blocks;
-      room = λ answers. let wrong : false ≡ true = answers in absurd cc;
     }

@@ -6,9 +6,9 @@ use Rattle.std.proofs.lemmas.List.{set-get_or}
 use Rattle.bs_board.specs.declared.commands.command.Command.{Command}
 use Rattle.bs_board.specs.declared.boards.snake.Snake.{Snake}
 use Rattle.bs_pool.specs.declared.owned.Owned.{Owned}
-use Rattle.bs_pool.specs.Ledger.{Ledger}
 use Rattle.bs_game.specs.declared.view.View.{View}
 use Rattle.bs_game.specs.View.{answer_of}
+use Rattle.bs_game.specs.declared.reply.Answer.{Answer}
 use Rattle.bs_fiber.specs.declared.input.Input.{Input}
 use Rattle.bs_fiber.specs.declared.job.JobKind.{JobKind}
 use Rattle.bs_fiber.specs.declared.job.JobKind.TheVariants as kind
@@ -17,7 +17,7 @@ use Rattle.bs_fiber.specs.Frames.{frame_of}
 use Rattle.bs_fiber.specs.Tickets.{HoldsWork, bytes_of, frames_in, names_of}
 use Rattle.bs_fiber.specs.Work.{goes, moved_part, out_seen}
 use Rattle.bs_sched.specs.declared.stage.Stage.{Stage}
-use Rattle.bs_sched.specs.Frames.{FramesView, AreBegunFrames, AreFramesAt, AreFramesOf, known}
+use Rattle.bs_sched.specs.Frames.{FramesView, AreBegunFrames, AreFramesAt, FitFrames, known}
 use Rattle.bs_sched.specs.Games.{answer_effect, storage_answered}
 use Rattle.bs_sched.specs.Inputs.{job_numbers}
 use Rattle.bs_sched.specs.Lane.{Lane, has_begin, has_join, is_out, occupies}
@@ -27,18 +27,18 @@ use Rattle.bs_sched.proofs.PartFrames.{at_begin}
 -- ---- a job that answers
 
 -- while a command is begun no block is drawn
-pub none_begun : (x : Lane) (worker p own : ℕ) (f : FramesView) (pool : Ledger) → is_out worker x kind.Begin p ≡ true → AreFramesOf own x f pool → f.numbers ≡ []
-none_begun x worker p own f pool out are =
+pub none_begun : (x : Lane) (worker p : ℕ) (f : FramesView) → is_out worker x kind.Begin p ≡ true → FitFrames x f → f.numbers ≡ []
+none_begun x worker p f out are =
     let at = at_begin worker x.stage (and_parts (nat_eq p 0) (has_begin worker x.stage) out).1 in
     let none : AreBegunFrames x f = subst (λ (s : Stage). AreFramesAt s x f) at are.at in
     ap (λ (v : FramesView). v.numbers) none.none
 
 -- it has all frame blocks of its game
-pub all_of_job : (k : JobKind) (x : Lane) (worker p own : ℕ) (f : FramesView) (pool : Ledger) → k ≢ kind.Part → is_out worker x k p ≡ true → AreFramesOf own x f pool
+pub all_of_job : (k : JobKind) (x : Lane) (worker p : ℕ) (f : FramesView) → k ≢ kind.Part → is_out worker x k p ≡ true → FitFrames x f
     → job_numbers k p f.numbers ≡ known f.numbers
-all_of_job kind.Begin x worker p own f pool other out are = ap (λ (ns : List (Option ℕ)). known ns) (sym (none_begun x worker p own f pool out are))
-all_of_job kind.Part x worker p own f pool other out are = absurd (other refl)
-all_of_job kind.Join x worker p own f pool other out are = refl
+all_of_job kind.Begin x worker p f other out are = ap (λ (ns : List (Option ℕ)). known ns) (sym (none_begun x worker p f out are))
+all_of_job kind.Part x worker p f other out are = absurd (other refl)
+all_of_job kind.Join x worker p f other out are = refl
 
 pub occupied : (k : JobKind) (x : Lane) (worker p : ℕ) → k ≢ kind.Part → is_out worker x k p ≡ true → occupies worker x ≡ true
 occupied kind.Begin x worker p other out = let has = (and_parts (nat_eq p 0) (has_begin worker x.stage) out).1 in rw has refl
@@ -104,3 +104,18 @@ part_block {most} kind.Part own p numbers moved blocks owned input part only nam
     let bytes : owned.block ∷ [] ≡ frame_of moved ∷ [] = ap (λ (bs : List (Owned most)). bytes_of (frames_in bs)) (sym only) ∙ holds in
     record { tag = named.0; number = known_one numbers p owned.number named.1; holds = cc }
 part_block {most} kind.Join own p numbers moved blocks owned input part only names holds = absurd cc
+
+-- only a Begin answers without having joined
+
+pub record IsAnswer (k : JobKind) (view : View) (command : Command) (answer : Answer) : Type 0 where
+  pub other : k ≢ kind.Part
+  pub answer_is : answer ≡ answer_of view command
+
+pub answer_of_out : (k : JobKind) (p : ℕ) (view : View) (command : Command) (answer : Answer) → Answered answer ≡ out_seen k p view command → IsAnswer k view command answer
+answer_of_out kind.Begin p view command answer is =
+    elim (cases_Bool (goes view command)) [
+      | inl on ↦ let wrong : Answered answer ≡ Goes = rw on at is in absurd cc
+      | inr off ↦ let same : Answered answer ≡ Answered (answer_of view command) = rw off at is in record { other = λ same. absurd cc; answer_is = cc }
+    ]
+answer_of_out kind.Part p view command answer is = absurd cc
+answer_of_out kind.Join p view command answer is = absurd cc

@@ -1,116 +1,137 @@
 -- A core of which one game has changed.
-use Rattle.std.proofs.Common.{◌≡◌, ℕ, ◌<◌, ◌≤◌, true, List, length, map, refl, sym, ap, subst, ◌∙◌, get_or, Result, Ok, Err, arith}
-use Rattle.std.specs.Prelude.{[], Option, None, Some, replicate, slice_index_or, slice_set, OnOk, OnErr}
+use Rattle.std.proofs.Common.{◌≡◌, ◌≢◌, ℕ, ◌+◌, ◌*◌, ◌<◌, true, false, List, [], length, map, Result, Ok, Err, refl, sym, ap, subst, ◌∙◌, get_or, arith, inl, inr}
+use Rattle.std.specs.Prelude.{Option, None, OnOk, OnErr, replicate, slice_set, Some}
+use Rattle.std.specs.Vec.{with_item}
+use Rattle.std.proofs.lemmas.Bool.{cases_Bool, cases_eq}
+use Rattle.std.proofs.lemmas.Grind.{get_or-set_at}
+use Rattle.std.proofs.lemmas.List.{get_or-set_other, get_or-set_same, length-set, set-get_or}
 use Rattle.bs_board.specs.declared.commands.command.Command.{Command}
-use Rattle.std.proofs.lemmas.List.{map-set, length-set, get_or-set_other}
-use Rattle.std.proofs.Math.Seq.{map-set_same}
-use Rattle.std.proofs.Math.ListN.{get_or-map}
-use Rattle.std.proofs.lemmas.Option.{slice_get_read, get_or_from_slice_get}
-use Rattle.bs_heap.specs.Heap.{Heap, empty_heap, with_index_room}
-use Rattle.bs_heap.specs.HeldBlocks.{IsKeptIn, all_given, next_number}
-use Rattle.bs_heap.specs.Charge.{blocks_for}
-use Rattle.bs_board.specs.records.Record.{record_of}
-use Rattle.bs_board.specs.plans.Plan.{GameRow}
+use Rattle.bs_counter.specs.Keys.{Key, TallyId}
+use Rattle.bs_fiber.specs.declared.job.JobKind.{JobKind}
+use Rattle.bs_fiber.specs.declared.job.JobKind.TheVariants as kind
+use Rattle.bs_fiber.specs.declared.job.JobName.{JobName}
+use Rattle.bs_heap.specs.HeldBlocks.{next_number}
 use Rattle.bs_pool.specs.declared.reservation.Reservation.{Reservation}
+use Rattle.bs_pool.specs.Ledger.{Ledger}
+use Rattle.bs_sched.specs.declared.games.Games.TheInside.{Inside}
+use Rattle.bs_sched.specs.Frames.{LeavesBut, pool_taken}
+use Rattle.bs_sched.specs.Game.{GameView, HasBlocks, answered_game, completed_game, forked_game, handed_game, no_game, own_names, pool_completed, taken_game}
+use Rattle.bs_sched.specs.declared.event.Event.TheVariants as event
+use Rattle.bs_sched.specs.Games.{GamesView, after, answer_effect, brought, games_taken, storage_put, storage_taken}
+use Rattle.bs_sched.specs.GamesLayout.{AreAtRows, AreGone, IsAtRow, IsSound, game_at, games_in, lanes_in, storage_in, tallies_in}
+use Rattle.bs_sched.specs.Inputs.{job_numbers, names_for}
+use Rattle.bs_sched.specs.Lane.{Lane, forked, goes_on, is_out, is_ready, with_put, with_waiting}
+use Rattle.bs_sched.specs.Machine.{lane_of, open_blocks}
 use Rattle.bs_sched.specs.Reserved.{AreReserved}
+use Rattle.bs_sched.specs.Storage.{frame_tag, frames_of, record_tag, stored, without_frames}
+use Rattle.bs_sched.proofs.Brought.{answered_storage}
+use Rattle.bs_sched.proofs.ChangedGame.{left_blocks, taken_boards}
+use Rattle.bs_sched.proofs.ListedGames.{lane_at, lane_read, lanes_set, many_lanes, numbers_at, numbers_set, packing_at, packings_set, read_at, same_numbers, same_packings}
 use Rattle.bs_sched.proofs.OpenRows.{open_same}
 use Rattle.bs_sched.proofs.Reserved.{reserved_changed, with_room}
 use Rattle.bs_sched.proofs.RightRuns.{busy_out, busy_ready, open_busy}
-use Rattle.bs_sched.specs.Insides.{may_answer}
-use Rattle.bs_pool.specs.Ledger.{Ledger, reserved}
-use Rattle.bs_game.specs.declared.reply.Effect.{Effect}
-use Rattle.bs_game.specs.declared.reply.Effect.TheVariants as effect
-use Rattle.bs_sched.specs.GamesLayout.{storage_in, frames_at, heap_of, AreHeapsOf, IsHeapOf, IsSound}
-use Rattle.bs_sched.specs.declared.games.Games.TheInside.{Inside}
-use Rattle.std.specs.List.{range_with_len}
-use Rattle.bs_counter.specs.Keys.{Key, TallyId}
-use Rattle.bs_fiber.specs.Frames.{frame_of}
-use Rattle.bs_fiber.specs.Work.{moved_part}
-use Rattle.bs_game.specs.declared.view.View.{View}
-use Rattle.bs_fiber.specs.declared.job.JobKind.{JobKind}
-use Rattle.bs_fiber.specs.declared.job.JobKind.TheVariants as kind
-use Rattle.bs_sched.specs.declared.stage.PartState.{PartState}
-use Rattle.bs_sched.specs.declared.stage.PartState.TheVariants as part
-use Rattle.bs_sched.specs.declared.stage.Stage.{Stage}
-use Rattle.bs_sched.specs.declared.stage.Stage.TheVariants as stage
-use Rattle.bs_sched.specs.Frames.{FramesView, AreFramesAt, AreFramesOf, LeavesBut, frames_taken, known, no_frames, pool_taken}
-use Rattle.bs_sched.specs.Games.{storage_taken}
-use Rattle.bs_sched.proofs.ChangedFrames.{changed_frames, changed_lane_frames, leaves_all}
-use Rattle.bs_sched.proofs.Heaps.{changed_gone, changed_lane, changed_heaps}
-use Rattle.bs_sched.proofs.PartFrames.{same_frame}
-use Rattle.std.specs.Vec.{with_item}
-use Rattle.bs_sched.specs.Lane.{Lane, is_out, is_ready, lane_command, lane_view, part_at, with_waiting}
-use Rattle.bs_sched.specs.Machine.{lane_of, open_blocks}
-use Rattle.bs_sched.specs.Storage.{frame_tag, frames_of, packing_of, packing_after, pool_after, record_tag, stored, with_parts, without_frames}
-
--- an element read within a list is the same, whatever the default
-pub read_at : {X : Type 0} (xs : List X) (i : ℕ) (x d : X) → i < length xs → x ≡ get_or xs i x → x ≡ get_or xs i d
-read_at xs i x d within is = sym (get_or_from_slice_get xs i x d (slice_get_read xs (length xs) i x refl within is))
-
--- the numbers of a game's frame blocks, in all of them
-changed_numbers : (game : ℕ) (frames : List FramesView) (h : FramesView)
-    → map (λ (f : FramesView). f.numbers) (slice_set frames game h) ≡ slice_set (map (λ (f : FramesView). f.numbers) frames) game h.numbers
-changed_numbers game frames h = map-set (λ (f : FramesView). f.numbers) frames game h
-
-pub numbers_there : (game : ℕ) (heaps : List Heap) (frames : List FramesView) (pool : Ledger) (f : FramesView) → f ≡ frames_at frames game
-    → frames_of (storage_in heaps frames pool) game ≡ f.numbers
-numbers_there game heaps frames pool f is = get_or-map (λ (f : FramesView). f.numbers) frames game (no_frames 0) ∙ ap (λ (f : FramesView). f.numbers) (sym is)
-
--- where the records and the frame blocks of a game lie after its command was answered
-pub changed_storage : (cap game : ℕ) (heaps : List Heap) (frames : List FramesView) (pool pool' : Ledger) (heap new : Heap) (f h : FramesView) (effect : Effect)
-    → heap ≡ heap_of heaps game → f ≡ frames_at frames game → new.packing ≡ packing_after cap (next_number pool) effect heap.packing → h.numbers ≡ []
-    → pool' ≡ all_given (known f.numbers) (pool_after cap (record_tag game) effect heap.packing pool)
-    → storage_in (slice_set heaps game new) (slice_set frames game h) pool' ≡ without_frames game (stored cap game effect (storage_in heaps frames pool))
-changed_storage cap game heaps frames pool pool' heap new f h effect is f_is packing none drawn =
-    let there : packing_of (storage_in heaps frames pool) game ≡ heap.packing
-    = get_or-map (λ (h : Heap). h.packing) heaps game (empty_heap 0 0) ∙ ap (λ (h : Heap). h.packing) (sym is) in
-    let at = numbers_there game heaps frames pool f f_is in
-    let all : map (λ (h : Heap). h.packing) (slice_set heaps game new) ≡ slice_set (map (λ (h : Heap). h.packing) heaps) game new.packing
-    = map-set (λ (h : Heap). h.packing) heaps game new in
-    rw (all, changed_numbers game frames h, packing, none, drawn, ← there, ← at) refl
-
--- an accepted move gets its parts
-pub forked_storage : (game parts : ℕ) (heaps : List Heap) (frames : List FramesView) (pool : Ledger) (h : FramesView) → h.numbers ≡ replicate parts None
-    → storage_in heaps (slice_set frames game h) pool ≡ with_parts game parts (storage_in heaps frames pool)
-forked_storage game parts heaps frames pool h fresh = rw (changed_numbers game frames h, fresh) refl
-
--- no block is drawn or given back
-pub same_numbers : (game : ℕ) (frames : List FramesView) (f h : FramesView) → f ≡ frames_at frames game → h.numbers ≡ f.numbers
-    → map (λ (f : FramesView). f.numbers) (slice_set frames game h) ≡ map (λ (f : FramesView). f.numbers) frames
-same_numbers game frames f h is same = map-set_same (λ (f : FramesView). f.numbers) frames game h (no_frames 0) (same ∙ ap (λ (f : FramesView). f.numbers) is)
-
--- a job is taken
-pub taken_storage_is : (k : JobKind) (game p : ℕ) (heaps : List Heap) (frames : List FramesView) (pool pool' : Ledger) (tally : Option TallyId) (keys : List Key) (f h : FramesView)
-    → f ≡ frames_at frames game → f.tag ≡ frame_tag game → h ≡ frames_taken k p (next_number pool) tally keys f → pool' ≡ pool_taken k f.tag (next_number pool) pool
-    → storage_in heaps (slice_set frames game h) pool' ≡ storage_taken k game p (storage_in heaps frames pool)
-taken_storage_is kind.Begin game p heaps frames pool pool' tally keys f h is tag taken drawn =
-    rw (same_numbers game frames f h is (ap (λ (f : FramesView). f.numbers) taken), drawn) refl
-taken_storage_is kind.Part game p heaps frames pool pool' tally keys f h is tag taken drawn =
-    let at = numbers_there game heaps frames pool f is in
-    let numbers : h.numbers ≡ slice_set f.numbers p (Some (next_number pool)) = ap (λ (f : FramesView). f.numbers) taken in
-    rw (changed_numbers game frames h, numbers, drawn, tag, ← at) refl
-taken_storage_is kind.Join game p heaps frames pool pool' tally keys f h is tag taken drawn =
-    rw (same_numbers game frames f h is (ap (λ (f : FramesView). f.numbers) taken), drawn) refl
-
--- the heap of a game, read at the game's place
-
-pub heap_there : (cap game : ℕ) (lanes : List Lane) (heaps : List Heap) (pool : Ledger) (x : Lane) (heap : Heap) → AreHeapsOf cap lanes heaps pool
-    → game < length lanes → (lane_of lanes game).is_open ≡ true → x ≡ lane_of lanes game → heap ≡ heap_of heaps game → IsHeapOf cap (record_tag game) x heap pool
-heap_there cap game lanes heaps pool x heap all within stands lane is = rw (lane, is) (all game within stands)
-
-pub own_heap : (cap own : ℕ) (x : Lane) (heap : Heap) (pool : Ledger) → IsHeapOf cap own x heap pool → IsHeapOf cap heap.tag x heap pool
-own_heap cap own x heap pool kept =
-    record { tag = refl; quota = kept.quota; records = kept.records; held = kept.held; blocks = kept.blocks; room = kept.room }
+use Rattle.bs_sched.proofs.Tallies.{same_tallies}
 
 -- a stay with a job that is out or may be taken is open
 
-pub open_out : (cap : ℕ) {at : ℕ} (c : Inside at) (game worker : ℕ) (k : JobKind) (p : ℕ) → IsSound cap c → game < length c.fibers.items
-    → is_out worker (lane_of c.fibers.items game) k p ≡ true → (lane_of c.fibers.items game).is_open ≡ true
-open_out cap c game worker k p sound within out = open_busy (lane_of c.fibers.items game) (λ shut. (sound.gone game within shut).quiet) (busy_out (lane_of c.fibers.items game) worker k p out)
+pub open_out : (cap : ℕ) {at : ℕ} (c : Inside at) (game worker : ℕ) (k : JobKind) (p : ℕ) → IsSound cap c → game < length c.list.items
+    → is_out worker (game_at c.list.items game).lane k p ≡ true → (game_at c.list.items game).lane.is_open ≡ true
+open_out cap c game worker k p sound within out =
+    open_busy (game_at c.list.items game).lane (sound.gone game within) (busy_out (game_at c.list.items game).lane worker k p out)
 
-pub open_ready : (cap : ℕ) {at : ℕ} (c : Inside at) (game : ℕ) (k : JobKind) (p : ℕ) → IsSound cap c → game < length c.fibers.items
-    → is_ready (lane_of c.fibers.items game) k p ≡ true → (lane_of c.fibers.items game).is_open ≡ true
-open_ready cap c game k p sound within ready = open_busy (lane_of c.fibers.items game) (λ shut. (sound.gone game within shut).quiet) (busy_ready (lane_of c.fibers.items game) k p ready)
+pub open_ready : (cap : ℕ) {at : ℕ} (c : Inside at) (game : ℕ) (k : JobKind) (p : ℕ) → IsSound cap c → game < length c.list.items
+    → is_ready (game_at c.list.items game).lane k p ≡ true → (game_at c.list.items game).lane.is_open ≡ true
+open_ready cap c game k p sound within ready =
+    open_busy (game_at c.list.items game).lane (sound.gone game within) (busy_ready (game_at c.list.items game).lane k p ready)
+
+-- a stay keeps its tags and its row, and is as open as before
+pub record IsSameStay (v w : GameView) : Type 0 where
+  pub tag : w.tag ≡ v.tag
+  pub frame_tag_is : w.frames.tag ≡ v.frames.tag
+  pub row : w.lane.row ≡ v.lane.row
+  pub flag : w.lane.is_open ≡ v.lane.is_open
+
+pub handed_stay : {A B : Type 0} (result : Result A B) (v w : GameView) (command : Command) → OnOk result (w ≡ handed_game command v) → OnErr result (w ≡ v) → IsSameStay v w
+handed_stay (Ok value) v w command handed same = rw handed (record { tag = refl; frame_tag_is = refl; row = refl; flag = refl })
+handed_stay (Err error) v w command handed same = rw same (record { tag = refl; frame_tag_is = refl; row = refl; flag = refl })
+
+taken_frame_tag : (k : JobKind) (worker game p number : ℕ) (tally : Option TallyId) (keys : List Key) (v : GameView)
+    → (taken_game worker (record { game = game; kind = k; part = p }) number tally keys v).frames.tag ≡ v.frames.tag
+taken_frame_tag kind.Begin worker game p number tally keys v = refl
+taken_frame_tag kind.Part worker game p number tally keys v = refl
+taken_frame_tag kind.Join worker game p number tally keys v = refl
+
+pub taken_stay : {A B : Type 0} (result : Result A B) (v w : GameView) (worker : ℕ) (job : JobName) (number : ℕ) (tally : Option TallyId) (keys : List Key)
+    → OnOk result (w ≡ taken_game worker job number tally keys v) → OnErr result (w ≡ v) → IsSameStay v w
+taken_stay (Ok value) v w worker job number tally keys taken same =
+    let boards = taken_boards v.lane w.lane worker job.kind job.part (ap (λ (u : GameView). u.lane) taken) in
+    record {
+      tag = ap (λ (u : GameView). u.tag) taken;
+      frame_tag_is = ap (λ (u : GameView). u.frames.tag) taken ∙ taken_frame_tag job.kind worker job.game job.part number tally keys v;
+      row = boards.row;
+      flag = boards.flag;
+    }
+taken_stay (Err error) v w worker job number tally keys taken same = rw same (record { tag = refl; frame_tag_is = refl; row = refl; flag = refl })
+
+completed_as : (k : JobKind) (cap p number : ℕ) (v : GameView) → IsSameStay v (completed_game cap k p number v)
+completed_as kind.Begin cap p number v =
+    elim (cases_Bool (goes_on v.lane)) [
+      | inl goes ↦ rw goes (record { tag = refl; frame_tag_is = refl; row = refl; flag = refl })
+      | inr stays ↦ rw stays (record { tag = refl; frame_tag_is = refl; row = refl; flag = refl })
+    ]
+completed_as kind.Part cap p number v = record { tag = refl; frame_tag_is = refl; row = refl; flag = refl }
+completed_as kind.Join cap p number v = record { tag = refl; frame_tag_is = refl; row = refl; flag = refl }
+
+pub completed_stay : (k : JobKind) (cap p number : ℕ) (v w : GameView) → w ≡ completed_game cap k p number v → IsSameStay v w
+completed_stay k cap p number v w is = rw is (completed_as k cap p number v)
+
+-- a core stays sound if an open stay changes and its blocks are still its own
+
+open_beside : (games : List GameView) (game other : ℕ) (w : GameView) → other ≢ game → game_at (slice_set games game w) other ≡ game_at games other
+open_beside games game other w differ = get_or-set_other games game other w no_game differ
+
+others_left : (cap game other : ℕ) (v : GameView) (pool pool' : Ledger) → other ≢ game → IsAtRow cap other v pool
+    → LeavesBut (record_tag game) (frame_tag game) pool pool' → IsAtRow cap other v pool'
+others_left cap game other v pool pool' differ at leaves =
+    let tag : v.tag ≡ 2 * other = at.tag in
+    let frames : v.frames.tag ≡ 2 * other + 1 = at.frame_tag_is in
+    record {
+      tag = at.tag;
+      frame_tag_is = at.frame_tag_is;
+      blocks = left_blocks cap v (record_tag game) (frame_tag game) pool pool' at.blocks
+          (λ same. differ (let twice : v.tag ≡ 2 * game = same in omega (arith, tag, twice)))
+          (λ same. let odd : v.tag ≡ 2 * game + 1 = same in omega (arith, tag, odd))
+          (λ same. let even : v.frames.tag ≡ 2 * game = same in omega (arith, frames, even))
+          (λ same. differ (let twice : v.frames.tag ≡ 2 * game + 1 = same in omega (arith, frames, twice))) leaves;
+    }
+
+changed_rows : (cap game : ℕ) (games : List GameView) (v w : GameView) (pool pool' : Ledger) → AreAtRows cap games pool → game < length games → v ≡ game_at games game
+    → v.lane.is_open ≡ true → IsSameStay v w → HasBlocks cap w pool' → LeavesBut v.tag v.frames.tag pool pool' → AreAtRows cap (slice_set games game w) pool'
+changed_rows cap game games v w pool pool' all within there stands same has leaves other less is_open =
+    let here : IsAtRow cap game v pool = rw there (all game within (rw (← there) stands)) in
+    elim (cases_eq other game) [
+      | inl is ↦
+          rw (get_or-set_at games game other w no_game is within, is)
+          (record { tag = same.tag ∙ here.tag; frame_tag_is = same.frame_tag_is ∙ here.frame_tag_is; blocks = has })
+      | inr differ ↦
+          let before : other < length games = let l = length-set games game w in omega (arith, l) in
+          let beside = open_beside games game other w differ in
+          let leaves_rows = subst (λ (own : ℕ). LeavesBut (record_tag game) own pool pool') here.frame_tag_is (subst (λ (own : ℕ). LeavesBut own v.frames.tag pool pool') here.tag leaves) in
+          rw beside (others_left cap game other (game_at games other) pool pool' differ (all other before (rw (← beside) is_open)) leaves_rows)
+    ]
+
+changed_gone : (game : ℕ) (games : List GameView) (w : GameView) → AreGone games → w.lane.is_open ≡ true → game < length games → AreGone (slice_set games game w)
+changed_gone game games w gone stands within other less shut =
+    elim (cases_eq other game) [
+      | inl here ↦
+          let there = get_or-set_at games game other w no_game here within in
+          let wrong : true ≡ false = sym stands ∙ ap (λ (u : GameView). u.lane.is_open) (sym there) ∙ shut in
+          absurd cc
+      | inr differ ↦
+          let before : other < length games = let l = length-set games game w in omega (arith, l) in
+          let beside = open_beside games game other w differ in
+          rw beside (gone other before (rw (← beside) shut))
+    ]
 
 -- the reservations are still right if a lane changes and keeps its row
 kept_aside : (cap game : ℕ) (lanes : List Lane) (rs rs' : List Reservation) (x : Lane) → AreReserved cap (open_blocks cap lanes) lanes rs → rs' ≡ rs → game < length lanes
@@ -120,156 +141,209 @@ kept_aside cap game lanes rs rs' x reserved same within row flag =
     rw same (with_room cap (open_blocks cap lanes) (open_blocks cap (slice_set lanes game x)) (slice_set lanes game x) rs
     (reserved_changed cap (open_blocks cap lanes) game lanes rs x reserved within row flag) (omega arith))
 
--- a core stays sound if the lane of an open stay changes and its heap and frames still match it
-pub sound_lane : (cap : ℕ) {at : ℕ} (c : Inside at) (game : ℕ) (x : Lane) → IsSound cap c → game < length c.fibers.items → (lane_of c.fibers.items game).is_open ≡ true
-    → x.row ≡ (lane_of c.fibers.items game).row → x.is_open ≡ (lane_of c.fibers.items game).is_open
-    → IsHeapOf cap (record_tag game) x (heap_of c.heaps.items game) c.pool
-    → AreFramesOf (frame_tag game) x (frames_at c.frames.items game) c.pool
-    → IsSound cap (record c { fibers = with_item c.fibers game x })
-sound_lane cap c game x sound within stands row flag here frames =
-    let long = length-set c.fibers.items game x in
+pub sound_game : (cap : ℕ) {at : ℕ} (c : Inside at) (game : ℕ) (v w : GameView) (pool : Ledger) → IsSound cap c → game < length c.list.items
+    → v ≡ game_at c.list.items game → v.lane.is_open ≡ true → IsSameStay v w → HasBlocks cap w pool → LeavesBut v.tag v.frames.tag c.pool pool
+    → IsSound cap (record c { list = with_item c.list game w; pool = pool })
+sound_game cap c game v w pool sound within there stands same has leaves =
+    let games = c.list.items in
+    let lanes = lanes_in games in
+    let long = length-set games game w in
     let few = sound.few in
+    let many = many_lanes games in
+    let set = lanes_set games game w in
+    let lane : lane_of lanes game ≡ v.lane = lane_at games game ∙ ap (λ (u : GameView). u.lane) (sym there) in
+    let row : w.lane.row ≡ (lane_of lanes game).row = same.row ∙ ap (λ (x : Lane). x.row) (sym lane) in
+    let flag : w.lane.is_open ≡ (lane_of lanes game).is_open = same.flag ∙ ap (λ (x : Lane). x.is_open) (sym lane) in
     record {
       wide = sound.wide;
       plan = sound.plan;
       few = omega (arith, long, few);
-      listed = sound.listed ∙ sym (open_same game c.fibers.items x flag);
-      many = sound.many ∙ sym long;
-      heaps = changed_lane cap game c.fibers.items c.heaps.items c.pool x sound.heaps within here;
-      as_many = sound.as_many ∙ sym long;
-      frames = changed_lane_frames game c.fibers.items c.frames.items c.pool x sound.frames within frames;
-      gone = changed_gone game c.fibers.items c.heaps.items c.heaps.items x sound.gone (flag ∙ stands) within (λ other differ. refl);
-      reserved = kept_aside cap game c.fibers.items c.pool.reservations c.pool.reservations x sound.reserved refl within row flag;
+      listed = rw set (sound.listed ∙ sym (open_same game lanes w.lane flag));
+      blocks = changed_rows cap game games v w c.pool pool sound.blocks within there stands same has leaves;
+      gone = changed_gone game games w sound.gone (same.flag ∙ stands) within;
+      reserved = rw set (kept_aside cap game lanes c.pool.reservations pool.reservations w.lane sound.reserved leaves.reservations (omega (arith, many, within)) row flag);
     }
 
--- where its frames change too
-pub sound_turn : (cap : ℕ) {at : ℕ} (c : Inside at) (game : ℕ) (x : Lane) (f : FramesView) → IsSound cap c → game < length c.fibers.items
-    → (lane_of c.fibers.items game).is_open ≡ true
-    → x.row ≡ (lane_of c.fibers.items game).row → x.is_open ≡ (lane_of c.fibers.items game).is_open
-    → IsHeapOf cap (record_tag game) x (heap_of c.heaps.items game) c.pool
-    → AreFramesOf (frame_tag game) x f c.pool
-    → IsSound cap (record c { fibers = with_item c.fibers game x; frames = with_item c.frames game f })
-sound_turn cap c game x f sound within stands row flag here frames =
-    let long = length-set c.fibers.items game x in
-    let as_long = length-set c.frames.items game f in
-    let few = sound.few in
-    record {
-      wide = sound.wide;
-      plan = sound.plan;
-      few = omega (arith, long, few);
-      listed = sound.listed ∙ sym (open_same game c.fibers.items x flag);
-      many = sound.many ∙ sym long;
-      heaps = changed_lane cap game c.fibers.items c.heaps.items c.pool x sound.heaps within here;
-      as_many = as_long ∙ sound.as_many ∙ sym long;
-      frames =
-          changed_frames game c.fibers.items c.frames.items c.pool c.pool x f sound.frames sound.as_many within frames (leaves_all (record_tag game) (frame_tag game) c.pool);
-      gone = changed_gone game c.fibers.items c.heaps.items c.heaps.items x sound.gone (flag ∙ stands) within (λ other differ. refl);
-      reserved = kept_aside cap game c.fibers.items c.pool.reservations c.pool.reservations x sound.reserved refl within row flag;
-    }
+-- where the records and the frame blocks of a game lie once its job was taken
+pub taken_storage_is : (k : JobKind) (game worker p number : ℕ) (games : List GameView) (pool pool' : Ledger) (tally : Option TallyId) (keys : List Key) (v w : GameView)
+    → v ≡ game_at games game → v.frames.tag ≡ frame_tag game → number ≡ next_number pool
+    → w ≡ taken_game worker (record { game = game; kind = k; part = p }) number tally keys v
+    → pool' ≡ pool_taken k v.frames.tag number pool → storage_in (slice_set games game w) pool' ≡ storage_taken k game p (storage_in games pool)
+taken_storage_is kind.Begin game worker p number games pool pool' tally keys v w there tag is taken drawn =
+    rw (
+      same_packings games game w (ap (λ (u : GameView). u.packing) (taken ∙ ap (taken_game worker (record { game = game; kind = kind.Begin; part = p }) number tally keys) there)),
+      same_numbers games game w (ap (λ (u : GameView). u.frames.numbers) (taken ∙ ap (taken_game worker (record { game = game; kind = kind.Begin; part = p }) number tally keys) there)),
+      drawn,
+    )
+    refl
+taken_storage_is kind.Part game worker p number games pool pool' tally keys v w there tag is taken drawn =
+    let same = ap (λ (u : GameView). u.packing) taken ∙ ap (λ (u : GameView). u.packing) there in
+    let at = numbers_at games game pool ∙ ap (λ (u : GameView). u.frames.numbers) (sym there) in
+    let numbers : w.frames.numbers ≡ slice_set v.frames.numbers p (Some number) = ap (λ (u : GameView). u.frames.numbers) taken in
+    rw (same_packings games game w same, numbers_set games game w, numbers, drawn, tag, is, ← at) refl
+taken_storage_is kind.Join game worker p number games pool pool' tally keys v w there tag is taken drawn =
+    rw (
+      same_packings games game w (ap (λ (u : GameView). u.packing) taken ∙ ap (λ (u : GameView). u.packing) there),
+      same_numbers games game w (ap (λ (u : GameView). u.frames.numbers) taken ∙ ap (λ (u : GameView). u.frames.numbers) there),
+      drawn,
+    )
+    refl
 
--- and if its heap and its blocks in the pool change
-pub sound_game : (cap : ℕ) {at : ℕ} (c : Inside at) (game : ℕ) (x : Lane) (heap : Heap) (f : FramesView) (pool : Ledger) → IsSound cap c → game < length c.fibers.items
-    → (lane_of c.fibers.items game).is_open ≡ true
-    → x.row ≡ (lane_of c.fibers.items game).row → x.is_open ≡ (lane_of c.fibers.items game).is_open
-    → IsHeapOf cap (record_tag game) x heap pool → AreFramesOf (frame_tag game) x f pool
-    → LeavesBut (record_tag game) (frame_tag game) c.pool pool
-    → IsSound cap (record c { fibers = with_item c.fibers game x; heaps = with_item c.heaps game heap; frames = with_item c.frames game f; pool = pool })
-sound_game cap c game x heap f pool sound within stands row flag here frames leaves =
-    let long = length-set c.fibers.items game x in
-    let heaps_long = length-set c.heaps.items game heap in
-    let frames_long = length-set c.frames.items game f in
-    let few = sound.few in
-    record {
-      wide = sound.wide;
-      plan = sound.plan;
-      few = omega (arith, long, few);
-      listed = sound.listed ∙ sym (open_same game c.fibers.items x flag);
-      many = heaps_long ∙ sound.many ∙ sym long;
-      heaps = changed_heaps cap game c.fibers.items c.heaps.items c.pool pool x heap sound.heaps sound.many within here leaves;
-      as_many = frames_long ∙ sound.as_many ∙ sym long;
-      frames = changed_frames game c.fibers.items c.frames.items c.pool pool x f sound.frames sound.as_many within frames leaves;
-      gone = changed_gone game c.fibers.items c.heaps.items (slice_set c.heaps.items game heap) x sound.gone (flag ∙ stands) within
-          (λ other differ. get_or-set_other c.heaps.items game other heap (empty_heap 0 0) differ);
-      reserved = kept_aside cap game c.fibers.items c.pool.reservations pool.reservations x sound.reserved leaves.reservations within row flag;
-    }
+-- ---- a job is completed
 
--- a core of which a game's job was taken: its heap may have grown its index
+pub completed_lane : (k : JobKind) (cap p number : ℕ) (v w : GameView) → w ≡ completed_game cap k p number v → w.lane ≡ with_put k p v.lane
+completed_lane kind.Begin cap p number v w is =
+    ap (λ (u : GameView). u.lane) is
+    ∙ elim (cases_Bool (goes_on v.lane)) [
+      | inl goes ↦ rw goes refl
+      | inr stays ↦ rw stays refl
+    ]
+completed_lane kind.Part cap p number v w is = ap (λ (u : GameView). u.lane) is
+completed_lane kind.Join cap p number v w is = ap (λ (u : GameView). u.lane) is
 
-pub roomier_heap : (cap own : ℕ) (x y : Lane) (heap new : Heap) (pool : Ledger) → IsHeapOf cap own x heap pool → y.row.quota ≡ x.row.quota → y.game ≡ x.game
-    → new ≡ with_index_room new.index_room heap → (may_answer y.stage ≡ true → 0 < new.index_room) → IsHeapOf cap own y new pool
-roomier_heap cap own x y heap new pool kept quota boards grown room =
-    record {
-      tag = ap (λ (h : Heap). h.tag) grown ∙ kept.tag;
-      quota = ap (λ (h : Heap). h.quota) grown ∙ kept.quota ∙ sym quota;
-      records = ap (λ (h : Heap). h.records) grown ∙ kept.records ∙ ap (map record_of) (sym boards);
-      held = subst (λ (h : Heap). IsKeptIn h pool) (sym grown) kept.held;
-      blocks = subst (λ (h : Heap). blocks_for cap h.quota ≤ reserved h.tag pool) (sym grown) kept.blocks;
-      room = room;
-    }
+completed_tally_is : (k : JobKind) (cap p number : ℕ) (v : GameView) → (completed_game cap k p number v).frames.tally ≡ v.frames.tally
+completed_tally_is kind.Begin cap p number v =
+    elim (cases_Bool (goes_on v.lane)) [
+      | inl goes ↦ rw goes refl
+      | inr stays ↦ rw stays refl
+    ]
+completed_tally_is kind.Part cap p number v = refl
+completed_tally_is kind.Join cap p number v = refl
 
--- the packings are unchanged
-pub same_packings : (game : ℕ) (heaps : List Heap) (heap new : Heap) → heap ≡ heap_of heaps game → new ≡ with_index_room new.index_room heap
-    → map (λ (h : Heap). h.packing) (slice_set heaps game new) ≡ map (λ (h : Heap). h.packing) heaps
-same_packings game heaps heap new is grown =
-    map-set_same (λ (h : Heap). h.packing) heaps game new (empty_heap 0 0) (ap (λ (h : Heap). h.packing) (grown ∙ ap (with_index_room new.index_room) is))
+pub completed_tally : (k : JobKind) (cap p number : ℕ) (v w : GameView) → w ≡ completed_game cap k p number v → w.frames.tally ≡ v.frames.tally
+completed_tally k cap p number v w is = ap (λ (u : GameView). u.frames.tally) is ∙ completed_tally_is k cap p number v
 
--- a command was queued, or was not because memory ran out
+-- the command is answered, and the frame blocks are given back
+answered_there : (cap game : ℕ) (games : List GameView) (pool pool' : Ledger) (v w : GameView) → v ≡ game_at games game → v.tag ≡ record_tag game
+    → w ≡ answered_game cap (next_number pool) v → pool' ≡ pool_completed cap kind.Join v pool
+    → storage_in (slice_set games game w) pool' ≡ without_frames game (stored cap game (answer_effect v.lane) (storage_in games pool))
+answered_there cap game games pool pool' v w there tag is given =
+    let packing = packing_at games game pool ∙ ap (λ (u : GameView). u.packing) (sym there) in
+    let numbers = numbers_at games game pool ∙ ap (λ (u : GameView). u.frames.numbers) (sym there) in
+    let none : w.frames.numbers ≡ [] = ap (λ (u : GameView). u.frames.numbers) is in
+    let packed = ap (λ (u : GameView). u.packing) is in
+    rw (packings_set games game w, numbers_set games game w, none, packed, given, ← tag, ← packing, ← numbers) refl
 
-pub record SameStage (x y : Lane) : Type 0 where
-  pub row : y.row ≡ x.row
-  pub flag : y.is_open ≡ x.is_open
-  pub game : y.game ≡ x.game
-  pub stage : y.stage ≡ x.stage
-  pub view : lane_view y ≡ lane_view x
-  pub command : lane_command y ≡ lane_command x
-  pub parts : y.parts ≡ x.parts
+pub completed_storage : (k : JobKind) (cap game p : ℕ) (games : List GameView) (pool pool' : Ledger) (v w : GameView) → v ≡ game_at games game → v.tag ≡ record_tag game
+    → (k ≡ kind.Begin → v.frames.numbers ≡ []) → w ≡ completed_game cap k p (next_number pool) v → pool' ≡ pool_completed cap k v pool
+    → storage_in (slice_set games game w) pool' ≡ storage_put k cap game v.lane (storage_in games pool)
+completed_storage kind.Begin cap game p games pool pool' v w there tag none is given =
+    elim (cases_Bool (goes_on v.lane)) [
+      | inl goes ↦
+          let went : w ≡ forked_game v = rw goes at is in
+          let same_pool : pool' ≡ pool = rw goes at given in
+          let same : w.packing ≡ (game_at games game).packing = ap (λ (u : GameView). u.packing) went ∙ ap (λ (u : GameView). u.packing) there in
+          let numbers : w.frames.numbers ≡ replicate (length (forked v.lane).parts) None = ap (λ (u : GameView). u.frames.numbers) went in
+          rw (goes, same_packings games game w same, numbers_set games game w, numbers, same_pool) refl
+      | inr stays ↦
+          let went : w ≡ answered_game cap (next_number pool) v = rw stays at is in
+          let pool_is : pool' ≡ pool_completed cap kind.Join v pool = rw stays at given in
+          let nothing : frames_of (storage_in games pool) game ≡ [] = numbers_at games game pool ∙ ap (λ (u : GameView). u.frames.numbers) (sym there) ∙ none refl in
+          let other : kind.Begin ≢ kind.Part = λ same. absurd cc in
+          rw stays (answered_there cap game games pool pool' v w there tag went pool_is
+          ∙ answered_storage kind.Begin cap game v.lane (storage_in games pool) other (λ begins. nothing))
+    ]
+completed_storage kind.Part cap game p games pool pool' v w there tag none is given =
+    rw (
+      same_packings games game w (ap (λ (u : GameView). u.packing) is ∙ ap (λ (u : GameView). u.packing) there),
+      same_numbers games game w (ap (λ (u : GameView). u.frames.numbers) is ∙ ap (λ (u : GameView). u.frames.numbers) there),
+      given,
+    )
+    refl
+completed_storage kind.Join cap game p games pool pool' v w there tag none is given = answered_there cap game games pool pool' v w there tag is given
 
-pub same_stage : {A B : Type 0} (result : Result A B) (x y : Lane) (command : Command) → OnOk result (y ≡ with_waiting command x) → OnErr result (y ≡ x)
-    → SameStage x y
-same_stage (Ok value) x y command handed same =
-    record { row = ap (λ (z : Lane). z.row) handed; flag = ap (λ (z : Lane). z.is_open) handed; game = ap (λ (z : Lane). z.game) handed; stage = ap (λ (z : Lane). z.stage) handed; view = ap lane_view handed; command = ap lane_command handed; parts = ap (λ (z : Lane). z.parts) handed }
-same_stage (Err error) x y command handed same =
-    record { row = ap (λ (z : Lane). z.row) same; flag = ap (λ (z : Lane). z.is_open) same; game = ap (λ (z : Lane). z.game) same; stage = ap (λ (z : Lane). z.stage) same; view = ap lane_view same; command = ap lane_command same; parts = ap (λ (z : Lane). z.parts) same }
+-- ---- the stay of a row, and the games once it has changed
 
-pub handed_heap : (cap own : ℕ) (x y : Lane) (heap : Heap) (pool : Ledger) → IsHeapOf cap own x heap pool → SameStage x y → IsHeapOf cap own y heap pool
-handed_heap cap own x y heap pool kept same =
-    record {
-      tag = kept.tag;
-      quota = kept.quota ∙ ap (λ (row : GameRow). row.quota) (sym same.row);
-      records = kept.records ∙ ap (map record_of) (sym same.game);
-      held = kept.held;
-      blocks = kept.blocks;
-      room = λ may. kept.room (ap may_answer (sym same.stage) ∙ may);
-    }
+pub record IsThere {at : ℕ} (c : Inside at) (view : GamesView) (game : ℕ) (v : GameView) : Type 0 where
+  pub within : game < length c.list.items
+  pub there : v ≡ game_at c.list.items game
+  pub lane : lane_of view.lanes game ≡ v.lane
 
-abbrev moved_frames : View → Command → List PartState → List (Option (List ℕ))
-moved_frames view command parts = map (λ p. Some (frame_of (moved_part p view command))) (range_with_len 0 (length parts))
+pub stay_there : {at : ℕ} (c : Inside at) (view : GamesView) (game : ℕ) (v : GameView) → games_in c ≡ view → game < length view.lanes
+    → v ≡ get_or c.list.items game v → IsThere c view game v
+stay_there c view game v is less read =
+    let games = c.list.items in
+    let many = many_lanes games in
+    let same = ap (λ (u : GamesView). length u.lanes) is in
+    let within : game < length games = omega (arith, many, same, less) in
+    let lane : lane_of view.lanes game ≡ lane_of (lanes_in games) game = ap (λ (u : GamesView). lane_of u.lanes game) (sym is) in
+    record { within = within; there = read_at games game v no_game within read; lane = lane ∙ lane_read games game v within read }
 
-same_moved : (x y : Lane) → lane_view y ≡ lane_view x → lane_command y ≡ lane_command x → y.parts ≡ x.parts
-    → moved_frames (lane_view x) (lane_command x) x.parts ≡ moved_frames (lane_view y) (lane_command y) y.parts
-same_moved x y view command parts =
-    ap (λ (v : View). moved_frames v (lane_command x) x.parts) (sym view) ∙ ap (λ (c : Command). moved_frames (lane_view y) c x.parts) (sym command)
-    ∙ ap (λ (ps : List PartState). moved_frames (lane_view y) (lane_command y) ps) (sym parts)
+pub names_there : {at : ℕ} (c : Inside at) (view : GamesView) (job : JobName) (v : GameView) → games_in c ≡ view → IsThere c view job.game v
+    → v.frames.tag ≡ frame_tag job.game → own_names v job ≡ names_for view.storage job
+names_there c view job v is here tag =
+    let named : ℕ → List (Option ℕ) → List (ℕ × ℕ) = λ own ns. map (λ n. (own, n)) (job_numbers job.kind job.part ns) in
+    let numbers = ap (λ (u : GameView). u.frames.numbers) here.there ∙ sym (numbers_at c.list.items job.game c.pool) in
+    ap (λ (own : ℕ). named own v.frames.numbers) tag ∙ ap (named (frame_tag job.game)) numbers ∙ ap (λ (u : GamesView). names_for u.storage job) is
 
-same_at : (s : Stage) (x y : Lane) (f : FramesView) → lane_view y ≡ lane_view x → lane_command y ≡ lane_command x → y.parts ≡ x.parts
-    → AreFramesAt s x f → AreFramesAt s y f
-same_at stage.Idle x y f view command parts at = at
-same_at (stage.Begin worker) x y f view command parts at = record { none = at.none; keys = rw (view, command) at.keys }
-same_at stage.Parts x y f view command parts at = record {
-  all = at.all ∙ ap length (sym parts);
-  same = at.same ∙ ap length (sym parts);
-  each = λ p number bytes n_is b_is.
-      let state : part_at y p ≡ part_at x p = ap (λ (ps : List PartState). slice_index_or ps p part.Done) parts in
-      rw state (same_frame (part_at x p) x y p number bytes (sym view) (sym command) (at.each p number bytes n_is b_is));
-}
-same_at (stage.Join None) x y f view command parts at = record { all = rw parts at.all; bytes_are = at.bytes_are ∙ same_moved x y view command parts }
-same_at (stage.Join (Some worker)) x y f view command parts at = record { all = rw parts at.all; none = rw parts at.none }
+pub game_set : (games : List GameView) (game : ℕ) (w : GameView) → game < length games → game_at (slice_set games game w) game ≡ w
+game_set games game w within = get_or-set_same games game w no_game within
 
-pub handed_frames : (own : ℕ) (x y : Lane) (f : FramesView) (pool : Ledger) → AreFramesOf own x f pool → SameStage x y → AreFramesOf own y f pool
-handed_frames own x y f pool are same = record {
-  tag = are.tag;
-  held = are.held;
-  room = are.room;
-  few = are.few;
-  at = subst (λ (s : Stage). AreFramesAt s y f) (sym same.stage) (same_at x.stage x y f same.view same.command same.parts are.at);
-}
+pub lane_set : (games : List GameView) (game : ℕ) (w : GameView) → game < length games → lane_of (lanes_in (slice_set games game w)) game ≡ w.lane
+lane_set games game w within = lane_at (slice_set games game w) game ∙ ap (λ (u : GameView). u.lane) (game_set games game w within)
+
+pub names_set : (games : List GameView) (job : JobName) (w : GameView) (pool : Ledger) → job.game < length games → w.frames.tag ≡ frame_tag job.game
+    → own_names w job ≡ names_for (storage_in (slice_set games job.game w) pool) job
+names_set games job w pool within tag =
+    let named : ℕ → List (Option ℕ) → List (ℕ × ℕ) = λ own ns. map (λ n. (own, n)) (job_numbers job.kind job.part ns) in
+    let numbers = ap (λ (u : GameView). u.frames.numbers) (sym (game_set games job.game w within)) ∙ sym (numbers_at (slice_set games job.game w) job.game pool) in
+    ap (λ (own : ℕ). named own w.frames.numbers) tag ∙ ap (named (frame_tag job.game)) numbers
+
+pub row_there : (cap : ℕ) {at : ℕ} (c : Inside at) (view : GamesView) (game : ℕ) (v : GameView) → IsSound cap c → IsThere c view game v → v.lane.is_open ≡ true
+    → IsAtRow cap game v c.pool
+row_there cap c view game v sound here stands = rw here.there (sound.blocks game here.within (rw (← here.there) stands))
+
+pub open_with_out : (cap : ℕ) {at : ℕ} (c : Inside at) (view : GamesView) (game worker : ℕ) (k : JobKind) (p : ℕ) (v : GameView) → IsSound cap c → IsThere c view game v
+    → is_out worker v.lane k p ≡ true → v.lane.is_open ≡ true
+open_with_out cap c view game worker k p v sound here out =
+    rw here.there (open_out cap c game worker k p sound here.within (rw (← here.there) out))
+
+pub open_with_ready : (cap : ℕ) {at : ℕ} (c : Inside at) (view : GamesView) (game : ℕ) (k : JobKind) (p : ℕ) (v : GameView) → IsSound cap c → IsThere c view game v
+    → is_ready v.lane k p ≡ true → v.lane.is_open ≡ true
+open_with_ready cap c view game k p v sound here ready =
+    rw here.there (open_ready cap c game k p sound here.within (rw (← here.there) ready))
+
+pub same_view : {at : ℕ} (c : Inside at) (game : ℕ) (v w : GameView) (pool : Ledger) → v ≡ game_at c.list.items game → w ≡ v → pool ≡ c.pool
+    → games_in (record c { list = with_item c.list game w; pool = pool }) ≡ games_in c
+same_view c game v w pool there same pool_is =
+    let back : slice_set c.list.items game w ≡ c.list.items = rw (same, there) (set-get_or c.list.items game no_game) in
+    rw (back, pool_is) refl
+
+pub handed_view : (cap : ℕ) {at : ℕ} (c : Inside at) (game : ℕ) (command : Command) (v w : GameView) → v ≡ game_at c.list.items game → w ≡ handed_game command v
+    → games_in (record c { list = with_item c.list game w }) ≡ after cap (games_in c) (event.Hand game command)
+handed_view cap c game command v w there is =
+    let games = c.list.items in
+    let lane : w.lane ≡ with_waiting command (lane_of (lanes_in games) game) =
+    ap (λ (u : GameView). u.lane) is ∙ ap (λ (u : GameView). with_waiting command u.lane) there ∙ ap (with_waiting command) (sym (lane_at games game)) in
+    let packings = same_packings games game w (ap (λ (u : GameView). u.packing) is ∙ ap (λ (u : GameView). u.packing) there) in
+    let numbers = same_numbers games game w (ap (λ (u : GameView). u.frames.numbers) is ∙ ap (λ (u : GameView). u.frames.numbers) there) in
+    let tallies = same_tallies game games v w there (ap (λ (u : GameView). u.frames.tally) is) in
+    rw (lanes_set games game w, packings, numbers, tallies, lane) refl
+
+pub handed_blocks : {A B : Type 0} (result : Result A B) (cap : ℕ) (v w : GameView) (command : Command) (pool : Ledger) → OnOk result (w ≡ handed_game command v)
+    → OnErr result (w ≡ v) → HasBlocks cap v pool → HasBlocks cap w pool
+handed_blocks (Ok value) cap v w command pool handed same has =
+    rw handed (record { records = has.records; room = has.room; frames = has.frames; frame_room = has.frame_room; apart = has.apart })
+handed_blocks (Err error) cap v w command pool handed same has = rw same has
+
+pub completed_view : (cap : ℕ) {at : ℕ} (c : Inside at) (job : JobName) (v w : GameView) (pool : Ledger) → v ≡ game_at c.list.items job.game → v.tag ≡ record_tag job.game
+    → (job.kind ≡ kind.Begin → v.frames.numbers ≡ []) → w ≡ completed_game cap job.kind job.part (next_number c.pool) v → pool ≡ pool_completed cap job.kind v c.pool
+    → games_in (record c { list = with_item c.list job.game w; pool = pool }) ≡ brought cap (games_in c) job
+completed_view cap c job v w pool there tag none is given =
+    let games = c.list.items in
+    let lane_is : v.lane ≡ lane_of (lanes_in games) job.game = ap (λ (u : GameView). u.lane) there ∙ sym (lane_at games job.game) in
+    let lane = completed_lane job.kind cap job.part (next_number c.pool) v w is in
+    let storage = completed_storage job.kind cap job.game job.part games c.pool pool v w there tag none is given in
+    let tallies = same_tallies job.game games v w there (completed_tally job.kind cap job.part (next_number c.pool) v w is) in
+    rw (lanes_set games job.game w, storage, tallies, lane, lane_is) refl
+
+pub taken_view : (cap : ℕ) {at : ℕ} (c : Inside at) (worker : ℕ) (job : JobName) (tally : Option TallyId) (keys : List Key) (v w : GameView) (pool : Ledger)
+    → v ≡ game_at c.list.items job.game → v.frames.tag ≡ frame_tag job.game → w ≡ taken_game worker job (next_number c.pool) tally keys v
+    → pool ≡ pool_taken job.kind v.frames.tag (next_number c.pool) c.pool
+    → games_in (record c { list = with_item c.list job.game w; pool = pool }) ≡ games_taken cap (games_in c) worker job (tallies_in (slice_set c.list.items job.game w))
+taken_view cap c worker job tally keys v w pool there tag is drawn =
+    let games = c.list.items in
+    let lane_is : v.lane ≡ lane_of (lanes_in games) job.game = ap (λ (u : GameView). u.lane) there ∙ sym (lane_at games job.game) in
+    let lane = ap (λ (u : GameView). u.lane) is in
+    let storage = taken_storage_is job.kind job.game worker job.part (next_number c.pool) games c.pool pool tally keys v w there tag refl is drawn in
+    rw (lanes_set games job.game w, storage, lane, lane_is) refl

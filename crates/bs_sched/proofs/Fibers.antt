@@ -1,29 +1,21 @@
 -- The invariant of a fiber, after each event.
-use Rattle.std.proofs.Common.{◌≡◌, ℕ, ◌<◌, true, false, List, length, map, refl, sym, ap, subst, ◌∙◌, arith, Global, Vec, vec_len, vec_capacity}
+use Rattle.std.proofs.Common.{◌≡◌, ℕ, ◌<◌, true, false, length, refl, sym, ap, subst, ◌∙◌, arith, Global, Vec, vec_len, vec_capacity}
 use Rattle.std.specs.Prelude.{Option, Some, None, IfSome, MatchOption, drop, nat_eq, slice_set}
-use Rattle.std.specs.List.{list_all, filter_map}
+use Rattle.std.specs.List.{list_all}
 use Rattle.std.proofs.lemmas.Bool.{eqb-true}
-use Rattle.std.proofs.lemmas.List.{length-drop, length-map, length-set}
-use Rattle.std.proofs.lemmas.List.Folds.{list_all-map}
+use Rattle.std.proofs.lemmas.List.{length-drop, length-set}
 use Rattle.bs_board.proofs.Chains.{and_both}
-use Rattle.bs_board.specs.declared.commands.command.Command.{Command}
 use Rattle.bs_board.specs.declared.commands.reply.Reply.{Reply}
-use Rattle.bs_board.specs.declared.boards.snake.Snake.{Snake}
 use Rattle.bs_game.specs.Game.{game_charge}
-use Rattle.bs_game.specs.declared.view.View.{View}
 use Rattle.bs_fiber.specs.declared.job.JobKind.TheVariants as kind
-use Rattle.bs_fiber.specs.Work.{moved_part}
 use Rattle.bs_sched.specs.declared.fiber.Fiber.TheInside.{Inside}
-use Rattle.bs_sched.specs.declared.fiber.Slot.{Slot}
-use Rattle.bs_sched.specs.declared.fiber.Slot.TheVariants as slot
+use Rattle.bs_sched.specs.declared.stage.PartState.{PartState}
+use Rattle.bs_sched.specs.declared.stage.PartState.TheVariants as part
 use Rattle.bs_sched.specs.declared.stage.Stage.{Stage}
 use Rattle.bs_sched.specs.declared.stage.Stage.TheVariants as stage
-use Rattle.bs_sched.specs.Inputs.{moved_parts_for}
-use Rattle.bs_sched.specs.Insides.{lane_in, IsFiber, IsAt, IsPlaying, IsJoining}
+use Rattle.bs_sched.specs.Insides.{lane_in, IsFiber, IsAt, IsPlaying}
 use Rattle.bs_sched.specs.Lane.{Lane, is_idle, is_quiet, is_part_done, is_ready, is_out, lane_view, lane_command, with_taken, with_part_done}
-use Rattle.bs_sched.specs.Slots.{state_of, emptied, moved_in}
 use Rattle.bs_sched.proofs.Lanes.{ready_join, out_part, joined_lane, done_lane}
-use Rattle.bs_sched.proofs.Parts.{collected, emptied_states, emptied_right, slots_set}
 
 -- the lane of a fiber that is at that stage
 
@@ -33,47 +25,23 @@ at_join f x is ready = ready_join (lane_in f) (subst (λ (y : Lane). is_ready y 
 at_parts : (f : Inside) (x : Lane) (worker p : ℕ) → lane_in f ≡ x → is_out worker x kind.Part p ≡ true → f.stage ≡ stage.Parts
 at_parts f x worker p is out = out_part (lane_in f) worker p (subst (λ (y : Lane). is_out worker y kind.Part p ≡ true) (sym is) out)
 
-joining : (f : Inside) → IsFiber f → f.stage ≡ stage.Join None → IsJoining false (lane_view (lane_in f)) (lane_command (lane_in f)) f.slots.items
-joining f kept at = subst (λ (s : Stage). IsAt s (lane_view (lane_in f)) (lane_command (lane_in f)) f.slots.items) at kept.stage
+joining : (f : Inside) → IsFiber f → f.stage ≡ stage.Join None → IsPlaying (lane_view (lane_in f)) (lane_command (lane_in f)) f.parts.items
+joining f kept at = subst (λ (s : Stage). IsAt s (lane_view (lane_in f)) (lane_command (lane_in f)) f.parts.items) at kept.stage
 
-playing : (f : Inside) → IsFiber f → f.stage ≡ stage.Parts → IsPlaying false (lane_view (lane_in f)) (lane_command (lane_in f)) f.slots.items
-playing f kept at = subst (λ (s : Stage). IsAt s (lane_view (lane_in f)) (lane_command (lane_in f)) f.slots.items) at kept.stage
+playing : (f : Inside) → IsFiber f → f.stage ≡ stage.Parts → IsPlaying (lane_view (lane_in f)) (lane_command (lane_in f)) f.parts.items
+playing f kept at = subst (λ (s : Stage). IsAt s (lane_view (lane_in f)) (lane_command (lane_in f)) f.parts.items) at kept.stage
 
--- all parts are joined
+-- the Join is taken
 
-pub joined_parts : (f : Inside) (x : Lane) (parts : List (List Snake)) → IsFiber f → lane_in f ≡ x → is_ready x kind.Join 0 ≡ true
-    → parts ≡ filter_map moved_in f.slots.items → parts ≡ moved_parts_for kind.Join x
-joined_parts f x parts kept is ready moved =
-    let here = joining f kept (at_join f x is ready) in
-    let all = collected (lane_view (lane_in f)) (lane_command (lane_in f)) f.slots.items here.playing.right here.done in
-    moved ∙ all ∙ ap (moved_parts_for kind.Join) is
-
-emptied_joining : (view : View) (command : Command) (slots new : List Slot) → new ≡ map emptied slots → IsJoining false view command slots
-    → IsJoining true view command new
-emptied_joining view command slots new is here =
-    let states : map state_of new ≡ map state_of slots = ap (map state_of) is ∙ emptied_states slots in
-    let many : length new ≡ length slots = ap length is ∙ length-map slots emptied in
-    record {
-      playing = record {
-        goes = here.playing.goes;
-        all = many ∙ here.playing.all;
-        few = let few = here.playing.few in omega (arith, many, few);
-        right = rw is (emptied_right view command slots here.done);
-      };
-      done = rw states here.done;
-    }
-
-pub joined_fiber : (f : Inside) (x : Lane) (replies : Vec Reply Global) (slots : Vec Slot Global) (worker : ℕ) → IsFiber f → lane_in f ≡ x
-    → is_ready x kind.Join 0 ≡ true → replies.items ≡ f.replies.items → vec_len replies < vec_capacity replies → slots.items ≡ map emptied f.slots.items
-    → vec_capacity slots ≡ vec_capacity f.slots → IsFiber (record f { replies = replies; stage = stage.Join (Some worker); slots = slots })
-joined_fiber f x replies slots worker kept is ready same room empty cap =
+pub joined_fiber : (f : Inside) (x : Lane) (replies : Vec Reply Global) (worker : ℕ) → IsFiber f → lane_in f ≡ x
+    → is_ready x kind.Join 0 ≡ true → replies.items ≡ f.replies.items → vec_len replies < vec_capacity replies
+    → IsFiber (record f { replies = replies; stage = stage.Join (Some worker) })
+joined_fiber f x replies worker kept is ready same room =
     let at = at_join f x is ready in
-    let new : Inside = record f { replies = replies; stage = stage.Join (Some worker); slots = slots } in
+    let new : Inside = record f { replies = replies; stage = stage.Join (Some worker) } in
     let lane : lane_in new ≡ with_taken worker kind.Join 0 (lane_in f)
-    = joined_lane f (lane_in f) replies slots worker refl (subst (λ (y : Lane). is_ready y kind.Join 0 ≡ true) (sym is) ready) same empty in
-    let here = emptied_joining (lane_view (lane_in f)) (lane_command (lane_in f)) f.slots.items slots.items empty (joining f kept at) in
+    = joined_lane f (lane_in f) replies worker refl (subst (λ (y : Lane). is_ready y kind.Join 0 ≡ true) (sym is) ready) same in
     let told = rw at at kept.replies in
-    let parts = kept.room.parts in
     record {
       begun = kept.begun;
       at = λ idle. kept.at (rw at refl);
@@ -82,42 +50,28 @@ joined_fiber f x replies slots worker kept is ready same room empty cap =
       fits = kept.fits;
       replies = same ∙ told;
       last = rw at at kept.last;
-      stage = subst (λ (y : Lane). IsJoining true (lane_view y) (lane_command y) slots.items) (sym lane) here;
-      room = record { reply = λ answers. room; parts = omega (arith, cap, parts) };
+      stage = subst (λ (y : Lane). IsPlaying (lane_view y) (lane_command y) f.parts.items) (sym lane) (joining f kept at);
+      room = record { reply = λ answers. room; parts = kept.room.parts };
     }
 
 -- a part is completed
 
-done_playing : (view : View) (command : Command) (slots : List Slot) (p : ℕ) (moved : List Snake) → IsPlaying false view command slots
-    → moved ≡ moved_part p view command → IsPlaying false view command (slice_set slots p (slot.Done (Some moved)))
-done_playing view command slots p moved here is =
-    let many = length-set slots p (slot.Done (Some moved)) in
-    record {
-      goes = here.goes;
-      all = many ∙ here.all;
-      few = let few = here.few in omega (arith, many, few);
-      right = slots_set view command slots p (slot.Done (Some moved)) here.right is;
-    }
-
-moved_before : (f : Inside) (x : Lane) (p : ℕ) (moved : List Snake) → lane_in f ≡ x → moved ≡ moved_part p (lane_view x) (lane_command x)
-    → moved ≡ moved_part p (lane_view (lane_in f)) (lane_command (lane_in f))
-moved_before f x p moved is same = subst (λ (y : Lane). moved ≡ moved_part p (lane_view y) (lane_command y)) (sym is) same
-
-pub done_fiber : (f : Inside) (x : Lane) (slots : Vec Slot Global) (moved : List Snake) (p worker : ℕ) → IsFiber f → lane_in f ≡ x
-    → is_out worker x kind.Part p ≡ true → moved ≡ moved_part p (lane_view x) (lane_command x) → slots.items ≡ slice_set f.slots.items p (slot.Done (Some moved))
-    → vec_capacity slots ≡ vec_capacity f.slots → list_all (λ s. is_part_done (state_of s)) slots.items ≡ true
-    → IsFiber (record f { stage = stage.Join None; slots = slots })
-done_fiber f x slots moved p worker kept is out brought same cap all =
+pub done_fiber : (f : Inside) (x : Lane) (parts : Vec PartState Global) (p worker : ℕ) → IsFiber f → lane_in f ≡ x
+    → is_out worker x kind.Part p ≡ true → parts.items ≡ slice_set f.parts.items p part.Done
+    → vec_capacity parts ≡ vec_capacity f.parts → list_all is_part_done parts.items ≡ true
+    → IsFiber (record f { stage = stage.Join None; parts = parts })
+done_fiber f x parts p worker kept is out same cap all =
     let at = at_parts f x worker p is out in
-    let new : Inside = record f { stage = stage.Join None; slots = slots } in
+    let new : Inside = record f { stage = stage.Join None; parts = parts } in
     let lane : lane_in new ≡ with_part_done p (lane_in f)
-    = done_lane f (lane_in f) slots moved p worker refl (subst (λ (y : Lane). is_out worker y kind.Part p ≡ true) (sym is) out) same all in
-    let before = moved_before f x p moved is brought in
-    let here = done_playing (lane_view (lane_in f)) (lane_command (lane_in f)) f.slots.items p moved (playing f kept at) before in
-    let states : list_all is_part_done (map state_of slots.items) ≡ true = list_all-map is_part_done state_of slots.items ∙ all in
-    let whole : IsJoining false (lane_view (lane_in f)) (lane_command (lane_in f)) slots.items = record { playing = rw same here; done = states } in
+    = done_lane f (lane_in f) parts p worker refl (subst (λ (y : Lane). is_out worker y kind.Part p ≡ true) (sym is) out) same all in
+    let here = playing f kept at in
+    let many : length parts.items ≡ length f.parts.items = ap length same ∙ length-set f.parts.items p part.Done in
+    let few = here.few in
+    let whole : IsPlaying (lane_view (lane_in f)) (lane_command (lane_in f)) parts.items
+    = record { goes = here.goes; all = many ∙ here.all; few = omega (arith, many, few) } in
     let told = rw at at kept.replies in
-    let parts = kept.room.parts in
+    let room = kept.room.parts in
     record {
       begun = kept.begun;
       at = λ idle. kept.at (rw at refl);
@@ -126,8 +80,8 @@ done_fiber f x slots moved p worker kept is out brought same cap all =
       fits = kept.fits;
       replies = told;
       last = rw at at kept.last;
-      stage = subst (λ (y : Lane). IsJoining false (lane_view y) (lane_command y) slots.items) (sym lane) whole;
-      room = record { reply = λ answers. let wrong : false ≡ true = answers in absurd cc; parts = omega (arith, cap, parts) };
+      stage = subst (λ (y : Lane). IsPlaying (lane_view y) (lane_command y) parts.items) (sym lane) whole;
+      room = record { reply = λ answers. let wrong : false ≡ true = answers in absurd cc; parts = omega (arith, cap, room) };
     }
 
 -- the stay leaves

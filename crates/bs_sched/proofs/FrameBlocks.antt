@@ -1,56 +1,57 @@
 -- The slots of a game's parts, filled and emptied.
-use Rattle.std.proofs.Common.{◌≡◌, ℕ, zero, suc, ◌+◌, ◌<◌, All, List, [], ◌∷◌, ◌++◌, length, map, drop, get_or, Option, Some, None, slice_get, set, replicate, refl, sym, ap, ◌∙◌, subst, arith}
+use Rattle.std.proofs.Common.{◌≡◌, ℕ, zero, suc, ◌+◌, ◌<◌, All, List, [], ◌∷◌, length, map, drop, get_or, Option, Some, None, slice_get, set, replicate, refl, sym, ap, ◌∙◌, subst, arith}
 use Rattle.std.specs.Prelude.{slice_index_or}
 use Rattle.std.proofs.lemmas.List.{length-map}
 use Rattle.std.proofs.lemmas.List.Elements.{All-cons, All-nil}
+use Rattle.bs_board.specs.declared.boards.snake.Snake.{Snake}
 use Rattle.bs_counter.specs.Keys.{Key, TallyId}
 use Rattle.bs_pool.specs.declared.owned.Owned.{Owned}
 use Rattle.bs_sched.specs.declared.frames.FrameSlot.{FrameSlot}
 use Rattle.bs_sched.specs.declared.frames.FrameSlot.TheVariants as slot
-use Rattle.bs_sched.specs.FrameSlots.{number_in, bytes_in, AreReadyAt, IsReadyAt, IsSlotOf}
+use Rattle.bs_sched.specs.FrameSlots.{number_in, moved_in, AreReadyAt, IsReadyAt, IsSlotOf}
 use Rattle.bs_sched.specs.Frames.{FramesView, known}
 use Rattle.bs_sched.specs.Keyed.{AreKeysOf, IsKeyAt}
 
-nothing_moved : {most : ℕ} (s : FrameSlot most) → number_in s ≡ None → bytes_in s ≡ None
+nothing_moved : {most : ℕ} (s : FrameSlot most) → number_in s ≡ None → moved_in s ≡ None
 nothing_moved (slot.Ready key) is = refl
 nothing_moved (slot.Out number) is = refl
-nothing_moved (slot.Back owned) is = absurd cc
+nothing_moved (slot.Back moved owned) is = absurd cc
 
 -- a block goes out
 pub sent : {most : ℕ} (slots : List (FrameSlot most)) (part n : ℕ) → slice_get (map number_in slots) part ≡ Some None
-    → (map number_in (set slots part (slot.Out n)) ≡ set (map number_in slots) part (Some n)) × (map bytes_in (set slots part (slot.Out n)) ≡ map bytes_in slots)
+    → (map number_in (set slots part (slot.Out n)) ≡ set (map number_in slots) part (Some n)) × (map moved_in (set slots part (slot.Out n)) ≡ map moved_in slots)
 sent [] part n free = absurd cc
 sent (s ∷ slots) zero n free =
     let none : number_in s ≡ None = let same : Some (number_in s) ≡ Some None = free in cc in
-    (refl, ap (λ (m : Option (List ℕ)). m ∷ map bytes_in slots) (sym (nothing_moved s none)))
+    (refl, ap (λ (m : Option (List Snake)). m ∷ map moved_in slots) (sym (nothing_moved s none)))
 sent (s ∷ slots) (suc part) n free =
     let rest = sent slots part n free in
-    (ap (λ (l : List (Option ℕ)). number_in s ∷ l) rest.0, ap (λ (l : List (Option (List ℕ))). bytes_in s ∷ l) rest.1)
+    (ap (λ (l : List (Option ℕ)). number_in s ∷ l) rest.0, ap (λ (l : List (Option (List Snake))). moved_in s ∷ l) rest.1)
 
 -- it is completed
-pub brought : {most : ℕ} (slots : List (FrameSlot most)) (part : ℕ) (owned : Owned most) → slice_get (map number_in slots) part ≡ Some (Some owned.number)
-    → (map number_in (set slots part (slot.Back owned)) ≡ map number_in slots) × (map bytes_in (set slots part (slot.Back owned)) ≡ set (map bytes_in slots) part (Some owned.block))
-brought [] part owned out = absurd cc
-brought (s ∷ slots) zero owned out =
+pub brought : {most : ℕ} (slots : List (FrameSlot most)) (part : ℕ) (moved : List Snake) (owned : Owned most) → slice_get (map number_in slots) part ≡ Some (Some owned.number)
+    → (map number_in (set slots part (slot.Back moved owned)) ≡ map number_in slots) × (map moved_in (set slots part (slot.Back moved owned)) ≡ set (map moved_in slots) part (Some moved))
+brought [] part moved owned out = absurd cc
+brought (s ∷ slots) zero moved owned out =
     let number : number_in s ≡ Some owned.number = let same : Some (number_in s) ≡ Some (Some owned.number) = out in cc in
     (ap (λ (n : Option ℕ). n ∷ map number_in slots) (sym number), refl)
-brought (s ∷ slots) (suc part) owned out =
-    let rest = brought slots part owned out in
-    (ap (λ (l : List (Option ℕ)). number_in s ∷ l) rest.0, ap (λ (l : List (Option (List ℕ))). bytes_in s ∷ l) rest.1)
+brought (s ∷ slots) (suc part) moved owned out =
+    let rest = brought slots part moved owned out in
+    (ap (λ (l : List (Option ℕ)). number_in s ∷ l) rest.0, ap (λ (l : List (Option (List Snake))). moved_in s ∷ l) rest.1)
 
-pub same_view : (tag : ℕ) (tally : Option TallyId) (keys : List Key) (ns ks : List (Option ℕ)) (ms ls : List (Option (List ℕ))) → ns ≡ ks → ms ≡ ls
-    → ◌≡◌ {A = FramesView} (record { tag = tag; tally = tally; keys = keys; numbers = ns; bytes = ms }) (record { tag = tag; tally = tally; keys = keys; numbers = ks; bytes = ls })
+pub same_view : (tag : ℕ) (tally : Option TallyId) (keys : List Key) (ns ks : List (Option ℕ)) (ms ls : List (Option (List Snake))) → ns ≡ ks → ms ≡ ls
+    → ◌≡◌ {A = FramesView} (record { tag = tag; tally = tally; keys = keys; numbers = ns; moved = ms }) (record { tag = tag; tally = tally; keys = keys; numbers = ks; moved = ls })
 same_view tag tally keys ns ks ms ls n m = rw (n, m) refl
 
 -- ---- the keys
 
 pub ready_slots : (most : ℕ) (keys : List Key)
     → (map (number_in {most = most}) (map (λ key. slot.Ready key) keys) ≡ replicate (length keys) None)
-    × (map (bytes_in {most = most}) (map (λ key. slot.Ready key) keys) ≡ replicate (length keys) None)
+    × (map (moved_in {most = most}) (map (λ key. slot.Ready key) keys) ≡ replicate (length keys) None)
 ready_slots most [] = (refl, refl)
 ready_slots most (key ∷ keys) =
     let rest = ready_slots most keys in
-    (ap (λ (l : List (Option ℕ)). None ∷ l) rest.0, ap (λ (l : List (Option (List ℕ))). None ∷ l) rest.1)
+    (ap (λ (l : List (Option ℕ)). None ∷ l) rest.0, ap (λ (l : List (Option (List Snake))). None ∷ l) rest.1)
 
 pub no_slot_stands : {most : ℕ} (tag : ℕ) (keys : List Key) → All (IsSlotOf {most = most} tag) (map (λ key. slot.Ready key) keys)
 no_slot_stands tag [] = All-nil (IsSlotOf tag)

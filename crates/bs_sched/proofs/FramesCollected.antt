@@ -7,7 +7,7 @@ use Rattle.std.proofs.lemmas.Option.{slice_get_read}
 use Rattle.bs_modes.proofs.InPlace.{set_next}
 use Rattle.bs_sched.specs.declared.frames.FrameSlot.{FrameSlot}
 use Rattle.bs_sched.specs.declared.frames.FrameSlot.TheVariants as slot
-use Rattle.bs_sched.specs.FrameSlots.{back_in}
+use Rattle.bs_sched.specs.FrameSlots.{back_in, moved_in}
 
 seam_here : {X : Type 0} (f : X → X) (xs : List X) (i : ℕ) (d : X) → get_or (map f (take i xs) ++ drop i xs) i d ≡ get_or xs i d
 seam_here f [] zero d = refl
@@ -45,4 +45,9 @@ few_collected h one (x ∷ xs) = let here = one x in let rest = few_collected h 
 pub one_block : {most : ℕ} (s : FrameSlot most) → length (option_to_list (back_in s)) ≤ 1
 one_block (slot.Ready key) = omega arith
 one_block (slot.Out number) = omega arith
-one_block (slot.Back owned) = omega arith
+one_block (slot.Back moved owned) = omega arith
+
+pub one_moved : {most : ℕ} (s : FrameSlot most) → length (option_to_list (moved_in s)) ≤ 1
+one_moved (slot.Ready key) = omega arith
+one_moved (slot.Out number) = omega arith
+one_moved (slot.Back moved owned) = omega arith

@@ -1,27 +1,21 @@
 -- A fiber's lane after each event.
-use Rattle.std.proofs.Common.{◌≡◌, ℕ, zero, suc, ◌+◌, ◌-◌, ◌<◌, true, false, List, [], ◌∷◌, length, drop, map, refl, sym, ap, subst, ◌∙◌, arith, Global, Vec}
+use Rattle.std.proofs.Common.{◌≡◌, ℕ, zero, suc, ◌+◌, ◌-◌, ◌<◌, true, false, List, [], ◌∷◌, length, drop, refl, sym, ap, subst, ◌∙◌, arith, Global, Vec}
 use Rattle.std.specs.Prelude.{Bool, ◌&&◌, nat_eq, Some, None, slice_set, replicate}
 use Rattle.std.specs.List.{list_all}
 use Rattle.std.proofs.Math.Seq.{take-add}
 use Rattle.std.proofs.lemmas.Bool.{ltb-true}
-use Rattle.std.proofs.lemmas.List.{map-set}
-use Rattle.std.proofs.lemmas.List.Folds.{list_all-map}
 use Rattle.bs_board.proofs.Chains.{and_both}
 use Rattle.bs_board.specs.declared.commands.reply.Reply.{Reply}
-use Rattle.bs_board.specs.declared.boards.snake.Snake.{Snake}
 use Rattle.bs_game.specs.Game.{last_board}
 use Rattle.bs_fiber.specs.declared.job.JobKind.TheVariants as kind
 use Rattle.bs_fiber.specs.Work.{parts_of, snakes_in}
 use Rattle.bs_sched.specs.declared.fiber.Fiber.TheInside.{Inside}
-use Rattle.bs_sched.specs.declared.fiber.Slot.{Slot}
-use Rattle.bs_sched.specs.declared.fiber.Slot.TheVariants as slot
 use Rattle.bs_sched.specs.declared.stage.Stage.{Stage}
 use Rattle.bs_sched.specs.declared.stage.Stage.TheVariants as stage
+use Rattle.bs_sched.specs.declared.stage.PartState.{PartState}
 use Rattle.bs_sched.specs.declared.stage.PartState.TheVariants as part
 use Rattle.bs_sched.specs.Insides.{lane_in}
 use Rattle.bs_sched.specs.Lane.{Lane, HasNoneReady, part_at, is_part_ready, is_idle, is_in_parts, is_to_join, has_begin, is_part_done, is_ready, is_out, with_taken, with_part_done, forked}
-use Rattle.bs_sched.specs.Slots.{state_of, emptied}
-use Rattle.bs_sched.proofs.Parts.{ready_states, emptied_states}
 
 pub drop_more : {X : Type 0} (n : ℕ) (xs : List X) → drop (n + 1) xs ≡ drop 1 (drop n xs)
 drop_more zero xs = refl
@@ -74,47 +68,39 @@ begun_lane f x replies worker is ready same =
     let less : f.begun + 1 - 1 ≡ f.begun = omega arith in
     rw (← is, less, take-add, drop_more, same, idle) refl
 
-pub part_lane : (f : Inside) (x : Lane) (slots : Vec Slot Global) (p worker : ℕ) → lane_in f ≡ x → slots.items ≡ slice_set f.slots.items p (slot.Out worker)
-    → lane_in (record f { slots = slots }) ≡ with_taken worker kind.Part p x
-part_lane f x slots p worker is same = rw (← is, same, map-set) refl
+pub part_lane : (f : Inside) (x : Lane) (parts : Vec PartState Global) (p worker : ℕ) → lane_in f ≡ x → parts.items ≡ slice_set f.parts.items p (part.Out worker)
+    → lane_in (record f { parts = parts }) ≡ with_taken worker kind.Part p x
+part_lane f x parts p worker is same = rw (← is, same) refl
 
-pub joined_lane : (f : Inside) (x : Lane) (replies : Vec Reply Global) (slots : Vec Slot Global) (worker : ℕ) → lane_in f ≡ x
-    → is_ready x kind.Join 0 ≡ true → replies.items ≡ f.replies.items → slots.items ≡ map emptied f.slots.items
-    → lane_in (record f { replies = replies; stage = stage.Join (Some worker); slots = slots }) ≡ with_taken worker kind.Join 0 x
-joined_lane f x replies slots worker is ready same empty =
+pub joined_lane : (f : Inside) (x : Lane) (replies : Vec Reply Global) (worker : ℕ) → lane_in f ≡ x → is_ready x kind.Join 0 ≡ true → replies.items ≡ f.replies.items
+    → lane_in (record f { replies = replies; stage = stage.Join (Some worker) }) ≡ with_taken worker kind.Join 0 x
+joined_lane f x replies worker is ready same =
     let at : f.stage ≡ stage.Join None = ready_join (lane_in f) (subst (λ (y : Lane). is_ready y kind.Join 0 ≡ true) (sym is) ready) in
-    rw (← is, same, empty, emptied_states, at) refl
+    rw (← is, same, at) refl
 
-pub forked_lane : (f : Inside) (x : Lane) (slots : Vec Slot Global) (parts worker : ℕ) → lane_in f ≡ x → is_out worker x kind.Begin 0 ≡ true
-    → parts ≡ parts_of (length (snakes_in (last_board x.game))) → slots.items ≡ replicate parts slot.Ready
-    → lane_in (record f { stage = stage.Parts; slots = slots }) ≡ forked x
-forked_lane f x slots parts worker is out many ready =
+pub forked_lane : (f : Inside) (x : Lane) (parts : Vec PartState Global) (many worker : ℕ) → lane_in f ≡ x → is_out worker x kind.Begin 0 ≡ true
+    → many ≡ parts_of (length (snakes_in (last_board x.game))) → parts.items ≡ replicate many part.Ready
+    → lane_in (record f { stage = stage.Parts; parts = parts }) ≡ forked x
+forked_lane f x parts many worker is out counted ready =
     let busy : is_idle f.stage ≡ false = out_begin (lane_in f) worker (subst (λ (y : Lane). is_out worker y kind.Begin 0 ≡ true) (sym is) out) in
-    let states = ready_states parts in
-    let count = rw (← is) at many in
-    rw (← is, ready, states, count, busy) refl
+    let count = rw (← is) at counted in
+    rw (← is, ready, count, busy) refl
 
-pub done_lane : (f : Inside) (x : Lane) (slots : Vec Slot Global) (moved : List Snake) (p worker : ℕ) → lane_in f ≡ x → is_out worker x kind.Part p ≡ true
-    → slots.items ≡ slice_set f.slots.items p (slot.Done (Some moved)) → list_all (λ s. is_part_done (state_of s)) slots.items ≡ true
-    → lane_in (record f { stage = stage.Join None; slots = slots }) ≡ with_part_done p x
-done_lane f x slots moved p worker is out same all =
+pub done_lane : (f : Inside) (x : Lane) (parts : Vec PartState Global) (p worker : ℕ) → lane_in f ≡ x → is_out worker x kind.Part p ≡ true
+    → parts.items ≡ slice_set f.parts.items p part.Done → list_all is_part_done parts.items ≡ true
+    → lane_in (record f { stage = stage.Join None; parts = parts }) ≡ with_part_done p x
+done_lane f x parts p worker is out same all =
     let at : f.stage ≡ stage.Parts = out_part (lane_in f) worker p (subst (λ (y : Lane). is_out worker y kind.Part p ≡ true) (sym is) out) in
-    let states : map state_of slots.items ≡ slice_set (map state_of f.slots.items) p part.Done
-    = ap (map state_of) same ∙ map-set state_of f.slots.items p (slot.Done (Some moved)) in
-    let test : list_all is_part_done (slice_set (map state_of f.slots.items) p part.Done) ≡ true
-    = ap (list_all is_part_done) (sym states) ∙ list_all-map is_part_done state_of slots.items ∙ all in
-    rw (← is, states, test, at) refl
+    let test : list_all is_part_done (slice_set f.parts.items p part.Done) ≡ true = ap (list_all is_part_done) (sym same) ∙ all in
+    rw (← is, same, test, at) refl
 
-pub undone_lane : (f : Inside) (x : Lane) (slots : Vec Slot Global) (moved : List Snake) (p worker : ℕ) → lane_in f ≡ x → is_out worker x kind.Part p ≡ true
-    → slots.items ≡ slice_set f.slots.items p (slot.Done (Some moved)) → list_all (λ s. is_part_done (state_of s)) slots.items ≡ false
-    → lane_in (record f { slots = slots }) ≡ with_part_done p x
-undone_lane f x slots moved p worker is out same all =
+pub undone_lane : (f : Inside) (x : Lane) (parts : Vec PartState Global) (p worker : ℕ) → lane_in f ≡ x → is_out worker x kind.Part p ≡ true
+    → parts.items ≡ slice_set f.parts.items p part.Done → list_all is_part_done parts.items ≡ false
+    → lane_in (record f { parts = parts }) ≡ with_part_done p x
+undone_lane f x parts p worker is out same all =
     let at : f.stage ≡ stage.Parts = out_part (lane_in f) worker p (subst (λ (y : Lane). is_out worker y kind.Part p ≡ true) (sym is) out) in
-    let states : map state_of slots.items ≡ slice_set (map state_of f.slots.items) p part.Done
-    = ap (map state_of) same ∙ map-set state_of f.slots.items p (slot.Done (Some moved)) in
-    let test : list_all is_part_done (slice_set (map state_of f.slots.items) p part.Done) ≡ false
-    = ap (list_all is_part_done) (sym states) ∙ list_all-map is_part_done state_of slots.items ∙ all in
-    rw (← is, states, test, at) refl
+    let test : list_all is_part_done (slice_set f.parts.items p part.Done) ≡ false = ap (list_all is_part_done) (sym same) ∙ all in
+    rw (← is, same, test, at) refl
 
 -- the jobs that cannot be taken
 

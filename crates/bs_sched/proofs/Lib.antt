@@ -7,7 +7,7 @@ pub mod BegunParts
 pub mod Registry
 pub mod Brought
 pub mod BusyTable
-pub mod ChangedFrames
+pub mod ChangedGame
 pub mod ChangedGames
 pub mod ChangedStays
 pub mod EventEffects
@@ -15,13 +15,13 @@ pub mod Fibers
 pub mod FitInputs
 pub mod FoundJobs
 pub mod HandedCommands
-pub mod Heaps
 pub mod Isolation
 pub mod JobWeight
 pub mod JobsOut
 pub mod Journal
 pub mod KeptRecords
 pub mod Lanes
+pub mod ListedGames
 pub mod LoneLanes
 pub mod MemoryLaw
 pub mod MovingGames
@@ -31,11 +31,9 @@ pub mod OpenRows
 pub mod OpenedGames
 pub mod OwnJobs
 pub mod OwnParts
-pub mod Parts
 pub mod Progress
 pub mod PlacedRecords
 pub mod PlanBlocks
-pub mod ReadGames
 pub mod Reframed
 pub mod RegistryRefusals
 pub mod Reserved
@@ -43,7 +41,7 @@ pub mod RightLanes
 pub mod RightRuns
 pub mod SharedMemory
 pub mod StoredRecords
-pub mod TakenJobs
+pub mod Results
 pub mod Tallies
 pub mod PartFrames
 pub mod JoinFrames

@@ -1,8 +1,8 @@
 -- The invariant of a fiber implies that its lane is right.
-use Rattle.std.proofs.Common.{◌≡◌, ℕ, zero, suc, [], ◌∷◌, ◌-◌, ◌≤◌, true, false, List, length, take, refl, ap, ◌∙◌, arith, inl, inr}
-use Rattle.std.specs.Prelude.{All, Some, None, drop, is_some, nat_eq}
+use Rattle.std.proofs.Common.{◌≡◌, ℕ, zero, suc, [], ◌∷◌, ◌-◌, ◌≤◌, true, false, List, length, take, refl, ap, arith, inl, inr}
+use Rattle.std.specs.Prelude.{All, drop, is_some, nat_eq}
 use Rattle.std.proofs.lemmas.Bool.{and_from, cases_Bool, eq-eqb, not-false}
-use Rattle.std.proofs.lemmas.List.{length-drop, length-map, length-take-le}
+use Rattle.std.proofs.lemmas.List.{length-drop, length-take-le}
 use Rattle.std.proofs.lemmas.List.Elements.{All-take, All-drop}
 use Rattle.bs_game.specs.Answer.{Fits}
 use Rattle.bs_game.proofs.Courses.{course_is_game}
@@ -12,7 +12,6 @@ use Rattle.bs_sched.specs.declared.stage.Stage.TheVariants as stage
 use Rattle.bs_sched.specs.Courses.{answered_commands, IsMove, IsRight}
 use Rattle.bs_sched.specs.Insides.{lane_in, answered_count, IsFiber, IsAt}
 use Rattle.bs_sched.specs.Lane.{is_idle, is_playing, is_quiet, lane_view, lane_command}
-use Rattle.bs_sched.specs.Slots.{state_of}
 
 take_less : {X : Type 0} (n m : ℕ) (xs : List X) → n ≤ m → take n (take m xs) ≡ take n xs
 take_less zero m xs less = refl
@@ -31,13 +30,12 @@ answered_in f within =
           rw (busy, many) (take_less (f.begun - 1) f.begun f.commands.items (omega arith))
     ]
 
-playing_of : (s : Stage) (f : Inside) → IsAt s (lane_view (lane_in f)) (lane_command (lane_in f)) f.slots.items → is_playing s ≡ true
+playing_of : (s : Stage) (f : Inside) → IsAt s (lane_view (lane_in f)) (lane_command (lane_in f)) f.parts.items → is_playing s ≡ true
     → IsMove (lane_in f)
 playing_of stage.Idle f at plays = let wrong : false ≡ true = plays in absurd cc
 playing_of (stage.Begin worker) f at plays = let wrong : false ≡ true = plays in absurd cc
-playing_of stage.Parts f at plays = record { goes = at.goes; parts = length-map f.slots.items state_of ∙ at.all }
-playing_of (stage.Join None) f at plays = record { goes = at.playing.goes; parts = length-map f.slots.items state_of ∙ at.playing.all }
-playing_of (stage.Join (Some worker)) f at plays = record { goes = at.playing.goes; parts = length-map f.slots.items state_of ∙ at.playing.all }
+playing_of stage.Parts f at plays = record { goes = at.goes; parts = at.all }
+playing_of (stage.Join taker) f at plays = record { goes = at.goes; parts = at.all }
 
 pub right_lane : (f : Inside) → IsFiber f → IsRight (lane_in f)
 right_lane f kept =

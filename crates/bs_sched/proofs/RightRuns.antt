@@ -236,7 +236,7 @@ open_busy x closed busy =
 open_of : (x : Lane) → IsWell x → is_quiet x ≡ false → x.is_open ≡ true
 open_of x well busy = open_busy x well.closed busy
 
-not_quiet : (x : Lane) → is_idle x.stage ≡ false → is_quiet x ≡ false
+pub not_quiet : (x : Lane) → is_idle x.stage ≡ false → is_quiet x ≡ false
 not_quiet x busy = and_left (is_idle x.stage) (nat_eq (length x.waiting) 0) busy
 
 some_waits : (x : Lane) → 0 < length x.waiting → is_quiet x ≡ false

@@ -1,7 +1,6 @@
--- The tallies of all stays, after the frames of one of them changed.
-use Rattle.std.proofs.Common.{◌≡◌, ◌≢◌, ℕ, zero, suc, ◌<◌, List, [], ◌∷◌, ◌++◌, length, map, Option, Some, None, refl, ap, ◌∙◌, sym}
-use Rattle.std.specs.List.{range_with_len}
-use Rattle.std.specs.Prelude.{slice_index_or, slice_set}
+-- The tallies of all stays, after one of them changed.
+use Rattle.std.proofs.Common.{◌≡◌, ◌≢◌, ℕ, zero, suc, ◌+◌, ◌<◌, List, [], ◌∷◌, ◌++◌, length, map, Option, Some, None, refl, ap, ◌∙◌, sym}
+use Rattle.std.specs.Prelude.{slice_set}
 use Rattle.std.proofs.lemmas.List.{get_or-set_other, get_or-set_same}
 use Rattle.std.proofs.lemmas.List.{map_push}
 use Rattle.std.proofs.Math.ListN.{get_or-map}
@@ -9,13 +8,13 @@ use Rattle.std.proofs.Math.Seq.{map-set_same}
 use Rattle.bs_counter.specs.Keys.{Key, TallyId}
 use Rattle.bs_fiber.specs.declared.job.JobKind.{JobKind}
 use Rattle.bs_fiber.specs.declared.job.JobKind.TheVariants as kind
-use Rattle.bs_sched.specs.Frames.{FramesView, frames_taken, no_frames}
+use Rattle.bs_board.specs.plans.Plan.{GameRow}
+use Rattle.bs_sched.specs.Game.{GameView, no_game, opened_game, taken_game}
 use Rattle.bs_sched.specs.Games.{tally_of}
-use Rattle.bs_sched.specs.GamesLayout.{frames_at, opened_frames, tallies_in, tally_before, trimmed}
-use Rattle.bs_sched.specs.Storage.{frame_tag}
+use Rattle.bs_sched.specs.GamesLayout.{game_at, opened_games, opened_games_from, tallies_in, tally_before, trimmed}
 
-abbrev tally_in : FramesView → Option TallyId
-tally_in f = f.tally
+abbrev tally_in : GameView → Option TallyId
+tally_in v = v.frames.tally
 
 -- what is read is not changed by what is left out
 
@@ -30,28 +29,28 @@ trimmed_at [] game = refl
 trimmed_at (tally ∷ tallies) zero = before_at tally (trimmed tallies) zero
 trimmed_at (tally ∷ tallies) (suc game) = before_at tally (trimmed tallies) (suc game) ∙ trimmed_at tallies game
 
-tally_at : (frames : List FramesView) (game : ℕ) → tally_of (tallies_in frames) game ≡ (frames_at frames game).tally
-tally_at frames game = trimmed_at (map tally_in frames) game ∙ get_or-map tally_in frames game (no_frames 0)
+tally_at : (games : List GameView) (game : ℕ) → tally_of (tallies_in games) game ≡ (game_at games game).frames.tally
+tally_at games game = trimmed_at (map tally_in games) game ∙ get_or-map tally_in games game no_game
 
-pub tally_there : (frames : List FramesView) (game : ℕ) (h : FramesView) → game < length frames → tally_of (tallies_in (slice_set frames game h)) game ≡ h.tally
-tally_there frames game h within = tally_at (slice_set frames game h) game ∙ ap tally_in (get_or-set_same frames game h (no_frames 0) within)
+pub tally_there : (games : List GameView) (game : ℕ) (w : GameView) → game < length games → tally_of (tallies_in (slice_set games game w)) game ≡ w.frames.tally
+tally_there games game w within = tally_at (slice_set games game w) game ∙ ap tally_in (get_or-set_same games game w no_game within)
 
--- frames of the same tally
-pub same_tallies : (game : ℕ) (frames : List FramesView) (f h : FramesView) → f ≡ frames_at frames game → h.tally ≡ f.tally
-    → tallies_in (slice_set frames game h) ≡ tallies_in frames
-same_tallies game frames f h is tally =
-    ap (λ (ts : List (Option TallyId)). trimmed ts) (map-set_same tally_in frames game h (no_frames 0) (tally ∙ ap tally_in is))
+-- a game of the same tally
+pub same_tallies : (game : ℕ) (games : List GameView) (v w : GameView) → v ≡ game_at games game → w.frames.tally ≡ v.frames.tally
+    → tallies_in (slice_set games game w) ≡ tallies_in games
+same_tallies game games v w is tally =
+    ap (λ (ts : List (Option TallyId)). trimmed ts) (map-set_same tally_in games game w no_game (tally ∙ ap tally_in is))
 
 -- a job is taken
-pub keeps_tallies : (k : JobKind) (game p number : ℕ) (frames : List FramesView) (tally : Option TallyId) (keys : List Key) (f h : FramesView)
-    → f ≡ frames_at frames game → h ≡ frames_taken k p number tally keys f
-    → (other : ℕ) → (k ≡ kind.Begin → other ≢ game) → tally_of (tallies_in (slice_set frames game h)) other ≡ tally_of (tallies_in frames) other
-keeps_tallies kind.Begin game p number frames tally keys f h is taken other apart =
-    tally_at (slice_set frames game h) other ∙ ap tally_in (get_or-set_other frames game other h (no_frames 0) (apart refl)) ∙ sym (tally_at frames other)
-keeps_tallies kind.Part game p number frames tally keys f h is taken other apart =
-    ap (λ (ts : List (Option TallyId)). tally_of ts other) (same_tallies game frames f h is (ap tally_in taken))
-keeps_tallies kind.Join game p number frames tally keys f h is taken other apart =
-    ap (λ (ts : List (Option TallyId)). tally_of ts other) (same_tallies game frames f h is (ap tally_in taken))
+pub keeps_tallies : (k : JobKind) (game worker p number : ℕ) (games : List GameView) (tally : Option TallyId) (keys : List Key) (v w : GameView)
+    → v ≡ game_at games game → w ≡ taken_game worker (record { game = game; kind = k; part = p }) number tally keys v
+    → (other : ℕ) → (k ≡ kind.Begin → other ≢ game) → tally_of (tallies_in (slice_set games game w)) other ≡ tally_of (tallies_in games) other
+keeps_tallies kind.Begin game worker p number games tally keys v w is taken other apart =
+    tally_at (slice_set games game w) other ∙ ap tally_in (get_or-set_other games game other w no_game (apart refl)) ∙ sym (tally_at games other)
+keeps_tallies kind.Part game worker p number games tally keys v w is taken other apart =
+    ap (λ (ts : List (Option TallyId)). tally_of ts other) (same_tallies game games v w is (ap tally_in taken))
+keeps_tallies kind.Join game worker p number games tally keys v w is taken other apart =
+    ap (λ (ts : List (Option TallyId)). tally_of ts other) (same_tallies game games v w is (ap tally_in taken))
 
 -- a stay comes
 
@@ -59,14 +58,14 @@ none_behind : (tallies : List (Option TallyId)) → trimmed (tallies ++ None ∷
 none_behind [] = refl
 none_behind (tally ∷ tallies) = ap (tally_before tally) (none_behind tallies)
 
-pub tallies_come : (frames : List FramesView) (tag : ℕ) → tallies_in (frames ++ no_frames tag ∷ []) ≡ tallies_in frames
-tallies_come frames tag = ap (λ (ts : List (Option TallyId)). trimmed ts) (map_push tally_in frames (no_frames tag)) ∙ none_behind (map tally_in frames)
+pub tallies_come : (games : List GameView) (game : ℕ) (row : GameRow) → tallies_in (games ++ opened_game game row ∷ []) ≡ tallies_in games
+tallies_come games game row = ap (λ (ts : List (Option TallyId)). trimmed ts) (map_push tally_in games (opened_game game row)) ∙ none_behind (map tally_in games)
 
 -- the games are opened
 
-none_opened : (games : List ℕ) → tallies_in (map (λ game. no_frames (frame_tag game)) games) ≡ []
-none_opened [] = refl
-none_opened (game ∷ games) = ap (tally_before None) (none_opened games)
+none_opened : (from : ℕ) (rows : List GameRow) → tallies_in (opened_games_from from rows) ≡ []
+none_opened from [] = refl
+none_opened from (row ∷ rows) = ap (tally_before None) (none_opened (from + 1) rows)
 
-pub opened_tallies : (games : ℕ) → tallies_in (opened_frames games) ≡ []
-opened_tallies games = none_opened (range_with_len 0 games)
+pub opened_tallies : (rows : List GameRow) → tallies_in (opened_games rows) ≡ []
+opened_tallies rows = none_opened 0 rows

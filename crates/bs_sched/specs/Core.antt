@@ -1,4 +1,4 @@
--- The core as its calls see it: all games of its plan, and the list of what happened to them.
+-- The core as its calls see it: all its games, and the list of their events.
 use Rattle.std.specs.Prelude.{ℕ, List, [], ◌∷◌, ◌++◌, Option}
 use Rattle.bs_board.specs.plans.Plan.{GameRow}
 use Rattle.bs_counter.specs.Keys.{TallyId}
@@ -12,7 +12,7 @@ pub record CoreView : Type 0 where
   -- its events, in their order
   pub journal : List Event
 
--- a core without events, over that many blocks of `cap` bytes
+-- a core without events, over `blocks` blocks of `cap` bytes
 abbrev pub opened_core : ℕ → ℕ → ℕ → List GameRow → CoreView
 opened_core cap blocks workers rows = record { games = opened cap blocks workers rows; journal = [] }
 
@@ -20,7 +20,7 @@ opened_core cap blocks workers rows = record { games = opened cap blocks workers
 abbrev pub core_after : ℕ → CoreView → Event → CoreView
 core_after cap core e = record { games = after cap core.games e; journal = core.journal ++ e ∷ [] }
 
--- the core after a job was taken, with these tallies, which no event tells
+-- the core after a job was taken, with these tallies, which are no part of an event
 abbrev pub core_taken : ℕ → CoreView → ℕ → JobName → List (Option TallyId) → CoreView
 core_taken cap core worker job tallies =
     record { games = games_taken cap core.games worker job tallies; journal = core.journal ++ event.Take worker job ∷ [] }

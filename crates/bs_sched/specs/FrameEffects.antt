@@ -36,7 +36,7 @@ frame_effect (event.Put worker job) x = brought_effect job.kind x
 frame_effect (event.Admit row) x = Keeps
 frame_effect (event.Leave game) x = Keeps
 
--- by part of the game's move; a block that is drawn has the pool's next number
+-- the block of each part of the game's move; a block that is drawn has the pool's next number
 abbrev pub numbers_after : FrameEffect → List (Option ℕ) → Ledger → List (Option ℕ)
 numbers_after Keeps numbers pool = numbers
 numbers_after (Forks parts) numbers pool = replicate parts None

@@ -25,8 +25,8 @@ pub record GamesView : Type 0 where
   pub failed : Bool
   pub lanes : List Lane
   pub storage : Storage
-  -- by its row, the tally of the move that a stay is at or was at last; no row is listed behind the
-  -- last one that was at a move
+  -- for each row the tally of the stay's newest taken command, if it has one; without the Nones at
+  -- the end of the list
   pub tallies : List (Option TallyId)
 
 abbrev pub tally_of : List (Option TallyId) → ℕ → Option TallyId
@@ -35,7 +35,7 @@ tally_of tallies game = slice_index_or tallies game None
 abbrev pub row_at : List GameRow → ℕ → GameRow
 row_at rows game = slice_index_or rows game (row_of [] 0)
 
--- games without commands, over that many blocks of `cap` bytes
+-- games without commands, over `blocks` blocks of `cap` bytes
 abbrev pub opened : ℕ → ℕ → ℕ → List GameRow → GamesView
 opened cap blocks workers rows =
     record {
@@ -125,11 +125,11 @@ after cap games e =
 abbrev pub games_taken : ℕ → GamesView → ℕ → JobName → List (Option TallyId) → GamesView
 games_taken cap games worker job tallies = record (after cap games (event.Take worker job)) { tallies = tallies }
 
--- the taking of a Begin opens a tally for its own stay; no other tally changes
+-- taking a Begin may change the tally of its own stay; no other tally changes
 abbrev pub KeepsTallies : JobName → List (Option TallyId) → List (Option TallyId) → Type 0
 KeepsTallies job old new = (game : ℕ) → (job.kind ≡ kind.Begin → game ≢ job.game) → tally_of new game ≡ tally_of old game
 
--- the games after a job was brought back; by whom does not matter
+-- the games after a job was completed, by whatever worker
 abbrev pub brought : ℕ → GamesView → JobName → GamesView
 brought cap games job =
     record games {

@@ -43,6 +43,10 @@ input_for x command seq worker job =
       parts = [];
     }
 
+-- for the command in progress
+abbrev pub current_input : Lane → ℕ → JobName → Input
+current_input x worker job = input_for x (lane_command x) (length x.taken) worker job
+
 -- the input of a job that is out
 abbrev pub input_of : Lane → ℕ → JobName → Input
 input_of x worker job = record (input_for x (lane_command x) (length x.taken) worker job) { parts = moved_parts_for job.kind x }
@@ -53,6 +57,6 @@ job_numbers kind.Begin p numbers = []
 job_numbers kind.Part p numbers = known (slice_index_or numbers p None ∷ [])
 job_numbers kind.Join p numbers = known numbers
 
--- the same blocks with their tag
+-- the frame blocks of a job that is out, each as its tag and number
 abbrev pub names_for : Storage → JobName → List (ℕ × ℕ)
 names_for storage job = map (λ n. (frame_tag job.game, n)) (job_numbers job.kind job.part (frames_of storage job.game))

@@ -19,9 +19,9 @@ use Rattle.bs_sched.specs.SharedMemory.{IsHosted, SharesMemory}
 abbrev pub setting_in : ℕ → CoreView → Setting
 setting_in cap core = setting_of cap core.games
 
--- Every event of the journal was enabled where it came, and the games are those that the events
--- make of a core that was just opened over the same plan, blocks and workers. Only that the core
--- was told to fail is no event, and no event names a tally.
+-- Every event of the journal was enabled in its place, and the events lead to these games from a
+-- core that was newly opened over the same plan, blocks and workers. Two things belong to no event:
+-- the call of `fail`, and the tallies.
 pub record IsItsJournal (cap : ℕ) (core : CoreView) : Type 0 where
   pub hosted : IsHosted (setting_in cap core) core.games.rows
   pub fits : All HandsFit core.journal

@@ -182,6 +182,6 @@ closed_lane x = record x { is_open = false }
 abbrev pub records_of : Game → List (List ℕ)
 records_of game = map record_of game
 
--- those of a stay; none once it has left
+-- the bytes of a stay's kept records; none once it has left
 abbrev pub kept_of : Lane → List (List ℕ)
 kept_of x = if x.is_open then records_of x.game else []

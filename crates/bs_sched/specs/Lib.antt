@@ -1,6 +1,7 @@
 pub mod Registry
 pub mod Busy
 pub mod Coming
+pub mod Game
 pub mod Games
 pub mod GamesLayout
 pub mod Core
@@ -23,7 +24,6 @@ pub mod PlanBlocks
 pub mod Putting
 pub mod Reserved
 pub mod SharedMemory
-pub mod Slots
 pub mod Stays
 pub mod Storage
 pub mod Taking

@@ -10,8 +10,8 @@ use Rattle.bs_sched.specs.declared.event.Event.{Event}
 use Rattle.bs_sched.specs.declared.event.Event.TheVariants as event
 use Rattle.bs_sched.specs.Lane.{Lane, empty_lane, no_lane, occupies, is_ready, is_out, with_waiting, with_taken, with_put, may_leave, closed_lane}
 
--- what a core is opened with besides its plan: that many blocks of `cap` bytes, and workers from 0
--- to the last
+-- what a core is opened with besides its plan: `blocks` blocks of `cap` bytes, and workers numbered
+-- from 0 to `workers`
 pub record Setting : Type 0 where
   pub cap : ℕ
   pub blocks : ℕ

@@ -18,13 +18,13 @@ pub record IsOwnInput (games : GamesView) (worker : ℕ) (brought : TicketView) 
   pub out : is_enabled_there games.workers games.lanes (event.Put worker brought.input.job) ≡ true
   pub input : brought.input ≡ input_of (lane_of games.lanes brought.input.job.game) worker brought.input.job
 
--- and its frame blocks are those that it was taken with
+-- the worker has the job, and its input and its frame blocks are the core's own
 pub record IsOwn (games : GamesView) (worker : ℕ) (brought : TicketView) : Type 0 where
   pub out : is_enabled_there games.workers games.lanes (event.Put worker brought.input.job) ≡ true
   pub input : brought.input ≡ input_of (lane_of games.lanes brought.input.job.game) worker brought.input.job
   pub frames : names_of brought.frames ≡ names_for games.storage brought.input.job
 
--- it is a Begin or a Join: parts are completed all at once
+-- a Begin or a Join of the core's own; parts are completed all at once
 pub record IsOwnJob (games : GamesView) (worker : ℕ) (brought : TicketView) : Type 0 where
   pub kind : brought.input.job.kind ≢ kind.Part
   pub own : IsOwn games worker brought

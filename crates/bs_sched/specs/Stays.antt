@@ -10,7 +10,7 @@ use Rattle.bs_sched.specs.declared.stays.Admit.{Admit}
 use Rattle.bs_sched.specs.declared.stays.Admit.TheVariants as admit
 use Rattle.bs_sched.specs.declared.plan_blocks.TheConstants.{MOST_STAYS}
 
--- the memory that a core is opened with: that many blocks of `cap` bytes
+-- the memory that a core is opened with: `blocks` blocks of `cap` bytes
 pub record Capacity : Type 0 where
   pub cap : ℕ
   pub blocks : ℕ

@@ -11,7 +11,7 @@ use Rattle.bs_game.specs.declared.reply.Effect.TheVariants as effect
 -- the packing of each game's records, by its row, and the pool of all blocks
 pub record Storage : Type 0 where
   pub packings : List Packing
-  -- by row too, the frame block of each part of a game's move
+  -- by row too, the frame block of each part of the game's move
   pub frames : List (List (Option ℕ))
   pub pool : Ledger
 
@@ -52,7 +52,7 @@ stored cap game effect storage =
 abbrev pub frames_of : Storage → ℕ → List (Option ℕ)
 frames_of storage game = slice_index_or storage.frames game []
 
--- a move of that game gets that many parts
+-- the game's move begins with `parts` parts, none of which has a block
 abbrev pub with_parts : ℕ → ℕ → Storage → Storage
 with_parts game parts storage = record storage { frames = slice_set storage.frames game (replicate parts None) }
 

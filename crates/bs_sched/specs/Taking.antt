@@ -1,4 +1,4 @@
--- What a worker gets that asks for a job.
+-- What `take` returns to a worker, and the core after it.
 use Rattle.std.specs.Prelude.{◌≡◌, ℕ, ◌≤◌, ◌<◌, true, false, List, length, slice_index_or, Option, Some, None}
 use Rattle.bs_counter.specs.Keys.{Key}
 use Rattle.bs_fiber.specs.Tickets.{TicketView, IsFresh, names_of}
@@ -28,7 +28,7 @@ AreNoneReady lanes = (game : ℕ) → game < length lanes → HasNoneReady (lane
 abbrev pub AreNoneOpenReady : List Lane → Type 0
 AreNoneOpenReady lanes = (game : ℕ) → game < length lanes → (lane_of lanes game).is_open ≡ true → HasNoneReady (lane_of lanes game)
 
--- no job can be taken in the stays listed from that place on and before that other place
+-- no job can be taken in the stays listed from place `from` to place `to`, `to` excluded
 abbrev pub AreNoneReadyBetween : ℕ → ℕ → List ℕ → List Lane → Type 0
 AreNoneReadyBetween from to rows lanes = (place : ℕ) → from ≤ place → place < to → HasNoneReady (lane_of lanes (slice_index_or rows place 0))
 
@@ -64,7 +64,7 @@ pub record TakesJob (cap : ℕ) (old : CoreView) (worker : ℕ) (ticket : Ticket
   pub frames : names_of ticket.frames ≡ names_for new.games.storage ticket.input.job
   pub fresh : IsFresh ticket
 
--- a part goes out with its key at the tally of its stay's move
+-- a part is taken with its key in the tally of its stay's move
 abbrev pub HasKeyOf : CoreView → JobName → Option Key → Type 0
 HasKeyOf core job key = IsKeyOf (tally_of core.games.tallies job.game) (length (lane_of core.games.lanes job.game).parts) job key
 

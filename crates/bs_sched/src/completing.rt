@@ -3,7 +3,6 @@ ghost use Rattle.std.specs.Prelude.{◌≡◌, ℕ, ◌<◌, ◌↔◌, IsTrue, 
 ghost use Rattle.bs_fiber.specs.declared.job.JobKind.TheVariants as kind;
 ghost use Rattle.bs_sched.specs.Isolation.{are_enabled};
 ghost use Rattle.bs_sched.specs.Journal.{setting_in};
-ghost use Rattle.bs_sched.specs.Machine.{lane_of};
 ghost use Rattle.bs_sched.specs.Parts.{AreOwnParts, IsOwnPart, core_run, puts_of};
 
 use crate::cores::Core;
@@ -35,14 +34,6 @@ impl<const CAP: usize> Games<CAP> {
             && self.is_own(done.ticket().worker() as usize, done)
     }
 
-    /// The number of parts of that game's move; 0 if no move is in progress.
-    fn count_parts(&self, game: usize) -> usize
-        requires { game < length self.now.lanes }
-        ensures { result ≡ length (lane_of self.now.lanes game).parts }
-    {
-        self.fibers[game].count_parts()
-    }
-
     /// Whether each done in the list is of the part with its index, in that game's move.
     fn are_own_parts_of(&self, game: usize, completed: &[Option<Done<CAP>>]) -> bool
         ensures { IsTrue result ↔ ((part : ℕ) → part < length completed.now → IsOwnPart self.now game part (slice_index_or completed.now part None)) }
@@ -66,7 +57,7 @@ impl<const CAP: usize> Games<CAP> {
         if game >= self.count_rows() {
             return false;
         }
-        if self.count_parts(game) != completed.len() {
+        if self.game(game).count_parts() != completed.len() {
             return false;
         }
         self.are_own_parts_of(game, completed)
@@ -75,28 +66,28 @@ impl<const CAP: usize> Games<CAP> {
 
 impl<const CAP: usize> Core<CAP> {
     /// Completes one part of a move of this core.
-    fn settle_part(&mut self, completed: Option<Done<CAP>>)
+    fn complete_part(&mut self, completed: Option<Done<CAP>>)
         requires { (game part : ℕ) × IsOwnPart self.old.games game part completed }
         ensures { self.new ≡ core_run CAP self.old (puts_of (completed.entry ∷ [])) }
     {
         match completed {
             Some(done) => {
                 let worker = done.ticket().worker() as usize;
-                let _spent = self.settle(worker, done);
+                let _spent = self.complete(worker, done);
             }
             None => unreachable!(),
         }
     }
 
     /// Completes all parts of one move of this core. The journal has room for their events.
-    fn settle_parts(&mut self, completed: ArrayVec<Option<Done<CAP>>, 4>)
+    fn complete_parts(&mut self, completed: ArrayVec<Option<Done<CAP>>, 4>)
         requires { AreOwnParts self.old.games completed.items }
         ensures { self.new ≡ core_run CAP self.old (puts_of completed.entry.items) }
     {
         let mut rest = completed;
         for _part in 0..rest.len() {
             let first = rest.remove(0);
-            self.settle_part(first);
+            self.complete_part(first);
         }
     }
 
@@ -112,7 +103,7 @@ impl<const CAP: usize> Core<CAP> {
         if !self.games.are_own_parts(parts.as_slice()) {
             return Err(Strays { parts });
         }
-        self.settle_parts(parts);
+        self.complete_parts(parts);
         Ok(())
     }
 }

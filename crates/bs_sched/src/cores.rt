@@ -64,7 +64,7 @@ impl<const CAP: usize> Model for Core<CAP> {
 
 /// Makes room for `more` events besides the completions of the jobs that are out. The sum cannot
 /// overflow, since each of the 64 open stays has at most four jobs out; an overflow would be
-/// reported as want of memory.
+/// reported as out of memory.
 pub(crate) fn reserve_events(
     journal: &mut Vec<Event>,
     out: usize,
@@ -172,7 +172,7 @@ impl<const CAP: usize> Core<CAP> {
         requires { game < length self.now.games.lanes }
         ensures { result.now ≡ (lane_of self.now.games.lanes game).row }
     {
-        self.games.row(game)
+        self.games.game(game).row()
     }
 
     /// Whether the stay of that row has not left.
@@ -180,7 +180,7 @@ impl<const CAP: usize> Core<CAP> {
         requires { game < length self.now.games.lanes }
         ensures { result ≡ (lane_of self.now.games.lanes game).is_open }
     {
-        self.games.is_open(game)
+        self.games.game(game).is_open()
     }
 
     /// The commands that were taken, in order.
@@ -188,7 +188,7 @@ impl<const CAP: usize> Core<CAP> {
         requires { game < length self.now.games.lanes }
         ensures { result.now ≡ (lane_of self.now.games.lanes game).taken }
     {
-        self.games.taken(game)
+        self.games.game(game).taken()
     }
 
     /// The replies to the commands that were answered, in order.
@@ -197,7 +197,7 @@ impl<const CAP: usize> Core<CAP> {
         ensures value { result.now ≡ (lane_of self.now.games.lanes game).replies }
         ensures right { IsRight (lane_of self.now.games.lanes game) }
     {
-        self.games.replies(game)
+        self.games.game(game).replies()
     }
 
     /// The number of kept records; 0 for a stay that has left.
@@ -205,7 +205,7 @@ impl<const CAP: usize> Core<CAP> {
         requires { game < length self.now.games.lanes }
         ensures { result ≡ length (kept_of (lane_of self.now.games.lanes game)) }
     {
-        self.games.count(game)
+        self.games.game(game).count()
     }
 
     /// A kept record by its index, the oldest first.
@@ -214,7 +214,7 @@ impl<const CAP: usize> Core<CAP> {
         requires place { place < length (kept_of (lane_of self.now.games.lanes game)) }
         ensures { result.now ≡ slice_index_or (kept_of (lane_of self.now.games.lanes game)) place [] }
     {
-        self.games.records(game, place)
+        self.games.game(game).record(place)
     }
 
     /// The newest board, if a game runs; for a stay that has left, its last board.
@@ -222,7 +222,7 @@ impl<const CAP: usize> Core<CAP> {
         requires { game < length self.now.games.lanes }
         ensures { IfOk result (λ board. board ≡ last_board (lane_of self.now.games.lanes game).game) }
     {
-        self.games.board(alloc, game)
+        self.games.game(game).board(alloc)
     }
 
     /// The record of the newest board, if a game runs; for a stay that has left, of its last board.
@@ -230,7 +230,7 @@ impl<const CAP: usize> Core<CAP> {
         requires { game < length self.now.games.lanes }
         ensures { option_map (λ kept. kept.now) result ≡ last_board (lane_of self.now.games.lanes game).game }
     {
-        self.games.last(game)
+        self.games.game(game).last()
     }
 
     /// The charge of the kept records, in bytes; for a stay that has left, its last charge.
@@ -238,7 +238,7 @@ impl<const CAP: usize> Core<CAP> {
         requires { game < length self.now.games.lanes }
         ensures { result ≡ game_charge (lane_of self.now.games.lanes game).game }
     {
-        self.games.charge(game)
+        self.games.game(game).charge()
     }
 
     /// Whether all commands are answered.

@@ -1,34 +1,18 @@
 //! The fiber of one game: its commands, its replies and its stage. Contracts see its lane.
-ghost use Rattle.std.specs.Prelude.{◌≡◌, ◌+◌, ◌≤◌, ◌<◌, ℕ, true, false, [], length, replicate, map, vec_len, vec_capacity, option_to_list, slice_index_or, MatchOption, ◌++◌, option_map, IfOk, IfSome, OnOk, OnErr};
-ghost use Rattle.std.specs.List.{list_all, filter_map, position};
+ghost use Rattle.std.specs.Prelude.{◌≡◌, ◌+◌, ◌≤◌, ◌<◌, ℕ, true, false, [], length, replicate, vec_capacity, slice_index_or, MatchOption, option_map, IfOk, IfSome, OnOk, OnErr};
+ghost use Rattle.std.specs.List.{list_all, position};
 ghost use Rattle.bs_game.specs.Answer.{Fits};
-ghost use Rattle.bs_sched.specs.declared.fiber.Slot.TheVariants as slot;
 ghost use Rattle.bs_sched.specs.declared.stage.PartState.TheVariants as state;
 ghost use Rattle.bs_sched.specs.Lane.{is_part_done, is_part_ready, has_part};
 ghost use Rattle.bs_sched.specs.LastBoards.{last_after};
-ghost use Rattle.bs_sched.specs.Slots.{state_of, emptied, moved_in};
 
-use crate::stage::Stage;
+use crate::stage::{MOST_PARTS, PartState, Stage};
 use bs_board::limits::MOST_QUOTA;
 use bs_board::{Command, KeptBoard, Reply, Row};
-use bs_fiber::{Handed, JobKind, Moved, Parts, SharedCommand};
+use bs_fiber::{Handed, JobKind, SharedCommand};
 use bs_game::{Answer, Effect};
 use std::alloc::{AllocError, Global};
 use std::marker::Model;
-
-/// The slot of a part of the move in progress.
-#[derive(Debug, Drop)]
-pub(crate) enum Slot {
-    /// The part can be taken.
-    Ready,
-    /// That worker has the part out.
-    Out(usize),
-    /// The part's moved snakes, until they are joined.
-    Done(Option<Moved>),
-}
-
-/// The largest number of parts of a move.
-const MOST_PARTS: usize = 4;
 
 #[derive(Debug, Drop)]
 pub(crate) struct Fiber {
@@ -40,7 +24,8 @@ pub(crate) struct Fiber {
     begun: usize,
     replies: Vec<Reply>,
     stage: Stage,
-    slots: Vec<Slot>,
+    /// The state of each part of the move in progress.
+    parts: Vec<PartState>,
     /// The newest board, if a game runs; for a stay that has left, its last board.
     last: Option<KeptBoard>,
 }
@@ -75,20 +60,20 @@ pub(crate) fn keeps_limits(command: &Command)
     }
 }
 
-/// Makes that many ready slots.
-fn push_ready(slots: &mut Vec<Slot>, parts: usize)
-    requires none { slots.old.items ≡ [] }
-    requires few { parts ≤ 4 }
-    requires room { 4 ≤ vec_capacity slots.old }
-    ensures slots { slots.new.items ≡ replicate parts (slot.Ready) }
-    ensures room { vec_capacity slots.new ≡ vec_capacity slots.old }
+/// Appends `count` parts, each ready to be taken.
+fn push_ready(parts: &mut Vec<PartState>, count: usize)
+    requires none { parts.old.items ≡ [] }
+    requires few { count ≤ 4 }
+    requires room { 4 ≤ vec_capacity parts.old }
+    ensures parts { parts.new.items ≡ replicate count state.Ready }
+    ensures room { vec_capacity parts.new ≡ vec_capacity parts.old }
 {
-    for _part in 0..parts {
-        slots.push_reserved(Slot::Ready);
+    for _part in 0..count {
+        parts.push_reserved(PartState::Ready);
     }
 }
 
-/// Changes the newest board as an answer's effect does.
+/// Applies an answer's effect to the newest board.
 fn change_last(last: &mut Option<KeptBoard>, effect: Effect)
     ensures { last.new ≡ last_after effect last.old }
 {
@@ -103,102 +88,65 @@ fn change_last(last: &mut Option<KeptBoard>, effect: Effect)
     }
 }
 
-fn is_done(slot: &Slot) -> bool
-    ensures { result ≡ is_part_done (state_of slot.now) }
+fn is_done(part: &PartState) -> bool
+    ensures { result ≡ is_part_done part.now }
 {
-    match slot {
-        Slot::Ready => false,
-        Slot::Out(_) => false,
-        Slot::Done(_) => true,
+    match part {
+        PartState::Ready => false,
+        PartState::Out(_) => false,
+        PartState::Done => true,
     }
 }
 
 /// Whether all parts are completed.
-fn are_done(slots: &[Slot]) -> bool
-    ensures { result ≡ list_all (λ slot. is_part_done (state_of slot)) slots.now }
+fn are_done(parts: &[PartState]) -> bool
+    ensures { result ≡ list_all is_part_done parts.now }
 {
-    slots.iter().all(|slot| is_done(slot))
+    parts.iter().all(|part| is_done(part))
 }
 
-fn has_part(slots: &[Slot], worker: usize, part: usize) -> bool
-    ensures { result ≡ has_part worker (slice_index_or (map state_of slots.now) part state.Done) }
+fn has_part(parts: &[PartState], worker: usize, part: usize) -> bool
+    ensures { result ≡ has_part worker (slice_index_or parts.now part state.Done) }
 {
-    match slots.get(part) {
-        Some(Slot::Out(handle)) => *handle == worker,
-        Some(Slot::Ready) => false,
-        Some(Slot::Done(_)) => false,
+    match parts.get(part) {
+        Some(PartState::Out(handle)) => *handle == worker,
+        Some(PartState::Ready) => false,
+        Some(PartState::Done) => false,
         None => false,
     }
 }
 
-fn is_ready_slot(slot: &Slot) -> bool
-    ensures { result ≡ is_part_ready (state_of slot.now) }
+fn is_ready_part(part: &PartState) -> bool
+    ensures { result ≡ is_part_ready part.now }
 {
-    match slot {
-        Slot::Ready => true,
-        Slot::Out(_) => false,
-        Slot::Done(_) => false,
+    match part {
+        PartState::Ready => true,
+        PartState::Out(_) => false,
+        PartState::Done => false,
     }
 }
 
 /// The first part that no worker has taken.
-fn first_ready(slots: &[Slot]) -> Option<u8>
-    requires { length slots.now ≤ 4 }
+fn first_ready(parts: &[PartState]) -> Option<u8>
+    requires { length parts.now ≤ 4 }
     ensures { MatchOption result
-        ((p : ℕ) → is_part_ready (slice_index_or (map state_of slots.now) p state.Done) ≡ false)
-        (λ p. is_part_ready (slice_index_or (map state_of slots.now) p state.Done) ≡ true) }
+        ((p : ℕ) → is_part_ready (slice_index_or parts.now p state.Done) ≡ false)
+        (λ p. is_part_ready (slice_index_or parts.now p state.Done) ≡ true) }
 {
-    for part in 0..slots.len() {
-        if is_ready_slot(&slots[part]) {
+    for part in 0..parts.len() {
+        if is_ready_part(&parts[part]) {
             return Some(part as u8);
         }
     }
     None
 }
 
-/// Takes a part's moved snakes out of its slot.
-fn take_moved(slot: &mut Slot) -> Option<Moved>
-    ensures slot { slot.new ≡ emptied slot.old }
-    ensures moved { result ≡ moved_in slot.old }
-{
-    match slot {
-        Slot::Ready => None,
-        Slot::Out(_) => None,
-        Slot::Done(moved) => moved.take(),
-    }
-}
-
-fn push_if_some(moved: &mut Vec<Moved>, one: Option<Moved>)
-    requires { vec_len moved.old < vec_capacity moved.old }
-    ensures items { moved.new.items ≡ moved.old.items ++ option_to_list one }
-    ensures room { vec_capacity moved.new ≡ vec_capacity moved.old }
-{
-    if let Some(snakes) = one {
-        moved.push_reserved(snakes);
-    }
-}
-
-/// Takes the moved snakes of all parts out of their slots, in part order.
-fn collect_moved(slots: &mut Vec<Slot>, moved: &mut Vec<Moved>)
-    requires none { moved.old.items ≡ [] }
-    requires room { length slots.old.items ≤ vec_capacity moved.old }
-    ensures slots { slots.new.items ≡ map emptied slots.old.items }
-    ensures room { vec_capacity slots.new ≡ vec_capacity slots.old }
-    ensures moved { moved.new.items ≡ filter_map moved_in slots.old.items }
-{
-    for part in 0..slots.len() {
-        let one = take_moved(&mut slots[part]);
-        push_if_some(moved, one);
-    }
-}
-
 impl Fiber {
     ghost use Rattle.std.specs.Prelude.{[], ◌++◌, ◌∷◌, nat_eq, take, drop, map, Option, slice_get};
     ghost use Rattle.bs_fiber.specs.declared.job.JobKind.TheVariants as kind;
-    ghost use Rattle.bs_fiber.specs.Work.{moved_part, parts_of, snakes_in};
+    ghost use Rattle.bs_fiber.specs.Work.{parts_of, snakes_in};
     ghost use Rattle.bs_game.specs.Game.{game_charge, last_board};
-    ghost use Rattle.bs_sched.specs.Inputs.{moved_parts_for};
-    ghost use Rattle.bs_sched.specs.Lane.{empty_lane, closed_lane, no_lane, with_waiting, with_taken, with_put, with_part_done, forked, answered, is_ready, is_out, occupies, lane_view, lane_command, lane_outcome, goes_on, is_idle, is_in_parts, is_quiet, HasNoneReady};
+    ghost use Rattle.bs_sched.specs.Lane.{empty_lane, closed_lane, no_lane, with_waiting, with_taken, with_put, with_part_done, forked, answered, is_ready, is_out, occupies, lane_command, lane_outcome, goes_on, is_idle, is_in_parts, is_quiet, HasNoneReady};
     ghost use Rattle.bs_sched.specs.Courses.{IsRight};
 
     /// The fiber of a game with no command.
@@ -213,7 +161,7 @@ impl Fiber {
             begun: 0,
             replies: Vec::new(alloc),
             stage: Stage::Idle,
-            slots: Vec::with_capacity(alloc, MOST_PARTS)?,
+            parts: Vec::with_capacity(alloc, MOST_PARTS)?,
             last: None,
         })
     }
@@ -290,22 +238,18 @@ impl Fiber {
         requires { is_ready self.old kind.Part part ≡ true }
         ensures { self.new ≡ with_taken worker kind.Part part self.old }
     {
-        self.slots[part] = Slot::Out(worker);
+        self.parts[part] = PartState::Out(worker);
     }
 
-    /// Takes the Join for the worker, and returns the moved snakes of all parts. Makes room for the
-    /// reply first.
-    pub(crate) fn join(&mut self, alloc: Global, worker: usize) -> Result<Parts, AllocError>
+    /// Takes the Join for the worker. Makes room for the reply first.
+    pub(crate) fn join(&mut self, worker: usize) -> Result<(), AllocError>
         requires { is_ready self.old kind.Join 0 ≡ true }
         ensures ok { OnOk result (self.new ≡ with_taken worker kind.Join 0 self.old) }
-        ensures parts { IfOk result (λ parts. parts ≡ moved_parts_for kind.Join self.old) }
         ensures err { OnErr result (self.new ≡ self.old) }
     {
-        let mut moved = Vec::with_capacity(alloc, self.slots.len())?;
         self.replies.reserve(1)?;
-        collect_moved(&mut self.slots, &mut moved);
         self.stage = Stage::Join(Some(worker));
-        Ok(Parts::from_vec(moved))
+        Ok(())
     }
 
     /// Starts the move with `parts` ready parts.
@@ -316,18 +260,17 @@ impl Fiber {
         requires few { parts ≤ 4 }
         ensures { self.new ≡ forked self.old }
     {
-        push_ready(&mut self.slots, parts);
+        push_ready(&mut self.parts, parts);
         self.stage = Stage::Parts;
     }
 
-    /// Completes the part with its moved snakes.
-    pub(crate) fn put_part(&mut self, part: usize, moved: Moved)
-        requires out { (worker : ℕ) × (is_out worker self.old kind.Part part ≡ true) }
-        requires moved { moved ≡ moved_part part (lane_view self.old) (lane_command self.old) }
+    /// Completes the part.
+    pub(crate) fn put_part(&mut self, part: usize)
+        requires { (worker : ℕ) × (is_out worker self.old kind.Part part ≡ true) }
         ensures { self.new ≡ with_part_done part self.old }
     {
-        self.slots[part] = Slot::Done(Some(moved));
-        if are_done(&self.slots) {
+        self.parts[part] = PartState::Done;
+        if are_done(&self.parts) {
             self.stage = Stage::Join(None);
         }
     }
@@ -340,13 +283,13 @@ impl Fiber {
         ensures { self.new ≡ answered self.old }
     {
         let Answer { reply, effect } = answer;
-        self.slots.clear();
+        self.parts.clear();
         self.replies.push_reserved(reply);
         change_last(&mut self.last, effect);
         self.stage = Stage::Idle;
     }
 
-    /// Recalls for the prover the invariant of each game between two events.
+    /// Recalls for the prover that the replies and the boards are those of the answered commands.
     pub(crate) fn keeps(&self)
         ensures { IsRight self.now }
     {
@@ -368,7 +311,7 @@ impl Fiber {
         &self.commands[self.begun]
     }
 
-    /// Takes the handle of the next command that was made for its Begin, if there is one.
+    /// Takes the handle that was made for the Begin of the next command, if it is still there.
     pub(crate) fn take_handle(&mut self) -> Option<SharedCommand>
         requires { 0 < length self.old.waiting }
         ensures same { self.new ≡ self.old }
@@ -423,7 +366,7 @@ impl Fiber {
     pub(crate) fn count_parts(&self) -> usize
         ensures { result ≡ length self.now.parts }
     {
-        self.slots.len()
+        self.parts.len()
     }
 
     /// Whether the worker has that job out.
@@ -432,7 +375,7 @@ impl Fiber {
     {
         match (kind, self.stage) {
             (JobKind::Begin, Stage::Begin(handle)) => part == 0 && handle == worker,
-            (JobKind::Part, Stage::Parts) => has_part(&self.slots, worker, part as usize),
+            (JobKind::Part, Stage::Parts) => has_part(&self.parts, worker, part as usize),
             (JobKind::Join, Stage::Join(Some(handle))) => part == 0 && handle == worker,
             _ => false,
         }
@@ -442,13 +385,13 @@ impl Fiber {
         requires { is_in_parts self.now.stage ≡ true }
         ensures { MatchOption result (HasNoneReady self.now) (λ job. is_ready self.now job.0 job.1 ≡ true) }
     {
-        match first_ready(&self.slots) {
+        match first_ready(&self.parts) {
             None => None,
             Some(part) => Some((JobKind::Part, part)),
         }
     }
 
-    /// A job that is ready, if there is one; of several parts the first.
+    /// A ready job, if there is one; if several parts are ready, the first of them.
     pub(crate) fn ready(&self) -> Option<(JobKind, u8)>
         ensures { MatchOption result (HasNoneReady self.now) (λ job. is_ready self.now job.0 job.1 ≡ true) }
     {

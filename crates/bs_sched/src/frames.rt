@@ -1,42 +1,43 @@
-//! The slots of a move's parts: each has the part's key until the part is taken, then the number
-//! of its frame block or the block itself.
+//! The slots of a move's parts. A part's slot has its key until the part is taken, then the number
+//! of its frame block, and once the part is completed its moved snakes and the block.
 ghost use Rattle.std.specs.Prelude.{◌≡◌, ◌<◌, ◌≤◌, [], ◌∷◌, ◌++◌, List, ℕ, Some, None, IfOk, true, slice_get, vec_len, vec_capacity, length, map, flat_map, option_to_list, slice_index_or, ◌↔◌, IsTrue};
+ghost use Rattle.bs_board.specs.declared.boards.snake.Snake.{Snake};
+ghost use Rattle.bs_fiber.specs.Frames.{frame_of};
 ghost use Rattle.bs_fiber.specs.Tickets.{bytes_of, frames_in, names_of};
 ghost use Rattle.bs_sched.specs.Inputs.{job_numbers};
 ghost use Rattle.bs_heap.specs.HeldBlocks.{Holds, LeavesOthers, next_number, all_given};
 ghost use Rattle.bs_heap.specs.Lent.{AreLent, owned_numbers};
 ghost use Rattle.bs_pool.specs.Ledger.{held, reserved, drawn};
 ghost use Rattle.bs_sched.specs.declared.frames.FrameSlot.TheVariants as slot;
-ghost use Rattle.bs_sched.specs.FrameSlots.{back_in, is_ready_slot, number_in, sent_off};
-ghost use Rattle.bs_sched.specs.Frames.{known, idle_frames, no_frames, forked_frames, joining_frames, with_keys, with_number, with_bytes};
+ghost use Rattle.bs_sched.specs.FrameSlots.{back_in, is_ready_slot, moved_in, number_in, sent_off};
+ghost use Rattle.bs_sched.specs.Frames.{known, idle_frames, no_frames, forked_frames, joining_frames, with_keys, with_number, with_moved};
 ghost use Rattle.bs_sched.specs.Keyed.{AreKeysOf, IsKeyAt};
 
+use crate::stage::MOST_PARTS;
 use bs_counter::{PartKey, TallyName};
-use bs_fiber::{Done, JobKind, JobName};
+use bs_fiber::{Done, JobKind, JobName, Moved};
 use bs_pool::{Owned, Pool};
 use std::alloc::{AllocError, Global};
 use std::marker::Model;
 use std::mem::replace;
 
-/// The largest number of parts of a move.
-const MOST_PARTS: usize = 4;
-
-/// The slot of a part: its key, then the number of its block, then the block.
+/// The slot of a part: its key, then the number of its block, then its moved snakes and the block.
 #[derive(Debug, Drop)]
 pub(crate) enum FrameSlot<const CAP: usize> {
     /// The part can be taken, with its key.
     Ready(PartKey<Done<CAP>>),
     /// The block of that number is out, in the ticket of the part or of the Join.
     Out(usize),
-    /// The part is completed; this is its block.
-    Back(Owned<CAP>),
+    /// The part is completed, with its moved snakes and its block.
+    Back(Moved, Owned<CAP>),
 }
 
 /// The slots of the parts of a game's move.
 #[derive(Debug, Drop)]
 pub(crate) struct Frames<const CAP: usize> {
     tag: u32,
-    /// The tally of the move that is begun, or was begun last.
+    /// The tally of the newest taken command. `None` unless that is a move in a game that is not
+    /// over.
     tally: Option<TallyName<Done<CAP>>>,
     /// Between the take and the completion of a move's Begin, the keys of its parts.
     keys: Vec<PartKey<Done<CAP>>>,
@@ -78,7 +79,7 @@ fn take_key<const CAP: usize>(place: &mut FrameSlot<CAP>, number: usize) -> Part
     match replace(place, FrameSlot::Out(number)) {
         FrameSlot::Ready(key) => key,
         FrameSlot::Out(_) => unreachable!(),
-        FrameSlot::Back(_) => unreachable!(),
+        FrameSlot::Back(_, _) => unreachable!(),
     }
 }
 
@@ -98,49 +99,49 @@ fn draw_block<const CAP: usize>(pool: &mut Pool<CAP>, tag: u32) -> Owned<CAP>
     owned
 }
 
-/// Takes the block of a completed part out of its slot, which keeps the block's number.
-fn take_back<const CAP: usize>(slot: &mut FrameSlot<CAP>) -> Option<Owned<CAP>>
+/// Moves the snakes and the block of a part out of its slot, if the part is completed. The slot
+/// keeps the block's number.
+fn send_off<const CAP: usize>(
+    slot: &mut FrameSlot<CAP>,
+    moved: &mut Vec<Moved>,
+    frames: &mut Vec<Owned<CAP>>,
+)
+    requires moved { vec_len moved.old < vec_capacity moved.old }
+    requires frames { vec_len frames.old < vec_capacity frames.old }
     ensures slot { slot.new ≡ sent_off slot.old }
-    ensures back { result ≡ back_in slot.old }
+    ensures moved { moved.new.items ≡ moved.old.items ++ option_to_list (moved_in slot.old) }
+    ensures moved_room { vec_capacity moved.new ≡ vec_capacity moved.old }
+    ensures frames { frames.new.items ≡ frames.old.items ++ option_to_list (back_in slot.old) }
+    ensures frames_room { vec_capacity frames.new ≡ vec_capacity frames.old }
 {
     match replace(slot, FrameSlot::Out(0)) {
-        FrameSlot::Ready(key) => {
-            *slot = FrameSlot::Ready(key);
-            None
-        }
-        FrameSlot::Out(number) => {
-            *slot = FrameSlot::Out(number);
-            None
-        }
-        FrameSlot::Back(owned) => {
+        FrameSlot::Ready(key) => *slot = FrameSlot::Ready(key),
+        FrameSlot::Out(number) => *slot = FrameSlot::Out(number),
+        FrameSlot::Back(snakes, owned) => {
             *slot = FrameSlot::Out(owned.number());
-            Some(owned)
+            moved.push_reserved(snakes);
+            frames.push_reserved(owned);
         }
     }
 }
 
-/// Adds the block, if there is one.
-fn push_back<const CAP: usize>(frames: &mut Vec<Owned<CAP>>, back: Option<Owned<CAP>>)
-    requires { vec_len frames.old < vec_capacity frames.old }
-    ensures frames { frames.new.items ≡ frames.old.items ++ option_to_list back.entry }
-    ensures room { vec_capacity frames.new ≡ vec_capacity frames.old }
-{
-    if let Some(owned) = back {
-        frames.push_reserved(owned);
-    }
-}
-
-/// Takes the blocks of all completed parts, in part order.
-fn take_all_back<const CAP: usize>(slots: &mut Vec<FrameSlot<CAP>>, frames: &mut Vec<Owned<CAP>>)
-    requires none { frames.old.items ≡ [] }
+/// Moves the snakes and the blocks of all completed parts out of their slots, in part order.
+fn send_all_off<const CAP: usize>(
+    slots: &mut Vec<FrameSlot<CAP>>,
+    moved: &mut Vec<Moved>,
+    frames: &mut Vec<Owned<CAP>>,
+)
+    requires no_moved { moved.old.items ≡ [] }
+    requires moved { length slots.old.items ≤ vec_capacity moved.old }
+    requires no_frames { frames.old.items ≡ [] }
     requires frames { length slots.old.items ≤ vec_capacity frames.old }
     ensures slots { slots.new.items ≡ map sent_off slots.old.items }
     ensures room { vec_capacity slots.new ≡ vec_capacity slots.old }
+    ensures moved { moved.new.items ≡ flat_map (λ s. option_to_list (moved_in s)) slots.old.items }
     ensures frames { frames.new.items ≡ flat_map (λ s. option_to_list (back_in s)) slots.old.items }
 {
     for part in 0..slots.len() {
-        let back = take_back(&mut slots[part]);
-        push_back(frames, back);
+        send_off(&mut slots[part], moved, frames);
     }
 }
 
@@ -162,7 +163,7 @@ fn number_in<const CAP: usize>(slot: &FrameSlot<CAP>) -> Option<usize>
     match slot {
         FrameSlot::Ready(_) => None,
         FrameSlot::Out(number) => Some(*number),
-        FrameSlot::Back(owned) => Some(owned.number()),
+        FrameSlot::Back(_, owned) => Some(owned.number()),
     }
 }
 
@@ -172,7 +173,7 @@ fn is_named<const CAP: usize>(owned: &Owned<CAP>, tag: u32, number: usize) -> bo
     owned.tag() == tag && owned.number() == number
 }
 
-/// Whether there is just one block, of that tag and number.
+/// Whether there is exactly one block, with that tag and number.
 fn is_only<const CAP: usize>(blocks: &[Owned<CAP>], tag: u32, number: usize) -> bool
     ensures { IsTrue result ↔ names_of (frames_in blocks.now) ≡ (tag, number) ∷ [] }
 {
@@ -182,7 +183,7 @@ fn is_only<const CAP: usize>(blocks: &[Owned<CAP>], tag: u32, number: usize) -> 
     }
 }
 
-/// Whether these are the blocks of the slots, in part order.
+/// Whether the blocks are those that were drawn for the slots, in part order.
 fn are_named<const CAP: usize>(blocks: &[Owned<CAP>], tag: u32, slots: &[FrameSlot<CAP>]) -> bool
     ensures { IsTrue result ↔ names_of (frames_in blocks.now) ≡ map (λ n. (tag, n)) (known (map number_in slots.now)) }
 {
@@ -212,7 +213,7 @@ impl<const CAP: usize> Frames<CAP> {
         })
     }
 
-    /// Keeps the keys of the command that is begun, and the name of their tally.
+    /// Stores the name of the begun command's tally, and the keys of its parts.
     pub(crate) fn begin(
         &mut self,
         tally: Option<TallyName<Done<CAP>>>,
@@ -225,7 +226,7 @@ impl<const CAP: usize> Frames<CAP> {
         self.keys = keys;
     }
 
-    /// The number of keys. If the command is a move that goes on, it is the number of its parts.
+    /// The number of keys. If the command is an accepted move, it is the number of its parts.
     pub(crate) fn count_keys(&self) -> usize
         ensures { result ≡ length self.now.keys }
     {
@@ -264,25 +265,29 @@ impl<const CAP: usize> Frames<CAP> {
         (owned, key)
     }
 
-    /// Keeps the block of a completed part.
-    pub(crate) fn bring(&mut self, part: usize, owned: Owned<CAP>)
+    /// Stores the moved snakes and the block of a completed part.
+    pub(crate) fn bring(&mut self, part: usize, moved: Moved, owned: Owned<CAP>)
         requires out { slice_get self.old.numbers part ≡ Some (Some owned.number) }
         requires tag { owned.tag ≡ self.old.tag }
-        ensures { self.new ≡ with_bytes part owned.entry.block self.old }
+        requires holds { owned.block ≡ frame_of moved }
+        ensures { self.new ≡ with_moved part moved self.old }
     {
-        self.slots[part] = FrameSlot::Back(owned);
+        self.slots[part] = FrameSlot::Back(moved, owned);
     }
 
-    /// Moves the blocks of all parts into the Join's ticket.
-    pub(crate) fn join(&mut self, frames: &mut Vec<Owned<CAP>>)
-        requires back { (bytes : List (List ℕ)) × (self.old.bytes ≡ map Some bytes) }
-        requires none { frames.old.items ≡ [] }
+    /// Moves the snakes and the blocks of all parts into the Join's ticket.
+    pub(crate) fn join(&mut self, moved: &mut Vec<Moved>, frames: &mut Vec<Owned<CAP>>)
+        requires back { (all : List (List Snake)) × (self.old.moved ≡ map Some all) }
+        requires no_moved { moved.old.items ≡ [] }
+        requires moved_room { length self.old.numbers ≤ vec_capacity moved.old }
+        requires no_frames { frames.old.items ≡ [] }
         requires room { length self.old.numbers ≤ vec_capacity frames.old }
         ensures frames { self.new ≡ joining_frames self.old }
-        ensures bytes { bytes_of (frames_in frames.new.items) ≡ known self.old.bytes }
+        ensures moved { moved.new.items ≡ known self.old.moved }
+        ensures bytes { bytes_of (frames_in frames.new.items) ≡ map frame_of (known self.old.moved) }
         ensures names { names_of (frames_in frames.new.items) ≡ map (λ n. (self.old.tag, n)) (known self.old.numbers) }
     {
-        take_all_back(&mut self.slots, frames);
+        send_all_off(&mut self.slots, moved, frames);
     }
 
     /// Gives the blocks of the answered command back to the pool, and drops its keys.
@@ -310,7 +315,7 @@ impl<const CAP: usize> Frames<CAP> {
         }
     }
 
-    /// Whether these are the blocks of that job.
+    /// Whether the blocks are those that the job was taken with.
     pub(crate) fn are_of(&self, job: JobName, blocks: &[Owned<CAP>]) -> bool
         ensures { IsTrue result ↔ names_of (frames_in blocks.now) ≡ map (λ n. (self.now.tag, n)) (job_numbers job.kind job.part self.now.numbers) }
     {

@@ -1,145 +1,463 @@
-//! One stay of the core: its fiber, its heap and its frame blocks, and their changes by an answer.
-ghost use Rattle.std.specs.Prelude.{◌≡◌, ◌<◌, ◌≤◌, ◌↔◌, IsTrue, ℕ, true, All, length, map, slice_get, Some, ◌≢◌};
-ghost use Rattle.std.specs.List.{list_all};
-ghost use Rattle.bs_game.specs.View.{answer_of};
-ghost use Rattle.bs_heap.specs.HeldBlocks.{LeavesOthers, all_given, next_number};
-ghost use Rattle.bs_sched.specs.Games.{answer_effect};
-ghost use Rattle.bs_sched.specs.GamesLayout.{IsHeapOf, KeepsBoards};
-ghost use Rattle.bs_sched.specs.Lane.{occupies, answered, forked, goes_on, is_out, with_part_done, is_quiet, lane_view, lane_command};
-ghost use Rattle.bs_sched.specs.Machine.{lane_of};
-ghost use Rattle.bs_sched.specs.Putting.{IsOwnOf};
+//! One stay of the core: its fiber, the heap of its records and the frame blocks of its move.
+//! Clauses see its lane, the places of its records and its frames.
+ghost use Rattle.std.specs.Prelude.{◌≡◌, ◌≢◌, ◌<◌, ◌≤◌, ◌*◌, ◌↔◌, ◌∷◌, IsTrue, ℕ, true, false, [], length, map, slice_get, slice_index_or, Some, MatchOption, option_map, IfOk, OnOk, OnErr};
+ghost use Rattle.bs_board.specs.declared.limits.TheConstants.{MOST_QUOTA};
+ghost use Rattle.bs_fiber.specs.declared.input.Input.{Input as AnyInput};
 ghost use Rattle.bs_fiber.specs.declared.job.JobKind.TheVariants as kind;
 ghost use Rattle.bs_fiber.specs.Frames.{frame_of};
-ghost use Rattle.bs_fiber.specs.Work.{moved_part, parts_of, snakes_in};
-ghost use Rattle.bs_game.specs.Game.{last_board};
-ghost use Rattle.bs_pool.specs.Ledger.{Ledger};
-ghost use Rattle.bs_sched.specs.Frames.{AreFramesOf, LeavesBut, forked_frames, idle_frames, known, with_bytes};
-ghost use Rattle.bs_fiber.specs.Tickets.{frames_in, names_of};
-ghost use Rattle.bs_sched.specs.Storage.{packing_after, pool_after};
+ghost use Rattle.bs_fiber.specs.Tickets.{HoldsWork, IsFresh, frames_in, names_of, ticket_in};
+ghost use Rattle.bs_fiber.specs.Work.{moved_part, out_seen};
+ghost use Rattle.bs_game.specs.Game.{game_charge, last_board};
+ghost use Rattle.bs_game.specs.View.{answer_of};
+ghost use Rattle.bs_heap.specs.HeldBlocks.{LeavesOthers, all_given, next_number};
+ghost use Rattle.bs_heap.specs.Packing.{numbers_of};
+ghost use Rattle.bs_pool.specs.Ledger.{Ledger, drawn};
+ghost use Rattle.bs_sched.specs.Courses.{IsRight};
+ghost use Rattle.bs_sched.specs.Frames.{FitFrames, LeavesBut, pool_taken};
+ghost use Rattle.bs_sched.specs.Game.{HasBlocks, IsAnswering, IsTicketOf, answered_game, closed_game, completed_game, forked_game, game_with_part, handed_game, opened_game, own_names, pool_answered, pool_completed, taken_game};
+ghost use Rattle.bs_sched.specs.Inputs.{current_input};
+ghost use Rattle.bs_sched.specs.Keyed.{HasKeys, IsKeyAt, IsKeyOf};
+ghost use Rattle.bs_sched.specs.Lane.{HasNoneReady, goes_on, is_idle, is_out, is_quiet, is_ready, kept_of, lane_command, lane_view, may_leave, with_taken};
+ghost use Rattle.bs_sched.specs.Putting.{IsOwnOf};
 
+use crate::cores::LEAST_CAPACITY;
 use crate::fiber::Fiber;
 use crate::frames::Frames;
-use crate::records::{change_records, expected};
-use bs_fiber::{Moved, Ticket};
+use crate::plan_blocks::{MOST_STAYS, record_tag};
+use crate::records::{change_records, expected, parts_of_last};
+use crate::stage::MOST_PARTS;
+use bs_board::{Board, KeptBoard, Reply, Row};
+use bs_counter::{PartKey, Tally, TallyName};
+use bs_fiber::{Contents, Done, Handed, JobKind, JobName, Moved, Out, Parts, Ticket};
 use bs_game::Answer;
 use bs_heap::TagHeap;
 use bs_pool::{Owned, Pool};
+use std::alloc::{AllocError, Global};
+use std::marker::Model;
 
-/// Whether all commands of the stays in those rows are answered.
-#[tactic(auto, using(crate::proofs::OpenRows::some_busy, crate::proofs::OpenRows::all_quiet))]
-pub(crate) fn are_quiet(fibers: &[Fiber], rows: &[u32]) -> bool
-    requires { All (λ game. game < length fibers.now) rows.now }
-    ensures { result ≡ list_all (λ game. is_quiet (lane_of fibers.now game)) rows.now }
+/// One stay. Its heap keeps the records of its boards, and its frames are in the state that its
+/// stage needs.
+#[derive(Drop)]
+pub(crate) struct Game<const CAP: usize> {
+    fiber: Fiber,
+    heap: TagHeap<CAP>,
+    frames: Frames<CAP>,
+}
+
+impl<const CAP: usize> Model for Game<CAP> {
+    ghost use Rattle.bs_sched.specs.Game.{GameView, IsGame, game_in};
+
+    ghost Value = { GameView };
+
+    ghost view = { λ c. game_in c };
+
+    ghost invariant = { λ c. IsGame CAP c };
+}
+
+/// Opens a tally and returns its name and keys if the next command is a move and the game's last
+/// board is not over; else returns no keys. Reads what the fiber keeps beside the command, not the
+/// command.
+fn open_keys<const CAP: usize>(
+    alloc: Global,
+    fiber: &Fiber,
+) -> Result<(Option<TallyName<Done<CAP>>>, Vec<PartKey<Done<CAP>>>), AllocError>
+    requires { 0 < length fiber.now.waiting }
+    ensures { IfOk result (λ opened. (worker : ℕ) → HasKeys (with_taken worker kind.Begin 0 fiber.now) opened.0 opened.1.items) }
 {
-    for place in 0..rows.len() {
-        if !fibers[rows[place] as usize].is_quiet() {
-            return false;
+    if !fiber.next().is_move() {
+        return Ok((None, Vec::new(alloc)));
+    }
+    let Some(parts) = parts_of_last(fiber) else {
+        return Ok((None, Vec::new(alloc)));
+    };
+    let (tally, keys) = Tally::open_named(alloc, parts)?;
+    Ok((Some(tally), keys))
+}
+
+/// Takes the only block of a part.
+fn only<const CAP: usize>(blocks: &mut Vec<Owned<CAP>>) -> Owned<CAP>
+    requires { length blocks.old.items ≡ 1 }
+    ensures one { blocks.old.items ≡ result ∷ [] }
+    ensures none { blocks.new.items ≡ [] }
+{
+    match blocks.pop() {
+        Some(owned) => owned,
+        None => unreachable!(),
+    }
+}
+
+impl<const CAP: usize> Game<CAP> {
+    /// A stay with no command, in that row of the core.
+    pub(crate) fn new(alloc: Global, game: usize, row: Row) -> Result<Self, AllocError>
+        requires wide { LEAST_CAPACITY ≤ CAP }
+        requires game { game < MOST_STAYS }
+        requires quota { row.quota ≤ MOST_QUOTA }
+        ensures { IfOk result (λ made. made ≡ opened_game game row) }
+    {
+        let tag = record_tag(game);
+        let heap = TagHeap::new(alloc, tag, row.quota)?;
+        let frames = Frames::new(alloc, tag + 1)?;
+        Ok(Game {
+            fiber: Fiber::new(alloc, row)?,
+            heap,
+            frames,
+        })
+    }
+
+    /// Queues a command.
+    pub(crate) fn hand(&mut self, command: Handed) -> Result<(), AllocError>
+        requires { self.old.lane.is_open ≡ true }
+        ensures ok { OnOk result (self.new ≡ handed_game command self.old) }
+        ensures err { OnErr result (self.new ≡ self.old) }
+    {
+        self.fiber.hand(command)
+    }
+
+    /// The name and the quota.
+    pub(crate) fn row(&self) -> &Row
+        ensures { result.now ≡ self.now.lane.row }
+    {
+        self.fiber.row()
+    }
+
+    /// Whether the stay has not left.
+    pub(crate) fn is_open(&self) -> bool
+        ensures { result ≡ self.now.lane.is_open }
+    {
+        self.fiber.is_open()
+    }
+
+    /// The commands that were taken.
+    pub(crate) fn taken(&self) -> &[Handed]
+        ensures { result.now ≡ self.now.lane.taken }
+    {
+        self.fiber.taken()
+    }
+
+    pub(crate) fn replies(&self) -> &[Reply]
+        ensures value { result.now ≡ self.now.lane.replies }
+        ensures right { IsRight self.now.lane }
+    {
+        self.fiber.keeps();
+        self.fiber.replies()
+    }
+
+    /// Recalls for the prover what holds of each stay between two events.
+    pub(crate) fn keeps(&self)
+        ensures right { IsRight self.now.lane }
+        ensures frames { FitFrames self.now.lane self.now.frames }
+    {
+        self.fiber.keeps();
+    }
+
+    /// The number of kept records.
+    pub(crate) fn count(&self) -> usize
+        ensures { result ≡ length (kept_of self.now.lane) }
+    {
+        self.heap.count()
+    }
+
+    /// A kept record by its index, the oldest first.
+    pub(crate) fn record(&self, place: usize) -> &[u8]
+        requires { place < length (kept_of self.now.lane) }
+        ensures { result.now ≡ slice_index_or (kept_of self.now.lane) place [] }
+    {
+        self.heap.record(place)
+    }
+
+    /// The newest board, if a game runs; for a stay that has left, its last board.
+    pub(crate) fn last(&self) -> Option<&KeptBoard>
+        ensures { option_map (λ kept. kept.now) result ≡ last_board self.now.lane.game }
+    {
+        self.fiber.last()
+    }
+
+    /// Decodes the newest board; for a stay that has left, its last board.
+    pub(crate) fn board(&self, alloc: Global) -> Result<Option<Board>, AllocError>
+        ensures { IfOk result (λ board. board ≡ last_board self.now.lane.game) }
+    {
+        match self.fiber.last() {
+            None => Ok(None),
+            Some(last) => Ok(Some(last.board(alloc)?)),
         }
     }
-    true
-}
 
-/// Whether the worker has the ticket's job out, and the ticket holds the game's input for it.
-pub(crate) fn is_own<const CAP: usize>(
-    fiber: &Fiber,
-    heap: &TagHeap<CAP>,
-    worker: usize,
-    ticket: &Ticket<CAP>,
-) -> bool
-    requires { fiber.now.is_open ≡ true → KeepsBoards fiber.now heap.now }
-    ensures { IsTrue result ↔ IsOwnOf fiber.now worker ticket.now }
-{
-    let job = ticket.job();
-    let number = ticket.worker();
-    if number as usize != worker {
-        return false;
+    /// The charge of the records; for a stay that has left, its last charge.
+    pub(crate) fn charge(&self) -> u32
+        ensures { result ≡ game_charge self.now.lane.game }
+    {
+        match self.fiber.last_charge() {
+            Some(charge) => charge,
+            None => {
+                self.fiber.keeps();
+                self.heap.charge()
+            }
+        }
     }
-    if !fiber.has_out(worker, job.kind, job.part) {
-        return false;
+
+    /// Whether all commands are answered.
+    pub(crate) fn is_quiet(&self) -> bool
+        ensures { result ≡ is_quiet self.now.lane }
+    {
+        self.fiber.is_quiet()
     }
-    fiber.keeps();
-    fiber.rests();
-    ticket.is_of(&expected(fiber, heap, fiber.command(), fiber.seq(), number, job))
-}
 
-/// Stores the answer of the game's command: keeps its reply and changes the records.
-pub(crate) fn answer_game<const CAP: usize>(
-    fiber: &mut Fiber,
-    heap: &mut TagHeap<CAP>,
-    pool: &mut Pool<CAP>,
-    answer: Answer,
-)
-    requires out { (worker : ℕ) × (occupies worker fiber.old ≡ true) }
-    requires answer { answer ≡ answer_of (lane_view fiber.old) (lane_command fiber.old) }
-    requires heap { IsHeapOf CAP heap.old.tag fiber.old heap.old pool.old }
-    ensures lane { fiber.new ≡ answered fiber.old }
-    ensures packing { heap.new.packing ≡ packing_after CAP (next_number pool.old) (answer_effect fiber.old) heap.old.packing }
-    ensures pool { pool.new ≡ pool_after CAP heap.old.tag (answer_effect fiber.old) heap.old.packing pool.old }
-    ensures heap { IsHeapOf CAP heap.old.tag fiber.new heap.new pool.new }
-    ensures others { LeavesOthers heap.old.tag pool.old pool.new }
-{
-    fiber.keeps();
-    change_records(heap, pool, &answer.effect);
-    fiber.answer(answer);
-}
+    /// The number of parts of the move; 0 if no move is in progress.
+    pub(crate) fn count_parts(&self) -> usize
+        ensures { result ≡ length self.now.lane.parts }
+    {
+        self.fiber.count_parts()
+    }
 
-/// Completes a part: keeps its moved snakes and its block.
-pub(crate) fn put_part_of<const CAP: usize>(
-    fiber: &mut Fiber,
-    frames: &mut Frames<CAP>,
-    part: usize,
-    moved: Moved,
-    owned: Owned<CAP>,
-)
-    requires out { (worker : ℕ) × (is_out worker fiber.old kind.Part part ≡ true) }
-    requires moved { moved ≡ moved_part part (lane_view fiber.old) (lane_command fiber.old) }
-    requires number { slice_get frames.old.numbers part ≡ Some (Some owned.number) }
-    requires tag { owned.tag ≡ frames.old.tag }
-    requires holds { owned.block ≡ frame_of moved }
-    ensures lane { fiber.new ≡ with_part_done part fiber.old }
-    ensures brought { frames.new ≡ with_bytes part owned.entry.block frames.old }
-    ensures frames { (pool : Ledger) → AreFramesOf frames.old.tag fiber.old frames.old pool → AreFramesOf frames.old.tag fiber.new frames.new pool }
-{
-    fiber.put_part(part, moved);
-    frames.bring(part, owned);
-}
+    /// A job that is ready, if there is one; of several parts the first.
+    pub(crate) fn ready(&self) -> Option<(JobKind, u8)>
+        ensures { MatchOption result (HasNoneReady self.now.lane) (λ job. is_ready self.now.lane job.0 job.1 ≡ true) }
+    {
+        self.fiber.ready()
+    }
 
-/// Answers the command of the game, drops its keys, and gives its frame blocks back.
-pub(crate) fn answer_job<const CAP: usize>(
-    fiber: &mut Fiber,
-    heap: &mut TagHeap<CAP>,
-    frames: &mut Frames<CAP>,
-    pool: &mut Pool<CAP>,
-    answer: Answer,
-    blocks: &mut Vec<Owned<CAP>>,
-)
-    requires out { (worker : ℕ) × (occupies worker fiber.old ≡ true) }
-    requires answer { answer ≡ answer_of (lane_view fiber.old) (lane_command fiber.old) }
-    requires heap { IsHeapOf CAP heap.old.tag fiber.old heap.old pool.old }
-    requires frames { AreFramesOf frames.old.tag fiber.old frames.old pool.old }
-    requires apart { heap.old.tag ≢ frames.old.tag }
-    requires names { names_of (frames_in blocks.old.items) ≡ map (λ n. (frames.old.tag, n)) (known frames.old.numbers) }
-    ensures lane { fiber.new ≡ answered fiber.old }
-    ensures packing { heap.new.packing ≡ packing_after CAP (next_number pool.old) (answer_effect fiber.old) heap.old.packing }
-    ensures pool { pool.new ≡ all_given (known frames.old.numbers) (pool_after CAP heap.old.tag (answer_effect fiber.old) heap.old.packing pool.old) }
-    ensures given { frames.new ≡ idle_frames frames.old.tag frames.old.tally }
-    ensures heap { IsHeapOf CAP heap.old.tag fiber.new heap.new pool.new }
-    ensures frames { AreFramesOf frames.old.tag fiber.new frames.new pool.new }
-    ensures others { LeavesBut heap.old.tag frames.old.tag pool.old pool.new }
-{
-    answer_game(fiber, heap, pool, answer);
-    frames.give(blocks, pool);
-}
+    /// Whether the worker has the ticket's job out, and the ticket holds the input for it.
+    pub(crate) fn is_own(&self, worker: usize, ticket: &Ticket<CAP>) -> bool
+        ensures { IsTrue result ↔ IsOwnOf self.now.lane worker ticket.now }
+    {
+        let job = ticket.job();
+        let number = ticket.worker();
+        if number as usize != worker || !self.fiber.has_out(worker, job.kind, job.part) {
+            return false;
+        }
+        self.fiber.keeps();
+        ticket.is_of(&expected(
+            &self.fiber,
+            &self.heap,
+            self.fiber.command(),
+            self.fiber.seq(),
+            number,
+            job,
+        ))
+    }
 
-/// Starts the move of the game, one part for each key.
-pub(crate) fn fork_of<const CAP: usize>(fiber: &mut Fiber, frames: &mut Frames<CAP>)
-    requires begun { (worker : ℕ) × (is_out worker fiber.old kind.Begin 0 ≡ true) }
-    requires goes { goes_on fiber.old ≡ true }
-    requires frames { (pool : Ledger) × AreFramesOf frames.old.tag fiber.old frames.old pool }
-    ensures lane { fiber.new ≡ forked fiber.old }
-    ensures forked { frames.new ≡ forked_frames frames.old.tag frames.old.tally (length (forked fiber.old).parts) }
-    ensures frames { (pool : Ledger) → AreFramesOf frames.old.tag fiber.old frames.old pool → AreFramesOf frames.old.tag fiber.new frames.new pool }
-{
-    fiber.fork(frames.count_keys());
-    frames.fork();
+    /// Whether these are the frame blocks of that job.
+    pub(crate) fn has_blocks(&self, job: JobName, blocks: &[Owned<CAP>]) -> bool
+        ensures { IsTrue result ↔ names_of (frames_in blocks.now) ≡ own_names self.now job }
+    {
+        self.frames.are_of(job, blocks)
+    }
+
+    /// Closes the stay and frees the blocks of its records. Its last board and its charge are kept.
+    pub(crate) fn close(&mut self, pool: &mut Pool<CAP>)
+        requires may { may_leave self.old.lane ≡ true }
+        requires blocks { HasBlocks CAP self.old pool.old }
+        ensures game { self.new ≡ closed_game self.old }
+        ensures pool { pool.new ≡ all_given (numbers_of self.old.packing) pool.old }
+        ensures blocks { HasBlocks CAP self.new pool.new }
+        ensures no_frames { self.old.frames.numbers ≡ [] }
+        ensures others { LeavesOthers self.old.tag pool.old pool.new }
+    {
+        let charge = self.charge();
+        self.heap.free(pool);
+        self.fiber.close(charge);
+    }
+
+    /// Takes the Begin of the next command for the worker. If the command is a move, keeps the keys
+    /// of the parts that it will have. The new ticket reuses the memory of `spent`.
+    #[tactic(auto, using(crate::proofs::FitInputs::taken_input))]
+    fn begin(
+        &mut self,
+        alloc: Global,
+        worker: u32,
+        job: JobName,
+        spent: Option<Box<Contents<CAP>>>,
+    ) -> Result<Ticket<CAP>, AllocError>
+        requires kind { job.kind ≡ kind.Begin }
+        requires ready { is_ready self.old.lane job.kind job.part ≡ true }
+        ensures ticket { IfOk result (λ ticket. IsTicketOf self.new worker job ticket) }
+        ensures ok { OnOk result (self.new ≡ taken_game worker job 0 self.new.frames.tally self.new.frames.keys self.old) }
+        ensures err { OnErr result (self.new ≡ self.old) }
+    {
+        self.heap.grow_index()?;
+        let seq = self.fiber.next_seq();
+        let (tally, keys) = open_keys(alloc, &self.fiber)?;
+        let handle = self.fiber.take_handle();
+        let next = self.fiber.next();
+        let contents = expected(&self.fiber, &self.heap, next, seq, worker, job).to_contents(
+            alloc, handle, spent,
+        )?;
+        self.fiber.begin(worker as usize)?;
+        self.frames.begin(tally, keys);
+        self.fiber.keeps();
+        Ok(Ticket::new(contents))
+    }
+
+    /// Makes the contents of a ticket for a job of the command in progress, without parts and
+    /// blocks. They reuse the memory of `spent`.
+    fn new_contents(
+        &self,
+        alloc: Global,
+        worker: u32,
+        job: JobName,
+        spent: Option<Box<Contents<CAP>>>,
+    ) -> Result<Box<Contents<CAP>>, AllocError>
+        requires { is_idle self.now.lane.stage ≡ false }
+        ensures input { IfOk result (λ contents. contents.value.input ≡ current_input self.now.lane worker job) }
+        ensures frames { IfOk result (λ contents. contents.value.frames.items ≡ []) }
+    {
+        let command = self.fiber.command();
+        let seq = self.fiber.seq();
+        expected(&self.fiber, &self.heap, command, seq, worker, job).to_contents(alloc, None, spent)
+    }
+
+    /// Takes a part for the worker, with an empty frame block and its key. The new ticket reuses
+    /// the memory of `spent`.
+    fn take_part(
+        &mut self,
+        alloc: Global,
+        pool: &mut Pool<CAP>,
+        worker: u32,
+        job: JobName,
+        spent: Option<Box<Contents<CAP>>>,
+    ) -> Result<(Ticket<CAP>, PartKey<Done<CAP>>), AllocError>
+        requires kind { job.kind ≡ kind.Part }
+        requires ready { is_ready self.old.lane job.kind job.part ≡ true }
+        requires blocks { HasBlocks CAP self.old pool.old }
+        ensures ticket { IfOk result (λ taken. IsTicketOf self.new worker job taken.0) }
+        ensures key { IfOk result (λ taken. IsKeyAt self.new.frames.tally (length self.new.lane.parts) job.part taken.1) }
+        ensures ok { OnOk result (self.new ≡ taken_game worker job (next_number pool.old) self.new.frames.tally self.new.frames.keys self.old) }
+        ensures pool { OnOk result (pool.new ≡ drawn self.old.frames.tag (next_number pool.old) pool.old) }
+        ensures blocks { HasBlocks CAP self.new pool.new }
+        ensures others { LeavesOthers self.old.frames.tag pool.old pool.new }
+        ensures err { OnErr result (self.new ≡ self.old) }
+        ensures err_pool { OnErr result (pool.new ≡ pool.old) }
+    {
+        let mut contents = self.new_contents(alloc, worker, job, spent)?;
+        contents.frames.reserve(1)?;
+        self.fiber.take_part(worker as usize, job.part as usize);
+        let (owned, key) = self.frames.draw(pool, job.part as usize);
+        contents.frames.push_reserved(owned);
+        self.fiber.keeps();
+        Ok((Ticket::new(contents), key))
+    }
+
+    /// Takes the Join for the worker, with the moved snakes and the frame blocks of all parts. The
+    /// new ticket reuses the memory of `spent`.
+    fn join(
+        &mut self,
+        alloc: Global,
+        worker: u32,
+        job: JobName,
+        spent: Option<Box<Contents<CAP>>>,
+    ) -> Result<Ticket<CAP>, AllocError>
+        requires kind { job.kind ≡ kind.Join }
+        requires ready { is_ready self.old.lane job.kind job.part ≡ true }
+        ensures ticket { IfOk result (λ ticket. IsTicketOf self.new worker job ticket) }
+        ensures ok { OnOk result (self.new ≡ taken_game worker job 0 self.new.frames.tally self.new.frames.keys self.old) }
+        ensures err { OnErr result (self.new ≡ self.old) }
+    {
+        let mut contents = self.new_contents(alloc, worker, job, spent)?;
+        contents.frames.reserve(MOST_PARTS)?;
+        let mut moved = Vec::with_capacity(alloc, MOST_PARTS)?;
+        self.heap.grow_index()?;
+        self.fiber.join(worker as usize)?;
+        self.frames.join(&mut moved, &mut contents.frames);
+        contents.input.parts = Parts::from_vec(moved);
+        self.fiber.keeps();
+        Ok(Ticket::new(contents))
+    }
+
+    /// Takes a ready job for the worker: its ticket, and for a part its key. Reserves the memory
+    /// that its completion needs. The new ticket reuses the memory of `spent`.
+    pub(crate) fn take(
+        &mut self,
+        alloc: Global,
+        pool: &mut Pool<CAP>,
+        worker: u32,
+        job: JobName,
+        spent: Option<Box<Contents<CAP>>>,
+    ) -> Result<(Ticket<CAP>, Option<PartKey<Done<CAP>>>), AllocError>
+        requires ready { is_ready self.old.lane job.kind job.part ≡ true }
+        requires blocks { HasBlocks CAP self.old pool.old }
+        ensures ticket { IfOk result (λ taken. IsTicketOf self.new worker job taken.0) }
+        ensures key { IfOk result (λ taken. IsKeyOf self.new.frames.tally (length self.new.lane.parts) job taken.1) }
+        ensures ok { OnOk result (self.new ≡ taken_game worker job (next_number pool.old) self.new.frames.tally self.new.frames.keys self.old) }
+        ensures pool { OnOk result (pool.new ≡ pool_taken job.kind self.old.frames.tag (next_number pool.old) pool.old) }
+        ensures blocks { HasBlocks CAP self.new pool.new }
+        ensures others { LeavesOthers self.old.frames.tag pool.old pool.new }
+        ensures err { OnErr result (self.new ≡ self.old) }
+        ensures err_pool { OnErr result (pool.new ≡ pool.old) }
+    {
+        match job.kind {
+            JobKind::Begin => Ok((self.begin(alloc, worker, job, spent)?, None)),
+            JobKind::Part => {
+                let (ticket, key) = self.take_part(alloc, pool, worker, job, spent)?;
+                Ok((ticket, Some(key)))
+            }
+            JobKind::Join => Ok((self.join(alloc, worker, job, spent)?, None)),
+        }
+    }
+
+    /// Starts the move, one part for each key.
+    fn fork(&mut self)
+        requires begun { (worker : ℕ) × (is_out worker self.old.lane kind.Begin 0 ≡ true) }
+        requires goes { goes_on self.old.lane ≡ true }
+        ensures game { self.new ≡ forked_game self.old }
+        ensures blocks { (pool : Ledger) → HasBlocks CAP self.old pool → HasBlocks CAP self.new pool }
+    {
+        self.fiber.fork(self.frames.count_keys());
+        self.frames.fork();
+    }
+
+    /// Completes a part: keeps its moved snakes and its block.
+    fn complete_part(&mut self, part: usize, moved: Moved, owned: Owned<CAP>)
+        requires out { (worker : ℕ) × (is_out worker self.old.lane kind.Part part ≡ true) }
+        requires moved { moved ≡ moved_part part (lane_view self.old.lane) (lane_command self.old.lane) }
+        requires number { slice_get self.old.frames.numbers part ≡ Some (Some owned.number) }
+        requires tag { owned.tag ≡ self.old.frames.tag }
+        requires holds { owned.block ≡ frame_of moved }
+        ensures { self.new ≡ game_with_part part self.old }
+    {
+        self.fiber.put_part(part);
+        self.frames.bring(part, moved, owned);
+    }
+
+    /// Answers the command: keeps the reply, changes the records, drops the keys, and gives the
+    /// frame blocks back.
+    fn answer(&mut self, pool: &mut Pool<CAP>, answer: Answer, blocks: &mut Vec<Owned<CAP>>)
+        requires out { IsAnswering self.old (names_of (frames_in blocks.old.items)) }
+        requires answer { answer ≡ answer_of (lane_view self.old.lane) (lane_command self.old.lane) }
+        requires blocks { HasBlocks CAP self.old pool.old }
+        ensures game { self.new ≡ answered_game CAP (next_number pool.old) self.old }
+        ensures pool { pool.new ≡ pool_answered CAP self.old pool.old }
+        ensures blocks { HasBlocks CAP self.new pool.new }
+        ensures others { LeavesBut self.old.tag self.old.frames.tag pool.old pool.new }
+    {
+        self.fiber.keeps();
+        change_records(&mut self.heap, pool, &answer.effect);
+        self.fiber.answer(answer);
+        self.frames.give(blocks, pool);
+    }
+
+    /// Completes a job that was out.
+    pub(crate) fn complete(
+        &mut self,
+        pool: &mut Pool<CAP>,
+        job: JobName,
+        out: Out,
+        blocks: &mut Vec<Owned<CAP>>,
+    )
+        requires out { (worker : ℕ) × (is_out worker self.old.lane job.kind job.part ≡ true) }
+        requires worked { out ≡ out_seen job.kind job.part (lane_view self.old.lane) (lane_command self.old.lane) }
+        requires blocks { HasBlocks CAP self.old pool.old }
+        requires names { names_of (frames_in blocks.old.items) ≡ own_names self.old job }
+        requires holds { (input : AnyInput) × HoldsWork (record { input = input; frames = frames_in blocks.old.items }) out }
+        ensures game { self.new ≡ completed_game CAP job.kind job.part (next_number pool.old) self.old }
+        ensures pool { pool.new ≡ pool_completed CAP job.kind self.old pool.old }
+        ensures blocks { HasBlocks CAP self.new pool.new }
+        ensures others { LeavesBut self.old.tag self.old.frames.tag pool.old pool.new }
+    {
+        match out {
+            Out::Goes => self.fork(),
+            Out::Answered(answer) => self.answer(pool, answer, blocks),
+            Out::Moved(moved) => self.complete_part(job.part as usize, moved, only(blocks)),
+            Out::Joined(answer, _) => self.answer(pool, answer, blocks),
+        }
+    }
 }

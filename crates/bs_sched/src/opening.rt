@@ -1,25 +1,22 @@
-//! Opening a core: a fiber and a heap for each game, and the reserved blocks.
-ghost use Rattle.std.specs.Prelude.{◌≡◌, ◌*◌, ◌≤◌, ◌<◌, map, length, IfOk, IfErr, OnOk};
+//! Opening a core: a stay for each row of its plan, and the reserved blocks.
+ghost use Rattle.std.specs.Prelude.{◌≡◌, ◌≤◌, ◌<◌, length, IfOk, IfErr, OnOk};
 ghost use Rattle.std.specs.List.{range_with_len};
 ghost use Rattle.bs_block.specs.Bytes.{IsCapacity};
 ghost use Rattle.bs_board.specs.plans.Plan.{IsFitPlan};
 ghost use Rattle.bs_sched.specs.Core.{opened_core};
 ghost use Rattle.bs_sched.specs.Games.{opened};
-ghost use Rattle.bs_sched.specs.GamesLayout.{opened_frames, opened_heaps};
-ghost use Rattle.bs_sched.specs.Lane.{empty_lane, no_lane};
+ghost use Rattle.bs_sched.specs.GamesLayout.{opened_games};
 ghost use Rattle.bs_sched.specs.PlanBlocks.{blocks_of_all};
 ghost use Rattle.bs_sched.specs.declared.opening.Open.TheVariants as cause;
 
 use crate::busy::nobody_busy;
 use crate::cores::{Core, LEAST_CAPACITY, MOST_WORKERS};
-use crate::fiber::Fiber;
-use crate::frames::Frames;
+use crate::game::Game;
 use crate::games::Games;
 use crate::last_games::spread_games;
-use crate::plan_blocks::{blocks_of_all, open_pool, record_tag};
+use crate::plan_blocks::{blocks_of_all, open_pool};
 use bs_board::limits::MOST_ROWS;
 use bs_board::{Plan, Row};
-use bs_heap::{MOST_RECORD_BYTES, TagHeap};
 use std::alloc::{AllocError, Global};
 use thiserror::Error;
 
@@ -41,47 +38,19 @@ impl From<AllocError> for Open {
     }
 }
 
-fn open_fibers(alloc: Global, rows: &[Row]) -> Result<Vec<Fiber>, AllocError>
-    ensures { IfOk result (λ fibers. fibers.items ≡ map (λ row. empty_lane row) rows.now) }
-{
-    let mut fibers = Vec::with_capacity(alloc, rows.len())?;
-    for row in rows {
-        let _quota = row.quota;
-        fibers.push(Fiber::new(alloc, row.copy(alloc)?)?)?;
-    }
-    Ok(fibers)
-}
-
-fn open_heaps<const CAP: usize>(
-    alloc: Global,
-    rows: &[Row],
-) -> Result<Vec<TagHeap<CAP>>, AllocError>
-    requires wide { 2 * MOST_RECORD_BYTES ≤ CAP }
+/// Opens a stay for each row.
+fn open_games<const CAP: usize>(alloc: Global, rows: &[Row]) -> Result<Vec<Game<CAP>>, AllocError>
+    requires wide { LEAST_CAPACITY ≤ CAP }
     requires few { length rows.now ≤ MOST_ROWS }
-    ensures { IfOk result (λ heaps. heaps.items ≡ opened_heaps rows.now) }
+    ensures { IfOk result (λ games. games.items ≡ opened_games rows.now) }
 {
-    let mut heaps = Vec::with_capacity(alloc, rows.len())?;
+    let mut games = Vec::with_capacity(alloc, rows.len())?;
     for game in 0..rows.len() {
         let row = &rows[game];
-        heaps.push(TagHeap::new(alloc, record_tag(game), row.quota)?)?;
+        let _quota = row.quota;
+        games.push(Game::new(alloc, game, row.copy(alloc)?)?)?;
     }
-    Ok(heaps)
-}
-
-/// Makes the empty frame slots of each game.
-#[tactic(auto, using(crate::proofs::OpenedGames::opened_more))]
-fn open_frames<const CAP: usize>(
-    alloc: Global,
-    games: usize,
-) -> Result<Vec<Frames<CAP>>, AllocError>
-    requires { games ≤ MOST_ROWS }
-    ensures { IfOk result (λ frames. frames.items ≡ opened_frames games) }
-{
-    let mut frames = Vec::with_capacity(alloc, games)?;
-    for game in 0..games {
-        frames.push(Frames::new(alloc, record_tag(game) + 1)?)?;
-    }
-    Ok(frames)
+    Ok(games)
 }
 
 /// Lists the rows of the plan, all of them open.
@@ -99,7 +68,7 @@ fn open_rows(alloc: Global, games: usize) -> Result<Vec<u32>, AllocError>
 
 impl<const CAP: usize> Games<CAP> {
     /// Opens the games of a plan, with no command yet.
-    #[tactic(auto, using(crate::proofs::OpenedGames::opened_packings, crate::proofs::OpenedGames::opened_numbers, crate::proofs::Tallies::opened_tallies))]
+    #[tactic(auto, using(crate::proofs::OpenedGames::opened_lanes_are, crate::proofs::OpenedGames::opened_packings, crate::proofs::OpenedGames::opened_numbers, crate::proofs::Tallies::opened_tallies))]
     fn open(alloc: Global, plan: Plan, blocks: usize, workers: usize) -> Result<Self, Open>
         requires capacity { IsCapacity CAP }
         requires wide { LEAST_CAPACITY ≤ CAP }
@@ -114,17 +83,13 @@ impl<const CAP: usize> Games<CAP> {
             return Err(Open::Short);
         }
         let pool = open_pool(alloc, rows, blocks)?;
-        let fibers = open_fibers(alloc, rows)?;
-        let heaps = open_heaps(alloc, rows)?;
-        let frames = open_frames(alloc, rows.len())?;
+        let list = open_games(alloc, rows)?;
         let open_rows = open_rows(alloc, rows.len())?;
         Ok(Games {
             rows: plan.rows,
             workers: workers as u32,
             failed: false,
-            fibers,
-            heaps,
-            frames,
+            list,
             open_rows,
             pool,
         })

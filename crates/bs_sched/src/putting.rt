@@ -1,28 +1,21 @@
 //! Completing jobs: whether a result is of a job of this core, and its effect on the game.
-ghost use Rattle.std.specs.Prelude.{◌≡◌, ◌≢◌, ◌≤◌, ◌<◌, ◌↔◌, ◌∷◌, [], IsTrue, true, ℕ, length, slice_get, slice_set, Some, IfOk, OnOk, IfErr};
+ghost use Rattle.std.specs.Prelude.{◌≡◌, ◌<◌, ◌↔◌, IsTrue, true, ℕ, length, OnOk, IfErr};
 ghost use Rattle.bs_fiber.specs.declared.input.Input.{Input as AnyInput};
-ghost use Rattle.bs_fiber.specs.declared.job.JobKind.TheVariants as kind;
-ghost use Rattle.bs_fiber.specs.Frames.{frame_of};
 ghost use Rattle.bs_fiber.specs.Tickets.{HoldsWork, frames_in, names_of};
-ghost use Rattle.bs_fiber.specs.Work.{moved_part, out_seen};
-ghost use Rattle.bs_game.specs.View.{answer_of};
+ghost use Rattle.bs_fiber.specs.Work.{out_seen};
 ghost use Rattle.bs_sched.specs.Core.{core_after};
-ghost use Rattle.bs_sched.specs.Games.{brought, storage_answered};
+ghost use Rattle.bs_sched.specs.Games.{brought};
 ghost use Rattle.bs_sched.specs.Inputs.{names_for};
-ghost use Rattle.bs_sched.specs.Courses.{IsRight};
-ghost use Rattle.bs_sched.specs.Lane.{answered, forked, with_part_done, is_out, goes_on, lane_view, lane_command};
+ghost use Rattle.bs_sched.specs.Lane.{is_out, lane_view, lane_command};
 ghost use Rattle.bs_sched.specs.Machine.{lane_of};
 ghost use Rattle.bs_sched.specs.Putting.{IsOwn, IsOwnInput, IsOwnJob};
-ghost use Rattle.bs_sched.specs.Storage.{frame_tag, frames_of, with_parts};
 ghost use Rattle.bs_sched.specs.declared.event.Event.TheVariants as event;
 
 use crate::busy::mark;
 use crate::cores::{Core, note};
 use crate::event::Event;
-use crate::game::{answer_job, fork_of, is_own, put_part_of};
 use crate::games::Games;
-use bs_fiber::{Contents, Done, JobKind, JobName, Moved, Out, Ticket};
-use bs_game::Answer;
+use bs_fiber::{Contents, Done, JobKind, JobName, Out, Ticket};
 use bs_pool::Owned;
 use thiserror::Error;
 
@@ -35,76 +28,9 @@ pub struct Stray<const CAP: usize> {
     pub done: Done<CAP>,
 }
 
-/// Takes the only block of a part.
-fn only<const CAP: usize>(blocks: &mut Vec<Owned<CAP>>) -> Owned<CAP>
-    requires { length blocks.old.items ≡ 1 }
-    ensures one { blocks.old.items ≡ result ∷ [] }
-    ensures none { blocks.new.items ≡ [] }
-{
-    match blocks.pop() {
-        Some(owned) => owned,
-        None => unreachable!(),
-    }
-}
-
 impl<const CAP: usize> Games<CAP> {
-    /// Stores the answer of that game's command, and gives its frame blocks back to the pool.
-    fn answer(&mut self, job: JobName, answer: Answer, blocks: &mut Vec<Owned<CAP>>)
-        requires game { job.game < length self.old.lanes }
-        requires kind { job.kind ≢ kind.Part }
-        requires out { (worker : ℕ) × (is_out worker (lane_of self.old.lanes job.game) job.kind job.part ≡ true) }
-        requires answer { answer ≡ answer_of (lane_view (lane_of self.old.lanes job.game)) (lane_command (lane_of self.old.lanes job.game)) }
-        requires names { names_of (frames_in blocks.old.items) ≡ names_for self.old.storage job }
-        ensures { self.new ≡ record self.old {
-          lanes = slice_set self.old.lanes job.game (answered (lane_of self.old.lanes job.game));
-          storage = storage_answered job.kind CAP job.game (lane_of self.old.lanes job.game) self.old.storage;
-        } }
-    {
-        let game = job.game as usize;
-        answer_job(
-            &mut self.fibers[game],
-            &mut self.heaps[game],
-            &mut self.frames[game],
-            &mut self.pool,
-            answer,
-            blocks,
-        );
-    }
-
-    /// Starts the parts of that game's move.
-    fn fork(&mut self, game: usize)
-        requires game { game < length self.old.lanes }
-        requires begun { (worker : ℕ) × (is_out worker (lane_of self.old.lanes game) kind.Begin 0 ≡ true) }
-        requires goes { goes_on (lane_of self.old.lanes game) ≡ true }
-        ensures { self.new ≡ record self.old {
-          lanes = slice_set self.old.lanes game (forked (lane_of self.old.lanes game));
-          storage = with_parts game (length (forked (lane_of self.old.lanes game)).parts) self.old.storage;
-        } }
-    {
-        fork_of(&mut self.fibers[game], &mut self.frames[game]);
-    }
-
-    /// Completes that part of the move with its moved snakes.
-    fn put_part(&mut self, game: usize, part: usize, moved: Moved, owned: Owned<CAP>)
-        requires game { game < length self.old.lanes }
-        requires out { (worker : ℕ) × (is_out worker (lane_of self.old.lanes game) kind.Part part ≡ true) }
-        requires moved { moved ≡ moved_part part (lane_view (lane_of self.old.lanes game)) (lane_command (lane_of self.old.lanes game)) }
-        requires tag { owned.tag ≡ frame_tag game }
-        requires number { slice_get (frames_of self.old.storage game) part ≡ Some (Some owned.number) }
-        requires holds { owned.block ≡ frame_of moved }
-        ensures { self.new ≡ record self.old { lanes = slice_set self.old.lanes game (with_part_done part (lane_of self.old.lanes game)) } }
-    {
-        put_part_of(
-            &mut self.fibers[game],
-            &mut self.frames[game],
-            part,
-            moved,
-            owned,
-        );
-    }
-
-    /// Applies the result of a job that was out.
-    fn bring(&mut self, job: JobName, out: Out, blocks: &mut Vec<Owned<CAP>>)
+    /// Completes a job that was out.
+    fn complete_job(&mut self, job: JobName, out: Out, blocks: &mut Vec<Owned<CAP>>)
         requires game { job.game < length self.old.lanes }
         requires out { (worker : ℕ) × (is_out worker (lane_of self.old.lanes job.game) job.kind job.part ≡ true) }
         requires worked { out ≡ out_seen job.kind job.part (lane_view (lane_of self.old.lanes job.game)) (lane_command (lane_of self.old.lanes job.game)) }
@@ -113,20 +39,8 @@ impl<const CAP: usize> Games<CAP> {
         ensures { self.new ≡ brought CAP self.old job }
     {
         let game = job.game as usize;
-        match out {
-            Out::Goes => self.fork(game),
-            Out::Answered(answer) => self.answer(job, answer, blocks),
-            Out::Moved(moved) => self.put_part(game, job.part as usize, moved, only(blocks)),
-            Out::Joined(answer, _) => self.answer(job, answer, blocks),
-        }
-    }
-
-    /// Recalls the invariant of that game's fiber for the prover.
-    fn keeps(&self, game: usize)
-        requires { game < length self.now.lanes }
-        ensures { IsRight (lane_of self.now.lanes game) }
-    {
-        self.fibers[game].keeps();
+        self.list[game].keeps();
+        self.list[game].complete(&mut self.pool, job, out, blocks);
     }
 
     /// Whether the worker has the ticket's job out, and the ticket holds the core's input for it.
@@ -134,7 +48,7 @@ impl<const CAP: usize> Games<CAP> {
         ensures { IsTrue result ↔ IsOwnInput self.now worker ticket.now }
     {
         let game = ticket.job().game as usize;
-        game < self.fibers.len() && is_own(&self.fibers[game], &self.heaps[game], worker, ticket)
+        game < self.list.len() && self.list[game].is_own(worker, ticket)
     }
 
     /// Whether the ticket's blocks are those that it was taken with.
@@ -144,7 +58,7 @@ impl<const CAP: usize> Games<CAP> {
         ensures { IsTrue result ↔ names_of ticket.now.frames ≡ names_for self.now.storage ticket.now.input.job }
     {
         let job = ticket.job();
-        self.frames[job.game as usize].are_of(job, ticket.frames())
+        self.list[job.game as usize].has_blocks(job, ticket.frames())
     }
 
     /// Whether the worker has the job out, and its ticket holds the core's input for it and the
@@ -168,15 +82,15 @@ impl<const CAP: usize> Games<CAP> {
     }
 
     /// Completes a job of this core, and returns the contents of its ticket.
-    fn settle(&mut self, done: Done<CAP>) -> Box<Contents<CAP>>
+    fn complete(&mut self, done: Done<CAP>) -> Box<Contents<CAP>>
         requires { (worker : ℕ) × IsOwn self.old worker done }
         ensures { self.new ≡ brought CAP self.old done.entry.input.job }
     {
         let job = done.ticket().job();
-        self.keeps(job.game as usize);
+        self.game(job.game as usize).keeps();
         let (ticket, out) = done.into_parts();
         let mut contents = ticket.into_contents();
-        self.bring(job, out, &mut contents.frames);
+        self.complete_job(job, out, &mut contents.frames);
         contents
     }
 }
@@ -184,13 +98,13 @@ impl<const CAP: usize> Games<CAP> {
 impl<const CAP: usize> Core<CAP> {
     /// Completes a job of the worker, and returns the contents of its ticket. The journal has room
     /// for the event, which `take` reserved.
-    pub(crate) fn settle(&mut self, worker: usize, done: Done<CAP>) -> Box<Contents<CAP>>
+    pub(crate) fn complete(&mut self, worker: usize, done: Done<CAP>) -> Box<Contents<CAP>>
         requires { IsOwn self.old.games worker done }
         ensures { self.new ≡ core_after CAP self.old (event.Put worker done.entry.input.job) }
     {
         let job = done.ticket().job();
         let number = done.ticket().worker();
-        let contents = self.games.settle(done);
+        let contents = self.games.complete(done);
         note(&mut self.journal, Event::Put(number, job));
         self.out -= 1;
         mark(&mut self.busy, worker, job.kind, false);
@@ -221,6 +135,6 @@ impl<const CAP: usize> Core<CAP> {
         if !self.games.is_own_job(worker, &done) {
             return Err(Stray { done });
         }
-        Ok(self.settle(worker, done))
+        Ok(self.complete(worker, done))
     }
 }

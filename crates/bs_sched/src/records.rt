@@ -10,7 +10,7 @@ ghost use Rattle.bs_game.specs.Law.{IsFitEffect, effected};
 ghost use Rattle.bs_heap.specs.Charge.{charge_of, blocks_for};
 ghost use Rattle.bs_heap.specs.HeldBlocks.{IsKeptIn, LeavesOthers, next_number};
 ghost use Rattle.bs_pool.specs.Ledger.{reserved};
-ghost use Rattle.bs_sched.specs.GamesLayout.{KeepsBoards};
+ghost use Rattle.bs_sched.specs.Game.{KeepsBoards};
 ghost use Rattle.bs_sched.specs.Inputs.{board_asked, input_for};
 ghost use Rattle.bs_sched.specs.Storage.{packing_after, pool_after};
 ghost use Rattle.bs_sched.specs.Turns.{FindsTurn};

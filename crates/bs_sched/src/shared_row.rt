@@ -6,8 +6,8 @@ use std::alloc::{AllocError, Global};
 use std::marker::Model;
 use std::sync::Arc;
 
-/// The row of an admitted stay, allocated by itself, so that an event stays small. Contracts see
-/// the row.
+/// The row of an admitted stay in a separate allocation, so that an event stays small. Contracts
+/// see the row.
 #[derive(Debug, Drop)]
 pub struct SharedRow {
     row: Arc<Row>,
@@ -23,7 +23,7 @@ impl Model for SharedRow {
 }
 
 impl SharedRow {
-    /// Moves the row into an allocation of its own.
+    /// Moves the row into a new allocation.
     pub fn new(alloc: Global, row: Row) -> Result<SharedRow, AllocError>
         ensures { IfOk result (λ shared. shared ≡ row) }
     {

@@ -1,5 +1,8 @@
 //! The stage of a game's current command, and the state of each part of its move.
 
+/// The largest number of parts of a move.
+pub(crate) const MOST_PARTS: usize = 4;
+
 /// The stage of a lane. A worker is named by its number.
 #[derive(Clone, Copy, Debug, PartialEq, Eq)]
 pub enum Stage {

@@ -5,7 +5,8 @@ ghost use Rattle.bs_board.specs.Texts.{is_same_text};
 ghost use Rattle.bs_board.specs.plans.Plan.{is_fit_row};
 ghost use Rattle.bs_sched.specs.Coming.{Admits, Leaves};
 ghost use Rattle.bs_sched.specs.Core.{core_after};
-ghost use Rattle.bs_sched.specs.Lane.{is_quiet, may_leave};
+ghost use Rattle.bs_sched.specs.GamesLayout.{lanes_in};
+ghost use Rattle.bs_sched.specs.Lane.{may_leave};
 ghost use Rattle.bs_sched.specs.Machine.{has_name, is_full, lane_of, may_admit, open_blocks};
 ghost use Rattle.bs_sched.specs.Games.{after, setting_of};
 ghost use Rattle.bs_sched.specs.PlanBlocks.{blocks_of};
@@ -16,14 +17,12 @@ ghost use Rattle.bs_sched.specs.declared.stays.Leave.TheVariants as leave;
 
 use crate::cores::{Core, note, reserve_events};
 use crate::event::Event;
-use crate::fiber::Fiber;
-use crate::frames::Frames;
+use crate::game::Game;
 use crate::games::Games;
-use crate::plan_blocks::{MOST_STAYS, blocks_of, record_tag, release_row, reserve_row};
+use crate::plan_blocks::{MOST_STAYS, blocks_of, release_row, reserve_row};
 use crate::shared_row::SharedRow;
 use bs_board::limits::MOST_ROWS;
 use bs_board::{Id, Row};
-use bs_heap::TagHeap;
 use std::alloc::{AllocError, Global};
 use thiserror::Error;
 
@@ -80,38 +79,30 @@ fn keeps_row(row: &Row)
 }
 
 /// Whether a stay of one of those rows has the name.
-#[tactic(auto, using(crate::proofs::OpenRows::some_named, crate::proofs::OpenRows::none_named))]
-fn is_name_of(fibers: &[Fiber], rows: &[u32], name: &Id) -> bool
-    requires { All (λ game. game < length fibers.now) rows.now }
-    ensures { result ≡ list_any (λ game. is_same_text name.now (lane_of fibers.now game).row.game) rows.now }
+#[tactic(auto, using(crate::proofs::OpenRows::some_named, crate::proofs::OpenRows::none_named, crate::proofs::ListedGames::lane_read))]
+fn is_name_of<const CAP: usize>(games: &[Game<CAP>], rows: &[u32], name: &Id) -> bool
+    requires { All (λ game. game < length games.now) rows.now }
+    ensures { result ≡ list_any (λ game. is_same_text name.now (lane_of (lanes_in games.now) game).row.game) rows.now }
 {
     for place in 0..rows.len() {
-        if name.is_same(&fibers[rows[place] as usize].row().game) {
+        if name.is_same(&games[rows[place] as usize].row().game) {
             return true;
         }
     }
     false
 }
 
-/// Makes room for one more entry in each list.
+/// Makes room for one more stay.
 fn make_room<const CAP: usize>(
-    fibers: &mut Vec<Fiber>,
-    heaps: &mut Vec<TagHeap<CAP>>,
-    frames: &mut Vec<Frames<CAP>>,
+    games: &mut Vec<Game<CAP>>,
     open_rows: &mut Vec<u32>,
 ) -> Result<(), AllocError>
-    ensures fibers { fibers.new.items ≡ fibers.old.items }
-    ensures heaps { heaps.new.items ≡ heaps.old.items }
-    ensures frames { frames.new.items ≡ frames.old.items }
+    ensures games { games.new.items ≡ games.old.items }
     ensures rows { open_rows.new.items ≡ open_rows.old.items }
-    ensures fibers_room { OnOk result (vec_len fibers.new < vec_capacity fibers.new) }
-    ensures heaps_room { OnOk result (vec_len heaps.new < vec_capacity heaps.new) }
-    ensures frames_room { OnOk result (vec_len frames.new < vec_capacity frames.new) }
+    ensures games_room { OnOk result (vec_len games.new < vec_capacity games.new) }
     ensures rows_room { OnOk result (vec_len open_rows.new < vec_capacity open_rows.new) }
 {
-    fibers.reserve(1)?;
-    heaps.reserve(1)?;
-    frames.reserve(1)?;
+    games.reserve(1)?;
     open_rows.reserve(1)
 }
 
@@ -124,19 +115,19 @@ fn remove_row(rows: &mut Vec<u32>, game: usize)
 
 impl<const CAP: usize> Games<CAP> {
     /// Whether an open stay has the name of that row.
-    #[tactic(auto, using(crate::proofs::OpenRows::listed_within))]
+    #[tactic(auto, using(crate::proofs::ListedGames::listed_games))]
     fn has_open_name(&self, row: &Row) -> bool
         ensures { result ≡ list_any (has_name row.now) self.now.lanes }
     {
-        is_name_of(&self.fibers, self.open_rows.as_slice(), &row.game)
+        is_name_of(&self.list, self.open_rows.as_slice(), &row.game)
     }
 
     /// Whether no more stays can be opened.
-    #[tactic(auto, using(crate::proofs::OpenRows::open_counted))]
+    #[tactic(auto, using(crate::proofs::OpenRows::open_counted, crate::proofs::ListedGames::many_lanes))]
     fn is_full(&self) -> bool
         ensures { result ≡ is_full self.now.lanes }
     {
-        !(self.open_rows.len() < MOST_ROWS && self.fibers.len() < MOST_STAYS)
+        !(self.open_rows.len() < MOST_ROWS && self.list.len() < MOST_STAYS)
     }
 
     /// The number of blocks that are not reserved for the open stays.
@@ -163,32 +154,14 @@ impl<const CAP: usize> Games<CAP> {
         ensures ok { OnOk result (self.new ≡ after CAP self.old (event.Admit row)) }
         ensures err { OnErr result (self.new ≡ self.old) }
     {
-        let game = self.fibers.len();
-        let tag = record_tag(game);
-        let heap = TagHeap::new(alloc, tag, row.quota)?;
-        let frames = Frames::new(alloc, tag + 1)?;
-        let fiber = Fiber::new(alloc, row)?;
-        make_room(
-            &mut self.fibers,
-            &mut self.heaps,
-            &mut self.frames,
-            &mut self.open_rows,
-        )?;
+        let row_number = self.list.len();
+        let game = Game::new(alloc, row_number, row)?;
+        make_room(&mut self.list, &mut self.open_rows)?;
         let _blocks = self.pool.size();
-        reserve_row(&mut self.pool, game, fiber.row())?;
-        self.fibers.push_reserved(fiber);
-        self.heaps.push_reserved(heap);
-        self.frames.push_reserved(frames);
-        self.open_rows.push_reserved(game as u32);
-        Ok(game)
-    }
-
-    /// Whether all commands of that stay are answered.
-    fn is_quiet_at(&self, game: usize) -> bool
-        requires { game < length self.now.lanes }
-        ensures { result ≡ is_quiet (lane_of self.now.lanes game) }
-    {
-        self.fibers[game].is_quiet()
+        reserve_row(&mut self.pool, row_number, game.row())?;
+        self.list.push_reserved(game);
+        self.open_rows.push_reserved(row_number as u32);
+        Ok(row_number)
     }
 
     /// Closes the stay of that row, frees its blocks and ends their reservations. Its last board
@@ -198,10 +171,8 @@ impl<const CAP: usize> Games<CAP> {
         requires may { may_leave (lane_of self.old.lanes game) ≡ true }
         ensures { self.new ≡ after CAP self.old (event.Leave game) }
     {
-        let charge = self.charge(game);
-        self.heaps[game].free(&mut self.pool);
+        self.list[game].close(&mut self.pool);
         release_row(&mut self.pool, game);
-        self.fibers[game].close(charge);
         remove_row(&mut self.open_rows, game);
     }
 }
@@ -260,10 +231,10 @@ impl<const CAP: usize> Core<CAP> {
         requires { game < length self.old.games.lanes }
         ensures { Leaves CAP self.old game result self.new }
     {
-        if !self.games.is_open(game) {
+        if !self.games.game(game).is_open() {
             return Err(Leave::Closed);
         }
-        if !self.games.is_quiet_at(game) {
+        if !self.games.game(game).is_quiet() {
             return Err(Leave::Busy);
         }
         self.close_stay(game)?;

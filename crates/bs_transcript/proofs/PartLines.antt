@@ -1,6 +1,6 @@
 -- The lines of a transcript, one by one and together.
 use Rattle.std.proofs.Common.{◌≡◌, ℕ, zero, suc, ◌+◌, ◌<◌, ◌≤◌, drop, get_or, List, [], ◌∷◌, ◌++◌, length, map, refl, sym, ap, ◌∙◌, arith, append_assoc, append-nil, length-append}
-use Rattle.std.specs.Prelude.{option_copied}
+use Rattle.std.specs.Prelude.{IfSome, Option, None, Some, Ok, ok_or, option_copied}
 use Rattle.std.specs.List.{enumerate_from, flat_map}
 use Rattle.std.proofs.lemmas.List.{length-map, drop_more, drop_all}
 use Rattle.std.proofs.lemmas.List.Concat.{flat_map-append}
@@ -109,3 +109,15 @@ pub strays_alone : (sections : List Section) (strays : List (ℕ × Stray)) (at 
     → all_lines_of (drop at sections) strays ≡ lines_of_strays strays ++ []
 strays_alone sections strays at past =
     ap (λ (some : List Section). all_lines_of some strays) (drop_all at sections past) ∙ sym (append-nil (lines_of_strays strays))
+
+-- ---- bounds
+
+-- the bound of a line is that of an equal one
+pub bound_of_equal : (line other : List ℕ) (bound : Option ℕ) → line ≡ other → IfSome bound (λ b. length line ≤ b) → IfSome bound (λ b. length other ≤ b)
+bound_of_equal line other None same short = tt
+bound_of_equal line other (Some b) same short = let equal = ap length same in omega arith
+
+-- what a bound that is found says
+pub bound_found : {E : Type 0} (line : List ℕ) (bound : Option ℕ) (error : E) (found : ℕ) → IfSome bound (λ b. length line ≤ b) → Ok found ≡ ok_or bound error → length line ≤ found
+bound_found line None error found short is = absurd cc
+bound_found line (Some b) error found short is = let same : found ≡ b = cc in omega arith

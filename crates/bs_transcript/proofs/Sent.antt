@@ -1,41 +1,33 @@
--- Lines that are measured, and then sent to a writer through a buffer.
-use Rattle.std.proofs.Common.{◌≡◌, ◌≢◌, ℕ, suc, ◌+◌, ◌^◌, ◌<◌, ◌≤◌, min, List, [], ◌∷◌, ◌++◌, Option, length, take, drop, get_or, sym, ap, subst, ◌∙◌, arith, append_assoc, append-nil, length-append, ◌-◌}
+-- Lines that are bounded, and then sent to a writer through a buffer.
+use Rattle.std.proofs.Common.{◌≡◌, ℕ, suc, ◌+◌, ◌^◌, ◌<◌, ◌≤◌, min, List, [], ◌∷◌, ◌++◌, Option, length, take, drop, get_or, sym, ap, subst, ◌∙◌, arith, append_assoc, append-nil, length-append, ◌-◌}
 use Rattle.std.specs.Prelude.{All}
 use Rattle.std.specs.Io.KnownBytes.{Appends}
 use Rattle.std.proofs.KnownBytes.{Appends-nil, Appends-trans}
 use Rattle.std.proofs.Math.Seq.{take-append-add}
 use Rattle.std.proofs.lemmas.List.{take-append-le, take_more, drop_more}
 use Rattle.bs_json.specs.Text.{Text, blank, put}
-use Rattle.bs_json.proofs.Puts.{put_counted, put_whole}
-use Rattle.bs_transcript.specs.Buffer.{AreMeasured, IsOnItsWay}
+use Rattle.bs_json.proofs.Puts.{put_whole}
+use Rattle.bs_transcript.specs.Buffer.{AreBounded, IsOnItsWay}
 use Rattle.bs_transcript.specs.Parts.{joined}
 use Rattle.bs_transcript.specs.Written.{IsCutOff}
 use Rattle.bs_transcript.specs.declared.line_buffer.LineBuffer.{LineBuffer}
-use Rattle.bs_transcript.specs.declared.measure.Lengths.{Lengths}
+use Rattle.bs_transcript.specs.declared.bounds.Bounds.{Bounds}
 
--- Measuring.
-
--- what a buffer without room lacks room for is the line, unless the count is at its limit
-pub counted_whole : (old new : Text) (line : List ℕ) (bytes : ℕ) → old ≡ blank 0 → new ≡ put old line → bytes ≡ new.missing
-    → bytes ≢ 2 ^ 64 - 1 → bytes ≡ length line
-counted_whole old new line bytes fresh is counts few =
-    let counted : bytes ≡ min (length line) (2 ^ 64 - 1) =
-    counts ∙ ap (λ (t : Text). t.missing) (is ∙ ap (λ (t : Text). put t line) fresh) ∙ put_counted line in
-    omega (arith, counted)
+-- Bounds.
 
 -- one line more
-pub measured_more : (before lines : List (List ℕ)) (at : ℕ) → at < length lines
+pub one_more_line : (before lines : List (List ℕ)) (at : ℕ) → at < length lines
     → (before ++ take at lines) ++ get_or lines at [] ∷ [] ≡ before ++ take (at + 1) lines
-measured_more before lines at within =
+one_more_line before lines at within =
     append_assoc before (take at lines) (get_or lines at [] ∷ []) ∙ ap (λ ls. before ++ ls) (sym (take_more lines at [] within))
 
 -- Sending.
 
 -- the buffer is empty before the first line
-pub sets_out : (now : Option (List ℕ)) (buffer : LineBuffer) (lengths : Lengths) (lines : List (List ℕ)) (text : List ℕ) → joined lines ≡ text
-    → AreMeasured lengths lines → buffer.text ≡ blank buffer.text.room → buffer.longest ≡ lengths.longest
-    → lengths.longest ≤ buffer.text.room → buffer.written ≡ 0 → IsOnItsWay now now buffer text lines
-sets_out now buffer lengths lines text all measured fresh longest room none =
+pub sets_out : (now : Option (List ℕ)) (buffer : LineBuffer) (bounds : Bounds) (lines : List (List ℕ)) (text : List ℕ) → joined lines ≡ text
+    → AreBounded bounds lines → buffer.text ≡ blank buffer.text.room → buffer.longest ≡ bounds.longest
+    → bounds.longest ≤ buffer.text.room → buffer.written ≡ 0 → IsOnItsWay now now buffer text lines
+sets_out now buffer bounds lines text all bounded fresh longest room none =
     let empty : buffer.text.bytes ≡ [] = ap (λ (t : Text). t.bytes) fresh in
     record {
       front = [];
@@ -44,8 +36,8 @@ sets_out now buffer lengths lines text all measured fresh longest room none =
       whole = sym all ∙ ap (λ bytes. bytes ++ joined lines) (sym empty);
       none_lost = ap (λ (t : Text). t.missing) fresh;
       room = omega arith;
-      each = subst (λ most. All (λ line. length line ≤ most) lines) (sym longest) measured.each;
-      few = omega (arith, measured.total, measured.few, ap length all);
+      each = subst (λ most. All (λ line. length line ≤ most) lines) (sym longest) bounded.each;
+      few = omega (arith, bounded.total, bounded.few, ap length all);
     }
 
 few_so_far : (first now : Option (List ℕ)) (buffer : LineBuffer) (text : List ℕ) (left : List (List ℕ)) (way : IsOnItsWay first now buffer text left)
@@ -87,7 +79,7 @@ cut_off first now new buffer text left taken written way fewer sent counts =
     ∙ ap (λ t. way.front ++ t) (take-append-le taken bytes (joined left) (omega arith)) in
     (omega (arith, is, way.many, most, fewer), subst (Appends first new) (sym cut) (Appends-trans first now new _ _ way.taken sent))
 
--- a line that finds room
+-- a line for which there is room
 pub pushed : (first now : Option (List ℕ)) (buffer after : LineBuffer) (text line : List ℕ) (left : List (List ℕ)) → IsOnItsWay first now buffer text (line ∷ left)
     → length buffer.text.bytes + buffer.longest ≤ buffer.text.room → after.text ≡ put buffer.text line → after.longest ≡ buffer.longest
     → after.written ≡ buffer.written → IsOnItsWay first now after text left
@@ -109,7 +101,7 @@ pushed first now buffer after text line left way room is longest counts =
       few = way.few;
     }
 
--- nothing is left, in the buffer and behind it
+-- the buffer is empty, and no line is left
 pub arrived : (first now : Option (List ℕ)) (buffer : LineBuffer) (text : List ℕ) (room : ℕ) → IsOnItsWay first now buffer text [] → buffer.text ≡ blank room
     → Appends first now text
 arrived first now buffer text room way empty =

@@ -1,19 +1,19 @@
--- Lines on their way to a writer, through a buffer in which the longest finds room.
+-- Lines on their way to a writer, through a buffer that has room for the longest of them.
 use Rattle.std.specs.Prelude.{◌≡◌, ℕ, ◌<◌, ◌≤◌, ◌^◌, List, ◌++◌, length, All, Option}
 use Rattle.std.specs.Io.KnownBytes.{Appends}
 use Rattle.bs_transcript.specs.declared.line_buffer.LineBuffer.{LineBuffer}
-use Rattle.bs_transcript.specs.declared.measure.Lengths.{Lengths}
+use Rattle.bs_transcript.specs.declared.bounds.Bounds.{Bounds}
 use Rattle.bs_transcript.specs.Parts.{joined}
 
--- the lengths are those of these lines: none is longer than `longest`, and all have `total` bytes,
--- which `usize` holds
-pub record AreMeasured (lengths : Lengths) (lines : List (List ℕ)) : Type 0 where
-  pub each : All (λ line. length line ≤ lengths.longest) lines
-  pub total : lengths.total ≡ length (joined lines)
-  pub few : lengths.total < 2 ^ 64
+-- no line is longer than `longest`, and all together have at most `total` bytes, which `usize`
+-- holds
+pub record AreBounded (bounds : Bounds) (lines : List (List ℕ)) : Type 0 where
+  pub each : All (λ line. length line ≤ bounds.longest) lines
+  pub total : length (joined lines) ≤ bounds.total
+  pub few : bounds.total < 2 ^ 64
 
--- Of the text the writer took a front; then come the bytes in the buffer, and then the lines that
--- are left, of which each finds room in the buffer once it is empty.
+-- The text is what the writer took, then the bytes in the buffer, then the lines that are left.
+-- Once the buffer is empty it has room for each of these lines.
 pub record IsOnItsWay (first now : Option (List ℕ)) (buffer : LineBuffer) (text : List ℕ) (left : List (List ℕ)) : Type 0 where
   pub front : List ℕ
   pub taken : Appends first now front

@@ -24,6 +24,6 @@ lines_of_part (Strays strays) = lines_of_strays strays.now
 abbrev pub all_lines_of : List Section → List (ℕ × Stray) → List (List ℕ)
 all_lines_of sections strays = flat_map lines_of_section sections ++ lines_of_strays strays
 
--- the text of lines, one behind the other
+-- the text of lines, one after the other
 abbrev pub joined : List (List ℕ) → List ℕ
 joined = flat_map (λ line. line)

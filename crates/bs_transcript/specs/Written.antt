@@ -4,7 +4,7 @@ use Rattle.std.specs.Io.KnownBytes.{Appends}
 use Rattle.bs_transcript.specs.declared.fault.TranscriptFault.{TranscriptFault}
 use Rattle.bs_transcript.specs.declared.fault.TranscriptFault.TheVariants.{Memory, Write}
 
--- the first bytes of the text were written, that many and fewer than all
+-- the first `written` bytes of the text were written, which are fewer than all
 abbrev pub IsCutOff : ℕ → Option (List ℕ) → Option (List ℕ) → List ℕ → Type 0
 IsCutOff written old new text = (written < length text) × Appends old new (take written text)
 

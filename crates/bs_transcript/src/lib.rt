@@ -2,10 +2,10 @@
 //! Its text is never in memory whole: lines are put into a buffer, and the buffer is written.
 #![tactic(auto)]
 
+mod bounds;
 mod fault;
 mod line_buffer;
 mod lines;
-mod measure;
 mod section;
 mod write;
 

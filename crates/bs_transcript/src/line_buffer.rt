@@ -11,21 +11,22 @@ use bs_json::{Stray, TextBuffer};
 use std::alloc::{AllocError, Global};
 use std::io::Write;
 
-/// The number of bytes that are written at once, or more: a larger buffer gains no time.
+/// The room of the buffer besides that for the longest line, in bytes. A larger buffer saves no
+/// time.
 const USUAL_WRITE: usize = 65_536;
 
-/// Lines that a writer has not taken yet. Only opening the buffer asks for memory.
+/// Lines that the writer has not taken yet. Only `open` allocates.
 #[derive(Drop)]
 pub(crate) struct LineBuffer {
     text: TextBuffer,
-    /// No line is longer.
+    /// No line has more bytes.
     longest: usize,
     /// The number of bytes that the writer took.
     written: usize,
 }
 
 impl LineBuffer {
-    /// An empty buffer with room for the longest line behind what is written at once.
+    /// Makes an empty buffer with room for 64 KiB and the longest line.
     pub(crate) fn open(alloc: Global, longest: usize) -> Result<LineBuffer, AllocError>
         ensures empty { IfOk result (λ buffer. buffer.text ≡ blank buffer.text.room) }
         ensures longest { IfOk result (λ buffer. buffer.longest ≡ longest) }
@@ -57,7 +58,7 @@ impl LineBuffer {
         Ok(())
     }
 
-    /// Makes room for one line.
+    /// Writes out the buffer if it has no room for the longest line.
     fn make_room<W: Write>(&mut self, output: &mut W) -> Result<(), WriteFault>
         ensures sent { (first : Option (List ℕ)) (text : List ℕ) (left : List (List ℕ)) → IsOnItsWay first (W.contents output.old) self.old text left
             → MatchResult result (λ _. IsOnItsWay first (W.contents output.new) self.new text left) (λ fault. IsCutOff fault.written first (W.contents output.new) text) }
@@ -69,8 +70,8 @@ impl LineBuffer {
         Ok(())
     }
 
-    /// Appends the line of that index, and writes what was in the buffer before where it leaves no
-    /// room for a line.
+    /// Appends the line of that index. Before that, writes out the buffer if it has no room for the
+    /// longest line.
     fn push_line<W: Write>(
         &mut self,
         part: &Part<'_>,
@@ -96,7 +97,8 @@ impl LineBuffer {
         Ok(())
     }
 
-    /// Appends all lines of a transcript. What finds no room is written meanwhile.
+    /// Appends all lines of a transcript. Writes out the buffer whenever it has no room for the
+    /// longest line.
     pub(crate) fn push_all<W: Write>(
         &mut self,
         sections: &[Section<'_>],

@@ -4,17 +4,19 @@ ghost use Rattle.std.specs.Io.KnownBytes.{Appends};
 ghost use Rattle.bs_transcript.specs.Lines.{text_of};
 ghost use Rattle.bs_transcript.specs.Written.{Leaves};
 
+use crate::bounds::bound_all;
 use crate::fault::TranscriptFault;
 use crate::line_buffer::LineBuffer;
-use crate::measure::measure;
 use crate::section::Section;
 use bs_json::Stray;
 use std::alloc::{AllocError, Global};
 use std::io::Write;
 
 /// Writes the games' sections in order, then the lines that belong to no game, each with its number
-/// in the file. First measures all lines, then asks once for a buffer of 64 KiB and the longest
-/// line; from the first byte that is written on it asks for no memory.
+/// in the file. First bounds the length of each line, then allocates one buffer of 64 KiB and the
+/// greatest of these bounds. Allocates nothing once the first byte is written. If memory runs out
+/// the writer is unchanged; if the writer fails it has the first bytes of the text, as many as the
+/// fault says.
 pub fn write_transcript<W: Write>(
     alloc: Global,
     sections: &[Section<'_>],
@@ -24,8 +26,8 @@ pub fn write_transcript<W: Write>(
     ensures written { OnOk result (Appends (W.contents output.old) (W.contents output.new) (text_of sections.now strays.now)) }
     ensures left { IfErr result (Leaves W.contents (text_of sections.now strays.now) output.old output.new) }
 {
-    let lengths = measure(alloc, sections, strays)?;
-    let mut buffer = LineBuffer::open(alloc, lengths.longest)?;
+    let bounds = bound_all(sections, strays)?;
+    let mut buffer = LineBuffer::open(alloc, bounds.longest)?;
     buffer.push_all(sections, strays, output)?;
     buffer.write_out(output)?;
     Ok(())

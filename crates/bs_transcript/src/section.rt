@@ -1,22 +1,26 @@
-//! What a transcript is made of: sections and stray lines, each a list of lines.
-ghost use Rattle.std.specs.Prelude.{◌≡◌, ◌<◌, ◌+◌, length, slice_index_or, []};
+//! The parts of a transcript: the sections of the games, and the stray lines.
+ghost use Rattle.std.specs.Prelude.{◌≡◌, ◌<◌, ◌≤◌, ◌+◌, IfSome, length, slice_index_or, []};
 ghost use Rattle.bs_json.specs.Text.{put};
 ghost use Rattle.bs_transcript.specs.Parts.{lines_of_part, lines_of_section, lines_of_strays};
 
 use bs_board::{Id, KeptBoard, Reply};
-use bs_json::{Stray, TextBuffer, push_final_line, push_reply_line, push_stray_line};
+use bs_json::{
+    Stray, TextBuffer, final_line_bound, push_final_line, push_reply_line, push_stray_line,
+    reply_line_bound, stray_line_bound,
+};
 
 /// What the transcript shows of one game.
 #[derive(Debug, Drop)]
 pub struct Section<'t> {
     pub name: &'t Id,
     pub replies: &'t [Reply],
-    /// The newest board, where a game runs.
+    /// The last board; `None` if no game runs.
     pub board: Option<&'t KeptBoard>,
     pub charge: u32,
 }
 
-/// Appends the line of that index of a game's section: a reply line, or behind them the final line.
+/// Appends one line of a game's section by its index: a reply line, or the final line, which comes
+/// after all replies.
 #[tactic(auto, using(crate::proofs::PartLines::reply_line_at, crate::proofs::PartLines::final_line_at))]
 fn push_section_line(section: &Section<'_>, index: usize, text: &mut TextBuffer)
     requires { index < length (lines_of_section section.now) }
@@ -30,6 +34,20 @@ fn push_section_line(section: &Section<'_>, index: usize, text: &mut TextBuffer)
     }
 }
 
+/// An upper bound of the length of the line of that index of a game's section. `None` if it is
+/// above `usize::MAX`.
+#[tactic(auto, using(crate::proofs::PartLines::reply_line_at, crate::proofs::PartLines::final_line_at))]
+fn section_line_bound(section: &Section<'_>, index: usize) -> Option<usize>
+    requires { index < length (lines_of_section section.now) }
+    ensures { IfSome result (λ bound. length (slice_index_or (lines_of_section section.now) index []) ≤ bound) }
+{
+    if index < section.replies.len() {
+        reply_line_bound(section.name, index as u64 + 1, &section.replies[index])
+    } else {
+        final_line_bound(section.name, section.board, section.charge)
+    }
+}
+
 /// Appends the stray line of that index.
 #[tactic(auto, using(crate::proofs::PartLines::stray_line_at))]
 fn push_stray(strays: &[(u64, Stray)], index: usize, text: &mut TextBuffer)
@@ -38,6 +56,15 @@ fn push_stray(strays: &[(u64, Stray)], index: usize, text: &mut TextBuffer)
 {
     let (number, stray) = strays[index];
     push_stray_line(number, stray, text);
+}
+
+/// An upper bound of the length of the stray line of that index.
+fn stray_bound(strays: &[(u64, Stray)], index: usize) -> usize
+    requires { index < length strays.now }
+    ensures { length (slice_index_or (lines_of_strays strays.now) index []) ≤ result }
+{
+    let line = strays[index];
+    stray_line_bound(line.0, line.1)
 }
 
 /// The lines of one game, or those that belong to no game, each with its number in the file.
@@ -68,6 +95,19 @@ impl Part<'_> {
         match self {
             Part::Game(section) => push_section_line(section, index, text),
             Part::Strays(strays) => push_stray(strays, index, text),
+        }
+    }
+
+    /// An upper bound of the length of the line of that index, computed without rendering it.
+    /// `None` if it is above `usize::MAX`.
+    #[tactic(auto, using(crate::proofs::PartLines::strays_count))]
+    pub(crate) fn line_bound(&self, index: usize) -> Option<usize>
+        requires { index < length (lines_of_part self.now) }
+        ensures { IfSome result (λ bound. length (slice_index_or (lines_of_part self.now) index []) ≤ bound) }
+    {
+        match self {
+            Part::Game(section) => section_line_bound(section, index),
+            Part::Strays(strays) => Some(stray_bound(strays, index)),
         }
     }
 }

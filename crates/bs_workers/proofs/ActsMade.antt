@@ -79,7 +79,7 @@ settled cap core apart quiet failed =
       served = λ stay there. served_one cap core stay apart quiet there;
     }
 
--- the taking of a job makes nothing
+-- taking a job makes no act
 makes_took : (cap : ℕ) (old new : CoreView) (worker : ℕ) (job : JobName) (tallies : List (Option TallyId)) → new ≡ core_taken cap old worker job tallies → Makes old [] new
 makes_took cap old new worker job tallies after =
     record {

@@ -31,9 +31,9 @@ abbrev pub rows_made : List Lane → List GameRow
 rows_made = map (λ x. x.row)
 
 -- The core has the same plan and as many blocks, `fail` was not called, and it is idle. Its stays
--- are those of the plan, then the admitted ones. Its journal makes just these acts, in their order,
--- and each stay is as its own commands leave it; one that has left keeps its last board and its
--- charge.
+-- are those of the plan, then the admitted ones. Its journal makes exactly these acts, in their
+-- order, and each stay is as its own commands leave it; one that has left keeps its last board and
+-- its charge.
 pub record IsRunOf (old : CoreView) (acts : List Act) (new : CoreView) : Type 0 where
   pub plan : new.games.rows ≡ old.games.rows
   pub stays : rows_made new.games.lanes ≡ old.games.rows ++ rows_admitted acts

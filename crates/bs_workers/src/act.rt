@@ -15,7 +15,7 @@ pub enum Act {
     Leave(usize),
 }
 
-/// An act with the handles that the core keeps of its command.
+/// An act with the handles that a core will keep of its command.
 #[derive(Drop)]
 pub(crate) enum HeldAct {
     Hand(usize, Handles),
@@ -34,7 +34,7 @@ impl Act {
     }
 }
 
-/// Makes the handles of all acts. The last of the list is the first act.
+/// Makes the handles of all acts, in reverse order: the first act comes last.
 pub(crate) fn hold_all(alloc: Global, acts: &[Act]) -> Result<Vec<HeldAct>, AllocError> {
     let mut held = Vec::with_capacity(alloc, acts.len())?;
     for act in acts.iter().rev() {

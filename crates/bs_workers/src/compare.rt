@@ -107,7 +107,7 @@ fn after_event<'c>(acts: &'c [Act], event: &Event) -> Option<&'c [Act]>
     if makes(event, next) { Some(rest) } else { None }
 }
 
-/// Whether these events make just these acts, in this order.
+/// Whether the events make exactly these acts, in this order.
 fn are_made(events: &[Event], acts: &[Act]) -> bool
     ensures { IsTrue result ↔ acts_of events.now ≡ acts.now }
 {

@@ -20,14 +20,14 @@ pub(crate) struct Executor<const CAP: usize> {
     /// Notified when a job may have become ready, and at the end of the run.
     changed: Condvar,
     alloc: Global,
-    /// The number of worker numbers of the core that each thread has.
+    /// How many of the core's worker numbers each thread has.
     numbers: usize,
 }
 
-/// The number of polls of the lock before a thread sleeps. A lock that has sleepers is passed to
-/// one of them and stays idle until that thread is awake; threads that arrive meanwhile run out of
-/// polls and sleep too. So the limit is high: all polls together take 0.1 to 1 ms, depending on the
-/// processor, which is longer than ten critical sections.
+/// The number of polls of the lock before a thread sleeps. If threads sleep at a lock, it is passed
+/// to one of them and is idle until that thread is awake; other threads that reach the lock in the
+/// meantime use up their polls and sleep too. So the limit is high: all polls together take 0.1 to
+/// 1 ms, depending on the processor, which is longer than ten critical sections.
 const SPIN_LIMIT: u32 = 4_000;
 
 /// The number of spin-loop hints between two polls.

@@ -11,8 +11,8 @@ use thiserror::Error;
 pub enum Run {
     #[error("out of memory")]
     Memory,
-    /// A gate returned false, an act names a stay that is not open, the core refused a call, or the
-    /// finished core is not that of a complete run.
+    /// The `Gate` returned false, an act names a stay that is not open, the core refused a call, or
+    /// the finished core is not that of a complete run.
     #[error("broken")]
     Broken,
 }

@@ -1,4 +1,4 @@
-//! The gate, which is consulted before each job.
+//! The trait `Gate`, which is consulted before each job.
 ghost use Rattle.std.specs.Prelude.{◌≡◌, true};
 
 use bs_fiber::JobName;

@@ -51,11 +51,11 @@ pub fn run_any<const CAP: usize, R: Threads + Wait + Sync, G: Gate>(
 
 /// Makes the acts in order in a newly opened core, and answers all commands on at most `threads`
 /// threads, the caller's included. There are at most as many threads as workers in the core, and
-/// the workers are divided among the threads. The gate is passed the thread's number. The caller's
+/// the workers are divided among the threads. `gate` gets the number of the thread. The caller's
 /// thread makes the acts; while a game cannot leave yet, it runs jobs itself, and may wait for
 /// another thread. Each act must be acceptable in its place, judged by the open stays alone: a
-/// command and a leave name an open stay, and for an admitted row a name, a place and blocks are
-/// free.
+/// command and a leave name an open stay; for an admitted row no open stay has its name, one more
+/// stay may be open, and its blocks are free besides those reserved for the open stays.
 pub fn run<const CAP: usize, R: Threads + Wait + Sync, G: Gate>(
     rt: &R,
     alloc: Global,

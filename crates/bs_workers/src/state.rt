@@ -90,7 +90,7 @@ impl<const CAP: usize> State<CAP> {
         }
     }
 
-    /// Dismisses the game of that row. Returns false where it cannot leave yet.
+    /// Dismisses the game of that row. Returns false if it cannot leave yet.
     fn leave(&mut self, alloc: Global, stay: usize) -> bool {
         if stay >= self.core.rows() {
             self.fail(Run::Broken);

@@ -28,7 +28,7 @@ pub(crate) struct Job<const CAP: usize> {
 #[derive(Drop)]
 pub(crate) struct Worker<const CAP: usize> {
     pub(crate) alloc: Global,
-    /// The number of the thread, which is passed to the gate.
+    /// The number of the thread, which is passed to the `Gate`.
     thread: usize,
     /// The first of its numbers in the core; the others follow.
     pub(crate) first: usize,
@@ -72,8 +72,8 @@ impl<const CAP: usize> Worker<CAP> {
         })
     }
 
-    /// About how many jobs its results make ready: two parts for a Begin whose move goes on, one
-    /// job for any other result.
+    /// Estimates how many jobs its results make ready: two parts for a Begin whose move is
+    /// accepted, one job for any other result.
     pub(crate) fn count_ready(&self) -> usize {
         let mut ready = self.done.len().saturating_add(self.moves.len());
         for done in self.done.as_slice() {
@@ -113,7 +113,7 @@ impl<const CAP: usize> Worker<CAP> {
         Ok(())
     }
 
-    /// Runs the jobs, consulting the gate before each, up to the first that is refused or fails.
+    /// Runs the jobs, consulting the `Gate` before each, up to the first that is refused or fails.
     /// That job, its key and its frame blocks are kept until the worker is dropped, which is after
     /// `Core::fail`.
     fn run_until_fault<G: Gate>(&mut self, gate: &G) -> Result<(), Run> {

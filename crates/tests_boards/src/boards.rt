@@ -1,29 +1,49 @@
 //! When a board is legal, and the limits of setups, rows and turns.
-use bs_board::{Board, Cause, Id, Mode, Point, Row, TurnNumber, is_legal};
+use bs_board::{Board, Cause, Cells, Id, Mode, Row, Snake, TurnNumber, is_legal};
 use bs_samples::{Parts, board, cells, holds, same, setup, snake, solo_after};
 use std::alloc::{AllocError, Global};
 use std::test::Fail;
+
+/// Whether the solo board of three by three is legal after that many turns.
+fn is_legal_after(alloc: Global, turn: u16) -> Result<bool, AllocError> {
+    Ok(is_legal(&solo_after(alloc, 3, turn)?))
+}
+
+/// Makes a board whose snake is out in a turn to come.
+fn out_too_late(alloc: Global) -> Result<Board, AllocError> {
+    let mut board = solo_after(alloc, 3, 2)?;
+    board.turn = 1;
+    Ok(board)
+}
+
+fn with_chance(alloc: Global, chance: u8) -> Result<Board, AllocError> {
+    let mut board = solo_after(alloc, 3, 0)?;
+    board.chance = chance;
+    Ok(board)
+}
+
+fn constrictor_with_food(alloc: Global) -> Result<Board, AllocError> {
+    let mut board = solo_after(alloc, 3, 0)?;
+    board.mode = Mode::Constrictor;
+    board.food = cells(alloc, &[(0, 0)])?;
+    Ok(board)
+}
 
 #[test]
 fn boards_of_a_solo_game_are_legal(rt: HostRuntime) -> Result<(), Fail> {
     let alloc = rt.alloc();
     for turn in 0..3 {
-        same(
-            "legal",
-            (turn, is_legal(&solo_after(alloc, 3, turn)?)),
-            (turn, true),
-        )?;
+        same("legal", (turn, is_legal_after(alloc, turn)?), (turn, true))?;
     }
-    let mut wrong = solo_after(alloc, 3, 2)?;
-    wrong.turn = 1;
-    holds("not out in a turn to come", !is_legal(&wrong))?;
-    let mut wrong = solo_after(alloc, 3, 0)?;
-    wrong.chance = 101;
-    holds("no chance above 100", !is_legal(&wrong))?;
-    let mut wrong = solo_after(alloc, 3, 0)?;
-    wrong.mode = Mode::Constrictor;
-    wrong.food.push(Point { x: 0, y: 0 })?;
-    holds("no food in constrictor", !is_legal(&wrong))
+    holds(
+        "not out in a turn to come",
+        !is_legal(&out_too_late(alloc)?),
+    )?;
+    holds("no chance above 100", !is_legal(&with_chance(alloc, 101)?))?;
+    holds(
+        "no food in constrictor",
+        !is_legal(&constrictor_with_food(alloc)?),
+    )
 }
 
 /// Makes a wrapped board of five by five on which two snakes have just started.
@@ -34,25 +54,36 @@ pub fn wrapped(alloc: Global) -> Result<Board, AllocError> {
     Ok(board(alloc, Mode::Wrapped, 5, 0, snakes))
 }
 
+/// Puts the snake out in turn 1.
+fn put_out(snake: &mut Snake, body: Cells, health: u8, cause: Cause) {
+    snake.body = body;
+    snake.health = health;
+    snake.cause = Some(cause);
+    snake.out = Some(1);
+}
+
+/// Makes the wrapped board after a turn in which the first snake was eliminated with its head in
+/// that column.
+fn wrapped_out(alloc: Global, x: i16, cause: Cause, health: u8) -> Result<Board, Fail> {
+    let body = cells(alloc, &[(x, 1), (3, 1), (3, 1)])?;
+    let mut board = wrapped(alloc)?;
+    board.turn = 1;
+    holds("two snakes", board.snakes.len() == 2)?;
+    put_out(board.snakes.seat_mut(0), body, health, cause);
+    Ok(board)
+}
+
 /// A wrapped board is legal only if each head is on it, that of a starved snake too, and no snake
 /// is out by the wall.
 #[test]
 fn heads_of_a_wrapped_board(rt: HostRuntime) -> Result<(), Fail> {
-    let alloc = rt.alloc();
     for (x, cause, health, legal) in [
         (3, Cause::WallCollision, 90, false),
         (5, Cause::WallCollision, 90, false),
         (3, Cause::OutOfHealth, 0, true),
         (5, Cause::OutOfHealth, 0, false),
     ] {
-        let mut board = wrapped(alloc)?;
-        board.turn = 1;
-        holds("two snakes", board.snakes.len() == 2)?;
-        let snake = board.snakes.seat_mut(0);
-        snake.body = cells(alloc, &[(x, 1), (3, 1), (3, 1)])?;
-        snake.health = health;
-        snake.cause = Some(cause);
-        snake.out = Some(1);
+        let board = wrapped_out(rt.alloc(), x, cause, health)?;
         same("legal", (x, cause, is_legal(&board)), (x, cause, legal))?;
     }
     Ok(())

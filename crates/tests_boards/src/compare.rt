@@ -18,8 +18,8 @@ pub fn same_snake(what: &str, snake: &Snake, wanted: &Snake) -> Result<(), Fail>
 /// Compares snakes, seat by seat.
 pub fn same_snakes(what: &str, snakes: &[Snake], wanted: &[Snake]) -> Result<(), Fail> {
     same(what, snakes.len(), wanted.len())?;
-    for (snake, wanted) in snakes.iter().zip(wanted) {
-        same_snake(what, snake, wanted)?;
+    for (seat, snake) in snakes.iter().enumerate() {
+        same_snake(what, snake, wanted.get(seat).ok_or("a seat")?)?;
     }
     Ok(())
 }

@@ -1,5 +1,5 @@
 //! Free cells, and food from words.
-use bs_board::{Board, Cause};
+use bs_board::{Board, Cause, Cells};
 use bs_food::{free_cells, spawn};
 use bs_samples::{Parts, cells, holds, same, solo};
 use std::alloc::{AllocError, Global};
@@ -45,20 +45,46 @@ const CASES: [Case; 11] = [
     (0, 15, &[65_550, 0], &[]),
 ];
 
+/// Returns the food that spawns by these words.
+fn food_of(alloc: Global, min_food: u8, chance: u8, words: &[u32]) -> Result<Cells, AllocError> {
+    let mut board = board(alloc, min_food, chance)?;
+    spawn(alloc, &mut board, words)?;
+    Ok(board.food)
+}
+
 #[test]
 fn words_decide_the_food(rt: HostRuntime) -> Result<(), Fail> {
     let alloc = rt.alloc();
     for (min_food, chance, words, expected) in CASES {
-        let mut board = board(alloc, min_food, chance)?;
-        spawn(alloc, &mut board, words)?;
+        let food = food_of(alloc, min_food, chance, words)?;
         let expected = cells(alloc, expected)?;
         same(
             "food",
-            (words, board.food.as_slice()),
+            (words, food.as_slice()),
             (words, expected.as_slice()),
         )?;
     }
     Ok(())
+}
+
+/// Puts the only snake out.
+fn put_out(board: &mut Board) -> Result<(), Fail> {
+    holds("one snake", board.snakes.len() == 1)?;
+    let snake = board.snakes.seat_mut(0);
+    snake.out = Some(1);
+    snake.cause = Some(Cause::OutOfHealth);
+    Ok(())
+}
+
+/// Spawns food by these words, and compares the number of food.
+fn check_spawned(
+    alloc: Global,
+    board: &mut Board,
+    words: &[u32],
+    count: usize,
+) -> Result<(), Fail> {
+    spawn(alloc, board, words)?;
+    same("food", board.food.len(), count)
 }
 
 /// A snake that is out leaves its cells free, and a full board takes no more food.
@@ -66,14 +92,9 @@ fn words_decide_the_food(rt: HostRuntime) -> Result<(), Fail> {
 fn the_dead_leave_their_cells(rt: HostRuntime) -> Result<(), Fail> {
     let alloc = rt.alloc();
     let mut board = board(alloc, 9, 0)?;
-    holds("one snake", board.snakes.len() == 1)?;
-    let snake = board.snakes.seat_mut(0);
-    snake.out = Some(1);
-    snake.cause = Some(Cause::OutOfHealth);
+    put_out(&mut board)?;
     same("free cells", free_cells(alloc, &board)?.len(), 9)?;
-    spawn(alloc, &mut board, &[0, 0, 0, 0, 0, 0, 0, 0, 0, 0])?;
-    same("food", board.food.len(), 9)?;
+    check_spawned(alloc, &mut board, &[0, 0, 0, 0, 0, 0, 0, 0, 0, 0], 9)?;
     board.min_food = 10;
-    spawn(alloc, &mut board, &[3])?;
-    same("food on a full board", board.food.len(), 9)
+    check_spawned(alloc, &mut board, &[3], 9)
 }

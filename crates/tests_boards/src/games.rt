@@ -1,23 +1,24 @@
 //! Commands of small games, and their answers by the rules.
-ghost use Rattle.std.specs.Prelude.{◌≡◌, [], IfOk, IsTrue, All, None};
+ghost use Rattle.std.specs.Prelude.{◌≡◌, [], IfOk, IsTrue, All, None, Some, option_map};
 ghost use Rattle.bs_board.specs.boards.Wrap.{AreSides, wrap_of};
 ghost use Rattle.bs_board.specs.declared.commands.command.Command.TheVariants as command;
 ghost use Rattle.bs_game.specs.Reasons.{first_reason};
+ghost use Rattle.bs_game.specs.View.{IsFitView};
 ghost use Rattle.bs_rules.specs.Motion.{moved_board, IsMovable};
 
-use bs_board::{
-    Board, Command, Mode, Move, Point, Refusal, Reply, Snakes, TurnNumber, Word, is_legal,
-};
+use bs_board::{Board, Command, Mode, Move, Point, Refusal, Reply, TurnNumber, Word, is_legal};
 use bs_game::{
     Answer, Effect, View, answer, check, check_move, check_unseen, joined, joined_within,
     place_of_turn, refuse,
 };
-use bs_rules::move_snake;
+use bs_rules::move_snakes;
 use bs_samples::{holds, new_solo, no_orders, same, solo, solo_after, straight_on};
 use std::alloc::{AllocError, Global};
 use std::test::Fail;
 
-fn view(quota: u32, charge: u32, kept: usize, last: Option<Board>) -> View {
+fn view(quota: u32, charge: u32, kept: usize, last: Option<Board>) -> View
+    ensures { result ≡ record { quota = quota; charge = charge; kept = kept; last = last; asked = None } }
+{
     View {
         quota,
         charge,
@@ -89,12 +90,14 @@ fn is_plain(
     told: (Word, u32),
     effect: &str,
 ) -> Result<(), Fail> {
-    let answer = answered(alloc, view, command)?;
+    check_plain(&answered(alloc, view, command)?, told, effect)
+}
+
+fn check_plain(answer: &Answer, told: (Word, u32), effect: &str) -> Result<(), Fail> {
     same("effect", name(&answer.effect), effect)?;
     match &answer.reply {
         Reply::Plain(word, charge) => same("word and charge", (*word, *charge), told),
-        Reply::Shown(_, _, _) => Err(Fail::from("shown")),
-        Reply::Refused(_) => Err(Fail::from("refused")),
+        _ => Err(Fail::from("not plain")),
     }
 }
 
@@ -102,8 +105,7 @@ fn check_refused(answer: &Answer, reason: Refusal) -> Result<(), Fail> {
     same("effect", name(&answer.effect), "keep")?;
     match &answer.reply {
         Reply::Refused(told) => same("reason", *told, reason),
-        Reply::Shown(_, _, _) => Err(Fail::from("shown")),
-        Reply::Plain(_, _) => Err(Fail::from("plain")),
+        _ => Err(Fail::from("not refused")),
     }
 }
 
@@ -132,21 +134,28 @@ fn moved_to(turn: u16, y: i16) -> Shown {
     }
 }
 
+const FIRST: Shown = Shown {
+    word: Word::New,
+    charge: 32,
+    turn: 0,
+    y: 1,
+    effect: "add",
+};
+
+/// Checks what a game of one record after `turn` turns shows if its snake goes straight on.
+fn check_step(alloc: Global, turn: u16, wanted: Shown) -> Result<(), Fail> {
+    let view = view_after(alloc, 32, 1, turn)?;
+    is_shown(alloc, &view, &straight_on(alloc), wanted)
+}
+
 /// The replies of a game whose quota holds two records.
 #[test]
 fn quota_of_two_records(rt: HostRuntime) -> Result<(), Fail> {
     let alloc = rt.alloc();
-    let first = Shown {
-        word: Word::New,
-        charge: 32,
-        turn: 0,
-        y: 1,
-        effect: "add",
-    };
-    is_shown(alloc, &view(64, 0, 0, None), &new_solo(alloc, 5)?, first)?;
-    let step = straight_on(alloc);
-    is_shown(alloc, &view_after(alloc, 32, 1, 0)?, &step, moved_to(1, 2))?;
-    is_refused(alloc, &view_after(alloc, 64, 2, 1)?, &step, Refusal::Quota)
+    is_shown(alloc, &view(64, 0, 0, None), &new_solo(alloc, 5)?, FIRST)?;
+    check_step(alloc, 0, moved_to(1, 2))?;
+    let two = view_after(alloc, 64, 2, 1)?;
+    is_refused(alloc, &two, &straight_on(alloc), Refusal::Quota)
 }
 
 /// The same game, once its records are freed.
@@ -156,19 +165,14 @@ fn freed_and_ended(rt: HostRuntime) -> Result<(), Fail> {
     let two = view_after(alloc, 64, 2, 1)?;
     is_plain(alloc, &two, &Command::Free, (Word::Free, 32), "trim")?;
     is_plain(alloc, &two, &Command::End, (Word::End, 0), "drop")?;
-    is_shown(
-        alloc,
-        &view_after(alloc, 32, 1, 1)?,
-        &straight_on(alloc),
-        moved_to(2, 3),
-    )
+    check_step(alloc, 1, moved_to(2, 3))
 }
 
 fn turn_command(number: u16) -> Result<Command, Fail> {
     Ok(Command::Turn(TurnNumber::new(number).ok_or("a turn")?))
 }
 
-/// What a command shows that keeps both records.
+/// What a command that keeps both records shows.
 fn kept(word: Word, turn: u16, y: i16) -> Shown {
     Shown {
         word,
@@ -179,14 +183,27 @@ fn kept(word: Word, turn: u16, y: i16) -> Shown {
     }
 }
 
+/// Makes the view of a game after two turns whose command names turn 1.
+fn view_of_turn_1(alloc: Global) -> Result<View, AllocError> {
+    let asked = solo_after(alloc, 5, 1)?;
+    let last = solo_after(alloc, 5, 2)?;
+    Ok(View {
+        quota: 64,
+        charge: 64,
+        kept: 2,
+        last: Some(last),
+        asked: Some(asked),
+    })
+}
+
 /// After two turns and a `free` before the second: turn 0 is gone, turn 1 is shown.
 #[test]
 fn kept_turns_are_shown(rt: HostRuntime) -> Result<(), Fail> {
     let alloc = rt.alloc();
-    let mut view = view_after(alloc, 64, 2, 2)?;
+    let view = view_after(alloc, 64, 2, 2)?;
     is_shown(alloc, &view, &Command::Show, kept(Word::Show, 2, 3))?;
     is_refused(alloc, &view, &turn_command(0)?, Refusal::NoRecord)?;
-    view.asked = Some(solo_after(alloc, 5, 1)?);
+    let view = view_of_turn_1(alloc)?;
     is_shown(alloc, &view, &turn_command(1)?, kept(Word::Turn, 1, 2))
 }
 
@@ -209,14 +226,18 @@ const RECORD: [u8; 26] = [
     1, 1, 3, 3, 0, 0, 0, 0, 1, 0, 0, 1, 115, 100, 0, 0, 0, 0, 0, 3, 2, 2, 2, 2, 2, 2,
 ];
 
+fn check_added(effect: &Effect, wanted: &[u8]) -> Result<(), Fail> {
+    match effect {
+        Effect::Add(record) => same("the record", record.as_slice(), wanted),
+        _ => Err(Fail::from("no record")),
+    }
+}
+
 #[test]
 fn first_record(rt: HostRuntime) -> Result<(), Fail> {
     let alloc = rt.alloc();
     let told = answered(alloc, &view(4096, 0, 0, None), &new_solo(alloc, 3)?)?;
-    let Effect::Add(record) = &told.effect else {
-        return Err(Fail::from("no record"));
-    };
-    same("the record", record.as_slice(), RECORD.as_slice())
+    check_added(&told.effect, &RECORD)
 }
 
 /// Makes the view of a game in its last turn.
@@ -226,24 +247,23 @@ fn late(alloc: Global, mode: Mode) -> Result<View, AllocError> {
     Ok(view(64, 32, 1, Some(board)))
 }
 
+/// Compares the reason for which a new game is refused.
+fn check_new(alloc: Global, view: &View, reason: Option<Refusal>) -> Result<(), Fail> {
+    same("a new game", check(view, &new_solo(alloc, 5)?), reason)
+}
+
+/// Compares the reason for which a move is refused.
+fn check_step_at(alloc: Global, view: &View, reason: Refusal) -> Result<(), Fail> {
+    same("a move", check(view, &straight_on(alloc)), Some(reason))
+}
+
 #[test]
 fn reasons_in_their_order(rt: HostRuntime) -> Result<(), Fail> {
     let nothing = view(64, 0, 0, None);
-    same(
-        "bad",
-        check(&nothing, &Command::Bad),
-        Some(Refusal::Unknown),
-    )?;
-    same(
-        "a new game",
-        check(&nothing, &new_solo(rt.alloc(), 5)?),
-        None,
-    )?;
-    same(
-        "a move of no game",
-        check(&nothing, &straight_on(rt.alloc())),
-        Some(Refusal::NoGame),
-    )
+    let bad = check(&nothing, &Command::Bad);
+    same("bad", bad, Some(Refusal::Unknown))?;
+    check_new(rt.alloc(), &nothing, None)?;
+    check_step_at(rt.alloc(), &nothing, Refusal::NoGame)
 }
 
 /// In its last turn a running game refuses a new game and a move.
@@ -251,38 +271,19 @@ fn reasons_in_their_order(rt: HostRuntime) -> Result<(), Fail> {
 fn reasons_of_a_game_that_runs(rt: HostRuntime) -> Result<(), Fail> {
     let alloc = rt.alloc();
     let running = late(alloc, Mode::Solo)?;
-    same(
-        "new again",
-        check(&running, &new_solo(alloc, 5)?),
-        Some(Refusal::Running),
-    )?;
-    same(
-        "a move too late",
-        check(&running, &straight_on(alloc)),
-        Some(Refusal::Limit),
-    )?;
-    let ended = late(alloc, Mode::Standard)?;
-    same(
-        "a move at its end",
-        check(&ended, &straight_on(alloc)),
-        Some(Refusal::Over),
-    )
+    check_new(alloc, &running, Some(Refusal::Running))?;
+    check_step_at(alloc, &running, Refusal::Limit)?;
+    check_step_at(alloc, &late(alloc, Mode::Standard)?, Refusal::Over)
 }
 
-/// Moves the only snake of the board straight on.
+/// Moves each snake of the board straight on.
 fn gone_on(alloc: Global, board: Board) -> Result<Board, AllocError>
     requires bodies { All IsMovable board.snakes }
     requires sides { AreSides (wrap_of board) }
     ensures { IfOk result (λ moved. moved ≡ moved_board [] board) }
 {
-    let wrap = board.wrap();
-    let mut moved = board;
-    let snake = match moved.snakes.as_slice() {
-        [snake] => move_snake(alloc, snake, None, wrap)?,
-        _ => return Err(AllocError),
-    };
-    moved.snakes = Snakes::from_vec(vec![in alloc; snake]?);
-    Ok(moved)
+    let snakes = move_snakes(alloc, board.snakes.as_slice(), &[], board.wrap())?;
+    Ok(Board { snakes, ..board })
 }
 
 /// Whether a move is accepted.
@@ -290,6 +291,26 @@ fn is_accepted(alloc: Global, view: &View, orders: &Move) -> Result<bool, AllocE
     ensures { IfOk result (λ yes. IsTrue yes → first_reason view.now (command.Move orders.now) ≡ None) }
 {
     Ok(check(view, &Command::Move(orders.copy(alloc)?)).is_none())
+}
+
+/// Checks what the move shows if its moved board is joined by the quota and the charge alone.
+fn check_joined_within(alloc: Global, view: &View, orders: &Move, moved: Board) -> Result<(), Fail>
+    requires view { IsFitView view.now }
+    requires passes { first_reason view.now (command.Move orders.now) ≡ None }
+    requires moved { option_map (moved_board orders.now.moves) view.now.last ≡ Some moved }
+{
+    let told = joined_within(alloc, view.quota, view.charge, orders, moved)?;
+    check_shown(alloc, &told, moved_to(1, 2))
+}
+
+/// Checks what the move shows if its moved board is joined.
+fn check_joined(alloc: Global, view: &View, orders: &Move, moved: Board) -> Result<(), Fail>
+    requires view { IsFitView view.now }
+    requires passes { first_reason view.now (command.Move orders.now) ≡ None }
+    requires moved { option_map (moved_board orders.now.moves) view.now.last ≡ Some moved }
+{
+    let told = joined(alloc, view, orders, moved)?;
+    check_shown(alloc, &told, moved_to(1, 2))
 }
 
 /// A move whose seats were moved in parts is answered as the whole move is.
@@ -302,42 +323,44 @@ fn joined_turn(rt: HostRuntime) -> Result<(), Fail> {
     holds("a legal board", is_legal(&before))?;
     let last = before.copy(alloc)?;
     let moved = gone_on(alloc, before)?;
-    let view = View {
-        quota: 64,
-        charge: 32,
-        kept: 1,
-        last: Some(last),
-        asked: None,
-    };
+    let view = view(64, 32, 1, Some(last));
     holds("it goes", is_accepted(alloc, &view, &orders)?)?;
-    let told = joined_within(alloc, view.quota, view.charge, &orders, moved.copy(alloc)?)?;
-    check_shown(alloc, &told, moved_to(1, 2))?;
-    let told = joined(alloc, &view, &orders, moved)?;
-    check_shown(alloc, &told, moved_to(1, 2))
+    check_joined_within(alloc, &view, &orders, moved.copy(alloc)?)?;
+    check_joined(alloc, &view, &orders, moved)
 }
+
+/// Whether a game runs, whether the turn that the command names is kept, and the reason.
+type Unseen = (bool, bool, Option<Refusal>);
+
+/// Compares the reasons for which the command is refused with no board seen.
+fn check_blind(command: &Command, cases: &[Unseen]) -> Result<(), Fail> {
+    for &(is_running, is_kept, wanted) in cases {
+        let reason = check_unseen(command, is_running, is_kept);
+        let found = (is_running, is_kept, reason);
+        same("a reason", found, (is_running, is_kept, wanted))?;
+    }
+    Ok(())
+}
+
+const BAD: [Unseen; 2] = [
+    (true, true, Some(Refusal::Unknown)),
+    (false, false, Some(Refusal::Unknown)),
+];
+
+const TURN: [Unseen; 3] = [
+    (false, false, Some(Refusal::NoGame)),
+    (true, false, Some(Refusal::NoRecord)),
+    (true, true, None),
+];
 
 /// The refusals of a command that need no board: by whether a game runs, and whether the turn that
 /// the command names is kept.
 #[test]
 fn refusals_with_no_board_seen(rt: HostRuntime) -> Result<(), Fail> {
-    let turn = turn_command(9)?;
-    let step = straight_on(rt.alloc());
-    let cases: [(&Command, bool, bool, Option<Refusal>); 7] = [
-        (&Command::Bad, true, true, Some(Refusal::Unknown)),
-        (&Command::Bad, false, false, Some(Refusal::Unknown)),
-        (&Command::Show, false, false, Some(Refusal::NoGame)),
-        (&turn, false, false, Some(Refusal::NoGame)),
-        (&turn, true, false, Some(Refusal::NoRecord)),
-        (&turn, true, true, None),
-        (&step, true, false, None),
-    ];
-    for (command, is_running, is_kept, wanted) in cases {
-        same(
-            "a reason",
-            check_unseen(command, is_running, is_kept),
-            wanted,
-        )?;
-    }
+    check_blind(&Command::Bad, &BAD)?;
+    check_blind(&Command::Show, &[(false, false, Some(Refusal::NoGame))])?;
+    check_blind(&turn_command(9)?, &TURN)?;
+    check_blind(&straight_on(rt.alloc()), &[(true, false, None)])?;
     check_refused(&refuse(Refusal::NoRecord), Refusal::NoRecord)
 }
 

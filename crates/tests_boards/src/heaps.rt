@@ -29,13 +29,13 @@ fn open_heap<const CAP: usize>(
     Ok(TagHeap::new(alloc, tag, quota)?)
 }
 
-/// Grows the index, and adds the record.
+/// Grows the index, and adds the record, which is within the quota.
 #[tactic(auto, using(bs_heap::proofs::Charges::small_enough, bs_heap::proofs::HeldBlocks::kept_with_room))]
 fn add<const CAP: usize>(
     heap: &mut TagHeap<CAP>,
     pool: &mut Pool<CAP>,
     bytes: &[u8],
-) -> Result<Result<(), Quota>, AllocError>
+) -> Result<(), Fail>
     requires size { length bytes.now ≤ MOST_RECORD_BYTES }
     requires reserved { blocks_for CAP heap.old.quota ≤ reserved heap.old.tag pool.old }
     requires kept { IsKeptIn heap.old pool.old }
@@ -43,7 +43,24 @@ fn add<const CAP: usize>(
     ensures kept { IfOk result (λ _. IsKeptIn heap.new pool.new) }
 {
     heap.grow_index()?;
-    Ok(heap.add(pool, bytes))
+    heap.add(pool, bytes)?;
+    Ok(())
+}
+
+/// Checks that the quota has no room for the record.
+#[tactic(auto, using(bs_heap::proofs::Charges::small_enough, bs_heap::proofs::HeldBlocks::kept_with_room))]
+fn check_refused<const CAP: usize>(
+    heap: &mut TagHeap<CAP>,
+    pool: &mut Pool<CAP>,
+    bytes: &[u8],
+) -> Result<(), Fail>
+    requires size { length bytes.now ≤ MOST_RECORD_BYTES }
+    requires reserved { blocks_for CAP heap.old.quota ≤ reserved heap.old.tag pool.old }
+    requires kept { IsKeptIn heap.old pool.old }
+    ensures kept { IfOk result (λ _. IsKeptIn heap.new pool.new) }
+{
+    heap.grow_index()?;
+    holds("it is refused", heap.add(pool, bytes) == Err(Quota))
 }
 
 /// Frees the heap of that tag and ends its reservation.
@@ -62,7 +79,7 @@ fn close_heap<const CAP: usize>(
     Ok(())
 }
 
-/// Draws block 0. It holds no byte except those that `split_fill` lends.
+/// Draws block 0, and checks that it is empty and that `split_fill` lends zeros.
 fn draw_an_empty_block<const CAP: usize>(pool: &mut Pool<CAP>, tag: u32) -> Result<(), Fail> {
     let mut owned = pool.draw(tag).ok_or("a block is reserved")?;
     same("its number", owned.number(), 0)?;
@@ -78,7 +95,7 @@ fn draw_an_empty_block<const CAP: usize>(pool: &mut Pool<CAP>, tag: u32) -> Resu
 /// Uses and closes a heap of tag 0.
 fn use_first(alloc: Global, pool: &mut Pool<524_288>) -> Result<(), Fail> {
     let mut heap = open_heap(alloc, pool, 0, 64)?;
-    add(&mut heap, pool, &[170; 32])??;
+    add(&mut heap, pool, &[170; 32])?;
     same("blocks held", pool.held(0), 1)?;
     close_heap(&mut heap, pool, 0)?;
     same("records at its end", heap.count(), 0)
@@ -87,7 +104,7 @@ fn use_first(alloc: Global, pool: &mut Pool<524_288>) -> Result<(), Fail> {
 /// Uses a heap of tag 1, and gives its blocks back.
 fn use_second(alloc: Global, pool: &mut Pool<524_288>) -> Result<(), Fail> {
     let mut heap = open_heap(alloc, pool, 1, 64)?;
-    add(&mut heap, pool, &[1, 2, 3])??;
+    add(&mut heap, pool, &[1, 2, 3])?;
     check_one(&heap, pool, 1, &[1, 2, 3], 16)?;
     heap.free(pool);
     Ok(())
@@ -127,20 +144,54 @@ fn check_one<const CAP: usize>(
     same("blocks held", pool.held(tag), 1)
 }
 
+/// Drops all records but the last, and checks that this one is left.
+fn keep_last<const CAP: usize>(
+    heap: &mut TagHeap<CAP>,
+    pool: &mut Pool<CAP>,
+    tag: u32,
+    record: &[u8],
+    charge: u32,
+) -> Result<(), Fail>
+    requires { IsKeptIn heap.old pool.old }
+{
+    heap.keep_last(pool);
+    check_one(heap, pool, tag, record, charge)
+}
+
+/// Adds two records and a third one to a heap of tag 7, and drops the first.
+fn use_quota<const CAP: usize>(heap: &mut TagHeap<CAP>, pool: &mut Pool<CAP>) -> Result<(), Fail>
+    requires reserved { blocks_for CAP heap.old.quota ≤ reserved heap.old.tag pool.old }
+    requires kept { IsKeptIn heap.old pool.old }
+{
+    add(heap, pool, &[1; 26])?;
+    check_one(heap, pool, 7, &[1; 26], 32)?;
+    add(heap, pool, &[2; 32])?;
+    same("charge of two", heap.charge(), 64)?;
+    check_refused(heap, pool, &[3])?;
+    check_two(heap, &[1; 26], &[2; 32])?;
+    keep_last(heap, pool, 7, &[2; 32], 32)
+}
+
 #[test]
 fn quota_of_two_records(rt: HostRuntime) -> Result<(), Fail> {
     let mut pool = Pool::<524_288>::open(rt.alloc(), 2)?;
     let mut heap = open_heap(rt.alloc(), &mut pool, 7, 64)?;
     same("room in the index", heap.index_room(), 0)?;
-    add(&mut heap, &mut pool, &[1; 26])??;
-    check_one(&heap, &pool, 7, &[1; 26], 32)?;
-    add(&mut heap, &mut pool, &[2; 32])??;
-    same("charge of two", heap.charge(), 64)?;
-    let third = add(&mut heap, &mut pool, &[3])?;
-    holds("a third is refused", third == Err(Quota))?;
-    check_two(&heap, &[1; 26], &[2; 32])?;
-    heap.keep_last(&mut pool);
-    check_one(&heap, &pool, 7, &[2; 32], 32)
+    use_quota(&mut heap, &mut pool)
+}
+
+/// Drops all records but the last of a heap of tag 1, and then this one too.
+fn keep_last_and_free<const CAP: usize>(
+    heap: &mut TagHeap<CAP>,
+    pool: &mut Pool<CAP>,
+    record: &[u8],
+) -> Result<(), Fail>
+    requires { IsKeptIn heap.old pool.old }
+{
+    heap.keep_last(pool);
+    check_one(heap, pool, 1, record, 150_000)?;
+    heap.free(pool);
+    Ok(())
 }
 
 fn bytes(alloc: Global, byte: u8, n: usize) -> Result<Vec<u8>, AllocError>
@@ -158,14 +209,11 @@ fn keeps_the_last_of_two_blocks(rt: HostRuntime) -> Result<(), Fail> {
     let mut heap = open_heap(rt.alloc(), &mut pool, 1, 300_000)?;
     let old = bytes(rt.alloc(), 5, 150_000)?;
     let new = bytes(rt.alloc(), 6, 150_000)?;
-    add(&mut heap, &mut pool, &old)??;
-    add(&mut heap, &mut pool, &new)??;
+    add(&mut heap, &mut pool, &old)?;
+    add(&mut heap, &mut pool, &new)?;
     same("blocks held by both", pool.held(1), 2)?;
     check_two(&heap, &old, &new)?;
-
-    heap.keep_last(&mut pool);
-    check_one(&heap, &pool, 1, &new, 150_000)?;
-    heap.free(&mut pool);
+    keep_last_and_free(&mut heap, &mut pool, &new)?;
     same("records at the end", heap.count(), 0)?;
     same("free at the end", pool.free(), 20)
 }

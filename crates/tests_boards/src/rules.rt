@@ -2,7 +2,7 @@
 use crate::compare::same_board;
 use crate::texts::{board, board_after, order};
 use bs_board::limits::{LAST_TURN, MOST_SNAKES};
-use bs_board::{Board, Move, is_legal};
+use bs_board::{Board, Move, Snake, is_legal};
 use bs_rules::{collide, feed, finish_turn, first_out, move_snake, move_snakes, turn};
 use bs_samples::{holds, same};
 use std::alloc::Global;
@@ -77,13 +77,18 @@ wrapped 7 10 0||A 90 0,0 0,1 0,2|B 90 6,3 5,3 4,3|C 90 3,6 3,5 3,4>2>>12||A 88 0
 wrapped 7x5 10 0||A 90 5,1 4,1 3,1|B 90 2,4 2,3 2,2>2>A=right B=up>12||A 88 0,1 6,1 5,1|B 88 2,1 2,0 2,4
 wrapped 5x7 10 0||A 90 0,6 0,5 0,4|B 90 0,2 4,2 3,2>2>>12||A 88 0,1 0,0 0,6|B 88 2,2 1,2 0,2";
 
+/// Returns the board after one turn.
+fn next_board(alloc: Global, before: &Board, order: &Move) -> Result<Board, Fail> {
+    holds("a legal board", is_legal(before))?;
+    holds("a turn to come", before.turn < LAST_TURN)?;
+    Ok(turn(alloc, before, order)?)
+}
+
 /// Returns the board after `turns` turns of the same move.
 fn played(alloc: Global, before: &Board, order: &Move, turns: u32) -> Result<Board, Fail> {
     let mut next = before.copy(alloc)?;
     for _ in 0..turns {
-        holds("a legal board", is_legal(&next))?;
-        holds("a turn to come", next.turn < LAST_TURN)?;
-        next = turn(alloc, &next, order)?;
+        next = next_board(alloc, &next, order)?;
     }
     Ok(next)
 }
@@ -129,23 +134,64 @@ const COLLIDED: &str =
 const FINISHED: &str =
     "11||A 100 2,2 1,2 0,2 0,2 HeadCollision by 1 in 11|B 100 2,2 3,2 4,2 4,2 HeadCollision by 0 in 11";
 
-/// Makes the board on which two snakes have moved to one food.
+/// Compares the board with that board of the same game.
+fn check_after(alloc: Global, what: &str, board: &Board, text: &str) -> Result<(), Fail> {
+    same_board(what, board, &board_after(alloc, board, text)?)
+}
+
+/// Moves the first snake straight on.
 #[tactic(auto, using(bs_rules::proofs::Movable::legal_is_movable))]
+fn first_moved(alloc: Global, before: &Board) -> Result<Snake, Fail> {
+    holds("a legal board", is_legal(before))?;
+    let snakes = before.snakes.as_slice();
+    holds("two snakes", snakes.len() == 2)?;
+    Ok(move_snake(alloc, &snakes[0], None, None)?)
+}
+
+/// Moves each snake straight on.
+#[tactic(auto, using(bs_rules::proofs::Movable::legal_is_movable))]
+fn all_moved(alloc: Global, before: Board) -> Result<Board, Fail> {
+    holds("a legal board", is_legal(&before))?;
+    let snakes = move_snakes(alloc, before.snakes.as_slice(), &[], None)?;
+    Ok(Board { snakes, ..before })
+}
+
+/// Makes the board on which two snakes have moved to one food.
 fn meeting(alloc: Global) -> Result<Board, Fail> {
-    let mut next = board(alloc, MEETING)?;
-    holds("a legal board", is_legal(&next))?;
-    let before = next.snakes.as_slice();
-    holds("two snakes", before.len() == 2)?;
-    let alone = move_snake(alloc, &before[0], None, None)?;
-    next.snakes = move_snakes(alloc, before, &[], None)?;
+    let before = board(alloc, MEETING)?;
+    let alone = first_moved(alloc, &before)?;
+    let next = all_moved(alloc, before)?;
     let moved = next.snakes.as_slice().first().ok_or("a snake")?;
     same(
         "the first, by itself",
         alone.body.as_slice(),
         moved.body.as_slice(),
     )?;
-    same_board("after the moves", &next, &board_after(alloc, &next, MOVED)?)?;
+    check_after(alloc, "after the moves", &next, MOVED)?;
     Ok(next)
+}
+
+/// Eliminates the snakes that have starved or left the board.
+fn put_out(board: &mut Board) -> Result<(), Fail> {
+    holds("a turn to come", board.turn < LAST_TURN)?;
+    first_out(board);
+    Ok(())
+}
+
+/// Eliminates the snakes that collide.
+fn let_collide(board: &mut Board) -> Result<(), Fail> {
+    holds("a turn to come", board.turn < LAST_TURN)?;
+    holds("few snakes", board.snakes.len() <= MOST_SNAKES)?;
+    collide(board);
+    Ok(())
+}
+
+fn feed_and_collide(alloc: Global, next: &mut Board) -> Result<(), Fail> {
+    feed(alloc, next)?;
+    put_out(next)?;
+    check_after(alloc, "after feeding", next, FED)?;
+    let_collide(next)?;
+    check_after(alloc, "after the collisions", next, COLLIDED)
 }
 
 /// The steps one by one, with two snakes that meet at one food.
@@ -153,18 +199,7 @@ fn meeting(alloc: Global) -> Result<Board, Fail> {
 fn two_heads_meet_at_food(rt: HostRuntime) -> Result<(), Fail> {
     let alloc = rt.alloc();
     let mut next = meeting(alloc)?;
-    feed(alloc, &mut next)?;
-    holds("a turn to come", next.turn < LAST_TURN)?;
-    first_out(&mut next);
-    same_board("after feeding", &next, &board_after(alloc, &next, FED)?)?;
-    holds("a turn to come", next.turn < LAST_TURN)?;
-    holds("few snakes", next.snakes.len() <= MOST_SNAKES)?;
-    collide(&mut next);
-    same_board(
-        "after the collisions",
-        &next,
-        &board_after(alloc, &next, COLLIDED)?,
-    )
+    feed_and_collide(alloc, &mut next)
 }
 
 /// All steps after the motion.
@@ -175,9 +210,5 @@ fn the_rest_of_a_turn(rt: HostRuntime) -> Result<(), Fail> {
     holds("a turn to come", moved.turn < LAST_TURN)?;
     holds("few snakes", moved.snakes.len() <= MOST_SNAKES)?;
     let finished = finish_turn(alloc, moved, &[])?;
-    same_board(
-        "at the end",
-        &finished,
-        &board_after(alloc, &finished, FINISHED)?,
-    )
+    check_after(alloc, "at the end", &finished, FINISHED)
 }

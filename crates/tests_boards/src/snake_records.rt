@@ -47,7 +47,7 @@ fn a_snake_that_has_just_moved(rt: HostRuntime) -> Result<(), Fail> {
 /// The first and the last value that one byte of the snake may have while the others stay.
 fn range(place: usize) -> (u8, u8) {
     match place {
-        // the length of the id, and its only byte, a text of its own
+        // the length of the id, and its only byte, which is a text by itself
         0 => (1, 1),
         1 => (0, 127),
         // health, cause, the killer's seat plus 1

@@ -78,19 +78,24 @@ fn put_out(snake: &mut Snake, text: &str) -> Result<(), Fail> {
     Ok(())
 }
 
+/// Makes a snake that is not out.
+fn living(alloc: Global, id: &str, health: u8, body: Cells) -> Result<Snake, Fail> {
+    Ok(Snake {
+        id: Id::from_str(alloc, id)?,
+        body,
+        health,
+        cause: None,
+        killer: None,
+        out: None,
+    })
+}
+
 /// Reads the snake "ID HEALTH CELLS", or "ID HEALTH CELLS CAUSE by SEAT in TURN" of an eliminated
 /// one.
 fn snake(alloc: Global, text: &str) -> Result<Snake, Fail> {
     let (id, rest) = text.split_once(' ').ok_or("an id")?;
     let (health, rest) = rest.split_once(' ').ok_or("a health")?;
-    let mut snake = Snake {
-        id: Id::from_str(alloc, id)?,
-        body: cells(alloc, rest)?,
-        health: small(health)?,
-        cause: None,
-        killer: None,
-        out: None,
-    };
+    let mut snake = living(alloc, id, small(health)?, cells(alloc, rest)?)?;
     put_out(&mut snake, rest)?;
     Ok(snake)
 }
@@ -112,41 +117,67 @@ fn mode(word: &str) -> Mode {
     }
 }
 
+/// Reads "WIDTHxHEIGHT", or one number for both.
+fn sides(text: &str) -> Result<(u8, u8), Fail> {
+    let (width, height) = text.split_once('x').unwrap_or((text, text));
+    Ok((small(width)?, small(height)?))
+}
+
+/// Reads "MODE SIDES TURN MIN_FOOD" as a board without food and snakes. Its chance of food is 0.
+fn empty(alloc: Global, text: &str) -> Result<Board, Fail> {
+    let (mode_name, rest) = text.split_once(' ').ok_or("a mode")?;
+    let (area, rest) = rest.split_once(' ').ok_or("sides")?;
+    let (turn, min_food) = rest.split_once(' ').ok_or("a turn")?;
+    let (width, height) = sides(area)?;
+    Ok(Board {
+        mode: mode(mode_name),
+        width,
+        height,
+        turn: u16::from(small(turn)?),
+        min_food: small(min_food)?,
+        chance: 0,
+        food: Cells::new(alloc),
+        snakes: Snakes::from_vec(Vec::new(alloc)),
+    })
+}
+
+/// Reads "FOOD|SNAKE|SNAKE" of the board.
+fn fill(alloc: Global, board: Board, text: &str) -> Result<Board, Fail> {
+    let (food, seats) = text.split_once('|').ok_or("food")?;
+    let food = cells(alloc, food)?;
+    let snakes = snakes(alloc, seats)?;
+    Ok(Board {
+        food,
+        snakes,
+        ..board
+    })
+}
+
 /// Reads the board "MODE SIDES TURN MIN_FOOD|FOOD|SNAKE|SNAKE", whose sides are "WIDTHxHEIGHT", or
 /// one number for a square. Its chance of food is 0.
 pub fn board(alloc: Global, text: &str) -> Result<Board, Fail> {
     let (head, rest) = text.split_once('|').ok_or("a head")?;
-    let (food, seats) = rest.split_once('|').ok_or("food")?;
-    let (mode_name, rest) = head.split_once(' ').ok_or("a mode")?;
-    let (sides, rest) = rest.split_once(' ').ok_or("sides")?;
-    let (turn, min_food) = rest.split_once(' ').ok_or("a turn")?;
-    let (width, height) = sides.split_once('x').unwrap_or((sides, sides));
-    Ok(Board {
-        mode: mode(mode_name),
-        width: small(width)?,
-        height: small(height)?,
-        turn: u16::from(small(turn)?),
-        min_food: small(min_food)?,
-        chance: 0,
-        food: cells(alloc, food)?,
-        snakes: snakes(alloc, seats)?,
-    })
+    fill(alloc, empty(alloc, head)?, rest)
+}
+
+/// Makes a board of the same game in that turn, without food and snakes.
+fn emptied(alloc: Global, before: &Board, turn: u8) -> Board {
+    Board {
+        mode: before.mode,
+        width: before.width,
+        height: before.height,
+        turn: u16::from(turn),
+        min_food: before.min_food,
+        chance: before.chance,
+        food: Cells::new(alloc),
+        snakes: Snakes::from_vec(Vec::new(alloc)),
+    }
 }
 
 /// Reads the board "TURN|FOOD|SNAKE|SNAKE" of the same game as another board.
 pub fn board_after(alloc: Global, before: &Board, text: &str) -> Result<Board, Fail> {
     let (turn, rest) = text.split_once('|').ok_or("a turn")?;
-    let (food, seats) = rest.split_once('|').ok_or("food")?;
-    Ok(Board {
-        mode: before.mode,
-        width: before.width,
-        height: before.height,
-        turn: u16::from(small(turn)?),
-        min_food: before.min_food,
-        chance: before.chance,
-        food: cells(alloc, food)?,
-        snakes: snakes(alloc, seats)?,
-    })
+    fill(alloc, emptied(alloc, before, small(turn)?), rest)
 }
 
 fn direction(text: &str) -> Result<Direction, Fail> {

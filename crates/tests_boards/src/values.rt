@@ -1,11 +1,28 @@
 //! Copies of values with text or lists equal their sources; the versions of files.
 use crate::compare::same_board;
 use bs_board::{
-    Command, Direction, Id, KeptBoard, Mode, New, Point, Reply, Version, Word, is_legal,
+    Board, Command, Direction, Id, KeptBoard, Mode, Move, New, Point, Reply, Rows, Version, Word,
+    is_legal,
 };
 use bs_samples::{cells, holds, orders, plan_of, same, solo_after, starts};
 use std::alloc::Global;
 use std::test::Fail;
+
+/// Makes a reply that shows the board, and copies it.
+fn copy_of_shown(alloc: Global, board: &Board) -> Result<Reply, Fail> {
+    holds("a legal board", is_legal(board))?;
+    let reply = Reply::Shown(Word::Show, KeptBoard::of(alloc, board)?, 64);
+    Ok(reply.copy(alloc)?)
+}
+
+/// Checks that the reply shows that board.
+fn check_shown(alloc: Global, reply: &Reply, board: &Board) -> Result<(), Fail> {
+    let Reply::Shown(word, shown, charge) = reply else {
+        return Err(Fail::from("another reply"));
+    };
+    same("word and charge", (*word, *charge), (Word::Show, 64))?;
+    same_board("the board that is shown", &shown.board(alloc)?, board)
+}
 
 #[test]
 fn boards_and_replies_are_copied(rt: HostRuntime) -> Result<(), Fail> {
@@ -13,13 +30,26 @@ fn boards_and_replies_are_copied(rt: HostRuntime) -> Result<(), Fail> {
     let board = solo_after(alloc, 3, 2)?;
     same_board("a board", &board.copy(alloc)?, &board)?;
     let solo = solo_after(alloc, 3, 1)?;
-    holds("a legal board", is_legal(&solo))?;
-    let reply = Reply::Shown(Word::Show, KeptBoard::of(alloc, &solo)?, 64);
-    let Reply::Shown(word, shown, charge) = reply.copy(alloc)? else {
-        return Err(Fail::from("another reply"));
-    };
-    same("word and charge", (word, charge), (Word::Show, 64))?;
-    same_board("the board that is shown", &shown.board(alloc)?, &solo)
+    check_shown(alloc, &copy_of_shown(alloc, &solo)?, &solo)
+}
+
+/// Compares the direction of one name.
+fn check_direction(
+    moves: &[(Id, Direction)],
+    place: usize,
+    id: &str,
+    direction: Direction,
+) -> Result<(), Fail> {
+    let (name, to) = moves.get(place).ok_or("a direction")?;
+    same("a direction", (name.as_str(), *to), (id, direction))
+}
+
+fn check_move(copy: &Move) -> Result<(), Fail> {
+    let moves = copy.moves.as_slice();
+    same("directions", moves.len(), 2)?;
+    check_direction(moves, 0, "a", Direction::Up)?;
+    check_direction(moves, 1, "b", Direction::Left)?;
+    same("words", copy.words.as_slice(), [5, 6].as_slice())
 }
 
 #[test]
@@ -27,22 +57,16 @@ fn a_move_is_copied(rt: HostRuntime) -> Result<(), Fail> {
     let alloc = rt.alloc();
     let directions = [("a", Direction::Up), ("b", Direction::Left)];
     let command = Command::Move(orders(alloc, &directions, &[5, 6])?);
-    let Command::Move(copy) = command.copy(alloc)? else {
-        return Err(Fail::from("another command"));
-    };
-    let moves = copy.moves.as_slice();
-    holds("two directions", moves.len() == 2)?;
-    same("the second name", moves[1].0.as_str(), "b")?;
-    same(
-        "directions",
-        (moves[0].1, moves[1].1),
-        (Direction::Up, Direction::Left),
-    )?;
-    same("words", copy.words.as_slice(), [5, 6].as_slice())
+    match command.copy(alloc)? {
+        Command::Move(copy) => check_move(&copy),
+        _ => Err(Fail::from("another command")),
+    }
 }
 
-fn check_start(start: &(Id, Point), id: &str, cell: Point) -> Result<(), Fail> {
-    same("a start", (start.0.as_str(), start.1), (id, cell))
+/// Compares the start of one snake.
+fn check_start(starts: &[(Id, Point)], place: usize, id: &str, cell: Point) -> Result<(), Fail> {
+    let (name, start) = starts.get(place).ok_or("a start")?;
+    same("a start", (name.as_str(), *start), (id, cell))
 }
 
 /// Makes a setup with the defaults for food.
@@ -53,27 +77,31 @@ fn two_starts(alloc: Global) -> Result<New, Fail> {
     Ok(new.ok_or("a setup")?)
 }
 
+fn check_setup(copy: &New) -> Result<(), Fail> {
+    let sides = (copy.mode, copy.width, copy.height);
+    same("sides", sides, (Mode::Standard, 3, 3))?;
+    same("minimum and chance", (copy.min_food, copy.chance), (1, 15))?;
+    let food = [Point { x: 0, y: 2 }];
+    same("food", copy.food.as_slice(), food.as_slice())?;
+    let starts = copy.snakes.as_slice();
+    same("snakes", starts.len(), 2)?;
+    check_start(starts, 0, "s", Point { x: 1, y: 1 })?;
+    check_start(starts, 1, "t", Point { x: 2, y: 0 })
+}
+
 #[test]
 fn a_setup_is_copied(rt: HostRuntime) -> Result<(), Fail> {
     let alloc = rt.alloc();
-    let Command::New(copy) = Command::New(two_starts(alloc)?).copy(alloc)? else {
-        return Err(Fail::from("another command"));
-    };
-    same(
-        "sides",
-        (copy.mode, copy.width, copy.height),
-        (Mode::Standard, 3, 3),
-    )?;
-    same("minimum and chance", (copy.min_food, copy.chance), (1, 15))?;
-    same(
-        "food",
-        copy.food.as_slice(),
-        [Point { x: 0, y: 2 }].as_slice(),
-    )?;
-    let starts = copy.snakes.as_slice();
-    holds("two snakes", starts.len() == 2)?;
-    check_start(&starts[0], "s", Point { x: 1, y: 1 })?;
-    check_start(&starts[1], "t", Point { x: 2, y: 0 })
+    let command = Command::New(two_starts(alloc)?);
+    match command.copy(alloc)? {
+        Command::New(copy) => check_setup(&copy),
+        _ => Err(Fail::from("another command")),
+    }
+}
+
+fn check_row(rows: &Rows) -> Result<(), Fail> {
+    let row = rows.as_slice().first().ok_or("a row")?;
+    same("its row", (row.game.as_str(), row.quota), ("a", 64))
 }
 
 #[test]
@@ -82,8 +110,7 @@ fn a_plan_is_copied(rt: HostRuntime) -> Result<(), Fail> {
     let mut plan = plan_of(alloc, &[("a", 64)])?;
     plan.version = Version::Two;
     let copy = plan.copy(alloc)?;
-    let row = copy.rows.as_slice().first().ok_or("a row")?;
-    same("its row", (row.game.as_str(), row.quota), ("a", 64))?;
+    check_row(&copy.rows)?;
     same("its version", copy.version, Version::Two)
 }
 
@@ -96,23 +123,12 @@ fn versions_by_number(rt: HostRuntime) -> Result<(), Fail> {
     ] {
         same("a version", Version::from_number(number), Some(version))?;
         same("its number", u64::from(version.number()), number)?;
-        same(
-            "wrapped",
-            (version, version.has_wrapped()),
-            (version, has_wrapped),
-        )?;
-        same(
-            "stays",
-            (version, version.has_stays()),
-            (version, has_stays),
-        )?;
+        let has = (version, version.has_wrapped(), version.has_stays());
+        same("its features", has, (version, has_wrapped, has_stays))?;
     }
     for number in [0, 4, 257, 258, 259] {
-        same(
-            "no version",
-            (number, Version::from_number(number)),
-            (number, None),
-        )?;
+        let found = (number, Version::from_number(number));
+        same("no version", found, (number, None))?;
     }
     Ok(())
 }

@@ -22,15 +22,32 @@ use std::time::{Clock, Duration};
 pub(crate) fn coming_and_going(alloc: Global) -> Result<Vec<Act>, Fail> {
     let mut acts = Vec::new(alloc);
     push(alloc, &mut acts, 0, new_of_three(alloc)?)?;
-    acts.push(Act::Leave(1))?;
-    acts.push(Act::Admit(row(alloc, "c", 64)?))?;
-    push(alloc, &mut acts, 2, new_of_three(alloc)?)?;
-    push(alloc, &mut acts, 2, third_goes(alloc, Direction::Down)?)?;
-    acts.push(Act::Leave(2))?;
-    acts.push(Act::Admit(row(alloc, "c", 64)?))?;
-    push(alloc, &mut acts, 3, Command::Show)?;
-    push(alloc, &mut acts, 0, Command::Show)?;
+    push_first_stay(alloc, &mut acts)?;
+    push_second_stay(alloc, &mut acts)?;
     Ok(acts)
+}
+
+fn push_admit(alloc: Global, acts: &mut Vec<Act>, name: &str) -> Result<(), Fail> {
+    acts.push(Act::Admit(row(alloc, name, 64)?))?;
+    Ok(())
+}
+
+/// Adds the stay of `c` that plays a move.
+fn push_first_stay(alloc: Global, acts: &mut Vec<Act>) -> Result<(), Fail> {
+    acts.push(Act::Leave(1))?;
+    push_admit(alloc, acts, "c")?;
+    push(alloc, acts, 2, new_of_three(alloc)?)?;
+    push(alloc, acts, 2, third_goes(alloc, Direction::Down)?)?;
+    acts.push(Act::Leave(2))?;
+    Ok(())
+}
+
+/// Adds another stay of `c`, and a `show` for each game that is open.
+fn push_second_stay(alloc: Global, acts: &mut Vec<Act>) -> Result<(), Fail> {
+    push_admit(alloc, acts, "c")?;
+    push(alloc, acts, 3, Command::Show)?;
+    push(alloc, acts, 0, Command::Show)?;
+    Ok(())
 }
 
 /// Checks whether the stay is open, how many replies it has, and whether it has a board.
@@ -54,13 +71,18 @@ fn games_come_and_go(rt: HostRuntime) -> Result<(), Fail> {
     let acts = coming_and_going(alloc)?;
     for threads in [1usize, 2, 4] {
         let core = run_games(&rt, &TWO, acts.as_slice(), threads, &OpenGate)??;
-        same("stays", core.rows(), 4)?;
-        check_stay(alloc, &core, 0, true, (2, true))?;
-        check_stay(alloc, &core, 1, false, (0, false))?;
-        check_stay(alloc, &core, 2, false, (2, true))?;
-        check_stay(alloc, &core, 3, true, (1, false))?;
+        check_stays(alloc, &core)?;
     }
     Ok(())
+}
+
+/// Checks the four stays of games that came and went.
+fn check_stays(alloc: Global, core: &Core<CAP>) -> Result<(), Fail> {
+    same("stays", core.rows(), 4)?;
+    check_stay(alloc, core, 0, true, (2, true))?;
+    check_stay(alloc, core, 1, false, (0, false))?;
+    check_stay(alloc, core, 2, false, (2, true))?;
+    check_stay(alloc, core, 3, true, (1, false))
 }
 
 fn check_broken<R: Threads + Wait + Sync + AllocGlobal>(
@@ -90,13 +112,36 @@ fn a_command_for_no_row_breaks_the_run(rt: HostRuntime) -> Result<(), Fail> {
 /// whose blocks are not free; a leave and a command of a game that has left; a leave of a game that
 /// was never admitted.
 fn refused(alloc: Global) -> Result<Vec<Vec<Act>>, Fail> {
-    let named = vec![in alloc; Act::Leave(0), Act::Admit(row(alloc, "b", 64)?)]?;
-    let short = vec![in alloc; Act::Admit(row(alloc, "c", 64)?)]?;
-    let closed = vec![in alloc; Act::Leave(1), Act::Leave(1)]?;
-    let mut handed = vec![in alloc; Act::Leave(1)]?;
-    push(alloc, &mut handed, 1, Command::Show)?;
-    let absent = vec![in alloc; Act::Leave(2)]?;
-    Ok(vec![in alloc; named, short, closed, handed, absent]?)
+    let mut lists = Vec::new(alloc);
+    lists.push(left_and_admitted(alloc, &[0], "b")?)?;
+    lists.push(left_and_admitted(alloc, &[], "c")?)?;
+    lists.push(left(alloc, &[1, 1])?)?;
+    lists.push(left_and_handed(alloc)?)?;
+    lists.push(left(alloc, &[2])?)?;
+    Ok(lists)
+}
+
+/// Makes a leave of each of these games.
+fn left(alloc: Global, games: &[usize]) -> Result<Vec<Act>, AllocError> {
+    let mut acts = Vec::new(alloc);
+    for &game in games {
+        acts.push(Act::Leave(game))?;
+    }
+    Ok(acts)
+}
+
+/// Makes a leave of each of these games, and an admission.
+fn left_and_admitted(alloc: Global, games: &[usize], name: &str) -> Result<Vec<Act>, Fail> {
+    let mut acts = left(alloc, games)?;
+    push_admit(alloc, &mut acts, name)?;
+    Ok(acts)
+}
+
+/// Makes a leave of a game and a command for it.
+fn left_and_handed(alloc: Global) -> Result<Vec<Act>, AllocError> {
+    let mut acts = left(alloc, &[1])?;
+    push(alloc, &mut acts, 1, Command::Show)?;
+    Ok(acts)
 }
 
 /// A refused act stops the run, both as the last act and before others.
@@ -104,13 +149,23 @@ fn refused(alloc: Global) -> Result<Vec<Vec<Act>>, Fail> {
 fn a_refused_act_breaks_the_run(rt: HostRuntime) -> Result<(), Fail> {
     let alloc = rt.alloc();
     for threads in [1usize, 2, 4] {
-        for mut acts in refused(alloc)? {
-            check_broken(&rt, acts.as_slice(), threads)?;
-            push(alloc, &mut acts, 0, Command::Show)?;
-            check_broken(&rt, acts.as_slice(), threads)?;
+        for acts in refused(alloc)? {
+            check_refused(&rt, acts, threads)?;
         }
     }
     Ok(())
+}
+
+/// Checks that the last act is refused, also if a command follows it.
+fn check_refused<R: Threads + Wait + Sync + AllocGlobal>(
+    rt: &R,
+    acts: Vec<Act>,
+    threads: usize,
+) -> Result<(), Fail> {
+    let mut acts = acts;
+    check_broken(rt, acts.as_slice(), threads)?;
+    push(rt.alloc(), &mut acts, 0, Command::Show)?;
+    check_broken(rt, acts.as_slice(), threads)
 }
 
 /// The number of acts in one list: more than four times 1,024.

@@ -6,7 +6,7 @@ use crate::player::{
 use arrayvec::ArrayVec;
 use bs_board::{Command, Direction, Refusal, Reply, TurnNumber, Word};
 use bs_counter::{PartKey, Parted};
-use bs_fiber::{Done, Handles, JobKind, JobName, SharedCommand, Ticket, work};
+use bs_fiber::{Contents, Done, Handles, Input, JobKind, JobName, SharedCommand, Ticket, work};
 use bs_samples::{holds, new_of_three, new_solo, plan_of, same, straight_on, third_goes};
 use bs_sched::{Core, Counts, Open, Taken, blocks_of, blocks_of_all};
 use std::alloc::Global;
@@ -19,16 +19,59 @@ fn core_of_one(alloc: Global, name: &str, quota: u32) -> Result<Core<CAP>, Fail>
 }
 
 /// Checks the ticket of `show`, the second command, after the first one left one record.
-fn check_second_ticket(core: &Core<CAP>, ticket: &Ticket<CAP>) -> Result<(), Fail> {
+fn check_second_ticket(ticket: &Ticket<CAP>) -> Result<(), Fail> {
     same("number of the command", ticket.seq(), 2)?;
     same("kept records", ticket.kept(), 1)?;
     same("worker", ticket.worker(), 0)?;
     holds("show", matches!(ticket.command(), Command::Show))?;
+    holds("no parts", ticket.parts().is_empty())
+}
+
+/// Checks that the ticket has the only record of the only game.
+fn check_last(core: &Core<CAP>, ticket: &Ticket<CAP>) -> Result<(), Fail> {
+    let last = ticket.last().ok_or("a newest record")?;
     holds("a game", core.rows() == 1)?;
     holds("one record", core.count(0) == 1)?;
-    let last = ticket.last().ok_or("a newest record")?;
-    same("newest record", last.as_slice(), core.records(0, 0))?;
-    holds("no parts", ticket.parts().is_empty())
+    same("newest record", last.as_slice(), core.records(0, 0))
+}
+
+/// Checks the input of the spent ticket of the first command.
+fn check_spent(input: &Input) -> Result<(), Fail> {
+    same("number of the command", input.seq, 1)?;
+    same("kept records", input.kept, 0)?;
+    holds("no newest record", input.last.is_none())
+}
+
+/// Plays the first command as worker 0. Returns the contents of its ticket.
+fn play_first(alloc: Global, core: &mut Core<CAP>) -> Result<Box<Contents<CAP>>, Fail> {
+    let done = take_done(alloc, core, 0)?;
+    let spent = core.put_back(0, done).map_err(|_| Fail::from("a stray"))?;
+    check_spent(&spent.input)?;
+    Ok(spent)
+}
+
+/// Takes the second command as worker 0, in the memory of a spent ticket, and runs it.
+fn take_second(
+    alloc: Global,
+    core: &mut Core<CAP>,
+    spent: Box<Contents<CAP>>,
+) -> Result<Done<CAP>, Fail> {
+    holds("two workers", core.workers() == 2)?;
+    let Taken::Job(ticket) = core.take_over(alloc, 0, Some(spent))? else {
+        return Err(Fail::from("no job"));
+    };
+    check_second_ticket(&ticket)?;
+    check_last(core, &ticket)?;
+    Ok(work(alloc, ticket)?)
+}
+
+/// Plays two commands, the second in the memory of the first one's ticket.
+fn play_over(alloc: Global, core: &mut Core<CAP>) -> Result<(), Fail> {
+    hand(alloc, core, 0, Command::Show)?;
+    let spent = play_first(alloc, core)?;
+    let done = take_second(alloc, core, spent)?;
+    put(core, 0, done)?;
+    holds("quiet", core.is_quiet())
 }
 
 /// A ticket that was spent on `new` becomes that of `show`: everything in it is the second
@@ -38,19 +81,7 @@ fn a_ticket_takes_the_place_of_a_spent_one(rt: HostRuntime) -> Result<(), Fail> 
     let alloc = rt.alloc();
     let mut core = core_of_one(alloc, "a", 4096)?;
     hand(alloc, &mut core, 0, new_of_three(alloc)?)?;
-    hand(alloc, &mut core, 0, Command::Show)?;
-    let done = take_done(alloc, &mut core, 0)?;
-    let spent = core.put_back(0, done).map_err(|_| Fail::from("a stray"))?;
-    same("number of the command", spent.input.seq, 1)?;
-    same("kept records", spent.input.kept, 0)?;
-    holds("no newest record", spent.input.last.is_none())?;
-    holds("two workers", core.workers() == 2)?;
-    let Taken::Job(ticket) = core.take_over(alloc, 0, Some(spent))? else {
-        return Err(Fail::from("no job"));
-    };
-    check_second_ticket(&core, &ticket)?;
-    put(&mut core, 0, work(alloc, ticket)?)?;
-    holds("quiet", core.is_quiet())
+    play_over(alloc, &mut core)
 }
 
 fn check_job(done: &Done<CAP>, kind: JobKind, part: u8) -> Result<(), Fail> {
@@ -73,15 +104,33 @@ fn check_free(core: &Core<CAP>, free: usize) -> Result<(), Fail> {
 
 const TWO: [(&str, u32); 2] = [("a", 64), ("b", 64)];
 
+/// Opens a core of two games and three workers.
+fn open_two(alloc: Global, blocks: usize) -> Result<Result<Core<CAP>, Open>, Fail> {
+    let plan = plan_of(alloc, &TWO)?;
+    Ok(Core::<CAP>::open(alloc, plan, blocks, 3))
+}
+
+/// Compares the number of blocks that the two games need.
+fn check_blocks_of_all(alloc: Global) -> Result<(), Fail> {
+    let plan = plan_of(alloc, &TWO)?;
+    same("blocks", blocks_of_all(CAP, plan.rows.as_slice()), 12)
+}
+
 #[test]
 fn opens_within_its_blocks(rt: HostRuntime) -> Result<(), Fail> {
     let alloc = rt.alloc();
-    let short = Core::<CAP>::open(alloc, plan_of(alloc, &TWO)?, 11, 3);
+    let short = open_two(alloc, 11)?;
     same("11 blocks", short.err(), Some(Open::Short))?;
 
-    let plan = plan_of(alloc, &TWO)?;
-    same("blocks", blocks_of_all(CAP, plan.rows.as_slice()), 12)?;
-    let core = Core::<CAP>::open(alloc, plan, 12, 3)?;
+    check_blocks_of_all(alloc)?;
+    let core = open_two(alloc, 12)??;
+    check_twelve(&core)?;
+    check_row(&core)?;
+    check_opened(alloc, &core)
+}
+
+/// Checks the blocks and the workers of a core of two games that were not played.
+fn check_twelve(core: &Core<CAP>) -> Result<(), Fail> {
     let counts = Counts {
         free: 12,
         held: 0,
@@ -89,15 +138,20 @@ fn opens_within_its_blocks(rt: HostRuntime) -> Result<(), Fail> {
     };
     same("counts", core.counts(), counts)?;
     same("workers", core.workers(), 3)?;
-    check_opened(alloc, &core)
+    holds("quiet", core.is_quiet())
 }
 
-/// Checks a core of two games that were not played.
-fn check_opened(alloc: Global, core: &Core<CAP>) -> Result<(), Fail> {
-    holds("quiet", core.is_quiet())?;
+/// Checks the second row.
+fn check_row(core: &Core<CAP>) -> Result<(), Fail> {
     holds("two games", core.rows() == 2)?;
-    same("quota", core.row(1).quota, 64)?;
-    same("blocks", blocks_of(CAP, core.row(1)), 6)?;
+    let row = core.row(1);
+    same("quota", row.quota, 64)?;
+    same("blocks", blocks_of(CAP, row), 6)
+}
+
+/// Checks that the first game was not played.
+fn check_opened(alloc: Global, core: &Core<CAP>) -> Result<(), Fail> {
+    holds("two games", core.rows() == 2)?;
     same("records", core.count(0), 0)?;
     same("charge", core.charge(0), 0)?;
     holds("no board", core.board(alloc, 0)?.is_none())
@@ -135,38 +189,65 @@ fn check_turn(alloc: Global, core: &Core<CAP>, turn: u16) -> Result<(), Fail> {
     same("turn", board.turn, turn)
 }
 
+fn check_refused_put(core: &mut Core<CAP>, worker: usize, done: Done<CAP>) -> Result<(), Fail> {
+    holds("a stray", core.put(worker, done).is_err())
+}
+
 /// While a job is out, the result of another core is a stray, and so is the job if it comes from a
 /// worker that has not taken it.
 fn check_two_strays(alloc: Global, core: &mut Core<CAP>, foreign: Done<CAP>) -> Result<(), Fail> {
     hand(alloc, core, 0, Command::Show)?;
     let done = take_done(alloc, core, 0)?;
     let before = read_all(core)?;
-    holds("of another core", core.put(0, foreign).is_err())?;
-    holds("of another worker", core.put(1, done).is_err())?;
+    check_refused_put(core, 0, foreign)?;
+    check_refused_put(core, 1, done)?;
     same("readings", read_all(core)?, before)?;
     check_free(core, 5)?;
     same("commands taken", before.taken, 2)?;
     check_turn(alloc, core, 0)
 }
 
+/// Opens a core of one game, and takes and runs the Begin of its `new` as worker 0.
+fn core_with_begin(alloc: Global) -> Result<(Core<CAP>, Done<CAP>), Fail> {
+    let mut core = core_of_one(alloc, "a", 4096)?;
+    hand(alloc, &mut core, 0, new_solo(alloc, 3)?)?;
+    let done = take_done(alloc, &mut core, 0)?;
+    Ok((core, done))
+}
+
+fn check_busy(alloc: Global, core: &mut Core<CAP>, worker: usize) -> Result<(), Fail> {
+    let is_busy = matches!(take(alloc, core, worker)?, Taken::Busy);
+    holds("busy", is_busy)
+}
+
 #[test]
 fn results_of_another_core_are_strays(rt: HostRuntime) -> Result<(), Fail> {
     let alloc = rt.alloc();
-    let mut core = core_of_one(alloc, "a", 4096)?;
-    let mut other = core_of_one(alloc, "a", 4096)?;
-    hand(alloc, &mut core, 0, new_solo(alloc, 3)?)?;
-    hand(alloc, &mut other, 0, new_solo(alloc, 3)?)?;
-    let done = take_done(alloc, &mut core, 0)?;
-    let foreign = take_done(alloc, &mut other, 0)?;
+    let (mut core, done) = core_with_begin(alloc)?;
+    put_begin(alloc, &mut core, done)?;
+    let (_, foreign) = core_with_begin(alloc)?;
+    check_foreign(alloc, &mut core, foreign)
+}
+
+/// Completes a Begin as worker 0, which is busy before.
+fn put_begin(alloc: Global, core: &mut Core<CAP>, done: Done<CAP>) -> Result<(), Fail> {
     check_job(&done, JobKind::Begin, 0)?;
-    check_nothing(alloc, &mut core, 1)?;
-    let is_busy = matches!(take(alloc, &mut core, 0)?, Taken::Busy);
-    holds("busy", is_busy)?;
-    put(&mut core, 0, done)?;
-    let foreign = check_stray(&mut core, foreign)?;
+    check_nothing(alloc, core, 1)?;
+    check_busy(alloc, core, 0)?;
+    put(core, 0, done)
+}
+
+/// Checks that the Begin of another core is a stray, before and while a job is out.
+fn check_foreign(alloc: Global, core: &mut Core<CAP>, foreign: Done<CAP>) -> Result<(), Fail> {
+    let foreign = check_stray(core, foreign)?;
     check_job(&foreign, JobKind::Begin, 0)?;
-    same("replies", read_all(&core)?.replies, 1)?;
-    check_two_strays(alloc, &mut core, foreign)
+    check_replies(core, 1)?;
+    check_two_strays(alloc, core, foreign)
+}
+
+/// Checks the number of replies.
+fn check_replies(core: &Core<CAP>, replies: usize) -> Result<(), Fail> {
+    same("replies", read_all(core)?.replies, replies)
 }
 
 fn check_nothing(alloc: Global, core: &mut Core<CAP>, worker: usize) -> Result<(), Fail> {
@@ -260,19 +341,40 @@ fn play_begin(alloc: Global, core: &mut Core<CAP>, worker: usize) -> Result<(), 
 fn a_move_goes_in_parts(rt: HostRuntime) -> Result<(), Fail> {
     let alloc = rt.alloc();
     let mut core = core_of_one(alloc, "b", 4096)?;
-    hand(alloc, &mut core, 0, new_of_three(alloc)?)?;
-    hand(alloc, &mut core, 0, third_goes(alloc, Direction::Down)?)?;
-    play_begin(alloc, &mut core, 1)?;
-    play_begin(alloc, &mut core, 0)?;
-    check_free(&core, 5)?;
-    play_parts(alloc, &mut core)?;
-    play_join(alloc, &mut core)?;
-    check_free(&core, 5)?;
-    let readings = read_all(&core)?;
+    play_move(alloc, &mut core)?;
+    check_moved(alloc, &core)
+}
+
+/// Plays a `new` and a move of two parts.
+fn play_move(alloc: Global, core: &mut Core<CAP>) -> Result<(), Fail> {
+    hand(alloc, core, 0, new_of_three(alloc)?)?;
+    hand(alloc, core, 0, third_goes(alloc, Direction::Down)?)?;
+    play_begin(alloc, core, 1)?;
+    play_begin(alloc, core, 0)?;
+    check_free(core, 5)?;
+    play_parts(alloc, core)?;
+    play_join(alloc, core)
+}
+
+/// Checks a core of one game that has answered a `new` and a move.
+fn check_moved(alloc: Global, core: &Core<CAP>) -> Result<(), Fail> {
+    check_free(core, 5)?;
+    let readings = read_all(core)?;
     same("charge", readings.charge, 128)?;
     same("records", readings.records, 2)?;
     same("replies", readings.replies, 2)?;
-    check_turn(alloc, &core, 1)
+    check_turn(alloc, core, 1)
+}
+
+/// The Begins of a `new` and of a move hold one block, for the record.
+fn play_counted_begins(alloc: Global, core: &mut Core<CAP>) -> Result<(), Fail> {
+    hand(alloc, core, 0, new_of_three(alloc)?)?;
+    play_begin(alloc, core, 0)?;
+    check_free(core, 5)?;
+    hand(alloc, core, 0, third_goes(alloc, Direction::Down)?)?;
+    check_free(core, 5)?;
+    play_begin(alloc, core, 0)?;
+    check_free(core, 5)
 }
 
 /// Each part that is taken draws a block, which stays drawn while the parts are completed.
@@ -296,20 +398,18 @@ fn play_counted_join(alloc: Global, core: &mut Core<CAP>) -> Result<(), Fail> {
     check_free(core, 3)?;
     put(core, 0, join)?;
     check_free(core, 5)?;
-    same("charge", read_all(core)?.charge, 128)
+    check_charge(core, 128)
+}
+
+fn check_charge(core: &Core<CAP>, charge: u32) -> Result<(), Fail> {
+    same("charge", read_all(core)?.charge, charge)
 }
 
 #[test]
 fn each_part_holds_a_block_until_the_answer(rt: HostRuntime) -> Result<(), Fail> {
     let alloc = rt.alloc();
     let mut core = core_of_one(alloc, "b", 4096)?;
-    hand(alloc, &mut core, 0, new_of_three(alloc)?)?;
-    play_begin(alloc, &mut core, 0)?;
-    check_free(&core, 5)?;
-    hand(alloc, &mut core, 0, third_goes(alloc, Direction::Down)?)?;
-    check_free(&core, 5)?;
-    play_begin(alloc, &mut core, 0)?;
-    check_free(&core, 5)?;
+    play_counted_begins(alloc, &mut core)?;
     play_counted_parts(alloc, &mut core)?;
     play_counted_join(alloc, &mut core)
 }
@@ -356,18 +456,26 @@ fn hand_over_quota(alloc: Global, core: &mut Core<CAP>) -> Result<(), Fail> {
     hand_turn(alloc, core, 1)
 }
 
-fn check_over_quota(alloc: Global, core: &Core<CAP>) -> Result<(), Fail> {
+/// Checks that the reply to the command of that number is plain.
+fn check_plain(core: &Core<CAP>, number: usize, (word, charge): (Word, u32)) -> Result<(), Fail> {
     holds("a game", core.rows() == 1)?;
-    same("replies", core.replies(0).len(), 7)?;
+    let Some(Reply::Plain(said, charged)) = core.replies(0).get(number) else {
+        return Err(Fail::from("not plain"));
+    };
+    same("word and charge", (*said, *charged), (word, charge))
+}
+
+fn check_over_quota(alloc: Global, core: &Core<CAP>) -> Result<(), Fail> {
+    let readings = read_all(core)?;
+    same("replies", readings.replies, 7)?;
+    same("records", readings.records, 2)?;
     check_shown(alloc, core, 0, (Word::New, 0, 32))?;
     check_shown(alloc, core, 1, (Word::Move, 1, 64))?;
     check_refused(core, 2, Refusal::Quota)?;
-    let freed = core.replies(0).get(3);
-    holds("freed", matches!(freed, Some(Reply::Plain(Word::Free, 32))))?;
+    check_plain(core, 3, (Word::Free, 32))?;
     check_shown(alloc, core, 4, (Word::Move, 2, 64))?;
     check_refused(core, 5, Refusal::NoRecord)?;
-    check_shown(alloc, core, 6, (Word::Turn, 1, 64))?;
-    same("records", core.count(0), 2)
+    check_shown(alloc, core, 6, (Word::Turn, 1, 64))
 }
 
 #[test]
@@ -380,15 +488,25 @@ fn quota_of_two_records(rt: HostRuntime) -> Result<(), Fail> {
     check_over_quota(alloc, &core)
 }
 
+/// Queues a shared command.
+fn hand_shared(core: &mut Core<CAP>, shared: &SharedCommand) -> Result<(), Fail> {
+    holds("a game", core.rows() == 1)?;
+    holds("an open game", core.is_open(0))?;
+    Ok(core.hand_shared(0, shared)?)
+}
+
+/// Queues a shared command by handles that were made before.
+fn hand_handles(core: &mut Core<CAP>, handles: Handles) -> Result<(), Fail> {
+    holds("a game", core.rows() == 1)?;
+    holds("an open game", core.is_open(0))?;
+    Ok(core.hand_handles(0, handles)?)
+}
+
 /// Opens a core of that game in which the same command was queued twice.
 fn core_with_shared(alloc: Global, name: &str, shared: &SharedCommand) -> Result<Core<CAP>, Fail> {
     let mut core = core_of_one(alloc, name, 4096)?;
-    holds("a game", core.rows() == 1)?;
-    holds("an open game", core.is_open(0))?;
-    core.hand_shared(0, shared)?;
-    holds("a game", core.rows() == 1)?;
-    holds("an open game", core.is_open(0))?;
-    core.hand_handles(0, Handles::new(shared)?)?;
+    hand_shared(&mut core, shared)?;
+    hand_handles(&mut core, Handles::new(shared)?)?;
     Ok(core)
 }
 
@@ -400,11 +518,16 @@ fn two_cores_hold_one_command(rt: HostRuntime) -> Result<(), Fail> {
     for name in ["a", "b"] {
         let mut core = core_with_shared(alloc, name, &shared)?;
         play_all(&rt, alloc, &mut core, 0)?;
-        same("replies", read_all(&core)?.replies, 2)?;
-        check_shown(alloc, &core, 0, (Word::New, 0, 32))?;
-        check_refused(&core, 1, Refusal::Running)?;
+        check_answered_twice(alloc, &core)?;
     }
     Ok(())
+}
+
+/// Checks the replies to the same `new` twice.
+fn check_answered_twice(alloc: Global, core: &Core<CAP>) -> Result<(), Fail> {
+    check_replies(core, 2)?;
+    check_shown(alloc, core, 0, (Word::New, 0, 32))?;
+    check_refused(core, 1, Refusal::Running)
 }
 
 fn check_failed(alloc: Global, core: &mut Core<CAP>, worker: usize) -> Result<(), Fail> {
@@ -417,14 +540,23 @@ fn jobs_come_back_after_a_failure(rt: HostRuntime) -> Result<(), Fail> {
     let alloc = rt.alloc();
     let mut core = core_of_one(alloc, "a", 64)?;
     hand(alloc, &mut core, 0, new_solo(alloc, 5)?)?;
-    hand(alloc, &mut core, 0, Command::End)?;
-    let done = take_done(alloc, &mut core, 0)?;
+    fail_with_a_job_out(alloc, &mut core)
+}
+
+/// Queues an `end`. The core fails while worker 0 is at the Begin of the first command.
+fn fail_with_a_job_out(alloc: Global, core: &mut Core<CAP>) -> Result<(), Fail> {
+    hand(alloc, core, 0, Command::End)?;
+    let done = take_done(alloc, core, 0)?;
+    fail(core)?;
+    check_failed(alloc, core, 0)?;
+    check_failed(alloc, core, 1)?;
+    put(core, 0, done)?;
+    check_replies(core, 1)?;
+    check_failed(alloc, core, 0)
+}
+
+fn fail(core: &mut Core<CAP>) -> Result<(), Fail> {
     holds("not failed", !core.has_failed())?;
     core.fail();
-    holds("failed", core.has_failed())?;
-    check_failed(alloc, &mut core, 0)?;
-    check_failed(alloc, &mut core, 1)?;
-    put(&mut core, 0, done)?;
-    same("replies", read_all(&core)?.replies, 1)?;
-    check_failed(alloc, &mut core, 0)
+    holds("failed", core.has_failed())
 }

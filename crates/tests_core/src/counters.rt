@@ -88,7 +88,7 @@ fn the_last_of_four_parts_gets_all_values(rt: HostRuntime) -> Result<(), Fail> {
     same("values", values.as_slice(), [10, 11, 12, 13].as_slice())
 }
 
-/// Finishes each key on a thread of its own, and counts the threads whose part was the last.
+/// Finishes each key on a separate thread, and counts the threads whose part was the last.
 fn count_last<R: Threads + Sync>(rt: &R, keys: Vec<PartKey<Piece>>) -> Result<usize, AllocError> {
     let told = thread::map_vec(
         rt,

@@ -1,7 +1,8 @@
-//! Two games in one core, by calls that are drawn from a fixed seed, compared with each of them in
-//! a core of its own.
+//! Two games in one core, by calls that are drawn from a fixed seed. Each game is compared with the
+//! same game in a core for it alone.
 use crate::player::{CAP, Worked, complete, hand, take_worked};
 use bs_board::{Command, Direction};
+use bs_fiber::JobName;
 use bs_samples::{holds, new_of_three, new_solo, plan_of, same, straight_on, third_goes};
 use bs_sched::Core;
 use std::alloc::Global;
@@ -93,18 +94,29 @@ fn take_next(alloc: Global, hosts: &mut Hosts, worker: usize) -> Result<(), Fail
         return Ok(());
     };
     let job = shared.done.ticket().job();
-    let core = hosts.lone.get_mut(job.game as usize).ok_or("a game")?;
-    let lone = take_worked(alloc, core, worker)?.ok_or("no such job alone")?;
-    let own = lone.done.ticket().job();
-    same("kind", own.kind, job.kind)?;
-    same("part", own.part, job.part)?;
+    let game = job.game as usize;
+    let lone = take_alone(alloc, hosts, worker, job)?;
     hosts.out.push(Out {
         worker,
-        game: job.game as usize,
+        game,
         shared,
         lone,
     })?;
     Ok(())
+}
+
+/// Takes the same job in the core of its game alone.
+fn take_alone(
+    alloc: Global,
+    hosts: &mut Hosts,
+    worker: usize,
+    job: JobName,
+) -> Result<Worked, Fail> {
+    let core = hosts.lone.get_mut(job.game as usize).ok_or("a game")?;
+    let lone = take_worked(alloc, core, worker)?.ok_or("no such job alone")?;
+    let own = lone.done.ticket().job();
+    same("kind and part", (own.kind, own.part), (job.kind, job.part))?;
+    Ok(lone)
 }
 
 fn put_next(hosts: &mut Hosts, place: usize) -> Result<(), Fail> {

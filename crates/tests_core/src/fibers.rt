@@ -9,8 +9,10 @@ use bs_board::{
 };
 use bs_fiber::{
     Contents, Done, Expected, Handed, Handles, Input, JobKind, JobName, Moved, Out, SharedCommand,
+    Ticket,
 };
 use bs_game::{Answer, Effect};
+use bs_pool::Owned;
 use bs_samples::{board, cells, holds, new_of_three, same, snake, third_goes};
 use bs_sched::Core;
 use std::alloc::{AllocError, Global};
@@ -59,10 +61,15 @@ fn third_goes_down(alloc: Global) -> Result<Command, Fail> {
 /// Opens a core whose second game is at the board `before` and has that command queued.
 fn core_at(alloc: Global, command: Command) -> Result<Core<CAP>, Fail> {
     let mut core = core_of(alloc, &[("a", 64), ("b", 4096)], 12)?;
-    hand(alloc, &mut core, GAME, new_of_three(alloc)?)?;
-    play_one(alloc, &mut core, 1)?;
+    start(alloc, &mut core)?;
     hand(alloc, &mut core, GAME, command)?;
     Ok(core)
+}
+
+/// Plays the `new` of the second game.
+fn start(alloc: Global, core: &mut Core<CAP>) -> Result<(), Fail> {
+    hand(alloc, core, GAME, new_of_three(alloc)?)?;
+    play_one(alloc, core, 1)
 }
 
 /// Runs the Begin of a move of the third snake.
@@ -71,21 +78,29 @@ fn begun(alloc: Global) -> Result<Done<CAP>, Fail> {
     take_done(alloc, &mut core, 1)
 }
 
-#[test]
-fn begin_lets_the_move_go(rt: HostRuntime) -> Result<(), Fail> {
-    let alloc = rt.alloc();
-    let done = begun(alloc)?;
-    holds("the move goes", matches!(done.out(), Out::Goes))?;
-    let ticket = done.ticket();
+/// Checks the numbers of the ticket of a Begin.
+fn check_numbers(ticket: &Ticket<CAP>) -> Result<(), Fail> {
     same("job", ticket.job(), job(JobKind::Begin, 0))?;
     same("worker", ticket.worker(), 1)?;
     same("number of the command", ticket.seq(), 2)?;
     same("quota", ticket.quota(), 4096)?;
     same("charge", ticket.charge(), 64)?;
-    same("kept records", ticket.kept(), 1)?;
+    same("kept records", ticket.kept(), 1)
+}
+
+/// Checks what else is in the ticket of a move.
+fn check_seen(ticket: &Ticket<CAP>) -> Result<(), Fail> {
     holds("a newest board", ticket.last().is_some())?;
     holds("no turn asked for", ticket.asked().is_none())?;
     holds("a move", matches!(ticket.command(), Command::Move(_)))
+}
+
+#[test]
+fn begin_lets_the_move_go(rt: HostRuntime) -> Result<(), Fail> {
+    let done = begun(rt.alloc())?;
+    holds("the move goes", matches!(done.out(), Out::Goes))?;
+    check_numbers(done.ticket())?;
+    check_seen(done.ticket())
 }
 
 fn kept_of(alloc: Global, board: &Board) -> Result<Record, Fail> {
@@ -108,6 +123,11 @@ fn expected<'a>(record: &'a Record, command: &'a SharedCommand) -> Expected<'a> 
     }
 }
 
+/// Whether the ticket is that of the Begin of the command.
+fn is_of(ticket: &Ticket<CAP>, record: &Record, command: &SharedCommand) -> bool {
+    ticket.is_of(&expected(record, command))
+}
+
 #[test]
 fn a_ticket_is_of_its_own_command(rt: HostRuntime) -> Result<(), Fail> {
     let alloc = rt.alloc();
@@ -115,10 +135,12 @@ fn a_ticket_is_of_its_own_command(rt: HostRuntime) -> Result<(), Fail> {
     let record = kept_of(alloc, &before(alloc)?)?;
     let moved = SharedCommand::new(alloc, third_goes_down(alloc)?)?;
     let show = SharedCommand::new(alloc, Command::Show)?;
-    let is_of_move = done.ticket().is_of(&expected(&record, &moved));
-    holds("the ticket of a move", is_of_move)?;
-    let is_of_show = done.ticket().is_of(&expected(&record, &show));
-    holds("no ticket of another command", !is_of_show)
+    let ticket = done.ticket();
+    holds("the ticket of a move", is_of(ticket, &record, &moved))?;
+    holds(
+        "no ticket of another command",
+        !is_of(ticket, &record, &show),
+    )
 }
 
 /// Checks the numbers of the input, and the lengths of its records.
@@ -187,13 +209,32 @@ fn a_handed_move_has_a_handle(rt: HostRuntime) -> Result<(), Fail> {
     let alloc = rt.alloc();
     let moved = SharedCommand::new(alloc, third_goes_down(alloc)?)?;
     let mut handed = Handed::new(&moved)?;
-    same("turn asked for", handed.asks(), None)?;
-    holds("a move", handed.is_move())?;
-    holds("the command", handed.shared().get().is_same(moved.get()))?;
+    check_handed(&handed, moved.get(), None, true)?;
     let handle = handed.take_handle().ok_or("a handle")?;
-    holds("a handle to it", handle.get().is_same(moved.get()))?;
-    holds("one handle", handed.take_handle().is_none())?;
+    check_shares(&handle, moved.get())?;
+    check_no_handle(&mut handed)?;
     holds("still a move", handed.is_move())
+}
+
+/// Checks that it is a handle to the command.
+fn check_shares(handle: &SharedCommand, command: &Command) -> Result<(), Fail> {
+    holds("a handle to it", handle.get().is_same(command))
+}
+
+/// Checks the queued command, the turn that it asks for, and whether it is a move.
+fn check_handed(
+    handed: &Handed,
+    command: &Command,
+    asks: Option<TurnNumber>,
+    is_move: bool,
+) -> Result<(), Fail> {
+    same("turn asked for", handed.asks(), asks)?;
+    same("a move", handed.is_move(), is_move)?;
+    check_shares(handed.shared(), command)
+}
+
+fn check_no_handle(handed: &mut Handed) -> Result<(), Fail> {
+    holds("no handle", handed.take_handle().is_none())
 }
 
 /// A queued `turn` has the turn that it names, and no handle.
@@ -203,11 +244,10 @@ fn a_handed_turn_has_its_number(rt: HostRuntime) -> Result<(), Fail> {
     let at = TurnNumber::new(7).ok_or("a turn")?;
     let turn = SharedCommand::new(alloc, Command::Turn(at))?;
     let (mut handed, noted) = Handles::new(&turn)?.into_parts();
-    same("turn asked for", handed.asks(), Some(at))?;
-    holds("no move", !handed.is_move())?;
-    holds("no handle", handed.take_handle().is_none())?;
-    holds("the game's", handed.shared().get().is_same(turn.get()))?;
-    holds("the journal's", noted.get().is_same(turn.get()))
+    check_handed(&handed, turn.get(), Some(at), false)?;
+    check_no_handle(&mut handed)?;
+    check_shares(handed.shared(), turn.get())?;
+    check_shares(&noted, turn.get())
 }
 
 #[test]
@@ -215,12 +255,17 @@ fn begin_answers_show(rt: HostRuntime) -> Result<(), Fail> {
     let alloc = rt.alloc();
     let mut core = core_at(alloc, Command::Show)?;
     let (_, out) = take_done(alloc, &mut core, 1)?.into_parts();
+    check_answered(alloc, &out)
+}
+
+/// Checks that the answer shows the first board and keeps the records.
+fn check_answered(alloc: Global, out: &Out) -> Result<(), Fail> {
     let Out::Answered(
         Answer {
             reply: Reply::Shown(Word::Show, shown, 64),
             effect: Effect::Keep,
         },
-    ) = &out
+    ) = out
     else {
         return Err(Fail::from("not shown"));
     };
@@ -242,25 +287,32 @@ fn moved_by(done: &Done<CAP>) -> Result<&Moved, Fail> {
     }
 }
 
-/// Checks that the first part moved two snakes and wrote them into its block.
-fn check_first(done: &Done<CAP>) -> Result<(), Fail> {
+/// Returns the only block of the part.
+fn block_of(done: &Done<CAP>) -> Result<&Owned<CAP>, Fail> {
+    match done.ticket().frames() {
+        [owned] => Ok(owned),
+        _ => Err(Fail::from("not one block")),
+    }
+}
+
+/// Checks that the first part moved two snakes.
+fn check_two_moved(done: &Done<CAP>) -> Result<(), Fail> {
     let moved = moved_by(done)?;
     same("pieces", moved.pieces().len(), 2)?;
     let [s, t] = moved.as_slice() else {
         return Err(Fail::from("not two snakes"));
     };
     check_snake(s, 99, Point { x: 1, y: 2 }, 3)?;
-    check_snake(t, 99, Point { x: 5, y: 2 }, 3)?;
-    let [owned] = done.ticket().frames() else {
-        return Err(Fail::from("not one block"));
-    };
-    holds("32 bytes", owned.block().len() == 32)?;
-    let wanted = [1, 115, 99, 0, 0, 0, 0, 0, 3, 2, 3, 2, 2, 2, 2];
-    same(
-        "the first snake",
-        owned.block().get(0, 15),
-        wanted.as_slice(),
-    )
+    check_snake(t, 99, Point { x: 5, y: 2 }, 3)
+}
+
+const MOVED: [u8; 15] = [1, 115, 99, 0, 0, 0, 0, 0, 3, 2, 3, 2, 2, 2, 2];
+
+/// Checks that the first part wrote its two snakes into its block.
+fn check_written(owned: &Owned<CAP>) -> Result<(), Fail> {
+    let block = owned.block();
+    holds("32 bytes", block.len() == 32)?;
+    same("the first snake", block.get(0, 15), MOVED.as_slice())
 }
 
 /// Checks that the second part moved one snake and wrote it into its block.
@@ -269,22 +321,17 @@ fn check_second(done: &Done<CAP>) -> Result<(), Fail> {
         return Err(Fail::from("not one snake"));
     };
     check_snake(u, 99, Point { x: 3, y: 4 }, 3)?;
-    let [owned] = done.ticket().frames() else {
-        return Err(Fail::from("not one block"));
-    };
-    same("bytes of a snake", owned.block().len(), 16)
+    same("bytes of a snake", block_of(done)?.block().len(), 16)
 }
 
 /// Runs both parts of the move. Returns the completed parts, and the number of part 0's block.
 fn both_parts(alloc: Global, core: &mut Core<CAP>) -> Result<(DoneParts, usize), Fail> {
     let (first, first_key) = take_part(alloc, core, 1)?;
     let (second, second_key) = take_part(alloc, core, 1)?;
-    check_first(&first)?;
+    check_two_moved(&first)?;
+    check_written(block_of(&first)?)?;
     check_second(&second)?;
-    let [owned] = first.ticket().frames() else {
-        return Err(Fail::from("not one block"));
-    };
-    let number = owned.number();
+    let number = block_of(&first)?.number();
     holds("one part is missing", finish(first_key, first)?.is_none())?;
     let parts = finish(second_key, second)?.ok_or("the last part")?;
     Ok((parts, number))
@@ -320,17 +367,31 @@ fn check_added(alloc: Global, done: &Done<CAP>, number: usize) -> Result<(), Fai
     same("bytes of part 1", second.block().len(), 16)
 }
 
+fn check_join(ticket: &Ticket<CAP>) -> Result<(), Fail> {
+    same("job", ticket.job(), job(JobKind::Join, 0))?;
+    same("parts", ticket.parts().len(), 2)
+}
+
 #[test]
 fn two_parts_are_joined(rt: HostRuntime) -> Result<(), Fail> {
     let alloc = rt.alloc();
     let mut core = core_at(alloc, third_goes_down(alloc)?)?;
-    play_one(alloc, &mut core, 1)?;
-    let (parts, number) = both_parts(alloc, &mut core)?;
-    put_parts(&mut core, parts)?;
+    let number = play_parts(alloc, &mut core)?;
     let done = take_done(alloc, &mut core, 1)?;
-    same("job", done.ticket().job(), job(JobKind::Join, 0))?;
-    same("parts", done.ticket().parts().len(), 2)?;
-    check_joined(alloc, done.out())?;
-    check_added(alloc, &done, number)?;
+    check_done_join(alloc, &done, number)?;
     put(&mut core, 1, done)
+}
+
+/// Plays the move up to its Join. Returns the number of part 0's block.
+fn play_parts(alloc: Global, core: &mut Core<CAP>) -> Result<usize, Fail> {
+    play_one(alloc, core, 1)?;
+    let (parts, number) = both_parts(alloc, core)?;
+    put_parts(core, parts)?;
+    Ok(number)
+}
+
+fn check_done_join(alloc: Global, done: &Done<CAP>, number: usize) -> Result<(), Fail> {
+    check_join(done.ticket())?;
+    check_joined(alloc, done.out())?;
+    check_added(alloc, done, number)
 }

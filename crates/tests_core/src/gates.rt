@@ -1,4 +1,4 @@
-//! The gate of a run: for which jobs it is consulted, and how a run ends if it refuses one.
+//! The `Gate` of a run: for which jobs it is consulted, and how a run ends if it refuses one.
 use crate::coming::coming_and_going;
 use crate::runs::{TWO, commands, run_with};
 use bs_fiber::{JobKind, JobName};
@@ -34,7 +34,7 @@ fn check_refused<R: Threads + Wait + Sync + AllocGlobal>(
     Ok(())
 }
 
-/// A gate that refuses a Begin, a part or a Join stops the run.
+/// A `Gate` that refuses a Begin, a part or a Join stops the run.
 #[test]
 fn a_shut_gate_breaks_the_run(rt: HostRuntime) -> Result<(), Fail> {
     let acts = commands(rt.alloc())?;
@@ -99,7 +99,7 @@ fn check_noted(
     same("jobs too many", noted.len(), 0)
 }
 
-/// The gate is consulted once for each job, by the thread that takes it.
+/// The `Gate` is consulted once for each job, by the thread that takes it.
 #[test]
 fn the_gate_is_asked_about_each_job(rt: HostRuntime) -> Result<(), Fail> {
     let acts = commands(rt.alloc())?;

@@ -1,8 +1,10 @@
 //! Plays the jobs of a core one by one: a worker takes, runs and completes each.
+ghost use Rattle.bs_fiber.specs.Tickets.{IsFresh};
+
 use arrayvec::ArrayVec;
 use bs_board::Command;
 use bs_counter::{Finish, PartKey, Parted};
-use bs_fiber::{Done, work};
+use bs_fiber::{Done, Ticket, work};
 use bs_samples::{holds, plan_of};
 use bs_sched::{Core, Taken};
 use std::alloc::Global;
@@ -56,18 +58,23 @@ pub(crate) fn take_worked(
 ) -> Result<Option<Worked>, Fail> {
     holds("the worker is there", worker <= core.workers())?;
     match core.take(alloc, worker)? {
-        Taken::Job(ticket) => Ok(Some(Worked {
-            done: work(alloc, ticket)?,
-            key: None,
-        })),
-        Taken::Part(ticket, key) => Ok(Some(Worked {
-            done: work(alloc, ticket)?,
-            key: Some(key),
-        })),
-        Taken::Busy => Ok(None),
-        Taken::Nothing => Ok(None),
+        Taken::Job(ticket) => run_job(alloc, ticket, None),
+        Taken::Part(ticket, key) => run_job(alloc, ticket, Some(key)),
         Taken::Failed => Err(Fail::from("failed")),
+        _ => Ok(None),
     }
+}
+
+/// Runs the job of a fresh ticket.
+fn run_job(
+    alloc: Global,
+    ticket: Ticket<CAP>,
+    key: Option<PartKey<Done<CAP>>>,
+) -> Result<Option<Worked>, Fail>
+    requires { IsFresh ticket }
+{
+    let done = work(alloc, ticket)?;
+    Ok(Some(Worked { done, key }))
 }
 
 /// Takes a Begin or Join as that worker and runs it.

@@ -50,12 +50,18 @@ pub(crate) fn commands(alloc: Global) -> Result<Vec<Act>, Fail> {
         push(alloc, &mut acts, game, new_of_three(alloc)?)?;
     }
     push_moves(alloc, &mut acts)?;
-    let turn = TurnNumber::new(1).ok_or("a turn")?;
-    push(alloc, &mut acts, 0, Command::Turn(turn))?;
-    push(alloc, &mut acts, 1, Command::End)?;
-    push(alloc, &mut acts, 1, Command::Show)?;
-    push(alloc, &mut acts, 0, Command::Bad)?;
+    push_others(alloc, &mut acts)?;
     Ok(acts)
+}
+
+/// Adds two commands for each game after its moves.
+fn push_others(alloc: Global, acts: &mut Vec<Act>) -> Result<(), Fail> {
+    let turn = TurnNumber::new(1).ok_or("a turn")?;
+    push(alloc, acts, 0, Command::Turn(turn))?;
+    push(alloc, acts, 1, Command::End)?;
+    push(alloc, acts, 1, Command::Show)?;
+    push(alloc, acts, 0, Command::Bad)?;
+    Ok(())
 }
 
 /// Runs the acts in a core of those games with six blocks for each, on that many threads.

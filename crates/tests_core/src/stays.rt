@@ -65,34 +65,47 @@ fn check_turn(alloc: Global, core: &Core<CAP>, game: usize, turn: Option<u16>) -
     same("turn", board.as_ref().map(|board| board.turn), turn)
 }
 
-/// Opens a core to which a second stay was admitted, in which it played and which it left.
-fn core_left_by_b(alloc: Global) -> Result<Core<CAP>, Fail> {
-    let mut core = core_with_a(alloc)?;
-    check_admit(alloc, &mut core, "b", Ok(1))?;
-    let short = Admit::Short { free_to_reserve: 0 };
-    check_admit(alloc, &mut core, "c", Err(short))?;
-    same("rows", core.rows(), 2)?;
+/// Checks the number of stays that were ever open.
+fn check_rows(core: &Core<CAP>, rows: usize) -> Result<(), Fail> {
+    same("rows", core.rows(), rows)
+}
 
-    hand(alloc, &mut core, 1, new_solo(alloc, 3)?)?;
-    check_leave(alloc, &mut core, 1, Err(Leave::Busy))?;
-    play_one(alloc, &mut core, 0)?;
-    check_free(&core, BLOCKS - 1)?;
-    check_leave(alloc, &mut core, 1, Ok(()))?;
-    check_free(&core, BLOCKS)?;
-    Ok(core)
+/// Admits `b`, after which there are no blocks for another stay.
+fn admit_b(alloc: Global, core: &mut Core<CAP>) -> Result<(), Fail> {
+    check_admit(alloc, core, "b", Ok(1))?;
+    let short = Admit::Short { free_to_reserve: 0 };
+    check_admit(alloc, core, "c", Err(short))?;
+    check_rows(core, 2)
+}
+
+/// Plays a command in `b`, which leaves once it is answered.
+fn play_and_leave(alloc: Global, core: &mut Core<CAP>) -> Result<(), Fail> {
+    hand(alloc, core, 1, new_solo(alloc, 3)?)?;
+    check_leave(alloc, core, 1, Err(Leave::Busy))?;
+    play_one(alloc, core, 0)?;
+    check_free(core, BLOCKS - 1)?;
+    check_leave(alloc, core, 1, Ok(()))?;
+    check_free(core, BLOCKS)
+}
+
+/// Admits `c` once `b` has left.
+fn admit_c(alloc: Global, core: &mut Core<CAP>) -> Result<(), Fail> {
+    check_admit(alloc, core, "c", Ok(2))?;
+    check_leave(alloc, core, 1, Err(Leave::Closed))?;
+    check_turn(alloc, core, 1, Some(0))?;
+    check_rows(core, 3)?;
+    check_stay(core, 1, false, 32, 1)?;
+    check_stay(core, 2, true, 0, 0)?;
+    check_admit(alloc, core, "c", Err(Admit::NameOpen))
 }
 
 #[test]
 fn a_stay_comes_and_goes(rt: HostRuntime) -> Result<(), Fail> {
     let alloc = rt.alloc();
-    let mut core = core_left_by_b(alloc)?;
-    check_admit(alloc, &mut core, "c", Ok(2))?;
-    check_leave(alloc, &mut core, 1, Err(Leave::Closed))?;
-    check_turn(alloc, &core, 1, Some(0))?;
-    same("rows", core.rows(), 3)?;
-    check_stay(&core, 1, false, 32, 1)?;
-    check_stay(&core, 2, true, 0, 0)?;
-    check_admit(alloc, &mut core, "c", Err(Admit::NameOpen))?;
+    let mut core = core_with_a(alloc)?;
+    admit_b(alloc, &mut core)?;
+    play_and_leave(alloc, &mut core)?;
+    admit_c(alloc, &mut core)?;
     // Three admissions and leaves; one command was queued, and its job taken and completed.
     same("events", core.journal().len(), 6)
 }
@@ -112,21 +125,36 @@ fn check_no_game(core: &Core<CAP>, game: usize) -> Result<(), Fail> {
 fn a_name_comes_again(rt: HostRuntime) -> Result<(), Fail> {
     let alloc = rt.alloc();
     let mut core = core_with_a(alloc)?;
-    hand(alloc, &mut core, 0, new_solo(alloc, 5)?)?;
-    play_one(alloc, &mut core, 0)?;
-    check_leave(alloc, &mut core, 0, Ok(()))?;
-    check_admit(alloc, &mut core, "a", Ok(1))?;
-    hand(alloc, &mut core, 1, Command::Show)?;
-    play_one(alloc, &mut core, 0)?;
-    same("rows", core.rows(), 2)?;
-    check_stay(&core, 0, false, 32, 1)?;
-    check_stay(&core, 1, true, 0, 1)?;
-    check_turn(alloc, &core, 1, None)?;
-    check_no_game(&core, 1)?;
+    play_again(alloc, &mut core)?;
+    check_again(alloc, &core)?;
     core.fail();
-    check_leave(alloc, &mut core, 1, Ok(()))?;
-    check_admit(alloc, &mut core, "b", Ok(2))?;
-    check_free(&core, BLOCKS)
+    leave_again(alloc, &mut core)
+}
+
+/// Plays a command in `a`, which leaves and is admitted again, and one in the second stay.
+fn play_again(alloc: Global, core: &mut Core<CAP>) -> Result<(), Fail> {
+    hand(alloc, core, 0, new_solo(alloc, 5)?)?;
+    play_one(alloc, core, 0)?;
+    check_leave(alloc, core, 0, Ok(()))?;
+    check_admit(alloc, core, "a", Ok(1))?;
+    hand(alloc, core, 1, Command::Show)?;
+    play_one(alloc, core, 0)
+}
+
+/// Checks that the second stay of `a` has nothing of the first.
+fn check_again(alloc: Global, core: &Core<CAP>) -> Result<(), Fail> {
+    check_rows(core, 2)?;
+    check_stay(core, 0, false, 32, 1)?;
+    check_stay(core, 1, true, 0, 1)?;
+    check_turn(alloc, core, 1, None)?;
+    check_no_game(core, 1)
+}
+
+/// Leaves the second stay of `a`, and admits another one.
+fn leave_again(alloc: Global, core: &mut Core<CAP>) -> Result<(), Fail> {
+    check_leave(alloc, core, 1, Ok(()))?;
+    check_admit(alloc, core, "b", Ok(2))?;
+    check_free(core, BLOCKS)
 }
 
 /// At most 64 stays are open: the next one is refused, and admitted once another has left.
@@ -134,12 +162,23 @@ fn a_name_comes_again(rt: HostRuntime) -> Result<(), Fail> {
 fn sixty_four_are_open(rt: HostRuntime) -> Result<(), Fail> {
     let alloc = rt.alloc();
     let mut core = core_of(alloc, &[("a", 64)], 64 * 6 + 6)?;
+    fill(alloc, &mut core)?;
+    check_full(alloc, &mut core)
+}
+
+/// Admits 63 stays.
+fn fill(alloc: Global, core: &mut Core<CAP>) -> Result<(), Fail> {
     for number in 1..64 {
         let name = format!(in alloc; "n{number}")?;
-        check_admit(alloc, &mut core, name.as_str(), Ok(number))?;
+        check_admit(alloc, core, name.as_str(), Ok(number))?;
     }
-    check_admit(alloc, &mut core, "a", Err(Admit::NameOpen))?;
-    check_admit(alloc, &mut core, "more", Err(Admit::Full))?;
-    check_leave(alloc, &mut core, 7, Ok(()))?;
-    check_admit(alloc, &mut core, "more", Ok(64))
+    Ok(())
+}
+
+/// Checks that no stay is admitted to a core of 64 stays until one leaves.
+fn check_full(alloc: Global, core: &mut Core<CAP>) -> Result<(), Fail> {
+    check_admit(alloc, core, "a", Err(Admit::NameOpen))?;
+    check_admit(alloc, core, "more", Err(Admit::Full))?;
+    check_leave(alloc, core, 7, Ok(()))?;
+    check_admit(alloc, core, "more", Ok(64))
 }

@@ -84,8 +84,8 @@ fn check_pairs(alloc: Global, core: &Core<CAP>, alone: &str) -> Result<(), Fail>
     Ok(())
 }
 
-/// Each pair of sixteen games is answered as it is alone, also when there are fewer workers than
-/// threads or no multiple of them.
+/// Each pair of sixteen games is answered as it is alone, also if the number of workers is below
+/// the number of threads, or no multiple of it.
 #[test]
 fn threads_with_batches_give_the_same_replies(rt: HostRuntime) -> Result<(), Fail> {
     let alone = replies_by(&rt, 1)?;
@@ -141,13 +141,23 @@ fn check_journal(journal: &[Event], acts: &[Act]) -> Result<(), Fail> {
 fn a_run_has_its_plan_and_commands(rt: HostRuntime) -> Result<(), Fail> {
     let acts = commands(rt.alloc())?;
     let core = run_games(&rt, &TWO, acts.as_slice(), 2, &OpenGate)??;
+    check_state(&core)?;
+    check_names(&core)?;
+    check_journal(core.journal(), acts.as_slice())
+}
+
+/// Checks a core of twelve blocks after its run.
+fn check_state(core: &Core<CAP>) -> Result<(), Fail> {
     same("blocks", core.counts().size, 12)?;
     holds("not failed", !core.has_failed())?;
-    holds("quiet", core.is_quiet())?;
+    holds("quiet", core.is_quiet())
+}
+
+/// Checks the names of both games.
+fn check_names(core: &Core<CAP>) -> Result<(), Fail> {
     holds("two games", core.rows() == 2)?;
     same("first game", core.row(0).game.as_str(), "a")?;
-    same("second game", core.row(1).game.as_str(), "b")?;
-    check_journal(core.journal(), acts.as_slice())
+    same("second game", core.row(1).game.as_str(), "b")
 }
 
 /// Delays the parts until two are out.
@@ -194,7 +204,7 @@ fn two_threads_are_at_one_move(rt: HostRuntime) -> Result<(), Fail> {
     holds("part 1", gate.second.load(SeqCst))
 }
 
-/// Delays the jobs until that many threads are at one.
+/// Delays the jobs until `wanted` threads have begun one.
 #[derive(Drop)]
 struct Together {
     wanted: usize,
@@ -240,7 +250,7 @@ impl Gate for Together {
     }
 }
 
-/// As many threads work as were requested, each with a number of its own.
+/// As many threads work as were requested, each with another number.
 #[test]
 fn as_many_threads_work_as_are_asked(rt: HostRuntime) -> Result<(), Fail> {
     let alloc = rt.alloc();

@@ -24,7 +24,7 @@ const KINDS: [Option<ErrorKind>; 4] = [
     None,
 ];
 
-// The fault of a writer that fails after that many bytes of the text.
+// How serving ends with a writer that fails after `place` bytes of the text.
 fn fault_after(alloc: Global, place: usize) -> Result<String, AllocError> {
     if place < SOLO_TEXT.len() {
         format!(in alloc; "write failed after {place} bytes")

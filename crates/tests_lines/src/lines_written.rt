@@ -1,8 +1,8 @@
 //! The lines of replies, final boards and strays.
 use bs_board::{Board, Cause, Id, KeptBoard, Mode, Refusal, Reply, Snake, Snakes, Word, is_legal};
 use bs_json::{
-    Stray, TextBuffer, board_value, final_line, push_final_line, push_reply_line, push_stray_line,
-    reply_line, stray_line,
+    Stray, TextBuffer, board_value, final_line, final_line_bound, push_final_line, push_reply_line,
+    push_stray_line, reply_line, reply_line_bound, stray_line, stray_line_bound,
 };
 use bs_samples::{cells, holds, same, snake, solo_after};
 use std::alloc::{AllocError, Global};
@@ -29,7 +29,7 @@ fn push_lines(game: &Id, replies: &[(u64, Reply)], text: &mut TextBuffer) {
     }
 }
 
-// The same lines, counted and then pushed behind each other.
+// The same lines, counted first and then pushed one after the other.
 fn pushed_lines_of(
     alloc: Global,
     game: &Id,
@@ -107,7 +107,7 @@ fn a_last_board_is_written(rt: HostRuntime) -> Result<(), Fail> {
     is_text("pushed", pushed_final(alloc, &game, None, 0)?, NO_BOARD)
 }
 
-// A final line that is pushed behind nothing, into ample room.
+// Makes a final line in an empty buffer with ample room.
 fn pushed_final(
     alloc: Global,
     game: &Id,
@@ -253,6 +253,29 @@ fn strays_are_written(rt: HostRuntime) -> Result<(), Fail> {
     }
     is_text("strays", text, STRAYS)?;
     is_text("pushed strays", pushed.into_vec(), STRAYS)
+}
+
+/// A line has at most 246 bytes, 6 for each byte of the game's name, 10 for the charge, and for a
+/// board 16,384 and 10 for each byte of its record, here 26.
+#[test]
+fn lines_are_bounded(rt: HostRuntime) -> Result<(), Fail> {
+    let alloc = rt.alloc();
+    let game = Id::from_str(alloc, "solo")?;
+    let board = solo_after(alloc, 3, 0)?;
+    holds("the board is legal", is_legal(&board))?;
+    let board = KeptBoard::of(alloc, &board)?;
+    let last = final_line_bound(&game, Some(&board), 4);
+    same("a final line", last, Some(16_924))?;
+    let none = final_line_bound(&game, None, 4);
+    same("a final line without a board", none, Some(284))?;
+    let shown = Reply::Shown(Word::Show, board, 4);
+    let shown = reply_line_bound(&game, 1, &shown);
+    same("a board", shown, Some(16_924))?;
+    let plain = reply_line_bound(&game, 1, &Reply::Plain(Word::End, 4));
+    same("no board", plain, Some(280))?;
+    let refused = reply_line_bound(&game, 1, &Reply::Refused(Refusal::Over));
+    same("a refusal", refused, Some(270))?;
+    same("a stray line", stray_line_bound(2, Stray::Json), 256)
 }
 
 // Of the control characters five have a short escape; a delete, a slash and what is not ASCII have

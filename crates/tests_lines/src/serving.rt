@@ -39,7 +39,7 @@ pub fn outcome<R: Threads + Wait + Sync, G: Gate, W: Write>(
     }
 }
 
-/// Returns the transcript of a file that is served, whose jobs the gate lets pass.
+/// Returns the transcript of a file that is served with this `Gate`, which lets all jobs pass.
 pub fn transcript<R: Threads + Wait + Sync, G: Gate>(
     rt: &R,
     alloc: Global,

@@ -122,7 +122,7 @@ fn stays_and_their_cuts(rt: HostRuntime) -> Result<(), Fail> {
     Ok(())
 }
 
-// A cut is cut to itself. In earlier versions no number of blocks is too small.
+// The cut of a cut is the cut itself. In earlier versions no number of blocks is too small.
 #[test]
 fn cuts_of_cuts_and_of_earlier_versions(rt: HostRuntime) -> Result<(), Fail> {
     let alloc = rt.alloc();

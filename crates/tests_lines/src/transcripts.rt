@@ -76,7 +76,7 @@ fn sections_and_strays(rt: HostRuntime) -> Result<(), Fail> {
     same("no section", text(alloc, &[], &[])?.len(), 0)
 }
 
-// What a writer that takes everything has of a transcript with these sections and the two strays.
+// Writes the transcript of these sections and the two strays to a vector.
 fn written(alloc: Global, sections: &[Section<'_>]) -> Result<Vec<u8>, AllocError> {
     let mut output = Vec::new(alloc);
     match write_transcript(alloc, sections, &STRAYS, &mut output) {
@@ -85,7 +85,7 @@ fn written(alloc: Global, sections: &[Section<'_>]) -> Result<Vec<u8>, AllocErro
     }
 }
 
-// The same text, written; and nothing where there is no line.
+// What is written is the same text; if there is no line, nothing is written.
 #[test]
 fn sections_and_strays_are_written(rt: HostRuntime) -> Result<(), Fail> {
     let alloc = rt.alloc();
@@ -199,7 +199,7 @@ fn writers_that_fail_have_a_prefix(rt: HostRuntime) -> Result<(), Fail> {
     Ok(())
 }
 
-// The fault of a writer. Want of memory is another error.
+// The fault of the writer. Running out of memory is another error.
 fn as_write_fault(told: Result<(), TranscriptFault>) -> Result<Result<(), WriteFault>, AllocError> {
     match told {
         Ok(()) => Ok(Ok(())),
@@ -219,7 +219,8 @@ fn is_transcript_cut_off(
     is_cut_off(told, output.taken.as_slice(), whole, room)
 }
 
-// The same of a transcript, which is written through a buffer.
+// The same for a whole transcript, which goes through a buffer: the fault counts the bytes that the
+// writer took, a prefix of the text.
 #[test]
 fn transcripts_that_fail_have_a_prefix(rt: HostRuntime) -> Result<(), Fail> {
     let alloc = rt.alloc();

@@ -131,7 +131,7 @@ impl Gate for ShutGate {
     }
 }
 
-// A run that the gate stops writes nothing. If there is no job, the gate is not consulted.
+// A run that its `Gate` stops writes nothing. If there is no job, the `Gate` is not consulted.
 #[test]
 fn runs_that_are_broken_off(rt: HostRuntime) -> Result<(), Fail> {
     let alloc = rt.alloc();

@@ -65,7 +65,7 @@ fn writers_that_fail(rt: HostRuntime) -> Result<(), Fail> {
     Ok(())
 }
 
-// Each line comes in a read of its own, so each failing flush is that of one more line's answer.
+// Each line is read alone, so each flush writes the answer to one line.
 #[test]
 fn flushes_that_fail(rt: HostRuntime) -> Result<(), Fail> {
     let alloc = rt.alloc();

@@ -1,5 +1,5 @@
 -- One snake's bytes: what is read is what is written so, and what is written is read again.
-use Rattle.std.proofs.Common.{◌≡◌, ℕ, ◌+◌, ◌<◌, ◌≤◌, Bool, true, cond, List, [], ◌∷◌, ◌++◌, length, take, All, MatchOption, Option, Some, None, refl, sym, ap, subst, ◌∙◌, arith}
+use Rattle.std.proofs.Common.{◌≡◌, ℕ, ◌+◌, ◌<◌, ◌≤◌, Bool, true, cond, List, [], ◌++◌, length, MatchOption, Option, Some, None, refl, sym, ap, subst, ◌∙◌, arith}
 use Rattle.std.specs.Prelude.{nat_eq, Result, Ok, Err, IfOk, MatchResult}
 use Rattle.std.specs.Str.{is_utf8}
 use Rattle.std.proofs.lemmas.Bool.{eqb-true}
@@ -11,7 +11,7 @@ use Rattle.bs_board.specs.declared.limits.TheConstants.{LONGEST_SIDE}
 use Rattle.bs_board.specs.declared.records.decode_error.Decode.{Decode}
 use Rattle.bs_board.specs.declared.records.decode_error.Decode.TheVariants.{NotARecord, Memory}
 use Rattle.bs_board.specs.boards.Legal.{is_near}
-use Rattle.bs_board.specs.records.Decoder.{◌>>=◌, Fails, read_snake, read_only_snake}
+use Rattle.bs_board.specs.records.Decoder.{Fails, read_snake, read_only_snake}
 use Rattle.bs_board.specs.records.FitSnake.{IsFitSnake, IsKillerInRange, IsOutInRange}
 use Rattle.bs_board.specs.records.Record.{snake_record}
 use Rattle.bs_board.specs.records.Writing.{Puts, IsByteCell, IsWritable}

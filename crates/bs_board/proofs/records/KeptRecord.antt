@@ -1,27 +1,26 @@
 -- Reading a record that is known to be a legal board's.
-use Rattle.std.proofs.Common.{◌≡◌, ℕ, zero, suc, ◌+◌, ◌-◌, ◌*◌, ◌<◌, ◌≤◌, true, false, List, [], ◌∷◌, ◌++◌, length, take, drop, min, ltb, Option, Some, None, Result, Ok, Err, refl, sym, ap, subst, ◌∙◌, append_assoc, arith, length-append}
-use Rattle.std.specs.Prelude.{IfOk, IfErr}
-use Rattle.std.specs.List.{flat_map, list_all, AllByRecursion}
+use Rattle.std.proofs.Common.{◌≡◌, ℕ, zero, suc, ◌-◌, ◌≤◌, true, List, [], ◌∷◌, ◌++◌, length, take, drop, min, Option, Some, Result, Ok, Err, refl, sym, ap, ap₂, subst, ◌∙◌, append_assoc, arith}
+use Rattle.std.specs.Prelude.{IfOk, IfErr, MatchResult, unwrap_or}
+use Rattle.std.specs.List.{flat_map, AllByRecursion}
 use Rattle.std.specs.Str.{is_utf8}
-use Rattle.std.proofs.lemmas.Bool.{le-ltb}
-use Rattle.std.proofs.lemmas.List.{drop_at, length-drop}
+use Rattle.std.proofs.lemmas.List.{length-drop}
 use Rattle.std.proofs.Math.Nat.{zero-min, min-zero}
 use Rattle.std.proofs.lemmas.List.Elements.{recursion_from_All, All-from_recursion, All-drop}
 use Rattle.bs_board.specs.declared.boards.board.Board.{Board}
-use Rattle.bs_board.specs.declared.boards.point.Point.{Point}
+use Rattle.bs_board.specs.declared.records.layout.BoardBytes.{BoardBytes}
 use Rattle.bs_board.specs.declared.boards.snake.Snake.{Snake}
 use Rattle.bs_board.specs.declared.records.decode_error.Decode.{Decode}
 use Rattle.bs_board.specs.declared.records.decode_error.Decode.TheVariants.{NotARecord, Memory}
 use Rattle.bs_board.specs.boards.Legal.{IsLegal}
-use Rattle.bs_board.specs.records.Decoder.{Fails, Gives, read_cell, read_snake, read_board, read_ground, skip_cells, skip_state, skip_snake, skip_snakes, read_seats}
+use Rattle.bs_board.specs.records.Decoder.{Fails, Gives, read_cell, read_many, read_snake, read_board, read_ground}
+use Rattle.bs_board.specs.records.Layout.{IsBoardBytes}
 use Rattle.bs_board.specs.records.Kept.{IsLegalRecord, board_in}
-use Rattle.bs_board.specs.records.Record.{cell_bytes, state_bytes, snake_record, head_bytes, record_of}
+use Rattle.bs_board.specs.records.Record.{cell_bytes, snake_record, head_bytes, record_of}
 use Rattle.bs_board.specs.records.Writing.{IsByteCell, IsWritable, IsWritableBoard}
 use Rattle.bs_board.proofs.records.BoardRecord.{head_again, legal_texts, both_by_recursion, record_is_read}
-use Rattle.bs_board.proofs.records.Fields.{number_again, cell_again}
-use Rattle.bs_board.proofs.records.Lengths.{length_of_pairs}
+use Rattle.bs_board.proofs.records.Fields.{cell_again}
 use Rattle.bs_board.proofs.records.Repeats.{many_again, some_again}
-use Rattle.bs_board.proofs.records.SnakeRecord.{piece_again, snake_again}
+use Rattle.bs_board.proofs.records.SnakeRecord.{snake_again}
 use Rattle.bs_board.proofs.records.Writable.{legal_is_writable}
 
 -- if there is a value, reading can fail only for memory
@@ -101,88 +100,48 @@ ground_is_found bytes b read result legal is = finds_value read result (read_gro
 
 -- ---- some of the snakes
 
-cells_skipped : (raised : ℕ) (body : List Point) (rest : List ℕ) → skip_cells (length body) (flat_map (cell_bytes raised) body ++ rest) ≡ Some rest
-unfolding skip_cells
-cells_skipped raised body rest =
-    let cells = flat_map (cell_bytes raised) body in
-    let pairs : length cells ≡ 2 * length body = length_of_pairs (cell_bytes raised) (λ p. refl) body in
-    let long : ltb (length (cells ++ rest)) (2 * length body) ≡ false = le-ltb _ _ (omega (arith, length-append cells rest)) in
-    rw (long, drop_at cells rest (2 * length body) pairs) refl
+drop_to_end : {X : Type 0} (count : ℕ) (xs : List X) → drop (min count (length xs)) xs ≡ drop count xs
+drop_to_end zero xs = rw (zero-min (length xs)) refl
+drop_to_end (suc count) [] = rw (min-zero (suc count)) refl
+drop_to_end (suc count) (x ∷ xs) =
+    let more : min (suc count) (suc (length xs)) ≡ suc (min count (length xs)) = omega arith in
+    rw more (drop_to_end count xs)
 
-state_skipped : (s : Snake) (rest : List ℕ) → skip_state (state_bytes s ++ rest) ≡ Some (length s.body, rest)
-unfolding skip_state
-state_skipped s rest = rw (number_again (length s.body)) refl
+-- what skips snakes leaves the others
+abbrev pub Skips : ℕ → List ℕ → List ℕ → Type 0
+Skips count bytes rest = (snakes : List Snake) → bytes ≡ flat_map snake_record snakes → count ≤ length snakes → rest ≡ flat_map snake_record (drop count snakes)
 
-snake_skipped : (s : Snake) (rest : List ℕ) → skip_snake (snake_record s ++ rest) ≡ Some rest
-unfolding skip_snake snake_record
-snake_skipped s rest =
-    let cells = flat_map (cell_bytes 1) s.body ++ rest in
-    let regrouped : snake_record s ++ rest ≡ (length s.id ∷ s.id) ++ (state_bytes s ++ cells) =
-    append_assoc ((length s.id ∷ s.id) ++ state_bytes s) (flat_map (cell_bytes 1) s.body) rest ∙ append_assoc (length s.id ∷ s.id) (state_bytes s) cells in
-    ap skip_snake regrouped ∙ rw (piece_again s.id (state_bytes s ++ cells), state_skipped s cells, cells_skipped 1 s.body rest) refl
-
-snakes_skipped : (count : ℕ) (snakes : List Snake)
-    → skip_snakes (min count (length snakes)) (flat_map snake_record snakes) ≡ Some (flat_map snake_record (drop count snakes))
-unfolding skip_snakes
-snakes_skipped zero snakes = rw (zero-min (length snakes)) refl
-snakes_skipped (suc count) [] = rw (min-zero (suc count)) refl
-snakes_skipped (suc count) (s ∷ snakes) =
-    let more : min (suc count) (suc (length snakes)) ≡ suc (min count (length snakes)) = omega arith in
-    rw (more, snake_skipped s (flat_map snake_record snakes)) (snakes_skipped count snakes)
-
-pub skipping_goes_on : (count i : ℕ) (bytes after : List ℕ) (total : Option (List ℕ)) → i < count → skip_snake bytes ≡ Some after
-    → skip_snakes (count - i) bytes ≡ total → skip_snakes (count - (i + 1)) after ≡ total
-unfolding skip_snakes
-skipping_goes_on count i bytes after total within here so_far =
-    let k : count - i ≡ suc (count - (i + 1)) = omega arith in
-    let step : skip_snakes (count - i) bytes ≡ skip_snakes (count - (i + 1)) after = rw (k, here) refl in
-    sym step ∙ so_far
-
-pub skipping_ends : (error : Decode) (count i : ℕ) (bytes : List ℕ) (total : Option (List ℕ)) → i < count → Fails error (skip_snake bytes)
-    → skip_snakes (count - i) bytes ≡ total → Fails error total
-unfolding skip_snakes
-skipping_ends NotARecord count i bytes total within here so_far =
-    let k : count - i ≡ suc (count - (i + 1)) = omega arith in
-    let step : skip_snakes (count - i) bytes ≡ None = rw (k, here) refl in
-    sym so_far ∙ step
-skipping_ends Memory count i bytes total within here so_far = tt
-
-pub skipping_is_done : (count i : ℕ) (bytes : List ℕ) (total : Option (List ℕ)) → count ≤ i → skip_snakes (count - i) bytes ≡ total → total ≡ Some bytes
-unfolding skip_snakes
-skipping_is_done count i bytes total over so_far =
-    let k : count - i ≡ 0 = omega arith in
-    let step : skip_snakes (count - i) bytes ≡ Some bytes = rw k refl in
-    sym so_far ∙ step
-
-seats_again : (b : Board) (from count : ℕ) → IsWritableBoard b → list_all (λ s. is_utf8 s.id) b.snakes ≡ true
-    → read_seats is_utf8 from count (record_of b) ≡ Some (take count (drop from b.snakes))
-unfolding read_seats
-seats_again b from count fits texts =
+pub seats_stand : (b : Board) (board : BoardBytes) (from count skipped most : ℕ) (rest : List ℕ) → IsLegal b → IsBoardBytes b board
+    → skipped ≡ min from board.seats → most ≡ min count (board.seats - skipped) → Skips skipped board.snakes.now rest
+    → read_many (read_snake is_utf8) most rest ≡ Some (take count (drop from b.snakes), flat_map snake_record (drop count (drop from b.snakes)))
+seats_stand b board from count skipped most rest legal shows skips takes lies =
     let P : Snake → Type 0 = λ s. IsWritable s × (is_utf8 s.id ≡ true) in
+    let fits = legal_is_writable b legal in
     let left = drop from b.snakes in
     let left_fits : AllByRecursion P left =
-    recursion_from_All P left (All-drop P from b.snakes (All-from_recursion P b.snakes (both_by_recursion is_utf8 b.snakes (recursion_from_All IsWritable b.snakes fits.snakes) texts))) in
-    let most : length b.snakes - min from (length b.snakes) ≡ length left = omega (arith, length-drop from b.snakes) in
-    ap (read_seats is_utf8 from count) (regrouped b)
-    ∙ rw (
-      head_again b (flat_map (cell_bytes 0) b.food ++ flat_map snake_record b.snakes),
-      cells_skipped 0 b.food (flat_map snake_record b.snakes),
-      snakes_skipped from b.snakes,
-      most,
-      some_again (read_snake is_utf8) snake_record P (snake_again is_utf8) count left left_fits,
-    ) refl
+    recursion_from_All P left (All-drop P from b.snakes (All-from_recursion P b.snakes (both_by_recursion is_utf8 b.snakes (recursion_from_All IsWritable b.snakes fits.snakes) (legal_texts b legal)))) in
+    let skip : skipped ≡ min from (length b.snakes) = skips ∙ ap (min from) shows.seats in
+    let few : skipped ≤ length b.snakes = omega arith in
+    let place : rest ≡ flat_map snake_record left =
+    lies b.snakes shows.snakes few ∙ ap (flat_map snake_record) (ap (λ n. drop n b.snakes) skip ∙ drop_to_end from b.snakes) in
+    let seats = shows.seats in
+    let many : most ≡ min count (length left) = omega (arith, length-drop from b.snakes) in
+    ap₂ (read_many (read_snake is_utf8)) many place ∙ some_again (read_snake is_utf8) snake_record P (snake_again is_utf8) count left left_fits
 
-seats_stand : (bytes : List ℕ) (b : Board) (from count : ℕ) → IsLegal b → bytes ≡ record_of b
-    → read_seats is_utf8 from count bytes ≡ Some (take count (drop from b.snakes))
-seats_stand bytes b from count legal is = ap (read_seats is_utf8 from count) is ∙ seats_again b from count (legal_is_writable b legal) (legal_texts b legal)
+-- where there is a value, the only fault is want of memory
+pub only_memory : {Y : Type 0} (error : Decode) (read : Option Y) (x : Y) → read ≡ Some x → Fails error read → error ≡ Memory
+only_memory NotARecord read x is fails = absurd cc
+only_memory Memory read x is fails = refl
 
-pub seats_fail_for_memory : (bytes : List ℕ) (from count : ℕ) (read : Result (List Snake) Decode) → IsLegalRecord bytes
-    → Gives (λ snakes. snakes) read (read_seats is_utf8 from count bytes) → IfErr read (λ error. error ≡ Memory)
-seats_fail_for_memory bytes from count read kept =
-    fails_for_memory read (read_seats is_utf8 from count bytes) (take count (drop from kept.board.snakes)) (seats_stand bytes kept.board from count kept.legal kept.is)
+pub same_first : {A B : Type 0} (read : Option (A × B)) (x y : A) (p q : B) → read ≡ Some (x, p) → read ≡ Some (y, q) → x ≡ y
+same_first {A} {B} read x y p q one other = ap (λ (o : Option (A × B)). (unwrap_or o (x, p)).0) (sym one ∙ other)
 
-pub seats_are_found : {E : Type 0} (bytes : List ℕ) (from count : ℕ) (b : Board) (read : Result (List Snake) Decode) (result : Result (List Snake) E) → IsLegal b
-    → bytes ≡ record_of b → Gives (λ snakes. snakes) read (read_seats is_utf8 from count bytes) → IfOk result (λ snakes. read ≡ Ok snakes)
-    → IfOk result (λ snakes. snakes ≡ take count (drop from b.snakes))
-seats_are_found bytes from count b read result legal is =
-    finds_value read result (read_seats is_utf8 from count bytes) (take count (drop from b.snakes)) (seats_stand bytes b from count legal is)
+pub fault_of : {X E : Type 0} (result : Result X E) (P : X → Type 0) (Q : E → Type 0) → MatchResult result P Q → IfErr result Q
+fault_of (Ok x) P Q is = tt
+fault_of (Err error) P Q is = is
+
+pub value_of : {X E F : Type 0} (read : Result X E) (result : Result X F) (P : X → Type 0) (Q : E → Type 0) → MatchResult read P Q
+    → IfOk result (λ x. read ≡ Ok x) → IfOk result P
+value_of read (Err error) P Q is found = tt
+value_of (Ok y) (Ok x) P Q is found = let same : y ≡ x = cc in subst P same is
+value_of (Err error) (Ok x) P Q is found = absurd cc

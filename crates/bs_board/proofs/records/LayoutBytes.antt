@@ -1,7 +1,7 @@
 -- Where the parts of a record lie in its bytes.
-use Rattle.std.proofs.Common.{◌≡◌, ℕ, ◌+◌, ◌-◌, ◌*◌, ◌<◌, ◌≤◌, List, [], ◌∷◌, ◌++◌, length, take, drop, Option, Some, None, refl, sym, ap, ◌∙◌, append_assoc, arith}
+use Rattle.std.proofs.Common.{◌≡◌, ℕ, ◌-◌, ◌*◌, ◌≤◌, List, ◌∷◌, ◌++◌, length, take, drop, refl, sym, ap, ◌∙◌, append_assoc, arith, length-append}
 use Rattle.std.specs.Prelude.{flat_map, slice_index_or, unwrap_or}
-use Rattle.std.proofs.lemmas.List.{drop_at, take_at}
+use Rattle.std.proofs.lemmas.List.{drop_at, length-drop, take_all, take_at}
 use Rattle.bs_board.specs.declared.boards.board.Board.{Board}
 use Rattle.bs_board.specs.declared.boards.point.Point.{Point}
 use Rattle.bs_board.specs.declared.boards.snake.Snake.{Snake}
@@ -9,7 +9,10 @@ use Rattle.bs_board.specs.records.Decoder.{from_two_bytes}
 use Rattle.bs_board.specs.records.Record.{cause_byte, killer_byte, mode_byte, version_byte, cell_bytes, head_bytes, record_of, snake_record, state_bytes}
 use Rattle.bs_board.proofs.records.Fields.{number_again}
 use Rattle.bs_board.proofs.records.Lengths.{length_of_pairs}
-use Rattle.bs_board.proofs.records.OverBytes.{rest_is}
+
+-- a pattern's rest is all that follows
+rest_is : (n : ℕ) (bytes : List ℕ) → take (length bytes - n) (drop n bytes) ≡ drop n bytes
+rest_is n bytes = take_all (length bytes - n) (drop n bytes) (omega (arith, length-drop n bytes))
 
 -- what is cut off a text that the bytes begin with, and what follows it
 pub cut_text : (text rest bytes front behind : List ℕ) (len : ℕ) → bytes ≡ text ++ rest → len ≡ length text → front ≡ take len bytes → behind ≡ drop len bytes
@@ -30,6 +33,11 @@ regrouped_snake : (s : Snake) (rest : List ℕ) → snake_record s ++ rest ≡ l
 unfolding snake_record
 regrouped_snake s rest =
     append_assoc ((length s.id ∷ s.id) ++ state_bytes s) (flat_map (cell_bytes 1) s.body) rest ∙ append_assoc (length s.id ∷ s.id) (state_bytes s) (flat_map (cell_bytes 1) s.body ++ rest)
+
+-- a snake has some bytes
+pub some_snake : (s : Snake) (rest bytes : List ℕ) → bytes ≡ snake_record s ++ rest → 1 ≤ length bytes
+unfolding snake_record
+some_snake s rest bytes is = rw is (omega arith)
 
 pub id_is_cut : (s : Snake) (rest bytes front behind : List ℕ) (len : ℕ) → bytes ≡ snake_record s ++ rest → len ≡ slice_index_or bytes 0 0
     → front ≡ take len (take (length bytes - 1) (drop 1 bytes)) → behind ≡ drop len (take (length bytes - 1) (drop 1 bytes))
@@ -61,6 +69,15 @@ state_parts s rest bytes is =
     }
 
 -- ---- a board
+
+-- a board has the bytes of its numbers
+pub head_fits : (b : Board) (bytes : List ℕ) → bytes ≡ record_of b → 11 ≤ length bytes
+unfolding record_of
+head_fits b bytes is =
+    let snakes = length-append (head_bytes b ++ flat_map (cell_bytes 0) b.food) (flat_map snake_record b.snakes) in
+    let food = length-append (head_bytes b) (flat_map (cell_bytes 0) b.food) in
+    let head : length (head_bytes b) ≡ 11 = refl in
+    rw is (omega arith)
 
 -- the numbers before the cells of the food
 pub record HeadParts (b : Board) (bytes : List ℕ) : Type 0 where

@@ -67,9 +67,9 @@ IsHealthOf SelfCollision health = (1 ≤ health) × (health ≤ FULL_HEALTH)
 IsHealthOf BodyCollision health = (1 ≤ health) × (health ≤ FULL_HEALTH)
 IsHealthOf HeadCollision health = (1 ≤ health) × (health ≤ FULL_HEALTH)
 
--- the head of a snake that starved may be on the board or next to it, of one that hit the wall is
--- off the board, of any other is on it; on a wrapped board each head is on it, and no snake is
--- eliminated by the wall
+-- where the head may be: on the board or next to it if the snake starved, next to the board if it
+-- hit the wall, on the board after any other cause; on a wrapped board always on the board, and no
+-- snake is eliminated by the wall
 abbrev pub is_head_of : Bool → Cause → ℕ → ℕ → Point → Bool
 is_head_of wraps OutOfHealth width height p = if wraps then is_on_board width height p else is_near width height p
 is_head_of wraps WallCollision width height p = not wraps && is_near width height p && not (is_on_board width height p)

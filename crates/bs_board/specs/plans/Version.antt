@@ -1,5 +1,5 @@
 -- The versions of the format of command files.
-use Rattle.std.specs.Prelude.{ℕ, ◌==◌, Bool, true, false, find, List, [], ◌∷◌, Option}
+use Rattle.std.specs.Prelude.{ℕ, ◌==◌, Bool, true, false, find, [], ◌∷◌, Option}
 use Rattle.bs_board.specs.declared.plans.version.Version.{Version}
 use Rattle.bs_board.specs.declared.plans.version.Version.TheVariants.{One, Two, Three}
 

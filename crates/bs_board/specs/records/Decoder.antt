@@ -1,7 +1,7 @@
 -- The steps of the decoder, which only the contracts of its private functions cite. For callers
 -- `decode` defines the meaning of bytes: they are the record of a legal board, or of none. A reader
 -- gives a value and the bytes after it, or nothing if there is no value.
-use Rattle.std.specs.Prelude.{◌≡◌, ◌==◌, ℕ, zero, suc, ◌+◌, ◌*◌, ◌-◌, Bool, ◌&&◌, if◌then◌else◌, List, [], ◌∷◌, length, take, drop, min, find, Option, Some, None, Result, Ok, Err, nat_lt, pos, ◌-ℤ◌}
+use Rattle.std.specs.Prelude.{◌≡◌, ◌==◌, ℕ, zero, suc, ◌+◌, ◌*◌, ◌-◌, Bool, ◌&&◌, if◌then◌else◌, List, [], ◌∷◌, length, take, drop, find, Option, Some, None, Result, Ok, Err, nat_lt, pos, ◌-ℤ◌}
 use Rattle.bs_board.specs.declared.boards.board.Board.{Board}
 use Rattle.bs_board.specs.declared.boards.board.Mode.{Mode}
 use Rattle.bs_board.specs.declared.boards.board.Mode.TheVariants.{Standard, Solo, Constrictor, Wrapped}
@@ -161,34 +161,3 @@ read_ground bytes = do
     food = food.0;
     snakes = [];
   })
-
--- two bytes a cell
-unfoldable pub skip_cells : ℕ → List ℕ → Option (List ℕ)
-skip_cells count bytes = if nat_lt (length bytes) (2 * count) then None else Some (drop (2 * count) bytes)
-
--- the number of parts, which is the last field between an id and the parts
-unfoldable pub skip_state : List ℕ → Option (ℕ × List ℕ)
-skip_state (health ∷ cause ∷ killer ∷ out_high ∷ out_low ∷ parts_high ∷ parts_low ∷ rest) = Some (from_two_bytes parts_high parts_low, rest)
-skip_state _ = None
-
-unfoldable pub skip_snake : List ℕ → Option (List ℕ)
-skip_snake bytes = do
-  id ← read_piece bytes
-  state ← skip_state id.1
-  skip_cells state.0 state.1
-
--- `count` snakes, one after the other
-unfoldable pub skip_snakes : ℕ → List ℕ → Option (List ℕ)
-skip_snakes zero bytes = Some bytes
-skip_snakes (suc count) bytes = do
-  rest ← skip_snake bytes
-  skip_snakes count rest
-
--- `count` snakes from that seat on, as far as there are any
-unfoldable pub read_seats : (List ℕ → Bool) → ℕ → ℕ → List ℕ → Option (List Snake)
-read_seats is_text from count bytes = do
-  head ← read_head bytes
-  rest ← skip_cells head.0.food head.1
-  first ← skip_snakes (min from head.0.snakes) rest
-  snakes ← read_many (read_snake is_text) (min count (head.0.snakes - min from head.0.snakes)) first
-  Some snakes.0

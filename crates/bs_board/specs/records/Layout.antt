@@ -1,19 +1,19 @@
 -- When a view shows the parts of a record.
-use Rattle.std.specs.Prelude.{◌≡◌, ℕ, length, flat_map}
+use Rattle.std.specs.Prelude.{◌≡◌, length, flat_map}
 use Rattle.bs_board.specs.declared.boards.board.Board.{Board}
 use Rattle.bs_board.specs.declared.boards.snake.Snake.{Snake}
 use Rattle.bs_board.specs.declared.records.layout.SnakeBytes.{SnakeBytes}
 use Rattle.bs_board.specs.declared.records.layout.BoardBytes.{BoardBytes}
-use Rattle.bs_board.specs.boards.Over.{is_over}
 use Rattle.bs_board.specs.records.Record.{cell_bytes, snake_record}
+use Rattle.bs_board.specs.records.Writing.{IsWritable}
 
--- The view shows that snake's record.
+-- The view shows that snake's record. A turn of 0 cannot be told from none.
 pub record IsSnakeBytes (s : Snake) (parts : SnakeBytes) : Type 0 where
   pub id : parts.id.now ≡ s.id
   pub health : parts.health ≡ s.health
   pub cause : parts.cause ≡ s.cause
   pub killer : parts.killer ≡ s.killer
-  pub out : parts.out ≡ s.out
+  pub out : IsWritable s → parts.out ≡ s.out
   pub body : parts.body.now ≡ flat_map (cell_bytes 1) s.body
 
 -- The view shows that board's record.
@@ -25,6 +25,5 @@ pub record IsBoardBytes (b : Board) (parts : BoardBytes) : Type 0 where
   pub min_food : parts.min_food ≡ b.min_food
   pub chance : parts.chance ≡ b.chance
   pub food : parts.food.now ≡ flat_map (cell_bytes 0) b.food
-  pub over : parts.over ≡ is_over b
   pub seats : parts.seats ≡ length b.snakes
   pub snakes : parts.snakes.now ≡ flat_map snake_record b.snakes

@@ -4,7 +4,8 @@ use Rattle.bs_board.specs.declared.boards.board.Board.{Board}
 use Rattle.bs_board.specs.declared.boards.point.Point.{Point}
 use Rattle.bs_board.specs.declared.boards.snake.Snake.{Snake}
 
--- the bytes are written at the place, up to the next place; what is before it is unchanged
+-- writes the bytes from index `at` on; `next` is the index after them; what is before `at` and the
+-- length of the slice are unchanged
 pub record Puts (at : ℕ) (bytes old new : List ℕ) (next : ℕ) : Type 0 where
   pub place : next ≡ at + length bytes
   pub front : take next new ≡ take at old ++ bytes

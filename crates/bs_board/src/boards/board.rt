@@ -1,6 +1,7 @@
 //! A board and the modes of a game.
 
 ghost use Rattle.std.specs.Prelude.{◌≡◌, IfOk};
+ghost use Rattle.bs_board.specs.boards.Over.{last_living};
 ghost use Rattle.bs_board.specs.boards.Wrap.{is_wrapped, wrap_of};
 
 use crate::boards::cells::Cells;
@@ -28,6 +29,18 @@ impl Mode {
             Mode::Solo => false,
             Mode::Constrictor => false,
             Mode::Wrapped => true,
+        }
+    }
+
+    /// The largest number of living snakes with which a game is over.
+    pub fn last_living(self) -> usize
+        ensures { result ≡ last_living self }
+    {
+        match self {
+            Mode::Standard => 1,
+            Mode::Solo => 0,
+            Mode::Constrictor => 1,
+            Mode::Wrapped => 1,
         }
     }
 }

@@ -105,7 +105,8 @@ fn have_fit_members(width: u8, height: u8, starts: &[(Id, Point)]) -> bool
         .all(|start| is_fit_start(width, height, start))
 }
 
-/// Whether the snakes may start so: 1 to 8, all on the board, with distinct ids and cells.
+/// Whether the starts are within the limits: 1 to 8 snakes, all on the board, with distinct ids and
+/// starting cells.
 pub fn are_fit_starts(width: u8, height: u8, starts: &[(Id, Point)]) -> bool
     ensures { result ≡ are_fit_starts width height starts.now }
 {

@@ -1,22 +1,17 @@
 //! Readers of parts of a record. None reads more than it needs.
 
-ghost use Rattle.std.specs.Prelude.{◌≡◌, Ok, IfOk, IfErr};
-ghost use Rattle.std.specs.Str.{is_utf8};
+ghost use Rattle.std.specs.Prelude.{◌≡◌, Ok, IfOk, IfErr, MatchResult, drop, take};
+ghost use Rattle.bs_board.specs.declared.boards.board.Board.{Board as AnyBoard};
 ghost use Rattle.bs_board.specs.declared.records.decode_error.Decode.TheVariants.{Memory};
-ghost use Rattle.bs_board.specs.records.Decoder.{
-  Gives,
-  read_ground,
-  skip_cells,
-  skip_state,
-  skip_snake,
-  skip_snakes,
-  read_seats,
-};
+ghost use Rattle.bs_board.specs.boards.Legal.{IsLegal};
+ghost use Rattle.bs_board.specs.records.Decoder.{Gives, read_ground};
+ghost use Rattle.bs_board.specs.records.Layout.{IsBoardBytes};
 
 use crate::boards::board::Board;
 use crate::boards::snakes::Snakes;
 use crate::records::decode_error::Decode;
-use crate::records::decoding::{from_two_bytes, read_cells, read_head, read_piece, read_snakes};
+use crate::records::decoding::{read_cells, read_head, read_snakes};
+use crate::records::layout::{BoardBytes, skip_snakes};
 use std::alloc::{AllocError, Global};
 
 /// Unwraps a read that can fail only for memory.
@@ -49,64 +44,18 @@ pub(crate) fn read_ground(alloc: Global, bytes: &[u8]) -> Result<Board, Decode>
     })
 }
 
-/// Skips `count` cells of two bytes each.
-#[tactic(auto, unfolding(crate::specs::records::Decoder::skip_cells))]
-fn skip_cells(count: u16, bytes: &[u8]) -> Result<&[u8], Decode>
-    ensures { Gives (λ rest. rest.now) result (skip_cells count bytes.now) }
-{
-    let len = 2 * usize::from(count);
-    if bytes.len() < len {
-        return Err(Decode::NotARecord);
-    }
-    Ok(&bytes[len..])
-}
-
-/// Skips to the parts of a snake, whose number is the last field before them.
-#[tactic(auto, unfolding(crate::specs::records::Decoder::skip_state))]
-fn skip_state(bytes: &[u8]) -> Result<(u16, &[u8]), Decode>
-    ensures { Gives (λ x. (x.0, x.1.now)) result (skip_state bytes.now) }
-{
-    match bytes {
-        [_, _, _, _, _, parts_high, parts_low, rest @ ..] => {
-            Ok((from_two_bytes(*parts_high, *parts_low), rest))
-        }
-        _ => Err(Decode::NotARecord),
-    }
-}
-
-#[tactic(auto, unfolding(crate::specs::records::Decoder::skip_snake))]
-fn skip_snake(bytes: &[u8]) -> Result<&[u8], Decode>
-    ensures { Gives (λ rest. rest.now) result (skip_snake bytes.now) }
-{
-    let (_, rest) = read_piece(bytes)?;
-    let (parts, rest) = skip_state(rest)?;
-    skip_cells(parts, rest)
-}
-
-fn skip_snakes(count: usize, bytes: &[u8]) -> Result<&[u8], Decode>
-    ensures { Gives (λ rest. rest.now) result (skip_snakes count bytes.now) }
-{
-    let mut rest = bytes;
-    for _ in 0..count {
-        rest = skip_snake(rest)?;
-    }
-    Ok(rest)
-}
-
-#[tactic(auto, unfolding(crate::specs::records::Decoder::read_seats))]
+/// Decodes the snakes at `count` seats from `from` on, as far as there are any.
 pub(crate) fn read_seats(
     alloc: Global,
-    bytes: &[u8],
+    board: &BoardBytes<'_>,
     from: usize,
     count: usize,
 ) -> Result<Snakes, Decode>
-    ensures { Gives (λ snakes. snakes) result (read_seats is_utf8 from count bytes.now) }
+    ensures { (b : AnyBoard) → IsLegal b → IsBoardBytes b board.now
+        → MatchResult result (λ snakes. snakes ≡ take count (drop from b.snakes)) (λ error. error ≡ Memory) }
 {
-    let (head, rest) = read_head(bytes)?;
-    let rest = skip_cells(head.food, rest)?;
-    let seats = usize::from(head.snakes);
-    let skipped = from.min(seats);
-    let rest = skip_snakes(skipped, rest)?;
-    let (snakes, _) = read_snakes(alloc, count.min(seats - skipped), rest)?;
+    let skipped = from.min(board.seats);
+    let rest = skip_snakes(skipped, board.snakes);
+    let (snakes, _) = read_snakes(alloc, count.min(board.seats - skipped), rest)?;
     Ok(snakes)
 }

@@ -6,7 +6,7 @@ use std::alloc::{AllocError, Global};
 use std::marker::Model;
 
 /// A legal board, kept as its record, which is smaller than the board. It is one pointer, so that a
-/// reply of any kind takes two words. Contracts see the board.
+/// reply of any kind takes two machine words. Contracts see the board.
 #[derive(Debug, Drop)]
 pub struct KeptBoard {
     record: Record,

@@ -1,17 +1,16 @@
 //! Views of a record's parts, borrowed from its bytes. Nothing is decoded or judged.
-ghost use Rattle.std.specs.Prelude.{◌≡◌, ◌++◌, ℕ, List, MatchOption, None, drop, flat_map, take, unwrap_or};
+ghost use Rattle.std.specs.Prelude.{◌≡◌, ◌++◌, ◌≤◌, ℕ, List, MatchOption, None, count_by, drop, flat_map, if◌then◌else◌, length, take, unwrap_or};
 ghost use Rattle.bs_board.specs.declared.boards.board.Board.{Board as AnyBoard};
 ghost use Rattle.bs_board.specs.declared.boards.board.Mode.TheVariants.{Standard};
 ghost use Rattle.bs_board.specs.declared.boards.snake.Snake.{Snake as AnySnake};
+ghost use Rattle.bs_board.specs.boards.Over.{is_living};
 ghost use Rattle.bs_board.specs.records.Layout.{IsSnakeBytes, IsBoardBytes};
 ghost use Rattle.bs_board.specs.records.Decoder.{cause_from_byte, mode_from_bytes};
 ghost use Rattle.bs_board.specs.records.Record.{cell_bytes, record_of, snake_record, state_bytes};
-ghost use Rattle.bs_board.specs.records.Writing.{IsWritable};
 
 use crate::boards::board::Mode;
 use crate::boards::snake::Cause;
 use crate::records::decoding::{from_two_bytes, killer_from_byte, out_from_number};
-use crate::records::over::over_of_record;
 
 /// The number of bytes of a cell.
 const CELL: usize = 2;
@@ -39,8 +38,6 @@ pub struct BoardBytes<'r> {
     pub chance: u8,
     /// The cells of the food, two bytes each.
     pub food: &'r [u8],
-    /// Whether the game is over.
-    pub over: bool,
     /// The number of snakes.
     pub seats: usize,
     /// The records of the snakes, one after the other.
@@ -98,7 +95,7 @@ fn known_mode(version: u8, byte: u8) -> Mode
 
 /// Splits what follows a snake's id into the snake's parts and the rest.
 fn split_state<'r>(id: &'r [u8], bytes: &'r [u8]) -> (SnakeBytes<'r>, &'r [u8])
-    ensures { (s : AnySnake) (rest : List ℕ) → IsWritable s → id.now ≡ s.id → bytes.now ≡ state_bytes s ++ (flat_map (cell_bytes 1) s.body ++ rest)
+    ensures { (s : AnySnake) (rest : List ℕ) → id.now ≡ s.id → bytes.now ≡ state_bytes s ++ (flat_map (cell_bytes 1) s.body ++ rest)
         → IsSnakeBytes s result.0 × (result.1.now ≡ rest) }
 {
     match bytes {
@@ -140,14 +137,14 @@ fn split_state<'r>(id: &'r [u8], bytes: &'r [u8]) -> (SnakeBytes<'r>, &'r [u8])
 
 /// Splits off the first of several snakes' records.
 pub fn split_snake(bytes: &[u8]) -> (SnakeBytes<'_>, &[u8])
-    ensures { (s : AnySnake) (rest : List ℕ) → IsWritable s → bytes.now ≡ snake_record s ++ rest → IsSnakeBytes s result.0 × (result.1.now ≡ rest) }
+    ensures { (s : AnySnake) (rest : List ℕ) → bytes.now ≡ snake_record s ++ rest → IsSnakeBytes s result.0 × (result.1.now ≡ rest) }
 {
     let (id, rest) = split_id(bytes);
     split_state(id, rest)
 }
 
 /// Splits the record of a board. `None` if the bytes are too few for one.
-pub fn split_board(bytes: &[u8]) -> Option<BoardBytes<'_>>
+pub(crate) fn split_board(bytes: &[u8]) -> Option<BoardBytes<'_>>
     ensures { (b : AnyBoard) → bytes.now ≡ record_of b → MatchOption result ⊥ (IsBoardBytes b) }
 {
     match bytes {
@@ -175,11 +172,68 @@ pub fn split_board(bytes: &[u8]) -> Option<BoardBytes<'_>>
                 min_food: *min_food,
                 chance: *chance,
                 food,
-                over: over_of_record(bytes),
                 seats: usize::from(*seats),
                 snakes,
             })
         }
         _ => None,
+    }
+}
+
+impl SnakeBytes<'_> {
+    ghost use Rattle.std.specs.Prelude.{◌≡◌, is_none};
+
+    /// Whether the snake is alive.
+    fn is_living(&self) -> bool
+        ensures { result ≡ is_none self.now.cause }
+    {
+        self.cause.is_none()
+    }
+}
+
+fn count_if(lives: bool) -> usize
+    ensures { result ≡ (if lives then 1 else 0) }
+{
+    if lives { 1 } else { 0 }
+}
+
+/// Counts the living among the first `count` snakes.
+fn count_living(count: usize, bytes: &[u8]) -> usize
+    ensures { (snakes : List AnySnake) → length snakes ≡ count → bytes.now ≡ flat_map snake_record snakes → result ≡ count_by is_living snakes }
+{
+    let mut living = 0;
+    let mut left = bytes;
+    for _ in 0..count {
+        let (snake, rest) = split_snake(left);
+        living += count_if(snake.is_living());
+        left = rest;
+    }
+    living
+}
+
+/// Skips the records of the first `count` snakes.
+pub fn skip_snakes(count: usize, bytes: &[u8]) -> &[u8]
+    ensures { (snakes : List AnySnake) → bytes.now ≡ flat_map snake_record snakes → count ≤ length snakes
+        → result.now ≡ flat_map snake_record (drop count snakes) }
+{
+    let mut left = bytes;
+    for _ in 0..count {
+        let (_, rest) = split_snake(left);
+        left = rest;
+    }
+    left
+}
+
+impl BoardBytes<'_> {
+    ghost use Rattle.std.specs.Prelude.{◌≡◌};
+    ghost use Rattle.bs_board.specs.declared.boards.board.Board.{Board as AnyBoard};
+    ghost use Rattle.bs_board.specs.boards.Over.{is_over};
+    ghost use Rattle.bs_board.specs.records.Layout.{IsBoardBytes};
+
+    /// Whether the game is over.
+    pub fn is_over(&self) -> bool
+        ensures { (b : AnyBoard) → IsBoardBytes b self.now → result ≡ is_over b }
+    {
+        count_living(self.seats, self.snakes) <= self.mode.last_living()
     }
 }

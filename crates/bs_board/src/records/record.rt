@@ -1,13 +1,11 @@
 //! The record of a legal board, shared by several owners, and what is read of it.
 
-ghost use Rattle.std.specs.Prelude.{◌≡◌, nat_eq, if◌then◌else◌, Some, None};
-
-use crate::boards::board::Board;
+use crate::boards::board::{Board, Mode};
 use crate::boards::snakes::Snakes;
 use crate::records::decoding::read_board;
 use crate::records::encoding::encode;
 use crate::records::kept::{found, read_ground, read_seats};
-use crate::records::over::over_of_record;
+use crate::records::layout::{BoardBytes, split_board};
 use std::alloc::{AllocError, Global};
 use std::marker::Model;
 use std::sync::Arc;
@@ -31,19 +29,6 @@ impl Model for Record {
     ghost invariant = { λ r. IsLegalRecord (arc_value r.bytes).items };
 }
 
-/// The mode byte of a wrapped board.
-const WRAPPED: u8 = 3;
-
-fn wrap_from(mode: u8, width: u8, height: u8) -> Option<(u8, u8)>
-    ensures { result ≡ (if nat_eq mode 3 then Some (width, height) else None) }
-{
-    if mode == WRAPPED {
-        Some((width, height))
-    } else {
-        None
-    }
-}
-
 impl Record {
     ghost use Rattle.std.specs.Prelude.{◌≡◌, [], take, drop, length, IfOk};
     ghost use Rattle.bs_board.specs.declared.boards.board.Board.{Board as AnyBoard};
@@ -51,6 +36,7 @@ impl Record {
     ghost use Rattle.bs_board.specs.boards.Over.{is_over};
     ghost use Rattle.bs_board.specs.boards.Wrap.{wrap_of};
     ghost use Rattle.bs_board.specs.records.Kept.{IsLegalRecord};
+    ghost use Rattle.bs_board.specs.records.Layout.{IsBoardBytes};
     ghost use Rattle.bs_board.specs.records.Record.{record_of};
 
     fn from_vec(alloc: Global, bytes: Vec<u8>) -> Result<Record, AllocError>
@@ -96,6 +82,17 @@ impl Record {
         self.bytes.as_slice()
     }
 
+    /// A view of its parts. Nothing is decoded.
+    pub fn parts(&self) -> BoardBytes<'_>
+        ensures value { (b : AnyBoard) → self.now ≡ record_of b → IsBoardBytes b result }
+        ensures legal { IsLegalRecord self.now }
+    {
+        match split_board(self.as_slice()) {
+            Some(board) => board,
+            None => unreachable!(),
+        }
+    }
+
     /// Decodes the board.
     #[tactic(auto, using(crate::proofs::records::KeptRecord::board_fails_for_memory))]
     pub fn board(&self, alloc: Global) -> Result<Board, AllocError>
@@ -116,44 +113,42 @@ impl Record {
 
     /// Decodes the snakes at `count` seats from `from` on; fewer if the board has no more. The
     /// others are skipped by their lengths.
-    #[tactic(auto, using(crate::proofs::records::KeptRecord::seats_fail_for_memory))]
     pub fn snakes(&self, alloc: Global, from: usize, count: usize) -> Result<Snakes, AllocError>
         ensures { (b : AnyBoard) → IsLegal b → self.now ≡ record_of b → IfOk result (λ snakes. snakes ≡ take count (drop from b.snakes)) }
     {
-        found(read_seats(alloc, self.as_slice(), from, count))
+        found(read_seats(alloc, &self.parts(), from, count))
     }
 
     /// The turn of the board.
-    #[tactic(auto, using(crate::proofs::records::TurnBytes::kept_reaches_seats, crate::proofs::records::TurnBytes::turn_in_record))]
     pub fn turn(&self) -> u16
         ensures { (b : AnyBoard) → self.now ≡ record_of b → result ≡ b.turn }
     {
-        let bytes = self.as_slice();
-        u16::from_be_bytes([bytes[4], bytes[5]])
+        self.parts().turn
     }
 
     /// The number of seats.
-    #[tactic(auto, using(crate::proofs::records::TurnBytes::kept_reaches_seats, crate::proofs::records::TurnBytes::seats_in_record))]
     pub fn seats(&self) -> usize
         ensures { (b : AnyBoard) → self.now ≡ record_of b → result ≡ length b.snakes }
     {
-        usize::from(self.as_slice()[8])
+        self.parts().seats
     }
 
     /// Whether the game is over.
-    #[tactic(auto, using(crate::proofs::records::TurnBytes::kept_reaches_seats))]
     pub fn is_over(&self) -> bool
         ensures { (b : AnyBoard) → self.now ≡ record_of b → result ≡ is_over b }
     {
-        over_of_record(self.as_slice())
+        self.parts().is_over()
     }
 
     /// The width and height that each step is taken modulo; `None` if a step may leave the board.
-    #[tactic(auto, using(crate::proofs::records::TurnBytes::kept_reaches_seats))]
     pub fn wrap(&self) -> Option<(u8, u8)>
         ensures { (b : AnyBoard) → self.now ≡ record_of b → result ≡ wrap_of b }
     {
-        let bytes = self.as_slice();
-        wrap_from(bytes[1], bytes[2], bytes[3])
+        let board = self.parts();
+        if board.mode.is_wrapped() {
+            Some((board.width, board.height))
+        } else {
+            None
+        }
     }
 }

@@ -8,4 +8,4 @@ use Rattle.bs_json.proofs.shown_bytes.push_snake.Goals as goal
 pub returns : goal.returns
 returns c b s fits own whole parts =
     next _ _ _ _ _ c.push_comma.ensures c.push_parts.ensures
-    ∙ ap (λ t. put c.args.text.now (comma_if c.args.later ++ t)) (snake_text b.snakes s c.args.snake.now _ own parts (c.killer_id.ensures b fits whole))
+    ∙ ap (λ t. put c.args.text.now (comma_if c.args.later ++ t)) (snake_text b.snakes s c.args.snake.now _ own parts (c.killer_id.ensures b whole))

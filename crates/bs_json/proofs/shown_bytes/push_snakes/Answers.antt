@@ -17,6 +17,6 @@ loop-preserved c b fits whole =
     let so_far = c.loop.invariant b fits whole in
     let s = get_or b.snakes i nobody in
     let own = fits.snakes i nobody below in
-    let parts = c.split_snake.ensures s (flat_map snake_record (drop (i + 1) b.snakes)) own (split_at b.snakes i c.loop.left.now below so_far.0) in
+    let parts = c.split_snake.ensures s (flat_map snake_record (drop (i + 1) b.snakes)) (split_at b.snakes i c.loop.left.now below so_far.0) in
     let pushed = c.push_snake.ensures b s fits own whole parts.0 in
     (parts.1, one_listed (snake_data b.snakes) _ _ _ c.loop.later (drop i b.snakes) s (drop (i + 1) b.snakes) (drop_more b.snakes i nobody below) pushed so_far.1)

@@ -1,4 +1,4 @@
-use Rattle.std.proofs.Common.{◌≡◌, ◌↔◌, ◌+◌, ℕ, List, map, drop, ap, sym, ◌∙◌}
+use Rattle.std.proofs.Common.{◌≡◌, ◌+◌, ℕ, List, map, drop, ap, sym, ◌∙◌}
 use Rattle.bs_sched.specs.declared.frames.FrameSlot.{FrameSlot}
 use Rattle.bs_sched.specs.FrameSlots.{number_in}
 use Rattle.bs_sched.specs.Frames.{known}

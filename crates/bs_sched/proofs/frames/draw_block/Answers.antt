@@ -1,4 +1,4 @@
-use Rattle.std.proofs.Common.{◌≡◌, ◌++◌, ◌∷◌, ℕ, Option, sym, ap, ◌∙◌, subst}
+use Rattle.std.proofs.Common.{◌≡◌, ◌++◌, ◌∷◌, ℕ, Option, sym, ap, subst}
 use Rattle.std.specs.Prelude.{unwrap_or}
 use Rattle.bs_pool.specs.Ledger.{Ledger, drawn}
 use Rattle.bs_heap.specs.HeldBlocks.{Holds, LeavesOthers, next_number}

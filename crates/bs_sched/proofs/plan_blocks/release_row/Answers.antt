@@ -1,4 +1,4 @@
-use Rattle.std.proofs.Common.{◌≡◌, ◌<◌, ◌+◌, ◌*◌, arith}
+use Rattle.std.proofs.Common.{arith}
 use Rattle.bs_sched.proofs.PlanBlocks.{first_released, second_released}
 use Rattle.bs_sched.proofs.plan_blocks.release_row.Goals as goal
 

@@ -1,4 +1,4 @@
-use Rattle.std.proofs.Common.{◌≡◌, ◌≤◌, ◌*◌, None, ◌∙◌, arith}
+use Rattle.std.proofs.Common.{◌≡◌, ◌≤◌, None, ◌∙◌, arith}
 use Rattle.bs_pool.specs.Ledger.{reservation_of}
 use Rattle.bs_sched.proofs.PlanBlocks.{frames_fit, none_from, taken_back}
 use Rattle.bs_sched.proofs.plan_blocks.reserve_row.Goals as goal

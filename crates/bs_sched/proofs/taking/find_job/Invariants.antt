@@ -1,6 +1,7 @@
+use Rattle.bs_sched.specs.GamesLayout.{lanes_in}
 use Rattle.bs_sched.specs.Taking.{AreNoneReadyBetween}
 use Rattle.bs_sched.proofs.taking.find_job.Given as goal
 
 -- no lane so far has a ready job
 abbrev pub invariant-loop-place : goal.invariant-loop-place
-invariant-loop-place l = AreNoneReadyBetween l.from l.place l.rows l.fibers
+invariant-loop-place g l = AreNoneReadyBetween l.from l.place l.rows (lanes_in l.games)

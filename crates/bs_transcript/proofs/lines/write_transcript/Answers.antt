@@ -15,8 +15,8 @@ start : (g : _) (c : After-push_all g)
 start g c =
     let sections = c.args.sections.now in
     let strays = c.args.strays.now in
-    sets_out (g.W.Write.contents c.args.output.now) c.in_ok-buffer.buffer c.in_ok-lengths.lengths (all_lines_of sections strays) (text_of sections strays)
-    (all_lines_text sections strays) c.in_ok-lengths.ensures c.in_ok-buffer.ensures.empty c.in_ok-buffer.ensures.longest
+    sets_out (g.W.Write.contents c.args.output.now) c.in_ok-buffer.buffer c.in_ok-bounds.bounds (all_lines_of sections strays) (text_of sections strays)
+    (all_lines_text sections strays) c.in_ok-bounds.ensures c.in_ok-buffer.ensures.empty c.in_ok-buffer.ensures.longest
     c.in_ok-buffer.ensures.room c.in_ok-buffer.ensures.written
 
 pub returns-in_err-push_all-clause-left : goal.returns-in_err-push_all-clause-left

@@ -3,12 +3,11 @@ use Rattle.std.specs.Prelude.{unwrap_or}
 use Rattle.bs_board.specs.declared.boards.board.Mode.TheVariants.{Standard}
 use Rattle.bs_board.specs.records.Decoder.{mode_from_bytes}
 use Rattle.bs_board.proofs.records.Fields.{mode_again}
-use Rattle.bs_board.proofs.records.LayoutBytes.{cut_cells, head_parts}
-use Rattle.bs_board.proofs.records.TurnBytes.{record_reaches_seats}
+use Rattle.bs_board.proofs.records.LayoutBytes.{cut_cells, head_fits, head_parts}
 use Rattle.bs_board.proofs.records.layout.split_board.Goals as goal
 
 pub returns-in_default : goal.returns-in_default
-returns-in_default c b is = let some = record_reaches_seats b c.args.bytes.now is in absurd (let none = c.in_default.len_below in omega arith)
+returns-in_default c b is = let some = head_fits b c.args.bytes.now is in absurd (let none = c.in_default.len_below in omega arith)
 
 pub returns-in-len11-up : goal.returns-in-len11-up
 returns-in-len11-up c b is =
@@ -22,7 +21,6 @@ returns-in-len11-up c b is =
       min_food = found.min_food;
       chance = found.chance;
       food = cut.0;
-      over = c.over_of_record.ensures b is;
       seats = c.from.ensures ∙ found.seats;
       snakes = cut.1;
     }

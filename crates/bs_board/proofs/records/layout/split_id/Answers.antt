@@ -1,6 +1,5 @@
 use Rattle.std.proofs.Common.{arith}
-use Rattle.bs_board.proofs.records.LayoutBytes.{id_is_cut}
-use Rattle.bs_board.proofs.records.OverBytes.{some_snake}
+use Rattle.bs_board.proofs.records.LayoutBytes.{id_is_cut, some_snake}
 use Rattle.bs_board.proofs.records.layout.split_id.Goals as goal
 
 pub returns-in-empty : goal.returns-in-empty

@@ -3,7 +3,7 @@ use Rattle.std.specs.Prelude.{slice_set}
 use Rattle.bs_heap.specs.HeldBlocks.{Holds, next_number}
 use Rattle.bs_sched.specs.declared.frames.FrameSlot.{FrameSlot}
 use Rattle.bs_sched.specs.declared.frames.FrameSlot.TheVariants as slot
-use Rattle.bs_sched.specs.FrameSlots.{number_in, bytes_in}
+use Rattle.bs_sched.specs.FrameSlots.{number_in, moved_in}
 use Rattle.bs_sched.specs.Frames.{FramesView, with_number}
 use Rattle.bs_sched.proofs.FrameNumbers.{parted}
 use Rattle.bs_sched.proofs.FrameBlocks.{sent, same_view}
@@ -33,5 +33,5 @@ returns-clause-frames g c =
     ap (λ (s : FrameSlot g.row.CAP). slice_set inside.slots.items c.args.part s) c.take_key-key.ensures.place in
     same_view inside.tag inside.tally inside.keys.items _ _ _ _
     (ap (λ (l : List (FrameSlot g.row.CAP)). map number_in l) written ∙ both.0 ∙ ap (λ (n : ℕ). slice_set (map number_in inside.slots.items) c.args.part (Some n)) number)
-    (ap (λ (l : List (FrameSlot g.row.CAP)). map bytes_in l) written ∙ both.1)
+    (ap (λ (l : List (FrameSlot g.row.CAP)). map moved_in l) written ∙ both.1)
     ∙ ap (with_number c.args.part (next_number c.args.pool.now)) c.self.view_is

@@ -1,7 +1,7 @@
-use Rattle.std.proofs.Common.{◌≡◌, ◌≤◌, ℕ, [], List, length, map, ap, sym, subst, ◌∙◌, All, arith}
+use Rattle.std.proofs.Common.{[], List, length, map, ap, sym, subst, ◌∙◌, All, arith}
 use Rattle.bs_sched.specs.Keyed.{AreKeysOf}
 use Rattle.bs_sched.specs.declared.frames.FrameSlot.{FrameSlot}
-use Rattle.bs_sched.specs.FrameSlots.{number_in, bytes_in, AreReadyAt, IsSlotOf}
+use Rattle.bs_sched.specs.FrameSlots.{number_in, moved_in, AreReadyAt, IsSlotOf}
 use Rattle.bs_sched.specs.Frames.{FramesView, forked_frames}
 use Rattle.bs_sched.proofs.FrameBlocks.{ready_slots, no_slot_stands, ready_with_keys, same_view}
 use Rattle.bs_sched.proofs.frames.Frames.fork.Goals as goal
@@ -25,5 +25,5 @@ returns g c =
     rw c.push_ready.ensures.keys
     (same_view inside.tag inside.tally [] _ _ _ _
     (ap (λ (l : List (FrameSlot g.row.CAP)). map number_in l) c.push_ready.ensures.slots ∙ ready.0)
-    (ap (λ (l : List (FrameSlot g.row.CAP)). map bytes_in l) c.push_ready.ensures.slots ∙ ready.1))
+    (ap (λ (l : List (FrameSlot g.row.CAP)). map moved_in l) c.push_ready.ensures.slots ∙ ready.1))
     ∙ ap (λ (f : FramesView). forked_frames f.tag f.tally (length f.keys)) c.self.view_is

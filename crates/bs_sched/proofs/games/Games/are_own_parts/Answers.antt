@@ -2,6 +2,7 @@ use Rattle.std.proofs.Common.{◌≡◌, ℕ, ◌<◌, length, Some, None, false
 use Rattle.std.specs.Option.{option_copied}
 use Rattle.std.proofs.lemmas.Option.{slice_get_within}
 use Rattle.bs_fiber.specs.declared.job.JobName.{JobName}
+use Rattle.bs_sched.specs.Lane.{Lane}
 use Rattle.bs_sched.specs.Parts.{IsOwnPart}
 use Rattle.bs_sched.proofs.OwnParts.{first_part}
 use Rattle.bs_sched.proofs.games.Games.are_own_parts.Goals as goal
@@ -21,7 +22,7 @@ returns g c =
       (λ yes. record {
         game = c.job-game.result.game;
         some = slice_get_within c.args.completed.now 0 (Some c.in-Some-Some.first) first;
-        all = sym c.if-count_parts-completed.false ∙ c.count_parts.ensures;
+        all = sym c.if-count_parts-completed.false ∙ c.count_parts.ensures ∙ ap (λ (x : Lane). length x.parts) (sym c.game.ensures);
         each = c.are_own_parts_of.ensures.0 yes;
       }),
       (λ are.

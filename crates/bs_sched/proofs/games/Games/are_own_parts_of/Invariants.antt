@@ -1,4 +1,4 @@
-use Rattle.std.proofs.Common.{◌≡◌, ℕ, ◌<◌, None, slice_index_or}
+use Rattle.std.proofs.Common.{ℕ, ◌<◌, None, slice_index_or}
 use Rattle.bs_sched.specs.Parts.{IsOwnPart}
 use Rattle.bs_sched.proofs.games.Games.are_own_parts_of.Given as goal
 

@@ -1,26 +1,33 @@
-use Rattle.std.proofs.Common.{◌≡◌, ◌<◌, true, length, sym, ap, subst, ◌∙◌}
-use Rattle.bs_sched.specs.Frames.{AreFramesOf}
-use Rattle.bs_sched.specs.Games.{GamesView}
-use Rattle.bs_sched.specs.GamesLayout.{IsHeapOf, frames_at, heap_of}
-use Rattle.bs_sched.specs.Lane.{Lane, no_lane}
-use Rattle.bs_sched.specs.Machine.{lane_of}
-use Rattle.bs_sched.specs.Storage.{frame_tag, record_tag}
-use Rattle.bs_sched.proofs.ChangedGames.{read_at, sound_lane, same_stage, handed_heap, handed_frames}
+use Rattle.std.proofs.Common.{◌≡◌, true, sym, ap, ◌∙◌}
+use Rattle.bs_sched.specs.Games.{GamesView, after}
+use Rattle.bs_sched.specs.Lane.{Lane}
+use Rattle.bs_sched.specs.declared.event.Event.TheVariants as event
+use Rattle.bs_sched.specs.Game.{handed_game}
+use Rattle.bs_sched.proofs.ChangedGame.{leaves_all}
+use Rattle.bs_sched.proofs.ChangedGames.{handed_blocks, handed_stay, handed_view, row_there, sound_game, stay_there}
+use Rattle.bs_sched.proofs.Results.{on_ok}
 use Rattle.bs_sched.proofs.games.Games.hand.Goals as goal
 
 pub invariant_of-self : goal.invariant_of-self
 invariant_of-self g c =
-    let fibers = c.self.inside.fibers.items in
-    let game = c.args.game in
-    let pool = c.self.inside.pool in
-    let within : game < length fibers = subst (λ (v : GamesView). game < length v.lanes) (sym c.self.view_is) c.requires.game in
-    let stands : (lane_of fibers game).is_open ≡ true = subst (λ (v : GamesView). (lane_of v.lanes game).is_open ≡ true) (sym c.self.view_is) c.requires.«open» in
-    let lane = read_at fibers game c.index_mut.result.now no_lane within c.index_mut.ensures.value in
-    let before = subst (λ (x : Lane). IsHeapOf g.row.CAP (record_tag game) x (heap_of c.self.inside.heaps.items game) pool) (sym lane)
-    (c.self.invariant.heaps game within stands) in
-    let frames = subst (λ (x : Lane). AreFramesOf (frame_tag game) x (frames_at c.self.inside.frames.items game) pool) (sym lane) (c.self.invariant.frames game within stands) in
-    let same = same_stage c.hand.result c.index_mut.result.now c.hand.new.self c.args.command c.hand.ensures.ok c.hand.ensures.err in
-    sound_lane g.row.CAP c.self.inside game c.hand.new.self c.self.invariant within stands (same.row ∙ ap (λ (x : Lane). x.row) lane)
-    (same.flag ∙ ap (λ (x : Lane). x.is_open) lane)
-    (handed_heap g.row.CAP (record_tag game) c.index_mut.result.now c.hand.new.self (heap_of c.self.inside.heaps.items game) pool before same)
-    (handed_frames (frame_tag game) c.index_mut.result.now c.hand.new.self (frames_at c.self.inside.frames.items game) pool frames same)
+    let inside = c.self.inside in
+    let v = c.index_mut.result.now in
+    let w = c.hand.new.self in
+    let here = stay_there inside c.args.self.now c.args.game v c.self.view_is c.requires.game c.index_mut.ensures.value in
+    let stands : v.lane.is_open ≡ true = ap (λ (x : Lane). x.is_open) (sym here.lane) ∙ c.requires.«open» in
+    let at = row_there g.row.CAP inside c.args.self.now c.args.game v c.self.invariant here stands in
+    sound_game g.row.CAP inside c.args.game v w inside.pool c.self.invariant here.within here.there stands
+    (handed_stay c.hand.result v w c.args.command c.hand.ensures.ok c.hand.ensures.err)
+    (handed_blocks c.hand.result g.row.CAP v w c.args.command inside.pool c.hand.ensures.ok c.hand.ensures.err at.blocks)
+    (leaves_all v.tag v.frames.tag inside.pool)
+
+pub returns-clause-ok : goal.returns-clause-ok
+returns-clause-ok g c =
+    let inside = c.self.inside in
+    let v = c.index_mut.result.now in
+    let w = c.hand.new.self in
+    let here = stay_there inside c.args.self.now c.args.game v c.self.view_is c.requires.game c.index_mut.ensures.value in
+    on_ok c.hand.result
+    (λ (is : w ≡ handed_game c.args.command v).
+    handed_view g.row.CAP inside c.args.game c.args.command v w here.there is ∙ ap (λ (u : GamesView). after g.row.CAP u (event.Hand c.args.game c.args.command)) c.self.view_is)
+    c.hand.ensures.ok

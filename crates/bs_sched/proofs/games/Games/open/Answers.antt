@@ -12,6 +12,5 @@ invariant_of-result g c =
     let fits : blocks_of_all g.row.CAP c.as_slice-rows.result.now ≤ c.args.blocks = omega (arith, room, all) in
     sound_opened g.row.CAP c.args.blocks _ c.requires.wide c.as_slice-rows.ensures.fits
     (rw rows at fits)
-    (rw rows at c.in_ok-fibers.ensures)
-    (rw rows at c.in_ok-heaps.ensures) (rw rows at c.in_ok-frames.ensures)
+    (rw rows at c.in_ok-list.ensures)
     (rw rows at c.in_ok-open_rows.ensures) (rw rows at c.in_ok-pool.ensures)

@@ -1,8 +1,10 @@
-use Rattle.std.proofs.Common.{◌∙◌}
-use Rattle.bs_board.proofs.records.KeptRecord.{seats_are_found}
+use Rattle.bs_board.proofs.records.KeptRecord.{fault_of, value_of}
 use Rattle.bs_board.proofs.records.record.Record.snakes.Goals as goal
 
+pub found-requires : goal.found-requires
+found-requires c =
+    let legal = c.parts.ensures.legal in
+    fault_of c.read_seats.result _ _ (c.read_seats.ensures legal.board legal.legal (c.parts.ensures.value legal.board legal.is))
+
 pub returns : goal.returns
-returns c b legal is =
-    seats_are_found c.as_slice.result.now c.args.from c.args.count b c.read_seats.result c.found.result legal (c.as_slice.ensures.value ∙ is) c.read_seats.ensures
-    c.found.ensures
+returns c b legal is = value_of c.read_seats.result c.found.result _ _ (c.read_seats.ensures b legal (c.parts.ensures.value b is)) c.found.ensures

@@ -1,0 +1,94 @@
+//! Upper bounds of the lengths of lines, computed without a pass over a board.
+ghost use Rattle.std.specs.Prelude.{◌≡◌, ◌+◌, ◌*◌, ◌<◌, ◌≤◌, ◌^◌, IfSome, decimal, length};
+ghost use Rattle.std.specs.Option.{option_copied};
+ghost use Rattle.serde_json.specs.Written.{compact_text};
+ghost use Rattle.bs_json.specs.Boards.{board_data};
+ghost use Rattle.bs_json.specs.Replies.{final_line_of, last_data, reply_line_of, stray_line_of};
+
+use crate::line::Stray;
+use bs_board::{Id, KeptBoard, Reply};
+
+/// A byte of a record makes at most this number of bytes of text. The longest are the two bytes of
+/// a cell, which make `{"x":123,"y":123},`.
+const TEXT_OF_BYTE: usize = 10;
+
+/// The text of a board beside the cells and the ids of its record: names of members, numbers, and
+/// the ids of killers.
+const BOARD_FRAME: usize = 16_384;
+
+/// A line beside its board, its charge and the name of its game.
+const LINE_FRAME: usize = 246;
+
+/// The line of a stray.
+const LONGEST_STRAY: usize = 256;
+
+/// The bytes of `null`.
+const NULL: usize = 4;
+
+/// A byte of a text in a JSON string: `\u001f` is the longest.
+const LONGEST_ESCAPE: usize = 6;
+
+/// An upper bound of the number of bytes of a board's text.
+fn board_bound(board: &KeptBoard) -> usize
+    ensures bound { length (compact_text (board_data board.now)) ≤ result }
+    ensures small { result < 2 ^ 21 }
+{
+    TEXT_OF_BYTE * board.record().len() + BOARD_FRAME
+}
+
+/// An upper bound of the number of digits of a charge.
+#[tactic(auto, using(crate::proofs::LineBounds::charge_bound))]
+fn charge_bound(_charge: u32) -> usize
+    ensures bound { length (decimal _charge) ≤ 10 }
+    ensures value { result ≡ 10 }
+{
+    10
+}
+
+/// The bound of a line whose board and charge have that bound. `None` if it is above `usize::MAX`.
+fn line_bound(game: &Id, parts: usize) -> Option<usize>
+    ensures { IfSome result (λ bound. bound ≡ 6 * length game.now + parts + 246) }
+{
+    let name = game.len().checked_mul(LONGEST_ESCAPE)?;
+    name.checked_add(parts)?.checked_add(LINE_FRAME)
+}
+
+/// An upper bound of the number of bytes of a reply's line, whatever its number is. `None` if it is
+/// above `usize::MAX`.
+pub fn reply_line_bound(game: &Id, _seq: u64, reply: &Reply) -> Option<usize>
+    ensures { IfSome result (λ bound. length (reply_line_of game.now _seq reply.now) ≤ bound) }
+{
+    match reply {
+        Reply::Shown(_, board, charge) => {
+            line_bound(game, board_bound(board) + charge_bound(*charge))
+        }
+        Reply::Plain(_, charge) => line_bound(game, charge_bound(*charge)),
+        Reply::Refused(_) => line_bound(game, 0),
+    }
+}
+
+/// An upper bound of the number of bytes of a last board's text, or of `null`.
+fn last_bound(board: Option<&KeptBoard>) -> usize
+    ensures bound { length (compact_text (last_data (option_copied board.entry))) ≤ result }
+    ensures small { result < 2 ^ 21 }
+{
+    match board {
+        Some(board) => board_bound(board),
+        None => NULL,
+    }
+}
+
+/// An upper bound of the number of bytes of a final line. `None` if it is above `usize::MAX`.
+pub fn final_line_bound(game: &Id, board: Option<&KeptBoard>, charge: u32) -> Option<usize>
+    ensures { IfSome result (λ bound. length (final_line_of game.now (option_copied board.entry) charge) ≤ bound) }
+{
+    line_bound(game, last_bound(board) + charge_bound(charge))
+}
+
+/// An upper bound of the number of bytes of a stray's line: all have the same.
+#[tactic(auto, using(crate::proofs::LineBounds::stray_bound))]
+pub fn stray_line_bound(_line: u64, _stray: Stray) -> usize
+    ensures { length (stray_line_of _line _stray) ≤ result }
+{
+    LONGEST_STRAY
+}

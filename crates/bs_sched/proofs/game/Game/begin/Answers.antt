@@ -1,0 +1,23 @@
+use Rattle.std.proofs.Common.{◌≡◌, true, sym, ap, subst, ◌∙◌}
+use Rattle.bs_fiber.specs.declared.job.JobKind.{JobKind}
+use Rattle.bs_fiber.specs.declared.job.JobKind.TheVariants as kind
+use Rattle.bs_sched.specs.Game.{GameView}
+use Rattle.bs_sched.specs.Lane.{is_ready, with_taken}
+use Rattle.bs_sched.proofs.ChangedGame.{kept_game, open_ready, taken_boards}
+use Rattle.bs_sched.proofs.PartFrames.{command_begun}
+use Rattle.bs_sched.proofs.game.Game.begin.Goals as goal
+
+pub invariant_of-self-2 : goal.invariant_of-self-2
+invariant_of-self-2 g c =
+    let inside = c.self.inside in
+    let p = c.args.job.part in
+    let x = c.begin.new.self in
+    let ready = subst (λ (k : JobKind). is_ready inside.fiber k p ≡ true) c.requires.kind
+    (subst (λ (v : GameView). is_ready v.lane c.args.job.kind p ≡ true) (sym c.self.view_is) c.requires.ready) in
+    let stands = open_ready g.row.CAP inside kind.Begin p c.self.invariant ready in
+    let lane : x ≡ with_taken c.args.worker kind.Begin p inside.fiber
+    = c.in_ok-begin.ensures.ok ∙ ap (with_taken c.args.worker kind.Begin 0) c.take_handle-handle.ensures.same in
+    kept_game g.row.CAP inside x c.grow_index.new.self c.begin-2.new.self c.self.invariant stands
+    (taken_boards inside.fiber x c.args.worker kind.Begin p lane) c.grow_index.ensures.heap (λ may. c.in_ok-grow_index.ensures.ok)
+    (command_begun inside.fiber x inside.frames c.begin-2.new.self c.args.worker p c.in_ok-tally.tally c.in_ok-tally.keys.items ready c.self.invariant.frames lane
+    c.begin-2.ensures (c.in_ok-tally.ensures c.args.worker))

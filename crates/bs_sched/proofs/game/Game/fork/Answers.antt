@@ -1,0 +1,37 @@
+use Rattle.std.proofs.Common.{◌≡◌, ℕ, List, Option, length, true, refl, sym, ap, subst, ◌∙◌, false}
+use Rattle.bs_fiber.specs.declared.job.JobKind.TheVariants as kind
+use Rattle.bs_heap.specs.HeldBlocks.{Holds}
+use Rattle.bs_sched.specs.Frames.{FramesView, known}
+use Rattle.bs_sched.specs.Game.{GameView, HasBlocks}
+use Rattle.bs_sched.specs.Insides.{may_answer}
+use Rattle.bs_sched.specs.Lane.{Lane, goes_on, is_out}
+use Rattle.bs_sched.proofs.ChangedGame.{framed_blocks, kept_game, leaves_none, open_out}
+use Rattle.bs_sched.proofs.PartFrames.{move_forked, none_known, to_fork}
+use Rattle.bs_sched.proofs.game.Game.fork.Goals as goal
+
+pub invariant_of-self : goal.invariant_of-self
+invariant_of-self g c =
+    let inside = c.self.inside in
+    let x = c.fork.new.self in
+    let begun = subst (λ (v : GameView). (w : ℕ) × (is_out w v.lane kind.Begin 0 ≡ true)) (sym c.self.view_is) c.requires.begun in
+    let goes = subst (λ (v : GameView). goes_on v.lane ≡ true) (sym c.self.view_is) c.requires.goes in
+    let stands = open_out g.row.CAP inside begun.0 kind.Begin 0 c.self.invariant begun.1 in
+    let lane = c.fork.ensures in
+    kept_game g.row.CAP inside x inside.heap c.fork-2.new.self c.self.invariant stands
+    (record { row = ap (λ (y : Lane). y.row) lane; flag = ap (λ (y : Lane). y.is_open) lane; game = ap (λ (y : Lane). y.game) lane }) refl
+    (λ may. let none : may_answer x.stage ≡ false = ap (λ (y : Lane). may_answer y.stage) lane in let wrong : false ≡ true = sym none ∙ may in absurd cc)
+    (move_forked inside.fiber x inside.frames c.fork-2.new.self begun.0 begun.1 goes c.self.invariant.frames lane c.fork-2.ensures)
+
+pub returns-clause-blocks : goal.returns-clause-blocks
+returns-clause-blocks g c pool before =
+    let inside = c.self.inside in
+    let begun = subst (λ (v : GameView). (w : ℕ) × (is_out w v.lane kind.Begin 0 ≡ true)) (sym c.self.view_is) c.requires.begun in
+    let goes = subst (λ (v : GameView). goes_on v.lane ≡ true) (sym c.self.view_is) c.requires.goes in
+    let has = subst (λ (v : GameView). HasBlocks g.row.CAP v pool) (sym c.self.view_is) before in
+    let none = (to_fork inside.fiber begun.0 inside.frames begun.1 goes c.self.invariant.frames).none in
+    let lane = c.fork.ensures in
+    let frames = c.fork-2.ensures in
+    let numbers : known inside.frames.numbers ≡ known c.fork-2.new.self.numbers
+    = ap (λ (ns : List (Option ℕ)). known ns) none ∙ sym (ap (λ (f : FramesView). known f.numbers) frames ∙ none_known (length inside.frames.keys)) in
+    framed_blocks g.row.CAP _ _ pool pool has refl refl (ap (λ (y : Lane). y.row) lane) (ap (λ (f : FramesView). f.tag) frames)
+    (subst (λ (ns : List ℕ). Holds inside.frames.tag ns pool) numbers has.frames) (leaves_none inside.frames.tag pool)

@@ -1,8 +1,0 @@
-use Rattle.std.proofs.Common.{◌≡◌, ℕ, ◌<◌, true, slice_index_or}
-use Rattle.bs_sched.specs.Lane.{is_quiet}
-use Rattle.bs_sched.specs.Machine.{lane_of}
-use Rattle.bs_sched.proofs.game.are_quiet.Given as goal
-
--- each stay so far is idle
-abbrev pub invariant-loop-place : goal.invariant-loop-place
-invariant-loop-place l = (place : ℕ) → place < l.place → is_quiet (lane_of l.fibers (slice_index_or l.rows place 0)) ≡ true
