@@ -5,7 +5,7 @@ ghost use Rattle.arena.specs.Reasons.{reason_of};
 use crate::reason::Reason;
 use bs_host::{Cut, Fault, LiveFault, ReadFault};
 
-/// The fault of a request whose command line was understood.
+/// Why a request with a valid command line failed.
 #[derive(Debug, Drop)]
 pub enum Failure {
     Read(ReadFault),

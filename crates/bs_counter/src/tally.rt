@@ -10,8 +10,8 @@ use atomic_table::Table;
 use std::alloc::{AllocError, Global};
 use std::sync::Arc;
 
-/// The number of missing parts of a turn, with a slot for the outcome of each part. It lives as
-/// long as one of its keys.
+/// Opens tallies. A tally is the number of missing parts of a move, with a slot for the outcome of
+/// each part; it lives as long as one of its keys.
 pub struct Tally;
 
 impl Tally {
@@ -25,7 +25,7 @@ impl Tally {
         Ok(keys)
     }
 
-    /// Like `open`, with the name of the tally.
+    /// Like `open`, and also returns the tally's name.
     pub fn open_named<T: Parted + Drop>(
         alloc: Global,
         n: usize,

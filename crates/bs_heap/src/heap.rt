@@ -31,13 +31,13 @@ pub fn blocks_for(cap: usize, quota: u32) -> usize
     quota as usize / (cap - MOST_RECORD_BYTES) + 2
 }
 
-/// The charge with the record would exceed the quota.
+/// Adding the record would raise the charge above the quota.
 #[derive(Clone, Copy, Debug, PartialEq, Eq, Error)]
 #[error("quota exceeded")]
 pub struct Quota;
 
-/// The records of one tag. Each is charged its size rounded up to a multiple of 16, and all
-/// together no more than the quota.
+/// The records of one tag. Each is charged its size rounded up to a multiple of 16; the sum never
+/// exceeds the quota.
 #[derive(Drop)]
 pub struct TagHeap<const CAP: usize> {
     blocks: TagBlocks<CAP>,
@@ -59,7 +59,7 @@ impl<const CAP: usize> Model for TagHeap<CAP> {
 }
 
 impl<const CAP: usize> TagHeap<CAP> {
-    /// Makes a heap without records, with memory for the list of all blocks that it may own.
+    /// Makes an empty heap with room in its block list for as many blocks as the quota allows.
     pub fn new(alloc: Global, tag: u32, quota: u32) -> Result<Self, AllocError>
         requires { MOST_RECORD_BYTES < CAP }
         ensures { IfOk result (λ heap. heap ≡ empty_heap tag quota) }
@@ -90,7 +90,7 @@ impl<const CAP: usize> TagHeap<CAP> {
         self.charge
     }
 
-    /// The bytes of record `i`, from 0 for the oldest.
+    /// The bytes of record `i`; record 0 is the oldest.
     pub fn record(&self, i: usize) -> &[u8]
         requires { i < length self.now.records }
         ensures { result.now ≡ slice_index_or self.now.records i [] }
@@ -106,8 +106,8 @@ impl<const CAP: usize> TagHeap<CAP> {
         self.index.capacity() - self.index.len()
     }
 
-    /// Makes room in the index for one more record. After an error, the allocator's, nothing has
-    /// changed.
+    /// Makes room in the index for one more record. The only error is the allocator's; the heap is
+    /// then unchanged.
     pub fn grow_index(&mut self) -> Result<(), AllocError>
         ensures heap { self.new ≡ with_index_room self.new.index_room self.old }
         ensures more { self.old.index_room ≤ self.new.index_room }

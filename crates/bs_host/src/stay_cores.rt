@@ -17,12 +17,12 @@ use bs_sched::Core;
 use bs_workers::Run;
 use std::alloc::{AllocError, Global};
 
-/// The core of each open stay, with the stay's number, in the order of the numbers. A stay that has
-/// left is dropped.
+/// The core of each open stay, with the stay's number, in the order of the numbers. The core of a
+/// stay is dropped when the stay leaves.
 #[derive(Drop)]
 pub(crate) struct StayCores {
     open: Vec<(usize, Core<BLOCK_BYTES>)>,
-    /// The memory of the last ticket, for the next one.
+    /// The contents of the last spent ticket, reused for the next.
     spent: Option<Box<Contents<BLOCK_BYTES>>>,
 }
 
@@ -75,7 +75,7 @@ impl StayCores {
         Ok(StayCores { open, spent: None })
     }
 
-    /// Answers the command in the open stay of that number, and appends its reply.
+    /// Answers the command in the open stay of that number, and appends its reply line to `text`.
     pub(crate) fn hand(
         &mut self,
         alloc: Global,
@@ -95,7 +95,7 @@ impl StayCores {
         Ok(())
     }
 
-    /// Opens a core for an admitted row, as the stay of that number.
+    /// Opens a core for an admitted row, whose stay has number `stay`.
     pub(crate) fn admit(
         &mut self,
         alloc: Global,

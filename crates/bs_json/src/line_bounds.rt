@@ -8,24 +8,24 @@ ghost use Rattle.bs_json.specs.Replies.{final_line_of, last_data, reply_line_of,
 use crate::line::Stray;
 use bs_board::{Id, KeptBoard, Reply};
 
-/// A byte of a record makes at most this number of bytes of text. The longest are the two bytes of
-/// a cell, which make `{"x":123,"y":123},`.
+/// An upper bound of the bytes of text per byte of a record's cells and ids. The worst case is a
+/// cell: two bytes become at most `{"x":123,"y":123},`.
 const TEXT_OF_BYTE: usize = 10;
 
-/// The text of a board beside the cells and the ids of its record: names of members, numbers, and
-/// the ids of killers.
+/// An upper bound of the bytes of a board's text apart from the cells and the ids of its record:
+/// names of members, numbers, and the ids of killers.
 const BOARD_FRAME: usize = 16_384;
 
-/// A line beside its board, its charge and the name of its game.
+/// An upper bound of the bytes of a line apart from its board, its charge and the name of its game.
 const LINE_FRAME: usize = 246;
 
-/// The line of a stray.
+/// An upper bound of the bytes of a stray line.
 const LONGEST_STRAY: usize = 256;
 
 /// The bytes of `null`.
 const NULL: usize = 4;
 
-/// A byte of a text in a JSON string: `\u001f` is the longest.
+/// The most bytes that one byte of a text takes in a JSON string, as in `\u001f`.
 const LONGEST_ESCAPE: usize = 6;
 
 /// An upper bound of the number of bytes of a board's text.
@@ -45,7 +45,8 @@ fn charge_bound(_charge: u32) -> usize
     10
 }
 
-/// The bound of a line whose board and charge have that bound. `None` if it is above `usize::MAX`.
+/// The bound of a line, given the bound `parts` of its board and charge together. `None` if it is
+/// above `usize::MAX`.
 fn line_bound(game: &Id, parts: usize) -> Option<usize>
     ensures { IfSome result (λ bound. bound ≡ 6 * length game.now + parts + 246) }
 {
@@ -53,7 +54,7 @@ fn line_bound(game: &Id, parts: usize) -> Option<usize>
     name.checked_add(parts)?.checked_add(LINE_FRAME)
 }
 
-/// An upper bound of the number of bytes of a reply's line, whatever its number is. `None` if it is
+/// An upper bound of the number of bytes of a reply's line, whatever its `seq` is. `None` if it is
 /// above `usize::MAX`.
 pub fn reply_line_bound(game: &Id, _seq: u64, reply: &Reply) -> Option<usize>
     ensures { IfSome result (λ bound. length (reply_line_of game.now _seq reply.now) ≤ bound) }
@@ -85,7 +86,7 @@ pub fn final_line_bound(game: &Id, board: Option<&KeptBoard>, charge: u32) -> Op
     line_bound(game, last_bound(board) + charge_bound(charge))
 }
 
-/// An upper bound of the number of bytes of a stray's line: all have the same.
+/// An upper bound of the number of bytes of a stray's line, the same for all stray lines.
 #[tactic(auto, using(crate::proofs::LineBounds::stray_bound))]
 pub fn stray_line_bound(_line: u64, _stray: Stray) -> usize
     ensures { length (stray_line_of _line _stray) ≤ result }

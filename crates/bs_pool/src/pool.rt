@@ -17,12 +17,12 @@ use std::alloc::{AllocError, Global};
 use std::marker::Model;
 
 /// A fixed number of blocks of `CAP` bytes, numbered from 0. A free block is empty and in the pool;
-/// an owned one is in an `Owned` of its tag.
+/// an owned block is inside an `Owned` with its tag.
 #[derive(Drop)]
 pub struct Pool<const CAP: usize> {
     slots: Vec<Slot<CAP>>,
     reservations: Vec<Account>,
-    // A bit for each number, set where it is free.
+    // One bit per block number, set if the block is free.
     words: Vec<u64>,
 }
 
@@ -89,8 +89,8 @@ impl<const CAP: usize> Pool<CAP> {
     }
 
     /// Reserves `n` blocks for the tag, which may then own up to `n`. `TagTaken` if the tag has a
-    /// reservation already; `Short` if fewer than `n` blocks are not reserved, whether owned or
-    /// not; `Memory` if memory runs out.
+    /// reservation already. `Short` if fewer than `n` blocks are unreserved; ownership does not
+    /// matter. `Memory` if memory runs out.
     #[tactic(auto, using(crate::proofs::Accounts::none_in, crate::proofs::Accounts::some_in, crate::proofs::Accounts::pushed_in))]
     pub fn reserve(&mut self, tag: u32, n: usize) -> Result<(), Reserve>
         requires { 1 ≤ n }
@@ -114,8 +114,8 @@ impl<const CAP: usize> Pool<CAP> {
         Ok(())
     }
 
-    /// Draws the free block of the least number, empty, for the tag. None if the tag owns as many
-    /// blocks as it reserved.
+    /// Draws the lowest-numbered free block, which is empty, for the tag. None if the tag owns as
+    /// many blocks as it reserved.
     pub fn draw(&mut self, tag: u32) -> Option<Owned<CAP>>
         ensures { Draws tag self.old result self.new }
     {

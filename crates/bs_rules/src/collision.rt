@@ -71,6 +71,8 @@ fn length_at(snakes: &[Snake], seat: usize) -> usize
     }
 }
 
+/// The longer of the killer so far and `other`; the killer so far if equal. `other` if there is no
+/// killer so far.
 fn longer_of(snakes: &[Snake], killer: Option<usize>, other: usize) -> Option<usize>
     ensures { result ≡ longer_of snakes.now killer other }
 {
@@ -154,8 +156,8 @@ fn judge_all(turn: u16, snakes: &mut Snakes)
     put_all_out(&verdicts, turn, snakes);
 }
 
-/// Eliminates the snakes that collide, among those that are alive after the first eliminations: all
-/// are judged on the same board, then all verdicts are applied.
+/// Eliminates each colliding snake among those alive after the first eliminations. All are judged
+/// on one board before any verdict is applied.
 pub fn collide(board: &mut Board)
     requires turn { board.old.turn < LAST_TURN }
     requires few { length board.old.snakes ≤ MOST_SNAKES }

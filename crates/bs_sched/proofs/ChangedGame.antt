@@ -27,8 +27,7 @@ use Rattle.bs_sched.specs.Courses.{IsRight}
 use Rattle.bs_sched.specs.Frames.{AreFramesAt, FitFrames, FramesView, LeavesBut, idle_frames, known}
 use Rattle.bs_sched.specs.Game.{GameView, HasBlocks, IsGame, KeepsBoards}
 use Rattle.bs_sched.specs.Insides.{may_answer}
-use Rattle.bs_sched.specs.Lane.{Lane, answered, is_idle, is_out, is_part_done, is_ready, kept_of, lane_command, lane_view, occupies, part_at, records_of, stage_with, with_taken, with_waiting}
-use Rattle.bs_sched.proofs.Answered.{is_at_command}
+use Rattle.bs_sched.specs.Lane.{Lane, answered, is_idle, is_out, is_part_done, is_ready, kept_of, lane_command, lane_view, part_at, records_of, stage_with, with_taken, with_waiting}
 use Rattle.bs_sched.proofs.PartFrames.{same_frame}
 use Rattle.bs_sched.proofs.RightRuns.{busy_out, busy_ready, not_quiet, open_busy}
 
@@ -42,9 +41,6 @@ open_ready cap c k p is ready = open_busy c.fiber is.quiet (busy_ready c.fiber k
 
 pub open_at_work : (cap : ℕ) {at : ℕ} (c : Inside at) → IsGame cap c → is_idle c.fiber.stage ≡ false → c.fiber.is_open ≡ true
 open_at_work cap c is busy = open_busy c.fiber is.quiet (not_quiet c.fiber busy)
-
-pub open_occupied : (cap : ℕ) {at : ℕ} (c : Inside at) (worker : ℕ) → IsGame cap c → occupies worker c.fiber ≡ true → c.fiber.is_open ≡ true
-open_occupied cap c worker is has = open_busy c.fiber is.quiet (not_quiet c.fiber (is_at_command c.fiber worker has).0)
 
 -- the heap of an open stay keeps the records of its boards
 
@@ -78,19 +74,6 @@ kept_game cap c x heap f is stands same grown room frames =
       quiet = λ shut. let wrong : true ≡ false = sym stands_still ∙ shut in absurd cc;
       frames = frames;
     }
-
--- only the room in its heap changes
-pub roomier_game : (cap : ℕ) {at : ℕ} (c : Inside at) (x : Lane) (heap : Heap) → IsGame cap c → x ≡ c.fiber → heap ≡ with_index_room heap.index_room c.heap
-    → c.heap.index_room ≤ heap.index_room → IsGame cap (record c { fiber = x; heap = heap })
-roomier_game cap c x heap is same grown more =
-    rw same (record {
-      wide = is.wide;
-      quota = ap (λ (h : Heap). h.quota) grown ∙ is.quota;
-      records = ap (λ (h : Heap). h.records) grown ∙ is.records;
-      room = λ may. let some = is.room may in omega (arith, some, more);
-      quiet = is.quiet;
-      frames = is.frames;
-    })
 
 -- the command is answered
 pub answered_kept : (cap : ℕ) {at : ℕ} (c : Inside at) (x : Lane) (heap : Heap) (f : FramesView) → IsGame cap c → c.fiber.is_open ≡ true → x ≡ answered c.fiber

@@ -1,8 +1,8 @@
 -- A core of which one game has changed.
 use Rattle.std.proofs.Common.{◌≡◌, ◌≢◌, ℕ, ◌+◌, ◌*◌, ◌<◌, true, false, List, [], length, map, Result, Ok, Err, refl, sym, ap, subst, ◌∙◌, get_or, arith, inl, inr}
-use Rattle.std.specs.Prelude.{Option, None, OnOk, OnErr, replicate, slice_set, Some}
+use Rattle.std.specs.Prelude.{◌↔◌, nat_lt, Option, None, OnOk, OnErr, replicate, slice_set, Some}
 use Rattle.std.specs.Vec.{with_item}
-use Rattle.std.proofs.lemmas.Bool.{cases_Bool, cases_eq}
+use Rattle.std.proofs.lemmas.Bool.{cases_Bool, cases_eq, lt-ltb}
 use Rattle.std.proofs.lemmas.Grind.{get_or-set_at}
 use Rattle.std.proofs.lemmas.List.{get_or-set_other, get_or-set_same, length-set, set-get_or}
 use Rattle.bs_board.specs.declared.commands.command.Command.{Command}
@@ -10,24 +10,27 @@ use Rattle.bs_counter.specs.Keys.{Key, TallyId}
 use Rattle.bs_fiber.specs.declared.job.JobKind.{JobKind}
 use Rattle.bs_fiber.specs.declared.job.JobKind.TheVariants as kind
 use Rattle.bs_fiber.specs.declared.job.JobName.{JobName}
+use Rattle.bs_fiber.specs.Tickets.{TicketView}
 use Rattle.bs_heap.specs.HeldBlocks.{next_number}
 use Rattle.bs_pool.specs.declared.reservation.Reservation.{Reservation}
 use Rattle.bs_pool.specs.Ledger.{Ledger}
 use Rattle.bs_sched.specs.declared.games.Games.TheInside.{Inside}
 use Rattle.bs_sched.specs.Frames.{LeavesBut, pool_taken}
-use Rattle.bs_sched.specs.Game.{GameView, HasBlocks, answered_game, completed_game, forked_game, handed_game, no_game, own_names, pool_completed, taken_game}
+use Rattle.bs_sched.specs.Game.{GameView, HasBlocks, answered_game, completed_game, forked_game, IsOwnTicket, handed_game, no_game, own_names, pool_completed, taken_game}
 use Rattle.bs_sched.specs.declared.event.Event.TheVariants as event
 use Rattle.bs_sched.specs.Games.{GamesView, after, answer_effect, brought, games_taken, storage_put, storage_taken}
 use Rattle.bs_sched.specs.GamesLayout.{AreAtRows, AreGone, IsAtRow, IsSound, game_at, games_in, lanes_in, storage_in, tallies_in}
-use Rattle.bs_sched.specs.Inputs.{job_numbers, names_for}
+use Rattle.bs_sched.specs.Inputs.{input_of, job_numbers, names_for}
 use Rattle.bs_sched.specs.Lane.{Lane, forked, goes_on, is_out, is_ready, with_put, with_waiting}
 use Rattle.bs_sched.specs.Machine.{lane_of, open_blocks}
+use Rattle.bs_sched.specs.Putting.{IsOwn}
 use Rattle.bs_sched.specs.Reserved.{AreReserved}
 use Rattle.bs_sched.specs.Storage.{frame_tag, frames_of, record_tag, stored, without_frames}
 use Rattle.bs_sched.proofs.Brought.{answered_storage}
 use Rattle.bs_sched.proofs.ChangedGame.{left_blocks, taken_boards}
 use Rattle.bs_sched.proofs.ListedGames.{lane_at, lane_read, lanes_set, many_lanes, numbers_at, numbers_set, packing_at, packings_set, read_at, same_numbers, same_packings}
 use Rattle.bs_sched.proofs.OpenRows.{open_same}
+use Rattle.bs_sched.proofs.OwnJobs.{own_out}
 use Rattle.bs_sched.proofs.Reserved.{reserved_changed, with_room}
 use Rattle.bs_sched.proofs.RightRuns.{busy_out, busy_ready, open_busy}
 use Rattle.bs_sched.proofs.Tallies.{same_tallies}
@@ -302,6 +305,30 @@ pub open_with_ready : (cap : ℕ) {at : ℕ} (c : Inside at) (view : GamesView) 
     → is_ready v.lane k p ≡ true → v.lane.is_open ≡ true
 open_with_ready cap c view game k p v sound here ready =
     rw here.there (open_ready cap c game k p sound here.within (rw (← here.there) ready))
+
+-- whether a ticket is the core's own is judged by its stay
+pub own_at_stay : (cap : ℕ) {at : ℕ} (c : Inside at) (view : GamesView) (worker : ℕ) (ticket : TicketView) (v : GameView) → IsSound cap c → games_in c ≡ view
+    → IsThere c view ticket.input.job.game v → IsOwnTicket v worker ticket ↔ IsOwn view worker ticket
+own_at_stay cap c view worker ticket v sound is here =
+    let job = ticket.input.job in
+    let tag : is_out worker v.lane job.kind job.part ≡ true → v.frames.tag ≡ frame_tag job.game
+    = λ out. (row_there cap c view job.game v sound here (open_with_out cap c view job.game worker job.kind job.part v sound here out)).frame_tag_is in
+    let within : nat_lt job.game (length view.lanes) ≡ true
+    = lt-ltb _ _ (let less = here.within in let many = many_lanes c.list.items in let same = ap (λ (u : GamesView). length u.lanes) is in omega (arith, less, many, same)) in (
+      (λ own.
+          let lane = here.lane in
+          record {
+            out = rw (within, lane, own.own.out) refl;
+            input = rw lane own.own.input;
+            frames = own.names ∙ names_there c view job v is here (tag own.own.out);
+          }),
+      (λ own.
+          let out = subst (λ (x : Lane). is_out worker x job.kind job.part ≡ true) here.lane (own_out view worker ticket own) in
+          record {
+            own = record { out = out; input = subst (λ (x : Lane). ticket.input ≡ input_of x worker job) here.lane own.input };
+            names = own.frames ∙ sym (names_there c view job v is here (tag out));
+          }),
+    )
 
 pub same_view : {at : ℕ} (c : Inside at) (game : ℕ) (v w : GameView) (pool : Ledger) → v ≡ game_at c.list.items game → w ≡ v → pool ≡ c.pool
     → games_in (record c { list = with_item c.list game w; pool = pool }) ≡ games_in c

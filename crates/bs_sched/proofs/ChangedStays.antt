@@ -375,23 +375,3 @@ can_reserve cap c row sound fits =
     let aside = sound.reserved in
     let all = aside.within in
     (subst (λ (n : ℕ). All (λ r. r.tag < record_tag n) c.pool.reservations) (many_lanes c.list.items) aside.below, omega (arith, all, fits))
-
--- only the capacity of the lists changes, and no list
-
-pub record LooksSame {at : ℕ} (c new : Inside at) : Type 0 where
-  pub rows : new.rows ≡ c.rows
-  pub games : new.list.items ≡ c.list.items
-  pub listed : new.open_rows.items ≡ c.open_rows.items
-  pub pool : new.pool ≡ c.pool
-
-pub sound_same : (cap : ℕ) {at : ℕ} (c new : Inside at) → IsSound cap c → LooksSame c new → IsSound cap new
-sound_same cap c new sound same =
-    record {
-      wide = sound.wide;
-      plan = rw same.rows sound.plan;
-      few = rw same.games sound.few;
-      listed = rw (same.listed, same.games) sound.listed;
-      blocks = rw (same.games, same.pool) sound.blocks;
-      gone = rw same.games sound.gone;
-      reserved = rw (same.games, same.pool) sound.reserved;
-    }

@@ -35,7 +35,7 @@ use Rattle.bs_sched.specs.declared.stage.PartState.{PartState}
 use Rattle.bs_sched.specs.declared.stage.PartState.TheVariants as state
 use Rattle.bs_sched.specs.declared.stage.Stage.{Stage}
 use Rattle.bs_sched.specs.declared.stage.Stage.TheVariants as stage
-use Rattle.bs_sched.specs.Lane.{Lane, lane_view, lane_command, is_ready, is_part_ready, part_at, with_taken, is_out, is_idle, is_in_parts, is_playing, is_to_join, has_part, has_join}
+use Rattle.bs_sched.specs.Lane.{Lane, lane_view, lane_command, is_ready, is_part_ready, part_at, with_taken, is_out, is_in_parts, is_playing, has_part, has_join}
 
 -- the boards that a game shows are legal
 
@@ -202,18 +202,6 @@ taken_input x y worker job input ready is right held =
     let out : is_out worker y job.kind job.part ≡ true = rw is (out_taken x worker job.kind job.part ready) in
     rw held (lane_input y worker job right out)
 
-busy_of_parts : (s : Stage) → is_in_parts s ≡ true → is_idle s ≡ false
-busy_of_parts stage.Idle at = let wrong : false ≡ true = at in cc
-busy_of_parts (stage.Begin worker) at = refl
-busy_of_parts stage.Parts at = refl
-busy_of_parts (stage.Join taker) at = refl
-
-busy_to_join : (s : Stage) → is_to_join s ≡ true → is_idle s ≡ false
-busy_to_join stage.Idle at = let wrong : false ≡ true = at in cc
-busy_to_join (stage.Begin worker) at = refl
-busy_to_join stage.Parts at = refl
-busy_to_join (stage.Join taker) at = refl
-
 -- a part and a Join are of the command in progress
 
 pub part_input : (x y : Lane) (worker : ℕ) (job : JobName) (input : Input) → job.kind ≡ kind.Part → y ≡ with_taken worker kind.Part job.part x
@@ -230,11 +218,3 @@ join_input x y worker job input parts join is held moved =
     let all : parts ≡ moved_parts_for job.kind z = moved ∙ ap (λ (k : JobKind). moved_parts_for k z) (sym join) in
     subst (λ (w : Lane). ◌≡◌ {A = Input} (record input { parts = parts }) (input_of w worker job)) (sym is)
     (ap (λ (i : Input). record i { parts = parts }) held ∙ ap (λ (ps : List (List Snake)). record (current_input x worker job) { parts = ps }) all)
-
--- a job of the command in progress may be taken
-
-pub part_busy : (x : Lane) (p : ℕ) → is_ready x kind.Part p ≡ true → is_idle x.stage ≡ false
-part_busy x p ready = busy_of_parts (x.stage) (and_both _ _ ready).0
-
-pub join_busy : (x : Lane) (p : ℕ) → is_ready x kind.Join p ≡ true → is_idle x.stage ≡ false
-join_busy x p ready = busy_to_join (x.stage) (and_both _ _ ready).1

@@ -6,8 +6,6 @@ use Rattle.std.proofs.lemmas.Bool.{and_parts, eqb-true}
 use Rattle.bs_board.specs.declared.boards.snake.Snake.{Snake}
 use Rattle.bs_fiber.specs.declared.job.JobKind.TheVariants as kind
 use Rattle.bs_fiber.specs.declared.job.JobKind.{JobKind}
-use Rattle.bs_fiber.specs.Frames.{frame_of}
-use Rattle.bs_fiber.specs.Tickets.{fresh_bytes}
 use Rattle.bs_fiber.specs.Work.{moved_part}
 use Rattle.bs_sched.specs.declared.stage.Stage.{Stage}
 use Rattle.bs_sched.specs.declared.stage.Stage.TheVariants as stage
@@ -66,9 +64,6 @@ join_taken x y f h worker p ready y_is h_is are =
       };
     } in
     rw (y_is, h_is) whole
-
-pub fresh_join : (k : JobKind) (moved parts : List (List Snake)) → k ≡ kind.Join → moved ≡ parts → map frame_of moved ≡ fresh_bytes k parts
-fresh_join k moved parts is same = rw (is, same) refl
 
 -- the blocks of all parts are the Join's
 pub join_names : (k : JobKind) (p : ℕ) (f h : FramesView) (names : List (ℕ × ℕ)) → k ≡ kind.Join → h ≡ joining_frames f → names ≡ map (λ n. (f.tag, n)) (known f.numbers)

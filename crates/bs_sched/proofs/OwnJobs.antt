@@ -19,7 +19,7 @@ use Rattle.bs_sched.specs.Inputs.{input_for, input_of, names_for}
 use Rattle.bs_sched.specs.Lane.{Lane, lane_command, lane_view, is_out}
 use Rattle.bs_sched.specs.Games.{GamesView}
 use Rattle.bs_sched.specs.Machine.{lane_of}
-use Rattle.bs_sched.specs.Putting.{IsOwn, IsOwnInput, IsOwnOf}
+use Rattle.bs_sched.specs.Putting.{IsOwn, IsOwnOf}
 use Rattle.bs_sched.proofs.FitInputs.{lane_input, lane_seen}
 
 -- what the lane expects does not depend on the parts
@@ -88,22 +88,3 @@ brings core worker brought job out own is right worked =
           (subst (λ (j : JobName). IsRight (lane_of core.lanes j.game)) is right) own.input worked;
       names = own.frames;
     })
-
--- its input and its blocks
-
-pub input_there : (games : GamesView) (worker : ℕ) (brought : TicketView) → IsOwnInput games worker brought → brought.input.job.game < length games.lanes
-input_there games worker brought own = ltb-true _ _ (and_both (nat_lt brought.input.job.game (length games.lanes)) _ own.out).0
-
-pub input_out : (games : GamesView) (worker : ℕ) (brought : TicketView) → IsOwnInput games worker brought
-    → (w : ℕ) × (is_out w (lane_of games.lanes brought.input.job.game) brought.input.job.kind brought.input.job.part ≡ true)
-input_out games worker brought own =
-    let rest = (and_both (nat_lt brought.input.job.game (length games.lanes)) _ own.out).1 in
-    (worker, (and_both (is_out worker (lane_of games.lanes brought.input.job.game) brought.input.job.kind brought.input.job.part) true rest).0)
-
-pub own_both : (games : GamesView) (worker : ℕ) (brought : TicketView) (answer : Bool) → IsOwnInput games worker brought
-    → (IsTrue answer ↔ names_of brought.frames ≡ names_for games.storage brought.input.job) → (IsTrue answer ↔ IsOwn games worker brought)
-own_both games worker brought answer own frames =
-    (λ yes. record { out = own.out; input = own.input; frames = frames.0 yes }, λ is. frames.1 is.frames)
-
-pub own_neither : (games : GamesView) (worker : ℕ) (brought : TicketView) → (IsOwnInput games worker brought → ⊥) → IsOwn games worker brought → ⊥
-own_neither games worker brought not_own is = not_own (record { out = is.out; input = is.input })

@@ -1,7 +1,7 @@
 -- The parts of a move are completed one after the other: each is still the core's own once the ones
 -- before it are completed.
 use Rattle.std.proofs.Common.{◌≡◌, ◌≢◌, ℕ, zero, suc, ◌+◌, ◌<◌, true, false, List, [], ◌∷◌, length, Option, Some, None, refl, sym, ap, subst, ◌∙◌, arith, get_or, slice_index_or}
-use Rattle.std.specs.Prelude.{nat_lt, slice_set, slice_get, remove}
+use Rattle.std.specs.Prelude.{nat_lt, slice_set, slice_get}
 use Rattle.std.specs.List.{list_all}
 use Rattle.std.proofs.lemmas.Bool.{and_from, lt-ltb, cond-true}
 use Rattle.std.proofs.lemmas.List.{get_or-set_same, get_or-set_other, length-set}
@@ -122,17 +122,18 @@ next_of cap old game p (Some done) rest own =
     )
 
 -- the first of the remaining ones is completed
-pub next_part : (cap : ℕ) (old new : CoreView) (game p : ℕ) (items : List (Option TicketView)) (one : Option TicketView) → 0 < length items → AreOwnFrom old.games game p items
-    → one ≡ slice_index_or items 0 one → new ≡ core_run cap old (puts_of (one ∷ [])) → NextPart cap old new game p items (remove items 0)
-next_part cap old new game p [] one some own is run = absurd (omega arith)
-next_part cap old new game p (x ∷ rest) one some own is run =
-    subst (λ (core : CoreView). NextPart cap old core game p (x ∷ rest) rest) (sym run)
-    (subst (λ (y : Option TicketView). NextPart cap old (core_run cap old (puts_of (y ∷ []))) game p (x ∷ rest) rest) (sym is) (next_of cap old game p x rest own))
+pub next_part : (cap : ℕ) (old new : CoreView) (game p : ℕ) (items rest : List (Option TicketView)) (one : Option TicketView) → items ≡ one ∷ rest
+    → AreOwnFrom old.games game p items → new ≡ core_run cap old (puts_of (one ∷ [])) → NextPart cap old new game p items rest
+next_part cap old new game p items rest one is own run =
+    subst (λ (core : CoreView). NextPart cap old core game p items rest) (sym run)
+    (subst (λ (all : List (Option TicketView)). NextPart cap old (core_run cap old (puts_of (one ∷ []))) game p all rest) (sym is)
+    (next_of cap old game p one rest (subst (AreOwnFrom old.games game p) is own)))
 
-pub own_next : (games : GamesView) (game p : ℕ) (items : List (Option TicketView)) (one : Option TicketView) → 0 < length items → AreOwnFrom games game p items
-    → one ≡ slice_index_or items 0 one → IsOwnPart games game p one
-own_next games game p [] one some own is = absurd (omega arith)
-own_next games game p (x ∷ rest) one some own is = subst (IsOwnPart games game p) (sym is) own.0
+pub own_next : (games : GamesView) (game p : ℕ) (items rest : List (Option TicketView)) (one : Option TicketView) → items ≡ one ∷ rest → AreOwnFrom games game p items
+    → IsOwnPart games game p one
+own_next games game p items rest one is own =
+    let here : AreOwnFrom games game p (one ∷ rest) = subst (AreOwnFrom games game p) is own in
+    here.0
 
 -- each is enabled in its place
 enabled_from : (setting : Setting) (games : GamesView) (game p : ℕ) (completed : List (Option TicketView)) → setting.workers ≡ games.workers → AreOwnFrom games game p completed

@@ -23,6 +23,7 @@ use Rattle.bs_sched.specs.Games.{answer_effect}
 use Rattle.bs_sched.specs.Inputs.{input_of, job_numbers}
 use Rattle.bs_sched.specs.Insides.{may_answer}
 use Rattle.bs_sched.specs.Lane.{Lane, answered, closed_lane, empty_lane, forked, goes_on, is_out, is_quiet, kept_of, lane_command, lane_view, no_lane, with_part_done, with_taken, with_waiting}
+use Rattle.bs_sched.specs.Putting.{IsOwnOf}
 use Rattle.bs_sched.specs.Storage.{frame_tag, packing_after, pool_after, record_tag}
 
 pub record GameView : Type 0 where
@@ -127,3 +128,8 @@ pub record IsAnswering (v : GameView) (names : List (ℕ × ℕ)) : Type 0 where
   pub kind : job.kind ≢ kind.Part
   pub out : is_out worker v.lane job.kind job.part ≡ true
   pub names_are : names ≡ own_names v job
+
+-- the worker has the ticket's job out, and the ticket holds the input for it and its frame blocks
+pub record IsOwnTicket (v : GameView) (worker : ℕ) (ticket : TicketView) : Type 0 where
+  pub own : IsOwnOf v.lane worker ticket
+  pub names : names_of ticket.frames ≡ own_names v ticket.input.job

@@ -13,11 +13,6 @@ pub record IsOwnOf (x : Lane) (worker : ℕ) (brought : TicketView) : Type 0 whe
   pub out : is_out worker x brought.input.job.kind brought.input.job.part ≡ true
   pub input : brought.input ≡ input_of x worker brought.input.job
 
--- the worker has the job, and its input is the core's own
-pub record IsOwnInput (games : GamesView) (worker : ℕ) (brought : TicketView) : Type 0 where
-  pub out : is_enabled_there games.workers games.lanes (event.Put worker brought.input.job) ≡ true
-  pub input : brought.input ≡ input_of (lane_of games.lanes brought.input.job.game) worker brought.input.job
-
 -- the worker has the job, and its input and its frame blocks are the core's own
 pub record IsOwn (games : GamesView) (worker : ℕ) (brought : TicketView) : Type 0 where
   pub out : is_enabled_there games.workers games.lanes (event.Put worker brought.input.job) ≡ true

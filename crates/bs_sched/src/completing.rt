@@ -80,14 +80,13 @@ impl<const CAP: usize> Core<CAP> {
     }
 
     /// Completes all parts of one move of this core. The journal has room for their events.
-    fn complete_parts(&mut self, completed: ArrayVec<Option<Done<CAP>>, 4>)
-        requires { AreOwnParts self.old.games completed.items }
-        ensures { self.new ≡ core_run CAP self.old (puts_of completed.entry.items) }
+    fn complete_parts(&mut self, parts: &mut [Option<Done<CAP>>])
+        requires { AreOwnParts self.old.games parts.old }
+        ensures { self.new ≡ core_run CAP self.old (puts_of parts.old) }
     {
-        let mut rest = completed;
-        for _part in 0..rest.len() {
-            let first = rest.remove(0);
-            self.complete_part(first);
+        for part in 0..parts.len() {
+            let done = parts[part].take();
+            self.complete_part(done);
         }
     }
 
@@ -103,7 +102,8 @@ impl<const CAP: usize> Core<CAP> {
         if !self.games.are_own_parts(parts.as_slice()) {
             return Err(Strays { parts });
         }
-        self.complete_parts(parts);
+        let mut parts = parts;
+        self.complete_parts(parts.as_mut_slice());
         Ok(())
     }
 }

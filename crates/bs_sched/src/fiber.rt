@@ -1,6 +1,10 @@
 //! The fiber of one game: its commands, its replies and its stage. Contracts see its lane.
 ghost use Rattle.std.specs.Prelude.{◌≡◌, ◌+◌, ◌≤◌, ◌<◌, ℕ, true, false, [], length, replicate, vec_capacity, slice_index_or, MatchOption, option_map, IfOk, IfSome, OnOk, OnErr};
 ghost use Rattle.std.specs.List.{list_all, position};
+ghost use Rattle.bs_board.specs.boards.Over.{is_over};
+ghost use Rattle.bs_board.specs.declared.boards.board.Board.{Board as AnyBoard};
+ghost use Rattle.bs_board.specs.records.Record.{record_of};
+ghost use Rattle.bs_fiber.specs.Work.{parts_of};
 ghost use Rattle.bs_game.specs.Answer.{Fits};
 ghost use Rattle.bs_sched.specs.declared.stage.PartState.TheVariants as state;
 ghost use Rattle.bs_sched.specs.Lane.{is_part_done, is_part_ready, has_part};
@@ -8,7 +12,7 @@ ghost use Rattle.bs_sched.specs.LastBoards.{last_after};
 
 use crate::stage::{MOST_PARTS, PartState, Stage};
 use bs_board::limits::MOST_QUOTA;
-use bs_board::{Command, KeptBoard, Reply, Row};
+use bs_board::{Command, KeptBoard, Record, Reply, Row};
 use bs_fiber::{Handed, JobKind, SharedCommand};
 use bs_game::{Answer, Effect};
 use std::alloc::{AllocError, Global};
@@ -141,6 +145,19 @@ fn first_ready(parts: &[PartState]) -> Option<u8>
     None
 }
 
+/// The number of parts of a move on the board of the record, one for two seats; `None` if the game
+/// is over.
+fn parts_of_record(last: &Record) -> Option<usize>
+    ensures value { (b : AnyBoard) → last.now ≡ record_of b → MatchOption result (is_over b ≡ true) (λ parts. parts ≡ parts_of (length b.snakes)) }
+    ensures few { IfSome result (λ parts. (1 ≤ parts) × (parts ≤ 4)) }
+{
+    if last.is_over() {
+        return None;
+    }
+    let _bytes = last.as_slice();
+    Some((last.seats() + 1) / 2)
+}
+
 impl Fiber {
     ghost use Rattle.std.specs.Prelude.{[], ◌++◌, ◌∷◌, nat_eq, take, drop, map, Option, slice_get};
     ghost use Rattle.bs_fiber.specs.declared.job.JobKind.TheVariants as kind;
@@ -196,11 +213,27 @@ impl Fiber {
         self.last.as_ref()
     }
 
-    /// Recalls for the prover that a stay that has left is idle.
-    pub(crate) fn rests(&self)
-        ensures { self.now.is_open ≡ false → is_quiet self.now ≡ true }
+    /// The record of that board.
+    pub(crate) fn last_record(&self) -> Option<&Record>
+        ensures { option_map (λ kept. kept.now) result ≡ option_map record_of (last_board self.now.game) }
     {
-        let _begun = self.begun;
+        match &self.last {
+            None => None,
+            Some(last) => Some(last.shared()),
+        }
+    }
+
+    /// The number of parts of a move on that board; `None` if no game runs or it is over.
+    pub(crate) fn parts_of_move(&self) -> Option<usize>
+        ensures value { MatchOption result
+            (IfSome (last_board self.now.game) (λ board. is_over board ≡ true))
+            (λ parts. parts ≡ parts_of (length (snakes_in (last_board self.now.game)))) }
+        ensures few { IfSome result (λ parts. (1 ≤ parts) × (parts ≤ 4)) }
+    {
+        match self.last_record() {
+            None => None,
+            Some(last) => parts_of_record(last),
+        }
     }
 
     /// The name and the quota.
@@ -265,7 +298,7 @@ impl Fiber {
     }
 
     /// Completes the part.
-    pub(crate) fn put_part(&mut self, part: usize)
+    pub(crate) fn complete_part(&mut self, part: usize)
         requires { (worker : ℕ) × (is_out worker self.old kind.Part part ≡ true) }
         ensures { self.new ≡ with_part_done part self.old }
     {

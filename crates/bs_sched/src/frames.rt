@@ -146,7 +146,7 @@ fn send_all_off<const CAP: usize>(
 }
 
 /// Gives the blocks back to the pool, the last one first.
-fn give_back<const CAP: usize>(blocks: &mut Vec<Owned<CAP>>, pool: &mut Pool<CAP>)
+fn give_all<const CAP: usize>(blocks: &mut Vec<Owned<CAP>>, pool: &mut Pool<CAP>)
     requires { AreLent blocks.old.items pool.old }
     ensures none { blocks.new.items ≡ [] }
     ensures given { pool.new ≡ all_given (owned_numbers blocks.old.items) pool.old }
@@ -266,7 +266,7 @@ impl<const CAP: usize> Frames<CAP> {
     }
 
     /// Stores the moved snakes and the block of a completed part.
-    pub(crate) fn bring(&mut self, part: usize, moved: Moved, owned: Owned<CAP>)
+    pub(crate) fn complete_part(&mut self, part: usize, moved: Moved, owned: Owned<CAP>)
         requires out { slice_get self.old.numbers part ≡ Some (Some owned.number) }
         requires tag { owned.tag ≡ self.old.tag }
         requires holds { owned.block ≡ frame_of moved }
@@ -291,7 +291,7 @@ impl<const CAP: usize> Frames<CAP> {
     }
 
     /// Gives the blocks of the answered command back to the pool, and drops its keys.
-    pub(crate) fn give(&mut self, frames: &mut Vec<Owned<CAP>>, pool: &mut Pool<CAP>)
+    pub(crate) fn give_back(&mut self, frames: &mut Vec<Owned<CAP>>, pool: &mut Pool<CAP>)
         requires names { names_of (frames_in frames.old.items) ≡ map (λ n. (self.old.tag, n)) (known self.old.numbers) }
         requires held { Holds self.old.tag (known self.old.numbers) pool.old }
         ensures frames { self.new ≡ idle_frames self.old.tag self.old.tally }
@@ -300,7 +300,7 @@ impl<const CAP: usize> Frames<CAP> {
         ensures kept { Holds self.old.tag [] pool.new }
         ensures others { LeavesOthers self.old.tag pool.old pool.new }
     {
-        give_back(frames, pool);
+        give_all(frames, pool);
         self.slots.clear();
         self.keys.clear();
     }

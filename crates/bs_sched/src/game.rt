@@ -2,6 +2,8 @@
 //! Clauses see its lane, the places of its records and its frames.
 ghost use Rattle.std.specs.Prelude.{◌≡◌, ◌≢◌, ◌<◌, ◌≤◌, ◌*◌, ◌↔◌, ◌∷◌, IsTrue, ℕ, true, false, [], length, map, slice_get, slice_index_or, Some, MatchOption, option_map, IfOk, OnOk, OnErr};
 ghost use Rattle.bs_board.specs.declared.limits.TheConstants.{MOST_QUOTA};
+ghost use Rattle.bs_board.specs.records.Record.{record_of};
+ghost use Rattle.bs_fiber.specs.Expected.{IsLegalAsked, IsOf};
 ghost use Rattle.bs_fiber.specs.declared.input.Input.{Input as AnyInput};
 ghost use Rattle.bs_fiber.specs.declared.job.JobKind.TheVariants as kind;
 ghost use Rattle.bs_fiber.specs.Frames.{frame_of};
@@ -9,27 +11,29 @@ ghost use Rattle.bs_fiber.specs.Tickets.{HoldsWork, IsFresh, frames_in, names_of
 ghost use Rattle.bs_fiber.specs.Work.{moved_part, out_seen};
 ghost use Rattle.bs_game.specs.Game.{game_charge, last_board};
 ghost use Rattle.bs_game.specs.View.{answer_of};
-ghost use Rattle.bs_heap.specs.HeldBlocks.{LeavesOthers, all_given, next_number};
+ghost use Rattle.bs_game.specs.Law.{IsFitEffect, effected};
+ghost use Rattle.bs_heap.specs.Charge.{charge_of, blocks_for};
+ghost use Rattle.bs_heap.specs.HeldBlocks.{IsKeptIn, LeavesOthers, all_given, next_number};
 ghost use Rattle.bs_heap.specs.Packing.{numbers_of};
-ghost use Rattle.bs_pool.specs.Ledger.{Ledger, drawn};
+ghost use Rattle.bs_pool.specs.Ledger.{Ledger, drawn, reserved};
 ghost use Rattle.bs_sched.specs.Courses.{IsRight};
 ghost use Rattle.bs_sched.specs.Frames.{FitFrames, LeavesBut, pool_taken};
-ghost use Rattle.bs_sched.specs.Game.{HasBlocks, IsAnswering, IsTicketOf, answered_game, closed_game, completed_game, forked_game, game_with_part, handed_game, opened_game, own_names, pool_answered, pool_completed, taken_game};
-ghost use Rattle.bs_sched.specs.Inputs.{current_input};
+ghost use Rattle.bs_sched.specs.Game.{HasBlocks, IsAnswering, IsOwnTicket, IsTicketOf, answered_game, closed_game, completed_game, forked_game, game_with_part, handed_game, opened_game, own_names, pool_answered, pool_completed, taken_game};
+ghost use Rattle.bs_sched.specs.Inputs.{board_asked, current_input, input_for};
 ghost use Rattle.bs_sched.specs.Keyed.{HasKeys, IsKeyAt, IsKeyOf};
 ghost use Rattle.bs_sched.specs.Lane.{HasNoneReady, goes_on, is_idle, is_out, is_quiet, is_ready, kept_of, lane_command, lane_view, may_leave, with_taken};
-ghost use Rattle.bs_sched.specs.Putting.{IsOwnOf};
+ghost use Rattle.bs_sched.specs.Storage.{packing_after, pool_after};
+ghost use Rattle.bs_sched.specs.Turns.{FindsTurn};
 
 use crate::cores::LEAST_CAPACITY;
 use crate::fiber::Fiber;
 use crate::frames::Frames;
 use crate::plan_blocks::{MOST_STAYS, record_tag};
-use crate::records::{change_records, expected, parts_of_last};
 use crate::stage::MOST_PARTS;
-use bs_board::{Board, KeptBoard, Reply, Row};
+use bs_board::{Board, KeptBoard, Reply, Row, TurnNumber};
 use bs_counter::{PartKey, Tally, TallyName};
-use bs_fiber::{Contents, Done, Handed, JobKind, JobName, Moved, Out, Parts, Ticket};
-use bs_game::Answer;
+use bs_fiber::{Contents, Done, Expected, Handed, JobKind, JobName, Moved, Out, Parts, Ticket};
+use bs_game::{Answer, Effect, place_of_turn};
 use bs_heap::TagHeap;
 use bs_pool::{Owned, Pool};
 use std::alloc::{AllocError, Global};
@@ -54,8 +58,8 @@ impl<const CAP: usize> Model for Game<CAP> {
     ghost invariant = { λ c. IsGame CAP c };
 }
 
-/// Opens a tally and returns its name and keys if the next command is a move and the game's last
-/// board is not over; else returns no keys. Reads what the fiber keeps beside the command, not the
+/// Opens a tally and returns its name and keys if the next command is a move, a game runs and the
+/// game is not over; else returns no keys. Reads the data kept with the command (`Handed`), not the
 /// command.
 fn open_keys<const CAP: usize>(
     alloc: Global,
@@ -67,14 +71,37 @@ fn open_keys<const CAP: usize>(
     if !fiber.next().is_move() {
         return Ok((None, Vec::new(alloc)));
     }
-    let Some(parts) = parts_of_last(fiber) else {
+    let Some(parts) = fiber.parts_of_move() else {
         return Ok((None, Vec::new(alloc)));
     };
     let (tally, keys) = Tally::open_named(alloc, parts)?;
     Ok((Some(tally), keys))
 }
 
-/// Takes the only block of a part.
+/// Applies an answer's effect to the records.
+#[tactic(auto, using(crate::proofs::KeptRecords::nothing_left, crate::proofs::KeptRecords::record_is_small))]
+fn change_records<const CAP: usize>(heap: &mut TagHeap<CAP>, pool: &mut Pool<CAP>, effect: &Effect)
+    requires room { 0 < heap.old.index_room }
+    requires blocks { blocks_for CAP heap.old.quota ≤ reserved heap.old.tag pool.old }
+    requires held { IsKeptIn heap.old pool.old }
+    requires fits { IsFitEffect heap.old.quota (charge_of heap.old.records) effect.now }
+    ensures records { heap.new.records ≡ effected effect.now heap.old.records }
+    ensures packing { heap.new.packing ≡ packing_after CAP (next_number pool.old) effect.now heap.old.packing }
+    ensures pool { pool.new ≡ pool_after CAP heap.old.tag effect.now heap.old.packing pool.old }
+    ensures tag { heap.new.tag ≡ heap.old.tag }
+    ensures quota { heap.new.quota ≡ heap.old.quota }
+    ensures held { IsKeptIn heap.new pool.new }
+    ensures others { LeavesOthers heap.old.tag pool.old pool.new }
+{
+    match effect {
+        Effect::Keep => {}
+        Effect::Add(record) => heap.add(pool, record.as_slice()).unwrap(),
+        Effect::Trim => heap.keep_last(pool),
+        Effect::Drop => heap.free(pool),
+    }
+}
+
+/// Removes and returns the part's single frame block.
 fn only<const CAP: usize>(blocks: &mut Vec<Owned<CAP>>) -> Owned<CAP>
     requires { length blocks.old.items ≡ 1 }
     ensures one { blocks.old.items ≡ result ∷ [] }
@@ -87,7 +114,7 @@ fn only<const CAP: usize>(blocks: &mut Vec<Owned<CAP>>) -> Owned<CAP>
 }
 
 impl<const CAP: usize> Game<CAP> {
-    /// A stay with no command, in that row of the core.
+    /// Makes a stay without commands for row `game`.
     pub(crate) fn new(alloc: Global, game: usize, row: Row) -> Result<Self, AllocError>
         requires wide { LEAST_CAPACITY ≤ CAP }
         requires game { game < MOST_STAYS }
@@ -120,7 +147,7 @@ impl<const CAP: usize> Game<CAP> {
         self.fiber.row()
     }
 
-    /// Whether the stay has not left.
+    /// Whether the stay is open.
     pub(crate) fn is_open(&self) -> bool
         ensures { result ≡ self.now.lane.is_open }
     {
@@ -142,7 +169,7 @@ impl<const CAP: usize> Game<CAP> {
         self.fiber.replies()
     }
 
-    /// Recalls for the prover what holds of each stay between two events.
+    /// Does nothing. Gives the prover a part of a stay's invariant.
     pub(crate) fn keeps(&self)
         ensures right { IsRight self.now.lane }
         ensures frames { FitFrames self.now.lane self.now.frames }
@@ -209,16 +236,66 @@ impl<const CAP: usize> Game<CAP> {
         self.fiber.count_parts()
     }
 
-    /// A job that is ready, if there is one; of several parts the first.
+    /// A job that is ready, if there is one; if several parts are ready, the first.
     pub(crate) fn ready(&self) -> Option<(JobKind, u8)>
         ensures { MatchOption result (HasNoneReady self.now.lane) (λ job. is_ready self.now.lane job.0 job.1 ≡ true) }
     {
         self.fiber.ready()
     }
 
-    /// Whether the worker has the ticket's job out, and the ticket holds the input for it.
+    /// The index of the record of that turn among the kept ones, if it is kept.
+    fn place_of(&self, at: TurnNumber) -> Option<usize>
+        requires { self.now.lane.is_open ≡ true }
+        ensures { FindsTurn self.now.lane.game (kept_of self.now.lane) at result }
+    {
+        self.fiber.keeps();
+        match self.fiber.last_record() {
+            None => None,
+            Some(last) => place_of_turn(self.heap.count(), last.turn(), at),
+        }
+    }
+
+    /// The record of the turn that a command names, if it names one that is kept.
+    fn asked_record(&self, asks: Option<TurnNumber>) -> Option<&[u8]>
+        requires { self.now.lane.is_open ≡ true }
+        ensures { option_map (λ bytes. bytes.now) result ≡ option_map record_of (board_asked asks self.now.lane.game) }
+    {
+        match self.place_of(asks?) {
+            None => None,
+            Some(place) => Some(self.record(place)),
+        }
+    }
+
+    /// Makes the input that a job of that command is expected to have.
+    fn expected<'a>(
+        &'a self,
+        command: &'a Handed,
+        seq: u64,
+        worker: u32,
+        job: JobName,
+    ) -> Expected<'a>
+        requires { self.now.lane.is_open ≡ true }
+        ensures value { IsOf (input_for self.now.lane command.now seq worker job) result }
+        ensures legal { IsLegalAsked result }
+    {
+        self.fiber.keeps();
+        Expected {
+            job,
+            worker,
+            seq,
+            quota: self.fiber.quota(),
+            charge: self.charge(),
+            kept: self.count(),
+            last: self.fiber.last_record(),
+            asked: self.asked_record(command.asks()),
+            command: command.shared(),
+        }
+    }
+
+    /// Whether the worker has the ticket's job out, and the ticket holds the input for it and the
+    /// frame blocks that it was taken with.
     pub(crate) fn is_own(&self, worker: usize, ticket: &Ticket<CAP>) -> bool
-        ensures { IsTrue result ↔ IsOwnOf self.now.lane worker ticket.now }
+        ensures { IsTrue result ↔ IsOwnTicket self.now worker ticket.now }
     {
         let job = ticket.job();
         let number = ticket.worker();
@@ -226,21 +303,8 @@ impl<const CAP: usize> Game<CAP> {
             return false;
         }
         self.fiber.keeps();
-        ticket.is_of(&expected(
-            &self.fiber,
-            &self.heap,
-            self.fiber.command(),
-            self.fiber.seq(),
-            number,
-            job,
-        ))
-    }
-
-    /// Whether these are the frame blocks of that job.
-    pub(crate) fn has_blocks(&self, job: JobName, blocks: &[Owned<CAP>]) -> bool
-        ensures { IsTrue result ↔ names_of (frames_in blocks.now) ≡ own_names self.now job }
-    {
-        self.frames.are_of(job, blocks)
+        let expected = self.expected(self.fiber.command(), self.fiber.seq(), number, job);
+        ticket.is_of(&expected) && self.frames.are_of(job, ticket.frames())
     }
 
     /// Closes the stay and frees the blocks of its records. Its last board and its charge are kept.
@@ -274,14 +338,11 @@ impl<const CAP: usize> Game<CAP> {
         ensures ok { OnOk result (self.new ≡ taken_game worker job 0 self.new.frames.tally self.new.frames.keys self.old) }
         ensures err { OnErr result (self.new ≡ self.old) }
     {
-        self.heap.grow_index()?;
-        let seq = self.fiber.next_seq();
         let (tally, keys) = open_keys(alloc, &self.fiber)?;
         let handle = self.fiber.take_handle();
-        let next = self.fiber.next();
-        let contents = expected(&self.fiber, &self.heap, next, seq, worker, job).to_contents(
-            alloc, handle, spent,
-        )?;
+        let expected = self.expected(self.fiber.next(), self.fiber.next_seq(), worker, job);
+        let contents = expected.to_contents(alloc, handle, spent)?;
+        self.heap.grow_index()?;
         self.fiber.begin(worker as usize)?;
         self.frames.begin(tally, keys);
         self.fiber.keeps();
@@ -289,7 +350,7 @@ impl<const CAP: usize> Game<CAP> {
     }
 
     /// Makes the contents of a ticket for a job of the command in progress, without parts and
-    /// blocks. They reuse the memory of `spent`.
+    /// blocks. Reuses the memory of `spent`.
     fn new_contents(
         &self,
         alloc: Global,
@@ -301,9 +362,8 @@ impl<const CAP: usize> Game<CAP> {
         ensures input { IfOk result (λ contents. contents.value.input ≡ current_input self.now.lane worker job) }
         ensures frames { IfOk result (λ contents. contents.value.frames.items ≡ []) }
     {
-        let command = self.fiber.command();
-        let seq = self.fiber.seq();
-        expected(&self.fiber, &self.heap, command, seq, worker, job).to_contents(alloc, None, spent)
+        let expected = self.expected(self.fiber.command(), self.fiber.seq(), worker, job);
+        expected.to_contents(alloc, None, spent)
     }
 
     /// Takes a part for the worker, with an empty frame block and its key. The new ticket reuses
@@ -414,8 +474,8 @@ impl<const CAP: usize> Game<CAP> {
         requires holds { owned.block ≡ frame_of moved }
         ensures { self.new ≡ game_with_part part self.old }
     {
-        self.fiber.put_part(part);
-        self.frames.bring(part, moved, owned);
+        self.fiber.complete_part(part);
+        self.frames.complete_part(part, moved, owned);
     }
 
     /// Answers the command: keeps the reply, changes the records, drops the keys, and gives the
@@ -432,7 +492,7 @@ impl<const CAP: usize> Game<CAP> {
         self.fiber.keeps();
         change_records(&mut self.heap, pool, &answer.effect);
         self.fiber.answer(answer);
-        self.frames.give(blocks, pool);
+        self.frames.give_back(blocks, pool);
     }
 
     /// Completes a job that was out.

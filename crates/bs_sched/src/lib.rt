@@ -15,7 +15,6 @@ mod law;
 mod opening;
 mod plan_blocks;
 mod putting;
-mod records;
 mod shared_row;
 mod stage;
 mod stays;

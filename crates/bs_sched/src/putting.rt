@@ -8,14 +8,14 @@ ghost use Rattle.bs_sched.specs.Games.{brought};
 ghost use Rattle.bs_sched.specs.Inputs.{names_for};
 ghost use Rattle.bs_sched.specs.Lane.{is_out, lane_view, lane_command};
 ghost use Rattle.bs_sched.specs.Machine.{lane_of};
-ghost use Rattle.bs_sched.specs.Putting.{IsOwn, IsOwnInput, IsOwnJob};
+ghost use Rattle.bs_sched.specs.Putting.{IsOwn, IsOwnJob};
 ghost use Rattle.bs_sched.specs.declared.event.Event.TheVariants as event;
 
 use crate::busy::mark;
 use crate::cores::{Core, note};
 use crate::event::Event;
 use crate::games::Games;
-use bs_fiber::{Contents, Done, JobKind, JobName, Out, Ticket};
+use bs_fiber::{Contents, Done, JobKind, JobName, Out};
 use bs_pool::Owned;
 use thiserror::Error;
 
@@ -43,35 +43,17 @@ impl<const CAP: usize> Games<CAP> {
         self.list[game].complete(&mut self.pool, job, out, blocks);
     }
 
-    /// Whether the worker has the ticket's job out, and the ticket holds the core's input for it.
-    fn has_own_input(&self, worker: usize, ticket: &Ticket<CAP>) -> bool
-        ensures { IsTrue result ↔ IsOwnInput self.now worker ticket.now }
-    {
-        let game = ticket.job().game as usize;
-        game < self.list.len() && self.list[game].is_own(worker, ticket)
-    }
-
-    /// Whether the ticket's blocks are those that it was taken with.
-    fn has_own_frames(&self, ticket: &Ticket<CAP>) -> bool
-        requires game { ticket.now.input.job.game < length self.now.lanes }
-        requires out { (worker : ℕ) × (is_out worker (lane_of self.now.lanes ticket.now.input.job.game) ticket.now.input.job.kind ticket.now.input.job.part ≡ true) }
-        ensures { IsTrue result ↔ names_of ticket.now.frames ≡ names_for self.now.storage ticket.now.input.job }
-    {
-        let job = ticket.job();
-        self.list[job.game as usize].has_blocks(job, ticket.frames())
-    }
-
     /// Whether the worker has the job out, and its ticket holds the core's input for it and the
     /// blocks that it was taken with.
-    #[tactic(auto, using(crate::proofs::OwnJobs::input_there, crate::proofs::OwnJobs::input_out, crate::proofs::OwnJobs::own_both, crate::proofs::OwnJobs::own_neither))]
     pub(crate) fn is_own(&self, worker: usize, done: &Done<CAP>) -> bool
         ensures { IsTrue result ↔ IsOwn self.now worker done.now }
     {
         let ticket = done.ticket();
-        if !self.has_own_input(worker, ticket) {
+        let game = ticket.job().game as usize;
+        if game >= self.list.len() {
             return false;
         }
-        self.has_own_frames(ticket)
+        self.list[game].is_own(worker, ticket)
     }
 
     /// Whether the done is of a Begin or a Join, and `is_own` holds of it.

@@ -58,7 +58,7 @@ impl<const CAP: usize> State<CAP> {
         }
     }
 
-    /// Records the fault and stops the run. Once `Memory` is recorded it stays.
+    /// Records the fault and stops the run. A later fault does not replace a recorded `Memory`.
     pub(crate) fn fail(&mut self, fault: Run)
         ensures { self.new.fault ≡ Some (kept_fault self.old.fault fault) }
     {
@@ -105,7 +105,8 @@ impl<const CAP: usize> State<CAP> {
         true
     }
 
-    /// Makes the acts, the last of the list first, up to the leave of a game that is not idle.
+    /// Makes the acts in order, popping them from a reversed list, up to the leave of a game that
+    /// still has work.
     pub(crate) fn submit(&mut self, alloc: Global, acts: &mut Vec<HeldAct>) -> Submitted {
         self.is_leaving = false;
         for _ in 0..acts.len() {
@@ -186,8 +187,8 @@ impl<const CAP: usize> State<CAP> {
 
     /// Takes a batch of jobs for the worker, whose results made at most `ready` jobs ready. Each of
     /// its numbers takes up to four jobs, and stops after a Begin or a Join. While other threads
-    /// wait, only as many numbers as its share of `ready` take a job, one each. A worker with a
-    /// single number takes one job.
+    /// wait, `ready / (waiting + 1)` of its numbers take one job each, at least one number and at
+    /// most all. A worker with a single number takes one job.
     fn take_batch(&mut self, worker: &mut Worker<CAP>, ready: usize) -> Result<(), Next> {
         let all = worker.numbers.max(1);
         let (numbers, most) = if self.waiting > 0 {

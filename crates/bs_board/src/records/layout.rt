@@ -1,4 +1,5 @@
-//! Views of a record's parts, borrowed from its bytes. Nothing is decoded or judged.
+//! Views of the fields of a record. Ids, cells and snakes are borrowed from its bytes; the other
+//! fields are decoded. No board is built, and legality is not checked.
 ghost use Rattle.std.specs.Prelude.{◌≡◌, ◌++◌, ◌≤◌, ℕ, List, MatchOption, None, count_by, drop, flat_map, if◌then◌else◌, length, take, unwrap_or};
 ghost use Rattle.bs_board.specs.declared.boards.board.Board.{Board as AnyBoard};
 ghost use Rattle.bs_board.specs.declared.boards.board.Mode.TheVariants.{Standard};
@@ -23,7 +24,7 @@ pub struct SnakeBytes<'r> {
     pub cause: Option<Cause>,
     pub killer: Option<usize>,
     pub out: Option<u16>,
-    /// Its cells, two bytes each.
+    /// The cells of the body, two bytes each.
     pub body: &'r [u8],
 }
 
@@ -67,7 +68,7 @@ fn split_id(bytes: &[u8]) -> (&[u8], &[u8])
     }
 }
 
-/// The cause of that byte in a record.
+/// The cause that the byte stands for; `None` for 0 and for an unknown byte.
 fn known_cause(byte: u8) -> Option<Cause>
     ensures { result ≡ unwrap_or (cause_from_byte byte) None }
 {
@@ -81,7 +82,7 @@ fn known_cause(byte: u8) -> Option<Cause>
     }
 }
 
-/// The mode of that version and byte in a record.
+/// The mode that the version and the byte stand for; `Standard` for an unknown pair.
 fn known_mode(version: u8, byte: u8) -> Mode
     ensures { result ≡ unwrap_or (mode_from_bytes version byte) Standard }
 {
@@ -93,7 +94,7 @@ fn known_mode(version: u8, byte: u8) -> Mode
     }
 }
 
-/// Splits what follows a snake's id into the snake's parts and the rest.
+/// Splits the bytes after a snake's id into the snake's fields and the bytes that follow.
 fn split_state<'r>(id: &'r [u8], bytes: &'r [u8]) -> (SnakeBytes<'r>, &'r [u8])
     ensures { (s : AnySnake) (rest : List ℕ) → id.now ≡ s.id → bytes.now ≡ state_bytes s ++ (flat_map (cell_bytes 1) s.body ++ rest)
         → IsSnakeBytes s result.0 × (result.1.now ≡ rest) }

@@ -45,8 +45,8 @@ answer-requires-clause-last g c =
     let told = subst (λ (v : GameView). c.args.answer ≡ answer_of (lane_view v.lane) (lane_command v.lane)) (sym c.self.view_is) c.requires.answer in
     told_last inside.fiber c.args.answer c.keeps.ensures at.0 told
 
-pub give-requires : goal.give-requires
-give-requires g c =
+pub give_back-requires : goal.give_back-requires
+give_back-requires g c =
     let inside = c.self.inside in
     let is = subst (λ (v : GameView). IsAnswering v (names_of (frames_in c.args.blocks.now.items))) (sym c.self.view_is) c.requires.out in
     let at = is_at_command inside.fiber is.worker (occupied is.job.kind inside.fiber is.worker is.job.part is.kind is.out) in
@@ -67,18 +67,18 @@ invariant_of-self g c =
     let boards = keeps_boards g.row.CAP inside c.self.invariant stands in
     let changed = c.change_records.ensures in
     let kept = answered_boards inside.fiber c.args.answer inside.heap c.change_records.new.heap c.keeps.ensures at.0 told boards changed.records changed.quota in
-    let idle = c.give.ensures.frames in
+    let idle = c.give_back.ensures.frames in
     let tag = ap (λ (f : FramesView). f.tag) idle in
     let tally = ap (λ (f : FramesView). f.tally) idle in
-    answered_kept g.row.CAP inside c.answer.new.self c.change_records.new.heap c.give.new.self c.self.invariant stands c.answer.ensures kept
-    (idle ∙ ap (λ (t : ℕ). idle_frames t inside.frames.tally) (sym tag) ∙ ap (idle_frames c.give.new.self.tag) (sym tally))
+    answered_kept g.row.CAP inside c.answer.new.self c.change_records.new.heap c.give_back.new.self c.self.invariant stands c.answer.ensures kept
+    (idle ∙ ap (λ (t : ℕ). idle_frames t inside.frames.tally) (sym tag) ∙ ap (idle_frames c.give_back.new.self.tag) (sym tally))
 
 pub returns-clause-blocks : goal.returns-clause-blocks
 returns-clause-blocks g c =
     let inside = c.self.inside in
     let has = subst (λ (v : GameView). HasBlocks g.row.CAP v c.args.pool.now) (sym c.self.view_is) c.requires.blocks in
     let changed = c.change_records.ensures in
-    let given = c.give.ensures in
+    let given = c.give_back.ensures in
     let tag = ap (λ (f : FramesView). f.tag) given.frames in
     let none = ap (λ (f : FramesView). known f.numbers) given.frames in
     let row = ap (λ (x : Lane). x.row) c.answer.ensures in
@@ -93,5 +93,5 @@ returns-clause-blocks g c =
 
 pub returns-clause-others : goal.returns-clause-others
 returns-clause-others g c =
-    subst (λ (v : GameView). LeavesBut v.tag v.frames.tag c.args.pool.now c.give.new.pool) c.self.view_is
-    (leaves_both c.self.inside.heap.tag c.self.inside.frames.tag c.args.pool.now c.change_records.new.pool c.give.new.pool c.change_records.ensures.others c.give.ensures.others)
+    subst (λ (v : GameView). LeavesBut v.tag v.frames.tag c.args.pool.now c.give_back.new.pool) c.self.view_is
+    (leaves_both c.self.inside.heap.tag c.self.inside.frames.tag c.args.pool.now c.change_records.new.pool c.give_back.new.pool c.change_records.ensures.others c.give_back.ensures.others)

@@ -2,7 +2,7 @@ use Rattle.std.proofs.Common.{◌≡◌, Some, map, slice_get, sym, ap, ◌∙�
 use Rattle.bs_sched.specs.FrameSlots.{number_in}
 use Rattle.bs_sched.specs.Frames.{FramesView, with_moved}
 use Rattle.bs_sched.proofs.FrameBlocks.{brought, same_view}
-use Rattle.bs_sched.proofs.frames.Frames.bring.Goals as goal
+use Rattle.bs_sched.proofs.frames.Frames.complete_part.Goals as goal
 
 pub returns : goal.returns
 returns g c =

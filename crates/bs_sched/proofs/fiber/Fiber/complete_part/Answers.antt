@@ -5,7 +5,7 @@ use Rattle.bs_sched.specs.declared.stage.PartState.TheVariants as state
 use Rattle.bs_sched.specs.Lane.{is_part_done}
 use Rattle.bs_sched.proofs.Fibers.{done_fiber}
 use Rattle.bs_sched.proofs.Lanes.{done_lane, undone_lane}
-use Rattle.bs_sched.proofs.fiber.Fiber.put_part.Goals as goal
+use Rattle.bs_sched.proofs.fiber.Fiber.complete_part.Goals as goal
 
 pub invariant_of-self : goal.invariant_of-self
 invariant_of-self c =

@@ -1,7 +1,7 @@
 use Rattle.std.proofs.Common.{◌≡◌}
 use Rattle.bs_heap.specs.HeldBlocks.{all_given}
 use Rattle.bs_heap.specs.Lent.{AreLent, owned_numbers}
-use Rattle.bs_sched.proofs.frames.give_back.Given as goal
+use Rattle.bs_sched.proofs.frames.give_all.Given as goal
 
 -- the remaining blocks are still lent, and giving them too gives all
 abbrev pub invariant-loop-owned : goal.invariant-loop-owned

@@ -3,7 +3,7 @@ use Rattle.bs_pool.specs.declared.owned.Owned.{Owned}
 use Rattle.bs_heap.specs.HeldBlocks.{all_given}
 use Rattle.bs_heap.specs.Lent.{AreLent, owned_numbers}
 use Rattle.bs_heap.proofs.GivenBlocks.{rest_lent, last_given}
-use Rattle.bs_sched.proofs.frames.give_back.Goals as goal
+use Rattle.bs_sched.proofs.frames.give_all.Goals as goal
 
 pub loop-owned-preserved : goal.loop-owned-preserved
 loop-owned-preserved g c =
