@@ -123,21 +123,21 @@ Does contents left (live blocks) = ServesLive contents left blocks
 -- The status and the line.
 
 -- the reason's line was written to the errors, unless their writer failed
-abbrev pub Tells : {E : Type 0} → (E → Option (List ℕ)) → Reason → ℕ → Output E → Output E → Type 0
-Tells contents reason status old new = (status ≡ status_of reason) × (new.has_failed ≡ false → Gains contents old new (line_of reason))
+abbrev pub Reports : {E : Type 0} → (E → Option (List ℕ)) → Reason → ℕ → Output E → Output E → Type 0
+Reports contents reason status old new = (status ≡ status_of reason) × (new.has_failed ≡ false → Gains contents old new (line_of reason))
 
 -- success has status 0 and no line; a failure has the status and line of its reason
 abbrev pub Concludes : {E : Type 0} → (E → Option (List ℕ)) → Answer → ℕ → Output E → Output E → Type 0
 Concludes contents (Ok done) status old new = (status ≡ 0) × (new ≡ old)
-Concludes contents (Err failure) status old new = Tells contents (reason_of failure) status old new
+Concludes contents (Err failure) status old new = Reports contents (reason_of failure) status old new
 
 -- A command line that clap does not accept, by the kind of its error: memory ran out; or it asks
 -- for clap's text, which was written and flushed or could not be; or it is refused. The texts are
 -- clap's.
 pub record Explains {W E : Type 0} (contents : E → Option (List ℕ)) (kind : ErrorKind) (status : ℕ) (output after : Output W) (old new : Output E) : Type 0 where
-  pub memory : kind ≡ clap.OutOfMemory → Tells contents OutOfMemory status old new × (after ≡ output)
+  pub memory : kind ≡ clap.OutOfMemory → Reports contents OutOfMemory status old new × (after ≡ output)
   pub shown : (kind ≡ clap.DisplayHelp) ⊎ (kind ≡ clap.DisplayVersion)
-      → ((status ≡ 0) × (after.is_flushed ≡ true)) ⊎ Tells contents FlushFailed status old new
+      → ((status ≡ 0) × (after.is_flushed ≡ true)) ⊎ Reports contents FlushFailed status old new
   pub refused : kind ≢ clap.OutOfMemory → kind ≢ clap.DisplayHelp → kind ≢ clap.DisplayVersion → (status ≡ 2) × (after ≡ output)
 
 -- The words, the first of which is the program's own name, were accepted, and their request is

@@ -1,6 +1,6 @@
 //! A run of the program, over any reader and writers.
 ghost use Rattle.std.specs.Prelude.{◌≡◌, ◌⊎◌, true, map, IfOk, IfErr, OnOk};
-ghost use Rattle.arena.specs.Outcome.{Concludes, Does, Finishes, IsInput, IsReadFault, IsDone, IsRefused, Explains, PlaysAlone, Serves, ServesFile, ServesLive, Tells};
+ghost use Rattle.arena.specs.Outcome.{Concludes, Does, Finishes, IsInput, IsReadFault, IsDone, IsRefused, Explains, PlaysAlone, Serves, ServesFile, ServesLive, Reports};
 ghost use Rattle.arena.specs.Reasons.{reason_of_words};
 ghost use Rattle.arena.specs.Words.{asked_for};
 ghost use Rattle.std.specs.IoError.{error_kind};
@@ -152,7 +152,7 @@ fn run<H: Files + Threads + Wait + Sync, R: Read, W: Write>(
 
 /// Writes the line of a reason, and returns its status.
 pub fn reported<E: Write>(reason: Reason, errors: &mut Output<E>) -> u8
-    ensures { Tells E.contents reason result errors.old errors.new }
+    ensures { Reports E.contents reason result errors.old errors.new }
 {
     errors.report(reason);
     reason.status()
@@ -221,7 +221,7 @@ pub fn arena_run<H: Files + Threads + Wait + Sync, R: Read, W: Write, E: Write>(
 /// Reports why the words of the command line were not read: one of them is not UTF-8, or memory ran
 /// out. Returns the status.
 pub fn unread_words<E: Write>(error: &io::Error, errors: &mut Output<E>) -> u8
-    ensures { Tells E.contents (reason_of_words (error_kind error.now)) result errors.old errors.new }
+    ensures { Reports E.contents (reason_of_words (error_kind error.now)) result errors.old errors.new }
 {
     let reason = match error.kind() {
         io::ErrorKind::InvalidData => Reason::NoText,

@@ -1,7 +1,7 @@
 //! A queued command, with the data that its Begin job needs.
 ghost use Rattle.std.specs.Prelude.{◌≡◌, IfOk, IfSome};
 ghost use Rattle.bs_board.specs.declared.commands.command.Command.{Command};
-ghost use Rattle.bs_fiber.specs.Asking.{IsWantedOf, asked_turn};
+ghost use Rattle.bs_fiber.specs.Asking.{IsBeginDataOf, asked_turn};
 ghost use Rattle.bs_game.specs.Reasons.{is_move};
 
 use crate::shared::SharedCommand;
@@ -12,7 +12,7 @@ use std::mem::replace;
 
 /// The data that the Begin job of a command needs.
 #[derive(Debug, Drop)]
-pub(crate) enum Wanted {
+pub(crate) enum BeginData {
     /// Nothing: a command without setup, moves or turn number, or a setup whose handle was taken.
     Nothing,
     /// A further handle to a setup.
@@ -20,35 +20,35 @@ pub(crate) enum Wanted {
     /// A further handle to a move.
     Orders(SharedCommand),
     /// Nothing: a move whose handle was taken.
-    Moves,
+    MoveTaken,
     /// The turn that the command names.
     Turn(TurnNumber),
 }
 
-fn wanted_of(command: &SharedCommand) -> Result<Wanted, AllocError>
-    ensures { IfOk result (IsWantedOf command.now) }
+fn begin_data(command: &SharedCommand) -> Result<BeginData, AllocError>
+    ensures { IfOk result (IsBeginDataOf command.now) }
 {
     match command.get() {
-        Command::New(_) => Ok(Wanted::Setup(command.share()?)),
-        Command::Move(_) => Ok(Wanted::Orders(command.share()?)),
-        Command::Turn(at) => Ok(Wanted::Turn(*at)),
-        Command::Show => Ok(Wanted::Nothing),
-        Command::Free => Ok(Wanted::Nothing),
-        Command::End => Ok(Wanted::Nothing),
-        Command::Bad => Ok(Wanted::Nothing),
+        Command::New(_) => Ok(BeginData::Setup(command.share()?)),
+        Command::Move(_) => Ok(BeginData::Orders(command.share()?)),
+        Command::Turn(at) => Ok(BeginData::Turn(*at)),
+        Command::Show => Ok(BeginData::Nothing),
+        Command::Free => Ok(BeginData::Nothing),
+        Command::End => Ok(BeginData::Nothing),
+        Command::Bad => Ok(BeginData::Nothing),
     }
 }
 
 /// The handle that was made for the Begin, if it is still there.
-fn handle_in(wanted: Wanted) -> Option<SharedCommand>
-    ensures { (command : Command) → IsWantedOf command wanted → IfSome result (λ handle. handle ≡ command) }
+fn handle_in(begin: BeginData) -> Option<SharedCommand>
+    ensures { (command : Command) → IsBeginDataOf command begin → IfSome result (λ handle. handle ≡ command) }
 {
-    match wanted {
-        Wanted::Setup(handle) => Some(handle),
-        Wanted::Orders(handle) => Some(handle),
-        Wanted::Nothing => None,
-        Wanted::Moves => None,
-        Wanted::Turn(_) => None,
+    match begin {
+        BeginData::Setup(handle) => Some(handle),
+        BeginData::Orders(handle) => Some(handle),
+        BeginData::Nothing => None,
+        BeginData::MoveTaken => None,
+        BeginData::Turn(_) => None,
     }
 }
 
@@ -58,18 +58,18 @@ fn handle_in(wanted: Wanted) -> Option<SharedCommand>
 #[derive(Debug, Drop)]
 pub struct Handed {
     command: SharedCommand,
-    wanted: Wanted,
+    begin: BeginData,
 }
 
 impl Model for Handed {
     ghost use Rattle.bs_board.specs.declared.commands.command.Command.{Command};
-    ghost use Rattle.bs_fiber.specs.Asking.{IsWantedOf};
+    ghost use Rattle.bs_fiber.specs.Asking.{IsBeginDataOf};
 
     ghost Value = { Command };
 
     ghost view = { λ h. h.command };
 
-    ghost invariant = { λ h. IsWantedOf h.command h.wanted };
+    ghost invariant = { λ h. IsBeginDataOf h.command h.begin };
 }
 
 const _: () = prove!(size_of::<Handed>() == 24);
@@ -82,7 +82,7 @@ impl Handed {
     {
         Ok(Handed {
             command: command.share()?,
-            wanted: wanted_of(command)?,
+            begin: begin_data(command)?,
         })
     }
 
@@ -94,15 +94,15 @@ impl Handed {
     }
 
     /// The turn that a `turn` command names.
-    pub fn asks(&self) -> Option<TurnNumber>
+    pub fn asked_turn(&self) -> Option<TurnNumber>
         ensures { result ≡ asked_turn self.now }
     {
-        match &self.wanted {
-            Wanted::Nothing => None,
-            Wanted::Setup(_) => None,
-            Wanted::Orders(_) => None,
-            Wanted::Moves => None,
-            Wanted::Turn(at) => Some(*at),
+        match &self.begin {
+            BeginData::Nothing => None,
+            BeginData::Setup(_) => None,
+            BeginData::Orders(_) => None,
+            BeginData::MoveTaken => None,
+            BeginData::Turn(at) => Some(*at),
         }
     }
 
@@ -110,12 +110,12 @@ impl Handed {
     pub fn is_move(&self) -> bool
         ensures { result ≡ is_move self.now }
     {
-        match &self.wanted {
-            Wanted::Nothing => false,
-            Wanted::Setup(_) => false,
-            Wanted::Orders(_) => true,
-            Wanted::Moves => true,
-            Wanted::Turn(_) => false,
+        match &self.begin {
+            BeginData::Nothing => false,
+            BeginData::Setup(_) => false,
+            BeginData::Orders(_) => true,
+            BeginData::MoveTaken => true,
+            BeginData::Turn(_) => false,
         }
     }
 
@@ -125,12 +125,12 @@ impl Handed {
         ensures same { self.new ≡ self.old }
         ensures handle { IfSome result (λ handle. handle ≡ self.old) }
     {
-        match self.wanted {
-            Wanted::Nothing => None,
-            Wanted::Setup(_) => handle_in(replace(&mut self.wanted, Wanted::Nothing)),
-            Wanted::Orders(_) => handle_in(replace(&mut self.wanted, Wanted::Moves)),
-            Wanted::Moves => None,
-            Wanted::Turn(_) => None,
+        match self.begin {
+            BeginData::Nothing => None,
+            BeginData::Setup(_) => handle_in(replace(&mut self.begin, BeginData::Nothing)),
+            BeginData::Orders(_) => handle_in(replace(&mut self.begin, BeginData::MoveTaken)),
+            BeginData::MoveTaken => None,
+            BeginData::Turn(_) => None,
         }
     }
 }

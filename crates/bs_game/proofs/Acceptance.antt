@@ -24,7 +24,7 @@ use Rattle.bs_rules.specs.Turn.{finished, turn_of}
 use Rattle.bs_rules.proofs.TurnLegal.{turn_is_legal}
 use Rattle.bs_game.specs.declared.view.View.{View}
 use Rattle.bs_game.specs.Reasons.{early_refusals, first_reason, is_over_quota, new_board, reason_against, speaks_against}
-use Rattle.bs_game.specs.View.{IsFitView, answer_of, answer_with, accepted_reply, reply_to, shown_as_new, shown_within_quota, told_of, unless_refused}
+use Rattle.bs_game.specs.View.{IsFitView, answer_of, answer_with, accepted_reply, reply_to, shown_as_new, shown_within_quota, reply_or_refusal, unless_refused}
 
 -- the quota is judged after all other reasons
 
@@ -77,7 +77,7 @@ pub next_is_shown : (view : View) (orders : Orders) (last : Board) → first_rea
 next_is_shown view orders last none is =
     let next : Option Board → Option Board = option_map (λ b. turn_of b orders) in
     new_is_shown view (command.Move orders) word.Move (turn_of last orders) none (ap next is)
-    (ap (λ b. told_of refusal.NoGame (next b) (shown_as_new view word.Move)) is)
+    (ap (λ b. reply_or_refusal refusal.NoGame (next b) (shown_as_new view word.Move)) is)
 
 -- a move is accepted on a last board that is not of the last turn
 

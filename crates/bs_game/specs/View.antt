@@ -20,9 +20,9 @@ use Rattle.bs_game.specs.Game.{board_charge}
 use Rattle.bs_game.specs.Reasons.{new_board, is_over_quota, reason_against}
 
 -- the reply for a board, if there is one; else the refusal
-abbrev pub told_of : Refusal → Option Board → (Board → Reply) → Reply
-told_of reason None reply = Refused reason
-told_of reason (Some board) reply = reply board
+abbrev pub reply_or_refusal : Refusal → Option Board → (Board → Reply) → Reply
+reply_or_refusal reason None reply = Refused reason
+reply_or_refusal reason (Some board) reply = reply board
 
 -- a new board is shown with the charge that includes it
 abbrev pub shown_as_new : View → Word → Board → Reply
@@ -30,11 +30,11 @@ shown_as_new view word board = Shown word board (view.charge + board_charge boar
 
 -- the reply to a command that no reason refuses; its number is the charge after the command
 abbrev pub accepted_reply : View → Command → Reply
-accepted_reply view (command.New setup) = told_of refusal.NoGame (new_board view (command.New setup)) (shown_as_new view word.New)
-accepted_reply view (command.Move orders) = told_of refusal.NoGame (new_board view (command.Move orders)) (shown_as_new view word.Move)
-accepted_reply view command.Show = told_of refusal.NoGame view.last (λ last. Shown word.Show last view.charge)
-accepted_reply view (command.Turn at) = told_of refusal.NoRecord view.asked (λ board. Shown word.Turn board view.charge)
-accepted_reply view command.Free = told_of refusal.NoGame view.last (λ last. Plain word.Free (board_charge last))
+accepted_reply view (command.New setup) = reply_or_refusal refusal.NoGame (new_board view (command.New setup)) (shown_as_new view word.New)
+accepted_reply view (command.Move orders) = reply_or_refusal refusal.NoGame (new_board view (command.Move orders)) (shown_as_new view word.Move)
+accepted_reply view command.Show = reply_or_refusal refusal.NoGame view.last (λ last. Shown word.Show last view.charge)
+accepted_reply view (command.Turn at) = reply_or_refusal refusal.NoRecord view.asked (λ board. Shown word.Turn board view.charge)
+accepted_reply view command.Free = reply_or_refusal refusal.NoGame view.last (λ last. Plain word.Free (board_charge last))
 accepted_reply view command.End = Plain word.End 0
 accepted_reply view command.Bad = Refused refusal.Unknown
 

@@ -52,7 +52,7 @@ abbrev pub blocks_in : ℕ → List (ℕ × GameRow) → ℕ
 blocks_in cap = sum_by (λ stay. blocks_of cap stay.1)
 
 -- the open stays determine all that routing needs of the registry, and the open stays after an act
-pub record IsToldByOpen (cap : ℕ) (registry : List Stay) : Type 0 where
+pub record IsDecidedByOpen (cap : ℕ) (registry : List Stay) : Type 0 where
   pub named : (name : List ℕ) → stay_named registry name ≡ found_in name (open_of registry)
   pub any : (name : List ℕ) → list_any (has_name name) registry ≡ list_any (bears name) (open_of registry)
   pub many : count_by (λ entry. entry.is_open) registry ≡ length (open_of registry)
@@ -61,7 +61,7 @@ pub record IsToldByOpen (cap : ℕ) (registry : List Stay) : Type 0 where
   pub leaves : (stay : ℕ) → open_of (registry_after registry (act.Leave stay)) ≡ filter (λ other. not (nat_eq other.0 stay)) (open_of registry)
 
 abbrev pub OpenLaw : Type 0
-OpenLaw = (cap : ℕ) (registry : List Stay) → IsToldByOpen cap registry
+OpenLaw = (cap : ℕ) (registry : List Stay) → IsDecidedByOpen cap registry
 
 -- routing by the open stays
 

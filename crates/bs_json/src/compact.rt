@@ -27,7 +27,7 @@ pub(crate) fn is_plain(byte: u8) -> bool
 
 /// Strips the text from the start of the line. `None` if the line does not start with it.
 #[tactic(auto, using(crate::proofs::CutTexts::behind_prefix))]
-fn behind<'l>(line: &'l [u8], text: &[u8]) -> Option<&'l [u8]>
+fn strip_prefix<'l>(line: &'l [u8], text: &[u8]) -> Option<&'l [u8]>
     ensures { IfSome result (λ rest. line.now ≡ text.now ++ rest.now) }
 {
     match line.strip_prefix(text) {
@@ -45,12 +45,12 @@ fn plain_end(line: &[u8]) -> Option<usize>
 
 /// Splits off the plain text up to the next quotation mark, which is dropped.
 #[tactic(auto, using(crate::proofs::CutTexts::plain_front))]
-fn cut_text<'l>(line: &'l [u8]) -> Option<(&'l [u8], &'l [u8])>
+fn split_text<'l>(line: &'l [u8]) -> Option<(&'l [u8], &'l [u8])>
     ensures text { IfSome result (λ found. line.now ≡ found.0.now ++ 34 ∷ found.1.now) }
     ensures plain { IfSome result (λ found. are_plain found.0.now ≡ true) }
 {
     let (text, rest) = line.split_at(plain_end(line)?);
-    Some((text, behind(rest, b"\"")?))
+    Some((text, strip_prefix(rest, b"\"")?))
 }
 
 fn as_text(bytes: &[u8]) -> Option<&str>
@@ -64,30 +64,30 @@ fn as_text(bytes: &[u8]) -> Option<&str>
 
 /// Parses a snake's id and its direction.
 #[tactic(auto, using(crate::proofs::CutTexts::move_parts))]
-fn cut_move<'l>(line: &'l [u8]) -> Option<(&'l [u8], Direction, &'l [u8])>
+fn split_move<'l>(line: &'l [u8]) -> Option<(&'l [u8], Direction, &'l [u8])>
     ensures text { IfSome result (λ found. line.now ≡ move_text (found.0.now, found.1) ++ found.2.now) }
     ensures plain { IfSome result (λ found. are_plain found.0.now ≡ true) }
 {
-    let (id, rest) = cut_text(behind(line, b"\"")?)?;
-    let (name, rest) = cut_text(behind(rest, b":\"")?)?;
+    let (id, rest) = split_text(strip_prefix(line, b"\"")?)?;
+    let (name, rest) = split_text(strip_prefix(rest, b":\"")?)?;
     Some((id, direction_named(as_text(name)?)?, rest))
 }
 
 /// Parses a move, after a comma unless it is the first.
-fn cut_next_move<'l>(line: &'l [u8], later: bool) -> Option<(&'l [u8], Direction, &'l [u8])>
+fn split_next_move<'l>(line: &'l [u8], later: bool) -> Option<(&'l [u8], Direction, &'l [u8])>
     ensures text { IfSome result (λ found. line.now ≡ comma_if later ++ (move_text (found.0.now, found.1) ++ found.2.now)) }
     ensures plain { IfSome result (λ found. are_plain found.0.now ≡ true) }
 {
     if later {
-        cut_move(behind(line, b",")?)
+        split_move(strip_prefix(line, b",")?)
     } else {
-        cut_move(line)
+        split_move(line)
     }
 }
 
 /// Parses all moves up to the closing brace.
 #[tactic(auto, using(crate::proofs::CutTexts::one_move_more, crate::proofs::CutTexts::some_with_one, crate::proofs::CutTexts::plain_with_one))]
-fn cut_moves<'l>(
+fn split_moves<'l>(
     alloc: Global,
     line: &'l [u8],
 ) -> Result<Option<(Vec<(Id, Direction)>, &'l [u8])>, AllocError>
@@ -99,10 +99,10 @@ fn cut_moves<'l>(
     let mut left = line;
     let mut later = false;
     for _turn in 0..line.len() {
-        if let Some(rest) = behind(left, b"}") {
+        if let Some(rest) = strip_prefix(left, b"}") {
             return Ok(Some((moves, rest)));
         }
-        let Some((id, direction, rest)) = cut_next_move(left, later) else {
+        let Some((id, direction, rest)) = split_next_move(left, later) else {
             return Ok(None);
         };
         let Some(id) = as_text(id) else {
@@ -144,7 +144,7 @@ fn number_in(digits: &[u8]) -> Option<u32>
 }
 
 /// Parses the number at the start of the line.
-fn cut_number<'l>(line: &'l [u8]) -> Option<(u32, &'l [u8])>
+fn split_number<'l>(line: &'l [u8]) -> Option<(u32, &'l [u8])>
     ensures { IfSome result (λ found. line.now ≡ decimal found.0 ++ found.1.now) }
 {
     let end = line.iter().position(|byte| !byte.is_ascii_digit())?;
@@ -152,25 +152,25 @@ fn cut_number<'l>(line: &'l [u8]) -> Option<(u32, &'l [u8])>
     Some((number_in(digits)?, rest))
 }
 
-fn is_just(line: &[u8], text: &[u8]) -> bool
+fn is_exactly(line: &[u8], text: &[u8]) -> bool
     ensures { result ≡ true → line.now ≡ text.now }
 {
     line == text
 }
 
 /// Parses a word, after a comma unless it is the first.
-fn cut_next_word<'l>(line: &'l [u8], later: bool) -> Option<(u32, &'l [u8])>
+fn split_next_word<'l>(line: &'l [u8], later: bool) -> Option<(u32, &'l [u8])>
     ensures { IfSome result (λ found. line.now ≡ comma_if later ++ (decimal found.0 ++ found.1.now)) }
 {
     if later {
-        cut_number(behind(line, b",")?)
+        split_number(strip_prefix(line, b",")?)
     } else {
-        cut_number(line)
+        split_number(line)
     }
 }
 
 /// Parses all words up to the closing bracket.
-fn cut_words<'l>(alloc: Global, line: &'l [u8]) -> Result<Option<(Vec<u32>, &'l [u8])>, AllocError>
+fn split_words<'l>(alloc: Global, line: &'l [u8]) -> Result<Option<(Vec<u32>, &'l [u8])>, AllocError>
     ensures { IfOk result
         (λ cut. IfSome cut (λ found. line.now ≡ words_text false found.0.items ++ 93 ∷ found.1.now)) }
 {
@@ -178,10 +178,10 @@ fn cut_words<'l>(alloc: Global, line: &'l [u8]) -> Result<Option<(Vec<u32>, &'l 
     let mut left = line;
     let mut later = false;
     for _turn in 0..line.len() {
-        if let Some(rest) = behind(left, b"]") {
+        if let Some(rest) = strip_prefix(left, b"]") {
             return Ok(Some((words, rest)));
         }
-        let Some((word, rest)) = cut_next_word(left, later) else {
+        let Some((word, rest)) = split_next_word(left, later) else {
             return Ok(None);
         };
         words.push(word)?;
@@ -192,11 +192,11 @@ fn cut_words<'l>(alloc: Global, line: &'l [u8]) -> Result<Option<(Vec<u32>, &'l 
 }
 
 /// Parses a `turn` from its number on.
-fn turn_behind(line: &[u8]) -> Option<TurnNumber>
+fn parse_turn(line: &[u8]) -> Option<TurnNumber>
     ensures { IfSome result (λ at. line.now ≡ decimal at ++ codes "}") }
 {
-    let (number, rest) = cut_number(line)?;
-    if number > u32::from(LAST_TURN) || !is_just(rest, b"}") {
+    let (number, rest) = split_number(line)?;
+    if number > u32::from(LAST_TURN) || !is_exactly(rest, b"}") {
         return None;
     }
     TurnNumber::new(number as u16)
@@ -204,20 +204,20 @@ fn turn_behind(line: &[u8]) -> Option<TurnNumber>
 
 /// Parses what follows the moves of a `move` line. Returns the words, and whether they are written:
 /// a line without words may leave them out.
-fn tail_behind(alloc: Global, line: &[u8]) -> Result<Option<(Words, bool)>, AllocError>
+fn parse_tail(alloc: Global, line: &[u8]) -> Result<Option<(Words, bool)>, AllocError>
     ensures text { IfOk result (λ o. IfSome o (λ found. line.now ≡ tail_text found.1 found.0)) }
     ensures fit { IfOk result (λ o. IfSome o (λ found. AreFitWords found.0 × MayLeaveOut found.1 found.0)) }
 {
-    if is_just(line, b"}") {
+    if is_exactly(line, b"}") {
         return Ok(Some((Words::from_vec(Vec::new(alloc)), false)));
     }
-    let Some(list) = behind(line, b",\"words\":[") else {
+    let Some(list) = strip_prefix(line, b",\"words\":[") else {
         return Ok(None);
     };
-    let Some((words, rest)) = cut_words(alloc, list)? else {
+    let Some((words, rest)) = split_words(alloc, list)? else {
         return Ok(None);
     };
-    if !is_just(rest, b"}") || words.len() > MOST_WORDS {
+    if !is_exactly(rest, b"}") || words.len() > MOST_WORDS {
         return Ok(None);
     }
     let words = Words::from_vec(words);
@@ -226,33 +226,33 @@ fn tail_behind(alloc: Global, line: &[u8]) -> Result<Option<(Words, bool)>, Allo
 }
 
 /// Parses a `move` from its first id on. Also returns whether its words are written.
-fn move_behind(alloc: Global, line: &[u8]) -> Result<Option<(Move, bool)>, AllocError>
+fn parse_move(alloc: Global, line: &[u8]) -> Result<Option<(Move, bool)>, AllocError>
     ensures text { IfOk result
         (λ o. IfSome o (λ found. line.now ≡ moves_text false found.0.moves ++ (codes "}" ++ tail_text found.1 found.0.words))) }
     ensures compact { IfOk result (λ o. IfSome o (λ found. IsCompactMove found.1 found.0)) }
 {
-    let Some((moves, rest)) = cut_moves(alloc, line)? else {
+    let Some((moves, rest)) = split_moves(alloc, line)? else {
         return Ok(None);
     };
     if !is_ascending(moves.as_slice()) {
         return Ok(None);
     }
-    let Some((words, written)) = tail_behind(alloc, rest)? else {
+    let Some((words, written)) = parse_tail(alloc, rest)? else {
         return Ok(None);
     };
     Ok(Some((Move::new(Moves::from_vec(moves), words), written)))
 }
 
 /// Parses a command that has no members.
-fn name_alone(order: &[u8]) -> Option<Command>
+fn parse_bare_order(order: &[u8]) -> Option<Command>
     ensures text { IfSome result (λ command. order.now ≡ order_text false command) }
     ensures compact { IfSome result (IsCompact false) }
 {
-    if is_just(order, b"show\"}") {
+    if is_exactly(order, b"show\"}") {
         Some(Command::Show)
-    } else if is_just(order, b"free\"}") {
+    } else if is_exactly(order, b"free\"}") {
         Some(Command::Free)
-    } else if is_just(order, b"end\"}") {
+    } else if is_exactly(order, b"end\"}") {
         Some(Command::End)
     } else {
         None
@@ -260,41 +260,41 @@ fn name_alone(order: &[u8]) -> Option<Command>
 }
 
 /// Parses a command without words, from its name on.
-fn short_behind(order: &[u8]) -> Option<Command>
+fn parse_short_order(order: &[u8]) -> Option<Command>
     ensures text { IfSome result (λ command. order.now ≡ order_text false command) }
     ensures compact { IfSome result (IsCompact false) }
 {
-    match behind(order, b"turn\",\"at\":") {
-        Some(at) => Some(Command::Turn(turn_behind(at)?)),
-        None => name_alone(order),
+    match strip_prefix(order, b"turn\",\"at\":") {
+        Some(at) => Some(Command::Turn(parse_turn(at)?)),
+        None => parse_bare_order(order),
     }
 }
 
 /// Parses a command from its name on. Also returns whether its words are written.
-fn order_behind(alloc: Global, order: &[u8]) -> Result<Option<(Command, bool)>, AllocError>
+fn parse_order(alloc: Global, order: &[u8]) -> Result<Option<(Command, bool)>, AllocError>
     ensures text { IfOk result (λ o. IfSome o (λ found. order.now ≡ order_text found.1 found.0)) }
     ensures compact { IfOk result (λ o. IfSome o (λ found. IsCompact found.1 found.0)) }
 {
-    if let Some(moves) = behind(order, b"move\",\"moves\":{") {
-        return Ok(match move_behind(alloc, moves)? {
+    if let Some(moves) = strip_prefix(order, b"move\",\"moves\":{") {
+        return Ok(match parse_move(alloc, moves)? {
             Some((orders, written)) => Some((Command::Move(orders), written)),
             None => None,
         });
     }
-    Ok(match short_behind(order) {
+    Ok(match parse_short_order(order) {
         Some(command) => Some((command, false)),
         None => None,
     })
 }
 
 /// Parses the line up to its command's name. Returns the game's name, and the rest of the line.
-fn cut_game<'l>(line: &'l [u8]) -> Option<(&'l [u8], &'l [u8])>
+fn split_game<'l>(line: &'l [u8]) -> Option<(&'l [u8], &'l [u8])>
     ensures text { IfSome result
         (λ found. line.now ≡ codes "{\"game\":\"" ++ (found.0.now ++ (codes "\",\"do\":\"" ++ found.1.now))) }
     ensures plain { IfSome result (λ found. are_plain found.0.now ≡ true) }
 {
-    let (game, rest) = cut_text(behind(line, b"{\"game\":\"")?)?;
-    Some((game, behind(rest, b",\"do\":\"")?))
+    let (game, rest) = split_text(strip_prefix(line, b"{\"game\":\"")?)?;
+    Some((game, strip_prefix(rest, b",\"do\":\"")?))
 }
 
 /// Parses a line in its compact form, in a file of any version; `None` for any other line.
@@ -304,10 +304,10 @@ pub(crate) fn compact_line(alloc: Global, line: &[u8]) -> Result<Option<Line>, A
     requires { length line.now ≤ MAX_LINE }
     ensures { IfOk result (λ found. IfSome found (λ l. (version : AnyVersion) → l ≡ line_of version line.now)) }
 {
-    let Some((name, order)) = cut_game(line) else {
+    let Some((name, order)) = split_game(line) else {
         return Ok(None);
     };
-    let Some((command, _written)) = order_behind(alloc, order)? else {
+    let Some((command, _written)) = parse_order(alloc, order)? else {
         return Ok(None);
     };
     let Some(name) = as_text(name) else {

@@ -44,14 +44,14 @@ one_cause snakes seat HeadCollision SelfCollision k l p q e f = absurd (e.0 l q)
 one_cause snakes seat HeadCollision BodyCollision k l p q e f = absurd (e.1 l q)
 one_cause snakes seat HeadCollision HeadCollision k l p q e f = refl
 
-abbrev put_out : Board → ℕ → Cause → ℕ → Snake
-put_out old seat cause killer = record (snake_at old.snakes seat) { cause = Some cause; killer = Some killer; out = Some (old.turn + 1) }
+abbrev eliminate : Board → ℕ → Cause → ℕ → Snake
+eliminate old seat cause killer = record (snake_at old.snakes seat) { cause = Some cause; killer = Some killer; out = Some (old.turn + 1) }
 
 same_way : (old : Board) (seat : ℕ) (c d : Cause) (k l : ℕ) (now then : Snake) → c ≡ d → IsPutOut old seat c k now → IsPutOut old seat d l then → now ≡ then
 same_way old seat c d k l now then same p q =
     let killer : IsKiller old.snakes seat d k = rw (← same) p.longest in
     let one : k ≡ l = one_killer old.snakes seat d k l killer q.longest in
-    p.rest ∙ ap (λ cause. put_out old seat cause k) same ∙ ap (λ killer. put_out old seat d killer) one ∙ sym q.rest
+    p.rest ∙ ap (λ cause. eliminate old seat cause k) same ∙ ap (λ killer. eliminate old seat d killer) one ∙ sym q.rest
 
 -- so a snake is judged in one way
 judged_once : (old : Board) (seat : ℕ) (now then : Snake) → IsJudged old seat now → IsJudged old seat then → now ≡ then

@@ -17,7 +17,7 @@ ghost use Rattle.bs_rules.specs.Collision.{
 };
 ghost use Rattle.bs_rules.specs.Elimination.{judged};
 
-use crate::verdict::{Verdict, put_out};
+use crate::verdict::{Verdict, eliminate};
 use bs_board::limits::{LAST_TURN, MOST_SNAKES};
 use bs_board::{Board, Cause, Snake, Snakes, head_of};
 
@@ -143,7 +143,7 @@ fn put_all_out(verdicts: &[Option<Verdict>], turn: u16, snakes: &mut Snakes)
     ensures { snakes.new ≡ map_seats (λ seat s. judged turn (slice_index_or verdicts.now seat None) s) snakes.old }
 {
     for seat in 0..snakes.len() {
-        put_out(verdicts[seat], turn, snakes.seat_mut(seat));
+        eliminate(verdicts[seat], turn, snakes.seat_mut(seat));
     }
 }
 

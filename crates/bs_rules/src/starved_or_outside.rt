@@ -3,7 +3,7 @@
 ghost use Rattle.std.specs.Prelude.{◌≡◌, ◌+◌, ◌<◌, map};
 ghost use Rattle.bs_rules.specs.Elimination.{starved_or_outside_verdict, starved_or_outside_snake, starved_or_outside};
 
-use crate::verdict::{Verdict, put_out};
+use crate::verdict::{Verdict, eliminate};
 use bs_board::limits::LAST_TURN;
 use bs_board::{Board, Cause, Snake, Snakes, head_of};
 
@@ -30,7 +30,7 @@ fn judge_snake(wraps: bool, width: u8, height: u8, turn: u16, snake: &mut Snake)
 {
     if snake.is_living() {
         let verdict = starved_or_outside_verdict(wraps, width, height, snake);
-        put_out(verdict, turn, snake);
+        eliminate(verdict, turn, snake);
     }
 }
 

@@ -14,7 +14,7 @@ pub struct Verdict {
 }
 
 /// Eliminates the snake in that turn if there is a verdict.
-pub fn put_out(verdict: Option<Verdict>, turn: u16, snake: &mut Snake)
+pub fn eliminate(verdict: Option<Verdict>, turn: u16, snake: &mut Snake)
     ensures { snake.new ≡ judged turn verdict snake.old }
 {
     if let Some(verdict) = verdict {

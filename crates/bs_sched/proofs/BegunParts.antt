@@ -20,7 +20,7 @@ use Rattle.bs_sched.specs.declared.stage.PartState.{PartState}
 use Rattle.bs_sched.specs.declared.stage.PartState.TheVariants as part
 use Rattle.bs_sched.specs.Courses.{IsRight}
 use Rattle.bs_sched.specs.FrameEffects.{Keeps, Forks, begun_parts, brought_effect, frame_effect, is_begun, numbers_after, taken_effect}
-use Rattle.bs_sched.specs.Frames.{known}
+use Rattle.bs_sched.specs.Frames.{flattened}
 use Rattle.bs_sched.specs.Lane.{Lane, answered, forked, goes_on, has_begin, has_part, is_idle, is_in_parts, is_out, is_part_done, is_part_ready, is_playing, is_quiet, is_ready, is_to_join, part_at, with_put, with_taken}
 use Rattle.bs_sched.specs.Machine.{is_allowed, lane_after}
 use Rattle.bs_sched.proofs.Lanes.{out_part, ready_part}
@@ -130,18 +130,18 @@ shape_after x (event.Admit row) numbers pool allowed are = record { are = are.ar
 shape_after x (event.Leave game) numbers pool allowed are = record { are = are.are }
 
 -- while a command is begun no block is drawn
-no_flags : (numbers : List (Option ℕ)) → flags numbers ≡ [] → known numbers ≡ []
+no_flags : (numbers : List (Option ℕ)) → flags numbers ≡ [] → flattened numbers ≡ []
 no_flags [] none = refl
 no_flags (o ∷ numbers) none = let wrong : is_some o ∷ flags numbers ≡ [] = none in absurd cc
 
-pub none_drawn : (x : Lane) (worker : ℕ) (numbers : List (Option ℕ)) → has_begin worker x.stage ≡ true → AreBegun x numbers → known numbers ≡ []
+pub none_drawn : (x : Lane) (worker : ℕ) (numbers : List (Option ℕ)) → has_begin worker x.stage ≡ true → AreBegun x numbers → flattened numbers ≡ []
 none_drawn x worker numbers has begun = no_flags numbers (begun.are ∙ begin_none worker x.stage x.parts has)
 
 of_begun : (plays : Bool) (parts : List PartState) → plays ≡ false → (if plays then map is_begun parts else []) ≡ []
 of_begun true parts none = let wrong : true ≡ false = none in absurd cc
 of_begun false parts none = refl
 
-pub none_idle : (x : Lane) (numbers : List (Option ℕ)) → is_playing x.stage ≡ false → AreBegun x numbers → known numbers ≡ []
+pub none_idle : (x : Lane) (numbers : List (Option ℕ)) → is_playing x.stage ≡ false → AreBegun x numbers → flattened numbers ≡ []
 none_idle x numbers idle begun = no_flags numbers (begun.are ∙ of_begun (is_playing x.stage) x.parts idle)
 
 -- there are at most four
@@ -188,7 +188,7 @@ pub free_to_draw : (x : Lane) (p : ℕ) (numbers : List (Option ℕ)) → is_rea
 free_to_draw x p numbers ready are =
     flag_false numbers x.parts p (are.are ∙ of_parts x.stage x.parts (ready_part x p ready)) (and_parts (is_in_parts x.stage) (is_part_ready (part_at x p)) ready).1
 
-pub one_left : (x : Lane) (p : ℕ) (numbers : List (Option ℕ)) → IsRight x → is_ready x kind.Part p ≡ true → AreBegun x numbers → length (known numbers) < 4
+pub one_left : (x : Lane) (p : ℕ) (numbers : List (Option ℕ)) → IsRight x → is_ready x kind.Part p ≡ true → AreBegun x numbers → length (flattened numbers) < 4
 one_left x p numbers right ready are =
     let few = few_numbers x numbers right are in
     let less = one_less numbers p (free_to_draw x p numbers ready are) in
@@ -202,5 +202,5 @@ idle_still (stage.Begin worker) idle = refl
 idle_still stage.Parts idle = let wrong : false ≡ true = idle in cc
 idle_still (stage.Join taker) idle = let wrong : false ≡ true = idle in cc
 
-pub none_quiet : (x : Lane) (numbers : List (Option ℕ)) → is_quiet x ≡ true → AreBegun x numbers → known numbers ≡ []
+pub none_quiet : (x : Lane) (numbers : List (Option ℕ)) → is_quiet x ≡ true → AreBegun x numbers → flattened numbers ≡ []
 none_quiet x numbers quiet begun = none_idle x numbers (idle_still x.stage (and_parts (is_idle x.stage) _ quiet).0) begun

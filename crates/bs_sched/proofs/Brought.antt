@@ -17,7 +17,7 @@ use Rattle.bs_fiber.specs.Frames.{frame_of}
 use Rattle.bs_fiber.specs.Tickets.{HoldsWork, bytes_of, frames_in, names_of}
 use Rattle.bs_fiber.specs.Work.{goes, moved_part, out_seen}
 use Rattle.bs_sched.specs.declared.stage.Stage.{Stage}
-use Rattle.bs_sched.specs.Frames.{FramesView, AreBegunFrames, AreFramesAt, FitFrames, known}
+use Rattle.bs_sched.specs.Frames.{FramesView, AreBegunFrames, AreFramesAt, FitFrames, flattened}
 use Rattle.bs_sched.specs.Games.{answer_effect, storage_answered}
 use Rattle.bs_sched.specs.Inputs.{job_numbers}
 use Rattle.bs_sched.specs.Lane.{Lane, has_begin, has_join, is_out, occupies}
@@ -35,8 +35,8 @@ none_begun x worker p f out are =
 
 -- it has all frame blocks of its game
 pub all_of_job : (k : JobKind) (x : Lane) (worker p : ℕ) (f : FramesView) → k ≢ kind.Part → is_out worker x k p ≡ true → FitFrames x f
-    → job_numbers k p f.numbers ≡ known f.numbers
-all_of_job kind.Begin x worker p f other out are = ap (λ (ns : List (Option ℕ)). known ns) (sym (none_begun x worker p f out are))
+    → job_numbers k p f.numbers ≡ flattened f.numbers
+all_of_job kind.Begin x worker p f other out are = ap (λ (ns : List (Option ℕ)). flattened ns) (sym (none_begun x worker p f out are))
 all_of_job kind.Part x worker p f other out are = absurd (other refl)
 all_of_job kind.Join x worker p f other out are = refl
 
@@ -68,7 +68,7 @@ known_one [] p n is = absurd cc
 known_one (o ∷ numbers) zero n is = ap (λ (x : Option ℕ). Some x) is
 known_one (o ∷ numbers) (suc p) n is = known_one numbers p n is
 
-named_one : (own tag n : ℕ) (o : Option ℕ) → ◌≡◌ {A = List (ℕ × ℕ)} ((tag, n) ∷ []) (map (λ (m : ℕ). (own, m)) (known (o ∷ []))) → (tag ≡ own) × (o ≡ Some n)
+named_one : (own tag n : ℕ) (o : Option ℕ) → ◌≡◌ {A = List (ℕ × ℕ)} ((tag, n) ∷ []) (map (λ (m : ℕ). (own, m)) (flattened (o ∷ []))) → (tag ≡ own) × (o ≡ Some n)
 named_one own tag n None is = absurd cc
 named_one own tag n (Some m) is =
     let pair : ◌≡◌ {A = ℕ × ℕ} (tag, n) (own, m) = cc in
@@ -98,7 +98,7 @@ pub part_block : {most : ℕ} (k : JobKind) (own p : ℕ) (numbers : List (Optio
     → HoldsWork (record { input = input; frames = frames_in blocks }) (Moved moved) → IsPartBlock own p numbers moved owned
 part_block {most} kind.Begin own p numbers moved blocks owned input part only names holds = absurd cc
 part_block {most} kind.Part own p numbers moved blocks owned input part only names holds =
-    let here : ◌≡◌ {A = List (ℕ × ℕ)} ((owned.tag, owned.number) ∷ []) (map (λ (m : ℕ). (own, m)) (known (slice_index_or numbers p None ∷ [])))
+    let here : ◌≡◌ {A = List (ℕ × ℕ)} ((owned.tag, owned.number) ∷ []) (map (λ (m : ℕ). (own, m)) (flattened (slice_index_or numbers p None ∷ [])))
     = ap (λ (bs : List (Owned most)). names_of (frames_in bs)) (sym only) ∙ names in
     let named = named_one own owned.tag owned.number (slice_index_or numbers p None) here in
     let bytes : owned.block ∷ [] ≡ frame_of moved ∷ [] = ap (λ (bs : List (Owned most)). bytes_of (frames_in bs)) (sym only) ∙ holds in

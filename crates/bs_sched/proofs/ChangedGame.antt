@@ -24,7 +24,7 @@ use Rattle.bs_sched.specs.declared.stage.PartState.TheVariants as part
 use Rattle.bs_sched.specs.declared.stage.Stage.{Stage}
 use Rattle.bs_sched.specs.declared.stage.Stage.TheVariants as stage
 use Rattle.bs_sched.specs.Courses.{IsRight}
-use Rattle.bs_sched.specs.Frames.{AreFramesAt, FitFrames, FramesView, LeavesBut, idle_frames, known}
+use Rattle.bs_sched.specs.Frames.{AreFramesAt, FitFrames, FramesView, LeavesBut, idle_frames, flattened}
 use Rattle.bs_sched.specs.Game.{GameView, HasBlocks, IsGame, KeepsBoards}
 use Rattle.bs_sched.specs.Insides.{may_answer}
 use Rattle.bs_sched.specs.Lane.{Lane, answered, is_idle, is_out, is_part_done, is_ready, kept_of, lane_command, lane_view, part_at, records_of, stage_with, with_taken, with_waiting}
@@ -148,7 +148,7 @@ pub left_blocks : (cap : ℕ) (v : GameView) (tag other : ℕ) (pool pool' : Led
 left_blocks cap v tag other pool pool' has a b m n leaves = record {
   records = leaves.holds v.tag (numbers_of v.packing) a b has.records;
   room = rw leaves.reservations has.room;
-  frames = leaves.holds v.frames.tag (known v.frames.numbers) m n has.frames;
+  frames = leaves.holds v.frames.tag (flattened v.frames.numbers) m n has.frames;
   frame_room = ap (reserved_by v.frames.tag) leaves.reservations ∙ has.frame_room;
   apart = has.apart;
 }
@@ -171,7 +171,7 @@ leaves_none tag pool = record { holds = λ own numbers a held. held; reservation
 
 -- the frame blocks change, and no record moves
 pub framed_blocks : (cap : ℕ) (v w : GameView) (pool pool' : Ledger) → HasBlocks cap v pool → w.tag ≡ v.tag → w.packing ≡ v.packing → w.lane.row ≡ v.lane.row
-    → w.frames.tag ≡ v.frames.tag → Holds v.frames.tag (known w.frames.numbers) pool' → LeavesOthers v.frames.tag pool pool' → HasBlocks cap w pool'
+    → w.frames.tag ≡ v.frames.tag → Holds v.frames.tag (flattened w.frames.numbers) pool' → LeavesOthers v.frames.tag pool pool' → HasBlocks cap w pool'
 framed_blocks cap v w pool pool' has tag packing row frame_tag holds leaves = record {
   records = rw (tag, packing) (leaves.holds v.tag (numbers_of v.packing) has.apart has.records);
   room = rw (tag, row, leaves.reservations) has.room;

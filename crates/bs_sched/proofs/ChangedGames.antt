@@ -18,7 +18,7 @@ use Rattle.bs_sched.specs.declared.games.Games.TheInside.{Inside}
 use Rattle.bs_sched.specs.Frames.{LeavesBut, pool_taken}
 use Rattle.bs_sched.specs.Game.{GameView, HasBlocks, answered_game, completed_game, forked_game, IsOwnTicket, handed_game, no_game, own_names, pool_completed, taken_game}
 use Rattle.bs_sched.specs.declared.event.Event.TheVariants as event
-use Rattle.bs_sched.specs.Games.{GamesView, after, answer_effect, brought, games_taken, storage_put, storage_taken}
+use Rattle.bs_sched.specs.Games.{GamesView, after, answer_effect, games_completed, games_taken, storage_put, storage_taken}
 use Rattle.bs_sched.specs.GamesLayout.{AreAtRows, AreGone, IsAtRow, IsSound, game_at, games_in, lanes_in, storage_in, tallies_in}
 use Rattle.bs_sched.specs.Inputs.{input_of, job_numbers, names_for}
 use Rattle.bs_sched.specs.Lane.{Lane, forked, goes_on, is_out, is_ready, with_put, with_waiting}
@@ -355,7 +355,7 @@ handed_blocks (Err error) cap v w command pool handed same has = rw same has
 
 pub completed_view : (cap : ℕ) {at : ℕ} (c : Inside at) (job : JobName) (v w : GameView) (pool : Ledger) → v ≡ game_at c.list.items job.game → v.tag ≡ record_tag job.game
     → (job.kind ≡ kind.Begin → v.frames.numbers ≡ []) → w ≡ completed_game cap job.kind job.part (next_number c.pool) v → pool ≡ pool_completed cap job.kind v c.pool
-    → games_in (record c { list = with_item c.list job.game w; pool = pool }) ≡ brought cap (games_in c) job
+    → games_in (record c { list = with_item c.list job.game w; pool = pool }) ≡ games_completed cap (games_in c) job
 completed_view cap c job v w pool there tag none is given =
     let games = c.list.items in
     let lane_is : v.lane ≡ lane_of (lanes_in games) job.game = ap (λ (u : GameView). u.lane) there ∙ sym (lane_at games job.game) in

@@ -16,7 +16,7 @@ use Rattle.bs_pool.specs.Ledger.{Ledger, ledger_of, held, reservation_of, reserv
 use Rattle.bs_pool.specs.Reservations.{all_reserved, reserved_by}
 use Rattle.bs_sched.specs.declared.games.Games.TheInside.{Inside}
 use Rattle.bs_sched.specs.declared.plan_blocks.TheConstants.{MOST_STAYS}
-use Rattle.bs_sched.specs.Frames.{known}
+use Rattle.bs_sched.specs.Frames.{flattened}
 use Rattle.bs_sched.specs.Game.{GameView, HasBlocks, closed_game, no_game, opened_game}
 use Rattle.bs_sched.specs.Games.{pool_left, with_stay, without_stay}
 use Rattle.bs_sched.specs.GamesLayout.{AreAtRows, AreGone, IsAtRow, IsSound, game_at, lanes_in, open_rows, storage_in, tallies_in}
@@ -47,7 +47,7 @@ set_aside_blocks cap game v pool rs at mine =
       blocks = record {
         records = held_by_owners v.tag (numbers_of v.packing) pool rs at.blocks.records;
         room = omega (arith, records, own);
-        frames = held_by_owners v.frames.tag (known v.frames.numbers) pool rs at.blocks.frames;
+        frames = held_by_owners v.frames.tag (flattened v.frames.numbers) pool rs at.blocks.frames;
         frame_room = ap (λ (tag : ℕ). reserved_by tag rs) at.frame_tag_is ∙ mine.frames;
         apart = at.blocks.apart;
       };
@@ -279,7 +279,7 @@ module _ (cap game : ℕ) (games : List GameView) (w : GameView) (pool mid : Led
           records = leaves.holds (game_at games other).tag (numbers_of (game_at games other).packing)
               (λ same. differ (let twice : (game_at games other).tag ≡ 2 * game = same in omega (arith, tag, twice))) at.blocks.records;
           room = rw leaves.reservations at.blocks.room;
-          frames = leaves.holds (game_at games other).frames.tag (known (game_at games other).frames.numbers)
+          frames = leaves.holds (game_at games other).frames.tag (flattened (game_at games other).frames.numbers)
               (λ same. let even : (game_at games other).frames.tag ≡ 2 * game = same in omega (arith, frame, even)) at.blocks.frames;
           frame_room = ap (reserved_by (game_at games other).frames.tag) leaves.reservations ∙ at.blocks.frame_room;
           apart = at.blocks.apart;
@@ -353,7 +353,7 @@ pub record CanRelease (game : ℕ) (mid : Ledger) : Type 0 where
   pub no_frames : held (frame_tag game) mid ≡ 0
 
 pub can_release : (cap game : ℕ) (w : GameView) (mid : Ledger) → w.tag ≡ record_tag game → w.frames.tag ≡ frame_tag game → w.packing ≡ no_packing
-    → known w.frames.numbers ≡ [] → HasBlocks cap w mid → CanRelease game mid
+    → flattened w.frames.numbers ≡ [] → HasBlocks cap w mid → CanRelease game mid
 can_release cap game w mid tag frame_tag_is none no_parts has =
     let room = has.room in
     let frame_room = has.frame_room in

@@ -31,14 +31,14 @@ use Rattle.bs_sched.proofs.RightRuns.{right_after, open_when, open_taken, open_p
 
 -- the boards after the event are those whose records the effect leaves, and an added record fits
 -- into the quota
-pub record TellsStays (x y : Lane) (effect : Effect) : Type 0 where
+pub record HasEffect (x y : Lane) (effect : Effect) : Type 0 where
   pub records : records_of y.game ≡ effected effect (records_of x.game)
   pub fits : IsFitEffect x.row.quota (charge_of (records_of x.game)) effect
 
 pub charge_of_boards : (game : Game) → IsGame game → charge_of (records_of game) ≡ game_charge game
 charge_of_boards game right = same_charge game (map record_of game) (record { right = right; is = refl })
 
-told_answered : (x : Lane) → IsRight x → is_idle x.stage ≡ false → TellsStays x (answered x) (answer_effect x)
+told_answered : (x : Lane) → IsRight x → is_idle x.stage ≡ false → HasEffect x (answered x) (answer_effect x)
 told_answered x right busy =
     let is = told x right busy in
     record {
@@ -47,7 +47,7 @@ told_answered x right busy =
     }
 
 told_begun : (x : Lane) (on : Bool) → IsRight x → is_idle x.stage ≡ false
-    → TellsStays x (if on then forked x else answered x) (if on then effect.Keep else answer_effect x)
+    → HasEffect x (if on then forked x else answered x) (if on then effect.Keep else answer_effect x)
 told_begun x true right busy = record { records = refl; fits = tt }
 told_begun x false right busy = told_answered x right busy
 
@@ -63,25 +63,25 @@ busy_of_join worker (stage.Begin other) has = refl
 busy_of_join worker stage.Parts has = refl
 busy_of_join worker (stage.Join taker) has = refl
 
-told_put : (x : Lane) (worker : ℕ) (k : JobKind) (p : ℕ) → IsRight x → is_out worker x k p ≡ true → TellsStays x (with_put k p x) (put_effect k x)
+told_put : (x : Lane) (worker : ℕ) (k : JobKind) (p : ℕ) → IsRight x → is_out worker x k p ≡ true → HasEffect x (with_put k p x) (put_effect k x)
 told_put x worker kind.Begin p right out =
     told_begun x (goes_on x) right (busy_of_begin worker x.stage (and_both (nat_eq p 0) (has_begin worker x.stage) out).1)
 told_put x worker kind.Part p right out = record { records = refl; fits = tt }
 told_put x worker kind.Join p right out = told_answered x right (busy_of_join worker x.stage (and_both (nat_eq p 0) (has_join worker x.stage) out).1)
 
-told_taken : (x : Lane) (worker : ℕ) (k : JobKind) (p : ℕ) → TellsStays x (with_taken worker k p x) effect.Keep
+told_taken : (x : Lane) (worker : ℕ) (k : JobKind) (p : ℕ) → HasEffect x (with_taken worker k p x) effect.Keep
 told_taken x worker kind.Begin p = record { records = refl; fits = tt }
 told_taken x worker kind.Part p = record { records = refl; fits = tt }
 told_taken x worker kind.Join p = record { records = refl; fits = tt }
 
 -- the same for any event, also one that closes the stay, which then keeps no record
-pub record IsToldOf (x y : Lane) (done : Effect) : Type 0 where
+pub record HasAnyEffect (x y : Lane) (done : Effect) : Type 0 where
   pub records : y.is_open ≡ true → records_of y.game ≡ effected done (records_of x.game)
   pub dropped : y.is_open ≡ false → done ≡ effect.Drop
   pub fits : IsFitEffect x.row.quota (charge_of (records_of x.game)) done
   pub within : charge_of (effected done (records_of x.game)) ≤ x.row.quota
 
-told_open : (x y : Lane) (effect : Effect) → x.is_open ≡ true → y.is_open ≡ x.is_open → y.row ≡ x.row → IsRight y → TellsStays x y effect → IsToldOf x y effect
+told_open : (x y : Lane) (effect : Effect) → x.is_open ≡ true → y.is_open ≡ x.is_open → y.row ≡ x.row → IsRight y → HasEffect x y effect → HasAnyEffect x y effect
 told_open x y effect stands same row right is =
     record {
       records = λ _. is.records;
@@ -90,7 +90,7 @@ told_open x y effect stands same row right is =
       within = let all : charge_of (records_of y.game) ≤ x.row.quota = rw (charge_of_boards y.game right.right, ← row) right.within in rw (← is.records) all;
     }
 
-pub told_at : (x : Lane) (e : Event) → IsWell x → HandsFit e → is_allowed x e ≡ true → IsToldOf x (lane_after x e) (effect_at e x)
+pub told_at : (x : Lane) (e : Event) → IsWell x → HandsFit e → is_allowed x e ≡ true → HasAnyEffect x (lane_after x e) (effect_at e x)
 told_at x (event.Hand game command) well fits allowed =
     let e = event.Hand game command in
     told_open x (lane_after x e) effect.Keep allowed refl refl (right_after x e well.right fits allowed) (record { records = refl; fits = tt })

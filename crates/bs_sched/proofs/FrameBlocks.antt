@@ -9,7 +9,7 @@ use Rattle.bs_pool.specs.declared.owned.Owned.{Owned}
 use Rattle.bs_sched.specs.declared.frames.FrameSlot.{FrameSlot}
 use Rattle.bs_sched.specs.declared.frames.FrameSlot.TheVariants as slot
 use Rattle.bs_sched.specs.FrameSlots.{number_in, moved_in, AreReadyAt, IsReadyAt, IsSlotOf}
-use Rattle.bs_sched.specs.Frames.{FramesView, known}
+use Rattle.bs_sched.specs.Frames.{FramesView, flattened}
 use Rattle.bs_sched.specs.Keyed.{AreKeysOf, IsKeyAt}
 
 nothing_moved : {most : ℕ} (s : FrameSlot most) → number_in s ≡ None → moved_in s ≡ None
@@ -29,14 +29,14 @@ sent (s ∷ slots) (suc part) n free =
     (ap (λ (l : List (Option ℕ)). number_in s ∷ l) rest.0, ap (λ (l : List (Option (List Snake))). moved_in s ∷ l) rest.1)
 
 -- it is completed
-pub brought : {most : ℕ} (slots : List (FrameSlot most)) (part : ℕ) (moved : List Snake) (owned : Owned most) → slice_get (map number_in slots) part ≡ Some (Some owned.number)
+pub part_completed : {most : ℕ} (slots : List (FrameSlot most)) (part : ℕ) (moved : List Snake) (owned : Owned most) → slice_get (map number_in slots) part ≡ Some (Some owned.number)
     → (map number_in (set slots part (slot.Back moved owned)) ≡ map number_in slots) × (map moved_in (set slots part (slot.Back moved owned)) ≡ set (map moved_in slots) part (Some moved))
-brought [] part moved owned out = absurd cc
-brought (s ∷ slots) zero moved owned out =
+part_completed [] part moved owned out = absurd cc
+part_completed (s ∷ slots) zero moved owned out =
     let number : number_in s ≡ Some owned.number = let same : Some (number_in s) ≡ Some (Some owned.number) = out in cc in
     (ap (λ (n : Option ℕ). n ∷ map number_in slots) (sym number), refl)
-brought (s ∷ slots) (suc part) moved owned out =
-    let rest = brought slots part moved owned out in
+part_completed (s ∷ slots) (suc part) moved owned out =
+    let rest = part_completed slots part moved owned out in
     (ap (λ (l : List (Option ℕ)). number_in s ∷ l) rest.0, ap (λ (l : List (Option (List Snake))). moved_in s ∷ l) rest.1)
 
 pub same_view : (tag : ℕ) (tally : Option TallyId) (keys : List Key) (ns ks : List (Option ℕ)) (ms ls : List (Option (List Snake))) → ns ≡ ks → ms ≡ ls
@@ -80,13 +80,13 @@ key_in {most} tally slots p key are within is = subst (λ (s : FrameSlot most). 
 
 -- a slot without a number is skipped
 passed : {most : ℕ} (slots : List (FrameSlot most)) (i : ℕ) (s : FrameSlot most) → i < length slots → s ≡ get_or slots i s → number_in s ≡ None
-    → known (map number_in (drop i slots)) ≡ known (map number_in (drop (suc i) slots))
+    → flattened (map number_in (drop i slots)) ≡ flattened (map number_in (drop (suc i) slots))
 passed [] i s within is none = absurd (omega arith)
 passed (x ∷ slots) zero s within is none =
     let here : number_in x ≡ None = ap number_in (sym is) ∙ none in
-    ap (λ (o : Option ℕ). known (o ∷ map number_in slots)) here
+    ap (λ (o : Option ℕ). flattened (o ∷ map number_in slots)) here
 passed (x ∷ slots) (suc i) s within is none = passed slots i s (omega arith) is none
 
 pub known_passed : {most : ℕ} (slots : List (FrameSlot most)) (i : ℕ) (s : FrameSlot most) → i < length slots → s ≡ get_or slots i s → number_in s ≡ None
-    → known (map number_in (drop i slots)) ≡ known (map number_in (drop (i + 1) slots))
+    → flattened (map number_in (drop i slots)) ≡ flattened (map number_in (drop (i + 1) slots))
 known_passed slots i s within is none = let next : i + 1 ≡ suc i = omega arith in rw next (passed slots i s within is none)

@@ -8,7 +8,7 @@ use Rattle.bs_pool.specs.Ledger.{Ledger, Owns, least_free, drawn}
 use Rattle.bs_pool.proofs.Owners.{held_drawn, owns_drawn, still_owns_drawn}
 use Rattle.bs_heap.specs.HeldBlocks.{Holds}
 use Rattle.bs_heap.proofs.HeldBlocks.{not_free}
-use Rattle.bs_sched.specs.Frames.{known}
+use Rattle.bs_sched.specs.Frames.{flattened}
 
 pub all_inserted : {X : Type 0} (P : X → Type 0) (front back : List X) (x : X) → All P (front ++ back) → P x → All P (front ++ x ∷ back)
 all_inserted P [] back x all here = All-cons P x back here all
@@ -40,9 +40,9 @@ holds_inserted tag n pool front back at holds =
 
 -- the numbers before and after a part that has none
 pub parted : (numbers : List (Option ℕ)) (part n : ℕ) → slice_get numbers part ≡ Some None
-    → (front : List ℕ) × (back : List ℕ) × (known numbers ≡ front ++ back) × (known (set numbers part (Some n)) ≡ front ++ n ∷ back)
+    → (front : List ℕ) × (back : List ℕ) × (flattened numbers ≡ front ++ back) × (flattened (set numbers part (Some n)) ≡ front ++ n ∷ back)
 parted [] part n free = absurd cc
-parted (None ∷ numbers) zero n free = ([], known numbers, refl, refl)
+parted (None ∷ numbers) zero n free = ([], flattened numbers, refl, refl)
 parted (Some m ∷ numbers) zero n free = absurd (let wrong : Some (Some m) ≡ Some None = free in cc)
 parted (None ∷ numbers) (suc part) n free = parted numbers part n free
 parted (Some m ∷ numbers) (suc part) n free =

@@ -17,21 +17,21 @@ use Rattle.bs_sched.specs.declared.frames.FrameSlot.{FrameSlot}
 use Rattle.bs_sched.specs.declared.frames.FrameSlot.TheVariants as slot
 use Rattle.bs_sched.specs.FrameSlots.{number_in, moved_in, AreReadyAt, IsReadyAt, IsSlotOf}
 use Rattle.bs_sched.specs.FrameSlots.{sent_off, back_in}
-use Rattle.bs_sched.specs.Frames.{known}
+use Rattle.bs_sched.specs.Frames.{flattened}
 
 -- ---- to the Join
 
 abbrev blocks_in : {most : ℕ} → List (FrameSlot most) → List (Owned most)
 blocks_in = flat_map (λ s. option_to_list (back_in s))
 
-pub all_moved : {most : ℕ} (slots : List (FrameSlot most)) → flat_map (λ s. option_to_list (moved_in s)) slots ≡ known (map moved_in slots)
+pub all_moved : {most : ℕ} (slots : List (FrameSlot most)) → flat_map (λ s. option_to_list (moved_in s)) slots ≡ flattened (map moved_in slots)
 all_moved [] = refl
 all_moved (slot.Ready key ∷ slots) = all_moved slots
 all_moved (slot.Out number ∷ slots) = all_moved slots
 all_moved (slot.Back moved owned ∷ slots) = ap (λ (l : List (List Snake)). moved ∷ l) (all_moved slots)
 
 pub all_bytes : {most : ℕ} (tag : ℕ) (slots : List (FrameSlot most)) → All (IsSlotOf tag) slots
-    → bytes_of (frames_in (blocks_in slots)) ≡ map frame_of (known (map moved_in slots))
+    → bytes_of (frames_in (blocks_in slots)) ≡ map frame_of (flattened (map moved_in slots))
 all_bytes tag [] fit = refl
 all_bytes tag (slot.Ready key ∷ slots) fit = all_bytes tag slots (All-tail (IsSlotOf tag) (slot.Ready key) slots fit)
 all_bytes tag (slot.Out number ∷ slots) fit = all_bytes tag slots (All-tail (IsSlotOf tag) (slot.Out number) slots fit)
@@ -41,7 +41,7 @@ all_bytes tag (slot.Back moved owned ∷ slots) fit =
     rw (here.1, rest) refl
 
 pub all_names : {most : ℕ} (tag : ℕ) (slots : List (FrameSlot most)) (all : List (List Snake)) → All (IsSlotOf tag) slots → map moved_in slots ≡ map Some all
-    → names_of (frames_in (blocks_in slots)) ≡ map (λ n. (tag, n)) (known (map number_in slots))
+    → names_of (frames_in (blocks_in slots)) ≡ map (λ n. (tag, n)) (flattened (map number_in slots))
 all_names tag [] all fit back = refl
 all_names tag (slot.Ready key ∷ slots) [] fit back = absurd cc
 all_names tag (slot.Ready key ∷ slots) (m ∷ all) fit back = absurd cc

@@ -9,7 +9,7 @@ use Rattle.bs_fiber.specs.declared.job.JobKind.{JobKind}
 use Rattle.bs_fiber.specs.Work.{moved_part}
 use Rattle.bs_sched.specs.declared.stage.Stage.{Stage}
 use Rattle.bs_sched.specs.declared.stage.Stage.TheVariants as stage
-use Rattle.bs_sched.specs.Frames.{FramesView, known, joining_frames, AreDoneFrames, AreFramesAt, FitFrames}
+use Rattle.bs_sched.specs.Frames.{FramesView, flattened, joining_frames, AreDoneFrames, AreFramesAt, FitFrames}
 use Rattle.bs_sched.specs.Inputs.{job_numbers, moved_parts_for}
 use Rattle.bs_sched.specs.Lane.{Lane, is_ready, is_to_join, with_taken, lane_view, lane_command}
 use Rattle.bs_sched.proofs.Lanes.{ready_join}
@@ -18,7 +18,7 @@ map_both : {X Y Z : Type 0} (f : X → Y) (g : Y → Z) (xs : List X) → map g 
 map_both f g [] = refl
 map_both f g (x ∷ xs) = ap (λ zs. g (f x) ∷ zs) (map_both f g xs)
 
-known_all : {X : Type 0} (xs : List X) → known (map Some xs) ≡ xs
+known_all : {X : Type 0} (xs : List X) → flattened (map Some xs) ≡ xs
 known_all [] = refl
 known_all {X} (x ∷ xs) = ap (λ (ys : List X). x ∷ ys) (known_all xs)
 
@@ -40,8 +40,8 @@ to_join x f p ready are =
     let moved : ℕ → List Snake = λ q. moved_part q (lane_view x) (lane_command x) in
     record { at = at; frames = frames; back = frames.moved_are ∙ sym (map_both moved Some parts); few = are.few }
 
-pub joined_moved : (x : Lane) (f : FramesView) → AreToJoin x f → known f.moved ≡ moved_parts_for kind.Join x
-joined_moved x f here = ap (λ (l : List (Option (List Snake))). known l) here.back ∙ known_all (moved_parts_for kind.Join x)
+pub joined_moved : (x : Lane) (f : FramesView) → AreToJoin x f → flattened f.moved ≡ moved_parts_for kind.Join x
+joined_moved x f here = ap (λ (l : List (Option (List Snake))). flattened l) here.back ∙ known_all (moved_parts_for kind.Join x)
 
 abbrev gone : {X : Type 0} → X → Option (List Snake)
 gone x = None
@@ -66,6 +66,6 @@ join_taken x y f h worker p ready y_is h_is are =
     rw (y_is, h_is) whole
 
 -- the blocks of all parts are the Join's
-pub join_names : (k : JobKind) (p : ℕ) (f h : FramesView) (names : List (ℕ × ℕ)) → k ≡ kind.Join → h ≡ joining_frames f → names ≡ map (λ n. (f.tag, n)) (known f.numbers)
+pub join_names : (k : JobKind) (p : ℕ) (f h : FramesView) (names : List (ℕ × ℕ)) → k ≡ kind.Join → h ≡ joining_frames f → names ≡ map (λ n. (f.tag, n)) (flattened f.numbers)
     → names ≡ map (λ n. (h.tag, n)) (job_numbers k p h.numbers)
 join_names k p f h names join is are = rw (join, is) are

@@ -110,9 +110,9 @@ hands_alone : (setting : Setting) (game : ℕ) (lanes : List Lane) (e : Event) �
 hands_alone setting game lanes (event.Hand row command) within has = refl
 hands_alone setting game lanes (event.Take worker job) within has =
     let both = and_both _ _ has in
-    let known : nat_le worker setting.workers ≡ true = both.0 in
+    let flattened : nat_le worker setting.workers ≡ true = both.0 in
     let free : is_busy worker (lone (lane_of lanes game)) ≡ false = free_alone worker game lanes within (not-true (is_busy worker lanes) both.1) in
-    rw (known, free) refl
+    rw (flattened, free) refl
 hands_alone setting game lanes (event.Put worker job) within has = refl
 hands_alone setting game lanes (event.Admit row) within has = refl
 hands_alone setting game lanes (event.Leave row) within has = refl

@@ -31,7 +31,7 @@ use Rattle.bs_sched.specs.Machine.{Setting, lane_of, is_allowed, game_of, row_in
 use Rattle.bs_sched.specs.Memory.{World, effect_at, world_after, world_step, world_run, opened_world, games_step, games_run}
 use Rattle.bs_sched.specs.Games.{GamesView, opened, pool_left, with_stay}
 use Rattle.bs_sched.specs.FrameEffects.{FrameEffect, Forks, Keeps, brought_effect, frame_effect, numbers_after, pool_framed, taken_effect}
-use Rattle.bs_sched.specs.Frames.{known}
+use Rattle.bs_sched.specs.Frames.{flattened}
 use Rattle.bs_fiber.specs.declared.job.JobKind.{JobKind}
 use Rattle.bs_fiber.specs.declared.job.JobKind.TheVariants as kind
 use Rattle.bs_sched.specs.SharedMemory.{IsHosted, shared_world, lone_world, games_with, packing_in, numbers_in, frames_in, all_framed, all_held, bytes_in, SharesBlocks, KeepsBytes, IsIsolatedInMemory, MemoryLaw}
@@ -182,7 +182,7 @@ sound_comes cap blocks world row sound well fits =
     let mine : IsReserved cap (length lanes) row rs = rw there at (reserved.each (length lanes) (omega (arith, long)) open_now) in
     let none : List (Option ℕ) = [] in
     let frames : all_framed (world.storage.frames ++ none ∷ []) ≡ all_framed world.storage.frames + 0
-    = sum_by_push (λ (ns : List (Option ℕ)). length (known ns)) world.storage.frames none in
+    = sum_by_push (λ (ns : List (Option ℕ)). length (flattened ns)) world.storage.frames none in
     let same : all_framed (world.storage.frames ++ none ∷ []) ≡ all_framed world.storage.frames = omega (arith, frames) in
     let after = stored_reserved cap blocks (all_framed world.storage.frames) lanes world.storage.packings pool world.memory rs sound.stored
     (λ game less stands. enough cap game (lane_of lanes game).row rs (reserved_before cap blocks lanes pool row reserved game less stands)) in
@@ -293,7 +293,7 @@ module _ (setting : Setting) (world : World) (e : Event) (sound : IsSoundWorld s
       framed_beside (record_tag at) world.lanes world.storage.frames world.storage.pool (new_pool setting.cap world e) world.memory (new_memory setting.cap world e)
       (λ other less same. absurd (omega (arith, same))) records_change.others records_change.blocks sound.parts
 
-  frames_change : IsReframed (frame_tag at) (known (numbers_at world.storage.frames at)) (known (new_numbers setting.cap world e)) (new_pool setting.cap world e)
+  frames_change : IsReframed (frame_tag at) (flattened (numbers_at world.storage.frames at)) (flattened (new_numbers setting.cap world e)) (new_pool setting.cap world e)
       (last_pool setting.cap world e) (new_memory setting.cap world e)
   frames_change =
       let mine = parts_then.each at changes.met.within in
@@ -312,9 +312,9 @@ module _ (setting : Setting) (world : World) (e : Event) (sound : IsSoundWorld s
       let within = changes.met.within in
       let long = length-set world.lanes at y in
       let many = sound.parts.many in
-      let sum = sum_by-set (λ (ns : List (Option ℕ)). length (known ns)) world.storage.frames at (new_numbers setting.cap world e) [] (omega (arith, many, within)) in
+      let sum = sum_by-set (λ (ns : List (Option ℕ)). length (flattened ns)) world.storage.frames at (new_numbers setting.cap world e) [] (omega (arith, many, within)) in
       stored_framed setting.cap setting.blocks (all_framed world.storage.frames) (all_framed frames_now) at lanes_now packings_now (new_pool setting.cap world e) (last_pool setting.cap world e)
-      (new_memory setting.cap world e) (known (numbers_at world.storage.frames at)) (known (new_numbers setting.cap world e)) stored_records (omega (arith, long, within)) frames_change
+      (new_memory setting.cap world e) (flattened (numbers_at world.storage.frames at)) (flattened (new_numbers setting.cap world e)) stored_records (omega (arith, long, within)) frames_change
       (omega (arith, sum))
 
   reservations_now : (last_pool setting.cap world e).reservations ≡ world.storage.pool.reservations
@@ -407,7 +407,7 @@ no_bytes (suc blocks) (suc number) = no_bytes blocks number
 none_framed : (rows : List GameRow) → all_framed (map (λ (_ : GameRow). []) rows) ≡ 0
 none_framed [] = refl
 none_framed (row ∷ rows) =
-    let sum = sum_by-cons (λ (ns : List (Option ℕ)). length (known ns)) [] (map (λ (_ : GameRow). []) rows) in
+    let sum = sum_by-cons (λ (ns : List (Option ℕ)). length (flattened ns)) [] (map (λ (_ : GameRow). []) rows) in
     let rest = none_framed rows in
     omega (arith, sum, rest)
 

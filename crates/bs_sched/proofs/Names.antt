@@ -76,7 +76,7 @@ not_named row lanes game none within stands same =
     cc
 
 known_comes : (setting : Setting) (lanes : List Lane) (row : GameRow) → AreKnownApart lanes → may_admit setting lanes row ≡ true → AreKnownApart (lanes ++ empty_lane row ∷ [])
-known_comes setting lanes row known may =
+known_comes setting lanes row flattened may =
     let y = empty_lane row in
     let long = length_push lanes y in
     let sum = sum_by_push one lanes y in
@@ -94,7 +94,7 @@ known_comes setting lanes row known may =
           elim (cases_lt game (length lanes)) [
             | inl less ↦
                 elim (cases_lt other (length lanes)) [
-                  | inl less' ↦ rw (before game less, before other less') (known.names game other less less' differ (rw (before game less) at first) (rw (before other less') at second))
+                  | inl less' ↦ rw (before game less, before other less') (flattened.names game other less less' differ (rw (before game less) at first) (rw (before other less') at second))
                   | inr past' ↦
                       rw (before game less, last other past' there)
                       (λ same. not_named row lanes game none less (rw (before game less) at first) (sym same))
@@ -110,32 +110,32 @@ known_comes setting lanes row known may =
     }
 
 known_step : (setting : Setting) (lanes : List Lane) (e : Event) → AreKnownApart lanes → AreKnownApart (step setting lanes e)
-known_step setting lanes e known =
+known_step setting lanes e flattened =
     elim (cases_step setting lanes e) [
-      | inl stays ↦ rw stays.is known
-      | inr (inl comes) ↦ rw comes.is (known_comes setting lanes (row_in e) known comes.may)
+      | inl stays ↦ rw stays.is flattened
+      | inr (inl comes) ↦ rw comes.is (known_comes setting lanes (row_in e) flattened comes.may)
       | inr (inr changes) ↦
           let same = ap length changes.is ∙ length-set lanes (game_of e) (changed lanes e) in
           let sum = sum_by-set one lanes (game_of e) (changed lanes e) no_lane changes.met.within in
           let less = less_open (lane_of lanes (game_of e)) (changed lanes e) (open_once (lane_of lanes (game_of e)) e) in
           let count : count_by (λ (x : Lane). x.is_open) (step setting lanes e) ≡ count_by (λ (x : Lane). x.is_open) (slice_set lanes (game_of e) (changed lanes e))
           = ap (count_by (λ (x : Lane). x.is_open)) changes.is in
-          let few = known.few in
-          let made = known.made in
+          let few = flattened.few in
+          let made = flattened.made in
           record {
             names = λ game other here there differ first second.
                 let here_before : game < length lanes = omega (arith, same, here) in
                 let there_before : other < length lanes = omega (arith, same, there) in
                 rw (ap (λ (r : GameRow). r.game) (keeps_row setting lanes e game here_before), ap (λ (r : GameRow). r.game) (keeps_row setting lanes e other there_before))
-                (known.names game other here_before there_before differ (open_before setting lanes e game here_before first) (open_before setting lanes e other there_before second));
+                (flattened.names game other here_before there_before differ (open_before setting lanes e game here_before first) (open_before setting lanes e other there_before second));
             few = omega (arith, count, sum, less, few);
             made = omega (arith, same, made);
           }
     ]
 
 known_run : (setting : Setting) (lanes : List Lane) (events : List Event) → AreKnownApart lanes → AreKnownApart (run_of setting lanes events)
-known_run setting lanes [] known = known
-known_run setting lanes (e ∷ events) known = known_run setting (step setting lanes e) events (known_step setting lanes e known)
+known_run setting lanes [] flattened = flattened
+known_run setting lanes (e ∷ events) flattened = known_run setting (step setting lanes e) events (known_step setting lanes e flattened)
 
 -- a newly opened core
 

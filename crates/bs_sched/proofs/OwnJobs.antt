@@ -55,21 +55,21 @@ own_of_expected x worker ticket command seq e answer right out is_command is_seq
 
 -- a completed job of the core's own, which is out
 
-pub own_there : (core : GamesView) (worker : ℕ) (brought : TicketView) → IsOwn core worker brought → brought.input.job.game < length core.lanes
-own_there core worker brought own = ltb-true _ _ (and_both (nat_lt brought.input.job.game (length core.lanes)) _ own.out).0
+pub own_there : (core : GamesView) (worker : ℕ) (ticket : TicketView) → IsOwn core worker ticket → ticket.input.job.game < length core.lanes
+own_there core worker ticket own = ltb-true _ _ (and_both (nat_lt ticket.input.job.game (length core.lanes)) _ own.out).0
 
-pub own_out : (core : GamesView) (worker : ℕ) (brought : TicketView) → IsOwn core worker brought
-    → is_out worker (lane_of core.lanes brought.input.job.game) brought.input.job.kind brought.input.job.part ≡ true
-own_out core worker brought own =
-    let rest = (and_both (nat_lt brought.input.job.game (length core.lanes)) _ own.out).1 in
-    (and_both (is_out worker (lane_of core.lanes brought.input.job.game) brought.input.job.kind brought.input.job.part) true rest).0
+pub own_out : (core : GamesView) (worker : ℕ) (ticket : TicketView) → IsOwn core worker ticket
+    → is_out worker (lane_of core.lanes ticket.input.job.game) ticket.input.job.kind ticket.input.job.part ≡ true
+own_out core worker ticket own =
+    let rest = (and_both (nat_lt ticket.input.job.game (length core.lanes)) _ own.out).1 in
+    (and_both (is_out worker (lane_of core.lanes ticket.input.job.game) ticket.input.job.kind ticket.input.job.part) true rest).0
 
 -- its outcome is the job's, from the lane's view
-pub own_worked : (x : Lane) (worker : ℕ) (brought : Input) (out : Out) → IsRight x → brought ≡ input_of x worker brought.job → IsWorked brought out
-    → out ≡ out_seen brought.job.kind brought.job.part (lane_view x) (lane_command x)
-own_worked x worker brought out right is worked =
-    let seen : IsSeen (lane_view x) brought = subst (IsSeen (lane_view x)) (sym is) (lane_seen x worker brought.job right) in
-    worked (lane_view x) seen ∙ ap (λ (i : Input). out_seen brought.job.kind brought.job.part (lane_view x) i.command) is
+pub own_worked : (x : Lane) (worker : ℕ) (ticket : Input) (out : Out) → IsRight x → ticket ≡ input_of x worker ticket.job → IsWorked ticket out
+    → out ≡ out_seen ticket.job.kind ticket.job.part (lane_view x) (lane_command x)
+own_worked x worker ticket out right is worked =
+    let seen : IsSeen (lane_view x) ticket = subst (IsSeen (lane_view x)) (sym is) (lane_seen x worker ticket.job right) in
+    worked (lane_view x) seen ∙ ap (λ (i : Input). out_seen ticket.job.kind ticket.job.part (lane_view x) i.command) is
 
 pub record IsBrought (core : GamesView) (job : JobName) (frames : List Frame) (value : Out) : Type 0 where
   pub there : job.game < length core.lanes
@@ -77,14 +77,14 @@ pub record IsBrought (core : GamesView) (job : JobName) (frames : List Frame) (v
   pub worked : value ≡ out_seen job.kind job.part (lane_view (lane_of core.lanes job.game)) (lane_command (lane_of core.lanes job.game))
   pub names : names_of frames ≡ names_for core.storage job
 
-pub brings : (core : GamesView) (worker : ℕ) (brought : TicketView) (job : JobName) (out : Out) → IsOwn core worker brought → job ≡ brought.input.job
-    → IsRight (lane_of core.lanes job.game) → IsWorked brought.input out → IsBrought core job brought.frames out
-brings core worker brought job out own is right worked =
-    subst (λ (j : JobName). IsBrought core j brought.frames out) (sym is)
+pub brings : (core : GamesView) (worker : ℕ) (ticket : TicketView) (job : JobName) (out : Out) → IsOwn core worker ticket → job ≡ ticket.input.job
+    → IsRight (lane_of core.lanes job.game) → IsWorked ticket.input out → IsBrought core job ticket.frames out
+brings core worker ticket job out own is right worked =
+    subst (λ (j : JobName). IsBrought core j ticket.frames out) (sym is)
     (record {
-      there = own_there core worker brought own;
-      out = (worker, own_out core worker brought own);
-      worked = own_worked (lane_of core.lanes brought.input.job.game) worker brought.input out
+      there = own_there core worker ticket own;
+      out = (worker, own_out core worker ticket own);
+      worked = own_worked (lane_of core.lanes ticket.input.job.game) worker ticket.input out
           (subst (λ (j : JobName). IsRight (lane_of core.lanes j.game)) is right) own.input worked;
       names = own.frames;
     })

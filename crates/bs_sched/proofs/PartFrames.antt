@@ -15,7 +15,7 @@ use Rattle.bs_sched.specs.declared.stage.Stage.TheVariants as stage
 use Rattle.bs_sched.specs.declared.stage.PartState.{PartState}
 use Rattle.bs_sched.specs.declared.stage.PartState.TheVariants as part
 use Rattle.bs_counter.specs.Keys.{Key, TallyId}
-use Rattle.bs_sched.specs.Frames.{FramesView, forked_frames, idle_frames, known, with_moved, with_keys, with_number, IsFrameOf, AreBegunFrames, ArePartFrames, AreFramesAt, FitFrames}
+use Rattle.bs_sched.specs.Frames.{FramesView, forked_frames, idle_frames, flattened, with_moved, with_keys, with_number, IsFrameOf, AreBegunFrames, ArePartFrames, AreFramesAt, FitFrames}
 use Rattle.bs_sched.specs.Keyed.{AreKeysOf, HasKeys}
 use Rattle.bs_sched.specs.Lane.{Lane, forked, goes_on, has_begin, has_part, is_idle, is_in_parts, is_out, is_part_done, is_part_ready, with_part_done, is_ready, part_at, with_taken, lane_view, lane_command}
 
@@ -40,12 +40,12 @@ some_at [] p within = absurd (omega arith)
 some_at (x ∷ xs) zero within = (x, refl)
 some_at (x ∷ xs) (suc p) within = some_at xs p (omega arith)
 
-pub length_known : (numbers : List (Option ℕ)) → length (known numbers) ≤ length numbers
+pub length_known : (numbers : List (Option ℕ)) → length (flattened numbers) ≤ length numbers
 length_known [] = omega arith
 length_known (None ∷ numbers) = let rest = length_known numbers in omega arith
 length_known (Some n ∷ numbers) = let rest = length_known numbers in omega arith
 
-pub one_less : (numbers : List (Option ℕ)) (p : ℕ) → slice_get numbers p ≡ Some None → length (known numbers) < length numbers
+pub one_less : (numbers : List (Option ℕ)) (p : ℕ) → slice_get numbers p ≡ Some None → length (flattened numbers) < length numbers
 one_less [] p is = absurd cc
 one_less (None ∷ numbers) zero is = let rest = length_known numbers in omega arith
 one_less (Some n ∷ numbers) zero is = absurd (let wrong : Some (Some n) ≡ Some None = is in cc)
@@ -59,7 +59,7 @@ pub record IsFreePart (x : Lane) (p : ℕ) (f : FramesView) : Type 0 where
   pub state : part_at x p ≡ part.Ready
   pub frames : ArePartFrames x f
   pub free : slice_get f.numbers p ≡ Some None
-  pub less : length (known f.numbers) < 4
+  pub less : length (flattened f.numbers) < 4
 
 pub free_part : (x : Lane) (p : ℕ) (f : FramesView) → is_ready x kind.Part p ≡ true → FitFrames x f → IsFreePart x p f
 free_part x p f ready are =
@@ -269,7 +269,7 @@ fresh_part x (suc n) zero number moved k n_is b_is =
     (cc, cc)
 fresh_part x (suc n) (suc p) number moved k n_is b_is = fresh_part x n p number moved k n_is b_is
 
-pub none_known : (n : ℕ) → known (replicate {A = Option ℕ} n None) ≡ []
+pub none_known : (n : ℕ) → flattened (replicate {A = Option ℕ} n None) ≡ []
 none_known zero = refl
 none_known (suc n) = none_known n
 

@@ -85,7 +85,7 @@ module _ (closed : List Use) (u : Use) (places : List Place) (records : List (Li
   spot = record { number = u.number; at = u.used; len = length bytes }
 
   pub record IsOpen : Type 0 where
-    pub known : u.number < length memory
+    pub flattened : u.number < length memory
     pub others : All (λ v. v.number ≢ u.number) closed
     pub used : All (λ v. length (block_in memory v.number) ≡ v.used) closed
     pub filled : length (block_in memory u.number) ≡ u.used
@@ -93,7 +93,7 @@ module _ (closed : List Use) (u : Use) (places : List Place) (records : List (Li
     pub reads : map (bytes_at memory) places ≡ records
 
   block_written : IsOpen → block_in new u.number ≡ block_in memory u.number ++ padded bytes
-  block_written ready = block_set memory u.number (block_in memory u.number ++ padded bytes) ready.known
+  block_written ready = block_set memory u.number (block_in memory u.number ++ padded bytes) ready.flattened
 
   block_kept : (number : ℕ) → number ≢ u.number → block_in new number ≡ block_in memory number
   block_kept number differ = other_block memory u.number number (block_in memory u.number ++ padded bytes) differ
@@ -143,7 +143,7 @@ last_differs ms n once = λ k d h e.
 
 -- a block that can be opened: not one of the packing, and empty
 pub record IsFresh (number : ℕ) (packing : Packing) (memory : Memory) : Type 0 where
-  pub known : number < length memory
+  pub flattened : number < length memory
   pub others : All (λ m. m ≢ number) (numbers_of packing)
   pub empty : block_in memory number ≡ []
 
@@ -152,17 +152,17 @@ pub laid_by : (b : Bool) (number : ℕ) (closed : List Use) (o : Option Use) (pl
     let q : Packing = with_place (length bytes) (if b then p else with_block number p) in
     (b ≡ true → IsSome o) → (b ≡ false → IsFresh number p memory) → AreApart p → All (λ n. n < length memory) (numbers_of p) → IsLaid records p memory
     → IsLaid (records ++ bytes ∷ []) q (with_bytes (current_number q) (padded bytes) memory)
-laid_by true number closed None places records memory bytes some fresh apart known laid =
+laid_by true number closed None places records memory bytes some fresh apart flattened laid =
     let none : Option Use = None in let no : IsSome none = some refl in absurd cc
-laid_by true number closed (Some u) places records memory bytes some fresh apart known laid =
+laid_by true number closed (Some u) places records memory bytes some fresh apart flattened laid =
     let of_use : Use → ℕ = λ v. v.number in
     let P : Use → Type 0 = λ v. length (block_in memory v.number) ≡ v.used in
     let numbers : map of_use (closed ++ u ∷ []) ≡ map of_use closed ++ u.number ∷ [] = map_push of_use closed u in
     let once : AllPairs (λ l m. l ≢ m) (map of_use closed ++ u.number ∷ []) = subst (λ (ns : List ℕ). AllPairs (λ l m. l ≢ m) ns) numbers apart.once in
     let used = All-pop P (closed ++ u ∷ []) closed (Some u) refl laid.used in
-    let all_known = all_of_map (λ n. n < length memory) of_use (closed ++ u ∷ []) known in
+    let all_known = all_of_map (λ n. n < length memory) of_use (closed ++ u ∷ []) flattened in
     laid_open closed u places records memory bytes (record {
-      known = (All-pop (λ v. v.number < length memory) (closed ++ u ∷ []) closed (Some u) refl all_known).1;
+      flattened = (All-pop (λ v. v.number < length memory) (closed ++ u ∷ []) closed (Some u) refl all_known).1;
       others = all_of_map (λ m. m ≢ u.number) of_use closed (last_differs (map of_use closed) u.number once);
       used = used.0;
       filled = used.1;
@@ -171,12 +171,12 @@ laid_by true number closed (Some u) places records memory bytes some fresh apart
           (All-pop (λ v. v.number ≡ q.number → q.at + q.len ≤ v.used) (closed ++ u ∷ []) closed (Some u) refl (apart.inside k d within).within).1 (sym same);
       reads = laid.reads;
     })
-laid_by false number closed o places records memory bytes some fresh apart known laid =
+laid_by false number closed o places records memory bytes some fresh apart flattened laid =
     let of_use : Use → ℕ = λ v. v.number in
     let p : Packing = record { closed = closed; current = o; places = places } in
     let is = fresh refl in
     laid_open (uses p) (record { number = number; used = 0 }) places records memory bytes (record {
-      known = is.known;
+      flattened = is.flattened;
       others = all_of_map (λ m. m ≢ number) of_use (uses p) is.others;
       used = laid.used;
       filled = ap length is.empty;

@@ -83,7 +83,7 @@ one_more setting lanes next last e events on effect rest =
     let later : are_enabled setting (step setting lanes e) events ≡ true = ap (λ (ls : List Lane). are_enabled setting ls events) is ∙ rest.0 in
     (and_from _ _ on later, ap (λ (ls : List Lane). run_of setting ls events) is ∙ rest.1)
 
-module _ (setting : Setting) (worker : ℕ) (row : GameRow) (known : nat_le worker setting.workers ≡ true) (room : nat_le (blocks_of setting.cap row) setting.blocks ≡ true)
+module _ (setting : Setting) (worker : ℕ) (row : GameRow) (flattened : nat_le worker setting.workers ≡ true) (room : nat_le (blocks_of setting.cap row) setting.blocks ≡ true)
     (quota : nat_le 64 row.quota ≡ true) where
   abbrev come : Lane
   come = empty_lane row
@@ -171,9 +171,9 @@ module _ (setting : Setting) (worker : ℕ) (row : GameRow) (known : nat_le work
   plays : Goes setting (running ∷ []) turn_events last
   plays =
       let after_part = job_then worker kind.Join (event.Leave 0 ∷ event.Admit row ∷ []) in
-      one_job running moving in_parts kind.Begin (job_then worker kind.Part after_part) (rw known refl) refl (rw self refl) goes_on
-      (one_job in_parts part_out part_done kind.Part after_part (rw known refl) refl (rw self refl) refl
-      (one_job part_done joining moved kind.Join (event.Leave 0 ∷ event.Admit row ∷ []) (rw known refl) refl (rw self refl) is_moved leaves))
+      one_job running moving in_parts kind.Begin (job_then worker kind.Part after_part) (rw flattened refl) refl (rw self refl) goes_on
+      (one_job in_parts part_out part_done kind.Part after_part (rw flattened refl) refl (rw self refl) refl
+      (one_job part_done joining moved kind.Join (event.Leave 0 ∷ event.Admit row ∷ []) (rw flattened refl) refl (rw self refl) is_moved leaves))
 
   goes : Goes setting [] (coming_and_going worker row) last
   goes =
@@ -182,13 +182,13 @@ module _ (setting : Setting) (worker : ℕ) (row : GameRow) (known : nat_le work
       one_more setting [] (come ∷ []) last (event.Admit row) (event.Hand 0 (command.New solo_setup) ∷ move ∷ after_begin) first_comes refl
       (one_more setting (come ∷ []) (one_handed ∷ []) last (event.Hand 0 (command.New solo_setup)) (move ∷ after_begin) refl refl
       (one_more setting (one_handed ∷ []) (handed ∷ []) last move after_begin refl refl
-      (one_job handed begun running kind.Begin turn_events (rw known refl) refl (rw self refl) runs plays)))
+      (one_job handed begun running kind.Begin turn_events (rw flattened refl) refl (rw self refl) runs plays)))
 
 pub progress_example : ProgressExample
-progress_example setting worker row known room quota =
-    let is = goes setting worker row known room quota in
-    let one = first_answered setting worker row known room quota in
-    let two = second_answered setting worker row known room quota in
+progress_example setting worker row flattened room quota =
+    let is = goes setting worker row flattened room quota in
+    let one = first_answered setting worker row flattened room quota in
+    let two = second_answered setting worker row flattened room quota in
     record {
       enabled = is.0;
       replies = ap (λ (ls : List Lane). (lane_of ls 0).replies) is.1 ∙ rw (one, two) refl;

@@ -12,7 +12,7 @@ use Rattle.bs_pool.specs.Ledger.{Ledger, ledger_of, Owns, size, free, least_free
 use Rattle.bs_pool.specs.declared.reservation.Reservation.{Reservation}
 use Rattle.bs_pool.proofs.Owners.{free_at, free_drawn, size_drawn, free_given, size_given, owns_drawn}
 use Rattle.bs_sched.specs.FrameEffects.{FrameEffect, Keeps, Forks, Draws, Returns, numbers_after, pool_framed}
-use Rattle.bs_sched.specs.Frames.{known}
+use Rattle.bs_sched.specs.Frames.{flattened}
 use Rattle.bs_sched.specs.Lane.{Lane, no_lane}
 use Rattle.bs_sched.specs.Machine.{lane_of}
 use Rattle.bs_sched.specs.Memory.{Memory, block_in}
@@ -84,17 +84,17 @@ free_all_given tag (number ∷ numbers) pool owned =
 -- the condition of an effect on the frames
 abbrev pub MayFrame : FrameEffect → List (Option ℕ) → Ledger → Type 0
 MayFrame Keeps numbers pool = Unit {0}
-MayFrame (Forks parts) numbers pool = known numbers ≡ []
+MayFrame (Forks parts) numbers pool = flattened numbers ≡ []
 MayFrame (Draws p) numbers pool = (slice_get numbers p ≡ Some None) × (least_free pool ≡ Some (next_number pool))
 MayFrame Returns numbers pool = Unit {0}
 
 pub reframed : (f : FrameEffect) (tag : ℕ) (numbers : List (Option ℕ)) (pool : Ledger) (memory : Memory) → MayFrame f numbers pool
-    → AreWiped pool memory → Holds tag (known numbers) pool → AreBare (known numbers) memory
-    → IsReframed tag (known numbers) (known (numbers_after f numbers pool)) pool (pool_framed f tag numbers pool) memory
+    → AreWiped pool memory → Holds tag (flattened numbers) pool → AreBare (flattened numbers) memory
+    → IsReframed tag (flattened numbers) (flattened (numbers_after f numbers pool)) pool (pool_framed f tag numbers pool) memory
 reframed Keeps tag numbers pool memory may was_wiped held bare =
     record { held = held; others = leaves_none tag pool; wiped = was_wiped; counts = refl; size = refl; bare = bare }
 reframed (Forks parts) tag numbers pool memory may was_wiped held bare =
-    let same : known numbers ≡ known (replicate parts None) = may ∙ sym (none_known parts) in
+    let same : flattened numbers ≡ flattened (replicate parts None) = may ∙ sym (none_known parts) in
     record {
       held = subst (λ (ns : List ℕ). Holds tag ns pool) same held;
       others = leaves_none tag pool;
@@ -110,8 +110,8 @@ reframed (Draws p) tag numbers pool memory may was_wiped held bare =
     let one = free_drawn pool tag n at in
     let before = subst (λ (ns : List ℕ). Holds tag ns pool) split.2 held in
     let bare_before = subst (λ (ns : List ℕ). AreBare ns memory) split.2 bare in
-    let long : length (known numbers) ≡ length (split.0 ++ split.1) = ap length split.2 in
-    let longer : length (known (slice_set numbers p (Some n))) ≡ length (split.0 ++ n ∷ split.1) = ap length split.3 in
+    let long : length (flattened numbers) ≡ length (split.0 ++ split.1) = ap length split.2 in
+    let longer : length (flattened (slice_set numbers p (Some n))) ≡ length (split.0 ++ n ∷ split.1) = ap length split.3 in
     record {
       held = subst (λ (ns : List ℕ). Holds tag ns (drawn tag n pool)) (sym split.3) (holds_inserted tag n pool split.0 split.1 at before);
       others = others_drawn tag n pool at;
@@ -122,22 +122,22 @@ reframed (Draws p) tag numbers pool memory may was_wiped held bare =
           (all_inserted (λ m. block_in memory m ≡ []) split.0 split.1 n bare_before (was_wiped n (free_at pool.owners n at)));
     }
 reframed Returns tag numbers pool memory may was_wiped held bare =
-    let whole : Holds tag (known numbers ++ []) pool = rw (append-nil (known numbers)) held in
+    let whole : Holds tag (flattened numbers ++ []) pool = rw (append-nil (flattened numbers)) held in
     record {
-      held = holds_rest tag [] (known numbers) pool whole;
-      others = leaves_rest tag [] (known numbers) pool whole.owned;
-      wiped = wiped_all_bare (known numbers) pool memory bare was_wiped;
-      counts = omega (arith, free_all_given tag (known numbers) pool held.owned);
-      size = size_all_given (known numbers) pool;
+      held = holds_rest tag [] (flattened numbers) pool whole;
+      others = leaves_rest tag [] (flattened numbers) pool whole.owned;
+      wiped = wiped_all_bare (flattened numbers) pool memory bare was_wiped;
+      counts = omega (arith, free_all_given tag (flattened numbers) pool held.owned);
+      size = size_all_given (flattened numbers) pool;
       bare = All-nil (λ m. block_in memory m ≡ []);
     }
 
 -- of all stays: a block for each part that was taken
 
 pub record IsFramed (game : ℕ) (x : Lane) (numbers : List (Option ℕ)) (pool : Ledger) (memory : Memory) : Type 0 where
-  pub held : Holds (frame_tag game) (known numbers) pool
+  pub held : Holds (frame_tag game) (flattened numbers) pool
   pub begun : AreBegun x numbers
-  pub bare : AreBare (known numbers) memory
+  pub bare : AreBare (flattened numbers) memory
 
 abbrev pub numbers_at : List (List (Option ℕ)) → ℕ → List (Option ℕ)
 numbers_at frames game = slice_index_or frames game []
@@ -157,7 +157,7 @@ framed_beside tag lanes frames pool pool' memory memory' apart leaves same frame
       each = λ game less.
           let before = framed.each game less in
           record {
-            held = leaves.holds (frame_tag game) (known (numbers_at frames game)) (apart game less) before.held;
+            held = leaves.holds (frame_tag game) (flattened (numbers_at frames game)) (apart game less) before.held;
             begun = before.begun;
             bare = λ k d within. same (frame_tag game) _ (apart game less) (before.held.owned.each k d within) ∙ before.bare k d within;
           };
@@ -166,7 +166,7 @@ framed_beside tag lanes frames pool pool' memory memory' apart leaves same frame
 -- the game's own blocks change, and its lane
 pub framed_changed : (game : ℕ) (lanes : List Lane) (frames : List (List (Option ℕ))) (pool pool' : Ledger) (memory : Memory) (y : Lane) (numbers : List (Option ℕ))
     → AreFramed lanes frames pool memory → game < length lanes
-    → IsReframed (frame_tag game) (known (numbers_at frames game)) (known numbers) pool pool' memory
+    → IsReframed (frame_tag game) (flattened (numbers_at frames game)) (flattened numbers) pool pool' memory
     → AreBegun y numbers → AreFramed (slice_set lanes game y) (slice_set frames game numbers) pool' memory
 framed_changed game lanes frames pool pool' memory y numbers framed within new begun =
     let many = framed.many in
@@ -187,7 +187,7 @@ framed_changed game lanes frames pool pool' memory y numbers framed within new b
                 let before = framed.each other (omega (arith, less, same_lanes)) in
                 rw (get_or-set_other lanes game other y no_lane differ, get_or-set_other frames game other numbers [] differ)
                 (record {
-                  held = new.others.holds (frame_tag other) (known (numbers_at frames other)) (λ twice. differ (omega (arith, twice))) before.held;
+                  held = new.others.holds (frame_tag other) (flattened (numbers_at frames other)) (λ twice. differ (omega (arith, twice))) before.held;
                   begun = before.begun;
                   bare = before.bare;
                 })

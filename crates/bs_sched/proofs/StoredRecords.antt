@@ -249,7 +249,7 @@ pub changed_added : (cap quota tag number : ℕ) (bytes : List ℕ) (records : L
     → IsChanged cap quota tag (records ++ bytes ∷ []) packing pool memory (packed cap number (length bytes) packing)
     (if fits cap (rounded (length bytes)) packing.current then pool else drawn tag number pool)
     (with_bytes (current_number (packed cap number (length bytes) packing)) (padded bytes) memory)
-changed_added cap quota tag number bytes records packing pool memory wide known small room at was_wiped kept =
+changed_added cap quota tag number bytes records packing pool memory wide flattened small room at was_wiped kept =
     let len = length bytes in
     let b = fits cap (rounded len) packing.current in
     let pool' = if b then pool else drawn tag number pool in
@@ -260,12 +260,12 @@ changed_added cap quota tag number bytes records packing pool memory wide known 
     let owns : Owns tag n' pool' = current_owned b tag number len packing.closed packing.current packing.places pool (some_fits cap (rounded len) packing.current) at kept.held.owned.each in
     let fresh : b ≡ false → IsFresh number packing memory = λ no_room.
     record {
-      known = let in_pool = slice_get_within pool.owners number None (free_at pool.owners number (at no_room)) in omega (arith, in_pool, known);
+      flattened = let in_pool = slice_get_within pool.owners number None (free_at pool.owners number (at no_room)) in omega (arith, in_pool, flattened);
       others = fresh_number cap tag number len packing pool at kept.held no_room;
       empty = was_wiped number (free_at pool.owners number (at no_room));
     } in
     let all_known : All (λ n. n < length memory) (numbers_of packing) = λ k d within.
-    let in_pool = slice_get_within pool.owners _ (Some tag) (kept.held.owned.each k d within) in omega (arith, in_pool, known) in
+    let in_pool = slice_get_within pool.owners _ (Some tag) (kept.held.owned.each k d within) in omega (arith, in_pool, flattened) in
     record {
       kept = record {
         within = omega (arith, more, room);
@@ -297,11 +297,11 @@ pub changed_by : (effect : Effect) (cap quota tag : ℕ) (records : List (List �
     → CanDraw cap effect packing pool → AreWiped pool memory → IsKept cap quota tag records packing pool memory
     → IsChanged cap quota tag (effected effect records) packing pool memory (packing_after cap (next_number pool) effect packing) (pool_after cap tag effect packing pool)
     (memory_with cap (next_number pool) effect packing memory)
-changed_by effect.Keep cap quota tag records packing pool memory wide known fit within can was_wiped kept =
+changed_by effect.Keep cap quota tag records packing pool memory wide flattened fit within can was_wiped kept =
     changed_kept cap quota tag packing pool memory was_wiped records kept
-changed_by (effect.Add bytes) cap quota tag records packing pool memory wide known fit within can was_wiped kept =
-    changed_added cap quota tag (next_number pool) bytes records packing pool memory wide known (small_record quota (charge_of records) bytes fit) fit.room can was_wiped kept
-changed_by effect.Trim cap quota tag records packing pool memory wide known fit within can was_wiped kept =
+changed_by (effect.Add bytes) cap quota tag records packing pool memory wide flattened fit within can was_wiped kept =
+    changed_added cap quota tag (next_number pool) bytes records packing pool memory wide flattened (small_record quota (charge_of records) bytes fit) fit.room can was_wiped kept
+changed_by effect.Trim cap quota tag records packing pool memory wide flattened fit within can was_wiped kept =
     changed_trimmed cap quota tag packing pool memory was_wiped records within kept
-changed_by effect.Drop cap quota tag records packing pool memory wide known fit within can was_wiped kept =
+changed_by effect.Drop cap quota tag records packing pool memory wide flattened fit within can was_wiped kept =
     changed_dropped cap quota tag packing pool memory was_wiped records kept

@@ -8,7 +8,7 @@ use Rattle.bs_sched.specs.declared.event.Event.{Event}
 use Rattle.bs_sched.specs.declared.event.Event.TheVariants as event
 use Rattle.bs_sched.specs.declared.stage.PartState.{PartState}
 use Rattle.bs_sched.specs.declared.stage.PartState.TheVariants as part
-use Rattle.bs_sched.specs.Frames.{known}
+use Rattle.bs_sched.specs.Frames.{flattened}
 use Rattle.bs_sched.specs.Lane.{Lane, forked, goes_on, is_playing}
 use Rattle.bs_sched.specs.Storage.{Storage, frame_tag, frames_of}
 
@@ -47,7 +47,7 @@ abbrev pub pool_framed : FrameEffect → ℕ → List (Option ℕ) → Ledger �
 pool_framed Keeps tag numbers pool = pool
 pool_framed (Forks parts) tag numbers pool = pool
 pool_framed (Draws p) tag numbers pool = drawn tag (next_number pool) pool
-pool_framed Returns tag numbers pool = all_given (known numbers) pool
+pool_framed Returns tag numbers pool = all_given (flattened numbers) pool
 
 abbrev pub framed_by : FrameEffect → ℕ → Storage → Storage
 framed_by f game storage =

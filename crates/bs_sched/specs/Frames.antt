@@ -27,10 +27,10 @@ pub record FramesView : Type 0 where
   -- the snakes that each completed part moved, until the Join has them
   pub moved : List (Option (List Snake))
 
-abbrev pub known : {X : Type 0} → List (Option X) → List X
-known [] = []
-known (None ∷ xs) = known xs
-known (Some x ∷ xs) = x ∷ known xs
+abbrev pub flattened : {X : Type 0} → List (Option X) → List X
+flattened [] = []
+flattened (None ∷ xs) = flattened xs
+flattened (Some x ∷ xs) = x ∷ flattened xs
 
 -- no move is in progress
 abbrev pub idle_frames : ℕ → Option TallyId → FramesView

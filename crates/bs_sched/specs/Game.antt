@@ -18,7 +18,7 @@ use Rattle.bs_pool.specs.Ledger.{Ledger, reserved}
 use Rattle.bs_sched.specs.declared.cores.TheConstants.{LEAST_CAPACITY}
 use Rattle.bs_sched.specs.declared.game.Game.TheInside.{Inside}
 use Rattle.bs_sched.specs.declared.plan_blocks.TheConstants.{FRAME_BLOCKS}
-use Rattle.bs_sched.specs.Frames.{FitFrames, FramesView, forked_frames, frames_taken, idle_frames, known, no_frames, with_moved}
+use Rattle.bs_sched.specs.Frames.{FitFrames, FramesView, forked_frames, frames_taken, idle_frames, flattened, no_frames, with_moved}
 use Rattle.bs_sched.specs.Games.{answer_effect}
 use Rattle.bs_sched.specs.Inputs.{input_of, job_numbers}
 use Rattle.bs_sched.specs.Insides.{may_answer}
@@ -64,7 +64,7 @@ pub record IsGame (cap : ℕ) {at : ℕ} (c : Inside at) : Type 0 where
 pub record HasBlocks (cap : ℕ) (v : GameView) (pool : Ledger) : Type 0 where
   pub records : Holds v.tag (numbers_of v.packing) pool
   pub room : blocks_for cap v.lane.row.quota ≤ reserved v.tag pool
-  pub frames : Holds v.frames.tag (known v.frames.numbers) pool
+  pub frames : Holds v.frames.tag (flattened v.frames.numbers) pool
   pub frame_room : reserved v.frames.tag pool ≡ FRAME_BLOCKS
   pub apart : v.tag ≢ v.frames.tag
 
@@ -103,7 +103,7 @@ closed_game v = record v { lane = closed_lane v.lane; packing = no_packing }
 -- the pool after that
 
 abbrev pub pool_answered : ℕ → GameView → Ledger → Ledger
-pool_answered cap v pool = all_given (known v.frames.numbers) (pool_after cap v.tag (answer_effect v.lane) v.packing pool)
+pool_answered cap v pool = all_given (flattened v.frames.numbers) (pool_after cap v.tag (answer_effect v.lane) v.packing pool)
 
 abbrev pub pool_completed : ℕ → JobKind → GameView → Ledger → Ledger
 pool_completed cap kind.Begin v pool = if goes_on v.lane then pool else pool_answered cap v pool

@@ -130,8 +130,8 @@ abbrev pub KeepsTallies : JobName → List (Option TallyId) → List (Option Tal
 KeepsTallies job old new = (game : ℕ) → (job.kind ≡ kind.Begin → game ≢ job.game) → tally_of new game ≡ tally_of old game
 
 -- the games after a job was completed, by whatever worker
-abbrev pub brought : ℕ → GamesView → JobName → GamesView
-brought cap games job =
+abbrev pub games_completed : ℕ → GamesView → JobName → GamesView
+games_completed cap games job =
     record games {
       lanes = slice_set games.lanes job.game (with_put job.kind job.part (lane_of games.lanes job.game));
       storage = put_storage cap job (lane_of games.lanes job.game) games.storage;

@@ -12,7 +12,7 @@ use Rattle.bs_fiber.specs.declared.job.JobKind.{JobKind}
 use Rattle.bs_fiber.specs.declared.job.JobKind.TheVariants as kind
 use Rattle.bs_fiber.specs.declared.job.JobName.{JobName}
 use Rattle.bs_fiber.specs.Work.{moved_part}
-use Rattle.bs_sched.specs.Frames.{known}
+use Rattle.bs_sched.specs.Frames.{flattened}
 use Rattle.bs_sched.specs.Storage.{Storage, frame_tag, frames_of}
 use Rattle.bs_sched.specs.Lane.{Lane, lane_command, lane_view}
 
@@ -54,8 +54,8 @@ input_of x worker job = record (input_for x (lane_command x) (length x.taken) wo
 -- the numbers of the frame blocks of a job that is out
 abbrev pub job_numbers : JobKind → ℕ → List (Option ℕ) → List ℕ
 job_numbers kind.Begin p numbers = []
-job_numbers kind.Part p numbers = known (slice_index_or numbers p None ∷ [])
-job_numbers kind.Join p numbers = known numbers
+job_numbers kind.Part p numbers = flattened (slice_index_or numbers p None ∷ [])
+job_numbers kind.Join p numbers = flattened numbers
 
 -- the frame blocks of a job that is out, each as its tag and number
 abbrev pub names_for : Storage → JobName → List (ℕ × ℕ)

@@ -5,7 +5,7 @@ use Rattle.bs_sched.specs.declared.stage.Stage.{Stage}
 use Rattle.bs_sched.specs.declared.stage.Stage.TheVariants as stage
 use Rattle.bs_sched.specs.declared.stage.PartState.{PartState}
 use Rattle.bs_sched.specs.declared.stage.PartState.TheVariants as part
-use Rattle.bs_sched.specs.Registry.{AreKnownApart, TellsStays}
+use Rattle.bs_sched.specs.Registry.{AreKnownApart, DeterminesStays}
 use Rattle.bs_sched.specs.Busy.{IsBusyTable}
 use Rattle.bs_sched.specs.Core.{CoreView}
 use Rattle.bs_sched.specs.Games.{setting_of, opened}
@@ -35,7 +35,7 @@ pub record KeepsApart (cap : ℕ) (core : CoreView) : Type 0 where
   pub memory : SharesMemory (setting_in cap core) core.games.rows core.journal
   -- the rows are those of the plan and of the admissions; the commands of a stay are those that
   -- name it
-  pub told : TellsStays (setting_in cap core) core.games.rows core.journal
+  pub told : DeterminesStays (setting_in cap core) core.games.rows core.journal
   pub names : AreKnownApart core.games.lanes
 
 -- The jobs that are out. Each of them is completed at most once.

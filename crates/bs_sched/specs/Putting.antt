@@ -9,17 +9,17 @@ use Rattle.bs_sched.specs.Lane.{Lane, is_out}
 use Rattle.bs_sched.specs.Machine.{lane_of, is_enabled_there}
 
 -- the worker has the job, and its input is the lane's
-pub record IsOwnOf (x : Lane) (worker : ℕ) (brought : TicketView) : Type 0 where
-  pub out : is_out worker x brought.input.job.kind brought.input.job.part ≡ true
-  pub input : brought.input ≡ input_of x worker brought.input.job
+pub record IsOwnOf (x : Lane) (worker : ℕ) (ticket : TicketView) : Type 0 where
+  pub out : is_out worker x ticket.input.job.kind ticket.input.job.part ≡ true
+  pub input : ticket.input ≡ input_of x worker ticket.input.job
 
 -- the worker has the job, and its input and its frame blocks are the core's own
-pub record IsOwn (games : GamesView) (worker : ℕ) (brought : TicketView) : Type 0 where
-  pub out : is_enabled_there games.workers games.lanes (event.Put worker brought.input.job) ≡ true
-  pub input : brought.input ≡ input_of (lane_of games.lanes brought.input.job.game) worker brought.input.job
-  pub frames : names_of brought.frames ≡ names_for games.storage brought.input.job
+pub record IsOwn (games : GamesView) (worker : ℕ) (ticket : TicketView) : Type 0 where
+  pub out : is_enabled_there games.workers games.lanes (event.Put worker ticket.input.job) ≡ true
+  pub input : ticket.input ≡ input_of (lane_of games.lanes ticket.input.job.game) worker ticket.input.job
+  pub frames : names_of ticket.frames ≡ names_for games.storage ticket.input.job
 
 -- a Begin or a Join of the core's own; parts are completed all at once
-pub record IsOwnJob (games : GamesView) (worker : ℕ) (brought : TicketView) : Type 0 where
-  pub kind : brought.input.job.kind ≢ kind.Part
-  pub own : IsOwn games worker brought
+pub record IsOwnJob (games : GamesView) (worker : ℕ) (ticket : TicketView) : Type 0 where
+  pub kind : ticket.input.job.kind ≢ kind.Part
+  pub own : IsOwn games worker ticket

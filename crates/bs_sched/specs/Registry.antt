@@ -72,13 +72,13 @@ commands_to game (event.Put worker job ∷ events) = commands_to game events
 commands_to game (event.Admit row ∷ events) = commands_to game events
 commands_to game (event.Leave left ∷ events) = commands_to game events
 
-pub record TellsStays (setting : Setting) (plan : List GameRow) (events : List Event) : Type 0 where
+pub record DeterminesStays (setting : Setting) (plan : List GameRow) (events : List Event) : Type 0 where
   pub rows : map (λ x. x.row) (shared_run setting plan events) ≡ plan ++ rows_in events
   pub commands : (game : ℕ) → game < length (shared_run setting plan events)
       → commands_of (lane_of (shared_run setting plan events) game) ≡ commands_to game events
 
 abbrev pub JournalLaw : Type 0
-JournalLaw = (setting : Setting) (plan : List GameRow) (events : List Event) → are_enabled setting (opened_lanes plan) events ≡ true → TellsStays setting plan events
+JournalLaw = (setting : Setting) (plan : List GameRow) (events : List Event) → are_enabled setting (opened_lanes plan) events ≡ true → DeterminesStays setting plan events
 
 -- An idle stay has answered all its commands as a game by itself does. So has a stay that has left:
 -- it keeps its last board and its charge, and no record.

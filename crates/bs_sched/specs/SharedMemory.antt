@@ -13,7 +13,7 @@ use Rattle.bs_fiber.specs.declared.job.JobKind.TheVariants as kind
 use Rattle.bs_sched.specs.declared.event.Event.{Event}
 use Rattle.bs_sched.specs.declared.event.Event.TheVariants as event
 use Rattle.bs_sched.specs.declared.plan_blocks.TheConstants.{FRAME_BLOCKS}
-use Rattle.bs_sched.specs.Frames.{known}
+use Rattle.bs_sched.specs.Frames.{flattened}
 use Rattle.bs_sched.specs.Games.{GamesView, opened}
 use Rattle.bs_sched.specs.Isolation.{HandsFit, own_events, row_made, shared_run}
 use Rattle.bs_sched.specs.Lane.{is_playing, kept_of}
@@ -53,11 +53,11 @@ bytes_in world game = map (bytes_at world.memory) (packing_in world game).places
 
 -- the numbers of the frame blocks of a stay's move
 abbrev pub frames_in : World → ℕ → List ℕ
-frames_in world game = known (frames_of world.storage game)
+frames_in world game = flattened (frames_of world.storage game)
 
 -- the number of frame blocks of all moves
 abbrev pub all_framed : List (List (Option ℕ)) → ℕ
-all_framed = sum_by (λ numbers. length (known numbers))
+all_framed = sum_by (λ numbers. length (flattened numbers))
 
 -- the number of record blocks of all stays
 abbrev pub all_held : List Packing → ℕ

@@ -4,7 +4,7 @@ use Rattle.bs_block.specs.Rounding.{rounded}
 use Rattle.bs_pool.specs.Ledger.{Ledger, drawn}
 use Rattle.bs_heap.specs.HeldBlocks.{all_given, next_number}
 use Rattle.bs_heap.specs.Packing.{Packing, no_packing, packed, packing_of_last, closed_numbers, numbers_of, fits}
-use Rattle.bs_sched.specs.Frames.{known}
+use Rattle.bs_sched.specs.Frames.{flattened}
 use Rattle.bs_game.specs.declared.reply.Effect.{Effect}
 use Rattle.bs_game.specs.declared.reply.Effect.TheVariants as effect
 
@@ -71,5 +71,5 @@ without_frames game storage =
     record {
       packings = storage.packings;
       frames = slice_set storage.frames game [];
-      pool = all_given (known (frames_of storage game)) storage.pool;
+      pool = all_given (flattened (frames_of storage game)) storage.pool;
     }

@@ -10,7 +10,7 @@ ghost use Rattle.bs_heap.specs.Lent.{AreLent, owned_numbers};
 ghost use Rattle.bs_pool.specs.Ledger.{held, reserved, drawn};
 ghost use Rattle.bs_sched.specs.declared.frames.FrameSlot.TheVariants as slot;
 ghost use Rattle.bs_sched.specs.FrameSlots.{back_in, is_ready_slot, moved_in, number_in, sent_off};
-ghost use Rattle.bs_sched.specs.Frames.{known, idle_frames, no_frames, forked_frames, joining_frames, with_keys, with_number, with_moved};
+ghost use Rattle.bs_sched.specs.Frames.{flattened, idle_frames, no_frames, forked_frames, joining_frames, with_keys, with_number, with_moved};
 ghost use Rattle.bs_sched.specs.Keyed.{AreKeysOf, IsKeyAt};
 
 use crate::stage::MOST_PARTS;
@@ -185,7 +185,7 @@ fn is_only<const CAP: usize>(blocks: &[Owned<CAP>], tag: u32, number: usize) -> 
 
 /// Whether the blocks are those that were drawn for the slots, in part order.
 fn are_named<const CAP: usize>(blocks: &[Owned<CAP>], tag: u32, slots: &[FrameSlot<CAP>]) -> bool
-    ensures { IsTrue result ↔ names_of (frames_in blocks.now) ≡ map (λ n. (tag, n)) (known (map number_in slots.now)) }
+    ensures { IsTrue result ↔ names_of (frames_in blocks.now) ≡ map (λ n. (tag, n)) (flattened (map number_in slots.now)) }
 {
     let mut rest = blocks;
     for slot in slots {
@@ -257,7 +257,7 @@ impl<const CAP: usize> Frames<CAP> {
         ensures key { IsKeyAt self.old.tally (length self.old.numbers) part result.1 }
         ensures frames { self.new ≡ with_number part (next_number pool.old) self.old }
         ensures pool { pool.new ≡ drawn self.old.tag (next_number pool.old) pool.old }
-        ensures kept { Holds self.old.tag (known self.old.numbers) pool.old → Holds self.old.tag (known (with_number part (next_number pool.old) self.old).numbers) pool.new }
+        ensures kept { Holds self.old.tag (flattened self.old.numbers) pool.old → Holds self.old.tag (flattened (with_number part (next_number pool.old) self.old).numbers) pool.new }
         ensures others { LeavesOthers self.old.tag pool.old pool.new }
     {
         let owned = draw_block(pool, self.tag);
@@ -283,20 +283,20 @@ impl<const CAP: usize> Frames<CAP> {
         requires no_frames { frames.old.items ≡ [] }
         requires room { length self.old.numbers ≤ vec_capacity frames.old }
         ensures frames { self.new ≡ joining_frames self.old }
-        ensures moved { moved.new.items ≡ known self.old.moved }
-        ensures bytes { bytes_of (frames_in frames.new.items) ≡ map frame_of (known self.old.moved) }
-        ensures names { names_of (frames_in frames.new.items) ≡ map (λ n. (self.old.tag, n)) (known self.old.numbers) }
+        ensures moved { moved.new.items ≡ flattened self.old.moved }
+        ensures bytes { bytes_of (frames_in frames.new.items) ≡ map frame_of (flattened self.old.moved) }
+        ensures names { names_of (frames_in frames.new.items) ≡ map (λ n. (self.old.tag, n)) (flattened self.old.numbers) }
     {
         send_all_off(&mut self.slots, moved, frames);
     }
 
     /// Gives the blocks of the answered command back to the pool, and drops its keys.
     pub(crate) fn give_back(&mut self, frames: &mut Vec<Owned<CAP>>, pool: &mut Pool<CAP>)
-        requires names { names_of (frames_in frames.old.items) ≡ map (λ n. (self.old.tag, n)) (known self.old.numbers) }
-        requires held { Holds self.old.tag (known self.old.numbers) pool.old }
+        requires names { names_of (frames_in frames.old.items) ≡ map (λ n. (self.old.tag, n)) (flattened self.old.numbers) }
+        requires held { Holds self.old.tag (flattened self.old.numbers) pool.old }
         ensures frames { self.new ≡ idle_frames self.old.tag self.old.tally }
         ensures blocks { frames.new.items ≡ [] }
-        ensures pool { pool.new ≡ all_given (known self.old.numbers) pool.old }
+        ensures pool { pool.new ≡ all_given (flattened self.old.numbers) pool.old }
         ensures kept { Holds self.old.tag [] pool.new }
         ensures others { LeavesOthers self.old.tag pool.old pool.new }
     {

@@ -256,11 +256,11 @@ impl<const CAP: usize> Game<CAP> {
     }
 
     /// The record of the turn that a command names, if it names one that is kept.
-    fn asked_record(&self, asks: Option<TurnNumber>) -> Option<&[u8]>
+    fn asked_record(&self, asked_turn: Option<TurnNumber>) -> Option<&[u8]>
         requires { self.now.lane.is_open ≡ true }
-        ensures { option_map (λ bytes. bytes.now) result ≡ option_map record_of (board_asked asks self.now.lane.game) }
+        ensures { option_map (λ bytes. bytes.now) result ≡ option_map record_of (board_asked asked_turn self.now.lane.game) }
     {
-        match self.place_of(asks?) {
+        match self.place_of(asked_turn?) {
             None => None,
             Some(place) => Some(self.record(place)),
         }
@@ -287,7 +287,7 @@ impl<const CAP: usize> Game<CAP> {
             charge: self.charge(),
             kept: self.count(),
             last: self.fiber.last_record(),
-            asked: self.asked_record(command.asks()),
+            asked: self.asked_record(command.asked_turn()),
             command: command.shared(),
         }
     }

@@ -4,7 +4,7 @@ ghost use Rattle.bs_fiber.specs.declared.input.Input.{Input as AnyInput};
 ghost use Rattle.bs_fiber.specs.Tickets.{HoldsWork, frames_in, names_of};
 ghost use Rattle.bs_fiber.specs.Work.{out_seen};
 ghost use Rattle.bs_sched.specs.Core.{core_after};
-ghost use Rattle.bs_sched.specs.Games.{brought};
+ghost use Rattle.bs_sched.specs.Games.{games_completed};
 ghost use Rattle.bs_sched.specs.Inputs.{names_for};
 ghost use Rattle.bs_sched.specs.Lane.{is_out, lane_view, lane_command};
 ghost use Rattle.bs_sched.specs.Machine.{lane_of};
@@ -36,7 +36,7 @@ impl<const CAP: usize> Games<CAP> {
         requires worked { out ≡ out_seen job.kind job.part (lane_view (lane_of self.old.lanes job.game)) (lane_command (lane_of self.old.lanes job.game)) }
         requires names { names_of (frames_in blocks.old.items) ≡ names_for self.old.storage job }
         requires holds { (input : AnyInput) × HoldsWork (record { input = input; frames = frames_in blocks.old.items }) out }
-        ensures { self.new ≡ brought CAP self.old job }
+        ensures { self.new ≡ games_completed CAP self.old job }
     {
         let game = job.game as usize;
         self.list[game].keeps();
@@ -66,7 +66,7 @@ impl<const CAP: usize> Games<CAP> {
     /// Completes a job of this core, and returns the contents of its ticket.
     fn complete(&mut self, done: Done<CAP>) -> Box<Contents<CAP>>
         requires { (worker : ℕ) × IsOwn self.old worker done }
-        ensures { self.new ≡ brought CAP self.old done.entry.input.job }
+        ensures { self.new ≡ games_completed CAP self.old done.entry.input.job }
     {
         let job = done.ticket().job();
         self.game(job.game as usize).keeps();

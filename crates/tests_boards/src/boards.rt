@@ -55,7 +55,7 @@ pub fn wrapped(alloc: Global) -> Result<Board, AllocError> {
 }
 
 /// Puts the snake out in turn 1.
-fn put_out(snake: &mut Snake, body: Cells, health: u8, cause: Cause) {
+fn eliminate(snake: &mut Snake, body: Cells, health: u8, cause: Cause) {
     snake.body = body;
     snake.health = health;
     snake.cause = Some(cause);
@@ -69,7 +69,7 @@ fn wrapped_out(alloc: Global, x: i16, cause: Cause, health: u8) -> Result<Board,
     let mut board = wrapped(alloc)?;
     board.turn = 1;
     holds("two snakes", board.snakes.len() == 2)?;
-    put_out(board.snakes.seat_mut(0), body, health, cause);
+    eliminate(board.snakes.seat_mut(0), body, health, cause);
     Ok(board)
 }
 

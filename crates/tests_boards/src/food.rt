@@ -68,7 +68,7 @@ fn words_decide_the_food(rt: HostRuntime) -> Result<(), Fail> {
 }
 
 /// Puts the only snake out.
-fn put_out(board: &mut Board) -> Result<(), Fail> {
+fn eliminate(board: &mut Board) -> Result<(), Fail> {
     holds("one snake", board.snakes.len() == 1)?;
     let snake = board.snakes.seat_mut(0);
     snake.out = Some(1);
@@ -92,7 +92,7 @@ fn check_spawned(
 fn the_dead_leave_their_cells(rt: HostRuntime) -> Result<(), Fail> {
     let alloc = rt.alloc();
     let mut board = board(alloc, 9, 0)?;
-    put_out(&mut board)?;
+    eliminate(&mut board)?;
     same("free cells", free_cells(alloc, &board)?.len(), 9)?;
     check_spawned(alloc, &mut board, &[0, 0, 0, 0, 0, 0, 0, 0, 0, 0], 9)?;
     board.min_food = 10;

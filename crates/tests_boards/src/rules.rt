@@ -172,7 +172,7 @@ fn meeting(alloc: Global) -> Result<Board, Fail> {
 }
 
 /// Eliminates the snakes that have starved or left the board.
-fn put_out(board: &mut Board) -> Result<(), Fail> {
+fn eliminate(board: &mut Board) -> Result<(), Fail> {
     holds("a turn to come", board.turn < LAST_TURN)?;
     first_out(board);
     Ok(())
@@ -188,7 +188,7 @@ fn let_collide(board: &mut Board) -> Result<(), Fail> {
 
 fn feed_and_collide(alloc: Global, next: &mut Board) -> Result<(), Fail> {
     feed(alloc, next)?;
-    put_out(next)?;
+    eliminate(next)?;
     check_after(alloc, "after feeding", next, FED)?;
     let_collide(next)?;
     check_after(alloc, "after the collisions", next, COLLIDED)

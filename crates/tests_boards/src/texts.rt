@@ -61,7 +61,7 @@ fn field_after(word: &str) -> Field {
 
 /// Reads the cause, the killer and the turn of "CELLS CAUSE by SEAT in TURN", as far as they are
 /// given.
-fn put_out(snake: &mut Snake, text: &str) -> Result<(), Fail> {
+fn eliminate(snake: &mut Snake, text: &str) -> Result<(), Fail> {
     let mut field = Field::Cause;
     for word in text.split(' ') {
         match field {
@@ -96,7 +96,7 @@ fn snake(alloc: Global, text: &str) -> Result<Snake, Fail> {
     let (id, rest) = text.split_once(' ').ok_or("an id")?;
     let (health, rest) = rest.split_once(' ').ok_or("a health")?;
     let mut snake = living(alloc, id, small(health)?, cells(alloc, rest)?)?;
-    put_out(&mut snake, rest)?;
+    eliminate(&mut snake, rest)?;
     Ok(snake)
 }
 

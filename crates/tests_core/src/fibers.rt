@@ -221,14 +221,14 @@ fn check_shares(handle: &SharedCommand, command: &Command) -> Result<(), Fail> {
     holds("a handle to it", handle.get().is_same(command))
 }
 
-/// Checks the queued command, the turn that it asks for, and whether it is a move.
+/// Checks the queued command, the turn that it asked_turn for, and whether it is a move.
 fn check_handed(
     handed: &Handed,
     command: &Command,
-    asks: Option<TurnNumber>,
+    asked_turn: Option<TurnNumber>,
     is_move: bool,
 ) -> Result<(), Fail> {
-    same("turn asked for", handed.asks(), asks)?;
+    same("turn asked for", handed.asked_turn(), asked_turn)?;
     same("a move", handed.is_move(), is_move)?;
     check_shares(handed.shared(), command)
 }

@@ -1,8 +1,8 @@
 use Rattle.std.proofs.Common.{rules}
 use Rattle.bs_json.proofs.CutTexts.{move_parts}
-use Rattle.bs_json.proofs.compact.cut_move.Goals as goal
+use Rattle.bs_json.proofs.compact.split_move.Goals as goal
 
 pub returns-clause-text : goal.returns-clause-text
 returns-clause-text c =
-    move_parts c.args.line.now c.in_ok-behind.field-0.now c.in_ok-id.id.now c.in_ok-id.rest.now c.in_ok-name.name.now c.in_ok-name.rest.now
+    move_parts c.args.line.now c.in_ok-strip_prefix.field-0.now c.in_ok-id.id.now c.in_ok-id.rest.now c.in_ok-name.name.now c.in_ok-name.rest.now
     c.in_ok-direction_named.field-0 (search rules) (search rules) (search rules) (search rules)

@@ -1,7 +1,7 @@
 use Rattle.std.proofs.Common.{◌≡◌, false, true, ◌++◌}
 use Rattle.bs_json.specs.Compact.{are_plain_moves, moves_text}
 use Rattle.bs_json.proofs.CutTexts.{are_some}
-use Rattle.bs_json.proofs.compact.cut_moves.Given as goal
+use Rattle.bs_json.proofs.compact.split_moves.Given as goal
 
 -- the text before the remaining part is that of the moves found
 abbrev pub invariant-loop-turn : goal.invariant-loop-turn

@@ -1,7 +1,7 @@
 use Rattle.std.proofs.Common.{◌≡◌, false, ◌++◌}
 use Rattle.bs_json.specs.Compact.{words_text}
 use Rattle.bs_json.proofs.CutTexts.{are_some}
-use Rattle.bs_json.proofs.compact.cut_words.Given as goal
+use Rattle.bs_json.proofs.compact.split_words.Given as goal
 
 -- the text before the remaining part is that of the words found
 abbrev pub invariant-loop-turn : goal.invariant-loop-turn

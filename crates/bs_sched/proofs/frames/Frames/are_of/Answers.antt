@@ -4,7 +4,7 @@ use Rattle.bs_fiber.specs.declared.job.JobKind.{JobKind}
 use Rattle.bs_fiber.specs.Tickets.{frames_in, names_of}
 use Rattle.bs_sched.specs.declared.frames.FrameSlot.{FrameSlot}
 use Rattle.bs_sched.specs.FrameSlots.{number_in}
-use Rattle.bs_sched.specs.Frames.{FramesView, known}
+use Rattle.bs_sched.specs.Frames.{FramesView, flattened}
 use Rattle.bs_sched.specs.Inputs.{job_numbers}
 use Rattle.bs_sched.proofs.frames.Frames.are_of.Goals as goal
 
@@ -12,9 +12,9 @@ pub returns-in-Join : goal.returns-in-Join
 returns-in-Join g c =
     let slots : List (FrameSlot g.row.CAP) = c.as_slice.result.now in
     let named : ℕ → List ℕ → List (ℕ × ℕ) = λ tag ns. map (λ n. (tag, n)) ns in
-    let here : named c.self.inside.tag (known (map number_in slots)) ≡ named c.args.self.now.tag (known c.args.self.now.numbers) =
-    ap (λ (l : List (FrameSlot g.row.CAP)). named c.self.inside.tag (known (map number_in l))) c.as_slice.ensures.value
-    ∙ ap (λ (f : FramesView). named f.tag (known f.numbers)) c.self.view_is in
+    let here : named c.self.inside.tag (flattened (map number_in slots)) ≡ named c.args.self.now.tag (flattened c.args.self.now.numbers) =
+    ap (λ (l : List (FrameSlot g.row.CAP)). named c.self.inside.tag (flattened (map number_in l))) c.as_slice.ensures.value
+    ∙ ap (λ (f : FramesView). named f.tag (flattened f.numbers)) c.self.view_is in
     subst
     (λ (k : JobKind). IsTrue c.are_named.result ↔ names_of (frames_in c.args.blocks.now) ≡ named c.args.self.now.tag (job_numbers k c.args.job.part c.args.self.now.numbers))
     (sym c.in-Join.is) (rw here at c.are_named.ensures)

@@ -2,7 +2,7 @@ use Rattle.std.proofs.Common.{◌≡◌, ℕ, List, map, sym, ap, subst, ◌∙�
 use Rattle.bs_fiber.specs.Tickets.{frames_in, names_of}
 use Rattle.bs_game.specs.View.{answer_of}
 use Rattle.bs_heap.specs.Packing.{numbers_of}
-use Rattle.bs_sched.specs.Frames.{FramesView, LeavesBut, idle_frames, known}
+use Rattle.bs_sched.specs.Frames.{FramesView, LeavesBut, idle_frames, flattened}
 use Rattle.bs_sched.specs.Game.{GameView, HasBlocks, IsAnswering}
 use Rattle.bs_sched.specs.Lane.{Lane, lane_command, lane_view}
 use Rattle.bs_sched.proofs.Answered.{answered_boards, fit_effect, is_at_command, told_last, told_reply}
@@ -54,7 +54,7 @@ give_back-requires g c =
     let has = subst (λ (v : GameView). HasBlocks g.row.CAP v c.args.pool.now) (sym c.self.view_is) c.requires.blocks in
     let names = is.names_are ∙ ap (λ (ns : List ℕ). map (λ n. (inside.frames.tag, n)) ns)
     (all_of_job is.job.kind inside.fiber is.worker is.job.part inside.frames is.kind is.out c.self.invariant.frames) in
-    let held = c.change_records.ensures.others.holds inside.frames.tag (known inside.frames.numbers) (λ same. has.apart (sym same)) has.frames in
+    let held = c.change_records.ensures.others.holds inside.frames.tag (flattened inside.frames.numbers) (λ same. has.apart (sym same)) has.frames in
     (omega arith, (omega arith, (omega arith, (names, held))))
 
 pub invariant_of-self : goal.invariant_of-self
@@ -80,7 +80,7 @@ returns-clause-blocks g c =
     let changed = c.change_records.ensures in
     let given = c.give_back.ensures in
     let tag = ap (λ (f : FramesView). f.tag) given.frames in
-    let none = ap (λ (f : FramesView). known f.numbers) given.frames in
+    let none = ap (λ (f : FramesView). flattened f.numbers) given.frames in
     let row = ap (λ (x : Lane). x.row) c.answer.ensures in
     let reservations = given.others.reservations ∙ changed.others.reservations in
     record {

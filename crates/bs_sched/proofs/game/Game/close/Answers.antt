@@ -2,7 +2,7 @@ use Rattle.std.proofs.Common.{◌≡◌, true, length, sym, ap, subst, ◌∙◌
 use Rattle.std.specs.Prelude.{nat_eq}
 use Rattle.bs_board.proofs.Chains.{and_both}
 use Rattle.bs_heap.specs.Heap.{Heap}
-use Rattle.bs_sched.specs.Frames.{known}
+use Rattle.bs_sched.specs.Frames.{flattened}
 use Rattle.bs_sched.specs.Game.{GameView, HasBlocks}
 use Rattle.bs_sched.specs.Lane.{Lane, is_idle, is_quiet, may_leave}
 use Rattle.bs_sched.proofs.PartFrames.{at_rest}
@@ -19,7 +19,7 @@ returns-clause-blocks g c =
     record {
       records = free.kept;
       room = rw (row, tag, free.others.reservations) has.room;
-      frames = free.others.holds inside.frames.tag (known inside.frames.numbers) (λ same. has.apart (sym same)) has.frames;
+      frames = free.others.holds inside.frames.tag (flattened inside.frames.numbers) (λ same. has.apart (sym same)) has.frames;
       frame_room = rw free.others.reservations has.frame_room;
       apart = rw tag has.apart;
     }

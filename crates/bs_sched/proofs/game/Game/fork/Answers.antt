@@ -1,7 +1,7 @@
 use Rattle.std.proofs.Common.{◌≡◌, ℕ, List, Option, length, true, refl, sym, ap, subst, ◌∙◌, false}
 use Rattle.bs_fiber.specs.declared.job.JobKind.TheVariants as kind
 use Rattle.bs_heap.specs.HeldBlocks.{Holds}
-use Rattle.bs_sched.specs.Frames.{FramesView, known}
+use Rattle.bs_sched.specs.Frames.{FramesView, flattened}
 use Rattle.bs_sched.specs.Game.{GameView, HasBlocks}
 use Rattle.bs_sched.specs.Insides.{may_answer}
 use Rattle.bs_sched.specs.Lane.{Lane, goes_on, is_out}
@@ -31,7 +31,7 @@ returns-clause-blocks g c pool before =
     let none = (to_fork inside.fiber begun.0 inside.frames begun.1 goes c.self.invariant.frames).none in
     let lane = c.fork.ensures in
     let frames = c.fork-2.ensures in
-    let numbers : known inside.frames.numbers ≡ known c.fork-2.new.self.numbers
-    = ap (λ (ns : List (Option ℕ)). known ns) none ∙ sym (ap (λ (f : FramesView). known f.numbers) frames ∙ none_known (length inside.frames.keys)) in
+    let numbers : flattened inside.frames.numbers ≡ flattened c.fork-2.new.self.numbers
+    = ap (λ (ns : List (Option ℕ)). flattened ns) none ∙ sym (ap (λ (f : FramesView). flattened f.numbers) frames ∙ none_known (length inside.frames.keys)) in
     framed_blocks g.row.CAP _ _ pool pool has refl refl (ap (λ (y : Lane). y.row) lane) (ap (λ (f : FramesView). f.tag) frames)
     (subst (λ (ns : List ℕ). Holds inside.frames.tag ns pool) numbers has.frames) (leaves_none inside.frames.tag pool)

@@ -3,7 +3,7 @@ use Rattle.bs_fiber.specs.declared.job.JobName.{JobName}
 use Rattle.bs_fiber.specs.declared.contents.Contents.{Contents}
 use Rattle.bs_fiber.specs.Tickets.{Frame, TicketView, HoldsWork, frames_in, names_of, ticket_in}
 use Rattle.bs_sched.specs.Courses.{IsRight}
-use Rattle.bs_sched.specs.Games.{brought}
+use Rattle.bs_sched.specs.Games.{games_completed}
 use Rattle.bs_sched.specs.Lane.{Lane}
 use Rattle.bs_sched.proofs.OwnJobs.{brings, own_there}
 use Rattle.bs_sched.proofs.games.Games.complete.Goals as goal
@@ -30,4 +30,4 @@ complete_job-requires g c =
 pub returns : goal.returns
 returns g c =
     let job = c.job-job.ensures ∙ ap (λ (i : TicketView). i.input.job) c.ticket.ensures in
-    c.complete_job.ensures ∙ ap (λ (j : JobName). brought g.row.CAP c.args.self.now j) job
+    c.complete_job.ensures ∙ ap (λ (j : JobName). games_completed g.row.CAP c.args.self.now j) job

@@ -5,7 +5,7 @@ use Rattle.bs_fiber.specs.Work.{out_seen}
 use Rattle.bs_heap.specs.HeldBlocks.{next_number}
 use Rattle.bs_sched.specs.Frames.{FitFrames}
 use Rattle.bs_sched.specs.Game.{GameView, no_game}
-use Rattle.bs_sched.specs.Games.{GamesView, brought}
+use Rattle.bs_sched.specs.Games.{GamesView, games_completed}
 use Rattle.bs_sched.specs.Lane.{Lane, is_out, lane_command, lane_view}
 use Rattle.bs_sched.proofs.Brought.{none_begun}
 use Rattle.bs_sched.proofs.ChangedGames.{completed_stay, completed_view, names_there, open_with_out, row_there, sound_game, stay_there}
@@ -53,4 +53,4 @@ returns g c =
     let none : job.kind ≡ kind.Begin → v.frames.numbers ≡ []
     = λ begins. none_begun v.lane out.0 job.part v.frames (subst (λ (k : JobKind). is_out out.0 v.lane k job.part ≡ true) begins out.1) fit in
     completed_view g.row.CAP inside job v c.complete.new.self c.complete.new.pool here.there at.tag none done.game done.pool
-    ∙ ap (λ (u : GamesView). brought g.row.CAP u job) c.self.view_is
+    ∙ ap (λ (u : GamesView). games_completed g.row.CAP u job) c.self.view_is

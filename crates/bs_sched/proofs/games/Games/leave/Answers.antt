@@ -3,7 +3,7 @@ use Rattle.std.specs.Vec.{with_item}
 use Rattle.bs_heap.specs.HeldBlocks.{LeavesOthers, all_given}
 use Rattle.bs_heap.specs.Packing.{numbers_of}
 use Rattle.bs_sched.specs.declared.games.Games.TheInside.{Inside}
-use Rattle.bs_sched.specs.Frames.{known}
+use Rattle.bs_sched.specs.Frames.{flattened}
 use Rattle.bs_sched.specs.Game.{GameView, closed_game}
 use Rattle.bs_sched.specs.Lane.{Lane, may_leave}
 use Rattle.bs_sched.proofs.ChangedGames.{row_there, stay_there}
@@ -36,7 +36,7 @@ release_row-requires g c =
     let closed = c.close.ensures in
     let few = c.self.invariant.few in
     let within = here.within in
-    let none = ap (λ (u : GameView). known u.frames.numbers) closed.game ∙ ap (λ (ns : List (Option ℕ)). known ns) closed.no_frames in
+    let none = ap (λ (u : GameView). flattened u.frames.numbers) closed.game ∙ ap (λ (ns : List (Option ℕ)). flattened ns) closed.no_frames in
     let can = can_release g.row.CAP game w c.close.new.pool (ap (λ (u : GameView). u.tag) closed.game ∙ at.tag) (ap (λ (u : GameView). u.frames.tag) closed.game ∙ at.frame_tag_is)
     (ap (λ (u : GameView). u.packing) closed.game) none closed.blocks in
     (omega arith, (omega (arith, within, few), (can.records, (can.frames, (can.no_records, can.no_frames)))))
