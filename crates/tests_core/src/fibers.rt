@@ -221,7 +221,7 @@ fn check_shares(handle: &SharedCommand, command: &Command) -> Result<(), Fail> {
     holds("a handle to it", handle.get().is_same(command))
 }
 
-/// Checks the queued command, the turn that it asked_turn for, and whether it is a move.
+/// Checks the queued command, the turn that it asks for, and whether it is a move.
 fn check_handed(
     handed: &Handed,
     command: &Command,
