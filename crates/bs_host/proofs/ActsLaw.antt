@@ -20,12 +20,12 @@ use Rattle.bs_workers.specs.Acts.{are_acceptable, is_acceptable, opened, rows_ad
 use Rattle.bs_workers.specs.declared.act.Act.TheVariants as act
 use Rattle.bs_host.specs.File.{pieces_of, later_pieces, rows_of, version_of}
 use Rattle.bs_host.specs.declared.route.Route.{Route}
-use Rattle.bs_host.specs.Guests.{GuestList, guests_of, guests_then, route_by, routes_by_guests, rows_by_guests, rows_in_route}
+use Rattle.bs_host.specs.OpenStays.{OpenStayList, open_stays_of, open_stays_then, route_by, routes_by_open_stays, rows_by_open_stays, rows_in_route}
 use Rattle.bs_host.specs.Laws.{ActsLaw}
 use Rattle.bs_host.specs.Routing.{act_in, acts_in, admit_refusal, admit_route, registry_behind, registry_then, command_to, commands_to, hand_route, capacity_of, leave_route, next_registry, route_at, route_of, routes_from, stays_behind}
 use Rattle.bs_host.specs.declared.route.Route.TheVariants as route
 use Rattle.bs_host.proofs.FitStays.{may_come}
-use Rattle.bs_host.proofs.GuestRoutes.{guests_law}
+use Rattle.bs_host.proofs.OpenStayRoutes.{open_stays_law}
 use Rattle.bs_host.proofs.PlainLines.{rows_opened}
 
 -- rows
@@ -132,18 +132,18 @@ rows_of_act (route.Act (act.Leave stay)) acts = refl
 rows_of_act (route.Stray kind) acts = refl
 rows_of_act route.Nowhere acts = refl
 
-rows_walked : (capacity : Capacity) (version : Version) (guests : GuestList) (number : ℕ) (lines : List (List ℕ))
-    → rows_admitted (acts_in (routes_by_guests capacity version guests number lines)) ≡ rows_by_guests capacity version guests lines
-rows_walked capacity version guests number [] = refl
-rows_walked capacity version guests number (text ∷ lines) =
-    let r = route_by capacity guests (line_of version text) in
-    rows_of_act r (acts_in (routes_by_guests capacity version (guests_then guests r) (number + 1) lines))
-    ∙ ap (λ rows. rows_in_route r ++ rows) (rows_walked capacity version (guests_then guests r) (number + 1) lines)
+rows_walked : (capacity : Capacity) (version : Version) (open_stays : OpenStayList) (number : ℕ) (lines : List (List ℕ))
+    → rows_admitted (acts_in (routes_by_open_stays capacity version open_stays number lines)) ≡ rows_by_open_stays capacity version open_stays lines
+rows_walked capacity version open_stays number [] = refl
+rows_walked capacity version open_stays number (text ∷ lines) =
+    let r = route_by capacity open_stays (line_of version text) in
+    rows_of_act r (acts_in (routes_by_open_stays capacity version (open_stays_then open_stays r) (number + 1) lines))
+    ∙ ap (λ rows. rows_in_route r ++ rows) (rows_walked capacity version (open_stays_then open_stays r) (number + 1) lines)
 
 pub stays_walked : (capacity : Capacity) (version : Version) (rows : List GameRow) (lines : List (List ℕ))
-    → stays_behind capacity version rows lines ≡ rows ++ rows_by_guests capacity version (guests_of (opened rows)) lines
+    → stays_behind capacity version rows lines ≡ rows ++ rows_by_open_stays capacity version (open_stays_of (opened rows)) lines
 stays_walked capacity version rows lines =
     rows_made capacity version (opened rows) 2 lines
     ∙ ap (λ first. first ++ rows_admitted (acts_in (routes_from capacity version (opened rows) 2 lines))) (rows_opened rows)
-    ∙ ap (λ routes. rows ++ rows_admitted (acts_in routes)) (guests_law capacity version 2 (opened rows) lines)
-    ∙ ap (λ all. rows ++ all) (rows_walked capacity version (guests_of (opened rows)) 2 lines)
+    ∙ ap (λ routes. rows ++ rows_admitted (acts_in routes)) (open_stays_law capacity version 2 (opened rows) lines)
+    ∙ ap (λ all. rows ++ all) (rows_walked capacity version (open_stays_of (opened rows)) 2 lines)

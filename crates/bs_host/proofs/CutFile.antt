@@ -17,11 +17,11 @@ use Rattle.bs_host.specs.declared.lines.TheConstants.{LINE_FEED}
 use Rattle.bs_host.specs.declared.route.Route.{Route}
 use Rattle.bs_host.specs.Cut.{behind_feeds, cut_of, cut_refusal_of, cut_refusal_of_plan, lone_plan_of, nth_from, nth_stay, own_lines_in, own_lines_of, row_at}
 use Rattle.bs_host.specs.File.{pieces_after, pieces_of, first_piece, later_pieces, plan_of, rows_in, version_in, version_of}
-use Rattle.bs_host.specs.Guests.{GuestList, guests_of, guests_then, own_by_guests, route_by}
+use Rattle.bs_host.specs.OpenStays.{OpenStayList, open_stays_of, open_stays_then, own_by_open_stays, route_by}
 use Rattle.bs_host.specs.Routing.{command_to, capacity_of, stays_behind, stays_of}
 use Rattle.bs_host.proofs.CutLines.{joined_behind}
 use Rattle.bs_host.proofs.FoundStays.{found_row}
-use Rattle.bs_host.proofs.GuestRoutes.{guest_lines_law}
+use Rattle.bs_host.proofs.OpenStayRoutes.{open_stay_lines_law}
 
 pub refusal_of_long : (blocks : ℕ) (file game : List ℕ) (n : ℕ) → MOST_FILE_BYTES < length file → cut_refusal_of blocks file game n ≡ Some TooLong
 unfolding cut_refusal_of
@@ -86,30 +86,30 @@ fewer_left left None text is shorter = rw is (omega arith)
 fewer_left left (Some rest) text is shorter = rw is (omega (arith, shorter))
 
 -- the line belongs to the stay and is appended; or it does not
-module _ (capacity : Capacity) (version : Version) (guests : GuestList) (stay : ℕ) (line written : List ℕ) (lines : List (List ℕ)) where
+module _ (capacity : Capacity) (version : Version) (open_stays : OpenStayList) (stay : ℕ) (line written : List ℕ) (lines : List (List ℕ)) where
   abbrev goes : Route
-  goes = route_by capacity guests (line_of version line)
+  goes = route_by capacity open_stays (line_of version line)
 
   abbrev own_behind : List (List ℕ)
-  own_behind = own_by_guests capacity version (guests_then guests goes) stay lines
+  own_behind = own_by_open_stays capacity version (open_stays_then open_stays goes) stay lines
 
   pub own_line_goes : is_some (command_to stay goes) ≡ true
-      → (written ++ LINE_FEED ∷ line) ++ behind_feeds own_behind ≡ written ++ behind_feeds (own_by_guests capacity version guests stay (line ∷ lines))
+      → (written ++ LINE_FEED ∷ line) ++ behind_feeds own_behind ≡ written ++ behind_feeds (own_by_open_stays capacity version open_stays stay (line ∷ lines))
   own_line_goes own =
       rw own (append_assoc written (LINE_FEED ∷ line) (behind_feeds own_behind)
       ∙ ap (λ rest. written ++ rest) (sym (flat_map-cons (λ l. LINE_FEED ∷ l) line own_behind)))
 
   pub other_line_goes : is_some (command_to stay goes) ≡ false
-      → written ++ behind_feeds own_behind ≡ written ++ behind_feeds (own_by_guests capacity version guests stay (line ∷ lines))
+      → written ++ behind_feeds own_behind ≡ written ++ behind_feeds (own_by_open_stays capacity version open_stays stay (line ∷ lines))
   other_line_goes other = rw other refl
 
 -- when all lines are done
-pub none_left : (capacity : Capacity) (version : Version) (guests : GuestList) (stay : ℕ) (rows : List GameRow) (lines : List (List ℕ)) (written before : List ℕ)
+pub none_left : (capacity : Capacity) (version : Version) (open_stays : OpenStayList) (stay : ℕ) (rows : List GameRow) (lines : List (List ℕ)) (written before : List ℕ)
     (left : Option (Bor (List ℕ))) → left ≡ None
-    → written ++ behind_feeds (own_by_guests capacity version guests stay (pieces_after (option_copied left)))
-    ≡ before ++ behind_feeds (own_by_guests capacity version (guests_of (opened rows)) stay lines)
+    → written ++ behind_feeds (own_by_open_stays capacity version open_stays stay (pieces_after (option_copied left)))
+    ≡ before ++ behind_feeds (own_by_open_stays capacity version (open_stays_of (opened rows)) stay lines)
     → written ≡ before ++ behind_feeds (own_lines_in capacity version (opened rows) stay lines)
-none_left capacity version guests stay rows lines written before left is told =
+none_left capacity version open_stays stay rows lines written before left is told =
     sym (append-nil written)
-    ∙ ap (λ rest. written ++ behind_feeds (own_by_guests capacity version guests stay (pieces_after (option_copied rest)))) (sym is) ∙ told
-    ∙ ap (λ own. before ++ behind_feeds own) (sym (guest_lines_law capacity version stay (opened rows) lines))
+    ∙ ap (λ rest. written ++ behind_feeds (own_by_open_stays capacity version open_stays stay (pieces_after (option_copied rest)))) (sym is) ∙ told
+    ∙ ap (λ own. before ++ behind_feeds own) (sym (open_stay_lines_law capacity version stay (opened rows) lines))

@@ -13,7 +13,7 @@ use Rattle.bs_workers.specs.declared.act.Act.TheVariants as act
 use Rattle.bs_host.specs.declared.route.Route.{Route}
 use Rattle.bs_host.specs.declared.route.Route.TheVariants as route
 use Rattle.bs_host.specs.Cut.{nth_from, row_at}
-use Rattle.bs_host.specs.Guests.{GuestList, guests_of, guests_then, route_by, rows_by_guests, rows_in_route}
+use Rattle.bs_host.specs.OpenStays.{OpenStayList, open_stays_of, open_stays_then, route_by, rows_by_open_stays, rows_in_route}
 use Rattle.bs_host.specs.Routing.{stays_behind}
 use Rattle.bs_host.proofs.ActsLaw.{stays_walked}
 use Rattle.bs_host.proofs.FoundStays.{found_first, passed_by}
@@ -39,7 +39,7 @@ IsSought stay rows sought n name nth = (more : List GameRow) → nth_from stay (
 
 module _ (capacity : Capacity) (version : Version) (rows all : List GameRow) (lines : List (List ℕ)) (name : List ℕ) (nth : ℕ) (same : all ≡ rows) where
   abbrev later : List GameRow
-  later = rows_by_guests capacity version (guests_of (opened rows)) lines
+  later = rows_by_open_stays capacity version (open_stays_of (opened rows)) lines
 
   among_stays : nth_from 0 (all ++ later) name nth ≡ nth_from 0 (stays_behind capacity version rows lines) name nth
   among_stays =
@@ -75,41 +75,41 @@ module _ (capacity : Capacity) (version : Version) (rows all : List GameRow) (li
 
 -- among the rows that lines admit
 
-one_more_made : (guests : GuestList) (r : Route) (row : GameRow) → rows_in_route r ≡ row ∷ [] → (guests_then guests r).made ≡ guests.made + 1
-one_more_made guests (route.Act (act.Hand stay command)) row is = absurd cc
-one_more_made guests (route.Act (act.Admit new)) row is = refl
-one_more_made guests (route.Act (act.Leave stay)) row is = absurd cc
-one_more_made guests (route.Stray kind) row is = absurd cc
-one_more_made guests route.Nowhere row is = absurd cc
+one_more_made : (open_stays : OpenStayList) (r : Route) (row : GameRow) → rows_in_route r ≡ row ∷ [] → (open_stays_then open_stays r).made ≡ open_stays.made + 1
+one_more_made open_stays (route.Act (act.Hand stay command)) row is = absurd cc
+one_more_made open_stays (route.Act (act.Admit new)) row is = refl
+one_more_made open_stays (route.Act (act.Leave stay)) row is = absurd cc
+one_more_made open_stays (route.Stray kind) row is = absurd cc
+one_more_made open_stays route.Nowhere row is = absurd cc
 
-none_more_made : (guests : GuestList) (r : Route) → rows_in_route r ≡ [] → (guests_then guests r).made ≡ guests.made
-none_more_made guests (route.Act (act.Hand stay command)) is = refl
-none_more_made guests (route.Act (act.Admit new)) is = absurd cc
-none_more_made guests (route.Act (act.Leave stay)) is = refl
-none_more_made guests (route.Stray kind) is = refl
-none_more_made guests route.Nowhere is = refl
+none_more_made : (open_stays : OpenStayList) (r : Route) → rows_in_route r ≡ [] → (open_stays_then open_stays r).made ≡ open_stays.made
+none_more_made open_stays (route.Act (act.Hand stay command)) is = refl
+none_more_made open_stays (route.Act (act.Admit new)) is = absurd cc
+none_more_made open_stays (route.Act (act.Leave stay)) is = refl
+none_more_made open_stays (route.Stray kind) is = refl
+none_more_made open_stays route.Nowhere is = refl
 
-module _ (capacity : Capacity) (version : Version) (guests after : GuestList) (line : List ℕ) (lines : List (List ℕ)) (r : Route) (name : List ℕ) (n : ℕ) (total : Option (ℕ × GameRow)) (is : r ≡ route_by capacity guests (line_of version line)) (moved : after ≡ guests_then guests r) (before : nth_from guests.made (rows_by_guests capacity version guests (line ∷ lines)) name n ≡ total) where
+module _ (capacity : Capacity) (version : Version) (open_stays after : OpenStayList) (line : List ℕ) (lines : List (List ℕ)) (r : Route) (name : List ℕ) (n : ℕ) (total : Option (ℕ × GameRow)) (is : r ≡ route_by capacity open_stays (line_of version line)) (moved : after ≡ open_stays_then open_stays r) (before : nth_from open_stays.made (rows_by_open_stays capacity version open_stays (line ∷ lines)) name n ≡ total) where
   abbrev rest : List GameRow
-  rest = rows_by_guests capacity version after lines
+  rest = rows_by_open_stays capacity version after lines
 
-  looked_at : nth_from guests.made (rows_in_route r ++ rest) name n ≡ total
+  looked_at : nth_from open_stays.made (rows_in_route r ++ rest) name n ≡ total
   looked_at =
-      ap (λ (g : GuestList). nth_from guests.made (rows_in_route r ++ rows_by_guests capacity version g lines) name n) moved
-      ∙ ap (λ (q : Route). nth_from guests.made (rows_in_route q ++ rows_by_guests capacity version (guests_then guests q) lines) name n) is ∙ before
+      ap (λ (g : OpenStayList). nth_from open_stays.made (rows_in_route r ++ rows_by_open_stays capacity version g lines) name n) moved
+      ∙ ap (λ (q : Route). nth_from open_stays.made (rows_in_route q ++ rows_by_open_stays capacity version (open_stays_then open_stays q) lines) name n) is ∙ before
 
-  pub found_admitted : (row : GameRow) → rows_in_route r ≡ row ∷ [] → (is_same_text name row.game && nat_eq n 1) ≡ true → Some (guests.made, row) ≡ total
+  pub found_admitted : (row : GameRow) → rows_in_route r ≡ row ∷ [] → (is_same_text name row.game && nat_eq n 1) ≡ true → Some (open_stays.made, row) ≡ total
   found_admitted row rows both =
-      sym (found_first guests.made row rest name n both) ∙ ap (λ front. nth_from guests.made (front ++ rest) name n) (sym rows) ∙ looked_at
+      sym (found_first open_stays.made row rest name n both) ∙ ap (λ front. nth_from open_stays.made (front ++ rest) name n) (sym rows) ∙ looked_at
 
   pub passed_admitted : (row : GameRow) (left : ℕ) → rows_in_route r ≡ row ∷ [] → (is_same_text name row.game && nat_eq n 1) ≡ false
       → left ≡ (if is_same_text name row.game then n - 1 else n) → nth_from after.made rest name left ≡ total
   passed_admitted row left rows other few =
-      let made : after.made ≡ guests.made + 1 = ap (λ (g : GuestList). g.made) moved ∙ one_more_made guests r row rows in
-      ap (λ first. nth_from first rest name left) made ∙ sym (passed_by guests.made row rest name n left other few)
-      ∙ ap (λ front. nth_from guests.made (front ++ rest) name n) (sym rows) ∙ looked_at
+      let made : after.made ≡ open_stays.made + 1 = ap (λ (g : OpenStayList). g.made) moved ∙ one_more_made open_stays r row rows in
+      ap (λ first. nth_from first rest name left) made ∙ sym (passed_by open_stays.made row rest name n left other few)
+      ∙ ap (λ front. nth_from open_stays.made (front ++ rest) name n) (sym rows) ∙ looked_at
 
   pub passed_others : rows_in_route r ≡ [] → nth_from after.made rest name n ≡ total
   passed_others rows =
-      let made : after.made ≡ guests.made = ap (λ (g : GuestList). g.made) moved ∙ none_more_made guests r rows in
-      ap (λ first. nth_from first rest name n) made ∙ ap (λ front. nth_from guests.made (front ++ rest) name n) (sym rows) ∙ looked_at
+      let made : after.made ≡ open_stays.made = ap (λ (g : OpenStayList). g.made) moved ∙ none_more_made open_stays r rows in
+      ap (λ first. nth_from first rest name n) made ∙ ap (λ front. nth_from open_stays.made (front ++ rest) name n) (sym rows) ∙ looked_at

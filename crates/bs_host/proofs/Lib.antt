@@ -12,7 +12,7 @@ pub mod FitStays
 pub mod FoundLines
 pub mod FoundStays
 pub mod FullStays
-pub mod GuestRoutes
+pub mod OpenStayRoutes
 pub mod HostedCore
 pub mod LiveBytes
 pub mod LiveCores

@@ -6,7 +6,7 @@ use Rattle.bs_board.specs.declared.plans.version.Version.{Version}
 use Rattle.bs_board.specs.plans.Plan.{GameRow}
 use Rattle.bs_sched.specs.Core.{CoreView}
 use Rattle.bs_host.specs.File.{pieces_of}
-use Rattle.bs_host.specs.Guests.{GuestList}
+use Rattle.bs_host.specs.OpenStays.{OpenStayList}
 use Rattle.bs_host.specs.Live.{HasAnswered, IsCutLast, IsSameText, IsServing, answers_from, closing_behind, held_of, live_lines_of}
 use Rattle.bs_host.proofs.LiveHeld.{live_same, map_both}
 use Rattle.bs_host.proofs.LiveTexts.{answers_append}
@@ -48,14 +48,14 @@ if_some None f p = tt
 if_some (Some xs) f p = f xs refl p
 
 module _ (blocks : ℕ) (version : Version) (plan : List GameRow) where
-  pub serving_begins : (after : List ℕ) (old : Option (List ℕ)) (games : List (ℕ × CoreView)) (guests : GuestList) (number : ℕ)
-      → HasAnswered blocks version plan [] games guests number → IsServing blocks version plan after after old old 0 games guests number
-  serving_begins after old games guests number is = record { done = []; parts = λ more. refl; answered = is; written = appends_none old; counted = refl }
+  pub serving_begins : (after : List ℕ) (old : Option (List ℕ)) (games : List (ℕ × CoreView)) (open_stays : OpenStayList) (number : ℕ)
+      → HasAnswered blocks version plan [] games open_stays number → IsServing blocks version plan after after old old 0 games open_stays number
+  serving_begins after old games open_stays number is = record { done = []; parts = λ more. refl; answered = is; written = appends_none old; counted = refl }
 
-  pub serving_reads : (after pending new bytes : List ℕ) (old now : Option (List ℕ)) (count : ℕ) (games : List (ℕ × CoreView)) (guests : GuestList) (number : ℕ)
-      → IsServing blocks version plan after pending old now count games guests number → new ≡ pending ++ bytes
-      → IsServing blocks version plan (after ++ bytes) new old now count games guests number
-  serving_reads after pending new bytes old now count games guests number is read =
+  pub serving_reads : (after pending new bytes : List ℕ) (old now : Option (List ℕ)) (count : ℕ) (games : List (ℕ × CoreView)) (open_stays : OpenStayList) (number : ℕ)
+      → IsServing blocks version plan after pending old now count games open_stays number → new ≡ pending ++ bytes
+      → IsServing blocks version plan (after ++ bytes) new old now count games open_stays number
+  serving_reads after pending new bytes old now count games open_stays number is read =
       record {
         done = is.done;
         parts =
@@ -68,10 +68,10 @@ module _ (blocks : ℕ) (version : Version) (plan : List GameRow) where
       }
 
   -- the part of the pending line that does not matter is dropped
-  pub serving_holds : (after pending new : List ℕ) (old now : Option (List ℕ)) (count : ℕ) (games : List (ℕ × CoreView)) (guests : GuestList) (number : ℕ)
-      → IsServing blocks version plan after pending old now count games guests number → IsSameText pending new
-      → IsServing blocks version plan after new old now count games guests number
-  serving_holds after pending new old now count games guests number is same =
+  pub serving_holds : (after pending new : List ℕ) (old now : Option (List ℕ)) (count : ℕ) (games : List (ℕ × CoreView)) (open_stays : OpenStayList) (number : ℕ)
+      → IsServing blocks version plan after pending old now count games open_stays number → IsSameText pending new
+      → IsServing blocks version plan after new old now count games open_stays number
+  serving_holds after pending new old now count games open_stays number is same =
       record {
         done = is.done;
         parts = λ more. is.parts more ∙ ap (λ pieces. map held_of is.done ++ pieces) (same more);
@@ -80,12 +80,12 @@ module _ (blocks : ℕ) (version : Version) (plan : List GameRow) where
         counted = is.counted;
       }
 
-  pub serving_answers : (after pending front back text : List ℕ) (old now next : Option (List ℕ)) (count total : ℕ) (games behind : List (ℕ × CoreView)) (guests left : GuestList) (number last : ℕ)
-      → IsServing blocks version plan after pending old now count games guests number → IsCutLast pending front back
-      → ((before : List (List ℕ)) → HasAnswered blocks version plan before games guests number → HasAnswered blocks version plan (before ++ pieces_of front) behind left last)
-      → ((before : List (List ℕ)) → HasAnswered blocks version plan before games guests number → text ≡ [] ++ answers_from blocks version plan before (pieces_of front))
+  pub serving_answers : (after pending front back text : List ℕ) (old now next : Option (List ℕ)) (count total : ℕ) (games behind : List (ℕ × CoreView)) (open_stays left : OpenStayList) (number last : ℕ)
+      → IsServing blocks version plan after pending old now count games open_stays number → IsCutLast pending front back
+      → ((before : List (List ℕ)) → HasAnswered blocks version plan before games open_stays number → HasAnswered blocks version plan (before ++ pieces_of front) behind left last)
+      → ((before : List (List ℕ)) → HasAnswered blocks version plan before games open_stays number → text ≡ [] ++ answers_from blocks version plan before (pieces_of front))
       → Appends now next text → total ≡ count + length text → IsServing blocks version plan after back old next total behind left last
-  serving_answers after pending front back text old now next count total games behind guests left number last is cut answers told wrote adds =
+  serving_answers after pending front back text old now next count total games behind open_stays left number last is cut answers told wrote adds =
       let new : text ≡ answers_from blocks version plan is.done (pieces_of front) = told is.done is.answered in
       let before = answers_from blocks version plan [] is.done in
       let whole : answers_from blocks version plan [] (is.done ++ pieces_of front) ≡ before ++ text
@@ -106,13 +106,13 @@ module _ (blocks : ℕ) (version : Version) (plan : List GameRow) where
       }
 
   -- the output once all is read
-  pub serving_whole : (after pending text both : List ℕ) (old now : Option (List ℕ)) (count : ℕ) (games behind : List (ℕ × CoreView)) (guests left : GuestList) (number last : ℕ)
-      → (is : IsServing blocks version plan after pending old now count games guests number)
-      → ((before : List (List ℕ)) → HasAnswered blocks version plan before games guests number → HasAnswered blocks version plan (before ++ pieces_of pending) behind left last)
-      → ((before : List (List ℕ)) → HasAnswered blocks version plan before games guests number → text ≡ [] ++ answers_from blocks version plan before (pieces_of pending))
+  pub serving_whole : (after pending text both : List ℕ) (old now : Option (List ℕ)) (count : ℕ) (games behind : List (ℕ × CoreView)) (open_stays left : OpenStayList) (number last : ℕ)
+      → (is : IsServing blocks version plan after pending old now count games open_stays number)
+      → ((before : List (List ℕ)) → HasAnswered blocks version plan before games open_stays number → HasAnswered blocks version plan (before ++ pieces_of pending) behind left last)
+      → ((before : List (List ℕ)) → HasAnswered blocks version plan before games open_stays number → text ≡ [] ++ answers_from blocks version plan before (pieces_of pending))
       → ((lines : List (List ℕ)) → HasAnswered blocks version plan lines behind left last → both ≡ text ++ closing_behind blocks version plan lines)
       → live_lines_of blocks version plan (pieces_of after) ≡ answers_from blocks version plan [] is.done ++ both
-  serving_whole after pending text both old now count games behind guests left number last is answers told closes =
+  serving_whole after pending text both old now count games behind open_stays left number last is answers told closes =
       let lines = is.done ++ pieces_of pending in
       let all : map held_of (pieces_of after) ≡ map held_of lines
       = ap (λ text. map held_of (pieces_of text)) (sym (append-nil after)) ∙ is.parts []
@@ -127,11 +127,11 @@ module _ (blocks : ℕ) (version : Version) (plan : List GameRow) where
       ∙ ap (λ t. t ++ end) (sym (answers_append blocks version plan [] is.done (pieces_of pending))) in
       live_same blocks version plan (pieces_of after) lines all ∙ sym whole
 
-  pub serving_ends : (after both : List ℕ) (old now next : Option (List ℕ)) (count : ℕ) (pending : List ℕ) (games : List (ℕ × CoreView)) (guests : GuestList) (number : ℕ)
-      → (is : IsServing blocks version plan after pending old now count games guests number)
+  pub serving_ends : (after both : List ℕ) (old now next : Option (List ℕ)) (count : ℕ) (pending : List ℕ) (games : List (ℕ × CoreView)) (open_stays : OpenStayList) (number : ℕ)
+      → (is : IsServing blocks version plan after pending old now count games open_stays number)
       → live_lines_of blocks version plan (pieces_of after) ≡ answers_from blocks version plan [] is.done ++ both
       → Appends now next both → Appends old next (live_lines_of blocks version plan (pieces_of after))
-  serving_ends after both old now next count pending games guests number is whole wrote =
+  serving_ends after both old now next count pending games open_stays number is whole wrote =
       subst (λ t. Appends old next t) (sym whole) (appends_both old now next (answers_from blocks version plan [] is.done) both is.written wrote)
 
 -- some more bytes

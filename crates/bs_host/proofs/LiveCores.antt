@@ -19,10 +19,10 @@ use Rattle.bs_workers.specs.declared.act.Act.TheVariants as act
 use Rattle.bs_workers.specs.Acts.{opened}
 use Rattle.bs_host.specs.declared.route.Route.{Route}
 use Rattle.bs_host.specs.declared.route.Route.TheVariants as route
-use Rattle.bs_host.specs.Guests.{GuestList, bears, found_in, guests_of, guests_then, refusal_by, route_by}
+use Rattle.bs_host.specs.OpenStays.{OpenStayList, bears, found_in, open_stays_of, open_stays_then, refusal_by, route_by}
 use Rattle.bs_host.specs.Live.{HaveCores, finds_core, has_core, numbers_of, numbers_then}
 use Rattle.bs_host.specs.Routing.{admit_route, hand_route, leave_route}
-use Rattle.bs_host.proofs.GuestRoutes.{rows_are_open}
+use Rattle.bs_host.proofs.OpenStayRoutes.{rows_are_open}
 
 -- the place of a number
 
@@ -65,15 +65,15 @@ filtered_cores stay old new is = ap numbers_of is ∙ numbers_filtered stay old
 pub pushed_core : (stay : ℕ) (core : CoreView) (old new : List (ℕ × CoreView)) → new ≡ old ++ (stay, core) ∷ [] → numbers_of new ≡ numbers_of old ++ stay ∷ []
 pushed_core stay core old new is = ap numbers_of is ∙ map-append (λ (game : ℕ × CoreView). game.0) old ((stay, core) ∷ [])
 
-pub cores_then : (guests : GuestList) (goes : Route) (games new : List (ℕ × CoreView)) → HaveCores guests games
-    → numbers_of new ≡ numbers_then guests.made (numbers_of games) goes → HaveCores (guests_then guests goes) new
-cores_then guests (route.Act (act.Hand stay command)) games new have moved = moved ∙ have
-cores_then guests (route.Act (act.Admit row)) games new have moved =
-    moved ∙ ap (λ numbers. numbers ++ guests.made ∷ []) have ∙ sym (map-append (λ (stay : ℕ × GameRow). stay.0) guests.stays ((guests.made, row) ∷ []))
-cores_then guests (route.Act (act.Leave stay)) games new have moved =
-    moved ∙ ap (filter (λ number. not (nat_eq number stay))) have ∙ sym (numbers_filtered stay guests.stays)
-cores_then guests (route.Stray kind) games new have moved = moved ∙ have
-cores_then guests route.Nowhere games new have moved = moved ∙ have
+pub cores_then : (open_stays : OpenStayList) (goes : Route) (games new : List (ℕ × CoreView)) → HaveCores open_stays games
+    → numbers_of new ≡ numbers_then open_stays.made (numbers_of games) goes → HaveCores (open_stays_then open_stays goes) new
+cores_then open_stays (route.Act (act.Hand stay command)) games new have moved = moved ∙ have
+cores_then open_stays (route.Act (act.Admit row)) games new have moved =
+    moved ∙ ap (λ numbers. numbers ++ open_stays.made ∷ []) have ∙ sym (map-append (λ (stay : ℕ × GameRow). stay.0) open_stays.stays ((open_stays.made, row) ∷ []))
+cores_then open_stays (route.Act (act.Leave stay)) games new have moved =
+    moved ∙ ap (filter (λ number. not (nat_eq number stay))) have ∙ sym (numbers_filtered stay open_stays.stays)
+cores_then open_stays (route.Stray kind) games new have moved = moved ∙ have
+cores_then open_stays route.Nowhere games new have moved = moved ∙ have
 
 -- the stay of a line has a core
 
@@ -93,44 +93,44 @@ found_is_there name stay (first ∷ stays) found = elim (cases_Bool (bears name 
       or_later (nat_eq stay first.0) (list_any (nat_eq stay) (numbers_of stays)) (found_is_there name stay stays later)
 ]
 
-found_has_core : (name : List ℕ) (guests : GuestList) (games : List (ℕ × CoreView)) (stay : ℕ) → HaveCores guests games → found_in name guests.stays ≡ Some stay
+found_has_core : (name : List ℕ) (open_stays : OpenStayList) (games : List (ℕ × CoreView)) (stay : ℕ) → HaveCores open_stays games → found_in name open_stays.stays ≡ Some stay
     → has_core stay games ≡ true
-found_has_core name guests games stay have found = ap (list_any (nat_eq stay)) have ∙ found_is_there name stay guests.stays found
+found_has_core name open_stays games stay have found = ap (list_any (nat_eq stay)) have ∙ found_is_there name stay open_stays.stays found
 
-hand_finds : (name : List ℕ) (guests : GuestList) (games : List (ℕ × CoreView)) (command : Command) (o : Option ℕ) → HaveCores guests games → found_in name guests.stays ≡ o
+hand_finds : (name : List ℕ) (open_stays : OpenStayList) (games : List (ℕ × CoreView)) (command : Command) (o : Option ℕ) → HaveCores open_stays games → found_in name open_stays.stays ≡ o
     → finds_core (hand_route o command) games ≡ true
-hand_finds name guests games command None have found = refl
-hand_finds name guests games command (Some stay) have found = found_has_core name guests games stay have found
+hand_finds name open_stays games command None have found = refl
+hand_finds name open_stays games command (Some stay) have found = found_has_core name open_stays games stay have found
 
-leave_finds : (name : List ℕ) (guests : GuestList) (games : List (ℕ × CoreView)) (o : Option ℕ) → HaveCores guests games → found_in name guests.stays ≡ o
+leave_finds : (name : List ℕ) (open_stays : OpenStayList) (games : List (ℕ × CoreView)) (o : Option ℕ) → HaveCores open_stays games → found_in name open_stays.stays ≡ o
     → finds_core (leave_route o) games ≡ true
-leave_finds name guests games None have found = refl
-leave_finds name guests games (Some stay) have found = found_has_core name guests games stay have found
+leave_finds name open_stays games None have found = refl
+leave_finds name open_stays games (Some stay) have found = found_has_core name open_stays games stay have found
 
 admit_finds : (row : GameRow) (games : List (ℕ × CoreView)) (o : Option Stray) → finds_core (admit_route o row) games ≡ true
 admit_finds row games None = refl
 admit_finds row games (Some kind) = refl
 
-pub route_finds : (capacity : Capacity) (guests : GuestList) (games : List (ℕ × CoreView)) (l : Line) → HaveCores guests games
-    → finds_core (route_by capacity guests l) games ≡ true
-route_finds capacity guests games line.Blank have = refl
-route_finds capacity guests games (line.Command game command) have = hand_finds game guests games command (found_in game guests.stays) have refl
-route_finds capacity guests games (line.Bad game) have = hand_finds game guests games command.Bad (found_in game guests.stays) have refl
-route_finds capacity guests games (line.Stray kind) have = refl
-route_finds capacity guests games (line.Admit row) have = admit_finds row games (refusal_by capacity guests row)
-route_finds capacity guests games line.BadAdmit have = refl
-route_finds capacity guests games (line.Leave None) have = refl
-route_finds capacity guests games (line.Leave (Some game)) have = leave_finds game guests games (found_in game guests.stays) have refl
+pub route_finds : (capacity : Capacity) (open_stays : OpenStayList) (games : List (ℕ × CoreView)) (l : Line) → HaveCores open_stays games
+    → finds_core (route_by capacity open_stays l) games ≡ true
+route_finds capacity open_stays games line.Blank have = refl
+route_finds capacity open_stays games (line.Command game command) have = hand_finds game open_stays games command (found_in game open_stays.stays) have refl
+route_finds capacity open_stays games (line.Bad game) have = hand_finds game open_stays games command.Bad (found_in game open_stays.stays) have refl
+route_finds capacity open_stays games (line.Stray kind) have = refl
+route_finds capacity open_stays games (line.Admit row) have = admit_finds row games (refusal_by capacity open_stays row)
+route_finds capacity open_stays games line.BadAdmit have = refl
+route_finds capacity open_stays games (line.Leave None) have = refl
+route_finds capacity open_stays games (line.Leave (Some game)) have = leave_finds game open_stays games (found_in game open_stays.stays) have refl
 
-pub guest_has_core : (guests : GuestList) (games : List (ℕ × CoreView)) (index : ℕ) (d : ℕ × GameRow) → HaveCores guests games → index < length guests.stays
-    → has_core (get_or guests.stays index d).0 games ≡ true
-guest_has_core guests games index d have inside =
+pub open_stay_has_core : (open_stays : OpenStayList) (games : List (ℕ × CoreView)) (index : ℕ) (d : ℕ × GameRow) → HaveCores open_stays games → index < length open_stays.stays
+    → has_core (get_or open_stays.stays index d).0 games ≡ true
+open_stay_has_core open_stays games index d have inside =
     let number : (ℕ × GameRow) → ℕ = λ stay. stay.0 in
-    let stay = (get_or guests.stays index d).0 in
-    let many = length-map guests.stays number in
-    let same : get_or (numbers_of guests.stays) index d.0 ≡ stay = get_or-map number guests.stays index d in
+    let stay = (get_or open_stays.stays index d).0 in
+    let many = length-map open_stays.stays number in
+    let same : get_or (numbers_of open_stays.stays) index d.0 ≡ stay = get_or-map number open_stays.stays index d in
     ap (list_any (nat_eq stay)) have
-    ∙ list_any_at (nat_eq stay) (numbers_of guests.stays) index d.0 (omega (arith, inside, many)) (eq-eqb stay (get_or (numbers_of guests.stays) index d.0) (sym same))
+    ∙ list_any_at (nat_eq stay) (numbers_of open_stays.stays) index d.0 (omega (arith, inside, many)) (eq-eqb stay (get_or (numbers_of open_stays.stays) index d.0) (sym same))
 
 -- the stays of a plan
 
@@ -146,7 +146,7 @@ one_more_numbered rows stay core old new within pushed before =
     ∙ ap (λ numbers. numbers_of old ++ numbers) (sym next) ∙ before
 
 pub all_numbered : (rows : List GameRow) (games : List (ℕ × CoreView)) → numbers_of games ++ numbers_from (length rows) rows ≡ numbers_from 0 rows
-    → HaveCores (guests_of (opened rows)) games
+    → HaveCores (open_stays_of (opened rows)) games
 all_numbered rows games before =
     let none : [] ≡ drop (length rows) rows = sym (drop_all (length rows) rows (omega arith)) in
     sym (append-nil (numbers_of games)) ∙ ap (λ left. numbers_of games ++ numbers_of (enumerate_from (length rows) left)) none

@@ -13,8 +13,8 @@ use Rattle.bs_json.specs.Line.{line_of}
 use Rattle.bs_sched.specs.Stays.{Capacity, Stay}
 use Rattle.bs_workers.specs.Acts.{opened}
 use Rattle.bs_host.specs.File.{pieces_of}
-use Rattle.bs_host.specs.Guests.{open_of}
-use Rattle.bs_host.specs.Live.{IsSameText, acts_behind, answer_behind, answers_from, closing_behind, closing_of, held_of, live_lines_of, route_line, stays_left}
+use Rattle.bs_host.specs.OpenStays.{open_of}
+use Rattle.bs_host.specs.Live.{IsSameText, acts_behind, answer_after, answers_from, closing_behind, closing_of, held_of, live_lines_of, route_line, stays_left}
 use Rattle.bs_host.specs.Routing.{act_in, acts_in, capacity_of, next_registry, registry_behind, registry_then, route_at, route_of, routes_from}
 use Rattle.bs_host.proofs.CutPieces.{fails_everywhere, is_feed}
 
@@ -110,8 +110,8 @@ map_both (line ∷ lines) more = ap (λ rest. held_of line ∷ rest) (map_both l
 
 module _ (blocks : ℕ) (version : Version) (plan : List GameRow) where
   answer_same : (before : List (List ℕ)) (text : List ℕ)
-      → answer_behind blocks version plan (map held_of before) (held_of text) ≡ answer_behind blocks version plan before text
-  unfolding answer_behind
+      → answer_after blocks version plan (map held_of before) (held_of text) ≡ answer_after blocks version plan before text
+  unfolding answer_after
   answer_same before text =
       ap (λ acts. route_line plan acts (2 + length (map held_of before)) (route_at (capacity_of blocks) version (stays_left blocks version plan (map held_of before)) (held_of text)))
       (acts_same (capacity_of blocks) version (opened plan) 2 before)
@@ -127,8 +127,8 @@ module _ (blocks : ℕ) (version : Version) (plan : List GameRow) where
   answers_same before [] = refl
   answers_same before (text ∷ lines) =
       ap (λ first. first ++ answers_from blocks version plan (map held_of before ++ held_of text ∷ []) (map held_of lines)) (answer_same before text)
-      ∙ ap (λ all. answer_behind blocks version plan before text ++ answers_from blocks version plan all (map held_of lines)) (sym (map_more before text))
-      ∙ ap (λ rest. answer_behind blocks version plan before text ++ rest) (answers_same (before ++ text ∷ []) lines)
+      ∙ ap (λ all. answer_after blocks version plan before text ++ answers_from blocks version plan all (map held_of lines)) (sym (map_more before text))
+      ∙ ap (λ rest. answer_after blocks version plan before text ++ rest) (answers_same (before ++ text ∷ []) lines)
 
   closing_same : (lines : List (List ℕ)) → closing_behind blocks version plan (map held_of lines) ≡ closing_behind blocks version plan lines
   unfolding closing_behind

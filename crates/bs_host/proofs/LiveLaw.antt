@@ -22,8 +22,8 @@ use Rattle.bs_host.specs.declared.route.Route.{Route}
 use Rattle.bs_host.specs.declared.route.Route.TheVariants as route
 use Rattle.bs_host.specs.Cut.{row_at}
 use Rattle.bs_host.specs.File.{later_pieces, pieces_of, rows_of, version_of}
-use Rattle.bs_host.specs.Guests.{open_from, open_of}
-use Rattle.bs_host.specs.Live.{LiveLaw, TranscriptLaw, own_live_of, act_line, acts_behind, answer_behind, closing_line, closing_of, commands_given, is_of_act, is_of_stay, is_stray, next_line, own_closing, route_behind, route_line, rows_behind, some_answers, stays_left}
+use Rattle.bs_host.specs.OpenStays.{open_from, open_of}
+use Rattle.bs_host.specs.Live.{LiveLaw, TranscriptLaw, own_live_of, act_line, acts_behind, answer_after, closing_line, closing_of, commands_given, is_of_act, is_of_stay, is_stray, next_line, own_closing, route_behind, route_line, rows_behind, some_answers, stays_left}
 use Rattle.bs_host.specs.Routing.{act_in, acts_in, acts_of, capacity_of, commands_of, next_registry, registry_behind, registry_then, route_at, routes_from, routes_of, stays_of, strays_in}
 use Rattle.bs_host.specs.Transcript.{section_of, transcript_of}
 use Rattle.bs_host.proofs.ActsLaw.{acts_law}
@@ -89,7 +89,7 @@ module _ (stay : ℕ) (plan : List GameRow) where
 
     answers_of_acts : (before lines : List (List ℕ))
         → some_answers (is_of_stay stay) blocks version plan before lines ≡ own_acts stay plan (acts_behind blocks version plan before) (acts_left before lines)
-    unfolding own_acts answer_behind
+    unfolding own_acts answer_after
     answers_of_acts before [] = refl
     answers_of_acts before (text ∷ lines) =
         let capacity = capacity_of blocks in
@@ -406,7 +406,7 @@ stray_text plan acts number route.Nowhere rest = refl
 strays_written : (blocks : ℕ) (version : Version) (plan : List GameRow) (before lines : List (List ℕ))
     → some_answers is_stray blocks version plan before lines
     ≡ stray_lines_of (strays_in (routes_from (capacity_of blocks) version (stays_left blocks version plan before) (2 + length before) lines))
-unfolding answer_behind
+unfolding answer_after
 strays_written blocks version plan before [] = refl
 strays_written blocks version plan before (text ∷ lines) =
     let capacity = capacity_of blocks in

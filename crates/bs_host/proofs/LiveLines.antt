@@ -30,10 +30,10 @@ use Rattle.bs_workers.specs.Single.{IsActed}
 use Rattle.bs_workers.proofs.Compared.{row_there}
 use Rattle.bs_host.specs.declared.route.Route.{Route}
 use Rattle.bs_host.specs.Cut.{row_at}
-use Rattle.bs_host.specs.Guests.{GuestList, guests_of, guests_then, route_by}
-use Rattle.bs_host.specs.Live.{ArePlayed, HasAnswered, IsCoreOf, acts_behind, answer_behind, closing_line, commands_given, next_line, route_line, stays_left}
+use Rattle.bs_host.specs.OpenStays.{OpenStayList, open_stays_of, open_stays_then, route_by}
+use Rattle.bs_host.specs.Live.{ArePlayed, HasAnswered, IsCoreOf, acts_behind, answer_after, closing_line, commands_given, next_line, route_line, stays_left}
 use Rattle.bs_host.specs.Routing.{act_in, acts_in, capacity_of, next_registry, registry_behind, registry_then, route_at, route_of, routes_from}
-use Rattle.bs_host.proofs.GuestRoutes.{same_next, same_route}
+use Rattle.bs_host.proofs.OpenStayRoutes.{same_next, same_route}
 
 -- a stay's lane, once the act after these is answered
 
@@ -143,14 +143,14 @@ last_line core row commands board charge before behind fed shown charged told =
 
 -- the route of a line
 
-pub same_goes : (blocks : ℕ) (registry : List Stay) (l : Line) (goes : Route) (guests after : GuestList) → guests ≡ guests_of registry
-    → goes ≡ route_by (capacity_of blocks) guests l → after ≡ guests_then guests goes
-    → (goes ≡ route_of (capacity_of blocks) registry l) × (after ≡ guests_of (registry_then registry (route_of (capacity_of blocks) registry l)))
-same_goes blocks registry l goes guests after is to moved =
+pub same_goes : (blocks : ℕ) (registry : List Stay) (l : Line) (goes : Route) (open_stays after : OpenStayList) → open_stays ≡ open_stays_of registry
+    → goes ≡ route_by (capacity_of blocks) open_stays l → after ≡ open_stays_then open_stays goes
+    → (goes ≡ route_of (capacity_of blocks) registry l) × (after ≡ open_stays_of (registry_then registry (route_of (capacity_of blocks) registry l)))
+same_goes blocks registry l goes open_stays after is to moved =
     let by : goes ≡ route_of (capacity_of blocks) registry l
     = to ∙ ap (λ g. route_by (capacity_of blocks) g l) is ∙ sym (same_route (capacity_of blocks) registry l) in (
       by,
-      moved ∙ ap (λ g. guests_then g goes) is ∙ ap (guests_then (guests_of registry)) by
+      moved ∙ ap (λ g. open_stays_then g goes) is ∙ ap (open_stays_then (open_stays_of registry)) by
           ∙ sym (same_next (capacity_of blocks) registry (route_of (capacity_of blocks) registry l)),
     )
 
@@ -172,30 +172,30 @@ module _ (capacity : Capacity) (version : Version) where
       ∙ cons_append (act_in (route_at capacity version registry line)) (acts_in (routes_from capacity version (next_registry capacity version registry line) (number + 1) lines))
       (option_to_list (act_in (route_at capacity version (registry_behind capacity version (next_registry capacity version registry line) lines) text)))
 
-pub answered_more : (blocks : ℕ) (version : Version) (plan : List GameRow) (lines : List (List ℕ)) (text : List ℕ) (old new : List (ℕ × CoreView)) (guests after : GuestList)
-    (number next : ℕ) (goes : Route) → HasAnswered blocks version plan lines old guests number → goes ≡ route_by (capacity_of blocks) guests (line_of version text)
-    → after ≡ guests_then guests goes → ArePlayed plan (acts_behind blocks version plan lines ++ option_to_list (act_in goes)) new
+pub answered_more : (blocks : ℕ) (version : Version) (plan : List GameRow) (lines : List (List ℕ)) (text : List ℕ) (old new : List (ℕ × CoreView)) (open_stays after : OpenStayList)
+    (number next : ℕ) (goes : Route) → HasAnswered blocks version plan lines old open_stays number → goes ≡ route_by (capacity_of blocks) open_stays (line_of version text)
+    → after ≡ open_stays_then open_stays goes → ArePlayed plan (acts_behind blocks version plan lines ++ option_to_list (act_in goes)) new
     → next ≡ number + 1 → HasAnswered blocks version plan (lines ++ text ∷ []) new after next
-answered_more blocks version plan lines text old new guests after number next goes is to moved played one =
+answered_more blocks version plan lines text old new open_stays after number next goes is to moved played one =
     let registry = stays_left blocks version plan lines in
-    let same = same_goes blocks registry (line_of version text) goes guests after is.are_guests to moved in
+    let same = same_goes blocks registry (line_of version text) goes open_stays after is.are_open_stays to moved in
     let more = acts_more (capacity_of blocks) version (opened plan) 2 lines text in
     let behind = registry_more (capacity_of blocks) version (opened plan) lines text in
     record {
       played =
           subst (λ acts. ArePlayed plan acts new)
           (ap (λ r. acts_behind blocks version plan lines ++ option_to_list (act_in r)) same.0 ∙ sym more) played;
-      are_guests = same.1 ∙ ap guests_of (sym behind);
+      are_open_stays = same.1 ∙ ap open_stays_of (sym behind);
       is_number = let at = is.is_number in omega (arith, one, at, length-append lines (text ∷ []));
     }
 
-pub written_more : (blocks : ℕ) (version : Version) (plan : List GameRow) (lines : List (List ℕ)) (text : List ℕ) (old : List (ℕ × CoreView)) (guests after : GuestList)
-    (number : ℕ) (goes : Route) (before behind : List ℕ) → HasAnswered blocks version plan lines old guests number
-    → goes ≡ route_by (capacity_of blocks) guests (line_of version text) → after ≡ guests_then guests goes
-    → behind ≡ before ++ route_line plan (acts_behind blocks version plan lines) number goes → behind ≡ before ++ answer_behind blocks version plan lines text
-unfolding answer_behind
-written_more blocks version plan lines text old guests after number goes before behind is to moved told =
+pub written_more : (blocks : ℕ) (version : Version) (plan : List GameRow) (lines : List (List ℕ)) (text : List ℕ) (old : List (ℕ × CoreView)) (open_stays after : OpenStayList)
+    (number : ℕ) (goes : Route) (before behind : List ℕ) → HasAnswered blocks version plan lines old open_stays number
+    → goes ≡ route_by (capacity_of blocks) open_stays (line_of version text) → after ≡ open_stays_then open_stays goes
+    → behind ≡ before ++ route_line plan (acts_behind blocks version plan lines) number goes → behind ≡ before ++ answer_after blocks version plan lines text
+unfolding answer_after
+written_more blocks version plan lines text old open_stays after number goes before behind is to moved told =
     let registry = stays_left blocks version plan lines in
-    let same = same_goes blocks registry (line_of version text) goes guests after is.are_guests to moved in
+    let same = same_goes blocks registry (line_of version text) goes open_stays after is.are_open_stays to moved in
     told ∙ ap (λ n. before ++ route_line plan (acts_behind blocks version plan lines) n goes) is.is_number
     ∙ ap (λ r. before ++ route_line plan (acts_behind blocks version plan lines) (2 + length lines) r) same.0

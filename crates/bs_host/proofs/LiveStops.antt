@@ -12,7 +12,7 @@ use Rattle.bs_workers.specs.declared.fault.Run.TheVariants as run
 use Rattle.bs_host.specs.declared.live_fault.LiveFault.{LiveFault}
 use Rattle.bs_host.specs.declared.live_fault.LiveFault.TheVariants as live
 use Rattle.bs_host.specs.File.{pieces_of}
-use Rattle.bs_host.specs.Guests.{GuestList}
+use Rattle.bs_host.specs.OpenStays.{OpenStayList}
 use Rattle.bs_host.specs.Live.{IsCutLast, IsServing, answers_from, closing_behind, held_of, live_lines_of}
 use Rattle.bs_host.specs.LiveFaults.{HasFirstAnswers, IsReadFault, LeavesLines, LeavesText, live_fault_of_run}
 use Rattle.bs_host.proofs.LiveBytes.{appends_both, appends_kept, appends_none}
@@ -43,15 +43,15 @@ module _ (blocks : ℕ) (version : Version) (plan : List GameRow) where
         written = subst (λ text. Appends old new text) (sym (answers_held (take (length done) lines) done held)) wrote;
       }
 
-  pub serving_first : (after pending more : List ℕ) (old now : Option (List ℕ)) (count : ℕ) (games : List (ℕ × CoreView)) (guests : GuestList) (number : ℕ)
-      → IsServing blocks version plan after pending old now count games guests number → HasFirstAnswers blocks version plan (pieces_of (after ++ more)) old now
-  serving_first after pending more old now count games guests number is =
+  pub serving_first : (after pending more : List ℕ) (old now : Option (List ℕ)) (count : ℕ) (games : List (ℕ × CoreView)) (open_stays : OpenStayList) (number : ℕ)
+      → IsServing blocks version plan after pending old now count games open_stays number → HasFirstAnswers blocks version plan (pieces_of (after ++ more)) old now
+  serving_first after pending more old now count games open_stays number is =
       first_of (pieces_of (after ++ more)) is.done (map held_of (pieces_of (pending ++ more))) old now (is.parts more) is.written
 
-  pub serving_last : (after pending : List ℕ) (old now : Option (List ℕ)) (count : ℕ) (games : List (ℕ × CoreView)) (guests : GuestList) (number : ℕ)
-      → IsServing blocks version plan after pending old now count games guests number → HasFirstAnswers blocks version plan (pieces_of after) old now
-  serving_last after pending old now count games guests number is =
-      subst (λ text. HasFirstAnswers blocks version plan (pieces_of text) old now) (append-nil after) (serving_first after pending [] old now count games guests number is)
+  pub serving_last : (after pending : List ℕ) (old now : Option (List ℕ)) (count : ℕ) (games : List (ℕ × CoreView)) (open_stays : OpenStayList) (number : ℕ)
+      → IsServing blocks version plan after pending old now count games open_stays number → HasFirstAnswers blocks version plan (pieces_of after) old now
+  serving_last after pending old now count games open_stays number is =
+      subst (λ text. HasFirstAnswers blocks version plan (pieces_of text) old now) (append-nil after) (serving_first after pending [] old now count games open_stays number is)
 
   pub none_first : (lines : List (List ℕ)) (a : Option (List ℕ)) → HasFirstAnswers blocks version plan lines a a
   none_first lines a = record { count = 0; few = omega arith; written = appends_none a }
@@ -62,11 +62,11 @@ module _ (blocks : ℕ) (version : Version) (plan : List GameRow) where
       record { count = has.count; few = has.few; written = appends_kept old now next (answers_from blocks version plan [] (take has.count lines)) has.written keeps }
 
   -- the answers so far, followed by this text, are a prefix of all that is written
-  pub serving_text : (after pending front back text more : List ℕ) (old now : Option (List ℕ)) (count : ℕ) (games : List (ℕ × CoreView)) (guests : GuestList) (number : ℕ)
-      → (is : IsServing blocks version plan after pending old now count games guests number) → IsCutLast pending front back
+  pub serving_text : (after pending front back text more : List ℕ) (old now : Option (List ℕ)) (count : ℕ) (games : List (ℕ × CoreView)) (open_stays : OpenStayList) (number : ℕ)
+      → (is : IsServing blocks version plan after pending old now count games open_stays number) → IsCutLast pending front back
       → text ≡ [] ++ answers_from blocks version plan is.done (pieces_of front)
       → (rest : List ℕ) × (live_lines_of blocks version plan (pieces_of (after ++ more)) ≡ (answers_from blocks version plan [] is.done ++ text) ++ rest)
-  serving_text after pending front back text more old now count games guests number is cut new =
+  serving_text after pending front back text more old now count games open_stays number is cut new =
       let lines = pieces_of (after ++ more) in
       let done = is.done ++ pieces_of front in
       let behind = pieces_of (back ++ more) in

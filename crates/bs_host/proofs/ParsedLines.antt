@@ -15,10 +15,10 @@ use Rattle.bs_workers.specs.Acts.{opened}
 use Rattle.bs_host.specs.declared.parse.ParsedLine.{ParsedLine}
 use Rattle.bs_host.specs.declared.route.Requests.{Requests}
 use Rattle.bs_host.specs.declared.route.Route.{Route}
-use Rattle.bs_host.specs.Guests.{GuestList, guests_of, guests_then, route_by, routes_by_guests}
+use Rattle.bs_host.specs.OpenStays.{OpenStayList, open_stays_of, open_stays_then, route_by, routes_by_open_stays}
 use Rattle.bs_host.specs.Parsed.{parsed_line, parsed_lines, route_parsed, routes_parsed}
 use Rattle.bs_host.specs.Routing.{IsRouted, act_in, acts_in, numbered_stray, routes_from, strays_in}
-use Rattle.bs_host.proofs.GuestRoutes.{guests_law}
+use Rattle.bs_host.proofs.OpenStayRoutes.{open_stays_law}
 
 -- parsing
 
@@ -38,34 +38,34 @@ one_more_parsed version left piece rest old new total parsed is read pushed befo
 
 -- routing
 
-pub route_of_parsed : (capacity : Capacity) (guests : GuestList) (l : Line) → route_parsed capacity guests (parsed_line l) ≡ route_by capacity guests l
-route_of_parsed capacity guests line.Blank = refl
-route_of_parsed capacity guests (line.Command game command) = refl
-route_of_parsed capacity guests (line.Bad game) = refl
-route_of_parsed capacity guests (line.Stray kind) = refl
-route_of_parsed capacity guests (line.Admit row) = refl
-route_of_parsed capacity guests line.BadAdmit = refl
-route_of_parsed capacity guests (line.Leave None) = refl
-route_of_parsed capacity guests (line.Leave (Some game)) = refl
+pub route_of_parsed : (capacity : Capacity) (open_stays : OpenStayList) (l : Line) → route_parsed capacity open_stays (parsed_line l) ≡ route_by capacity open_stays l
+route_of_parsed capacity open_stays line.Blank = refl
+route_of_parsed capacity open_stays (line.Command game command) = refl
+route_of_parsed capacity open_stays (line.Bad game) = refl
+route_of_parsed capacity open_stays (line.Stray kind) = refl
+route_of_parsed capacity open_stays (line.Admit row) = refl
+route_of_parsed capacity open_stays line.BadAdmit = refl
+route_of_parsed capacity open_stays (line.Leave None) = refl
+route_of_parsed capacity open_stays (line.Leave (Some game)) = refl
 
-routes_by_parsed : (capacity : Capacity) (version : Version) (guests : GuestList) (number : ℕ) (pieces : List (List ℕ))
-    → routes_parsed capacity guests number (parsed_lines version pieces) ≡ routes_by_guests capacity version guests number pieces
-routes_by_parsed capacity version guests number [] = refl
-routes_by_parsed capacity version guests number (piece ∷ pieces) =
-    let same = route_of_parsed capacity guests (line_of version piece) in
-    let goes = route_by capacity guests (line_of version piece) in
-    ap (λ r. (number, r) ∷ routes_parsed capacity (guests_then guests r) (number + 1) (parsed_lines version pieces)) same
-    ∙ ap (λ rest. (number, goes) ∷ rest) (routes_by_parsed capacity version (guests_then guests goes) (number + 1) pieces)
+routes_by_parsed : (capacity : Capacity) (version : Version) (open_stays : OpenStayList) (number : ℕ) (pieces : List (List ℕ))
+    → routes_parsed capacity open_stays number (parsed_lines version pieces) ≡ routes_by_open_stays capacity version open_stays number pieces
+routes_by_parsed capacity version open_stays number [] = refl
+routes_by_parsed capacity version open_stays number (piece ∷ pieces) =
+    let same = route_of_parsed capacity open_stays (line_of version piece) in
+    let goes = route_by capacity open_stays (line_of version piece) in
+    ap (λ r. (number, r) ∷ routes_parsed capacity (open_stays_then open_stays r) (number + 1) (parsed_lines version pieces)) same
+    ∙ ap (λ rest. (number, goes) ∷ rest) (routes_by_parsed capacity version (open_stays_then open_stays goes) (number + 1) pieces)
 
 pub routed : (capacity : Capacity) (plan : Plan) (pieces : List (List ℕ)) (lines : List ParsedLine) (requests : Requests) → lines ≡ parsed_lines plan.version pieces
-    → IsRouted (routes_parsed capacity (guests_of (opened plan.rows)) 2 lines) requests → IsRouted (routes_from capacity plan.version (opened plan.rows) 2 pieces) requests
+    → IsRouted (routes_parsed capacity (open_stays_of (opened plan.rows)) 2 lines) requests → IsRouted (routes_from capacity plan.version (opened plan.rows) 2 pieces) requests
 routed capacity plan pieces lines requests is goes =
     subst (λ routes. IsRouted routes requests) (
-    ap (routes_parsed capacity (guests_of (opened plan.rows)) 2) is ∙ routes_by_parsed capacity plan.version (guests_of (opened plan.rows)) 2 pieces
-    ∙ sym (guests_law capacity plan.version 2 (opened plan.rows) pieces)) goes
+    ap (routes_parsed capacity (open_stays_of (opened plan.rows)) 2) is ∙ routes_by_parsed capacity plan.version (open_stays_of (opened plan.rows)) 2 pieces
+    ∙ sym (open_stays_law capacity plan.version 2 (opened plan.rows) pieces)) goes
 
 pub routed_if_ok : {E : Type 0} (capacity : Capacity) (plan : Plan) (pieces : List (List ℕ)) (lines : List ParsedLine) (result : Result Requests E)
-    → lines ≡ parsed_lines plan.version pieces → IfOk result (IsRouted (routes_parsed capacity (guests_of (opened plan.rows)) 2 lines))
+    → lines ≡ parsed_lines plan.version pieces → IfOk result (IsRouted (routes_parsed capacity (open_stays_of (opened plan.rows)) 2 lines))
     → IfOk result (IsRouted (routes_from capacity plan.version (opened plan.rows) 2 pieces))
 routed_if_ok capacity plan pieces lines (Ok requests) is goes = routed capacity plan pieces lines requests is goes
 routed_if_ok capacity plan pieces lines (Err error) is goes = tt
@@ -85,25 +85,25 @@ pub record AreLeft (all : List (ℕ × Route)) (left : List (ℕ × Route)) (req
   pub strays : requests.strays.items ++ strays_in left ≡ strays_in all
 
 module _ (capacity : Capacity) where
-  next_routes : (guests : GuestList) (lines : List ParsedLine) (index : ℕ) (line : ParsedLine) → index < length lines → line ≡ get_or lines index line
-      → routes_parsed capacity guests (2 + index) (drop index lines)
-      ≡ (2 + index, route_parsed capacity guests line) ∷ routes_parsed capacity (guests_then guests (route_parsed capacity guests line)) (2 + (index + 1)) (drop (index + 1) lines)
-  next_routes guests lines index line within is =
+  next_routes : (open_stays : OpenStayList) (lines : List ParsedLine) (index : ℕ) (line : ParsedLine) → index < length lines → line ≡ get_or lines index line
+      → routes_parsed capacity open_stays (2 + index) (drop index lines)
+      ≡ (2 + index, route_parsed capacity open_stays line) ∷ routes_parsed capacity (open_stays_then open_stays (route_parsed capacity open_stays line)) (2 + (index + 1)) (drop (index + 1) lines)
+  next_routes open_stays lines index line within is =
       let e : 2 + index + 1 ≡ 2 + (index + 1) = omega arith in
-      ap (routes_parsed capacity guests (2 + index)) (drop_more lines index line within ∙ ap (λ l. l ∷ drop (index + 1) lines) (sym is))
-      ∙ ap (λ n. (2 + index, route_parsed capacity guests line) ∷ routes_parsed capacity (guests_then guests (route_parsed capacity guests line)) n (drop (index + 1) lines)) e
+      ap (routes_parsed capacity open_stays (2 + index)) (drop_more lines index line within ∙ ap (λ l. l ∷ drop (index + 1) lines) (sym is))
+      ∙ ap (λ n. (2 + index, route_parsed capacity open_stays line) ∷ routes_parsed capacity (open_stays_then open_stays (route_parsed capacity open_stays line)) n (drop (index + 1) lines)) e
 
-  pub goes_on : (all : List (ℕ × Route)) (before after : GuestList) (lines : List ParsedLine) (index number : ℕ) (line : ParsedLine) (goes : Route) (old new : Requests)
-      → index < length lines → line ≡ get_or lines index line → goes ≡ route_parsed capacity before line → after ≡ guests_then before goes → number ≡ 2 + index
+  pub goes_on : (all : List (ℕ × Route)) (before after : OpenStayList) (lines : List ParsedLine) (index number : ℕ) (line : ParsedLine) (goes : Route) (old new : Requests)
+      → index < length lines → line ≡ get_or lines index line → goes ≡ route_parsed capacity before line → after ≡ open_stays_then before goes → number ≡ 2 + index
       → new.acts.items ≡ old.acts.items ++ option_to_list (act_in goes)
       → new.strays.items ≡ old.strays.items ++ option_to_list (numbered_stray (number, goes))
       → AreLeft all (routes_parsed capacity before (2 + index) (drop index lines)) old
       → AreLeft all (routes_parsed capacity after (2 + (index + 1)) (drop (index + 1) lines)) new
   goes_on all before after lines index number line goes old new within is to moved at acts strays left =
       let to_route = route_parsed capacity before line in
-      let rest = routes_parsed capacity (guests_then before to_route) (2 + (index + 1)) (drop (index + 1) lines) in
+      let rest = routes_parsed capacity (open_stays_then before to_route) (2 + (index + 1)) (drop (index + 1) lines) in
       let next = next_routes before lines index line within is in
-      let state : after ≡ guests_then before to_route = moved ∙ ap (guests_then before) to in
+      let state : after ≡ open_stays_then before to_route = moved ∙ ap (open_stays_then before) to in
       let asked = rw to at acts in
       let told = rw (to, at) at strays in
       record {
@@ -117,22 +117,22 @@ module _ (capacity : Capacity) where
             ∙ ap (λ routes. old.strays.items ++ strays_in routes) (sym next) ∙ left.strays;
       }
 
-  pub none_read : (guests : GuestList) (rows : List GameRow) (lines : List ParsedLine) (requests : Requests) → guests ≡ guests_of (opened rows) → requests.acts.items ≡ []
+  pub none_read : (open_stays : OpenStayList) (rows : List GameRow) (lines : List ParsedLine) (requests : Requests) → open_stays ≡ open_stays_of (opened rows) → requests.acts.items ≡ []
       → requests.strays.items ≡ []
-      → AreLeft (routes_parsed capacity (guests_of (opened rows)) 2 lines) (routes_parsed capacity guests (2 + 0) (drop 0 lines)) requests
-  none_read guests rows lines requests is no_act no_stray =
-      let same : routes_parsed capacity guests (2 + 0) (drop 0 lines) ≡ routes_parsed capacity (guests_of (opened rows)) 2 lines
-      = ap (λ (g : GuestList). routes_parsed capacity g 2 lines) is in
+      → AreLeft (routes_parsed capacity (open_stays_of (opened rows)) 2 lines) (routes_parsed capacity open_stays (2 + 0) (drop 0 lines)) requests
+  none_read open_stays rows lines requests is no_act no_stray =
+      let same : routes_parsed capacity open_stays (2 + 0) (drop 0 lines) ≡ routes_parsed capacity (open_stays_of (opened rows)) 2 lines
+      = ap (λ (g : OpenStayList). routes_parsed capacity g 2 lines) is in
       record {
-        acts = ap (λ acts. acts ++ acts_in (routes_parsed capacity guests (2 + 0) (drop 0 lines))) no_act ∙ ap acts_in same;
-        strays = ap (λ strays. strays ++ strays_in (routes_parsed capacity guests (2 + 0) (drop 0 lines))) no_stray ∙ ap strays_in same;
+        acts = ap (λ acts. acts ++ acts_in (routes_parsed capacity open_stays (2 + 0) (drop 0 lines))) no_act ∙ ap acts_in same;
+        strays = ap (λ strays. strays ++ strays_in (routes_parsed capacity open_stays (2 + 0) (drop 0 lines))) no_stray ∙ ap strays_in same;
       }
 
-  pub all_read : (guests : GuestList) (number : ℕ) (lines : List ParsedLine) (all : List (ℕ × Route)) (requests : Requests)
-      → AreLeft all (routes_parsed capacity guests number (drop (length lines) lines)) requests → IsRouted all requests
-  all_read guests number lines all requests left =
-      let none : [] ≡ routes_parsed capacity guests number (drop (length lines) lines)
-      = sym (ap (routes_parsed capacity guests number) (drop_all (length lines) lines (omega arith))) in
+  pub all_read : (open_stays : OpenStayList) (number : ℕ) (lines : List ParsedLine) (all : List (ℕ × Route)) (requests : Requests)
+      → AreLeft all (routes_parsed capacity open_stays number (drop (length lines) lines)) requests → IsRouted all requests
+  all_read open_stays number lines all requests left =
+      let none : [] ≡ routes_parsed capacity open_stays number (drop (length lines) lines)
+      = sym (ap (routes_parsed capacity open_stays number) (drop_all (length lines) lines (omega arith))) in
       record {
         acts = sym (append-nil requests.acts.items) ∙ ap (λ rest. requests.acts.items ++ acts_in rest) none ∙ left.acts;
         strays = sym (append-nil requests.strays.items) ∙ ap (λ rest. requests.strays.items ++ strays_in rest) none ∙ left.strays;

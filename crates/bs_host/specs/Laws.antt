@@ -21,7 +21,7 @@ use Rattle.bs_sched.specs.Stays.{Capacity, Stay}
 use Rattle.bs_workers.specs.Acts.{are_acceptable, command_in, opened, rows_admitted, stay_named}
 use Rattle.bs_host.specs.Cut.{nth_stay, own_lines_in, own_lines_of, row_at}
 use Rattle.bs_host.specs.File.{pieces_of, later_pieces, rows_of, version_of}
-use Rattle.bs_host.specs.Guests.{guests_of, own_by_guests, routes_by_guests}
+use Rattle.bs_host.specs.OpenStays.{open_stays_of, own_by_open_stays, routes_by_open_stays}
 use Rattle.bs_host.specs.declared.limits.TheConstants.{MOST_FILE_BYTES}
 use Rattle.bs_host.specs.declared.route.Route.TheVariants as route
 use Rattle.bs_host.specs.Routing.{acts_of, admit_refusal, behind_admit, commands_of, capacity_of, is_command_for, registry_behind, route_at, routes_from, stays_of, stray_for, until_leave}
@@ -65,15 +65,15 @@ FoundLaw = (blocks : ℕ) (file name : List ℕ) (n stay : ℕ) → nth_stay blo
 
 -- The open stays alone decide the routing, and which stay a line belongs to.
 
-abbrev pub GuestsLaw : Type 0
-GuestsLaw =
+abbrev pub OpenStaysLaw : Type 0
+OpenStaysLaw =
     (capacity : Capacity) (version : Version) (number : ℕ) (registry : List Stay) (lines : List (List ℕ))
-    → routes_from capacity version registry number lines ≡ routes_by_guests capacity version (guests_of registry) number lines
+    → routes_from capacity version registry number lines ≡ routes_by_open_stays capacity version (open_stays_of registry) number lines
 
-abbrev pub GuestLinesLaw : Type 0
-GuestLinesLaw =
+abbrev pub OpenStayLinesLaw : Type 0
+OpenStayLinesLaw =
     (capacity : Capacity) (version : Version) (stay : ℕ) (registry : List Stay) (lines : List (List ℕ))
-    → own_lines_in capacity version registry stay lines ≡ own_by_guests capacity version (guests_of registry) stay lines
+    → own_lines_in capacity version registry stay lines ≡ own_by_open_stays capacity version (open_stays_of registry) stay lines
 
 -- Whatever stays a core has, the host refuses an admission if and only if the core does, and for
 -- the same reason. A command or a leave is routed to the open stay of its name, where it is

@@ -1,7 +1,7 @@
 pub mod Cut
 pub mod Faults
 pub mod File
-pub mod Guests
+pub mod OpenStays
 pub mod Hosted
 pub mod Laws
 pub mod Live

@@ -27,7 +27,7 @@ use Rattle.bs_host.specs.declared.route.Route.{Route}
 use Rattle.bs_host.specs.declared.route.Route.TheVariants as route
 use Rattle.bs_host.specs.Cut.{row_at}
 use Rattle.bs_host.specs.File.{later_pieces, pieces_of, rows_of, version_of}
-use Rattle.bs_host.specs.Guests.{GuestList, guests_of, open_of}
+use Rattle.bs_host.specs.OpenStays.{OpenStayList, open_stays_of, open_of}
 use Rattle.bs_host.specs.Routing.{acts_in, capacity_of, commands_of, registry_behind, route_at, routes_from, stays_of, strays_of}
 use Rattle.bs_host.specs.Transcript.{section_of, transcript_of}
 
@@ -76,15 +76,15 @@ abbrev pub route_behind : ℕ → Version → List GameRow → List (List ℕ) �
 route_behind blocks version plan before text = route_at (capacity_of blocks) version (stays_left blocks version plan before) text
 
 -- the answer to a line that follows these
-unfoldable pub answer_behind : ℕ → Version → List GameRow → List (List ℕ) → List ℕ → List ℕ
-answer_behind blocks version plan before text =
+unfoldable pub answer_after : ℕ → Version → List GameRow → List (List ℕ) → List ℕ → List ℕ
+answer_after blocks version plan before text =
     route_line plan (acts_behind blocks version plan before) (2 + length before) (route_behind blocks version plan before text)
 
 -- the answers to `lines`, which follow the lines `before`
 abbrev pub answers_from : ℕ → Version → List GameRow → List (List ℕ) → List (List ℕ) → List ℕ
 answers_from blocks version plan before [] = []
 answers_from blocks version plan before (text ∷ lines) =
-    answer_behind blocks version plan before text ++ answers_from blocks version plan (before ++ text ∷ []) lines
+    answer_after blocks version plan before text ++ answers_from blocks version plan (before ++ text ∷ []) lines
 
 -- the final lines of these stays, each with its number
 abbrev pub closing_of : List Act → List (ℕ × GameRow) → List ℕ
@@ -132,8 +132,8 @@ abbrev pub numbers_of : {A : Type 0} → List (ℕ × A) → List ℕ
 numbers_of = map (λ stay. stay.0)
 
 -- each open stay has a core, in the order of their numbers, and no other stay has one
-abbrev pub HaveCores : GuestList → List (ℕ × CoreView) → Type 0
-HaveCores guests games = numbers_of games ≡ numbers_of guests.stays
+abbrev pub HaveCores : OpenStayList → List (ℕ × CoreView) → Type 0
+HaveCores open_stays games = numbers_of games ≡ numbers_of open_stays.stays
 
 -- whether a core has that number
 abbrev pub has_core : ℕ → List (ℕ × CoreView) → Bool
@@ -155,9 +155,9 @@ numbers_then made numbers (route.Act (act.Leave stay)) = filter (λ number. not 
 numbers_then made numbers (route.Stray kind) = numbers
 numbers_then made numbers route.Nowhere = numbers
 
-pub record HasAnswered (blocks : ℕ) (version : Version) (plan : List GameRow) (lines : List (List ℕ)) (games : List (ℕ × CoreView)) (guests : GuestList) (number : ℕ) : Type 0 where
+pub record HasAnswered (blocks : ℕ) (version : Version) (plan : List GameRow) (lines : List (List ℕ)) (games : List (ℕ × CoreView)) (open_stays : OpenStayList) (number : ℕ) : Type 0 where
   pub played : ArePlayed plan (acts_behind blocks version plan lines) games
-  pub are_guests : guests ≡ guests_of (stays_left blocks version plan lines)
+  pub are_open_stays : open_stays ≡ open_stays_of (stays_left blocks version plan lines)
   pub is_number : number ≡ 2 + length lines
 
 -- The kept bytes of a line: the longest line and one more byte. How a line is read does not depend
@@ -178,28 +178,28 @@ IsCutLast text front back = (more : List ℕ) → pieces_of (text ++ more) ≡ p
 
 -- Some lines after the plan's line are answered, and their answers, `count` bytes, are written; the
 -- bytes after these lines are pending.
-pub record IsServing (blocks : ℕ) (version : Version) (plan : List GameRow) (after pending : List ℕ) (old new : Option (List ℕ)) (count : ℕ) (games : List (ℕ × CoreView)) (guests : GuestList) (number : ℕ) : Type 0 where
+pub record IsServing (blocks : ℕ) (version : Version) (plan : List GameRow) (after pending : List ℕ) (old new : Option (List ℕ)) (count : ℕ) (games : List (ℕ × CoreView)) (open_stays : OpenStayList) (number : ℕ) : Type 0 where
   pub done : List (List ℕ)
   pub parts : (more : List ℕ) → map held_of (pieces_of (after ++ more)) ≡ map held_of done ++ map held_of (pieces_of (pending ++ more))
-  pub answered : HasAnswered blocks version plan done games guests number
+  pub answered : HasAnswered blocks version plan done games open_stays number
   pub written : Appends old new (answers_from blocks version plan [] done)
   pub counted : count ≡ length (answers_from blocks version plan [] done)
 
 -- Some of the lines `all`, which follow `before`, are answered; those in `left` are not.
-pub record AreAnswered (blocks : ℕ) (version : Version) (plan : List GameRow) (before all left : List (List ℕ)) (old new : List ℕ) (games : List (ℕ × CoreView)) (guests : GuestList) (number : ℕ) : Type 0 where
+pub record AreAnswered (blocks : ℕ) (version : Version) (plan : List GameRow) (before all left : List (List ℕ)) (old new : List ℕ) (games : List (ℕ × CoreView)) (open_stays : OpenStayList) (number : ℕ) : Type 0 where
   pub done : List (List ℕ)
   pub parts : all ≡ done ++ left
-  pub answered : HasAnswered blocks version plan (before ++ done) games guests number
+  pub answered : HasAnswered blocks version plan (before ++ done) games open_stays number
   pub text : new ≡ old ++ answers_from blocks version plan before done
 
 -- a host newly opened for a file with that first line: it has answered no line
-pub record HasOpened (blocks : ℕ) (first : List ℕ) (own_blocks : ℕ) (version : Version) (games : List (ℕ × CoreView)) (guests : GuestList) (number : ℕ) : Type 0 where
+pub record HasOpened (blocks : ℕ) (first : List ℕ) (own_blocks : ℕ) (version : Version) (games : List (ℕ × CoreView)) (open_stays : OpenStayList) (number : ℕ) : Type 0 where
   pub plan : Plan
   pub is_plan : plan_line_of first ≡ Ok plan
   pub room : blocks_of_all BLOCK_BYTES plan.rows ≤ blocks
   pub is_version : version ≡ plan.version
   pub are_blocks : own_blocks ≡ blocks
-  pub answered : HasAnswered blocks plan.version plan.rows [] games guests number
+  pub answered : HasAnswered blocks plan.version plan.rows [] games open_stays number
 
 -- The law: the lines of one stay.
 
@@ -223,7 +223,7 @@ is_stray route.Nowhere = false
 abbrev pub some_answers : (Route → Bool) → ℕ → Version → List GameRow → List (List ℕ) → List (List ℕ) → List ℕ
 some_answers which blocks version plan before [] = []
 some_answers which blocks version plan before (text ∷ lines) =
-    (if which (route_behind blocks version plan before text) then answer_behind blocks version plan before text else [])
+    (if which (route_behind blocks version plan before text) then answer_after blocks version plan before text else [])
     ++ some_answers which blocks version plan (before ++ text ∷ []) lines
 
 -- the final line of one stay at the end, if it is open

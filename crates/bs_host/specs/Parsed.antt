@@ -11,7 +11,7 @@ use Rattle.bs_host.specs.declared.parse.ParsedLine.{ParsedLine}
 use Rattle.bs_host.specs.declared.parse.ParsedLine.TheVariants as parsed
 use Rattle.bs_host.specs.declared.route.Route.{Route}
 use Rattle.bs_host.specs.declared.route.Route.TheVariants as route
-use Rattle.bs_host.specs.Guests.{GuestList, found_in, guests_then, refusal_by}
+use Rattle.bs_host.specs.OpenStays.{OpenStayList, found_in, open_stays_then, refusal_by}
 use Rattle.bs_host.specs.Routing.{admit_route, hand_route, leave_route}
 
 abbrev pub parsed_line : Line → ParsedLine
@@ -27,16 +27,16 @@ parsed_line (line.Leave (Some game)) = parsed.Leave game
 abbrev pub parsed_lines : Version → List (List ℕ) → List ParsedLine
 parsed_lines version = map (λ piece. parsed_line (line_of version piece))
 
-abbrev pub route_parsed : Capacity → GuestList → ParsedLine → Route
-route_parsed capacity guests (parsed.Command game command) = hand_route (found_in game guests.stays) command
-route_parsed capacity guests (parsed.Stray kind) = route.Stray kind
-route_parsed capacity guests parsed.Blank = route.Nowhere
-route_parsed capacity guests (parsed.Admit row) = admit_route (refusal_by capacity guests row) row
-route_parsed capacity guests (parsed.Leave game) = leave_route (found_in game guests.stays)
+abbrev pub route_parsed : Capacity → OpenStayList → ParsedLine → Route
+route_parsed capacity open_stays (parsed.Command game command) = hand_route (found_in game open_stays.stays) command
+route_parsed capacity open_stays (parsed.Stray kind) = route.Stray kind
+route_parsed capacity open_stays parsed.Blank = route.Nowhere
+route_parsed capacity open_stays (parsed.Admit row) = admit_route (refusal_by capacity open_stays row) row
+route_parsed capacity open_stays (parsed.Leave game) = leave_route (found_in game open_stays.stays)
 
 -- the lines are numbered from `number` on
-abbrev pub routes_parsed : Capacity → GuestList → ℕ → List ParsedLine → List (ℕ × Route)
-routes_parsed capacity guests number [] = []
-routes_parsed capacity guests number (line ∷ lines) =
-    (number, route_parsed capacity guests line)
-    ∷ routes_parsed capacity (guests_then guests (route_parsed capacity guests line)) (number + 1) lines
+abbrev pub routes_parsed : Capacity → OpenStayList → ℕ → List ParsedLine → List (ℕ × Route)
+routes_parsed capacity open_stays number [] = []
+routes_parsed capacity open_stays number (line ∷ lines) =
+    (number, route_parsed capacity open_stays line)
+    ∷ routes_parsed capacity (open_stays_then open_stays (route_parsed capacity open_stays line)) (number + 1) lines

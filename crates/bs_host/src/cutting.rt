@@ -9,16 +9,16 @@ ghost use Rattle.bs_json.specs.Line.{line_of};
 ghost use Rattle.bs_workers.specs.Acts.{opened};
 ghost use Rattle.bs_host.specs.Cut.{row_data, lone_plan_data, lone_plan_of, is_too_small, nth_from, nth_stay, own_lines_in, behind_feeds, cut_of, cut_refusal_of, IsCutRefusal, SectionLaw};
 ghost use Rattle.bs_host.specs.File.{pieces_after};
-ghost use Rattle.bs_host.specs.Guests.{guests_of, guests_then, route_by, rows_by_guests, rows_in_route};
+ghost use Rattle.bs_host.specs.OpenStays.{open_stays_of, open_stays_then, route_by, rows_by_open_stays, rows_in_route};
 ghost use Rattle.bs_host.specs.Laws.{CoreLaw, EarlyLaw, FoundLaw, FullLaw, OwnLinesLaw};
 ghost use Rattle.bs_host.specs.Routing.{command_to, capacity_of, stays_behind};
 
 use crate::cut_fault::Cut;
 use crate::fault::PlanRefusal;
 use crate::file::CommandFile;
-use crate::guests::Guests;
 use crate::limits::{BLOCK_BYTES, MOST_FILE_BYTES};
 use crate::lines::split_line;
+use crate::open_stays::OpenStays;
 use crate::parse::parse_line;
 use crate::route::Route;
 use bs_board::{Id, Plan, Row, Version};
@@ -73,15 +73,15 @@ fn goes_to(stay: usize, route: &Route) -> bool
 #[tactic(auto, using(crate::proofs::ParsedLines::route_of_parsed))]
 fn route_text(
     alloc: Global,
-    guests: &mut Guests,
+    open_stays: &mut OpenStays,
     file: CommandFile<'_>,
     line: &[u8],
 ) -> Result<Route, AllocError>
-    ensures route { IfOk result (λ route. route ≡ route_by (capacity_of file.entry.blocks) guests.old (line_of file.entry.plan.now.version line.now)) }
-    ensures after { IfOk result (λ route. guests.new ≡ guests_then guests.old route) }
+    ensures route { IfOk result (λ route. route ≡ route_by (capacity_of file.entry.blocks) open_stays.old (line_of file.entry.plan.now.version line.now)) }
+    ensures after { IfOk result (λ route. open_stays.new ≡ open_stays_then open_stays.old route) }
 {
     let parsed = parse_line(alloc, file.plan.version, line, None)?;
-    guests.route(alloc, file.blocks, &parsed)
+    open_stays.route(alloc, file.blocks, &parsed)
 }
 
 fn push_line(line: &[u8], text: &mut Vec<u8>) -> Result<(), AllocError>
@@ -103,11 +103,11 @@ fn push_own_lines(
     ensures { OnOk result
         (text.new.items ≡ text.old.items ++ behind_feeds (own_lines_in (capacity_of file.entry.blocks) file.entry.plan.now.version (opened file.entry.plan.now.rows) stay (pieces_after (option_copied file.entry.rest)))) }
 {
-    let mut guests = Guests::of_plan(alloc, &file.plan.rows)?;
+    let mut open_stays = OpenStays::of_plan(alloc, &file.plan.rows)?;
     let mut left = file.rest;
     'lines: while let Some(lines) = left {
         let (line, more) = split_line(lines);
-        let route = route_text(alloc, &mut guests, file, line)?;
+        let route = route_text(alloc, &mut open_stays, file, line)?;
         if goes_to(stay, &route) {
             push_line(line, text)?;
         }
@@ -176,14 +176,14 @@ fn find_admitted(
     mut search: Search<'_>,
 ) -> Result<Option<(usize, Row)>, AllocError>
     ensures { IfOk result (λ found. found
-        ≡ nth_from (length file.entry.plan.now.rows) (rows_by_guests (capacity_of file.entry.blocks) file.entry.plan.now.version (guests_of (opened file.entry.plan.now.rows)) (pieces_after (option_copied file.entry.rest))) search.entry.name.now search.entry.left) }
+        ≡ nth_from (length file.entry.plan.now.rows) (rows_by_open_stays (capacity_of file.entry.blocks) file.entry.plan.now.version (open_stays_of (opened file.entry.plan.now.rows)) (pieces_after (option_copied file.entry.rest))) search.entry.name.now search.entry.left) }
 {
-    let mut guests = Guests::of_plan(alloc, &file.plan.rows)?;
+    let mut open_stays = OpenStays::of_plan(alloc, &file.plan.rows)?;
     let mut left = file.rest;
     'lines: while let Some(lines) = left {
         let (line, more) = split_line(lines);
-        let stay = guests.made();
-        let route = route_text(alloc, &mut guests, file, line)?;
+        let stay = open_stays.made();
+        let route = route_text(alloc, &mut open_stays, file, line)?;
         if let Some(row) = admitted(route) {
             if search.is_found_in(&row) {
                 return Ok(Some((stay, row)));

@@ -47,15 +47,15 @@ fn answer_ready<W: Write>(
     written: &mut usize,
     output: &mut W,
 ) -> Result<(), LiveFault>
-    requires { HaveCores host.old.guests host.old.cores.open.items }
-    ensures cores { OnOk result (HaveCores host.new.guests host.new.cores.open.items) }
+    requires { HaveCores host.old.open_stays host.old.cores.open.items }
+    ensures cores { OnOk result (HaveCores host.new.open_stays host.new.cores.open.items) }
     ensures blocks { OnOk result (host.new.blocks ≡ host.old.blocks) }
     ensures version { OnOk result (host.new.version ≡ host.old.version) }
     ensures serving { (plan : List GameRow) (after : List ℕ) (first : Option (List ℕ))
-        → IsServing host.old.blocks host.old.version plan after pending.old.items first (W.contents output.old) written.old host.old.cores.open.items host.old.guests host.old.number
-        → OnOk result (IsServing host.old.blocks host.old.version plan after pending.new.items first (W.contents output.new) written.new host.new.cores.open.items host.new.guests host.new.number) }
+        → IsServing host.old.blocks host.old.version plan after pending.old.items first (W.contents output.old) written.old host.old.cores.open.items host.old.open_stays host.old.number
+        → OnOk result (IsServing host.old.blocks host.old.version plan after pending.new.items first (W.contents output.new) written.new host.new.cores.open.items host.new.open_stays host.new.number) }
     ensures left { IfErr result (λ fault. (plan : List GameRow) (after : List ℕ) (first : Option (List ℕ))
-        → IsServing host.old.blocks host.old.version plan after pending.old.items first (W.contents output.old) written.old host.old.cores.open.items host.old.guests host.old.number
+        → IsServing host.old.blocks host.old.version plan after pending.old.items first (W.contents output.old) written.old host.old.cores.open.items host.old.open_stays host.old.number
         → (more : List ℕ) → LeavesLines host.old.blocks host.old.version plan (pieces_of (after ++ more)) first (W.contents output.new) fault) }
 {
     let Some((front, back)) = split_last(pending) else {
@@ -131,12 +131,12 @@ fn end_live<W: Write>(
     written: &mut usize,
     output: &mut W,
 ) -> Result<(), LiveFault>
-    requires { HaveCores host.old.guests host.old.cores.open.items }
+    requires { HaveCores host.old.open_stays host.old.cores.open.items }
     ensures written { (plan : List GameRow) (after : List ℕ) (first : Option (List ℕ))
-        → IsServing host.old.blocks host.old.version plan after pending.now first (W.contents output.old) written.old host.old.cores.open.items host.old.guests host.old.number
+        → IsServing host.old.blocks host.old.version plan after pending.now first (W.contents output.old) written.old host.old.cores.open.items host.old.open_stays host.old.number
         → OnOk result (Appends first (W.contents output.new) (live_lines_of host.old.blocks host.old.version plan (pieces_of after))) }
     ensures left { IfErr result (λ fault. (plan : List GameRow) (after : List ℕ) (first : Option (List ℕ))
-        → IsServing host.old.blocks host.old.version plan after pending.now first (W.contents output.old) written.old host.old.cores.open.items host.old.guests host.old.number
+        → IsServing host.old.blocks host.old.version plan after pending.now first (W.contents output.old) written.old host.old.cores.open.items host.old.open_stays host.old.number
         → LeavesLines host.old.blocks host.old.version plan (pieces_of after) first (W.contents output.new) fault) }
 {
     let mut text = Vec::new(alloc);
@@ -154,10 +154,10 @@ fn serve_lines<R: Read, W: Write>(
     input: &mut R,
     output: &mut W,
 ) -> Result<(), LiveFault>
-    requires { HaveCores host.old.guests host.old.cores.open.items }
-    ensures written { (plan : List GameRow) → HasAnswered host.old.blocks host.old.version plan [] host.old.cores.open.items host.old.guests host.old.number
+    requires { HaveCores host.old.open_stays host.old.cores.open.items }
+    ensures written { (plan : List GameRow) → HasAnswered host.old.blocks host.old.version plan [] host.old.cores.open.items host.old.open_stays host.old.number
         → OnOk result (IfSome (R.remaining input.old) (λ left. Appends (W.contents output.old) (W.contents output.new) (live_lines_of host.old.blocks host.old.version plan (pieces_of (pending.old.items ++ left))))) }
-    ensures left { IfErr result (λ fault. (plan : List GameRow) → HasAnswered host.old.blocks host.old.version plan [] host.old.cores.open.items host.old.guests host.old.number
+    ensures left { IfErr result (λ fault. (plan : List GameRow) → HasAnswered host.old.blocks host.old.version plan [] host.old.cores.open.items host.old.open_stays host.old.number
         → IfSome (R.remaining input.old) (λ left. LeavesLines host.old.blocks host.old.version plan (pieces_of (pending.old.items ++ left)) (W.contents output.old) (W.contents output.new) fault)) }
 {
     let mut written = 0;
@@ -174,10 +174,10 @@ fn serve_lines<R: Read, W: Write>(
 
 /// Writes the final lines of the stays of a file without lines after its plan.
 fn end_plan<W: Write>(alloc: Global, host: &LiveHost, output: &mut W) -> Result<(), LiveFault>
-    requires { HaveCores host.now.guests host.now.cores.open.items }
-    ensures written { (plan : List GameRow) → HasAnswered host.now.blocks host.now.version plan [] host.now.cores.open.items host.now.guests host.now.number
+    requires { HaveCores host.now.open_stays host.now.cores.open.items }
+    ensures written { (plan : List GameRow) → HasAnswered host.now.blocks host.now.version plan [] host.now.cores.open.items host.now.open_stays host.now.number
         → OnOk result (Appends (W.contents output.old) (W.contents output.new) (live_lines_of host.now.blocks host.now.version plan [])) }
-    ensures left { IfErr result (λ fault. (plan : List GameRow) → HasAnswered host.now.blocks host.now.version plan [] host.now.cores.open.items host.now.guests host.now.number
+    ensures left { IfErr result (λ fault. (plan : List GameRow) → HasAnswered host.now.blocks host.now.version plan [] host.now.cores.open.items host.now.open_stays host.now.number
         → LeavesLines host.now.blocks host.now.version plan [] (W.contents output.old) (W.contents output.new) fault) }
 {
     let mut text = Vec::new(alloc);

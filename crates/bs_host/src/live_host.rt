@@ -5,15 +5,15 @@ ghost use Rattle.bs_json.specs.PlanLine.{plan_line_of};
 ghost use Rattle.bs_workers.specs.declared.act.Act.{Act};
 ghost use Rattle.bs_host.specs.Faults.{refusal_of_plan};
 ghost use Rattle.bs_host.specs.File.{pieces_of};
-ghost use Rattle.bs_host.specs.Live.{ArePlayed, HasAnswered, HasOpened, HaveCores, answer_behind, answers_from, closing_behind, finds_core, numbers_of, numbers_then, route_line, rows_behind};
+ghost use Rattle.bs_host.specs.Live.{ArePlayed, HasAnswered, HasOpened, HaveCores, answer_after, answers_from, closing_behind, finds_core, numbers_of, numbers_then, route_line, rows_behind};
 ghost use Rattle.bs_host.specs.LiveFaults.{IsLiveRefusal};
 ghost use Rattle.bs_host.specs.Routing.{act_in};
 
 use crate::fault::PlanRefusal;
-use crate::guests::Guests;
 use crate::limits::BLOCK_BYTES;
 use crate::lines::split_line;
 use crate::live_fault::LiveFault;
+use crate::open_stays::OpenStays;
 use crate::parse::parse_line;
 use crate::route::Route;
 use crate::stay_cores::StayCores;
@@ -32,7 +32,7 @@ pub(crate) struct LiveHost {
     pub(crate) blocks: usize,
     pub(crate) version: Version,
     pub(crate) cores: StayCores,
-    pub(crate) guests: Guests,
+    pub(crate) open_stays: OpenStays,
     /// The number of the next line.
     pub(crate) number: u64,
 }
@@ -51,7 +51,7 @@ impl LiveHost {
         ensures blocks { OnOk result (self.new.blocks ≡ self.old.blocks) }
         ensures version { OnOk result (self.new.version ≡ self.old.version) }
         ensures cores { OnOk result (numbers_of self.new.cores.open.items ≡ numbers_then made (numbers_of self.old.cores.open.items) route.now) }
-        ensures guests { OnOk result (self.new.guests ≡ self.old.guests) }
+        ensures open_stays { OnOk result (self.new.open_stays ≡ self.old.open_stays) }
         ensures number { OnOk result (self.new.number ≡ self.old.number) }
         ensures played { (plan : List GameRow) (acts : List Act) → made ≡ length (rows_behind plan acts) → ArePlayed plan acts self.old.cores.open.items
             → OnOk result (ArePlayed plan (acts ++ option_to_list (act_in route.now)) self.new.cores.open.items) }
@@ -80,8 +80,8 @@ impl LiveHost {
     /// Opens the plan in the first line of a file. Checks the plan and the number of blocks, and
     /// returns the first fault.
     pub(crate) fn open(alloc: Global, first: &[u8], blocks: usize) -> Result<LiveHost, LiveFault>
-        ensures opened { IfOk result (λ live. HasOpened blocks first.now live.blocks live.version live.cores.open.items live.guests live.number) }
-        ensures cores { IfOk result (λ live. HaveCores live.guests live.cores.open.items) }
+        ensures opened { IfOk result (λ live. HasOpened blocks first.now live.blocks live.version live.cores.open.items live.open_stays live.number) }
+        ensures cores { IfOk result (λ live. HaveCores live.open_stays live.cores.open.items) }
         ensures fault { IfErr result (IsLiveRefusal (refusal_of_plan blocks (plan_line_of first.now))) }
     {
         let plan = read_plan(alloc, first)?;
@@ -90,31 +90,31 @@ impl LiveHost {
         if blocks_of_all(BLOCK_BYTES, rows) > blocks {
             return Err(LiveFault::Plan(PlanRefusal::Short));
         }
-        let guests = Guests::of_plan(alloc, &plan.rows)?;
+        let open_stays = OpenStays::of_plan(alloc, &plan.rows)?;
         let cores = StayCores::open_all(alloc, version, rows)?;
         Ok(LiveHost {
             blocks,
             version,
             cores,
-            guests,
+            open_stays,
             number: FIRST_NUMBER,
         })
     }
 
     /// Routes and executes the next line, and appends its answer.
     fn answer(&mut self, alloc: Global, line: &[u8], text: &mut Vec<u8>) -> Result<(), Run>
-        requires { HaveCores self.old.guests self.old.cores.open.items }
-        ensures cores { OnOk result (HaveCores self.new.guests self.new.cores.open.items) }
+        requires { HaveCores self.old.open_stays self.old.cores.open.items }
+        ensures cores { OnOk result (HaveCores self.new.open_stays self.new.cores.open.items) }
         ensures blocks { OnOk result (self.new.blocks ≡ self.old.blocks) }
         ensures version { OnOk result (self.new.version ≡ self.old.version) }
-        ensures answered { (plan : List GameRow) (lines : List (List ℕ)) → HasAnswered self.old.blocks self.old.version plan lines self.old.cores.open.items self.old.guests self.old.number
-            → OnOk result (HasAnswered self.old.blocks self.old.version plan (lines ++ line.now ∷ []) self.new.cores.open.items self.new.guests self.new.number) }
-        ensures text { (plan : List GameRow) (lines : List (List ℕ)) → HasAnswered self.old.blocks self.old.version plan lines self.old.cores.open.items self.old.guests self.old.number
-            → OnOk result (text.new.items ≡ text.old.items ++ answer_behind self.old.blocks self.old.version plan lines line.now) }
+        ensures answered { (plan : List GameRow) (lines : List (List ℕ)) → HasAnswered self.old.blocks self.old.version plan lines self.old.cores.open.items self.old.open_stays self.old.number
+            → OnOk result (HasAnswered self.old.blocks self.old.version plan (lines ++ line.now ∷ []) self.new.cores.open.items self.new.open_stays self.new.number) }
+        ensures text { (plan : List GameRow) (lines : List (List ℕ)) → HasAnswered self.old.blocks self.old.version plan lines self.old.cores.open.items self.old.open_stays self.old.number
+            → OnOk result (text.new.items ≡ text.old.items ++ answer_after self.old.blocks self.old.version plan lines line.now) }
     {
         let parsed = parse_line(alloc, self.version, line, None)?;
-        let made = self.guests.made();
-        let route = self.guests.route(alloc, self.blocks, &parsed)?;
+        let made = self.open_stays.made();
+        let route = self.open_stays.route(alloc, self.blocks, &parsed)?;
         self.follow(alloc, made, &route, text)?;
         self.number = self.number.checked_add(1).ok_or(AllocError)?;
         Ok(())
@@ -127,13 +127,13 @@ impl LiveHost {
         lines: &[u8],
         text: &mut Vec<u8>,
     ) -> Result<(), Run>
-        requires { HaveCores self.old.guests self.old.cores.open.items }
-        ensures cores { OnOk result (HaveCores self.new.guests self.new.cores.open.items) }
+        requires { HaveCores self.old.open_stays self.old.cores.open.items }
+        ensures cores { OnOk result (HaveCores self.new.open_stays self.new.cores.open.items) }
         ensures blocks { OnOk result (self.new.blocks ≡ self.old.blocks) }
         ensures version { OnOk result (self.new.version ≡ self.old.version) }
-        ensures answered { (plan : List GameRow) (before : List (List ℕ)) → HasAnswered self.old.blocks self.old.version plan before self.old.cores.open.items self.old.guests self.old.number
-            → OnOk result (HasAnswered self.old.blocks self.old.version plan (before ++ pieces_of lines.now) self.new.cores.open.items self.new.guests self.new.number) }
-        ensures text { (plan : List GameRow) (before : List (List ℕ)) → HasAnswered self.old.blocks self.old.version plan before self.old.cores.open.items self.old.guests self.old.number
+        ensures answered { (plan : List GameRow) (before : List (List ℕ)) → HasAnswered self.old.blocks self.old.version plan before self.old.cores.open.items self.old.open_stays self.old.number
+            → OnOk result (HasAnswered self.old.blocks self.old.version plan (before ++ pieces_of lines.now) self.new.cores.open.items self.new.open_stays self.new.number) }
+        ensures text { (plan : List GameRow) (before : List (List ℕ)) → HasAnswered self.old.blocks self.old.version plan before self.old.cores.open.items self.old.open_stays self.old.number
             → OnOk result (text.new.items ≡ text.old.items ++ answers_from self.old.blocks self.old.version plan before (pieces_of lines.now)) }
     {
         let mut left = Some(lines);
@@ -147,13 +147,13 @@ impl LiveHost {
 
     /// Appends the final lines of the open stays, in the order of their rows.
     pub(crate) fn close(&self, alloc: Global, text: &mut Vec<u8>) -> Result<(), Run>
-        requires { HaveCores self.now.guests self.now.cores.open.items }
-        ensures { (plan : List GameRow) (lines : List (List ℕ)) → HasAnswered self.now.blocks self.now.version plan lines self.now.cores.open.items self.now.guests self.now.number
+        requires { HaveCores self.now.open_stays self.now.cores.open.items }
+        ensures { (plan : List GameRow) (lines : List (List ℕ)) → HasAnswered self.now.blocks self.now.version plan lines self.now.cores.open.items self.now.open_stays self.now.number
             → OnOk result (text.new.items ≡ text.old.items ++ closing_behind self.now.blocks self.now.version plan lines) }
     {
-        for index in 0..self.guests.len() {
+        for index in 0..self.open_stays.len() {
             self.cores
-                .show_final(alloc, self.guests.number(index), text)?;
+                .show_final(alloc, self.open_stays.number(index), text)?;
         }
         Ok(())
     }

@@ -1,11 +1,11 @@
 //! Routes the parsed lines of a file: to the core as acts, to the stray lines, or nowhere.
 ghost use Rattle.std.specs.Prelude.{◌≡◌, ◌++◌, IfOk, OnOk, option_to_list};
 ghost use Rattle.bs_workers.specs.Acts.{opened};
-ghost use Rattle.bs_host.specs.Guests.{guests_of};
+ghost use Rattle.bs_host.specs.OpenStays.{open_stays_of};
 ghost use Rattle.bs_host.specs.Parsed.{routes_parsed};
 ghost use Rattle.bs_host.specs.Routing.{IsRouted, act_in, capacity_of, numbered_stray};
 
-use crate::guests::Guests;
+use crate::open_stays::OpenStays;
 use crate::parse::ParsedLine;
 use bs_board::Rows;
 use bs_json::Stray;
@@ -58,15 +58,15 @@ pub(crate) fn route_lines(
     rows: &Rows,
     lines: &[ParsedLine],
 ) -> Result<Requests, AllocError>
-    ensures { IfOk result (IsRouted (routes_parsed (capacity_of blocks) (guests_of (opened rows.now)) 2 lines.now)) }
+    ensures { IfOk result (IsRouted (routes_parsed (capacity_of blocks) (open_stays_of (opened rows.now)) 2 lines.now)) }
 {
-    let mut guests = Guests::of_plan(alloc, rows)?;
+    let mut open_stays = OpenStays::of_plan(alloc, rows)?;
     let mut requests = Requests {
         acts: Vec::with_capacity(alloc, lines.len())?,
         strays: Vec::new(alloc),
     };
     for index in 0..lines.len() {
-        let route = guests.route(alloc, blocks, &lines[index])?;
+        let route = open_stays.route(alloc, blocks, &lines[index])?;
         push_route(&mut requests, FIRST_NUMBER + index as u64, route)?;
     }
     Ok(requests)

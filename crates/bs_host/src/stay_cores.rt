@@ -6,7 +6,7 @@ ghost use Rattle.bs_workers.specs.declared.act.Act.{Act};
 ghost use Rattle.bs_workers.specs.declared.act.Act.TheVariants as act;
 ghost use Rattle.bs_workers.specs.Acts.{opened};
 ghost use Rattle.bs_host.specs.Cut.{row_at};
-ghost use Rattle.bs_host.specs.Guests.{guests_of};
+ghost use Rattle.bs_host.specs.OpenStays.{open_stays_of};
 ghost use Rattle.bs_host.specs.Live.{ArePlayed, HaveCores, IsAt, act_line, closing_line, commands_given, has_core, numbers_of, rows_behind};
 
 use crate::limits::BLOCK_BYTES;
@@ -65,7 +65,7 @@ impl StayCores {
     /// Opens a core for each row of a plan. The stays are numbered from 0.
     pub(crate) fn open_all(alloc: Global, version: Version, rows: &[Row]) -> Result<StayCores, Run>
         ensures played { IfOk result (λ cores. ArePlayed rows.now [] cores.open.items) }
-        ensures open { IfOk result (λ cores. HaveCores (guests_of (opened rows.now)) cores.open.items) }
+        ensures open { IfOk result (λ cores. HaveCores (open_stays_of (opened rows.now)) cores.open.items) }
     {
         let mut open = Vec::with_capacity(alloc, rows.len())?;
         for stay in 0..rows.len() {

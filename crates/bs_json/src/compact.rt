@@ -170,7 +170,10 @@ fn split_next_word<'l>(line: &'l [u8], later: bool) -> Option<(u32, &'l [u8])>
 }
 
 /// Parses all words up to the closing bracket.
-fn split_words<'l>(alloc: Global, line: &'l [u8]) -> Result<Option<(Vec<u32>, &'l [u8])>, AllocError>
+fn split_words<'l>(
+    alloc: Global,
+    line: &'l [u8],
+) -> Result<Option<(Vec<u32>, &'l [u8])>, AllocError>
     ensures { IfOk result
         (λ cut. IfSome cut (λ found. line.now ≡ words_text false found.0.items ++ 93 ∷ found.1.now)) }
 {

@@ -14,10 +14,10 @@ const TEXT_OF_BYTE: usize = 10;
 
 /// An upper bound of the bytes of a board's text apart from the cells and the ids of its record:
 /// names of members, numbers, and the ids of killers.
-const BOARD_FRAME: usize = 16_384;
+const BOARD_REST: usize = 16_384;
 
 /// An upper bound of the bytes of a line apart from its board, its charge and the name of its game.
-const LINE_FRAME: usize = 246;
+const LINE_REST: usize = 246;
 
 /// An upper bound of the bytes of a stray line.
 const LONGEST_STRAY: usize = 256;
@@ -33,7 +33,7 @@ fn board_bound(board: &KeptBoard) -> usize
     ensures bound { length (compact_text (board_data board.now)) ≤ result }
     ensures small { result < 2 ^ 21 }
 {
-    TEXT_OF_BYTE * board.record().len() + BOARD_FRAME
+    TEXT_OF_BYTE * board.record().len() + BOARD_REST
 }
 
 /// An upper bound of the number of digits of a charge.
@@ -51,7 +51,7 @@ fn line_bound(game: &Id, parts: usize) -> Option<usize>
     ensures { IfSome result (λ bound. bound ≡ 6 * length game.now + parts + 246) }
 {
     let name = game.len().checked_mul(LONGEST_ESCAPE)?;
-    name.checked_add(parts)?.checked_add(LINE_FRAME)
+    name.checked_add(parts)?.checked_add(LINE_REST)
 }
 
 /// An upper bound of the number of bytes of a reply's line, whatever its `seq` is. `None` if it is

@@ -21,9 +21,9 @@ returns-clause-serving g c =
     let told = rw c.new-text.ensures.items at c.in_ok-answer_all.ensures.text in
     let wrote = rw c.deref-2.ensures.value at c.in_ok-write_out.ensures.text in
     let adds = rw c.deref-2.ensures.value at c.in_ok-write_out.ensures.count in
-    subst (λ p. IsServing host.blocks host.version plan after p first next c.write_out.new.written new.cores.open.items new.guests new.number) (sym same)
+    subst (λ p. IsServing host.blocks host.version plan after p first next c.write_out.new.written new.cores.open.items new.open_stays new.number) (sym same)
     (serving_answers host.blocks host.version plan after c.args.pending.now.items c.in-Some.front.now back c.answer_all.new.text.items first old next c.args.written.now
-    c.write_out.new.written host.cores.open.items new.cores.open.items host.guests new.guests host.number new.number is cut
+    c.write_out.new.written host.cores.open.items new.cores.open.items host.open_stays new.open_stays host.number new.number is cut
     (λ before has. c.in_ok-answer_all.ensures.answered plan before has) (λ before has. told plan before has) wrote adds)
 
 pub returns-in_err-extend_from_slice-clause-left : goal.returns-in_err-extend_from_slice-clause-left
@@ -33,9 +33,9 @@ returns-in_err-extend_from_slice-clause-left g c =
     let count = c.args.written.now in
     let now = g.W.Write.contents c.args.output.now in
     let left : (plan : List GameRow) (after : List ℕ) (first : Option (List ℕ))
-    → IsServing host.blocks host.version plan after pending first now count host.cores.open.items host.guests host.number
+    → IsServing host.blocks host.version plan after pending first now count host.cores.open.items host.open_stays host.number
     → (more : List ℕ) → LeavesLines host.blocks host.version plan (pieces_of (after ++ more)) first now live.Memory
-    = λ plan after first is more. serving_first host.blocks host.version plan after pending more first now count host.cores.open.items host.guests host.number is in
+    = λ plan after first is more. serving_first host.blocks host.version plan after pending more first now count host.cores.open.items host.open_stays host.number is in
     search rules
 
 pub returns-in_err-answer_all-clause-left : goal.returns-in_err-answer_all-clause-left
@@ -46,11 +46,11 @@ returns-in_err-answer_all-clause-left g c =
     let now = g.W.Write.contents c.args.output.now in
     let error = c.in_err-answer_all.field-0.0 in
     let left : (plan : List GameRow) (after : List ℕ) (first : Option (List ℕ))
-    → IsServing host.blocks host.version plan after pending first now count host.cores.open.items host.guests host.number
+    → IsServing host.blocks host.version plan after pending first now count host.cores.open.items host.open_stays host.number
     → (more : List ℕ) → LeavesLines host.blocks host.version plan (pieces_of (after ++ more)) first now (live_fault_of_run error)
     = λ plan after first is more.
     run_leaves host.blocks host.version plan (pieces_of (after ++ more)) first now error
-    (serving_first host.blocks host.version plan after pending more first now count host.cores.open.items host.guests host.number is) in
+    (serving_first host.blocks host.version plan after pending more first now count host.cores.open.items host.open_stays host.number is) in
     search rules
 
 pub returns-in_err-write_out-clause-left : goal.returns-in_err-write_out-clause-left
@@ -69,18 +69,18 @@ returns-in_err-write_out-clause-left g c =
     let told = rw c.new-text.ensures.items at c.in_ok-answer_all.ensures.text in
     let stops = rw c.deref-2.ensures.value at c.in_err-write_out.ensures.left in
     let left : (plan : List GameRow) (after : List ℕ) (first : Option (List ℕ))
-    → IsServing host.blocks host.version plan after pending first now count host.cores.open.items host.guests host.number
+    → IsServing host.blocks host.version plan after pending first now count host.cores.open.items host.open_stays host.number
     → (more : List ℕ) → LeavesLines host.blocks host.version plan (pieces_of (after ++ more)) first next fault
     = λ plan after first is more.
-    let (rest, whole) = serving_text host.blocks host.version plan after pending front back text more first now count host.cores.open.items host.guests host.number is cut
+    let (rest, whole) = serving_text host.blocks host.version plan after pending front back text more first now count host.cores.open.items host.open_stays host.number is cut
     (told plan is.done is.answered) in
     text_leaves host.blocks host.version plan (pieces_of (after ++ more)) (answers_from host.blocks host.version plan [] is.done) text rest first now next count fault
     whole is.counted is.written
-    (serving_first host.blocks host.version plan after pending more first now count host.cores.open.items host.guests host.number is)
+    (serving_first host.blocks host.version plan after pending more first now count host.cores.open.items host.open_stays host.number is)
     (λ wrote.
-    inl (serving_first host.blocks host.version plan after back more first next (count + length text) new.cores.open.items new.guests new.number
+    inl (serving_first host.blocks host.version plan after back more first next (count + length text) new.cores.open.items new.open_stays new.number
     (serving_answers host.blocks host.version plan after pending front back text first now next count (count + length text) host.cores.open.items new.cores.open.items
-    host.guests new.guests host.number new.number is cut (λ before has. c.in_ok-answer_all.ensures.answered plan before has) (λ before has. told plan before has) wrote refl)))
+    host.open_stays new.open_stays host.number new.number is cut (λ before has. c.in_ok-answer_all.ensures.answered plan before has) (λ before has. told plan before has) wrote refl)))
     stops in
     let same : c.from_residual-in_err-write_out.result ≡ Err c.in_err-write_out.field-0.0 = search rules in
     rw same left

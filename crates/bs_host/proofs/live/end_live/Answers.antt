@@ -19,10 +19,10 @@ returns-clause-written g c =
     let wrote = rw c.deref.ensures.value at c.in_ok-write_out.ensures.text in
     let whole : live_lines_of host.blocks host.version plan (pieces_of after) ≡ answers_from host.blocks host.version plan [] is.done ++ both
     = serving_whole host.blocks host.version plan after c.args.pending.now c.answer_all.new.text.items both first now c.args.written.now
-    host.cores.open.items new.cores.open.items host.guests new.guests host.number new.number is
+    host.cores.open.items new.cores.open.items host.open_stays new.open_stays host.number new.number is
     (λ before has. c.in_ok-answer_all.ensures.answered plan before has) (λ before has. told plan before has) (λ lines has. closes plan lines has) in
     serving_ends host.blocks host.version plan after both first now (g.W.Write.contents c.write_out.new.output) c.args.written.now c.args.pending.now
-    host.cores.open.items host.guests host.number is whole wrote
+    host.cores.open.items host.open_stays host.number is whole wrote
 
 pub returns-in_err-answer_all-clause-left : goal.returns-in_err-answer_all-clause-left
 returns-in_err-answer_all-clause-left g c =
@@ -31,11 +31,11 @@ returns-in_err-answer_all-clause-left g c =
     let now = g.W.Write.contents c.args.output.now in
     let error = c.in_err-answer_all.field-0.0 in
     let left : (plan : List GameRow) (after : List ℕ) (first : Option (List ℕ))
-    → IsServing host.blocks host.version plan after c.args.pending.now first now count host.cores.open.items host.guests host.number
+    → IsServing host.blocks host.version plan after c.args.pending.now first now count host.cores.open.items host.open_stays host.number
     → LeavesLines host.blocks host.version plan (pieces_of after) first now (live_fault_of_run error)
     = λ plan after first is.
     run_leaves host.blocks host.version plan (pieces_of after) first now error
-    (serving_last host.blocks host.version plan after c.args.pending.now first now count host.cores.open.items host.guests host.number is) in
+    (serving_last host.blocks host.version plan after c.args.pending.now first now count host.cores.open.items host.open_stays host.number is) in
     search rules
 
 pub returns-in_err-close-clause-left : goal.returns-in_err-close-clause-left
@@ -45,11 +45,11 @@ returns-in_err-close-clause-left g c =
     let now = g.W.Write.contents c.args.output.now in
     let error = c.in_err-close.field-0.0 in
     let left : (plan : List GameRow) (after : List ℕ) (first : Option (List ℕ))
-    → IsServing host.blocks host.version plan after c.args.pending.now first now count host.cores.open.items host.guests host.number
+    → IsServing host.blocks host.version plan after c.args.pending.now first now count host.cores.open.items host.open_stays host.number
     → LeavesLines host.blocks host.version plan (pieces_of after) first now (live_fault_of_run error)
     = λ plan after first is.
     run_leaves host.blocks host.version plan (pieces_of after) first now error
-    (serving_last host.blocks host.version plan after c.args.pending.now first now count host.cores.open.items host.guests host.number is) in
+    (serving_last host.blocks host.version plan after c.args.pending.now first now count host.cores.open.items host.open_stays host.number is) in
     search rules
 
 pub returns-in_err-write_out-clause-left : goal.returns-in_err-write_out-clause-left
@@ -65,16 +65,16 @@ returns-in_err-write_out-clause-left g c =
     let closes = rw (c.in_ok-answer_all.ensures.blocks, c.in_ok-answer_all.ensures.version) at c.in_ok-close.ensures in
     let stops = rw c.deref.ensures.value at c.in_err-write_out.ensures.left in
     let left : (plan : List GameRow) (after : List ℕ) (first : Option (List ℕ))
-    → IsServing host.blocks host.version plan after c.args.pending.now first now count host.cores.open.items host.guests host.number
+    → IsServing host.blocks host.version plan after c.args.pending.now first now count host.cores.open.items host.open_stays host.number
     → LeavesLines host.blocks host.version plan (pieces_of after) first next fault
     = λ plan after first is.
     let before = answers_from host.blocks host.version plan [] is.done in
     let whole : live_lines_of host.blocks host.version plan (pieces_of after) ≡ before ++ both
     = serving_whole host.blocks host.version plan after c.args.pending.now c.answer_all.new.text.items both first now count
-    host.cores.open.items new.cores.open.items host.guests new.guests host.number new.number is
+    host.cores.open.items new.cores.open.items host.open_stays new.open_stays host.number new.number is
     (λ before has. c.in_ok-answer_all.ensures.answered plan before has) (λ before has. told plan before has) (λ lines has. closes plan lines has) in
     text_leaves host.blocks host.version plan (pieces_of after) before both [] first now next count fault (whole ∙ sym (append-nil (before ++ both))) is.counted is.written
-    (serving_last host.blocks host.version plan after c.args.pending.now first now count host.cores.open.items host.guests host.number is)
-    (λ wrote. inr (serving_ends host.blocks host.version plan after both first now next count c.args.pending.now host.cores.open.items host.guests host.number is whole wrote))
+    (serving_last host.blocks host.version plan after c.args.pending.now first now count host.cores.open.items host.open_stays host.number is)
+    (λ wrote. inr (serving_ends host.blocks host.version plan after both first now next count c.args.pending.now host.cores.open.items host.open_stays host.number is whole wrote))
     stops in
     search rules

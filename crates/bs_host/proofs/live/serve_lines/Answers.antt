@@ -22,8 +22,8 @@ loop-init g c = (
       let first = g.W.Write.contents c.args.output.now in (
         [],
         consumes_none (g.R.Read.remaining c.args.input.now),
-        subst (λ after. IsServing host.blocks host.version plan after pending first first 0 host.cores.open.items host.guests host.number) (sym (append-nil pending))
-            (serving_begins host.blocks host.version plan pending first host.cores.open.items host.guests host.number is),
+        subst (λ after. IsServing host.blocks host.version plan after pending first first 0 host.cores.open.items host.open_stays host.number) (sym (append-nil pending))
+            (serving_begins host.blocks host.version plan pending first host.cores.open.items host.open_stays host.number is),
       ),
 )
 
@@ -45,11 +45,11 @@ loop-preserved g c =
           let (bytes, before, serving) = inv.3 plan is in (
             bytes ++ more,
             consumes_both (g.R.Read.remaining c.args.input.now) (g.R.Read.remaining c.loop.input) (g.R.Read.remaining c.read_more.new.input) bytes more before read,
-            subst (λ after. IsServing host.blocks host.version plan after c.read_more.new.pending.items first now count new.cores.open.items new.guests new.number)
+            subst (λ after. IsServing host.blocks host.version plan after c.read_more.new.pending.items first now count new.cores.open.items new.open_stays new.number)
                 (append_assoc pending bytes more)
                 (serving_reads host.blocks host.version plan (pending ++ bytes) c.hold_line.new.pending.items c.read_more.new.pending.items more first now count new.cores.open.items
-                new.guests new.number (serving_holds host.blocks host.version plan (pending ++ bytes) c.answer_ready.new.pending.items c.hold_line.new.pending.items first now count
-                new.cores.open.items new.guests new.number (serves plan (pending ++ bytes) first serving) c.hold_line.ensures) got),
+                new.open_stays new.number (serving_holds host.blocks host.version plan (pending ++ bytes) c.answer_ready.new.pending.items c.hold_line.new.pending.items first now count
+                new.cores.open.items new.open_stays new.number (serves plan (pending ++ bytes) first serving) c.hold_line.ensures) got),
           ),
     )
 
@@ -67,12 +67,12 @@ returns-then-not-branch-clause-written g c =
     let serves = rw (inv.0, inv.1) at c.in_ok-answer_ready.ensures.serving in
     let (more, read, got) = c.in_ok-read_more.ensures.bytes in
     let (bytes, before, serving) = inv.3 plan is in
-    let served : IsServing host.blocks host.version plan (pending ++ (bytes ++ more)) c.read_more.new.pending.items first now count new.cores.open.items new.guests new.number
-    = subst (λ after. IsServing host.blocks host.version plan after c.read_more.new.pending.items first now count new.cores.open.items new.guests new.number)
+    let served : IsServing host.blocks host.version plan (pending ++ (bytes ++ more)) c.read_more.new.pending.items first now count new.cores.open.items new.open_stays new.number
+    = subst (λ after. IsServing host.blocks host.version plan after c.read_more.new.pending.items first now count new.cores.open.items new.open_stays new.number)
     (append_assoc pending bytes more)
     (serving_reads host.blocks host.version plan (pending ++ bytes) c.hold_line.new.pending.items c.read_more.new.pending.items more first now count new.cores.open.items
-    new.guests new.number (serving_holds host.blocks host.version plan (pending ++ bytes) c.answer_ready.new.pending.items c.hold_line.new.pending.items first now count
-    new.cores.open.items new.guests new.number (serves plan (pending ++ bytes) first serving) c.hold_line.ensures) got) in
+    new.open_stays new.number (serving_holds host.blocks host.version plan (pending ++ bytes) c.answer_ready.new.pending.items c.hold_line.new.pending.items first now count
+    new.cores.open.items new.open_stays new.number (serves plan (pending ++ bytes) first serving) c.hold_line.ensures) got) in
     let same_blocks = c.in_ok-answer_ready.ensures.blocks ∙ inv.0 in
     let same_version = c.in_ok-answer_ready.ensures.version ∙ inv.1 in
     let ends = rw (same_blocks, same_version, c.deref.ensures.value) at c.in_ok-end_live.ensures.written in
@@ -93,7 +93,7 @@ returns-in_err-answer_ready-clause-left g c =
     let fault = c.in_err-answer_ready.field-0.0 in
     let inv = c.loop.invariant in
     let stops = rw (inv.0, inv.1) at c.in_err-answer_ready.ensures.left in
-    let left : (plan : List GameRow) → HasAnswered host.blocks host.version plan [] host.cores.open.items host.guests host.number
+    let left : (plan : List GameRow) → HasAnswered host.blocks host.version plan [] host.cores.open.items host.open_stays host.number
     → IfSome input (λ left. LeavesLines host.blocks host.version plan (pieces_of (pending ++ left)) first next fault)
     = λ plan is.
     let (bytes, before, serving) = inv.3 plan is in
@@ -114,14 +114,14 @@ returns-in_err-read_more-clause-left g c =
     let fault = c.in_err-read_more.field-0.0 in
     let inv = c.loop.invariant in
     let serves = rw (inv.0, inv.1) at c.in_ok-answer_ready.ensures.serving in
-    let left : (plan : List GameRow) → HasAnswered host.blocks host.version plan [] host.cores.open.items host.guests host.number
+    let left : (plan : List GameRow) → HasAnswered host.blocks host.version plan [] host.cores.open.items host.open_stays host.number
     → IfSome input (λ left. LeavesLines host.blocks host.version plan (pieces_of (pending ++ left)) first now fault)
     = λ plan is.
     let (bytes, before, serving) = inv.3 plan is in
     of_lines host.blocks host.version plan input (g.R.Read.remaining c.loop.input) pending bytes first now fault before
     (λ more.
     read_leaves host.blocks host.version plan (pieces_of ((pending ++ bytes) ++ more)) first now fault c.in_err-read_more.ensures.fault
-    (serving_first host.blocks host.version plan (pending ++ bytes) c.answer_ready.new.pending.items more first now count new.cores.open.items new.guests new.number
+    (serving_first host.blocks host.version plan (pending ++ bytes) c.answer_ready.new.pending.items more first now count new.cores.open.items new.open_stays new.number
     (serves plan (pending ++ bytes) first serving))) in
     let same : c.from_residual-in_err-read_more.result ≡ Err c.in_err-read_more.field-0.0 = search rules in
     rw same left
@@ -144,16 +144,16 @@ returns-in_err-end_live-clause-left g c =
     let same_version = c.in_ok-answer_ready.ensures.version ∙ inv.1 in
     let stops = rw (same_blocks, same_version, c.deref.ensures.value) at c.in_err-end_live.ensures.left in
     let end : IsAtEnd (g.R.Read.remaining c.read_more.new.input) = search rules in
-    let left : (plan : List GameRow) → HasAnswered host.blocks host.version plan [] host.cores.open.items host.guests host.number
+    let left : (plan : List GameRow) → HasAnswered host.blocks host.version plan [] host.cores.open.items host.open_stays host.number
     → IfSome input (λ left. LeavesLines host.blocks host.version plan (pieces_of (pending ++ left)) first next fault)
     = λ plan is.
     let (bytes, before, serving) = inv.3 plan is in
-    let served : IsServing host.blocks host.version plan (pending ++ (bytes ++ more)) c.read_more.new.pending.items first now count new.cores.open.items new.guests new.number
-    = subst (λ after. IsServing host.blocks host.version plan after c.read_more.new.pending.items first now count new.cores.open.items new.guests new.number)
+    let served : IsServing host.blocks host.version plan (pending ++ (bytes ++ more)) c.read_more.new.pending.items first now count new.cores.open.items new.open_stays new.number
+    = subst (λ after. IsServing host.blocks host.version plan after c.read_more.new.pending.items first now count new.cores.open.items new.open_stays new.number)
     (append_assoc pending bytes more)
     (serving_reads host.blocks host.version plan (pending ++ bytes) c.hold_line.new.pending.items c.read_more.new.pending.items more first now count new.cores.open.items
-    new.guests new.number (serving_holds host.blocks host.version plan (pending ++ bytes) c.answer_ready.new.pending.items c.hold_line.new.pending.items first now count
-    new.cores.open.items new.guests new.number (serves plan (pending ++ bytes) first serving) c.hold_line.ensures) got) in
+    new.open_stays new.number (serving_holds host.blocks host.version plan (pending ++ bytes) c.answer_ready.new.pending.items c.hold_line.new.pending.items first now count
+    new.cores.open.items new.open_stays new.number (serves plan (pending ++ bytes) first serving) c.hold_line.ensures) got) in
     if_some input
     (λ left some same. subst (λ l. LeavesLines host.blocks host.version plan (pieces_of (pending ++ l)) first next fault) (sym same) (stops plan (pending ++ (bytes ++ more)) first served))
     (all_consumed input (g.R.Read.remaining c.read_more.new.input) (bytes ++ more)
@@ -171,5 +171,5 @@ returns-clause-left g c =
     let (bytes, before, serving) = c.loop.invariant.3 plan is in
     of_lines host.blocks host.version plan (g.R.Read.remaining c.args.input.now) (g.R.Read.remaining c.loop.input) pending bytes first now live.Memory before
     (λ more.
-    serving_first host.blocks host.version plan (pending ++ bytes) c.loop.pending.items more first now c.loop.written c.loop.host.cores.open.items c.loop.host.guests
+    serving_first host.blocks host.version plan (pending ++ bytes) c.loop.pending.items more first now c.loop.written c.loop.host.cores.open.items c.loop.host.open_stays
     c.loop.host.number serving)

@@ -19,6 +19,6 @@ lines-preserved c =
       c.in_ok-answer.ensures.cores,
       λ plan before is.
           one_more_answered host.blocks host.version plan before (pieces_of c.args.lines.now) (pieces_after (option_copied c.lines.left)) more line
-          c.args.text.now.items c.lines.text.items c.answer.new.text.items c.lines.self.cores.open.items c.answer.new.self.cores.open.items c.lines.self.guests c.answer.new.self.guests
+          c.args.text.now.items c.lines.text.items c.answer.new.text.items c.lines.self.cores.open.items c.answer.new.self.cores.open.items c.lines.self.open_stays c.answer.new.self.open_stays
           c.lines.self.number c.answer.new.self.number (inv.3 plan before is) left (λ lines has. (answered plan lines has, told plan lines has)),
     )

@@ -10,9 +10,9 @@ use Rattle.bs_host.proofs.live_host.LiveHost.answer_all.Given as goal
 abbrev pub invariant-lines : goal.invariant-lines
 invariant-lines l =
     (l.self.blocks ≡ l.fn.self.blocks) × (l.self.version ≡ l.fn.self.version)
-    × HaveCores l.self.guests l.self.cores.open.items
-    × ((plan : List GameRow) (before : List (List ℕ)) → HasAnswered l.fn.self.blocks l.fn.self.version plan before l.fn.self.cores.open.items l.fn.self.guests l.fn.self.number
-    → AreAnswered l.fn.self.blocks l.fn.self.version plan before (pieces_of l.fn.lines) (pieces_after (option_copied l.left)) l.fn.text.items l.text.items l.self.cores.open.items l.self.guests l.self.number)
+    × HaveCores l.self.open_stays l.self.cores.open.items
+    × ((plan : List GameRow) (before : List (List ℕ)) → HasAnswered l.fn.self.blocks l.fn.self.version plan before l.fn.self.cores.open.items l.fn.self.open_stays l.fn.self.number
+    → AreAnswered l.fn.self.blocks l.fn.self.version plan before (pieces_of l.fn.lines) (pieces_after (option_copied l.left)) l.fn.text.items l.text.items l.self.cores.open.items l.self.open_stays l.self.number)
 
 abbrev pub decreases-lines : goal.decreases-lines
 decreases-lines l = bytes_left l.left

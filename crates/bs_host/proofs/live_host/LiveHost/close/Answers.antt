@@ -2,15 +2,15 @@ use Rattle.std.proofs.Common.{◌≡◌, ℕ, ◌++◌, ◌<◌, [], length, get
 use Rattle.bs_board.specs.plans.Plan.{GameRow, row_of}
 use Rattle.bs_host.specs.Cut.{row_at}
 use Rattle.bs_host.specs.Live.{acts_behind, closing_behind, closing_line, commands_given, has_core, rows_behind}
-use Rattle.bs_host.proofs.LiveCores.{guest_has_core}
-use Rattle.bs_host.proofs.LiveTexts.{closing_begins, guest_row, one_more_closed}
+use Rattle.bs_host.proofs.LiveCores.{open_stay_has_core}
+use Rattle.bs_host.proofs.LiveTexts.{closing_begins, open_stay_row, one_more_closed}
 use Rattle.bs_host.proofs.live_host.LiveHost.close.Goals as goal
 
 pub loop-index-init : goal.loop-index-init
 loop-index-init c =
     λ plan lines is.
     let host = c.args.self.now in
-    closing_begins host.blocks host.version plan lines host.cores.open.items host.guests host.number c.args.text.now.items is
+    closing_begins host.blocks host.version plan lines host.cores.open.items host.open_stays host.number c.args.text.now.items is
 
 pub loop-index-preserved : goal.loop-index-preserved
 loop-index-preserved c =
@@ -18,18 +18,18 @@ loop-index-preserved c =
     let host = c.args.self.now in
     let d : ℕ × GameRow = (0, row_of [] 0) in
     let index = c.loop-index.index in
-    let stay = get_or host.guests.stays index d in
+    let stay = get_or host.open_stays.stays index d in
     let acts = acts_behind host.blocks host.version plan lines in
-    let inside : index < length host.guests.stays = omega arith in
+    let inside : index < length host.open_stays.stays = omega arith in
     let number : c.number.result ≡ stay.0 = c.number.ensures in
     let closes = c.in_ok-show_final.ensures in
     let row : row_at (rows_behind plan acts) stay.0 ≡ stay.1
-    = guest_row host.blocks host.version plan lines host.cores.open.items host.guests host.number index d is inside in
+    = open_stay_row host.blocks host.version plan lines host.cores.open.items host.open_stays host.number index d is inside in
     let told : c.show_final.new.text.items ≡ c.loop-index.text.items ++ closing_line stay.1 (commands_given stay.0 acts)
     = closes plan acts is.played
     ∙ ap (λ n. c.loop-index.text.items ++ closing_line (row_at (rows_behind plan acts) n) (commands_given n acts)) number
     ∙ ap (λ r. c.loop-index.text.items ++ closing_line r (commands_given stay.0 acts)) row in
-    one_more_closed host.blocks host.version plan lines host.guests index d c.loop-index.text.items c.show_final.new.text.items
+    one_more_closed host.blocks host.version plan lines host.open_stays index d c.loop-index.text.items c.show_final.new.text.items
     (c.args.text.now.items ++ closing_behind host.blocks host.version plan lines) inside
     told (c.loop-index.invariant plan lines is)
 
@@ -38,5 +38,5 @@ show_final-requires c =
     let host = c.args.self.now in
     let d : ℕ × GameRow = (0, row_of [] 0) in
     let index = c.loop-index.index in
-    let inside : index < length host.guests.stays = omega arith in
-    ap (λ n. has_core n host.cores.open.items) c.number.ensures ∙ guest_has_core host.guests host.cores.open.items index d c.requires inside
+    let inside : index < length host.open_stays.stays = omega arith in
+    ap (λ n. has_core n host.cores.open.items) c.number.ensures ∙ open_stay_has_core host.open_stays host.cores.open.items index d c.requires inside

@@ -17,20 +17,20 @@ use Rattle.bs_sched.specs.Stays.{Capacity, Stay, closed_stay, open_stay, stay_at
 use Rattle.bs_workers.specs.Acts.{opened}
 use Rattle.bs_workers.specs.declared.act.Act.TheVariants as act
 use Rattle.bs_host.specs.declared.route.Route.{Route}
-use Rattle.bs_host.specs.Guests.{bears, blocks_in, found_in, open_from, open_of, GuestList, own_by_guests, guests_of, guests_then, refusal_by, route_by, routes_by_guests}
+use Rattle.bs_host.specs.OpenStays.{bears, blocks_in, found_in, open_from, open_of, OpenStayList, own_by_open_stays, open_stays_of, open_stays_then, refusal_by, route_by, routes_by_open_stays}
 use Rattle.bs_host.specs.Cut.{is_own_line, own_lines_in}
-use Rattle.bs_host.specs.Laws.{GuestLinesLaw, GuestsLaw}
+use Rattle.bs_host.specs.Laws.{OpenStayLinesLaw, OpenStaysLaw}
 use Rattle.bs_host.specs.Routing.{command_to, admit_refusal, admit_route, registry_then, hand_route, leave_route, next_registry, route_at, route_of, routes_from}
 use Rattle.bs_host.specs.declared.route.Route.TheVariants as route
 use Rattle.bs_host.proofs.OpenStays.{open_law, position_behind}
 
-same_refusal : (capacity : Capacity) (registry : List Stay) (row : GameRow) → admit_refusal capacity registry row ≡ refusal_by capacity (guests_of registry) row
+same_refusal : (capacity : Capacity) (registry : List Stay) (row : GameRow) → admit_refusal capacity registry row ≡ refusal_by capacity (open_stays_of registry) row
 same_refusal capacity registry row =
     let told = open_law capacity.cap registry in
     let any = told.any row.game in
     rw (any, told.many, told.blocks) refl
 
-pub same_route : (capacity : Capacity) (registry : List Stay) (l : Line) → route_of capacity registry l ≡ route_by capacity (guests_of registry) l
+pub same_route : (capacity : Capacity) (registry : List Stay) (l : Line) → route_of capacity registry l ≡ route_by capacity (open_stays_of registry) l
 same_route capacity registry line.Blank = refl
 same_route capacity registry (line.Command game command) = ap (λ o. hand_route o command) ((open_law capacity.cap registry).named game)
 same_route capacity registry (line.Bad game) = ap (λ o. hand_route o command.Bad) ((open_law capacity.cap registry).named game)
@@ -40,30 +40,30 @@ same_route capacity registry line.BadAdmit = refl
 same_route capacity registry (line.Leave None) = refl
 same_route capacity registry (line.Leave (Some game)) = ap leave_route ((open_law capacity.cap registry).named game)
 
-abbrev pub guests_with : ℕ → List (ℕ × GameRow) → GuestList
-guests_with made stays = record { made = made; stays = stays }
+abbrev pub open_stays_with : ℕ → List (ℕ × GameRow) → OpenStayList
+open_stays_with made stays = record { made = made; stays = stays }
 
-pub same_next : (capacity : Capacity) (registry : List Stay) (r : Route) → guests_of (registry_then registry r) ≡ guests_then (guests_of registry) r
+pub same_next : (capacity : Capacity) (registry : List Stay) (r : Route) → open_stays_of (registry_then registry r) ≡ open_stays_then (open_stays_of registry) r
 same_next capacity registry (route.Act (act.Hand stay command)) = refl
 same_next capacity registry (route.Act (act.Admit row)) =
     let many : length (registry ++ open_stay row ∷ []) ≡ length registry + 1 = omega (arith, length-append registry (open_stay row ∷ [])) in
-    ap (λ n. guests_with n (open_of (registry ++ open_stay row ∷ []))) many ∙ ap (guests_with (length registry + 1)) ((open_law capacity.cap registry).admits row)
+    ap (λ n. open_stays_with n (open_of (registry ++ open_stay row ∷ []))) many ∙ ap (open_stays_with (length registry + 1)) ((open_law capacity.cap registry).admits row)
 same_next capacity registry (route.Act (act.Leave stay)) =
-    ap (λ n. guests_with n (open_of (registry_then registry (route.Act (act.Leave stay))))) (length-set registry stay (closed_stay (stay_at registry stay)))
-    ∙ ap (guests_with (length registry)) ((open_law capacity.cap registry).leaves stay)
+    ap (λ n. open_stays_with n (open_of (registry_then registry (route.Act (act.Leave stay))))) (length-set registry stay (closed_stay (stay_at registry stay)))
+    ∙ ap (open_stays_with (length registry)) ((open_law capacity.cap registry).leaves stay)
 same_next capacity registry (route.Stray kind) = refl
 same_next capacity registry route.Nowhere = refl
 
-pub guests_law : GuestsLaw
-guests_law capacity version number registry [] = refl
-guests_law capacity version number registry (text ∷ lines) =
-    let r = route_by capacity (guests_of registry) (line_of version text) in
+pub open_stays_law : OpenStaysLaw
+open_stays_law capacity version number registry [] = refl
+open_stays_law capacity version number registry (text ∷ lines) =
+    let r = route_by capacity (open_stays_of registry) (line_of version text) in
     let same = same_route capacity registry (line_of version text) in
-    let next : guests_of (next_registry capacity version registry text) ≡ guests_then (guests_of registry) r =
-    same_next capacity registry (route_at capacity version registry text) ∙ ap (guests_then (guests_of registry)) same in
+    let next : open_stays_of (next_registry capacity version registry text) ≡ open_stays_then (open_stays_of registry) r =
+    same_next capacity registry (route_at capacity version registry text) ∙ ap (open_stays_then (open_stays_of registry)) same in
     ap (λ q. (number, q) ∷ routes_from capacity version (next_registry capacity version registry text) (number + 1) lines) same
-    ∙ ap (λ rest. (number, r) ∷ rest) (guests_law capacity version (number + 1) (next_registry capacity version registry text) lines
-    ∙ ap (λ g. routes_by_guests capacity version g (number + 1) lines) next)
+    ∙ ap (λ rest. (number, r) ∷ rest) (open_stays_law capacity version (number + 1) (next_registry capacity version registry text) lines
+    ∙ ap (λ g. routes_by_open_stays capacity version g (number + 1) lines) next)
 
 if_own : Bool → List ℕ → List (List ℕ) → List (List ℕ)
 if_own own text rest = if own then text ∷ rest else rest
@@ -72,18 +72,18 @@ same_if : (own : Bool) (text : List ℕ) (rest : List (List ℕ)) → (if own th
 unfolding if_own
 same_if own text rest = refl
 
-pub guest_lines_law : GuestLinesLaw
-guest_lines_law capacity version stay registry [] = refl
-guest_lines_law capacity version stay registry (text ∷ lines) =
-    let r = route_by capacity (guests_of registry) (line_of version text) in
+pub open_stay_lines_law : OpenStayLinesLaw
+open_stay_lines_law capacity version stay registry [] = refl
+open_stay_lines_law capacity version stay registry (text ∷ lines) =
+    let r = route_by capacity (open_stays_of registry) (line_of version text) in
     let same = same_route capacity registry (line_of version text) in
-    let next : guests_of (next_registry capacity version registry text) ≡ guests_then (guests_of registry) r =
-    same_next capacity registry (route_at capacity version registry text) ∙ ap (guests_then (guests_of registry)) same in
-    let rest = guest_lines_law capacity version stay (next_registry capacity version registry text) lines ∙ ap (λ g. own_by_guests capacity version g stay lines) next in
+    let next : open_stays_of (next_registry capacity version registry text) ≡ open_stays_then (open_stays_of registry) r =
+    same_next capacity registry (route_at capacity version registry text) ∙ ap (open_stays_then (open_stays_of registry)) same in
+    let rest = open_stay_lines_law capacity version stay (next_registry capacity version registry text) lines ∙ ap (λ g. own_by_open_stays capacity version g stay lines) next in
     same_if (is_own_line capacity version registry stay text) text (own_lines_in capacity version (next_registry capacity version registry text) stay lines)
     ∙ ap (λ q. if_own (is_some (command_to stay q)) text (own_lines_in capacity version (next_registry capacity version registry text) stay lines)) same
     ∙ ap (if_own (is_some (command_to stay r)) text) rest
-    ∙ sym (same_if (is_some (command_to stay r)) text (own_by_guests capacity version (guests_then (guests_of registry) r) stay lines))
+    ∙ sym (same_if (is_some (command_to stay r)) text (own_by_open_stays capacity version (open_stays_then (open_stays_of registry) r) stay lines))
 
 -- the stay of a name is the first open one with it
 
@@ -132,20 +132,20 @@ one_more_open rows stay row old new within is pushed before =
     ∙ ap (λ stays. old ++ stays) (sym next) ∙ before
 
 pub all_open : (rows all : List GameRow) (stays : List (ℕ × GameRow)) → all ≡ rows
-    → stays ++ enumerate_from (length all) (drop (length all) all) ≡ enumerate_from 0 all → guests_with (length all) stays ≡ guests_of (opened rows)
+    → stays ++ enumerate_from (length all) (drop (length all) all) ≡ enumerate_from 0 all → open_stays_with (length all) stays ≡ open_stays_of (opened rows)
 all_open rows all stays same before =
     let none : [] ≡ drop (length all) all = sym (drop_all (length all) all (omega arith)) in
     let told : stays ≡ enumerate_from 0 all =
     sym (append-nil stays) ∙ ap (λ left. stays ++ enumerate_from (length all) left) none ∙ before in
-    ap (λ list. guests_with (length all) list) (told ∙ ap (enumerate_from 0) same ∙ sym (rows_are_open 0 rows))
-    ∙ ap (λ n. guests_with n (open_of (opened rows))) (ap length same ∙ sym (length-map rows open_stay))
+    ap (λ list. open_stays_with (length all) list) (told ∙ ap (enumerate_from 0) same ∙ sym (rows_are_open 0 rows))
+    ∙ ap (λ n. open_stays_with n (open_of (opened rows))) (ap length same ∙ sym (length-map rows open_stay))
 
 -- if nothing refuses a row, there is a number for it
-pub room_for_one : (capacity : Capacity) (guests : GuestList) (row : GameRow) → refusal_by capacity guests row ≡ None → guests.made < MOST_STAYS
-room_for_one capacity guests row none = elim (cases_Bool (list_any (bears row.game) guests.stays)) [
+pub room_for_one : (capacity : Capacity) (open_stays : OpenStayList) (row : GameRow) → refusal_by capacity open_stays row ≡ None → open_stays.made < MOST_STAYS
+room_for_one capacity open_stays row none = elim (cases_Bool (list_any (bears row.game) open_stays.stays)) [
   | inl same ↦ let wrong : Some stray.NameOpen ≡ None = rw same at none in absurd cc
-  | inr new ↦ elim (cases_Bool (nat_lt (length guests.stays) MOST_ROWS && nat_lt guests.made MOST_STAYS)) [
-    | inl fits ↦ ltb-true guests.made MOST_STAYS (and_parts (nat_lt (length guests.stays) MOST_ROWS) (nat_lt guests.made MOST_STAYS) fits).1
+  | inr new ↦ elim (cases_Bool (nat_lt (length open_stays.stays) MOST_ROWS && nat_lt open_stays.made MOST_STAYS)) [
+    | inl fits ↦ ltb-true open_stays.made MOST_STAYS (and_parts (nat_lt (length open_stays.stays) MOST_ROWS) (nat_lt open_stays.made MOST_STAYS) fits).1
     | inr full ↦ let wrong : Some stray.Full ≡ None = rw (new, full) at none in absurd cc
   ]
 ]

@@ -1,6 +1,6 @@
 use Rattle.std.proofs.Common.{◌≡◌, ◌++◌, drop}
 use Rattle.std.specs.List.{enumerate_from}
-use Rattle.bs_host.proofs.guests.Guests.of_plan.Given as goal
+use Rattle.bs_host.proofs.open_stays.OpenStays.of_plan.Given as goal
 
 -- the rows so far, then the remaining ones
 abbrev pub invariant-loop-stay : goal.invariant-loop-stay

@@ -1,7 +1,7 @@
 use Rattle.std.proofs.Common.{◌≡◌, ◌++◌, ℕ, length, drop, subst, arith, rules}
 use Rattle.std.specs.List.{enumerate_from}
-use Rattle.bs_host.proofs.GuestRoutes.{all_open}
-use Rattle.bs_host.proofs.guests.Guests.of_plan.Goals as goal
+use Rattle.bs_host.proofs.OpenStayRoutes.{all_open}
+use Rattle.bs_host.proofs.open_stays.OpenStays.of_plan.Goals as goal
 
 pub returns : goal.returns
 returns c =

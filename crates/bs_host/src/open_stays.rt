@@ -1,7 +1,7 @@
 //! The open stays, while the lines of a file are routed.
 ghost use Rattle.std.specs.Prelude.{◌≡◌, not, nat_eq};
 ghost use Rattle.std.specs.List.{filter};
-ghost use Rattle.bs_host.specs.Guests.{GuestList, guests_in};
+ghost use Rattle.bs_host.specs.OpenStays.{OpenStayList, open_stays_in};
 
 use crate::limits::BLOCK_BYTES;
 use crate::parse::ParsedLine;
@@ -18,15 +18,15 @@ use std::marker::Model;
 /// The open stays, each with the number of its row, and the number of rows made. At most as many
 /// are open as a plan may have games, so the work for a line does not grow with the rows.
 #[derive(Debug, Drop)]
-pub struct Guests {
+pub struct OpenStays {
     made: usize,
     stays: Vec<(usize, Row)>,
 }
 
-impl Model for Guests {
-    ghost Value = { GuestList };
+impl Model for OpenStays {
+    ghost Value = { OpenStayList };
 
-    ghost view = { guests_in };
+    ghost view = { open_stays_in };
 }
 
 fn remove_stay(stays: &mut Vec<(usize, Row)>, stay: usize)
@@ -35,27 +35,27 @@ fn remove_stay(stays: &mut Vec<(usize, Row)>, stay: usize)
     stays.retain(|other| other.0 != stay);
 }
 
-impl Guests {
+impl OpenStays {
     ghost use Rattle.std.specs.Prelude.{◌≡◌, ◌-◌, ◌<◌, [], ◌&&◌, not, nat_lt, length, slice_index_or, Some, None, IfOk, OnOk};
     ghost use Rattle.bs_board.specs.plans.Plan.{row_of};
     ghost use Rattle.std.specs.List.{list_any, position};
     ghost use Rattle.bs_workers.specs.Acts.{opened};
     ghost use Rattle.bs_host.specs.declared.route.Route.TheVariants as route;
-    ghost use Rattle.bs_host.specs.Guests.{bears, blocks_in, found_in, guests_of, guests_then, refusal_by};
+    ghost use Rattle.bs_host.specs.OpenStays.{bears, blocks_in, found_in, open_stays_of, open_stays_then, refusal_by};
     ghost use Rattle.bs_host.specs.Parsed.{route_parsed};
     ghost use Rattle.bs_host.specs.Routing.{admit_route, hand_route, capacity_of, leave_route};
 
     /// Opens the rows of a plan.
-    #[tactic(auto, using(crate::proofs::GuestRoutes::all_open, crate::proofs::GuestRoutes::one_more_open))]
-    pub(crate) fn of_plan(alloc: Global, rows: &Rows) -> Result<Guests, AllocError>
-        ensures { IfOk result (λ guests. guests ≡ guests_of (opened rows.now)) }
+    #[tactic(auto, using(crate::proofs::OpenStayRoutes::all_open, crate::proofs::OpenStayRoutes::one_more_open))]
+    pub(crate) fn of_plan(alloc: Global, rows: &Rows) -> Result<OpenStays, AllocError>
+        ensures { IfOk result (λ open_stays. open_stays ≡ open_stays_of (opened rows.now)) }
     {
         let rows = rows.as_slice();
         let mut stays = Vec::with_capacity(alloc, rows.len())?;
         for stay in 0..rows.len() {
             stays.push((stay, rows[stay].copy(alloc)?))?;
         }
-        Ok(Guests {
+        Ok(OpenStays {
             made: rows.len(),
             stays,
         })
@@ -93,7 +93,7 @@ impl Guests {
     }
 
     /// The row number of the open stay of that name.
-    #[tactic(auto, using(crate::proofs::GuestRoutes::found_at, crate::proofs::GuestRoutes::found_nowhere))]
+    #[tactic(auto, using(crate::proofs::OpenStayRoutes::found_at, crate::proofs::OpenStayRoutes::found_nowhere))]
     fn find(&self, name: &Id) -> Option<usize>
         ensures { result ≡ found_in name.now self.now.stays }
     {
@@ -110,7 +110,7 @@ impl Guests {
     }
 
     /// The number of `blocks` minus those reserved for the open stays.
-    #[tactic(auto, using(crate::proofs::GuestRoutes::one_less_left))]
+    #[tactic(auto, using(crate::proofs::OpenStayRoutes::one_less_left))]
     fn left_of(&self, blocks: usize) -> usize
         ensures { result ≡ blocks - blocks_in BLOCK_BYTES self.now.stays }
     {
@@ -145,7 +145,7 @@ impl Guests {
 
     fn hand(&self, game: &Id, command: &SharedCommand) -> Result<Route, AllocError>
         ensures route { IfOk result (λ route. route ≡ hand_route (found_in game.now self.now.stays) command.now) }
-        ensures after { IfOk result (λ route. guests_then self.now route ≡ self.now) }
+        ensures after { IfOk result (λ route. open_stays_then self.now route ≡ self.now) }
     {
         match self.find(game) {
             Some(stay) => Ok(Route::Act(Act::Hand(stay, command.share()?))),
@@ -153,10 +153,10 @@ impl Guests {
         }
     }
 
-    #[tactic(auto, using(crate::proofs::GuestRoutes::room_for_one))]
+    #[tactic(auto, using(crate::proofs::OpenStayRoutes::room_for_one))]
     fn admit(&mut self, alloc: Global, blocks: usize, row: &Row) -> Result<Route, AllocError>
         ensures route { IfOk result (λ route. route ≡ admit_route (refusal_by (capacity_of blocks) self.old row.now) row.now) }
-        ensures after { IfOk result (λ route. self.new ≡ guests_then self.old route) }
+        ensures after { IfOk result (λ route. self.new ≡ open_stays_then self.old route) }
     {
         if let Some(kind) = self.refusal(blocks, row) {
             return Ok(Route::Stray(kind));
@@ -168,7 +168,7 @@ impl Guests {
 
     fn leave(&mut self, game: &Id) -> Route
         ensures route { result ≡ leave_route (found_in game.now self.old.stays) }
-        ensures after { self.new ≡ guests_then self.old result }
+        ensures after { self.new ≡ open_stays_then self.old result }
     {
         match self.find(game) {
             Some(stay) => {
@@ -188,7 +188,7 @@ impl Guests {
         line: &ParsedLine,
     ) -> Result<Route, AllocError>
         ensures route { IfOk result (λ route. route ≡ route_parsed (capacity_of blocks) self.old line.now) }
-        ensures after { IfOk result (λ route. self.new ≡ guests_then self.old route) }
+        ensures after { IfOk result (λ route. self.new ≡ open_stays_then self.old route) }
     {
         match line {
             ParsedLine::Command(game, command) => self.hand(game, command),

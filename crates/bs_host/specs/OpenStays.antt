@@ -17,17 +17,17 @@ use Rattle.bs_workers.specs.declared.act.Act.TheVariants as act
 use Rattle.bs_sched.specs.declared.plan_blocks.TheConstants.{MOST_STAYS}
 use Rattle.bs_sched.specs.Stays.{Capacity, Stay, blocks_in_registry, has_name, refusal_in_order}
 use Rattle.bs_workers.specs.Acts.{registry_after, stay_named}
-use Rattle.bs_host.specs.declared.guests.Guests.TheInside.{Inside}
+use Rattle.bs_host.specs.declared.open_stays.OpenStays.TheInside.{Inside}
 use Rattle.bs_host.specs.declared.route.Route.{Route}
 use Rattle.bs_host.specs.declared.route.Route.TheVariants as route
 use Rattle.bs_host.specs.Routing.{admit_route, command_to, hand_route, leave_route, stray_for}
 
-pub record GuestList : Type 0 where
+pub record OpenStayList : Type 0 where
   pub made : ℕ
   pub stays : List (ℕ × GameRow)
 
-abbrev pub guests_in : Inside → GuestList
-guests_in g = record { made = g.made; stays = g.stays.items }
+abbrev pub open_stays_in : Inside → OpenStayList
+open_stays_in g = record { made = g.made; stays = g.stays.items }
 
 abbrev pub open_from : ℕ → List Stay → List (ℕ × GameRow)
 open_from first [] = []
@@ -37,8 +37,8 @@ open_from first (entry ∷ registry) =
 abbrev pub open_of : List Stay → List (ℕ × GameRow)
 open_of = open_from 0
 
-abbrev pub guests_of : List Stay → GuestList
-guests_of registry = record { made = length registry; stays = open_of registry }
+abbrev pub open_stays_of : List Stay → OpenStayList
+open_stays_of registry = record { made = length registry; stays = open_of registry }
 
 abbrev pub bears : List ℕ → ℕ × GameRow → Bool
 bears name stay = is_same_text name stay.1.game
@@ -65,35 +65,35 @@ OpenLaw = (cap : ℕ) (registry : List Stay) → IsDecidedByOpen cap registry
 
 -- routing by the open stays
 
-abbrev pub refusal_by : Capacity → GuestList → GameRow → Option Stray
-refusal_by capacity guests row =
-    stray_for (refusal_in_order (list_any (bears row.game) guests.stays)
-    (not (nat_lt (length guests.stays) MOST_ROWS && nat_lt guests.made MOST_STAYS))
-    (blocks_of capacity.cap row) (capacity.blocks - blocks_in capacity.cap guests.stays))
+abbrev pub refusal_by : Capacity → OpenStayList → GameRow → Option Stray
+refusal_by capacity open_stays row =
+    stray_for (refusal_in_order (list_any (bears row.game) open_stays.stays)
+    (not (nat_lt (length open_stays.stays) MOST_ROWS && nat_lt open_stays.made MOST_STAYS))
+    (blocks_of capacity.cap row) (capacity.blocks - blocks_in capacity.cap open_stays.stays))
 
-abbrev pub route_by : Capacity → GuestList → Line → Route
-route_by capacity guests line.Blank = route.Nowhere
-route_by capacity guests (line.Command game command) = hand_route (found_in game guests.stays) command
-route_by capacity guests (line.Bad game) = hand_route (found_in game guests.stays) command.Bad
-route_by capacity guests (line.Stray kind) = route.Stray kind
-route_by capacity guests (line.Admit row) = admit_route (refusal_by capacity guests row) row
-route_by capacity guests line.BadAdmit = route.Stray stray.BadRow
-route_by capacity guests (line.Leave None) = route.Stray stray.NoStay
-route_by capacity guests (line.Leave (Some game)) = leave_route (found_in game guests.stays)
+abbrev pub route_by : Capacity → OpenStayList → Line → Route
+route_by capacity open_stays line.Blank = route.Nowhere
+route_by capacity open_stays (line.Command game command) = hand_route (found_in game open_stays.stays) command
+route_by capacity open_stays (line.Bad game) = hand_route (found_in game open_stays.stays) command.Bad
+route_by capacity open_stays (line.Stray kind) = route.Stray kind
+route_by capacity open_stays (line.Admit row) = admit_route (refusal_by capacity open_stays row) row
+route_by capacity open_stays line.BadAdmit = route.Stray stray.BadRow
+route_by capacity open_stays (line.Leave None) = route.Stray stray.NoStay
+route_by capacity open_stays (line.Leave (Some game)) = leave_route (found_in game open_stays.stays)
 
-abbrev pub guests_then : GuestList → Route → GuestList
-guests_then guests (route.Act (act.Hand stay command)) = guests
-guests_then guests (route.Act (act.Admit row)) = record { made = guests.made + 1; stays = guests.stays ++ (guests.made, row) ∷ [] }
-guests_then guests (route.Act (act.Leave stay)) =
-    record { made = guests.made; stays = filter (λ other. not (nat_eq other.0 stay)) guests.stays }
-guests_then guests (route.Stray kind) = guests
-guests_then guests route.Nowhere = guests
+abbrev pub open_stays_then : OpenStayList → Route → OpenStayList
+open_stays_then open_stays (route.Act (act.Hand stay command)) = open_stays
+open_stays_then open_stays (route.Act (act.Admit row)) = record { made = open_stays.made + 1; stays = open_stays.stays ++ (open_stays.made, row) ∷ [] }
+open_stays_then open_stays (route.Act (act.Leave stay)) =
+    record { made = open_stays.made; stays = filter (λ other. not (nat_eq other.0 stay)) open_stays.stays }
+open_stays_then open_stays (route.Stray kind) = open_stays
+open_stays_then open_stays route.Nowhere = open_stays
 
-abbrev pub routes_by_guests : Capacity → Version → GuestList → ℕ → List (List ℕ) → List (ℕ × Route)
-routes_by_guests capacity version guests number [] = []
-routes_by_guests capacity version guests number (text ∷ lines) =
-    (number, route_by capacity guests (line_of version text))
-    ∷ routes_by_guests capacity version (guests_then guests (route_by capacity guests (line_of version text))) (number + 1) lines
+abbrev pub routes_by_open_stays : Capacity → Version → OpenStayList → ℕ → List (List ℕ) → List (ℕ × Route)
+routes_by_open_stays capacity version open_stays number [] = []
+routes_by_open_stays capacity version open_stays number (text ∷ lines) =
+    (number, route_by capacity open_stays (line_of version text))
+    ∷ routes_by_open_stays capacity version (open_stays_then open_stays (route_by capacity open_stays (line_of version text))) (number + 1) lines
 
 -- the rows that the lines admit
 
@@ -104,16 +104,16 @@ rows_in_route (route.Act (act.Leave stay)) = []
 rows_in_route (route.Stray kind) = []
 rows_in_route route.Nowhere = []
 
-abbrev pub rows_by_guests : Capacity → Version → GuestList → List (List ℕ) → List GameRow
-rows_by_guests capacity version guests [] = []
-rows_by_guests capacity version guests (text ∷ lines) =
-    rows_in_route (route_by capacity guests (line_of version text))
-    ++ rows_by_guests capacity version (guests_then guests (route_by capacity guests (line_of version text))) lines
+abbrev pub rows_by_open_stays : Capacity → Version → OpenStayList → List (List ℕ) → List GameRow
+rows_by_open_stays capacity version open_stays [] = []
+rows_by_open_stays capacity version open_stays (text ∷ lines) =
+    rows_in_route (route_by capacity open_stays (line_of version text))
+    ++ rows_by_open_stays capacity version (open_stays_then open_stays (route_by capacity open_stays (line_of version text))) lines
 
 -- the lines of a stay, by the open stays
-abbrev pub own_by_guests : Capacity → Version → GuestList → ℕ → List (List ℕ) → List (List ℕ)
-own_by_guests capacity version guests stay [] = []
-own_by_guests capacity version guests stay (text ∷ lines) =
-    if is_some (command_to stay (route_by capacity guests (line_of version text)))
-    then text ∷ own_by_guests capacity version (guests_then guests (route_by capacity guests (line_of version text))) stay lines
-    else own_by_guests capacity version (guests_then guests (route_by capacity guests (line_of version text))) stay lines
+abbrev pub own_by_open_stays : Capacity → Version → OpenStayList → ℕ → List (List ℕ) → List (List ℕ)
+own_by_open_stays capacity version open_stays stay [] = []
+own_by_open_stays capacity version open_stays stay (text ∷ lines) =
+    if is_some (command_to stay (route_by capacity open_stays (line_of version text)))
+    then text ∷ own_by_open_stays capacity version (open_stays_then open_stays (route_by capacity open_stays (line_of version text))) stay lines
+    else own_by_open_stays capacity version (open_stays_then open_stays (route_by capacity open_stays (line_of version text))) stay lines

@@ -2,7 +2,7 @@ use Rattle.std.proofs.Common.{ℕ, rules, not}
 use Rattle.std.specs.Prelude.{nat_eq}
 use Rattle.std.proofs.lemmas.Fn.{filter_same}
 use Rattle.bs_board.specs.plans.Plan.{GameRow}
-use Rattle.bs_host.proofs.guests.remove_stay.Goals as goal
+use Rattle.bs_host.proofs.open_stays.remove_stay.Goals as goal
 
 pub returns : goal.returns
 returns c =
