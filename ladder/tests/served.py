@@ -22,9 +22,10 @@ SMALL = ("seeker", "fleer", "hungry", "careful", "lazy")
 
 @dataclass(frozen=True)
 class Served:
-    """The bots of one port."""
+    """The bots of one port, and their process."""
 
     port: int
+    process: subprocess.Popen[bytes]
 
     def url(self, name: str) -> str:
         return f"http://127.0.0.1:{self.port}/{name}"
@@ -57,7 +58,7 @@ def serving(words: Sequence[str | Path], port: int) -> Iterator[Served]:
             except OSError:
                 assert process.poll() is None and time.monotonic() < ends, "no server"
                 time.sleep(0.05)
-        yield Served(port)
+        yield Served(port, process)
     finally:
         process.terminate()
         process.wait()

@@ -27,6 +27,8 @@ from served import (
     write_config,
 )
 
+from ladder.bots import CAUSES
+
 SEED = 20261127
 LONGEST = 120  # seconds of a run
 GAMES = 10
@@ -155,7 +157,10 @@ def test_second_ladder_in_a_folder_is_refused(
 def test_bots_that_die_lose_and_hold_up_no_game(
     program: Path, small_bots: Served, tmp_path: Path
 ) -> None:
-    """After the process of two bots has died, their moves are missed, and all games end."""
+    """After the process of two bots was killed, their moves are missed, and all games end.
+
+    A killed process answers nothing more: its open connections break off, and others are refused.
+    """
     with serve_small() as mortal:
         bots = [("dying1", mortal.url("fleer")), ("dying2", mortal.url("seeker"))]
         bots += [(name, small_bots.url(name)) for name in SMALL[:3]]
@@ -164,14 +169,16 @@ def test_bots_that_die_lose_and_hold_up_no_game(
         )
         process = start_play(config, program)
         wait_for(process, lambda: bytes_played(tmp_path / "results") > 20_000)
+        mortal.process.kill()
     out, error = process.communicate(timeout=LONGEST)
     assert (process.returncode, error) == (0, "")
     rows = {row["bot"]: row for row in standings_without_times(tmp_path / "results")}
     for name, row in rows.items():
+        causes = {cause: row[cause] for cause in CAUSES if row[cause] > 0}
         if name.startswith("dying"):
-            assert row["refused"] > 0 and row["missed"] == row["refused"] + row["cut"]
+            assert "refused" in causes and causes.keys() <= {"refused", "cut"}, causes
             assert row["losses"] > 0
         else:
-            assert row["missed"] == 0
+            assert not causes
     checked = run_ladder("check", tmp_path / "results", "--program", program)
     assert checked.stdout == "10 of 10 games agree\n"
