@@ -35,14 +35,16 @@ def function_on(text, line):
 
 
 def proofs_of(crate, source, kind, name):
-    """The files of the proofs by hand of a function of a source file. The name of the folder of a
-    function with closures ends with the function's name."""
+    """The files of the proofs by hand of a function of a source file. Those of a method lie in the
+    folder of its type, whatever file its `impl` is in. The name of the folder of a function with
+    closures ends with the function's name."""
     module = source.relative_to(crate / "src").with_suffix("")
-    folder = crate / "proofs" if module.name == "lib" else crate / "proofs" / module
+    proofs = crate / "proofs"
+    folder = proofs if kind or module.name == "lib" else proofs / module
     found = [
         f
         for file in BY_HAND
         for f in folder.glob(f"**/{file}")
         if f.parent.name == name or f.parent.name.endswith(f"+{name}")
     ]
-    return [f for f in found if not kind or kind in f.parts or f.parent.parent == folder]
+    return [f for f in found if not kind or kind in f.parts]

@@ -101,11 +101,14 @@ def check(folder, texts):
 
 
 def is_listed(edit, function):
-    """Whether a function that rt lists is one that the edit changes."""
-    parts = re.split(r"::", re.sub(r"<.*?>", "", function))
+    """Whether a function that rt lists is one that the edit changes.
+
+    rt names a method by the module of its type, whatever file its `impl` is in.
+    """
+    parts = re.sub(r"<.*?>", "", function).split("::")
     for path, (kind, name) in edit.functions:
         modules = [it for it in Path(path).with_suffix("").parts[1:] if it not in ("lib", "main")]
-        if parts[-1] == name and all(it in parts for it in [*modules, *[kind] * bool(kind)]):
+        if parts[-1] == name and all(it in parts for it in ([kind] if kind else modules)):
             return True
     return False
 
