@@ -142,11 +142,8 @@ impl<const CAP: usize> State<CAP> {
         }
         for done in worker.done.drain(..) {
             let number = done.ticket().worker() as usize;
-            match self.core.put_back(number, done) {
-                Ok(contents) => {
-                    let _kept = worker.spent.push(contents);
-                }
-                Err(_) => self.fail(Run::Broken),
+            if self.core.put(number, done).is_err() {
+                self.fail(Run::Broken);
             }
         }
     }
@@ -166,8 +163,7 @@ impl<const CAP: usize> State<CAP> {
         if number > self.core.workers() {
             return Err(self.end(Run::Broken));
         }
-        let spent = worker.spent.pop();
-        let job = match self.core.take_over(worker.alloc, number, spent) {
+        let job = match self.core.take(worker.alloc, number) {
             Ok(Taken::Job(ticket)) => Job { ticket, key: None },
             Ok(Taken::Part(ticket, key)) => Job {
                 ticket,
