@@ -8,7 +8,7 @@ use crate::fault::Run;
 use crate::gate::Gate;
 use arrayvec::ArrayVec;
 use bs_counter::{Finish, PartKey};
-use bs_fiber::{Done, Out, Stopped, Ticket, work};
+use bs_fiber::{Done, Stopped, Ticket, work};
 use std::alloc::{AllocError, Global};
 
 /// The largest number of parts of a move, and of jobs that a worker number takes in one batch.
@@ -69,16 +69,9 @@ impl<const CAP: usize> Worker<CAP> {
         })
     }
 
-    /// Estimates how many jobs its results make ready: two parts for a Begin whose move is
-    /// accepted, one job for any other result.
-    pub(crate) fn count_ready(&self) -> usize {
-        let mut ready = self.done.len().saturating_add(self.moves.len());
-        for done in self.done.as_slice() {
-            if matches!(done.out(), Out::Goes) {
-                ready = ready.saturating_add(1);
-            }
-        }
-        ready
+    /// The number of its results, each of another game: a Begin, a Join, or all parts of a move.
+    pub(crate) fn count_results(&self) -> usize {
+        self.done.len().saturating_add(self.moves.len())
     }
 
     /// Runs the job, and finishes a part by its key. Keeps a Begin's or Join's result, or all parts
