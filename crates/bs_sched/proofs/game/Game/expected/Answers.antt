@@ -26,7 +26,7 @@ returns-clause-value g c =
       };
       contents = record {
         last = sym (c.last_record.ensures ∙ ap (λ (v : GameView). option_map record_of (last_board v.lane.game)) c.self.view_is);
-        asked = sym (rw c.asks.ensures at c.asked_record.ensures ∙ asked_of c.args.command.now x.game);
+        asked = sym (rw c.asked_turn.ensures at c.asked_record.ensures ∙ asked_of c.args.command.now x.game);
         command = sym c.shared.ensures;
       };
     }
@@ -36,5 +36,5 @@ returns-clause-legal g c =
     let x = c.args.self.now.lane in
     let right = subst (λ (v : GameView). IsRight v.lane) c.self.view_is c.keeps.ensures in
     subst (λ (asked : Option (List ℕ)). IfSome asked IsLegalRecord)
-    (sym (rw c.asks.ensures at c.asked_record.ensures ∙ asked_of c.args.command.now x.game))
+    (sym (rw c.asked_turn.ensures at c.asked_record.ensures ∙ asked_of c.args.command.now x.game))
     (legal_asked c.args.command.now x.game right.right)
