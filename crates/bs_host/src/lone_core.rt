@@ -9,7 +9,7 @@ ghost use Rattle.bs_host.specs.Live.{IsCoreOf, closing_line, next_line};
 
 use crate::limits::BLOCK_BYTES;
 use bs_board::{Plan, Row, Rows, Version};
-use bs_fiber::{Contents, SharedCommand};
+use bs_fiber::SharedCommand;
 use bs_json::{TextBuffer, push_final_line, reply_line};
 use bs_sched::{Core, Open, blocks_of};
 use bs_workers::{Run, is_settled, run_command};
@@ -106,7 +106,6 @@ pub(crate) fn answer_command(
     alloc: Global,
     core: &mut Core<BLOCK_BYTES>,
     command: &SharedCommand,
-    spent: &mut Option<Box<Contents<BLOCK_BYTES>>>,
     text: &mut Vec<u8>,
 ) -> Result<(), Run>
     ensures core { (row : GameRow) (commands : List Command) → IsCoreOf row commands core.old
@@ -114,7 +113,7 @@ pub(crate) fn answer_command(
     ensures text { (row : GameRow) (commands : List Command) → IsCoreOf row commands core.old
         → OnOk result (text.new.items ≡ text.old.items ++ next_line row commands command.now) }
 {
-    run_command(alloc, core, STAY, command, spent)?;
+    run_command(alloc, core, STAY, command)?;
     push_reply(alloc, core, text)?;
     Ok(())
 }

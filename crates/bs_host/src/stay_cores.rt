@@ -12,7 +12,7 @@ ghost use Rattle.bs_host.specs.Live.{ArePlayed, HaveCores, IsAt, act_line, closi
 use crate::limits::BLOCK_BYTES;
 use crate::lone_core::{answer_command, open_core, push_final};
 use bs_board::{Row, Version};
-use bs_fiber::{Contents, SharedCommand};
+use bs_fiber::SharedCommand;
 use bs_sched::Core;
 use bs_workers::Run;
 use std::alloc::{AllocError, Global};
@@ -22,8 +22,6 @@ use std::alloc::{AllocError, Global};
 #[derive(Drop)]
 pub(crate) struct StayCores {
     open: Vec<(usize, Core<BLOCK_BYTES>)>,
-    /// The contents of the last spent ticket, reused for the next.
-    spent: Option<Box<Contents<BLOCK_BYTES>>>,
 }
 
 fn push_core(
@@ -72,7 +70,7 @@ impl StayCores {
             let core = open_core(alloc, version, &rows[stay])?;
             push_core(&mut open, stay, core)?;
         }
-        Ok(StayCores { open, spent: None })
+        Ok(StayCores { open })
     }
 
     /// Answers the command in the open stay of that number, and appends its reply line to `text`.
@@ -91,7 +89,7 @@ impl StayCores {
             → OnOk result (text.new.items ≡ text.old.items ++ act_line plan acts (act.Hand stay command.now)) }
     {
         let at = place_of(&self.open, stay);
-        answer_command(alloc, &mut self.open[at].1, command, &mut self.spent, text)?;
+        answer_command(alloc, &mut self.open[at].1, command, text)?;
         Ok(())
     }
 

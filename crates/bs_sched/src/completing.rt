@@ -73,7 +73,7 @@ impl<const CAP: usize> Core<CAP> {
         match completed {
             Some(done) => {
                 let worker = done.ticket().worker() as usize;
-                let _spent = self.complete(worker, done);
+                self.complete(worker, done);
             }
             None => unreachable!(),
         }

@@ -16,7 +16,7 @@ use crate::event::Event;
 use crate::fiber::keeps_limits;
 use crate::games::Games;
 use bs_board::{Board, Command, KeptBoard, Reply, Row};
-use bs_fiber::{Handed, Handles, SharedCommand};
+use bs_fiber::{Contents, Handed, Handles, SharedCommand};
 use std::alloc::{AllocError, Global};
 use std::marker::Model;
 
@@ -37,6 +37,10 @@ pub const LEAST_CAPACITY: usize = 524_288;
 /// The largest worker number: an event has 32 bits for it.
 pub const MOST_WORKERS: usize = 4_294_967_295;
 
+/// The most completed tickets whose memory a core keeps for later ones: as many as games can be
+/// open.
+pub(crate) const MOST_SPARES: usize = 64;
+
 /// All stays, with the blocks of their records and the journal of their events.
 #[derive(Drop)]
 pub struct Core<const CAP: usize> {
@@ -49,6 +53,9 @@ pub struct Core<const CAP: usize> {
     pub(crate) busy: Vec<bool>,
     /// The game of each worker's last job.
     pub(crate) last_games: Vec<usize>,
+    /// The contents of completed tickets, whose memory later tickets reuse. At most as many as it
+    /// has room for.
+    pub(crate) spares: Vec<Box<Contents<CAP>>>,
 }
 
 impl<const CAP: usize> Model for Core<CAP> {
@@ -97,20 +104,11 @@ impl<const CAP: usize> Core<CAP> {
         ensures ok { OnOk result (self.new ≡ core_after CAP self.old (event.Hand game command)) }
         ensures err { OnErr result (self.new ≡ self.old) }
     {
-        self.hand_shared(game, &SharedCommand::new(alloc, command)?)
+        self.hand_handles(game, Handles::new(&SharedCommand::new(alloc, command)?)?)
     }
 
-    /// Queues a shared command without copying it: the core and its journal each keep a handle.
-    pub fn hand_shared(&mut self, game: usize, command: &SharedCommand) -> Result<(), AllocError>
-        requires game { game < length self.old.games.lanes }
-        requires open { (lane_of self.old.games.lanes game).is_open ≡ true }
-        ensures ok { OnOk result (self.new ≡ core_after CAP self.old (event.Hand game command.now)) }
-        ensures err { OnErr result (self.new ≡ self.old) }
-    {
-        self.hand_handles(game, Handles::new(command)?)
-    }
-
-    /// Queues a command whose handles the caller made.
+    /// Queues a shared command without copying it: the core and its journal keep the handles, which
+    /// the caller made before it locked the core.
     pub fn hand_handles(&mut self, game: usize, handles: Handles) -> Result<(), AllocError>
         requires game { game < length self.old.games.lanes }
         requires open { (lane_of self.old.games.lanes game).is_open ≡ true }

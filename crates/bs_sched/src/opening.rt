@@ -10,7 +10,7 @@ ghost use Rattle.bs_sched.specs.PlanBlocks.{blocks_of_all};
 ghost use Rattle.bs_sched.specs.declared.opening.Open.TheVariants as cause;
 
 use crate::busy::nobody_busy;
-use crate::cores::{Core, LEAST_CAPACITY, MOST_WORKERS};
+use crate::cores::{Core, LEAST_CAPACITY, MOST_SPARES, MOST_WORKERS};
 use crate::game::Game;
 use crate::games::Games;
 use crate::last_games::spread_games;
@@ -115,6 +115,7 @@ impl<const CAP: usize> Core<CAP> {
             out: 0,
             busy: nobody_busy(alloc, workers)?,
             last_games,
+            spares: Vec::with_capacity(alloc, MOST_SPARES)?,
         })
     }
 }

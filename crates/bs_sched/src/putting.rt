@@ -77,20 +77,27 @@ impl<const CAP: usize> Games<CAP> {
     }
 }
 
+/// Keeps the contents, unless the list is full.
+fn keep_spare<const CAP: usize>(spares: &mut Vec<Box<Contents<CAP>>>, spent: Box<Contents<CAP>>) {
+    if spares.len() < spares.capacity() {
+        spares.push_reserved(spent);
+    }
+}
+
 impl<const CAP: usize> Core<CAP> {
-    /// Completes a job of the worker, and returns the contents of its ticket. The journal has room
-    /// for the event, which `take` reserved.
-    pub(crate) fn complete(&mut self, worker: usize, done: Done<CAP>) -> Box<Contents<CAP>>
+    /// Completes a job of the worker, and keeps the memory of its ticket for a later one. The
+    /// journal has room for the event, which `take` reserved.
+    pub(crate) fn complete(&mut self, worker: usize, done: Done<CAP>)
         requires { IsOwn self.old.games worker done }
         ensures { self.new ≡ core_after CAP self.old (event.Put worker done.entry.input.job) }
     {
         let job = done.ticket().job();
         let number = done.ticket().worker();
-        let contents = self.games.complete(done);
+        let spent = self.games.complete(done);
         note(&mut self.journal, Event::Put(number, job));
         self.out -= 1;
         mark(&mut self.busy, worker, job.kind, false);
-        contents
+        keep_spare(&mut self.spares, spent);
     }
 
     /// Completes a Begin or a Join of the worker. Takes no memory. Any other done, each part
@@ -100,23 +107,10 @@ impl<const CAP: usize> Core<CAP> {
         ensures ok { OnOk result (self.new ≡ core_after CAP self.old (event.Put worker done.entry.input.job)) }
         ensures stray { IfErr result (λ stray. (stray.done ≡ done.entry) × (self.new ≡ self.old) × (IsOwnJob self.old.games worker done.entry → ⊥)) }
     {
-        let _spent = self.put_back(worker, done)?;
-        Ok(())
-    }
-
-    /// Like `put`, but returns the contents of the spent ticket, whose memory `take_over` reuses.
-    pub fn put_back(
-        &mut self,
-        worker: usize,
-        done: Done<CAP>,
-    ) -> Result<Box<Contents<CAP>>, Stray<CAP>>
-        ensures own { OnOk result (IsOwnJob self.old.games worker done.entry) }
-        ensures ok { OnOk result (self.new ≡ core_after CAP self.old (event.Put worker done.entry.input.job)) }
-        ensures stray { IfErr result (λ stray. (stray.done ≡ done.entry) × (self.new ≡ self.old) × (IsOwnJob self.old.games worker done.entry → ⊥)) }
-    {
         if !self.games.is_own_job(worker, &done) {
             return Err(Stray { done });
         }
-        Ok(self.complete(worker, done))
+        self.complete(worker, done);
+        Ok(())
     }
 }

@@ -169,13 +169,13 @@ impl<const CAP: usize> Core<CAP> {
         }
     }
 
-    /// Takes that job for the worker. Reserves room in the journal for its completion too.
+    /// Takes that job for the worker, with a ticket that reuses the memory of a completed one if
+    /// there is one. Reserves room in the journal for the job's completion too.
     fn take_job(
         &mut self,
         alloc: Global,
         worker: usize,
         job: JobName,
-        spent: Option<Box<Contents<CAP>>>,
     ) -> Result<(Ticket<CAP>, Option<PartKey<Done<CAP>>>), AllocError>
         requires enabled { is_enabled_there self.old.games.workers self.old.games.lanes (event.Take worker job) ≡ true }
         ensures ticket { IfOk result (λ taken. taken.0.input ≡ input_of (lane_of self.new.games.lanes job.game) worker job) }
@@ -188,7 +188,7 @@ impl<const CAP: usize> Core<CAP> {
     {
         let number = self.games.worker_number(worker);
         reserve_events(&mut self.journal, self.out, 2)?;
-        let taken = self.games.take_job(alloc, number, job, spent)?;
+        let taken = self.games.take_job(alloc, number, job, self.spares.pop())?;
         note(&mut self.journal, Event::Take(number, job));
         self.out += 1;
         mark(&mut self.busy, worker, job.kind, true);
@@ -203,28 +203,13 @@ impl<const CAP: usize> Core<CAP> {
         ensures ok { IfOk result (λ taken. TakesAs CAP self.old worker taken self.new) }
         ensures err { OnErr result (self.new ≡ self.old) }
     {
-        self.take_over(alloc, worker, None)
-    }
-
-    /// Like `take`, but the ticket reuses the memory of `spent`, if there is one. If no job is
-    /// taken, `spent` is dropped.
-    pub fn take_over(
-        &mut self,
-        alloc: Global,
-        worker: usize,
-        spent: Option<Box<Contents<CAP>>>,
-    ) -> Result<Taken<CAP>, AllocError>
-        requires { worker ≤ self.old.games.workers }
-        ensures ok { IfOk result (λ taken. TakesAs CAP self.old worker taken self.new) }
-        ensures err { OnErr result (self.new ≡ self.old) }
-    {
         if self.games.has_failed() {
             return Ok(Taken::Failed);
         }
         match self.find(worker) {
             Found::Busy => Ok(Taken::Busy),
             Found::Nothing => Ok(Taken::Nothing),
-            Found::Job(job) => match self.take_job(alloc, worker, job, spent)? {
+            Found::Job(job) => match self.take_job(alloc, worker, job)? {
                 (ticket, None) => Ok(Taken::Job(ticket)),
                 (ticket, Some(key)) => Ok(Taken::Part(ticket, key)),
             },

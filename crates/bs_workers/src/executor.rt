@@ -113,7 +113,7 @@ impl<const CAP: usize> Executor<CAP> {
         self.unlock(state, true);
     }
 
-    /// Makes the acts, the last of the list first. Returns false if the run is stopped.
+    /// Makes the acts of a reversed list, popping them. Returns false if the run is stopped.
     fn submit_held<R: Wait, G: Gate>(
         &self,
         rt: &R,

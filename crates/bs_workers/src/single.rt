@@ -8,23 +8,20 @@ ghost use Rattle.bs_workers.specs.Single.{IsActed, IsSettled, Makes};
 
 use crate::fault::Run;
 use bs_counter::{Finish, PartKey};
-use bs_fiber::{Contents, Done, SharedCommand, Ticket, work};
+use bs_fiber::{Done, Handles, SharedCommand, Ticket, work};
 use bs_sched::{Core, Taken};
 use std::alloc::Global;
 
 /// The core's worker that runs all jobs.
 const WORKER: usize = 0;
 
-/// Completes a Begin or a Join, and returns the contents of its ticket.
+/// Completes a Begin or a Join.
 #[tactic(auto, using(crate::proofs::ActsMade::makes_none, crate::proofs::ActsMade::makes_no_act))]
-fn complete<const CAP: usize>(
-    core: &mut Core<CAP>,
-    done: Done<CAP>,
-) -> Result<Box<Contents<CAP>>, Run>
+fn complete<const CAP: usize>(core: &mut Core<CAP>, done: Done<CAP>) -> Result<(), Run>
     ensures { Makes core.old [] core.new }
 {
-    match core.put_back(WORKER, done) {
-        Ok(contents) => Ok(contents),
+    match core.put(WORKER, done) {
+        Ok(()) => Ok(()),
         Err(_) => Err(Run::Broken),
     }
 }
@@ -35,7 +32,7 @@ fn run_job<const CAP: usize>(
     alloc: Global,
     core: &mut Core<CAP>,
     ticket: Ticket<CAP>,
-) -> Result<Box<Contents<CAP>>, Run>
+) -> Result<(), Run>
     requires { IsFresh ticket }
     ensures { Makes core.old [] core.new }
 {
@@ -81,16 +78,12 @@ fn run_part<const CAP: usize>(
 
 /// Takes a job and runs it. Returns false if no job is ready.
 #[tactic(auto, using(crate::proofs::ActsMade::makes_none, crate::proofs::ActsMade::makes_taken, crate::proofs::ActsMade::makes_nothing))]
-fn run_next<const CAP: usize>(
-    alloc: Global,
-    core: &mut Core<CAP>,
-    spent: &mut Option<Box<Contents<CAP>>>,
-) -> Result<bool, Run>
+fn run_next<const CAP: usize>(alloc: Global, core: &mut Core<CAP>) -> Result<bool, Run>
     ensures { Makes core.old [] core.new }
 {
-    match core.take_over(alloc, WORKER, spent.take())? {
+    match core.take(alloc, WORKER)? {
         Taken::Job(ticket) => {
-            *spent = Some(run_job(alloc, core, ticket)?);
+            run_job(alloc, core, ticket)?;
             Ok(true)
         }
         Taken::Part(ticket, key) => {
@@ -105,18 +98,14 @@ fn run_next<const CAP: usize>(
 
 /// Runs jobs until nothing is left to do.
 #[tactic(auto, using(crate::proofs::ActsMade::makes_none, crate::proofs::ActsMade::makes_nothing))]
-fn run_all<const CAP: usize>(
-    alloc: Global,
-    core: &mut Core<CAP>,
-    spent: &mut Option<Box<Contents<CAP>>>,
-) -> Result<(), Run>
+fn run_all<const CAP: usize>(alloc: Global, core: &mut Core<CAP>) -> Result<(), Run>
     ensures { Makes core.old [] core.new }
 {
     for _ in 0..u64::MAX {
         if core.is_quiet() {
             break;
         }
-        if !run_next(alloc, core, spent)? {
+        if !run_next(alloc, core)? {
             break;
         }
     }
@@ -134,7 +123,7 @@ fn hand<const CAP: usize>(
     if stay >= core.rows() || !core.is_open(stay) {
         return Err(Run::Broken);
     }
-    core.hand_shared(stay, command)?;
+    core.hand_handles(stay, Handles::new(command)?)?;
     Ok(())
 }
 
@@ -148,20 +137,19 @@ pub fn is_settled<const CAP: usize>(core: &Core<CAP>) -> bool
 }
 
 /// Queues the command for the game of that row and runs all jobs on the calling thread, which must
-/// have all of the core's jobs. Afterwards the command is answered and the core is idle. Keeps the
-/// memory of a spent ticket in `spent` for the next call. After an error the core must not be used.
+/// have all of the core's jobs. Afterwards the command is answered and the core is idle. After an
+/// error the core must not be used.
 #[tactic(auto, using(crate::proofs::ActsMade::acted))]
 pub fn run_command<const CAP: usize>(
     alloc: Global,
     core: &mut Core<CAP>,
     stay: usize,
     command: &SharedCommand,
-    spent: &mut Option<Box<Contents<CAP>>>,
 ) -> Result<(), Run>
     ensures { OnOk result (IsActed core.old (act.Hand stay command.now) core.new) }
 {
     hand(core, stay, command)?;
-    run_all(alloc, core, spent)?;
+    run_all(alloc, core)?;
     if is_settled(core) {
         Ok(())
     } else {

@@ -142,11 +142,8 @@ impl<const CAP: usize> State<CAP> {
         }
         for done in worker.done.drain(..) {
             let number = done.ticket().worker() as usize;
-            match self.core.put_back(number, done) {
-                Ok(contents) => {
-                    let _kept = worker.spent.push(contents);
-                }
-                Err(_) => self.fail(Run::Broken),
+            if self.core.put(number, done).is_err() {
+                self.fail(Run::Broken);
             }
         }
     }
@@ -166,8 +163,7 @@ impl<const CAP: usize> State<CAP> {
         if number > self.core.workers() {
             return Err(self.end(Run::Broken));
         }
-        let spent = worker.spent.pop();
-        let job = match self.core.take_over(worker.alloc, number, spent) {
+        let job = match self.core.take(worker.alloc, number) {
             Ok(Taken::Job(ticket)) => Job { ticket, key: None },
             Ok(Taken::Part(ticket, key)) => Job {
                 ticket,
@@ -185,14 +181,14 @@ impl<const CAP: usize> State<CAP> {
         }
     }
 
-    /// Takes a batch of jobs for the worker, whose results made at most `ready` jobs ready. Each of
-    /// its numbers takes up to four jobs, and stops after a Begin or a Join. While other threads
-    /// wait, `ready / (waiting + 1)` of its numbers take one job each, at least one number and at
-    /// most all. A worker with a single number takes one job.
-    fn take_batch(&mut self, worker: &mut Worker<CAP>, ready: usize) -> Result<(), Next> {
+    /// Takes a batch of jobs for the worker, whose results gave work to `games` games. Each of its
+    /// numbers takes up to four jobs, and stops after a Begin or a Join. While other threads wait,
+    /// `games / (waiting + 1)` of its numbers take one job each, at least one number and at most
+    /// all. A worker with a single number takes one job.
+    fn take_batch(&mut self, worker: &mut Worker<CAP>, games: usize) -> Result<(), Next> {
         let all = worker.numbers.max(1);
         let (numbers, most) = if self.waiting > 0 {
-            let share = ready / self.waiting.saturating_add(1);
+            let share = games / self.waiting.saturating_add(1);
             (share.clamp(1, all), 1)
         } else if all > 1 {
             (all, MOST_PARTS)
@@ -219,16 +215,17 @@ impl<const CAP: usize> State<CAP> {
 
     /// Records the worker's fault, completes its results, and takes its next batch of jobs. If the
     /// caller's thread waits until a game can leave, a thread that completes something wakes it.
+    /// Results of a single game wake nobody else: a wake-up takes longer than the parts of a move.
     pub(crate) fn complete_and_take(&mut self, worker: &mut Worker<CAP>) -> Next {
-        let ready = worker.count_ready();
-        let wakes = self.is_leaving && ready > 0;
+        let games = worker.count_results();
+        let wakes = self.is_leaving && games > 0;
         self.complete(worker);
         if self.fault.is_some() {
             return Next::End;
         }
-        match self.take_batch(worker, ready) {
+        match self.take_batch(worker, games) {
             Ok(()) => Next::Work {
-                wakes: wakes || (self.waiting > 0 && ready > 1),
+                wakes: wakes || (self.waiting > 0 && games > 1),
             },
             Err(_) if !worker.jobs.is_empty() => Next::Work { wakes },
             Err(Next::Wait { wakes: _ }) => Next::Wait { wakes },

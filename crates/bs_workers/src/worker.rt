@@ -8,7 +8,7 @@ use crate::fault::Run;
 use crate::gate::Gate;
 use arrayvec::ArrayVec;
 use bs_counter::{Finish, PartKey};
-use bs_fiber::{Contents, Done, Out, Parts, Stopped, Ticket, work};
+use bs_fiber::{Done, Stopped, Ticket, work};
 use std::alloc::{AllocError, Global};
 
 /// The largest number of parts of a move, and of jobs that a worker number takes in one batch.
@@ -40,8 +40,6 @@ pub(crate) struct Worker<const CAP: usize> {
     pub(crate) done: Vec<Done<CAP>>,
     /// The parts of the moves whose last part this thread finished, to be completed.
     pub(crate) moves: Vec<ArrayVec<Option<Done<CAP>>, 4>>,
-    /// The contents of completed tickets. New tickets reuse their memory.
-    pub(crate) spent: Vec<Box<Contents<CAP>>>,
     /// A job for which memory ran out, and its key.
     failed: Option<(Option<PartKey<Done<CAP>>>, Stopped<CAP>)>,
     /// Why a job was not run to its end. After that no further job is run.
@@ -66,29 +64,14 @@ impl<const CAP: usize> Worker<CAP> {
             jobs: Vec::with_capacity(alloc, room)?,
             done: Vec::with_capacity(alloc, room)?,
             moves: Vec::with_capacity(alloc, room)?,
-            spent: Vec::with_capacity(alloc, room)?,
             failed: None,
             fault: None,
         })
     }
 
-    /// Estimates how many jobs its results make ready: two parts for a Begin whose move is
-    /// accepted, one job for any other result.
-    pub(crate) fn count_ready(&self) -> usize {
-        let mut ready = self.done.len().saturating_add(self.moves.len());
-        for done in self.done.as_slice() {
-            if matches!(done.out(), Out::Goes) {
-                ready = ready.saturating_add(1);
-            }
-        }
-        ready
-    }
-
-    /// Frees the moved snakes of the spent tickets, which would otherwise be freed under the lock.
-    fn clear_spent(&mut self) {
-        for contents in self.spent.iter_mut() {
-            contents.input.parts = Parts::from_vec(Vec::new(self.alloc));
-        }
+    /// The number of its results, each of another game: a Begin, a Join, or all parts of a move.
+    pub(crate) fn count_results(&self) -> usize {
+        self.done.len().saturating_add(self.moves.len())
     }
 
     /// Runs the job, and finishes a part by its key. Keeps a Begin's or Join's result, or all parts
@@ -132,7 +115,6 @@ impl<const CAP: usize> Worker<CAP> {
 
     /// Runs the jobs, and records why one was not run to its end.
     pub(crate) fn run_jobs<G: Gate>(&mut self, gate: &G) {
-        self.clear_spent();
         self.fault = self.run_until_fault(gate).err();
     }
 }

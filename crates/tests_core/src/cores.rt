@@ -6,7 +6,7 @@ use crate::player::{
 use arrayvec::ArrayVec;
 use bs_board::{Command, Direction, Refusal, Reply, TurnNumber, Word};
 use bs_counter::{PartKey, Parted};
-use bs_fiber::{Contents, Done, Handles, Input, JobKind, JobName, SharedCommand, Ticket, work};
+use bs_fiber::{Done, Handles, JobKind, JobName, SharedCommand, Ticket, work};
 use bs_samples::{holds, new_of_three, new_solo, plan_of, same, straight_on, third_goes};
 use bs_sched::{Core, Counts, Open, Taken, blocks_of, blocks_of_all};
 use std::alloc::Global;
@@ -35,29 +35,24 @@ fn check_last(core: &Core<CAP>, ticket: &Ticket<CAP>) -> Result<(), Fail> {
     same("newest record", last.as_slice(), core.records(0, 0))
 }
 
-/// Checks the input of the spent ticket of the first command.
-fn check_spent(input: &Input) -> Result<(), Fail> {
-    same("number of the command", input.seq, 1)?;
-    same("kept records", input.kept, 0)?;
-    holds("no newest record", input.last.is_none())
+/// Checks the ticket of the first command.
+fn check_first_ticket(ticket: &Ticket<CAP>) -> Result<(), Fail> {
+    same("number of the command", ticket.seq(), 1)?;
+    same("kept records", ticket.kept(), 0)?;
+    holds("no newest record", ticket.last().is_none())
 }
 
-/// Plays the first command as worker 0. Returns the contents of its ticket.
-fn play_first(alloc: Global, core: &mut Core<CAP>) -> Result<Box<Contents<CAP>>, Fail> {
+/// Plays the first command as worker 0.
+fn play_first(alloc: Global, core: &mut Core<CAP>) -> Result<(), Fail> {
     let done = take_done(alloc, core, 0)?;
-    let spent = core.put_back(0, done).map_err(|_| Fail::from("a stray"))?;
-    check_spent(&spent.input)?;
-    Ok(spent)
+    check_first_ticket(done.ticket())?;
+    put(core, 0, done)
 }
 
-/// Takes the second command as worker 0, in the memory of a spent ticket, and runs it.
-fn take_second(
-    alloc: Global,
-    core: &mut Core<CAP>,
-    spent: Box<Contents<CAP>>,
-) -> Result<Done<CAP>, Fail> {
+/// Takes the second command as worker 0, and runs it.
+fn take_second(alloc: Global, core: &mut Core<CAP>) -> Result<Done<CAP>, Fail> {
     holds("two workers", core.workers() == 2)?;
-    let Taken::Job(ticket) = core.take_over(alloc, 0, Some(spent))? else {
+    let Taken::Job(ticket) = core.take(alloc, 0)? else {
         return Err(Fail::from("no job"));
     };
     check_second_ticket(&ticket)?;
@@ -68,13 +63,13 @@ fn take_second(
 /// Plays two commands, the second in the memory of the first one's ticket.
 fn play_over(alloc: Global, core: &mut Core<CAP>) -> Result<(), Fail> {
     hand(alloc, core, 0, Command::Show)?;
-    let spent = play_first(alloc, core)?;
-    let done = take_second(alloc, core, spent)?;
+    play_first(alloc, core)?;
+    let done = take_second(alloc, core)?;
     put(core, 0, done)?;
     holds("quiet", core.is_quiet())
 }
 
-/// A ticket that was spent on `new` becomes that of `show`: everything in it is the second
+/// The ticket of `show` reuses the memory of that of `new`: everything in it is the second
 /// command's.
 #[test]
 fn a_ticket_takes_the_place_of_a_spent_one(rt: HostRuntime) -> Result<(), Fail> {
@@ -488,13 +483,6 @@ fn quota_of_two_records(rt: HostRuntime) -> Result<(), Fail> {
     check_over_quota(alloc, &core)
 }
 
-/// Queues a shared command.
-fn hand_shared(core: &mut Core<CAP>, shared: &SharedCommand) -> Result<(), Fail> {
-    holds("a game", core.rows() == 1)?;
-    holds("an open game", core.is_open(0))?;
-    Ok(core.hand_shared(0, shared)?)
-}
-
 /// Queues a shared command by handles that were made before.
 fn hand_handles(core: &mut Core<CAP>, handles: Handles) -> Result<(), Fail> {
     holds("a game", core.rows() == 1)?;
@@ -505,7 +493,7 @@ fn hand_handles(core: &mut Core<CAP>, handles: Handles) -> Result<(), Fail> {
 /// Opens a core of that game in which the same command was queued twice.
 fn core_with_shared(alloc: Global, name: &str, shared: &SharedCommand) -> Result<Core<CAP>, Fail> {
     let mut core = core_of_one(alloc, name, 4096)?;
-    hand_shared(&mut core, shared)?;
+    hand_handles(&mut core, Handles::new(shared)?)?;
     hand_handles(&mut core, Handles::new(shared)?)?;
     Ok(core)
 }

@@ -160,29 +160,36 @@ fn check_names(core: &Core<CAP>) -> Result<(), Fail> {
     same("second game", core.row(1).game.as_str(), "b")
 }
 
-/// Delays the parts until two are out.
+/// Delays the two parts of a move in game 0 until both have begun, and the Begins of game 1, which
+/// keep a thread awake, until part 0 has begun.
 #[derive(Drop)]
 struct Meeting {
     first: AtomicBool,
     second: AtomicBool,
 }
 
-/// Sets its own flag and waits for the other's. Returns false if that is never set.
-fn meet(own: &AtomicBool, other: &AtomicBool) -> bool {
-    own.store(true, SeqCst);
+/// Waits for the flag. Returns false if it is never set.
+fn wait_for(flag: &AtomicBool) -> bool {
     for _ in 0..1_000_000_000u32 {
-        if other.load(SeqCst) {
+        if flag.load(SeqCst) {
             return true;
         }
     }
     false
 }
 
+/// Sets its own flag and waits for the other's. Returns false if that is never set.
+fn meet(own: &AtomicBool, other: &AtomicBool) -> bool {
+    own.store(true, SeqCst);
+    wait_for(other)
+}
+
 impl Gate for Meeting {
     fn at(&self, _worker: usize, job: JobName) -> bool {
-        match (job.kind, job.part) {
-            (JobKind::Part, 0) => meet(&self.first, &self.second),
-            (JobKind::Part, 1) => meet(&self.second, &self.first),
+        match (job.game, job.kind, job.part) {
+            (0, JobKind::Part, 0) => meet(&self.first, &self.second),
+            (0, JobKind::Part, 1) => meet(&self.second, &self.first),
+            (1, JobKind::Begin, _) => wait_for(&self.first),
             _ => true,
         }
     }
@@ -194,6 +201,7 @@ fn two_threads_are_at_one_move(rt: HostRuntime) -> Result<(), Fail> {
     let mut acts = Vec::new(alloc);
     push(alloc, &mut acts, 0, new_of_three(alloc)?)?;
     push(alloc, &mut acts, 0, third_goes(alloc, Direction::Down)?)?;
+    push(alloc, &mut acts, 1, new_of_three(alloc)?)?;
     let gate = Meeting {
         first: AtomicBool::new(false),
         second: AtomicBool::new(false),

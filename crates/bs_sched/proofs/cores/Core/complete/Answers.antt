@@ -27,6 +27,6 @@ invariant_of-self g c =
     let capacity = c.note.ensures.capacity in
     let room = c.self.invariant.room in
     let marks : c.mark.new.busy.items ≡ marked c.args.done.input.job.kind c.args.worker false inside.busy.items = rw (c.mark.ensures, job) refl in
-    journaled_after g.row.CAP inside e _ c.self.invariant enabled tt c.complete-contents.ensures items fewer (omega (arith, counted, less, len, capacity, room))
+    journaled_after g.row.CAP inside e _ c.self.invariant enabled tt c.complete-spent.ensures items fewer (omega (arith, counted, less, len, capacity, room))
     (subst (IsBusyTable inside.games.workers (lane_effect inside.games.lanes e)) (sym marks)
     (put_marks inside.games.workers inside.games.lanes inside.busy.items c.args.worker c.args.done.input.job enabled c.self.invariant.busy))
