@@ -3,8 +3,8 @@ use Rattle.std.specs.Prelude.{◌≡◌, ℕ, true, false, Option, Some, None}
 use Rattle.bs_board.specs.declared.commands.command.Command.{Command}
 use Rattle.bs_board.specs.declared.commands.command.Command.TheVariants as command
 use Rattle.bs_game.specs.Reasons.{is_move}
-use Rattle.bs_fiber.specs.declared.handed.BeginData.{BeginData}
-use Rattle.bs_fiber.specs.declared.handed.BeginData.TheVariants as begin
+use Rattle.bs_fiber.specs.declared.queued.BeginData.{BeginData}
+use Rattle.bs_fiber.specs.declared.queued.BeginData.TheVariants as begin
 
 -- the turn whose board a command names
 abbrev pub asked_turn : Command → Option ℕ

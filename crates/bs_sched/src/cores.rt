@@ -16,7 +16,7 @@ use crate::event::Event;
 use crate::fiber::keeps_limits;
 use crate::games::Games;
 use bs_board::{Board, Command, KeptBoard, Reply, Row};
-use bs_fiber::{Handed, Handles, SharedCommand};
+use bs_fiber::{Handles, QueuedCommand, SharedCommand};
 use std::alloc::{AllocError, Global};
 use std::marker::Model;
 
@@ -118,10 +118,10 @@ impl<const CAP: usize> Core<CAP> {
         ensures err { OnErr result (self.new ≡ self.old) }
     {
         keeps_limits(handles.get());
-        let (handed, noted) = handles.into_parts();
+        let (queued, noted) = handles.into_parts();
         let row = self.games.row_number(game);
         reserve_events(&mut self.journal, self.out, 1)?;
-        self.games.hand(game, handed)?;
+        self.games.hand(game, queued)?;
         note(&mut self.journal, Event::Hand(row, noted));
         Ok(())
     }
@@ -184,7 +184,7 @@ impl<const CAP: usize> Core<CAP> {
     }
 
     /// The commands that were taken, in order.
-    pub fn taken(&self, game: usize) -> &[Handed]
+    pub fn taken(&self, game: usize) -> &[QueuedCommand]
         requires { game < length self.now.games.lanes }
         ensures { result.now ≡ (lane_of self.now.games.lanes game).taken }
     {

@@ -11,7 +11,7 @@ ghost use Rattle.bs_sched.specs.LastBoards.{last_after};
 use crate::stage::Stage;
 use bs_board::limits::MOST_QUOTA;
 use bs_board::{Command, KeptBoard, Record, Reply, Row};
-use bs_fiber::{Handed, JobKind, SharedCommand};
+use bs_fiber::{JobKind, QueuedCommand, SharedCommand};
 use bs_game::{Answer, Effect};
 use std::alloc::{AllocError, Global};
 use std::marker::Model;
@@ -22,7 +22,7 @@ pub(crate) struct Fiber {
     /// The charge of the records when the stay left, if it has.
     left: Option<u32>,
     /// All queued commands. The first `begun` were taken.
-    commands: Vec<Handed>,
+    commands: Vec<QueuedCommand>,
     begun: usize,
     replies: Vec<Reply>,
     stage: Stage,
@@ -174,7 +174,7 @@ impl Fiber {
     }
 
     /// Queues a command.
-    pub(crate) fn hand(&mut self, command: Handed) -> Result<(), AllocError>
+    pub(crate) fn hand(&mut self, command: QueuedCommand) -> Result<(), AllocError>
         requires { self.old.is_open ≡ true }
         ensures ok { OnOk result (self.new ≡ with_waiting command self.old) }
         ensures err { OnErr result (self.new ≡ self.old) }
@@ -245,14 +245,14 @@ impl Fiber {
     }
 
     /// The commands that were taken.
-    pub(crate) fn taken(&self) -> &[Handed]
+    pub(crate) fn taken(&self) -> &[QueuedCommand]
         ensures { result.now ≡ self.now.taken }
     {
         &self.commands.as_slice()[..self.begun]
     }
 
     /// The command that is taken next.
-    pub(crate) fn next(&self) -> &Handed
+    pub(crate) fn next(&self) -> &QueuedCommand
         requires { 0 < length self.now.waiting }
         ensures { result.now ≡ lane_command (with_taken 0 kind.Begin 0 self.now) }
     {
@@ -269,7 +269,7 @@ impl Fiber {
     }
 
     /// The command that is being answered.
-    pub(crate) fn command(&self) -> &Handed
+    pub(crate) fn command(&self) -> &QueuedCommand
         requires { is_idle self.now.stage ≡ false }
         ensures { result.now ≡ lane_command self.now }
     {

@@ -32,7 +32,9 @@ use crate::plan_blocks::{MOST_STAYS, record_tag};
 use crate::stage::MOST_PARTS;
 use bs_board::{Board, KeptBoard, Reply, Row, TurnNumber};
 use bs_counter::{PartKey, Tally, TallyName};
-use bs_fiber::{Contents, Done, Expected, Handed, JobKind, JobName, Moved, Out, Parts, Ticket};
+use bs_fiber::{
+    Contents, Done, Expected, JobKind, JobName, Moved, Out, Parts, QueuedCommand, Ticket,
+};
 use bs_game::{Answer, Effect, place_of_turn};
 use bs_heap::TagHeap;
 use bs_pool::{Owned, Pool};
@@ -59,7 +61,7 @@ impl<const CAP: usize> Model for Game<CAP> {
 }
 
 /// Opens a tally and returns its name and keys if the next command is a move, a game runs and the
-/// game is not over; else returns no keys. Reads the data kept with the command (`Handed`), not the
+/// game is not over; else returns no keys. Reads the data kept with the command (`QueuedCommand`), not the
 /// command.
 fn open_keys<const CAP: usize>(
     alloc: Global,
@@ -132,7 +134,7 @@ impl<const CAP: usize> Game<CAP> {
     }
 
     /// Queues a command.
-    pub(crate) fn hand(&mut self, command: Handed) -> Result<(), AllocError>
+    pub(crate) fn hand(&mut self, command: QueuedCommand) -> Result<(), AllocError>
         requires { self.old.lane.is_open ≡ true }
         ensures ok { OnOk result (self.new ≡ handed_game command self.old) }
         ensures err { OnErr result (self.new ≡ self.old) }
@@ -155,7 +157,7 @@ impl<const CAP: usize> Game<CAP> {
     }
 
     /// The commands that were taken.
-    pub(crate) fn taken(&self) -> &[Handed]
+    pub(crate) fn taken(&self) -> &[QueuedCommand]
         ensures { result.now ≡ self.now.lane.taken }
     {
         self.fiber.taken()
@@ -306,7 +308,7 @@ impl<const CAP: usize> Game<CAP> {
     /// Makes the input that a job of that command is expected to have.
     fn expected<'a>(
         &'a self,
-        command: &'a Handed,
+        command: &'a QueuedCommand,
         seq: u64,
         worker: u32,
         job: JobName,

@@ -14,7 +14,7 @@ use crate::cores::Counts;
 use crate::game::Game;
 use crate::plan_blocks::MOST_STAYS;
 use bs_board::Rows;
-use bs_fiber::Handed;
+use bs_fiber::QueuedCommand;
 use bs_pool::Pool;
 use std::alloc::AllocError;
 use std::marker::Model;
@@ -69,7 +69,7 @@ impl<const CAP: usize> Games<CAP> {
     }
 
     /// Queues a command for that stay.
-    pub(crate) fn hand(&mut self, game: usize, command: Handed) -> Result<(), AllocError>
+    pub(crate) fn hand(&mut self, game: usize, command: QueuedCommand) -> Result<(), AllocError>
         requires game { game < length self.old.lanes }
         requires open { (lane_of self.old.lanes game).is_open ≡ true }
         ensures ok { OnOk result (self.new ≡ after CAP self.old (event.Hand game command)) }

@@ -8,8 +8,8 @@ use bs_board::{
     is_legal,
 };
 use bs_fiber::{
-    Contents, Done, Expected, Handed, Handles, Input, JobKind, JobName, Moved, Out, SharedCommand,
-    Ticket,
+    Contents, Done, Expected, Handles, Input, JobKind, JobName, Moved, Out, QueuedCommand,
+    SharedCommand, Ticket,
 };
 use bs_game::{Answer, Effect};
 use bs_pool::Owned;
@@ -208,12 +208,12 @@ fn an_expected_input_is_made(rt: HostRuntime) -> Result<(), Fail> {
 fn a_handed_move_has_a_handle(rt: HostRuntime) -> Result<(), Fail> {
     let alloc = rt.alloc();
     let moved = SharedCommand::new(alloc, third_goes_down(alloc)?)?;
-    let mut handed = Handed::new(&moved)?;
-    check_handed(&handed, moved.get(), None, true)?;
-    let handle = handed.take_handle().ok_or("a handle")?;
+    let mut queued = QueuedCommand::new(&moved)?;
+    check_handed(&queued, moved.get(), None, true)?;
+    let handle = queued.take_handle().ok_or("a handle")?;
     check_shares(&handle, moved.get())?;
-    check_no_handle(&mut handed)?;
-    holds("still a move", handed.is_move())
+    check_no_handle(&mut queued)?;
+    holds("still a move", queued.is_move())
 }
 
 /// Checks that it is a handle to the command.
@@ -223,18 +223,18 @@ fn check_shares(handle: &SharedCommand, command: &Command) -> Result<(), Fail> {
 
 /// Checks the queued command, the turn that it asks for, and whether it is a move.
 fn check_handed(
-    handed: &Handed,
+    queued: &QueuedCommand,
     command: &Command,
     asked_turn: Option<TurnNumber>,
     is_move: bool,
 ) -> Result<(), Fail> {
-    same("turn asked for", handed.asked_turn(), asked_turn)?;
-    same("a move", handed.is_move(), is_move)?;
-    check_shares(handed.shared(), command)
+    same("turn asked for", queued.asked_turn(), asked_turn)?;
+    same("a move", queued.is_move(), is_move)?;
+    check_shares(queued.shared(), command)
 }
 
-fn check_no_handle(handed: &mut Handed) -> Result<(), Fail> {
-    holds("no handle", handed.take_handle().is_none())
+fn check_no_handle(queued: &mut QueuedCommand) -> Result<(), Fail> {
+    holds("no handle", queued.take_handle().is_none())
 }
 
 /// A queued `turn` has the turn that it names, and no handle.
@@ -243,10 +243,10 @@ fn a_handed_turn_has_its_number(rt: HostRuntime) -> Result<(), Fail> {
     let alloc = rt.alloc();
     let at = TurnNumber::new(7).ok_or("a turn")?;
     let turn = SharedCommand::new(alloc, Command::Turn(at))?;
-    let (mut handed, noted) = Handles::new(&turn)?.into_parts();
-    check_handed(&handed, turn.get(), Some(at), false)?;
-    check_no_handle(&mut handed)?;
-    check_shares(handed.shared(), turn.get())?;
+    let (mut queued, noted) = Handles::new(&turn)?.into_parts();
+    check_handed(&queued, turn.get(), Some(at), false)?;
+    check_no_handle(&mut queued)?;
+    check_shares(queued.shared(), turn.get())?;
     check_shares(&noted, turn.get())
 }
 

@@ -19,10 +19,10 @@ invariant_of-self-2 g c =
     let there : nat_lt c.args.game (length inside.games.lanes) ≡ true = lt-ltb _ _ within in
     let enabled : is_enabled_there inside.games.workers inside.games.lanes e ≡ true = rw (there, stands) refl in
     let items : c.note.new.journal.items ≡ inside.journal.items ++ e ∷ []
-    = rw (c.note.ensures.items, c.into_parts-handed.ensures.noted, c.row_number-row.ensures, c.reserve_events.ensures.items) refl in
+    = rw (c.note.ensures.items, c.into_parts-queued.ensures.noted, c.row_number-row.ensures, c.reserve_events.ensures.items) refl in
     let len = c.note.ensures.len in
     let capacity = c.note.ensures.capacity in
     let room = c.in_ok-reserve_events.ensures.room in
-    journaled_after g.row.CAP inside e _ c.self.invariant enabled (rw c.get.ensures at c.keeps_limits.ensures) (rw c.into_parts-handed.ensures.handed at c.in_ok-hand.ensures.ok) items
+    journaled_after g.row.CAP inside e _ c.self.invariant enabled (rw c.get.ensures at c.keeps_limits.ensures) (rw c.into_parts-queued.ensures.queued at c.in_ok-hand.ensures.ok) items
     (c.self.invariant.out ∙ sym (as_many_handed inside.games.lanes c.args.game command within)) (omega (arith, len, capacity, room))
     (hand_marks_none inside.games.workers inside.games.lanes inside.busy.items c.args.game command within c.self.invariant.busy)

@@ -56,12 +56,12 @@ fn handle_in(begin: BeginData) -> Option<SharedCommand>
 /// Begin is taken under a lock, and by then the command itself is in no processor cache. Contracts
 /// see the command.
 #[derive(Debug, Drop)]
-pub struct Handed {
+pub struct QueuedCommand {
     command: SharedCommand,
     begin: BeginData,
 }
 
-impl Model for Handed {
+impl Model for QueuedCommand {
     ghost use Rattle.bs_board.specs.declared.commands.command.Command.{Command};
     ghost use Rattle.bs_fiber.specs.Asking.{IsBeginDataOf};
 
@@ -72,15 +72,15 @@ impl Model for Handed {
     ghost invariant = { λ h. IsBeginDataOf h.command h.begin };
 }
 
-const _: () = prove!(size_of::<Handed>() == 24);
+const _: () = prove!(size_of::<QueuedCommand>() == 24);
 
-impl Handed {
+impl QueuedCommand {
     /// Makes a handle to the command, and another one for the Begin of a setup or a move. Fails if
     /// the number of the command's handles would overflow.
-    pub fn new(command: &SharedCommand) -> Result<Handed, AllocError>
-        ensures { IfOk result (λ handed. handed ≡ command.now) }
+    pub fn new(command: &SharedCommand) -> Result<QueuedCommand, AllocError>
+        ensures { IfOk result (λ queued. queued ≡ command.now) }
     {
-        Ok(Handed {
+        Ok(QueuedCommand {
             command: command.share()?,
             begin: begin_data(command)?,
         })
@@ -135,11 +135,11 @@ impl Handed {
     }
 }
 
-/// What a core keeps of a command: its game's `Handed`, and the journal's handle. The caller makes
+/// What a core keeps of a command: its game's `QueuedCommand`, and the journal's handle. The caller makes
 /// both before it locks the core. Contracts see the command.
 #[derive(Debug, Drop)]
 pub struct Handles {
-    handed: Handed,
+    queued: QueuedCommand,
     noted: SharedCommand,
 }
 
@@ -149,9 +149,9 @@ impl Model for Handles {
 
     ghost Value = { Command };
 
-    ghost view = { λ h. h.handed };
+    ghost view = { λ h. h.queued };
 
-    ghost invariant = { λ h. h.noted ≡ h.handed };
+    ghost invariant = { λ h. h.noted ≡ h.queued };
 }
 
 impl Handles {
@@ -160,7 +160,7 @@ impl Handles {
         ensures { IfOk result (λ handles. handles ≡ command.now) }
     {
         Ok(Handles {
-            handed: Handed::new(command)?,
+            queued: QueuedCommand::new(command)?,
             noted: command.share()?,
         })
     }
@@ -173,11 +173,11 @@ impl Handles {
     }
 
     /// The game's handle and the journal's.
-    pub fn into_parts(self) -> (Handed, SharedCommand)
-        ensures handed { result.0 ≡ self }
+    pub fn into_parts(self) -> (QueuedCommand, SharedCommand)
+        ensures queued { result.0 ≡ self }
         ensures noted { result.1 ≡ self }
     {
-        let Handles { handed, noted } = self;
-        (handed, noted)
+        let Handles { queued, noted } = self;
+        (queued, noted)
     }
 }
