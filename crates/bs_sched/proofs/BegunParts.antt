@@ -16,8 +16,8 @@ use Rattle.bs_sched.specs.declared.event.Event.{Event}
 use Rattle.bs_sched.specs.declared.event.Event.TheVariants as event
 use Rattle.bs_sched.specs.declared.stage.Stage.{Stage}
 use Rattle.bs_sched.specs.declared.stage.Stage.TheVariants as stage
-use Rattle.bs_sched.specs.declared.stage.PartState.{PartState}
-use Rattle.bs_sched.specs.declared.stage.PartState.TheVariants as part
+use Rattle.bs_sched.specs.PartState.{PartState}
+use Rattle.bs_sched.specs.PartState as part
 use Rattle.bs_sched.specs.Courses.{IsRight}
 use Rattle.bs_sched.specs.FrameEffects.{Keeps, Forks, begun_parts, brought_effect, frame_effect, is_begun, numbers_after, taken_effect}
 use Rattle.bs_sched.specs.Frames.{flattened}

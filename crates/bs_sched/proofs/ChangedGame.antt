@@ -1,8 +1,9 @@
 -- One stay after an event: its heap and its frames still match its lane, and its blocks are its own.
-use Rattle.std.proofs.Common.{◌≡◌, ◌≢◌, ℕ, ◌<◌, ◌≤◌, Bool, true, false, List, [], length, map, Option, Some, None, Result, Ok, Err, refl, sym, ap, subst, ◌∙◌, arith}
-use Rattle.std.specs.Prelude.{if◌then◌else◌, slice_index_or, OnOk, OnErr}
-use Rattle.std.specs.List.{list_all, range_with_len}
+use Rattle.std.proofs.Common.{◌≡◌, ◌≢◌, ℕ, ◌<◌, ◌≤◌, true, false, List, [], length, map, Option, Some, None, Result, Ok, Err, refl, sym, ap, subst, ◌∙◌, arith}
+use Rattle.std.specs.Prelude.{slice_index_or, slice_set, OnOk, OnErr}
+use Rattle.std.specs.List.{range_with_len}
 use Rattle.std.proofs.lemmas.Bool.{cond-true}
+use Rattle.std.proofs.lemmas.List.{length-set}
 use Rattle.bs_board.specs.plans.Plan.{GameRow}
 use Rattle.bs_board.specs.declared.boards.snake.Snake.{Snake}
 use Rattle.bs_board.specs.declared.commands.command.Command.{Command}
@@ -19,25 +20,31 @@ use Rattle.bs_heap.specs.Packing.{numbers_of}
 use Rattle.bs_pool.specs.Ledger.{Ledger}
 use Rattle.bs_pool.specs.Reservations.{reserved_by}
 use Rattle.bs_sched.specs.declared.game.Game.TheInside.{Inside}
-use Rattle.bs_sched.specs.declared.stage.PartState.{PartState}
-use Rattle.bs_sched.specs.declared.stage.PartState.TheVariants as part
+use Rattle.bs_sched.specs.PartState.{PartState}
+use Rattle.bs_sched.specs.PartState as part
 use Rattle.bs_sched.specs.declared.stage.Stage.{Stage}
 use Rattle.bs_sched.specs.declared.stage.Stage.TheVariants as stage
 use Rattle.bs_sched.specs.Courses.{IsRight}
-use Rattle.bs_sched.specs.Frames.{AreFramesAt, FitFrames, FramesView, LeavesBut, idle_frames, flattened}
-use Rattle.bs_sched.specs.Game.{GameView, HasBlocks, IsGame, KeepsBoards}
-use Rattle.bs_sched.specs.Insides.{may_answer}
-use Rattle.bs_sched.specs.Lane.{Lane, answered, is_idle, is_out, is_part_done, is_ready, kept_of, lane_command, lane_view, part_at, records_of, stage_with, with_taken, with_waiting}
-use Rattle.bs_sched.proofs.PartFrames.{same_frame}
+use Rattle.bs_sched.specs.Frames.{AreFramesAt, ArePartFrames, FitFrames, FramesView, PartsView, LeavesBut, idle_frames, flattened, with_moved}
+use Rattle.bs_sched.specs.Game.{GameView, HasBlocks, IsGame, KeepsBoards, lane_at}
+use Rattle.bs_sched.specs.Insides.{HasParts, IsRightWithParts, may_answer}
+use Rattle.bs_sched.specs.Lane.{Lane, answered, is_idle, is_in_parts, is_out, is_playing, is_ready, kept_of, lane_command, lane_view, part_at, records_of, with_part_done, with_taken, with_waiting}
+use Rattle.bs_sched.proofs.JoinFrames.{to_join}
+use Rattle.bs_sched.proofs.Lanes.{out_part, parts_stage}
+use Rattle.bs_sched.proofs.PartFrames.{part_completed, same_frame}
 use Rattle.bs_sched.proofs.RightRuns.{busy_out, busy_ready, not_quiet, open_busy}
+
+-- a stay is right, with its parts
+pub right_game : (cap : ℕ) {at : ℕ} (c : Inside at) → IsGame cap c → IsRightWithParts c.fiber → IsRight (lane_at c)
+right_game cap c is right = right c.parts.states is.parts
 
 -- a stay with a job that is out or may be taken is open
 
-pub open_out : (cap : ℕ) {at : ℕ} (c : Inside at) (worker : ℕ) (k : JobKind) (p : ℕ) → IsGame cap c → is_out worker c.fiber k p ≡ true → c.fiber.is_open ≡ true
-open_out cap c worker k p is out = open_busy c.fiber is.quiet (busy_out c.fiber worker k p out)
+pub open_out : (cap : ℕ) {at : ℕ} (c : Inside at) (worker : ℕ) (k : JobKind) (p : ℕ) → IsGame cap c → is_out worker (lane_at c) k p ≡ true → c.fiber.is_open ≡ true
+open_out cap c worker k p is out = open_busy (lane_at c) is.quiet (busy_out (lane_at c) worker k p out)
 
-pub open_ready : (cap : ℕ) {at : ℕ} (c : Inside at) (k : JobKind) (p : ℕ) → IsGame cap c → is_ready c.fiber k p ≡ true → c.fiber.is_open ≡ true
-open_ready cap c k p is ready = open_busy c.fiber is.quiet (busy_ready c.fiber k p ready)
+pub open_ready : (cap : ℕ) {at : ℕ} (c : Inside at) (k : JobKind) (p : ℕ) → IsGame cap c → is_ready (lane_at c) k p ≡ true → c.fiber.is_open ≡ true
+open_ready cap c k p is ready = open_busy (lane_at c) is.quiet (busy_ready (lane_at c) k p ready)
 
 pub open_at_work : (cap : ℕ) {at : ℕ} (c : Inside at) → IsGame cap c → is_idle c.fiber.stage ≡ false → c.fiber.is_open ≡ true
 open_at_work cap c is busy = open_busy c.fiber is.quiet (not_quiet c.fiber busy)
@@ -47,7 +54,7 @@ open_at_work cap c is busy = open_busy c.fiber is.quiet (not_quiet c.fiber busy)
 kept_open : (x : Lane) → x.is_open ≡ true → kept_of x ≡ records_of x.game
 kept_open x stands = cond-true x.is_open (records_of x.game) [] stands
 
-pub keeps_boards : (cap : ℕ) {at : ℕ} (c : Inside at) → IsGame cap c → c.fiber.is_open ≡ true → KeepsBoards c.fiber c.heap
+pub keeps_boards : (cap : ℕ) {at : ℕ} (c : Inside at) → IsGame cap c → c.fiber.is_open ≡ true → KeepsBoards (lane_at c) c.heap
 keeps_boards cap c is stands = record { quota = is.quota; records = is.records ∙ kept_open c.fiber stands }
 
 pub charge_of_boards : (x : Lane) (heap : Heap) (charge : ℕ) → IsRight x → KeepsBoards x heap → charge ≡ charge_of heap.records → charge ≡ game_charge x.game
@@ -61,10 +68,10 @@ pub record SameBoards (x y : Lane) : Type 0 where
   pub flag : y.is_open ≡ x.is_open
   pub game : y.game ≡ x.game
 
-pub kept_game : (cap : ℕ) {at : ℕ} (c : Inside at) (x : Lane) (heap : Heap) (f : FramesView) → IsGame cap c → c.fiber.is_open ≡ true → SameBoards c.fiber x
-    → heap ≡ with_index_room heap.index_room c.heap → (may_answer x.stage ≡ true → 0 < heap.index_room) → FitFrames x f
-    → IsGame cap (record c { fiber = x; heap = heap; frames = f })
-kept_game cap c x heap f is stands same grown room frames =
+pub kept_game : (cap : ℕ) {at : ℕ} (c : Inside at) (x : Lane) (heap : Heap) (ps : PartsView) → IsGame cap c → c.fiber.is_open ≡ true → SameBoards c.fiber x
+    → heap ≡ with_index_room heap.index_room c.heap → (may_answer x.stage ≡ true → 0 < heap.index_room) → HasParts x ps.states → FitFrames (record x { parts = ps.states }) ps.frames
+    → IsGame cap (record c { fiber = x; heap = heap; parts = ps })
+kept_game cap c x heap ps is stands same grown room parts frames =
     let stands_still : x.is_open ≡ true = same.flag ∙ stands in
     record {
       wide = is.wide;
@@ -72,20 +79,22 @@ kept_game cap c x heap f is stands same grown room frames =
       records = ap (λ (h : Heap). h.records) grown ∙ is.records ∙ kept_open c.fiber stands ∙ ap records_of (sym same.game) ∙ sym (kept_open x stands_still);
       room = room;
       quiet = λ shut. let wrong : true ≡ false = sym stands_still ∙ shut in absurd cc;
+      parts = parts;
       frames = frames;
     }
 
 -- the command is answered
-pub answered_kept : (cap : ℕ) {at : ℕ} (c : Inside at) (x : Lane) (heap : Heap) (f : FramesView) → IsGame cap c → c.fiber.is_open ≡ true → x ≡ answered c.fiber
-    → KeepsBoards (answered c.fiber) heap → f ≡ idle_frames f.tag f.tally → IsGame cap (record c { fiber = x; heap = heap; frames = f })
-answered_kept cap c x heap f is stands lane boards idle =
-    let few : length f.numbers ≤ 4 = rw idle (omega arith) in
+pub answered_kept : (cap : ℕ) {at : ℕ} (c : Inside at) (x : Lane) (heap : Heap) (ps : PartsView) → IsGame cap c → c.fiber.is_open ≡ true → x ≡ answered c.fiber
+    → KeepsBoards (answered c.fiber) heap → ps.frames ≡ idle_frames ps.frames.tag ps.frames.tally → IsGame cap (record c { fiber = x; heap = heap; parts = ps })
+answered_kept cap c x heap ps is stands lane boards idle =
+    let few : length ps.frames.numbers ≤ 4 = rw idle (omega arith) in
     rw lane (record {
       wide = is.wide;
       quota = boards.quota;
       records = boards.records ∙ sym (kept_open (answered c.fiber) stands);
       room = λ may. let wrong : false ≡ true = may in absurd cc;
       quiet = λ shut. let wrong : true ≡ false = sym stands ∙ shut in absurd cc;
+      parts = λ plays. let wrong : false ≡ true = plays in absurd cc;
       frames = record { few = few; at = idle };
     })
 
@@ -97,6 +106,9 @@ pub record SameStage (x y : Lane) : Type 0 where
   pub view : lane_view y ≡ lane_view x
   pub command : lane_command y ≡ lane_command x
   pub parts : y.parts ≡ x.parts
+
+same_parts : (x y : Lane) (parts : List PartState) → SameStage x y → SameStage (record x { parts = parts }) (record y { parts = parts })
+same_parts x y parts same = record { boards = record { row = same.boards.row; flag = same.boards.flag; game = same.boards.game }; stage = same.stage; view = same.view; command = same.command; parts = refl }
 
 pub same_stage : {A B : Type 0} (result : Result A B) (x y : Lane) (command : Command) → OnOk result (y ≡ with_waiting command x) → OnErr result (y ≡ x)
     → SameStage x y
@@ -128,11 +140,17 @@ same_at stage.Parts x y f view command parts at = record {
 same_at (stage.Join None) x y f view command parts at = record { all = rw parts at.all; moved_are = at.moved_are ∙ same_moved x y view command parts }
 same_at (stage.Join (Some worker)) x y f view command parts at = record { all = rw parts at.all; none = rw parts at.none }
 
-pub handed_frames : (x y : Lane) (f : FramesView) → FitFrames x f → SameStage x y → FitFrames y f
-handed_frames x y f are same = record {
+same_frames : (x y : Lane) (f : FramesView) → FitFrames x f → SameStage x y → FitFrames y f
+same_frames x y f are same = record {
   few = are.few;
   at = subst (λ (s : Stage). AreFramesAt s y f) (sym same.stage) (same_at x.stage x y f same.view same.command same.parts are.at);
 }
+
+pub handed_frames : (x y : Lane) (ps : PartsView) → FitFrames (record x { parts = ps.states }) ps.frames → SameStage x y → FitFrames (record y { parts = ps.states }) ps.frames
+handed_frames x y ps are same = same_frames (record x { parts = ps.states }) (record y { parts = ps.states }) ps.frames are (same_parts x y ps.states same)
+
+pub handed_parts : (x y : Lane) (parts : List PartState) → HasParts x parts → SameStage x y → HasParts y parts
+handed_parts x y parts has same plays = rw same.boards.game (has (ap is_playing (sym same.stage) ∙ plays))
 
 -- ---- a job is taken
 
@@ -180,11 +198,40 @@ framed_blocks cap v w pool pool' has tag packing row frame_tag holds leaves = re
   apart = rw (tag, frame_tag) has.apart;
 }
 
--- ---- a part is completed
+-- ---- as many parts as the board of the move needs
 
-may_answer_if : (done : Bool) → may_answer (if done then stage.Join None else stage.Parts) ≡ false
-may_answer_if true = refl
-may_answer_if false = refl
+pub taken_parts : (cap : ℕ) {at : ℕ} (c : Inside at) (p worker : ℕ) (new : List PartState) → is_ready (lane_at c) kind.Part p ≡ true → IsGame cap c
+    → new ≡ slice_set c.parts.states p (part.Out worker) → HasParts c.fiber new
+taken_parts cap c p worker new ready is new_is plays = ap length new_is ∙ length-set c.parts.states p (part.Out worker) ∙ is.parts plays
 
-pub no_answer_parts : (parts : List PartState) → may_answer (stage_with parts) ≡ false
-no_answer_parts parts = may_answer_if (list_all is_part_done parts)
+pub joined_parts : (cap : ℕ) {at : ℕ} (c : Inside at) (x : Lane) (new : List PartState) (p worker : ℕ) → is_ready (lane_at c) kind.Join p ≡ true → IsGame cap c
+    → x ≡ with_taken worker kind.Join p c.fiber → new ≡ c.parts.states → HasParts x new
+joined_parts cap c x new p worker ready is lane same plays =
+    let at : c.fiber.stage ≡ stage.Join None = (to_join (lane_at c) c.parts.frames p ready is.frames).at in
+    let playing : is_playing c.fiber.stage ≡ true = ap is_playing at in
+    rw (lane, same) (is.parts playing)
+
+pub done_parts : (cap : ℕ) {at : ℕ} (c : Inside at) (s : Stage) (p worker : ℕ) (new : List PartState) → is_out worker (lane_at c) kind.Part p ≡ true → IsGame cap c
+    → new ≡ slice_set c.parts.states p part.Done → HasParts (record c.fiber { stage = s }) new
+done_parts cap c s p worker new out is new_is plays =
+    let at : c.fiber.stage ≡ stage.Parts = out_part (lane_at c) worker p out in
+    ap length new_is ∙ length-set c.parts.states p part.Done ∙ is.parts (ap is_playing at)
+
+pub few_parts : (cap : ℕ) {at : ℕ} (c : Inside at) → is_in_parts c.fiber.stage ≡ true → IsGame cap c → length c.parts.states ≤ 4
+few_parts cap c on is =
+    let frames : ArePartFrames (lane_at c) c.parts.frames = subst (λ (s : Stage). AreFramesAt s (lane_at c) c.parts.frames) (parts_stage (lane_at c) on) is.frames.at in
+    let all = frames.all in
+    let few = is.frames.few in
+    omega (arith, all, few)
+
+-- a part is completed, and the stage is then this one
+pub done_game : (cap : ℕ) {at : ℕ} (c : Inside at) (x : Lane) (s : Stage) (ps : PartsView) (p worker : ℕ) (moved : List Snake) → IsGame cap c → is_out worker (lane_at c) kind.Part p ≡ true
+    → x ≡ record c.fiber { stage = s } → may_answer s ≡ false → record x { parts = ps.states } ≡ with_part_done p (lane_at c)
+    → ps.states ≡ slice_set c.parts.states p part.Done → ps.frames ≡ with_moved p moved c.parts.frames → moved ≡ moved_part p (lane_view c.fiber) (lane_command c.fiber)
+    → IsGame cap (record c { fiber = x; parts = ps })
+done_game cap c x s ps p worker moved is out x_is silent lane states frames moved_is =
+    kept_game cap c x c.heap ps is (open_out cap c worker kind.Part p is out)
+    (record { row = ap (λ (y : Lane). y.row) x_is; flag = ap (λ (y : Lane). y.is_open) x_is; game = ap (λ (y : Lane). y.game) x_is }) refl
+    (λ may. let wrong : false ≡ true = sym (ap (λ (y : Lane). may_answer y.stage) x_is ∙ silent) ∙ may in absurd cc)
+    (subst (λ (y : Lane). HasParts y ps.states) (sym x_is) (done_parts cap c s p worker ps.states out is states))
+    (part_completed (lane_at c) (record x { parts = ps.states }) c.parts.frames ps.frames p worker moved out is.frames lane frames moved_is)

@@ -1,35 +1,21 @@
 -- The invariant of a fiber, after each event.
-use Rattle.std.proofs.Common.{◌≡◌, ℕ, ◌<◌, true, false, length, refl, sym, ap, subst, ◌∙◌, arith, Global, Vec, vec_len, vec_capacity}
-use Rattle.std.specs.Prelude.{Option, Some, None, IfSome, MatchOption, drop, nat_eq, slice_set}
-use Rattle.std.specs.List.{list_all}
+use Rattle.std.proofs.Common.{◌≡◌, ℕ, ◌<◌, true, false, length, refl, sym, subst, ◌∙◌, arith, Global, Vec, vec_len, vec_capacity}
+use Rattle.std.specs.Prelude.{Option, Some, None, IfSome, MatchOption, drop, nat_eq}
 use Rattle.std.proofs.lemmas.Bool.{eqb-true}
-use Rattle.std.proofs.lemmas.List.{length-drop, length-set}
+use Rattle.std.proofs.lemmas.List.{length-drop}
 use Rattle.bs_board.proofs.Chains.{and_both}
 use Rattle.bs_board.specs.declared.commands.reply.Reply.{Reply}
 use Rattle.bs_game.specs.Game.{game_charge}
 use Rattle.bs_fiber.specs.declared.job.JobKind.TheVariants as kind
 use Rattle.bs_sched.specs.declared.fiber.Fiber.TheInside.{Inside}
-use Rattle.bs_sched.specs.declared.stage.PartState.{PartState}
-use Rattle.bs_sched.specs.declared.stage.PartState.TheVariants as part
-use Rattle.bs_sched.specs.declared.stage.Stage.{Stage}
 use Rattle.bs_sched.specs.declared.stage.Stage.TheVariants as stage
-use Rattle.bs_sched.specs.Insides.{lane_in, IsFiber, IsAt, IsPlaying}
-use Rattle.bs_sched.specs.Lane.{Lane, is_idle, is_quiet, is_part_done, is_ready, is_out, lane_view, lane_command, with_taken, with_part_done}
-use Rattle.bs_sched.proofs.Lanes.{ready_join, out_part, joined_lane, done_lane}
+use Rattle.bs_sched.specs.Insides.{lane_in, IsFiber}
+use Rattle.bs_sched.specs.Lane.{Lane, goes_on, is_idle, is_quiet, is_ready, with_taken}
+use Rattle.bs_sched.proofs.Lanes.{ready_join, joined_lane}
 
--- the lane of a fiber that is at that stage
-
+-- the stage of a fiber whose Join is ready
 at_join : (f : Inside) (x : Lane) → lane_in f ≡ x → is_ready x kind.Join 0 ≡ true → f.stage ≡ stage.Join None
 at_join f x is ready = ready_join (lane_in f) (subst (λ (y : Lane). is_ready y kind.Join 0 ≡ true) (sym is) ready)
-
-at_parts : (f : Inside) (x : Lane) (worker p : ℕ) → lane_in f ≡ x → is_out worker x kind.Part p ≡ true → f.stage ≡ stage.Parts
-at_parts f x worker p is out = out_part (lane_in f) worker p (subst (λ (y : Lane). is_out worker y kind.Part p ≡ true) (sym is) out)
-
-joining : (f : Inside) → IsFiber f → f.stage ≡ stage.Join None → IsPlaying (lane_view (lane_in f)) (lane_command (lane_in f)) f.parts.items
-joining f kept at = subst (λ (s : Stage). IsAt s (lane_view (lane_in f)) (lane_command (lane_in f)) f.parts.items) at kept.stage
-
-playing : (f : Inside) → IsFiber f → f.stage ≡ stage.Parts → IsPlaying (lane_view (lane_in f)) (lane_command (lane_in f)) f.parts.items
-playing f kept at = subst (λ (s : Stage). IsAt s (lane_view (lane_in f)) (lane_command (lane_in f)) f.parts.items) at kept.stage
 
 -- the Join is taken
 
@@ -41,47 +27,16 @@ joined_fiber f x replies worker kept is ready same room =
     let new : Inside = record f { replies = replies; stage = stage.Join (Some worker) } in
     let lane : lane_in new ≡ with_taken worker kind.Join 0 (lane_in f)
     = joined_lane f (lane_in f) replies worker refl (subst (λ (y : Lane). is_ready y kind.Join 0 ≡ true) (sym is) ready) same in
-    let told = rw at at kept.replies in
     record {
       begun = kept.begun;
       at = λ idle. kept.at (rw at refl);
       closed = λ shut. let wrong : false ≡ true = rw at at (kept.closed shut).0 in absurd cc;
       small = kept.small;
       fits = kept.fits;
-      replies = same ∙ told;
+      replies = same ∙ (rw at at kept.replies);
       last = rw at at kept.last;
-      stage = subst (λ (y : Lane). IsPlaying (lane_view y) (lane_command y) f.parts.items) (sym lane) (joining f kept at);
-      room = record { reply = λ answers. room; parts = kept.room.parts };
-    }
-
--- a part is completed
-
-pub done_fiber : (f : Inside) (x : Lane) (parts : Vec PartState Global) (p worker : ℕ) → IsFiber f → lane_in f ≡ x
-    → is_out worker x kind.Part p ≡ true → parts.items ≡ slice_set f.parts.items p part.Done
-    → vec_capacity parts ≡ vec_capacity f.parts → list_all is_part_done parts.items ≡ true
-    → IsFiber (record f { stage = stage.Join None; parts = parts })
-done_fiber f x parts p worker kept is out same cap all =
-    let at = at_parts f x worker p is out in
-    let new : Inside = record f { stage = stage.Join None; parts = parts } in
-    let lane : lane_in new ≡ with_part_done p (lane_in f)
-    = done_lane f (lane_in f) parts p worker refl (subst (λ (y : Lane). is_out worker y kind.Part p ≡ true) (sym is) out) same all in
-    let here = playing f kept at in
-    let many : length parts.items ≡ length f.parts.items = ap length same ∙ length-set f.parts.items p part.Done in
-    let few = here.few in
-    let whole : IsPlaying (lane_view (lane_in f)) (lane_command (lane_in f)) parts.items
-    = record { goes = here.goes; all = many ∙ here.all; few = omega (arith, many, few) } in
-    let told = rw at at kept.replies in
-    let room = kept.room.parts in
-    record {
-      begun = kept.begun;
-      at = λ idle. kept.at (rw at refl);
-      closed = λ shut. let wrong : false ≡ true = rw at at (kept.closed shut).0 in absurd cc;
-      small = kept.small;
-      fits = kept.fits;
-      replies = told;
-      last = rw at at kept.last;
-      stage = subst (λ (y : Lane). IsPlaying (lane_view y) (lane_command y) parts.items) (sym lane) whole;
-      room = record { reply = λ answers. let wrong : false ≡ true = answers in absurd cc; parts = omega (arith, cap, room) };
+      goes = λ plays. subst (λ (y : Lane). goes_on y ≡ true) (sym lane) (kept.goes (rw at refl));
+      room = λ answers. room;
     }
 
 -- the stay leaves
@@ -99,8 +54,8 @@ closed_fiber f charge kept quiet is =
       small = kept.small;
       fits = kept.fits;
       replies = kept.replies;
-      stage = kept.stage;
-      room = record { reply = kept.room.reply; parts = kept.room.parts };
+      goes = kept.goes;
+      room = kept.room;
     }
 
 -- the charge of its records, if it has left

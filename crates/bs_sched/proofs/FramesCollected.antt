@@ -1,13 +1,13 @@
--- Slots that are emptied one after the other.
+-- Parts that are joined one after the other.
 use Rattle.std.proofs.Common.{◌≡◌, ℕ, zero, suc, ◌+◌, ◌<◌, ◌≤◌, List, [], ◌∷◌, ◌++◌, length, take, drop, map, get_or, refl, sym, ap, ◌∙◌, arith, length-append}
 use Rattle.std.specs.Prelude.{slice_set, flat_map, option_to_list}
 use Rattle.std.proofs.lemmas.List.{append-nil, take_more}
 use Rattle.std.proofs.lemmas.List.Concat.{flat_map-append}
 use Rattle.std.proofs.lemmas.Option.{slice_get_read}
 use Rattle.bs_modes.proofs.InPlace.{set_next}
-use Rattle.bs_sched.specs.declared.frames.FrameSlot.{FrameSlot}
-use Rattle.bs_sched.specs.declared.frames.FrameSlot.TheVariants as slot
-use Rattle.bs_sched.specs.FrameSlots.{back_in, moved_in}
+use Rattle.bs_sched.specs.declared.parts.Part.{Part}
+use Rattle.bs_sched.specs.declared.parts.Part.TheVariants as part
+use Rattle.bs_sched.specs.PartsLayout.{block_in, moved_in}
 
 seam_here : {X : Type 0} (f : X → X) (xs : List X) (i : ℕ) (d : X) → get_or (map f (take i xs) ++ drop i xs) i d ≡ get_or xs i d
 seam_here f [] zero d = refl
@@ -42,12 +42,14 @@ pub few_collected : {X Y : Type 0} (h : X → List Y) (one : (x : X) → length 
 few_collected h one [] = omega arith
 few_collected h one (x ∷ xs) = let here = one x in let rest = few_collected h one xs in omega (arith, length-append (h x) (flat_map h xs))
 
-pub one_block : {most : ℕ} (s : FrameSlot most) → length (option_to_list (back_in s)) ≤ 1
-one_block (slot.Ready key) = omega arith
-one_block (slot.Out number) = omega arith
-one_block (slot.Back moved owned) = omega arith
+pub one_block : {most : ℕ} (s : Part most) → length (option_to_list (block_in s)) ≤ 1
+one_block (part.Ready key) = omega arith
+one_block (part.Out worker block) = omega arith
+one_block (part.Joining block) = omega arith
+one_block (part.Done moved owned) = omega arith
 
-pub one_moved : {most : ℕ} (s : FrameSlot most) → length (option_to_list (moved_in s)) ≤ 1
-one_moved (slot.Ready key) = omega arith
-one_moved (slot.Out number) = omega arith
-one_moved (slot.Back moved owned) = omega arith
+pub one_moved : {most : ℕ} (s : Part most) → length (option_to_list (moved_in s)) ≤ 1
+one_moved (part.Ready key) = omega arith
+one_moved (part.Out worker block) = omega arith
+one_moved (part.Joining block) = omega arith
+one_moved (part.Done moved owned) = omega arith

@@ -1,4 +1,4 @@
--- What the Join gets from the slots, and what is given back to the pool after it.
+-- What the Join gets from the parts, and what is given back to the pool after it.
 use Rattle.std.proofs.Common.{◌≡◌, ℕ, ◌<◌, arith, List, [], ◌∷◌, ◌++◌, length, map, Option, Some, None, refl, sym, ap, subst, All, append-nil}
 use Rattle.std.specs.Prelude.{flat_map, option_to_list, slice_index_or}
 use Rattle.std.proofs.lemmas.List.{get_or-map, length-map}
@@ -13,67 +13,82 @@ use Rattle.bs_heap.specs.HeldBlocks.{AreOwned, Holds, LeavesOthers, all_given}
 use Rattle.bs_heap.specs.Lent.{AreLent, owned_numbers}
 use Rattle.bs_heap.proofs.GivenBlocks.{lent_from_owned}
 use Rattle.bs_heap.proofs.HeldBlocks.{holds_rest, leaves_rest}
-use Rattle.bs_sched.specs.declared.frames.FrameSlot.{FrameSlot}
-use Rattle.bs_sched.specs.declared.frames.FrameSlot.TheVariants as slot
-use Rattle.bs_sched.specs.FrameSlots.{number_in, moved_in, AreReadyAt, IsReadyAt, IsSlotOf}
-use Rattle.bs_sched.specs.FrameSlots.{sent_off, back_in}
+use Rattle.bs_sched.specs.declared.parts.Part.{Part}
+use Rattle.bs_sched.specs.declared.parts.Part.TheVariants as part
+use Rattle.bs_sched.specs.PartsLayout.{block_in, joined, number_in, moved_in, state_in, AreReadyAt, IsReadyAt, IsPartOf}
+use Rattle.bs_sched.specs.PartState.{PartState}
+use Rattle.bs_sched.specs.PartState as state
 use Rattle.bs_sched.specs.Frames.{flattened}
 
 -- ---- to the Join
 
-abbrev blocks_in : {most : ℕ} → List (FrameSlot most) → List (Owned most)
-blocks_in = flat_map (λ s. option_to_list (back_in s))
+abbrev blocks_in : {most : ℕ} → List (Part most) → List (Owned most)
+blocks_in = flat_map (λ s. option_to_list (block_in s))
 
-pub all_moved : {most : ℕ} (slots : List (FrameSlot most)) → flat_map (λ s. option_to_list (moved_in s)) slots ≡ flattened (map moved_in slots)
+pub all_moved : {most : ℕ} (parts : List (Part most)) → flat_map (λ s. option_to_list (moved_in s)) parts ≡ flattened (map moved_in parts)
 all_moved [] = refl
-all_moved (slot.Ready key ∷ slots) = all_moved slots
-all_moved (slot.Out number ∷ slots) = all_moved slots
-all_moved (slot.Back moved owned ∷ slots) = ap (λ (l : List (List Snake)). moved ∷ l) (all_moved slots)
+all_moved (part.Ready key ∷ parts) = all_moved parts
+all_moved (part.Out worker block ∷ parts) = all_moved parts
+all_moved (part.Joining block ∷ parts) = all_moved parts
+all_moved (part.Done moved owned ∷ parts) = ap (λ (l : List (List Snake)). moved ∷ l) (all_moved parts)
 
-pub all_bytes : {most : ℕ} (tag : ℕ) (slots : List (FrameSlot most)) → All (IsSlotOf tag) slots
-    → bytes_of (frames_in (blocks_in slots)) ≡ map frame_of (flattened (map moved_in slots))
+pub all_bytes : {most : ℕ} (tag : ℕ) (parts : List (Part most)) → All (IsPartOf tag) parts
+    → bytes_of (frames_in (blocks_in parts)) ≡ map frame_of (flattened (map moved_in parts))
 all_bytes tag [] fit = refl
-all_bytes tag (slot.Ready key ∷ slots) fit = all_bytes tag slots (All-tail (IsSlotOf tag) (slot.Ready key) slots fit)
-all_bytes tag (slot.Out number ∷ slots) fit = all_bytes tag slots (All-tail (IsSlotOf tag) (slot.Out number) slots fit)
-all_bytes tag (slot.Back moved owned ∷ slots) fit =
-    let here = All-head (IsSlotOf tag) (slot.Back moved owned) slots fit in
-    let rest = all_bytes tag slots (All-tail (IsSlotOf tag) (slot.Back moved owned) slots fit) in
+all_bytes tag (part.Ready key ∷ parts) fit = all_bytes tag parts (All-tail (IsPartOf tag) (part.Ready key) parts fit)
+all_bytes tag (part.Out worker block ∷ parts) fit = all_bytes tag parts (All-tail (IsPartOf tag) (part.Out worker block) parts fit)
+all_bytes tag (part.Joining block ∷ parts) fit = all_bytes tag parts (All-tail (IsPartOf tag) (part.Joining block) parts fit)
+all_bytes tag (part.Done moved owned ∷ parts) fit =
+    let here = All-head (IsPartOf tag) (part.Done moved owned) parts fit in
+    let rest = all_bytes tag parts (All-tail (IsPartOf tag) (part.Done moved owned) parts fit) in
     rw (here.1, rest) refl
 
-pub all_names : {most : ℕ} (tag : ℕ) (slots : List (FrameSlot most)) (all : List (List Snake)) → All (IsSlotOf tag) slots → map moved_in slots ≡ map Some all
-    → names_of (frames_in (blocks_in slots)) ≡ map (λ n. (tag, n)) (flattened (map number_in slots))
+pub all_names : {most : ℕ} (tag : ℕ) (parts : List (Part most)) (all : List (List Snake)) → All (IsPartOf tag) parts → map moved_in parts ≡ map Some all
+    → names_of (frames_in (blocks_in parts)) ≡ map (λ n. (tag, n)) (flattened (map number_in parts))
 all_names tag [] all fit back = refl
-all_names tag (slot.Ready key ∷ slots) [] fit back = absurd cc
-all_names tag (slot.Ready key ∷ slots) (m ∷ all) fit back = absurd cc
-all_names tag (slot.Out number ∷ slots) [] fit back = absurd cc
-all_names tag (slot.Out number ∷ slots) (m ∷ all) fit back = absurd cc
-all_names tag (slot.Back moved owned ∷ slots) [] fit back = absurd cc
-all_names tag (slot.Back moved owned ∷ slots) (m ∷ all) fit back =
-    let here = All-head (IsSlotOf tag) (slot.Back moved owned) slots fit in
-    let others : map moved_in slots ≡ map Some all = cc in
-    let rest = all_names tag slots all (All-tail (IsSlotOf tag) (slot.Back moved owned) slots fit) others in
+all_names tag (part.Ready key ∷ parts) [] fit back = absurd cc
+all_names tag (part.Ready key ∷ parts) (m ∷ all) fit back = absurd cc
+all_names tag (part.Out worker block ∷ parts) [] fit back = absurd cc
+all_names tag (part.Joining block ∷ parts) [] fit back = absurd cc
+all_names tag (part.Out worker block ∷ parts) (m ∷ all) fit back = absurd cc
+all_names tag (part.Joining block ∷ parts) (m ∷ all) fit back = absurd cc
+all_names tag (part.Done moved owned ∷ parts) [] fit back = absurd cc
+all_names tag (part.Done moved owned ∷ parts) (m ∷ all) fit back =
+    let here = All-head (IsPartOf tag) (part.Done moved owned) parts fit in
+    let others : map moved_in parts ≡ map Some all = cc in
+    let rest = all_names tag parts all (All-tail (IsPartOf tag) (part.Done moved owned) parts fit) others in
     rw (here.0, rest) refl
 
-pub numbers_stay : {most : ℕ} (slots : List (FrameSlot most)) → map number_in (map sent_off slots) ≡ map number_in slots
+pub numbers_stay : {most : ℕ} (parts : List (Part most)) → map number_in (map joined parts) ≡ map number_in parts
 numbers_stay [] = refl
-numbers_stay (slot.Ready key ∷ slots) = ap (λ (l : List (Option ℕ)). None ∷ l) (numbers_stay slots)
-numbers_stay (slot.Out number ∷ slots) = ap (λ (l : List (Option ℕ)). Some number ∷ l) (numbers_stay slots)
-numbers_stay (slot.Back moved owned ∷ slots) = ap (λ (l : List (Option ℕ)). Some owned.number ∷ l) (numbers_stay slots)
+numbers_stay (part.Ready key ∷ parts) = ap (λ (l : List (Option ℕ)). None ∷ l) (numbers_stay parts)
+numbers_stay (part.Out worker block ∷ parts) = ap (λ (l : List (Option ℕ)). Some block ∷ l) (numbers_stay parts)
+numbers_stay (part.Joining block ∷ parts) = ap (λ (l : List (Option ℕ)). Some block ∷ l) (numbers_stay parts)
+numbers_stay (part.Done moved owned ∷ parts) = ap (λ (l : List (Option ℕ)). Some owned.number ∷ l) (numbers_stay parts)
 
-pub nothing_stays : {most : ℕ} (slots : List (FrameSlot most)) → map moved_in (map sent_off slots) ≡ map (λ _. None) (map moved_in slots)
+pub states_stay : {most : ℕ} (parts : List (Part most)) → map state_in (map joined parts) ≡ map state_in parts
+states_stay [] = refl
+states_stay (part.Ready key ∷ parts) = ap (λ (l : List PartState). state.Ready ∷ l) (states_stay parts)
+states_stay (part.Out worker block ∷ parts) = ap (λ (l : List PartState). state.Out worker ∷ l) (states_stay parts)
+states_stay (part.Done moved owned ∷ parts) = ap (λ (l : List PartState). state.Done ∷ l) (states_stay parts)
+states_stay (part.Joining block ∷ parts) = ap (λ (l : List PartState). state.Done ∷ l) (states_stay parts)
+
+pub nothing_stays : {most : ℕ} (parts : List (Part most)) → map moved_in (map joined parts) ≡ map (λ _. None) (map moved_in parts)
 nothing_stays [] = refl
-nothing_stays (slot.Ready key ∷ slots) = ap (λ (l : List (Option (List Snake))). None ∷ l) (nothing_stays slots)
-nothing_stays (slot.Out number ∷ slots) = ap (λ (l : List (Option (List Snake))). None ∷ l) (nothing_stays slots)
-nothing_stays (slot.Back moved owned ∷ slots) = ap (λ (l : List (Option (List Snake))). None ∷ l) (nothing_stays slots)
+nothing_stays (part.Ready key ∷ parts) = ap (λ (l : List (Option (List Snake))). None ∷ l) (nothing_stays parts)
+nothing_stays (part.Out worker block ∷ parts) = ap (λ (l : List (Option (List Snake))). None ∷ l) (nothing_stays parts)
+nothing_stays (part.Joining block ∷ parts) = ap (λ (l : List (Option (List Snake))). None ∷ l) (nothing_stays parts)
+nothing_stays (part.Done moved owned ∷ parts) = ap (λ (l : List (Option (List Snake))). None ∷ l) (nothing_stays parts)
 
-sent_fits : {most : ℕ} (tag : ℕ) (s : FrameSlot most) → IsSlotOf tag (sent_off s)
-sent_fits tag (slot.Ready key) = tt
-sent_fits tag (slot.Out number) = tt
-sent_fits tag (slot.Back moved owned) = tt
+sent_fits : {most : ℕ} (tag : ℕ) (s : Part most) → IsPartOf tag (joined s)
+sent_fits tag (part.Ready key) = tt
+sent_fits tag (part.Out worker block) = tt
+sent_fits tag (part.Joining block) = tt
+sent_fits tag (part.Done moved owned) = tt
 
-pub all_sent_fit : {most : ℕ} (tag : ℕ) (slots : List (FrameSlot most)) → All (IsSlotOf tag) (map sent_off slots)
-all_sent_fit tag [] = All-nil (IsSlotOf tag)
-all_sent_fit tag (s ∷ slots) = All-cons (IsSlotOf tag) (sent_off s) (map sent_off slots) (sent_fits tag s) (all_sent_fit tag slots)
+pub all_sent_fit : {most : ℕ} (tag : ℕ) (parts : List (Part most)) → All (IsPartOf tag) (map joined parts)
+all_sent_fit tag [] = All-nil (IsPartOf tag)
+all_sent_fit tag (s ∷ parts) = All-cons (IsPartOf tag) (joined s) (map joined parts) (sent_fits tag s) (all_sent_fit tag parts)
 
 -- ---- to the pool
 
@@ -108,15 +123,16 @@ module _ {most : ℕ} (frames : List (Owned most)) (tag : ℕ) (numbers : List �
   others = leaves_rest tag [] numbers pool none_behind.owned
 
 -- a part that is ready keeps its key
-sent_ready : {most : ℕ} (tally : Option TallyId) (parts p : ℕ) (s : FrameSlot most) → IsReadyAt tally parts p s → IsReadyAt tally parts p (sent_off s)
-sent_ready tally parts p (slot.Ready key) is = is
-sent_ready tally parts p (slot.Out number) is = tt
-sent_ready tally parts p (slot.Back moved owned) is = tt
+sent_ready : {most : ℕ} (tally : Option TallyId) (parts p : ℕ) (s : Part most) → IsReadyAt tally parts p s → IsReadyAt tally parts p (joined s)
+sent_ready tally parts p (part.Ready key) is = is
+sent_ready tally parts p (part.Out worker block) is = tt
+sent_ready tally parts p (part.Joining block) is = tt
+sent_ready tally parts p (part.Done moved owned) is = tt
 
-pub all_sent_ready : {most : ℕ} (tally : Option TallyId) (slots : List (FrameSlot most)) → AreReadyAt tally slots → AreReadyAt tally (map sent_off slots)
-all_sent_ready {most} tally slots are p within =
-    let many : length (map sent_off slots) ≡ length slots = length-map slots sent_off in
-    let here : p < length slots = omega (arith, many, within) in
-    let ready = sent_ready tally (length slots) p (slice_index_or slots p (slot.Out 0)) (are p here) in
-    subst (λ (n : ℕ). IsReadyAt tally n p (slice_index_or (map sent_off slots) p (slot.Out 0))) (sym many)
-    (subst (λ (s : FrameSlot most). IsReadyAt tally (length slots) p s) (sym (get_or-map sent_off slots p (slot.Out 0) (slot.Out 0) here)) ready)
+pub all_sent_ready : {most : ℕ} (tally : Option TallyId) (parts : List (Part most)) → AreReadyAt tally parts → AreReadyAt tally (map joined parts)
+all_sent_ready {most} tally parts are p within =
+    let many : length (map joined parts) ≡ length parts = length-map parts joined in
+    let here : p < length parts = omega (arith, many, within) in
+    let ready = sent_ready tally (length parts) p (slice_index_or parts p (part.Joining 0)) (are p here) in
+    subst (λ (n : ℕ). IsReadyAt tally n p (slice_index_or (map joined parts) p (part.Joining 0))) (sym many)
+    (subst (λ (s : Part most). IsReadyAt tally (length parts) p s) (sym (get_or-map joined parts p (part.Joining 0) (part.Joining 0) here)) ready)

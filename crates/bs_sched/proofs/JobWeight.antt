@@ -19,8 +19,8 @@ use Rattle.bs_fiber.specs.Work.{parts_of, snakes_in}
 use Rattle.bs_sched.specs.declared.event.Event.TheVariants as event
 use Rattle.bs_sched.specs.declared.stage.Stage.{Stage}
 use Rattle.bs_sched.specs.declared.stage.Stage.TheVariants as stage
-use Rattle.bs_sched.specs.declared.stage.PartState.{PartState}
-use Rattle.bs_sched.specs.declared.stage.PartState.TheVariants as part
+use Rattle.bs_sched.specs.PartState.{PartState}
+use Rattle.bs_sched.specs.PartState as part
 use Rattle.bs_sched.specs.Games.{opened}
 use Rattle.bs_sched.specs.Courses.{IsRight}
 use Rattle.bs_sched.specs.Lane.{Lane, empty_lane, no_lane, goes_on, is_idle, is_in_parts, is_to_join, has_begin, has_join, has_part, is_part_ready, is_part_done, is_ready, is_out, is_quiet, forked, answered, stage_with, with_waiting, with_taken, with_put}

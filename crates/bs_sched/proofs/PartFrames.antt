@@ -12,8 +12,8 @@ use Rattle.bs_fiber.specs.Work.{moved_part, parts_of, snakes_in}
 use Rattle.bs_game.specs.Game.{last_board}
 use Rattle.bs_sched.specs.declared.stage.Stage.{Stage}
 use Rattle.bs_sched.specs.declared.stage.Stage.TheVariants as stage
-use Rattle.bs_sched.specs.declared.stage.PartState.{PartState}
-use Rattle.bs_sched.specs.declared.stage.PartState.TheVariants as part
+use Rattle.bs_sched.specs.PartState.{PartState}
+use Rattle.bs_sched.specs.PartState as part
 use Rattle.bs_counter.specs.Keys.{Key, TallyId}
 use Rattle.bs_sched.specs.Frames.{FramesView, forked_frames, idle_frames, flattened, with_moved, with_keys, with_number, IsFrameOf, AreBegunFrames, ArePartFrames, AreFramesAt, FitFrames}
 use Rattle.bs_sched.specs.Keyed.{AreKeysOf, HasKeys}

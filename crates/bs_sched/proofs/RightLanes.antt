@@ -7,11 +7,9 @@ use Rattle.std.proofs.lemmas.List.Elements.{All-take, All-drop}
 use Rattle.bs_game.specs.Answer.{Fits}
 use Rattle.bs_game.proofs.Courses.{course_is_game}
 use Rattle.bs_sched.specs.declared.fiber.Fiber.TheInside.{Inside}
-use Rattle.bs_sched.specs.declared.stage.Stage.{Stage}
-use Rattle.bs_sched.specs.declared.stage.Stage.TheVariants as stage
-use Rattle.bs_sched.specs.Courses.{answered_commands, IsMove, IsRight}
-use Rattle.bs_sched.specs.Insides.{lane_in, answered_count, IsFiber, IsAt}
-use Rattle.bs_sched.specs.Lane.{is_idle, is_playing, is_quiet, lane_view, lane_command}
+use Rattle.bs_sched.specs.Courses.{answered_commands}
+use Rattle.bs_sched.specs.Insides.{lane_in, answered_count, IsFiber, IsRightWithParts}
+use Rattle.bs_sched.specs.Lane.{is_idle, is_quiet}
 
 take_less : {X : Type 0} (n m : ℕ) (xs : List X) → n ≤ m → take n (take m xs) ≡ take n xs
 take_less zero m xs less = refl
@@ -30,15 +28,9 @@ answered_in f within =
           rw (busy, many) (take_less (f.begun - 1) f.begun f.commands.items (omega arith))
     ]
 
-playing_of : (s : Stage) (f : Inside) → IsAt s (lane_view (lane_in f)) (lane_command (lane_in f)) f.parts.items → is_playing s ≡ true
-    → IsMove (lane_in f)
-playing_of stage.Idle f at plays = let wrong : false ≡ true = plays in absurd cc
-playing_of (stage.Begin worker) f at plays = let wrong : false ≡ true = plays in absurd cc
-playing_of stage.Parts f at plays = record { goes = at.goes; parts = at.all }
-playing_of (stage.Join taker) f at plays = record { goes = at.goes; parts = at.all }
-
-pub right_lane : (f : Inside) → IsFiber f → IsRight (lane_in f)
-right_lane f kept =
+-- the lane of a fiber, with any parts that its move may have
+pub right_lane : (f : Inside) → IsFiber f → IsRightWithParts (lane_in f)
+right_lane f kept parts many =
     let answered = answered_in f kept.begun in
     let fits : All Fits (take (answered_count f.stage f.begun) f.commands.items) = All-take Fits (answered_count f.stage f.begun) f.commands.items kept.fits in
     let game = course_is_game f.row.quota (take (answered_count f.stage f.begun) f.commands.items) fits in
@@ -50,7 +42,7 @@ right_lane f kept =
       course = record { replies = rw answered kept.replies; game = rw answered refl };
       right = game.0;
       within = game.1;
-      moves = playing_of f.stage f kept.stage;
+      moves = λ plays. record { goes = kept.goes plays; parts = many plays };
     }
 
 -- a stay that has left is idle

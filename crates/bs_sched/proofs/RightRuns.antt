@@ -22,8 +22,8 @@ use Rattle.bs_sched.specs.declared.event.Event.{Event}
 use Rattle.bs_sched.specs.declared.event.Event.TheVariants as event
 use Rattle.bs_sched.specs.declared.stage.Stage.{Stage}
 use Rattle.bs_sched.specs.declared.stage.Stage.TheVariants as stage
-use Rattle.bs_sched.specs.declared.stage.PartState.{PartState}
-use Rattle.bs_sched.specs.declared.stage.PartState.TheVariants as part
+use Rattle.bs_sched.specs.PartState.{PartState}
+use Rattle.bs_sched.specs.PartState as part
 use Rattle.bs_sched.specs.Courses.{answered_commands, IsMove, IsRight}
 use Rattle.bs_sched.specs.Isolation.{opened_lanes, HandsFit, IsWell}
 use Rattle.bs_sched.specs.Lane.{Lane, empty_lane, no_lane, is_quiet, lane_command, lane_outcome, goes_on, is_idle, is_in_parts, is_playing, is_to_join, has_begin, has_join, is_part_done, is_ready, is_out, with_waiting, with_taken, with_put, answered, forked, stage_with, with_part_done}

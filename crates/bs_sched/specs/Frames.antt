@@ -8,8 +8,8 @@ use Rattle.bs_pool.specs.Ledger.{Ledger, drawn}
 use Rattle.bs_heap.specs.HeldBlocks.{Holds}
 use Rattle.bs_fiber.specs.Work.{moved_part}
 use Rattle.bs_sched.specs.declared.plan_blocks.TheConstants.{FRAME_BLOCKS}
-use Rattle.bs_sched.specs.declared.stage.PartState.{PartState}
-use Rattle.bs_sched.specs.declared.stage.PartState.TheVariants as part
+use Rattle.bs_sched.specs.PartState.{PartState}
+use Rattle.bs_sched.specs.PartState as part
 use Rattle.bs_sched.specs.declared.stage.Stage.{Stage}
 use Rattle.bs_sched.specs.declared.stage.Stage.TheVariants as stage
 use Rattle.bs_counter.specs.Keys.{Key, TallyId}
@@ -27,6 +27,11 @@ pub record FramesView : Type 0 where
   -- the snakes that each completed part moved, until the Join has them
   pub moved : List (Option (List Snake))
 
+-- the parts of one game's move: the state of each, with the keys, snakes and blocks
+pub record PartsView : Type 0 where
+  pub states : List PartState
+  pub frames : FramesView
+
 abbrev pub flattened : {X : Type 0} → List (Option X) → List X
 flattened [] = []
 flattened (None ∷ xs) = flattened xs
@@ -39,6 +44,10 @@ idle_frames tag tally = record { tag = tag; tally = tally; keys = []; numbers = 
 -- no move was played yet
 abbrev pub no_frames : ℕ → FramesView
 no_frames tag = idle_frames tag None
+
+-- no command was taken yet
+abbrev pub no_parts : ℕ → PartsView
+no_parts tag = record { states = []; frames = no_frames tag }
 
 -- an accepted move begins with `parts` parts, none of them taken
 abbrev pub forked_frames : ℕ → Option TallyId → ℕ → FramesView

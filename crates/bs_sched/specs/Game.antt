@@ -21,7 +21,7 @@ use Rattle.bs_sched.specs.declared.plan_blocks.TheConstants.{FRAME_BLOCKS}
 use Rattle.bs_sched.specs.Frames.{FitFrames, FramesView, forked_frames, frames_taken, idle_frames, flattened, no_frames, with_moved}
 use Rattle.bs_sched.specs.Games.{answer_effect}
 use Rattle.bs_sched.specs.Inputs.{input_of, job_numbers}
-use Rattle.bs_sched.specs.Insides.{may_answer}
+use Rattle.bs_sched.specs.Insides.{HasParts, may_answer}
 use Rattle.bs_sched.specs.Lane.{Lane, answered, closed_lane, empty_lane, forked, goes_on, is_out, is_quiet, kept_of, lane_command, lane_view, no_lane, with_part_done, with_taken, with_waiting}
 use Rattle.bs_sched.specs.Putting.{IsOwnOf}
 use Rattle.bs_sched.specs.Storage.{frame_tag, packing_after, pool_after, record_tag}
@@ -42,8 +42,12 @@ opened_game game row = record { tag = record_tag game; lane = empty_lane row; pa
 abbrev pub no_game : GameView
 no_game = record { tag = 0; lane = no_lane; packing = no_packing; frames = no_frames 0 }
 
+-- the fiber's lane, with the parts of its move
+abbrev pub lane_at : {cap : ℕ} → Inside cap → Lane
+lane_at c = record c.fiber { parts = c.parts.states }
+
 abbrev pub game_in : {cap : ℕ} → Inside cap → GameView
-game_in c = record { tag = c.heap.tag; lane = c.fiber; packing = c.heap.packing; frames = c.frames }
+game_in c = record { tag = c.heap.tag; lane = lane_at c; packing = c.heap.packing; frames = c.parts.frames }
 
 -- the heap keeps the records of the lane's boards
 pub record KeepsBoards (x : Lane) (heap : Heap) : Type 0 where
@@ -58,7 +62,8 @@ pub record IsGame (cap : ℕ) {at : ℕ} (c : Inside at) : Type 0 where
   -- room for one more record if one may be added
   pub room : may_answer c.fiber.stage ≡ true → 0 < c.heap.index_room
   pub quiet : c.fiber.is_open ≡ false → is_quiet c.fiber ≡ true
-  pub frames : FitFrames c.fiber c.frames
+  pub parts : HasParts c.fiber c.parts.states
+  pub frames : FitFrames (lane_at c) c.parts.frames
 
 -- the blocks of the stay in the pool: those of its records and of its move, and no others
 pub record HasBlocks (cap : ℕ) (v : GameView) (pool : Ledger) : Type 0 where

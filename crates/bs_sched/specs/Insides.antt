@@ -1,17 +1,16 @@
--- How a lane lies in the fields of its fiber.
+-- How a lane lies in the fields of its fiber. Its parts are kept beside the fiber.
 use Rattle.std.specs.Prelude.{◌≡◌, ℕ, ◌-◌, ◌≤◌, ◌<◌, Bool, true, false, if◌then◌else◌, List, [], length, take, drop, All, Some, None, IfSome, is_some, not, vec_len, vec_capacity}
 use Rattle.bs_board.specs.declared.limits.TheConstants.{MOST_QUOTA}
-use Rattle.bs_board.specs.declared.commands.command.Command.{Command}
 use Rattle.bs_game.specs.Alone.{Course, course_of}
 use Rattle.bs_game.specs.Answer.{Fits}
 use Rattle.bs_game.specs.Game.{game_charge, last_board}
-use Rattle.bs_game.specs.declared.view.View.{View}
-use Rattle.bs_fiber.specs.Work.{goes, parts_of, snakes_in}
+use Rattle.bs_fiber.specs.Work.{parts_of, snakes_in}
 use Rattle.bs_sched.specs.declared.fiber.Fiber.TheInside.{Inside}
-use Rattle.bs_sched.specs.declared.stage.PartState.{PartState}
+use Rattle.bs_sched.specs.PartState.{PartState}
 use Rattle.bs_sched.specs.declared.stage.Stage.{Stage}
 use Rattle.bs_sched.specs.declared.stage.Stage.TheVariants as stage
-use Rattle.bs_sched.specs.Lane.{Lane, is_idle, lane_view, lane_command}
+use Rattle.bs_sched.specs.Courses.{IsRight}
+use Rattle.bs_sched.specs.Lane.{Lane, goes_on, is_idle, is_playing}
 
 -- the commands that have a reply: all that were begun, except the one in progress
 abbrev pub answered_count : Stage → ℕ → ℕ
@@ -30,20 +29,16 @@ lane_in f =
       replies = f.replies.items;
       game = (course_in f).game;
       stage = f.stage;
-      parts = f.parts.items;
+      parts = [];
     }
 
--- a move is in progress
-pub record IsPlaying (view : View) (command : Command) (parts : List PartState) : Type 0 where
-  pub goes : goes view command ≡ true
-  pub all : length parts ≡ parts_of (length (snakes_in view.last))
-  pub few : length parts ≤ 4
+-- a move in progress has as many parts as its board needs
+abbrev pub HasParts : Lane → List PartState → Type 0
+HasParts x parts = is_playing x.stage ≡ true → length parts ≡ parts_of (length (snakes_in (last_board x.game)))
 
-abbrev pub IsAt : Stage → View → Command → List PartState → Type 0
-IsAt stage.Idle view command parts = parts ≡ []
-IsAt (stage.Begin worker) view command parts = parts ≡ []
-IsAt stage.Parts view command parts = IsPlaying view command parts
-IsAt (stage.Join taker) view command parts = IsPlaying view command parts
+-- the lane of the fiber is right with any such parts
+abbrev pub IsRightWithParts : Lane → Type 0
+IsRightWithParts x = (parts : List PartState) → HasParts x parts → IsRight (record x { parts = parts })
 
 -- some worker has a job that may answer
 abbrev pub may_answer : Stage → Bool
@@ -52,11 +47,6 @@ may_answer (stage.Begin worker) = true
 may_answer stage.Parts = false
 may_answer (stage.Join None) = false
 may_answer (stage.Join (Some worker)) = true
-
--- there is memory for the next reply, if one may follow, and for the parts
-pub record HasRoom (f : Inside) : Type 0 where
-  pub reply : may_answer f.stage ≡ true → vec_len f.replies < vec_capacity f.replies
-  pub parts : 4 ≤ vec_capacity f.parts
 
 pub record IsFiber (f : Inside) : Type 0 where
   pub begun : f.begun ≤ length f.commands.items
@@ -67,5 +57,7 @@ pub record IsFiber (f : Inside) : Type 0 where
   pub small : f.row.quota ≤ MOST_QUOTA
   pub fits : All Fits f.commands.items
   pub replies : f.replies.items ≡ (course_in f).replies
-  pub stage : IsAt f.stage (lane_view (lane_in f)) (lane_command (lane_in f)) f.parts.items
-  pub room : HasRoom f
+  -- a move in progress is an accepted one
+  pub goes : is_playing f.stage ≡ true → goes_on (lane_in f) ≡ true
+  -- there is memory for the next reply, if one may follow
+  pub room : may_answer f.stage ≡ true → vec_len f.replies < vec_capacity f.replies

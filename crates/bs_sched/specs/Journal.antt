@@ -3,8 +3,8 @@ use Rattle.std.specs.Prelude.{◌≡◌, ℕ, ◌+◌, ◌≤◌, false, true, L
 use Rattle.bs_sched.specs.declared.cores.Core.TheInside.{Inside}
 use Rattle.bs_sched.specs.declared.stage.Stage.{Stage}
 use Rattle.bs_sched.specs.declared.stage.Stage.TheVariants as stage
-use Rattle.bs_sched.specs.declared.stage.PartState.{PartState}
-use Rattle.bs_sched.specs.declared.stage.PartState.TheVariants as part
+use Rattle.bs_sched.specs.PartState.{PartState}
+use Rattle.bs_sched.specs.PartState as part
 use Rattle.bs_sched.specs.Registry.{AreKnownApart, DeterminesStays}
 use Rattle.bs_sched.specs.Busy.{IsBusyTable}
 use Rattle.bs_sched.specs.Core.{CoreView}

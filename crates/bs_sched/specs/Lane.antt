@@ -15,8 +15,8 @@ use Rattle.bs_fiber.specs.declared.job.JobKind.TheVariants as kind
 use Rattle.bs_fiber.specs.Work.{goes, parts_of, snakes_in}
 use Rattle.bs_sched.specs.declared.stage.Stage.{Stage}
 use Rattle.bs_sched.specs.declared.stage.Stage.TheVariants as stage
-use Rattle.bs_sched.specs.declared.stage.PartState.{PartState}
-use Rattle.bs_sched.specs.declared.stage.PartState.TheVariants as part
+use Rattle.bs_sched.specs.PartState.{PartState}
+use Rattle.bs_sched.specs.PartState as part
 
 pub record Lane : Type 0 where
   pub row : GameRow

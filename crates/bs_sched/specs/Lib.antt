@@ -6,7 +6,7 @@ pub mod Games
 pub mod GamesLayout
 pub mod Core
 pub mod FrameEffects
-pub mod FrameSlots
+pub mod PartsLayout
 pub mod Frames
 pub mod Courses
 pub mod Handed
@@ -19,6 +19,7 @@ pub mod Lane
 pub mod LastBoards
 pub mod Machine
 pub mod Memory
+pub mod PartState
 pub mod Parts
 pub mod PlanBlocks
 pub mod Putting

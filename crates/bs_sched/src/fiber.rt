@@ -1,16 +1,14 @@
-//! The fiber of one game: its commands, its replies and its stage. Contracts see its lane.
-ghost use Rattle.std.specs.Prelude.{◌≡◌, ◌+◌, ◌≤◌, ◌<◌, ℕ, true, false, [], length, replicate, vec_capacity, slice_index_or, MatchOption, option_map, IfOk, IfSome, OnOk, OnErr};
-ghost use Rattle.std.specs.List.{list_all, position};
+//! The fiber of one game: its commands, its replies and its stage. Contracts see its lane without
+//! the parts of a move.
+ghost use Rattle.std.specs.Prelude.{◌≡◌, ◌+◌, ◌≤◌, ◌<◌, ℕ, true, false, length, MatchOption, option_map, IfSome, OnOk, OnErr};
 ghost use Rattle.bs_board.specs.boards.Over.{is_over};
 ghost use Rattle.bs_board.specs.declared.boards.board.Board.{Board as AnyBoard};
 ghost use Rattle.bs_board.specs.records.Record.{record_of};
 ghost use Rattle.bs_fiber.specs.Work.{parts_of};
 ghost use Rattle.bs_game.specs.Answer.{Fits};
-ghost use Rattle.bs_sched.specs.declared.stage.PartState.TheVariants as state;
-ghost use Rattle.bs_sched.specs.Lane.{is_part_done, is_part_ready, has_part};
 ghost use Rattle.bs_sched.specs.LastBoards.{last_after};
 
-use crate::stage::{MOST_PARTS, PartState, Stage};
+use crate::stage::Stage;
 use bs_board::limits::MOST_QUOTA;
 use bs_board::{Command, KeptBoard, Record, Reply, Row};
 use bs_fiber::{JobKind, QueuedCommand, SharedCommand};
@@ -28,8 +26,6 @@ pub(crate) struct Fiber {
     begun: usize,
     replies: Vec<Reply>,
     stage: Stage,
-    /// The state of each part of the move in progress.
-    parts: Vec<PartState>,
     /// The newest board, if a game runs; for a stay that has left, its last board.
     last: Option<KeptBoard>,
 }
@@ -64,19 +60,6 @@ pub(crate) fn keeps_limits(command: &Command)
     }
 }
 
-/// Appends `count` parts, each ready to be taken.
-fn push_ready(parts: &mut Vec<PartState>, count: usize)
-    requires none { parts.old.items ≡ [] }
-    requires few { count ≤ 4 }
-    requires room { 4 ≤ vec_capacity parts.old }
-    ensures parts { parts.new.items ≡ replicate count state.Ready }
-    ensures room { vec_capacity parts.new ≡ vec_capacity parts.old }
-{
-    for _part in 0..count {
-        parts.push_reserved(PartState::Ready);
-    }
-}
-
 /// Applies an answer's effect to the newest board.
 fn change_last(last: &mut Option<KeptBoard>, effect: Effect)
     ensures { last.new ≡ last_after effect last.old }
@@ -90,59 +73,6 @@ fn change_last(last: &mut Option<KeptBoard>, effect: Effect)
         Effect::Trim => {}
         Effect::Drop => *last = None,
     }
-}
-
-fn is_done(part: &PartState) -> bool
-    ensures { result ≡ is_part_done part.now }
-{
-    match part {
-        PartState::Ready => false,
-        PartState::Out(_) => false,
-        PartState::Done => true,
-    }
-}
-
-/// Whether all parts are completed.
-fn are_done(parts: &[PartState]) -> bool
-    ensures { result ≡ list_all is_part_done parts.now }
-{
-    parts.iter().all(|part| is_done(part))
-}
-
-fn has_part(parts: &[PartState], worker: usize, part: usize) -> bool
-    ensures { result ≡ has_part worker (slice_index_or parts.now part state.Done) }
-{
-    match parts.get(part) {
-        Some(PartState::Out(handle)) => *handle == worker,
-        Some(PartState::Ready) => false,
-        Some(PartState::Done) => false,
-        None => false,
-    }
-}
-
-fn is_ready_part(part: &PartState) -> bool
-    ensures { result ≡ is_part_ready part.now }
-{
-    match part {
-        PartState::Ready => true,
-        PartState::Out(_) => false,
-        PartState::Done => false,
-    }
-}
-
-/// The first part that no worker has taken.
-fn first_ready(parts: &[PartState]) -> Option<u8>
-    requires { length parts.now ≤ 4 }
-    ensures { MatchOption result
-        ((p : ℕ) → is_part_ready (slice_index_or parts.now p state.Done) ≡ false)
-        (λ p. is_part_ready (slice_index_or parts.now p state.Done) ≡ true) }
-{
-    for part in 0..parts.len() {
-        if is_ready_part(&parts[part]) {
-            return Some(part as u8);
-        }
-    }
-    None
 }
 
 /// The number of parts of a move on the board of the record, one for two seats; `None` if the game
@@ -163,24 +93,24 @@ impl Fiber {
     ghost use Rattle.bs_fiber.specs.declared.job.JobKind.TheVariants as kind;
     ghost use Rattle.bs_fiber.specs.Work.{parts_of, snakes_in};
     ghost use Rattle.bs_game.specs.Game.{game_charge, last_board};
-    ghost use Rattle.bs_sched.specs.Lane.{empty_lane, closed_lane, no_lane, with_waiting, with_taken, with_put, with_part_done, forked, answered, is_ready, is_out, occupies, lane_command, lane_outcome, goes_on, is_idle, is_in_parts, is_quiet, HasNoneReady};
-    ghost use Rattle.bs_sched.specs.Courses.{IsRight};
+    ghost use Rattle.bs_sched.specs.Lane.{empty_lane, closed_lane, no_lane, with_waiting, with_taken, with_put, answered, is_ready, is_out, occupies, lane_command, lane_outcome, goes_on, is_idle, is_in_parts, is_quiet, HasNoneReady};
+    ghost use Rattle.bs_sched.specs.Insides.{IsRightWithParts};
+    ghost use Rattle.bs_sched.specs.declared.stage.Stage.TheVariants as stage;
 
     /// The fiber of a game with no command.
-    pub(crate) fn new(alloc: Global, row: Row) -> Result<Fiber, AllocError>
+    pub(crate) fn new(alloc: Global, row: Row) -> Fiber
         requires { row.quota ≤ MOST_QUOTA }
-        ensures { IfOk result (λ fiber. fiber ≡ empty_lane row) }
+        ensures { result ≡ empty_lane row }
     {
-        Ok(Fiber {
+        Fiber {
             row,
             left: None,
             commands: Vec::new(alloc),
             begun: 0,
             replies: Vec::new(alloc),
             stage: Stage::Idle,
-            parts: Vec::with_capacity(alloc, MOST_PARTS)?,
             last: None,
-        })
+        }
     }
 
     /// Closes the stay. It takes no more commands.
@@ -266,14 +196,6 @@ impl Fiber {
         Ok(())
     }
 
-    /// Takes that part for the worker.
-    pub(crate) fn take_part(&mut self, worker: usize, part: usize)
-        requires { is_ready self.old kind.Part part ≡ true }
-        ensures { self.new ≡ with_taken worker kind.Part part self.old }
-    {
-        self.parts[part] = PartState::Out(worker);
-    }
-
     /// Takes the Join for the worker. Makes room for the reply first.
     pub(crate) fn join(&mut self, worker: usize) -> Result<(), AllocError>
         requires { is_ready self.old kind.Join 0 ≡ true }
@@ -285,27 +207,21 @@ impl Fiber {
         Ok(())
     }
 
-    /// Starts the move with `parts` ready parts.
-    pub(crate) fn fork(&mut self, parts: usize)
+    /// Starts the move.
+    pub(crate) fn fork(&mut self)
         requires begun { (worker : ℕ) × (is_out worker self.old kind.Begin 0 ≡ true) }
         requires goes { goes_on self.old ≡ true }
-        requires parts { parts ≡ parts_of (length (snakes_in (last_board self.old.game))) }
-        requires few { parts ≤ 4 }
-        ensures { self.new ≡ forked self.old }
+        ensures { self.new ≡ record self.old { stage = stage.Parts } }
     {
-        push_ready(&mut self.parts, parts);
         self.stage = Stage::Parts;
     }
 
-    /// Completes the part.
-    pub(crate) fn complete_part(&mut self, part: usize)
-        requires { (worker : ℕ) × (is_out worker self.old kind.Part part ≡ true) }
-        ensures { self.new ≡ with_part_done part self.old }
+    /// Makes the Join ready. All parts of the move are completed.
+    pub(crate) fn end_parts(&mut self)
+        requires { is_in_parts self.old.stage ≡ true }
+        ensures { self.new ≡ record self.old { stage = stage.Join None } }
     {
-        self.parts[part] = PartState::Done;
-        if are_done(&self.parts) {
-            self.stage = Stage::Join(None);
-        }
+        self.stage = Stage::Join(None);
     }
 
     /// Appends the reply, keeps the newest board and ends the command.
@@ -316,7 +232,6 @@ impl Fiber {
         ensures { self.new ≡ answered self.old }
     {
         let Answer { reply, effect } = answer;
-        self.parts.clear();
         self.replies.push_reserved(reply);
         change_last(&mut self.last, effect);
         self.stage = Stage::Idle;
@@ -324,7 +239,7 @@ impl Fiber {
 
     /// Recalls for the prover that the replies and the boards are those of the answered commands.
     pub(crate) fn keeps(&self)
-        ensures { IsRight self.now }
+        ensures { IsRightWithParts self.now }
     {
         let _begun = self.begun;
     }
@@ -395,50 +310,39 @@ impl Fiber {
         self.stage == Stage::Idle && self.begun == self.commands.len()
     }
 
-    /// The number of parts of the move.
-    pub(crate) fn count_parts(&self) -> usize
-        ensures { result ≡ length self.now.parts }
+    /// Whether some part of the move is not completed.
+    pub(crate) fn is_in_parts(&self) -> bool
+        ensures { result ≡ is_in_parts self.now.stage }
     {
-        self.parts.len()
+        self.stage == Stage::Parts
     }
 
-    /// Whether the worker has that job out.
+    /// Whether the worker has that Begin or Join out. No part is out of the fiber.
     pub(crate) fn has_out(&self, worker: usize, kind: JobKind, part: u8) -> bool
         ensures { result ≡ is_out worker self.now kind part }
     {
         match (kind, self.stage) {
             (JobKind::Begin, Stage::Begin(handle)) => part == 0 && handle == worker,
-            (JobKind::Part, Stage::Parts) => has_part(&self.parts, worker, part as usize),
             (JobKind::Join, Stage::Join(Some(handle))) => part == 0 && handle == worker,
             _ => false,
         }
     }
 
-    fn ready_part(&self) -> Option<(JobKind, u8)>
-        requires { is_in_parts self.now.stage ≡ true }
-        ensures { MatchOption result (HasNoneReady self.now) (λ job. is_ready self.now job.0 job.1 ≡ true) }
-    {
-        match first_ready(&self.parts) {
-            None => None,
-            Some(part) => Some((JobKind::Part, part)),
-        }
-    }
-
-    /// A ready job, if there is one; if several parts are ready, the first of them.
-    pub(crate) fn ready(&self) -> Option<(JobKind, u8)>
-        ensures { MatchOption result (HasNoneReady self.now) (λ job. is_ready self.now job.0 job.1 ≡ true) }
+    /// The Begin or the Join if it is ready.
+    pub(crate) fn ready(&self) -> Option<JobKind>
+        ensures { MatchOption result (HasNoneReady self.now) (λ job. is_ready self.now job 0 ≡ true) }
     {
         match self.stage {
             Stage::Idle => {
                 if self.begun < self.commands.len() {
-                    Some((JobKind::Begin, 0))
+                    Some(JobKind::Begin)
                 } else {
                     None
                 }
             }
             Stage::Begin(_) => None,
-            Stage::Parts => self.ready_part(),
-            Stage::Join(None) => Some((JobKind::Join, 0)),
+            Stage::Parts => None,
+            Stage::Join(None) => Some(JobKind::Join),
             Stage::Join(Some(_)) => None,
         }
     }

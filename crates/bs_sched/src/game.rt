@@ -1,5 +1,5 @@
-//! One stay of the core: its fiber, the heap of its records and the frame blocks of its move.
-//! Clauses see its lane, the places of its records and its frames.
+//! One stay of the core: its fiber, the heap of its records and the parts of its move. Clauses see
+//! its lane, the places of its records and its frames.
 ghost use Rattle.std.specs.Prelude.{◌≡◌, ◌≢◌, ◌<◌, ◌≤◌, ◌*◌, ◌↔◌, ◌∷◌, IsTrue, ℕ, true, false, [], length, map, slice_get, slice_index_or, Some, MatchOption, option_map, IfOk, OnOk, OnErr};
 ghost use Rattle.bs_board.specs.declared.limits.TheConstants.{MOST_QUOTA};
 ghost use Rattle.bs_board.specs.records.Record.{record_of};
@@ -21,13 +21,13 @@ ghost use Rattle.bs_sched.specs.Frames.{FitFrames, LeavesBut, pool_taken};
 ghost use Rattle.bs_sched.specs.Game.{HasBlocks, IsAnswering, IsOwnTicket, IsTicketOf, answered_game, closed_game, completed_game, forked_game, game_with_part, handed_game, opened_game, own_names, pool_answered, pool_completed, taken_game};
 ghost use Rattle.bs_sched.specs.Inputs.{board_asked, current_input, input_for};
 ghost use Rattle.bs_sched.specs.Keyed.{HasKeys, IsKeyAt, IsKeyOf};
-ghost use Rattle.bs_sched.specs.Lane.{HasNoneReady, goes_on, is_idle, is_out, is_quiet, is_ready, kept_of, lane_command, lane_view, may_leave, with_taken};
+ghost use Rattle.bs_sched.specs.Lane.{HasNoneReady, goes_on, is_idle, is_in_parts, is_out, is_quiet, is_ready, kept_of, lane_command, lane_view, may_leave, with_taken};
 ghost use Rattle.bs_sched.specs.Storage.{packing_after, pool_after};
 ghost use Rattle.bs_sched.specs.Turns.{FindsTurn};
 
 use crate::cores::LEAST_CAPACITY;
 use crate::fiber::Fiber;
-use crate::frames::Frames;
+use crate::parts::MoveParts;
 use crate::plan_blocks::{MOST_STAYS, record_tag};
 use crate::stage::MOST_PARTS;
 use bs_board::{Board, KeptBoard, Reply, Row, TurnNumber};
@@ -41,13 +41,13 @@ use bs_pool::{Owned, Pool};
 use std::alloc::{AllocError, Global};
 use std::marker::Model;
 
-/// One stay. Its heap keeps the records of its boards, and its frames are in the state that its
+/// One stay. Its heap keeps the records of its boards, and its parts are in the state that its
 /// stage needs.
 #[derive(Drop)]
 pub(crate) struct Game<const CAP: usize> {
     fiber: Fiber,
     heap: TagHeap<CAP>,
-    frames: Frames<CAP>,
+    parts: MoveParts<CAP>,
 }
 
 impl<const CAP: usize> Model for Game<CAP> {
@@ -125,11 +125,11 @@ impl<const CAP: usize> Game<CAP> {
     {
         let tag = record_tag(game);
         let heap = TagHeap::new(alloc, tag, row.quota)?;
-        let frames = Frames::new(alloc, tag + 1)?;
+        let parts = MoveParts::new(alloc, tag + 1)?;
         Ok(Game {
-            fiber: Fiber::new(alloc, row)?,
+            fiber: Fiber::new(alloc, row),
             heap,
-            frames,
+            parts,
         })
     }
 
@@ -235,14 +235,51 @@ impl<const CAP: usize> Game<CAP> {
     pub(crate) fn count_parts(&self) -> usize
         ensures { result ≡ length self.now.lane.parts }
     {
-        self.fiber.count_parts()
+        self.parts.count()
+    }
+
+    /// The first part that is ready.
+    fn ready_part(&self) -> Option<(JobKind, u8)>
+        requires { is_in_parts self.now.lane.stage ≡ true }
+        ensures { MatchOption result (HasNoneReady self.now.lane) (λ job. is_ready self.now.lane job.0 job.1 ≡ true) }
+    {
+        match self.parts.first_ready() {
+            None => None,
+            Some(part) => Some((JobKind::Part, part)),
+        }
+    }
+
+    /// The Begin or the Join if it is ready.
+    fn ready_job(&self) -> Option<(JobKind, u8)>
+        requires { is_in_parts self.now.lane.stage ≡ false }
+        ensures { MatchOption result (HasNoneReady self.now.lane) (λ job. is_ready self.now.lane job.0 job.1 ≡ true) }
+    {
+        match self.fiber.ready() {
+            None => None,
+            Some(kind) => Some((kind, 0)),
+        }
     }
 
     /// A job that is ready, if there is one; if several parts are ready, the first.
     pub(crate) fn ready(&self) -> Option<(JobKind, u8)>
         ensures { MatchOption result (HasNoneReady self.now.lane) (λ job. is_ready self.now.lane job.0 job.1 ≡ true) }
     {
-        self.fiber.ready()
+        if self.fiber.is_in_parts() {
+            self.ready_part()
+        } else {
+            self.ready_job()
+        }
+    }
+
+    /// Whether the worker has that job out.
+    fn has_out(&self, worker: usize, job: JobName) -> bool
+        ensures { result ≡ is_out worker self.now.lane job.kind job.part }
+    {
+        if job.kind == JobKind::Part {
+            self.fiber.is_in_parts() && self.parts.has_out(worker, job.part as usize)
+        } else {
+            self.fiber.has_out(worker, job.kind, job.part)
+        }
     }
 
     /// The index of the record of that turn among the kept ones, if it is kept.
@@ -301,12 +338,12 @@ impl<const CAP: usize> Game<CAP> {
     {
         let job = ticket.job();
         let number = ticket.worker();
-        if number as usize != worker || !self.fiber.has_out(worker, job.kind, job.part) {
+        if number as usize != worker || !self.has_out(worker, job) {
             return false;
         }
         self.fiber.keeps();
         let expected = self.expected(self.fiber.command(), self.fiber.seq(), number, job);
-        ticket.is_of(&expected) && self.frames.are_of(job, ticket.frames())
+        ticket.is_of(&expected) && self.parts.are_of(job, ticket.frames())
     }
 
     /// Closes the stay and frees the blocks of its records. Its last board and its charge are kept.
@@ -346,7 +383,7 @@ impl<const CAP: usize> Game<CAP> {
         let contents = expected.to_contents(alloc, handle, spent)?;
         self.heap.grow_index()?;
         self.fiber.begin(worker as usize)?;
-        self.frames.begin(tally, keys);
+        self.parts.begin(tally, keys);
         self.fiber.keeps();
         Ok(Ticket::new(contents))
     }
@@ -392,8 +429,7 @@ impl<const CAP: usize> Game<CAP> {
     {
         let mut contents = self.new_contents(alloc, worker, job, spent)?;
         contents.frames.reserve(1)?;
-        self.fiber.take_part(worker as usize, job.part as usize);
-        let (owned, key) = self.frames.draw(pool, job.part as usize);
+        let (owned, key) = self.parts.take(pool, worker as usize, job.part as usize);
         contents.frames.push_reserved(owned);
         self.fiber.keeps();
         Ok((Ticket::new(contents), key))
@@ -419,7 +455,7 @@ impl<const CAP: usize> Game<CAP> {
         let mut moved = Vec::with_capacity(alloc, MOST_PARTS)?;
         self.heap.grow_index()?;
         self.fiber.join(worker as usize)?;
-        self.frames.join(&mut moved, &mut contents.frames);
+        self.parts.join(&mut moved, &mut contents.frames);
         contents.input.parts = Parts::from_vec(moved);
         self.fiber.keeps();
         Ok(Ticket::new(contents))
@@ -463,8 +499,8 @@ impl<const CAP: usize> Game<CAP> {
         ensures game { self.new ≡ forked_game self.old }
         ensures blocks { (pool : Ledger) → HasBlocks CAP self.old pool → HasBlocks CAP self.new pool }
     {
-        self.fiber.fork(self.frames.count_keys());
-        self.frames.fork();
+        self.fiber.fork();
+        self.parts.fork();
     }
 
     /// Completes a part: keeps its moved snakes and its block.
@@ -476,8 +512,10 @@ impl<const CAP: usize> Game<CAP> {
         requires holds { owned.block ≡ frame_of moved }
         ensures { self.new ≡ game_with_part part self.old }
     {
-        self.fiber.complete_part(part);
-        self.frames.complete_part(part, moved, owned);
+        self.parts.complete(part, moved, owned);
+        if self.parts.are_done() {
+            self.fiber.end_parts();
+        }
     }
 
     /// Answers the command: keeps the reply, changes the records, drops the keys, and gives the
@@ -494,7 +532,7 @@ impl<const CAP: usize> Game<CAP> {
         self.fiber.keeps();
         change_records(&mut self.heap, pool, &answer.effect);
         self.fiber.answer(answer);
-        self.frames.give_back(blocks, pool);
+        self.parts.give_back(blocks, pool);
     }
 
     /// Completes a job that was out.

@@ -1,4 +1,4 @@
-//! The stage of a game's current command, and the state of each part of its move.
+//! The stage of a game's current command.
 
 /// The largest number of parts of a move.
 pub(crate) const MOST_PARTS: usize = 4;
@@ -14,15 +14,4 @@ pub enum Stage {
     Parts,
     /// All parts are completed; that worker has the Join out, or none has taken it yet.
     Join(Option<usize>),
-}
-
-/// The state of one part of a move.
-#[derive(Clone, Copy, Debug, PartialEq, Eq)]
-pub enum PartState {
-    /// No worker has taken it.
-    Ready,
-    /// That worker has it out.
-    Out(usize),
-    /// It is completed.
-    Done,
 }

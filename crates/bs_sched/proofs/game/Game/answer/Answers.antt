@@ -3,75 +3,75 @@ use Rattle.bs_fiber.specs.Tickets.{frames_in, names_of}
 use Rattle.bs_game.specs.View.{answer_of}
 use Rattle.bs_heap.specs.Packing.{numbers_of}
 use Rattle.bs_sched.specs.Frames.{FramesView, LeavesBut, idle_frames, flattened}
-use Rattle.bs_sched.specs.Game.{GameView, HasBlocks, IsAnswering}
+use Rattle.bs_sched.specs.Game.{GameView, HasBlocks, IsAnswering, lane_at}
 use Rattle.bs_sched.specs.Lane.{Lane, lane_command, lane_view}
 use Rattle.bs_sched.proofs.Answered.{answered_boards, fit_effect, is_at_command, told_last, told_reply}
 use Rattle.bs_sched.proofs.Brought.{all_of_job, occupied}
-use Rattle.bs_sched.proofs.ChangedGame.{answered_kept, keeps_boards, leaves_both, open_at_work}
+use Rattle.bs_sched.proofs.ChangedGame.{answered_kept, keeps_boards, leaves_both, open_at_work, right_game}
 use Rattle.bs_sched.proofs.game.Game.answer.Goals as goal
 
 pub change_records-requires : goal.change_records-requires
 change_records-requires g c =
     let inside = c.self.inside in
     let is = subst (λ (v : GameView). IsAnswering v (names_of (frames_in c.args.blocks.now.items))) (sym c.self.view_is) c.requires.out in
-    let at = is_at_command inside.fiber is.worker (occupied is.job.kind inside.fiber is.worker is.job.part is.kind is.out) in
+    let at = is_at_command (lane_at inside) is.worker (occupied is.job.kind (lane_at inside) is.worker is.job.part is.kind is.out) in
     let told = subst (λ (v : GameView). c.args.answer ≡ answer_of (lane_view v.lane) (lane_command v.lane)) (sym c.self.view_is) c.requires.answer in
     let stands = open_at_work g.row.CAP inside c.self.invariant at.0 in
     let boards = keeps_boards g.row.CAP inside c.self.invariant stands in
     let has = subst (λ (v : GameView). HasBlocks g.row.CAP v c.args.pool.now) (sym c.self.view_is) c.requires.blocks in
     let quota = c.self.invariant.quota in
     let room = has.room in
-    (omega arith, (omega arith, (c.self.invariant.room at.1, (rw quota room, (has.records, fit_effect inside.fiber c.args.answer inside.heap c.keeps.ensures at.0 told boards)))))
+    (omega arith, (omega arith, (c.self.invariant.room at.1, (rw quota room, (has.records, fit_effect (lane_at inside) c.args.answer inside.heap (right_game g.row.CAP inside c.self.invariant c.keeps.ensures) at.0 told boards)))))
 
 pub answer-requires-clause-out : goal.answer-requires-clause-out
 answer-requires-clause-out g c =
     let inside = c.self.inside in
     let is = subst (λ (v : GameView). IsAnswering v (names_of (frames_in c.args.blocks.now.items))) (sym c.self.view_is) c.requires.out in
-    (is.worker, occupied is.job.kind inside.fiber is.worker is.job.part is.kind is.out)
+    (is.worker, occupied is.job.kind (lane_at inside) is.worker is.job.part is.kind is.out)
 
 pub answer-requires-clause-reply : goal.answer-requires-clause-reply
 answer-requires-clause-reply g c =
     let inside = c.self.inside in
     let is = subst (λ (v : GameView). IsAnswering v (names_of (frames_in c.args.blocks.now.items))) (sym c.self.view_is) c.requires.out in
-    let at = is_at_command inside.fiber is.worker (occupied is.job.kind inside.fiber is.worker is.job.part is.kind is.out) in
+    let at = is_at_command (lane_at inside) is.worker (occupied is.job.kind (lane_at inside) is.worker is.job.part is.kind is.out) in
     let told = subst (λ (v : GameView). c.args.answer ≡ answer_of (lane_view v.lane) (lane_command v.lane)) (sym c.self.view_is) c.requires.answer in
-    told_reply inside.fiber c.args.answer c.keeps.ensures at.0 told
+    told_reply (lane_at inside) c.args.answer (right_game g.row.CAP inside c.self.invariant c.keeps.ensures) at.0 told
 
 pub answer-requires-clause-last : goal.answer-requires-clause-last
 answer-requires-clause-last g c =
     let inside = c.self.inside in
     let is = subst (λ (v : GameView). IsAnswering v (names_of (frames_in c.args.blocks.now.items))) (sym c.self.view_is) c.requires.out in
-    let at = is_at_command inside.fiber is.worker (occupied is.job.kind inside.fiber is.worker is.job.part is.kind is.out) in
+    let at = is_at_command (lane_at inside) is.worker (occupied is.job.kind (lane_at inside) is.worker is.job.part is.kind is.out) in
     let told = subst (λ (v : GameView). c.args.answer ≡ answer_of (lane_view v.lane) (lane_command v.lane)) (sym c.self.view_is) c.requires.answer in
-    told_last inside.fiber c.args.answer c.keeps.ensures at.0 told
+    told_last (lane_at inside) c.args.answer (right_game g.row.CAP inside c.self.invariant c.keeps.ensures) at.0 told
 
 pub give_back-requires : goal.give_back-requires
 give_back-requires g c =
     let inside = c.self.inside in
     let is = subst (λ (v : GameView). IsAnswering v (names_of (frames_in c.args.blocks.now.items))) (sym c.self.view_is) c.requires.out in
-    let at = is_at_command inside.fiber is.worker (occupied is.job.kind inside.fiber is.worker is.job.part is.kind is.out) in
+    let at = is_at_command (lane_at inside) is.worker (occupied is.job.kind (lane_at inside) is.worker is.job.part is.kind is.out) in
     let told = subst (λ (v : GameView). c.args.answer ≡ answer_of (lane_view v.lane) (lane_command v.lane)) (sym c.self.view_is) c.requires.answer in
     let has = subst (λ (v : GameView). HasBlocks g.row.CAP v c.args.pool.now) (sym c.self.view_is) c.requires.blocks in
-    let names = is.names_are ∙ ap (λ (ns : List ℕ). map (λ n. (inside.frames.tag, n)) ns)
-    (all_of_job is.job.kind inside.fiber is.worker is.job.part inside.frames is.kind is.out c.self.invariant.frames) in
-    let held = c.change_records.ensures.others.holds inside.frames.tag (flattened inside.frames.numbers) (λ same. has.apart (sym same)) has.frames in
+    let names = is.names_are ∙ ap (λ (ns : List ℕ). map (λ n. (inside.parts.frames.tag, n)) ns)
+    (all_of_job is.job.kind (lane_at inside) is.worker is.job.part inside.parts.frames is.kind is.out c.self.invariant.frames) in
+    let held = c.change_records.ensures.others.holds inside.parts.frames.tag (flattened inside.parts.frames.numbers) (λ same. has.apart (sym same)) has.frames in
     (omega arith, (omega arith, (omega arith, (names, held))))
 
 pub invariant_of-self : goal.invariant_of-self
 invariant_of-self g c =
     let inside = c.self.inside in
     let is = subst (λ (v : GameView). IsAnswering v (names_of (frames_in c.args.blocks.now.items))) (sym c.self.view_is) c.requires.out in
-    let at = is_at_command inside.fiber is.worker (occupied is.job.kind inside.fiber is.worker is.job.part is.kind is.out) in
+    let at = is_at_command (lane_at inside) is.worker (occupied is.job.kind (lane_at inside) is.worker is.job.part is.kind is.out) in
     let told = subst (λ (v : GameView). c.args.answer ≡ answer_of (lane_view v.lane) (lane_command v.lane)) (sym c.self.view_is) c.requires.answer in
     let stands = open_at_work g.row.CAP inside c.self.invariant at.0 in
     let boards = keeps_boards g.row.CAP inside c.self.invariant stands in
     let changed = c.change_records.ensures in
-    let kept = answered_boards inside.fiber c.args.answer inside.heap c.change_records.new.heap c.keeps.ensures at.0 told boards changed.records changed.quota in
+    let kept = answered_boards (lane_at inside) c.args.answer inside.heap c.change_records.new.heap (right_game g.row.CAP inside c.self.invariant c.keeps.ensures) at.0 told boards changed.records changed.quota in
     let idle = c.give_back.ensures.frames in
     let tag = ap (λ (f : FramesView). f.tag) idle in
     let tally = ap (λ (f : FramesView). f.tally) idle in
     answered_kept g.row.CAP inside c.answer.new.self c.change_records.new.heap c.give_back.new.self c.self.invariant stands c.answer.ensures kept
-    (idle ∙ ap (λ (t : ℕ). idle_frames t inside.frames.tally) (sym tag) ∙ ap (idle_frames c.give_back.new.self.tag) (sym tally))
+    (idle ∙ ap (λ (t : ℕ). idle_frames t inside.parts.frames.tally) (sym tag) ∙ ap (idle_frames c.give_back.new.self.frames.tag) (sym tally))
 
 pub returns-clause-blocks : goal.returns-clause-blocks
 returns-clause-blocks g c =
@@ -94,4 +94,4 @@ returns-clause-blocks g c =
 pub returns-clause-others : goal.returns-clause-others
 returns-clause-others g c =
     subst (λ (v : GameView). LeavesBut v.tag v.frames.tag c.args.pool.now c.give_back.new.pool) c.self.view_is
-    (leaves_both c.self.inside.heap.tag c.self.inside.frames.tag c.args.pool.now c.change_records.new.pool c.give_back.new.pool c.change_records.ensures.others c.give_back.ensures.others)
+    (leaves_both c.self.inside.heap.tag c.self.inside.parts.frames.tag c.args.pool.now c.change_records.new.pool c.give_back.new.pool c.change_records.ensures.others c.give_back.ensures.others)

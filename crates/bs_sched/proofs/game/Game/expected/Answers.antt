@@ -8,6 +8,7 @@ use Rattle.bs_game.specs.Game.{last_board}
 use Rattle.bs_sched.specs.Courses.{IsRight}
 use Rattle.bs_sched.specs.Game.{GameView}
 use Rattle.bs_sched.specs.Lane.{records_of}
+use Rattle.bs_sched.proofs.ChangedGame.{right_game}
 use Rattle.bs_sched.proofs.FitInputs.{legal_asked}
 use Rattle.bs_sched.proofs.KeptRecords.{asked_of}
 use Rattle.bs_sched.proofs.game.Game.expected.Goals as goal
@@ -34,7 +35,7 @@ returns-clause-value g c =
 pub returns-clause-legal : goal.returns-clause-legal
 returns-clause-legal g c =
     let x = c.args.self.now.lane in
-    let right = subst (λ (v : GameView). IsRight v.lane) c.self.view_is c.keeps.ensures in
+    let right = subst (λ (v : GameView). IsRight v.lane) c.self.view_is (right_game g.row.CAP c.self.inside c.self.invariant c.keeps.ensures) in
     subst (λ (asked : Option (List ℕ)). IfSome asked IsLegalRecord)
     (sym (rw c.asked_turn.ensures at c.asked_record.ensures ∙ asked_of c.args.command.now x.game))
     (legal_asked c.args.command.now x.game right.right)

@@ -1,0 +1,15 @@
+use Rattle.std.proofs.Common.{◌≡◌}
+use Rattle.bs_heap.specs.HeldBlocks.{all_given}
+use Rattle.bs_heap.specs.Lent.{AreLent, owned_numbers}
+use Rattle.bs_sched.proofs.parts.give_all.Given as goal
+
+-- the remaining blocks are still lent, and giving them too gives all
+abbrev pub invariant-loop-owned : goal.invariant-loop-owned
+invariant-loop-owned g l =
+    record {
+      lent : AreLent l.blocks.items l.pool;
+      given : all_given (owned_numbers l.blocks.items) l.pool ≡ all_given (owned_numbers l.fn.blocks.items) l.fn.pool;
+    }
+
+abbrev pub decreases-loop-owned : goal.decreases-loop-owned
+decreases-loop-owned g l = goal.left-loop-owned g l
