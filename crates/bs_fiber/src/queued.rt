@@ -135,13 +135,8 @@ impl QueuedCommand {
     }
 }
 
-<<<<<<< HEAD
 /// What a core keeps of a command: its game's `QueuedCommand`, and the journal's handle. The caller
 /// makes both before it locks the core. Contracts see the command.
-=======
-/// What a core keeps of a command: its game's `QueuedCommand`, and the journal's handle. The caller makes
-/// both before it locks the core. Contracts see the command.
->>>>>>> d1472cb0c6a9d7e6b931011e00069b7b8e7a9bc5
 #[derive(Debug, Drop)]
 pub struct Handles {
     queued: QueuedCommand,

@@ -16,11 +16,7 @@ use crate::event::Event;
 use crate::fiber::keeps_limits;
 use crate::games::Games;
 use bs_board::{Board, Command, KeptBoard, Reply, Row};
-<<<<<<< HEAD
 use bs_fiber::{Contents, Handles, QueuedCommand, SharedCommand};
-=======
-use bs_fiber::{Handles, QueuedCommand, SharedCommand};
->>>>>>> d1472cb0c6a9d7e6b931011e00069b7b8e7a9bc5
 use std::alloc::{AllocError, Global};
 use std::marker::Model;
 

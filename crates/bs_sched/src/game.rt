@@ -61,8 +61,7 @@ impl<const CAP: usize> Model for Game<CAP> {
 }
 
 /// Opens a tally and returns its name and keys if the next command is a move, a game runs and the
-/// game is not over; else returns no keys. Reads the data kept with the command (`QueuedCommand`), not the
-/// command.
+/// game is not over; else returns no keys. Reads what is kept beside the command, not the command.
 fn open_keys<const CAP: usize>(
     alloc: Global,
     fiber: &Fiber,
