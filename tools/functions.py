@@ -47,4 +47,4 @@ def proofs_of(crate, source, kind, name):
         for f in folder.glob(f"**/{file}")
         if f.parent.name == name or f.parent.name.endswith(f"+{name}")
     ]
-    return [f for f in found if not kind or kind in f.parts]
+    return [f for f in found if (kind in f.parts if kind else f.parent.parent == folder)]
