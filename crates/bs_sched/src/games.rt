@@ -1,36 +1,53 @@
 //! All stays of a core, and the pool of their blocks. Clauses see them as lanes and as the places
 //! of their records.
-ghost use Rattle.std.specs.Prelude.{◌≡◌, ◌+◌, ◌≤◌, ◌<◌, true, All, length, OnOk, OnErr};
-ghost use Rattle.std.specs.List.{list_all};
-ghost use Rattle.bs_board.specs.plans.Plan.{IsFitPlan};
+ghost use Rattle.std.specs.Prelude.{◌≡◌, ◌+◌, ◌≤◌, ◌<◌, true, All, length, OnOk, OnErr, IfOk, IfErr, MatchOption, ◌↔◌, IsTrue, ℕ, None, slice_index_or, ◌-◌, not, nat_eq, filter, vec_len, vec_capacity};
+ghost use Rattle.std.specs.List.{list_all, range_with_len, list_any};
+ghost use Rattle.bs_board.specs.plans.Plan.{IsFitPlan, is_fit_row};
 ghost use Rattle.bs_pool.specs.Ledger.{free, size};
-ghost use Rattle.bs_sched.specs.Games.{after};
-ghost use Rattle.bs_sched.specs.GamesLayout.{lanes_in};
-ghost use Rattle.bs_sched.specs.Lane.{is_quiet};
-ghost use Rattle.bs_sched.specs.Machine.{lane_of};
+ghost use Rattle.bs_sched.specs.Games.{after, opened, KeepsTallies, games_taken, tally_of, games_completed};
+ghost use Rattle.bs_sched.specs.GamesLayout.{lanes_in, opened_games};
+ghost use Rattle.bs_sched.specs.Lane.{is_quiet, HasNoneReady, is_ready, is_out, lane_view, lane_command, may_leave};
+ghost use Rattle.bs_sched.specs.Machine.{lane_of, has_name, is_full, open_blocks};
 ghost use Rattle.bs_sched.specs.declared.event.Event.TheVariants as event;
+ghost use Rattle.bs_block.specs.Bytes.{IsCapacity};
+ghost use Rattle.bs_sched.specs.PlanBlocks.{blocks_of_all, blocks_of};
+ghost use Rattle.bs_sched.specs.declared.opening.Open.TheVariants as cause;
+ghost use Rattle.bs_fiber.specs.Tickets.{IsFresh, names_of, HoldsWork, frames_in};
+ghost use Rattle.bs_sched.specs.Inputs.{input_of, names_for};
+ghost use Rattle.bs_sched.specs.Keyed.{IsKeyOf};
+ghost use Rattle.bs_sched.specs.Taking.{AreNoneOpenReady, AreNoneReadyBetween, IsReadyJob};
+ghost use Rattle.bs_fiber.specs.declared.input.Input.{Input as AnyInput};
+ghost use Rattle.bs_fiber.specs.Work.{out_seen};
+ghost use Rattle.bs_sched.specs.Putting.{IsOwn, IsOwnJob};
+ghost use Rattle.bs_sched.specs.Parts.{AreOwnParts, IsOwnPart};
+ghost use Rattle.bs_board.specs.Texts.{is_same_text};
 
-use crate::cores::Counts;
+use crate::cores::{Counts, LEAST_CAPACITY, MOST_WORKERS};
 use crate::game::Game;
-use crate::plan_blocks::MOST_STAYS;
-use bs_board::Rows;
-use bs_fiber::QueuedCommand;
-use bs_pool::Pool;
-use std::alloc::AllocError;
+use crate::opening::Open;
+use crate::plan_blocks::{
+    MOST_STAYS, blocks_of, blocks_of_all, open_pool, release_row, reserve_row,
+};
+use bs_board::limits::MOST_ROWS;
+use bs_board::{Id, Plan, Row, Rows};
+use bs_counter::PartKey;
+use bs_fiber::{Contents, Done, JobKind, JobName, Out, QueuedCommand, Ticket};
+use bs_pool::{Owned, Pool};
+use std::alloc::{AllocError, Global};
 use std::marker::Model;
 
 /// All stays of a core, with the pool of their blocks.
 #[derive(Drop)]
 pub(crate) struct Games<const CAP: usize> {
     /// The rows of the plan, the first stays.
-    pub(crate) rows: Rows,
+    rows: Rows,
     /// The last worker's number, with as many bits as an event has for it.
-    pub(crate) workers: u32,
-    pub(crate) failed: bool,
-    pub(crate) list: Vec<Game<CAP>>,
+    workers: u32,
+    failed: bool,
+    list: Vec<Game<CAP>>,
     /// The rows of the open stays, in ascending order. Only these are searched for jobs.
-    pub(crate) open_rows: Vec<u32>,
-    pub(crate) pool: Pool<CAP>,
+    open_rows: Vec<u32>,
+    pool: Pool<CAP>,
 }
 
 impl<const CAP: usize> Model for Games<CAP> {
@@ -56,6 +73,119 @@ fn are_quiet<const CAP: usize>(games: &[Game<CAP>], rows: &[u32]) -> bool
         }
     }
     true
+}
+
+/// Opens a stay for each row.
+fn open_games<const CAP: usize>(alloc: Global, rows: &[Row]) -> Result<Vec<Game<CAP>>, AllocError>
+    requires wide { LEAST_CAPACITY ≤ CAP }
+    requires few { length rows.now ≤ MOST_ROWS }
+    ensures { IfOk result (λ games. games.items ≡ opened_games rows.now) }
+{
+    let mut games = Vec::with_capacity(alloc, rows.len())?;
+    for game in 0..rows.len() {
+        let row = &rows[game];
+        let _quota = row.quota;
+        games.push(Game::new(alloc, game, row.copy(alloc)?)?)?;
+    }
+    Ok(games)
+}
+
+/// Lists the rows of the plan, all of them open.
+#[tactic(auto, using(crate::proofs::OpenRows::rows_more))]
+fn open_rows(alloc: Global, games: usize) -> Result<Vec<u32>, AllocError>
+    requires { games ≤ MOST_ROWS }
+    ensures { IfOk result (λ rows. rows.items ≡ range_with_len 0 games) }
+{
+    let mut rows = Vec::with_capacity(alloc, games)?;
+    for game in 0..games {
+        rows.push(game as u32)?;
+    }
+    Ok(rows)
+}
+
+/// A ready job of the stay of that row, if there is one.
+fn ready_job<const CAP: usize>(game: &Game<CAP>, row: usize) -> Option<JobName>
+    requires { row < MOST_STAYS }
+    ensures { MatchOption result
+        (HasNoneReady game.now.lane)
+        (λ job. (job.game ≡ row) × (is_ready game.now.lane job.kind job.part ≡ true)) }
+{
+    match game.ready() {
+        None => None,
+        Some((kind, part)) => Some(JobName {
+            kind,
+            game: row as u32,
+            part,
+        }),
+    }
+}
+
+/// The first ready job of the open stays from place `from` to place `to`, `to` excluded.
+#[tactic(auto, using(crate::proofs::ListedGames::lane_read, crate::proofs::ListedGames::many_lanes))]
+fn find_job<const CAP: usize>(
+    games: &[Game<CAP>],
+    rows: &[u32],
+    from: usize,
+    to: usize,
+) -> Option<JobName>
+    requires few { length games.now ≤ MOST_STAYS }
+    requires rows { All (λ game. game < length games.now) rows.now }
+    requires within { to ≤ length rows.now }
+    ensures { MatchOption result (AreNoneReadyBetween from to rows.now (lanes_in games.now)) (IsReadyJob (lanes_in games.now)) }
+{
+    for place in from..to {
+        let row = rows[place] as usize;
+        if let Some(job) = ready_job(&games[row], row) {
+            return Some(job);
+        }
+    }
+    None
+}
+
+/// The place of the first open stay of that row or a later one; the number of open stays if there
+/// is none.
+fn place_from(rows: &[u32], first: usize) -> usize
+    ensures { result ≤ length rows.now }
+{
+    match rows.iter().position(|row| *row as usize >= first) {
+        Some(place) => place,
+        None => rows.len(),
+    }
+}
+
+/// Whether a stay of one of those rows has the name.
+#[tactic(auto, using(crate::proofs::OpenRows::some_named, crate::proofs::OpenRows::none_named, crate::proofs::ListedGames::lane_read))]
+fn is_name_of<const CAP: usize>(games: &[Game<CAP>], rows: &[u32], name: &Id) -> bool
+    requires { All (λ game. game < length games.now) rows.now }
+    ensures { result ≡ list_any (λ game. is_same_text name.now (lane_of (lanes_in games.now) game).row.game) rows.now }
+{
+    for place in 0..rows.len() {
+        if name.is_same(&games[rows[place] as usize].row().game) {
+            return true;
+        }
+    }
+    false
+}
+
+/// Makes room for one more stay.
+fn make_room<const CAP: usize>(
+    games: &mut Vec<Game<CAP>>,
+    open_rows: &mut Vec<u32>,
+) -> Result<(), AllocError>
+    ensures games { games.new.items ≡ games.old.items }
+    ensures rows { open_rows.new.items ≡ open_rows.old.items }
+    ensures games_room { OnOk result (vec_len games.new < vec_capacity games.new) }
+    ensures rows_room { OnOk result (vec_len open_rows.new < vec_capacity open_rows.new) }
+{
+    games.reserve(1)?;
+    open_rows.reserve(1)
+}
+
+/// Removes the row from the list.
+fn remove_row(rows: &mut Vec<u32>, game: usize)
+    ensures { rows.new.items ≡ filter (λ row. not (nat_eq row game)) rows.old.items }
+{
+    rows.retain(|row| *row as usize != game);
 }
 
 impl<const CAP: usize> Games<CAP> {
@@ -142,5 +272,223 @@ impl<const CAP: usize> Games<CAP> {
             held: size - free,
             size,
         }
+    }
+
+    /// Opens the games of a plan, with no command yet.
+    #[tactic(auto, using(crate::proofs::OpenedGames::opened_lanes_are, crate::proofs::OpenedGames::opened_packings, crate::proofs::OpenedGames::opened_numbers, crate::proofs::Tallies::opened_tallies))]
+    pub(crate) fn open(
+        alloc: Global,
+        plan: Plan,
+        blocks: usize,
+        workers: usize,
+    ) -> Result<Self, Open>
+        requires capacity { IsCapacity CAP }
+        requires wide { LEAST_CAPACITY ≤ CAP }
+        requires workers { workers ≤ MOST_WORKERS }
+        ensures games { IfOk result (λ games. games ≡ opened CAP blocks workers plan.rows) }
+        ensures plan { IsFitPlan plan.rows }
+        ensures room { OnOk result (blocks_of_all CAP plan.rows ≤ blocks) }
+        ensures short { IfErr result (λ fault. fault ≡ cause.Short → blocks < blocks_of_all CAP plan.rows) }
+    {
+        let rows = plan.rows.as_slice();
+        if blocks_of_all(CAP, rows) > blocks {
+            return Err(Open::Short);
+        }
+        let pool = open_pool(alloc, rows, blocks)?;
+        let list = open_games(alloc, rows)?;
+        let open_rows = open_rows(alloc, rows.len())?;
+        Ok(Games {
+            rows: plan.rows,
+            workers: workers as u32,
+            failed: false,
+            list,
+            open_rows,
+            pool,
+        })
+    }
+
+    /// Whether an open stay has the name of that row.
+    #[tactic(auto, using(crate::proofs::ListedGames::listed_games))]
+    pub(crate) fn has_open_name(&self, row: &Row) -> bool
+        ensures { result ≡ list_any (has_name row.now) self.now.lanes }
+    {
+        is_name_of(&self.list, self.open_rows.as_slice(), &row.game)
+    }
+
+    /// Whether no more stays can be opened.
+    #[tactic(auto, using(crate::proofs::OpenRows::open_counted, crate::proofs::ListedGames::many_lanes))]
+    pub(crate) fn is_full(&self) -> bool
+        ensures { result ≡ is_full self.now.lanes }
+    {
+        !(self.open_rows.len() < MOST_ROWS && self.list.len() < MOST_STAYS)
+    }
+
+    /// The number of blocks that are not reserved for the open stays.
+    pub(crate) fn unreserved(&self) -> usize
+        ensures { result ≡ size self.now.storage.pool - open_blocks CAP self.now.lanes }
+    {
+        self.pool.unreserved()
+    }
+
+    /// The number of blocks that are reserved for a stay of that row.
+    pub(crate) fn blocks_of(&self, row: &Row) -> usize
+        ensures { result ≡ blocks_of CAP row.now }
+    {
+        let _workers = self.workers;
+        blocks_of(CAP, row)
+    }
+
+    /// Opens a stay in the next row. After an error nothing is changed.
+    pub(crate) fn admit(&mut self, alloc: Global, row: Row) -> Result<usize, AllocError>
+        requires fit { is_fit_row row ≡ true }
+        requires room { length self.old.lanes < MOST_STAYS }
+        requires blocks { blocks_of CAP row ≤ size self.old.storage.pool - open_blocks CAP self.old.lanes }
+        ensures row { IfOk result (λ game. game ≡ length self.old.lanes) }
+        ensures ok { OnOk result (self.new ≡ after CAP self.old (event.Admit row)) }
+        ensures err { OnErr result (self.new ≡ self.old) }
+    {
+        let row_number = self.list.len();
+        let game = Game::new(alloc, row_number, row)?;
+        make_room(&mut self.list, &mut self.open_rows)?;
+        let _blocks = self.pool.size();
+        reserve_row(&mut self.pool, row_number, game.row())?;
+        self.list.push_reserved(game);
+        self.open_rows.push_reserved(row_number as u32);
+        Ok(row_number)
+    }
+
+    /// Closes the stay of that row, frees its blocks and ends their reservations. Its last board
+    /// and its charge are kept.
+    pub(crate) fn leave(&mut self, game: usize)
+        requires game { game < length self.old.lanes }
+        requires may { may_leave (lane_of self.old.lanes game) ≡ true }
+        ensures { self.new ≡ after CAP self.old (event.Leave game) }
+    {
+        self.list[game].close(&mut self.pool);
+        release_row(&mut self.pool, game);
+        remove_row(&mut self.open_rows, game);
+    }
+
+    /// The first ready job of the open stays at row `first` or later, else of an earlier one.
+    #[tactic(auto, using(crate::proofs::FoundJobs::none_anywhere, crate::proofs::ListedGames::listed_games))]
+    pub(crate) fn find(&self, first: usize) -> Option<JobName>
+        ensures { MatchOption result (AreNoneOpenReady self.now.lanes) (IsReadyJob self.now.lanes) }
+    {
+        let rows = self.open_rows.as_slice();
+        let from = place_from(rows, first);
+        match find_job(&self.list, rows, from, rows.len()) {
+            Some(job) => Some(job),
+            None => find_job(&self.list, rows, 0, from),
+        }
+    }
+
+    pub(crate) fn take_job(
+        &mut self,
+        alloc: Global,
+        worker: u32,
+        job: JobName,
+        spent: Option<Box<Contents<CAP>>>,
+    ) -> Result<(Ticket<CAP>, Option<PartKey<Done<CAP>>>), AllocError>
+        requires game { job.game < length self.old.lanes }
+        requires ready { is_ready (lane_of self.old.lanes job.game) job.kind job.part ≡ true }
+        ensures ticket { IfOk result (λ taken. taken.0.input ≡ input_of (lane_of self.new.lanes job.game) worker job) }
+        ensures fresh { IfOk result (λ taken. IsFresh taken.0) }
+        ensures names { IfOk result (λ taken. names_of taken.0.frames ≡ names_for self.new.storage job) }
+        ensures key { IfOk result (λ taken. IsKeyOf (tally_of self.new.tallies job.game) (length (lane_of self.new.lanes job.game).parts) job taken.1) }
+        ensures ok { OnOk result (self.new ≡ games_taken CAP self.old worker job self.new.tallies) }
+        ensures tallies { OnOk result (KeepsTallies job self.old.tallies self.new.tallies) }
+        ensures err { OnErr result (self.new ≡ self.old) }
+    {
+        self.list[job.game as usize].take(alloc, &mut self.pool, worker, job, spent)
+    }
+
+    /// Completes a job that was out.
+    fn complete_job(&mut self, job: JobName, out: Out, blocks: &mut Vec<Owned<CAP>>)
+        requires game { job.game < length self.old.lanes }
+        requires out { (worker : ℕ) × (is_out worker (lane_of self.old.lanes job.game) job.kind job.part ≡ true) }
+        requires worked { out ≡ out_seen job.kind job.part (lane_view (lane_of self.old.lanes job.game)) (lane_command (lane_of self.old.lanes job.game)) }
+        requires names { names_of (frames_in blocks.old.items) ≡ names_for self.old.storage job }
+        requires holds { (input : AnyInput) × HoldsWork (record { input = input; frames = frames_in blocks.old.items }) out }
+        ensures { self.new ≡ games_completed CAP self.old job }
+    {
+        let game = job.game as usize;
+        self.list[game].keeps();
+        self.list[game].complete(&mut self.pool, job, out, blocks);
+    }
+
+    /// Whether the worker has the job out, and its ticket holds the core's input for it and the
+    /// blocks that it was taken with.
+    pub(crate) fn is_own(&self, worker: usize, done: &Done<CAP>) -> bool
+        ensures { IsTrue result ↔ IsOwn self.now worker done.now }
+    {
+        let ticket = done.ticket();
+        let game = ticket.job().game as usize;
+        if game >= self.list.len() {
+            return false;
+        }
+        self.list[game].is_own(worker, ticket)
+    }
+
+    /// Whether the done is of a Begin or a Join, and `is_own` holds of it.
+    pub(crate) fn is_own_job(&self, worker: usize, done: &Done<CAP>) -> bool
+        ensures { IsTrue result ↔ IsOwnJob self.now worker done.now }
+    {
+        done.ticket().job().kind != JobKind::Part && self.is_own(worker, done)
+    }
+
+    /// Completes a job of this core, and returns the contents of its ticket.
+    pub(crate) fn complete(&mut self, done: Done<CAP>) -> Box<Contents<CAP>>
+        requires { (worker : ℕ) × IsOwn self.old worker done }
+        ensures { self.new ≡ games_completed CAP self.old done.entry.input.job }
+    {
+        let job = done.ticket().job();
+        self.game(job.game as usize).keeps();
+        let (ticket, out) = done.into_parts();
+        let mut contents = ticket.into_contents();
+        self.complete_job(job, out, &mut contents.frames);
+        contents
+    }
+
+    /// Whether the done is of that part of that game's move, and `is_own` holds of it.
+    fn is_own_part(&self, game: usize, part: usize, completed: &Option<Done<CAP>>) -> bool
+        ensures { IsTrue result ↔ IsOwnPart self.now game part completed.now }
+    {
+        let Some(done) = completed else {
+            return false;
+        };
+        let job = done.ticket().job();
+        job.kind == JobKind::Part
+            && job.game as usize == game
+            && job.part as usize == part
+            && self.is_own(done.ticket().worker() as usize, done)
+    }
+
+    /// Whether each done in the list is of the part with its index, in that game's move.
+    fn are_own_parts_of(&self, game: usize, completed: &[Option<Done<CAP>>]) -> bool
+        ensures { IsTrue result ↔ ((part : ℕ) → part < length completed.now → IsOwnPart self.now game part (slice_index_or completed.now part None)) }
+    {
+        for part in 0..completed.len() {
+            if !self.is_own_part(game, part, &completed[part]) {
+                return false;
+            }
+        }
+        true
+    }
+
+    /// Whether these are all parts of one game's move, in part order.
+    pub(crate) fn are_own_parts(&self, completed: &[Option<Done<CAP>>]) -> bool
+        ensures { IsTrue result ↔ AreOwnParts self.now completed.now }
+    {
+        let Some(Some(first)) = completed.first() else {
+            return false;
+        };
+        let game = first.ticket().job().game as usize;
+        if game >= self.count_rows() {
+            return false;
+        }
+        if self.game(game).count_parts() != completed.len() {
+            return false;
+        }
+        self.are_own_parts_of(game, completed)
     }
 }

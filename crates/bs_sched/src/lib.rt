@@ -3,7 +3,6 @@
 #![tactic(auto)]
 
 mod busy;
-mod completing;
 mod cores;
 mod event;
 mod fiber;
@@ -20,13 +19,12 @@ mod stage;
 mod stays;
 mod taking;
 
-pub use completing::Strays;
 pub use cores::{Core, Counts, LEAST_CAPACITY, MOST_WORKERS};
 pub use event::Event;
 pub use law::isolation_law;
 pub use opening::Open;
 pub use plan_blocks::{MOST_STAYS, blocks_of, blocks_of_all};
-pub use putting::Stray;
+pub use putting::{Stray, Strays};
 pub use shared_row::SharedRow;
 pub use stage::Stage;
 pub use stays::{Admit, Leave};

@@ -1,22 +1,17 @@
 //! Opening a core: a stay for each row of its plan, and the reserved blocks.
-ghost use Rattle.std.specs.Prelude.{◌≡◌, ◌≤◌, ◌<◌, length, IfOk, IfErr, OnOk};
-ghost use Rattle.std.specs.List.{range_with_len};
+ghost use Rattle.std.specs.Prelude.{◌≡◌, ◌≤◌, ◌<◌, IfOk, IfErr, OnOk};
 ghost use Rattle.bs_block.specs.Bytes.{IsCapacity};
-ghost use Rattle.bs_board.specs.plans.Plan.{IsFitPlan};
 ghost use Rattle.bs_sched.specs.Core.{opened_core};
 ghost use Rattle.bs_sched.specs.Games.{opened};
-ghost use Rattle.bs_sched.specs.GamesLayout.{opened_games};
 ghost use Rattle.bs_sched.specs.PlanBlocks.{blocks_of_all};
 ghost use Rattle.bs_sched.specs.declared.opening.Open.TheVariants as cause;
 
 use crate::busy::nobody_busy;
 use crate::cores::{Core, LEAST_CAPACITY, MOST_SPARES, MOST_WORKERS};
-use crate::game::Game;
 use crate::games::Games;
 use crate::last_games::spread_games;
-use crate::plan_blocks::{blocks_of_all, open_pool};
-use bs_board::limits::MOST_ROWS;
-use bs_board::{Plan, Row};
+use crate::plan_blocks::blocks_of_all;
+use bs_board::Plan;
 use std::alloc::{AllocError, Global};
 use thiserror::Error;
 
@@ -35,64 +30,6 @@ impl From<AllocError> for Open {
 
     fn from(_error: AllocError) -> Open {
         Open::Memory
-    }
-}
-
-/// Opens a stay for each row.
-fn open_games<const CAP: usize>(alloc: Global, rows: &[Row]) -> Result<Vec<Game<CAP>>, AllocError>
-    requires wide { LEAST_CAPACITY ≤ CAP }
-    requires few { length rows.now ≤ MOST_ROWS }
-    ensures { IfOk result (λ games. games.items ≡ opened_games rows.now) }
-{
-    let mut games = Vec::with_capacity(alloc, rows.len())?;
-    for game in 0..rows.len() {
-        let row = &rows[game];
-        let _quota = row.quota;
-        games.push(Game::new(alloc, game, row.copy(alloc)?)?)?;
-    }
-    Ok(games)
-}
-
-/// Lists the rows of the plan, all of them open.
-#[tactic(auto, using(crate::proofs::OpenRows::rows_more))]
-fn open_rows(alloc: Global, games: usize) -> Result<Vec<u32>, AllocError>
-    requires { games ≤ MOST_ROWS }
-    ensures { IfOk result (λ rows. rows.items ≡ range_with_len 0 games) }
-{
-    let mut rows = Vec::with_capacity(alloc, games)?;
-    for game in 0..games {
-        rows.push(game as u32)?;
-    }
-    Ok(rows)
-}
-
-impl<const CAP: usize> Games<CAP> {
-    /// Opens the games of a plan, with no command yet.
-    #[tactic(auto, using(crate::proofs::OpenedGames::opened_lanes_are, crate::proofs::OpenedGames::opened_packings, crate::proofs::OpenedGames::opened_numbers, crate::proofs::Tallies::opened_tallies))]
-    fn open(alloc: Global, plan: Plan, blocks: usize, workers: usize) -> Result<Self, Open>
-        requires capacity { IsCapacity CAP }
-        requires wide { LEAST_CAPACITY ≤ CAP }
-        requires workers { workers ≤ MOST_WORKERS }
-        ensures games { IfOk result (λ games. games ≡ opened CAP blocks workers plan.rows) }
-        ensures plan { IsFitPlan plan.rows }
-        ensures room { OnOk result (blocks_of_all CAP plan.rows ≤ blocks) }
-        ensures short { IfErr result (λ fault. fault ≡ cause.Short → blocks < blocks_of_all CAP plan.rows) }
-    {
-        let rows = plan.rows.as_slice();
-        if blocks_of_all(CAP, rows) > blocks {
-            return Err(Open::Short);
-        }
-        let pool = open_pool(alloc, rows, blocks)?;
-        let list = open_games(alloc, rows)?;
-        let open_rows = open_rows(alloc, rows.len())?;
-        Ok(Games {
-            rows: plan.rows,
-            workers: workers as u32,
-            failed: false,
-            list,
-            open_rows,
-            pool,
-        })
     }
 }
 

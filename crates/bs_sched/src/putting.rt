@@ -1,22 +1,17 @@
-//! Completing jobs: whether a result is of a job of this core, and its effect on the game.
-ghost use Rattle.std.specs.Prelude.{◌≡◌, ◌<◌, ◌↔◌, IsTrue, true, ℕ, length, OnOk, IfErr};
-ghost use Rattle.bs_fiber.specs.declared.input.Input.{Input as AnyInput};
-ghost use Rattle.bs_fiber.specs.Tickets.{HoldsWork, frames_in, names_of};
-ghost use Rattle.bs_fiber.specs.Work.{out_seen};
+//! Completing jobs: Begins and Joins one by one, and all parts of a move at once.
+ghost use Rattle.std.specs.Prelude.{◌≡◌, ◌<◌, OnOk, IfErr, ℕ, true, None, [], ◌∷◌};
 ghost use Rattle.bs_sched.specs.Core.{core_after};
-ghost use Rattle.bs_sched.specs.Games.{games_completed};
-ghost use Rattle.bs_sched.specs.Inputs.{names_for};
-ghost use Rattle.bs_sched.specs.Lane.{is_out, lane_view, lane_command};
-ghost use Rattle.bs_sched.specs.Machine.{lane_of};
 ghost use Rattle.bs_sched.specs.Putting.{IsOwn, IsOwnJob};
+ghost use Rattle.bs_sched.specs.Isolation.{are_enabled};
+ghost use Rattle.bs_sched.specs.Journal.{setting_in};
+ghost use Rattle.bs_sched.specs.Parts.{AreOwnParts, IsOwnPart, core_run, puts_of};
 ghost use Rattle.bs_sched.specs.declared.event.Event.TheVariants as event;
 
 use crate::busy::mark;
 use crate::cores::{Core, note};
 use crate::event::Event;
-use crate::games::Games;
-use bs_fiber::{Contents, Done, JobKind, JobName, Out};
-use bs_pool::Owned;
+use arrayvec::ArrayVec;
+use bs_fiber::{Contents, Done};
 use thiserror::Error;
 
 /// The done is not of a Begin or Join that the worker has out: the job is not out with that worker,
@@ -28,53 +23,12 @@ pub struct Stray<const CAP: usize> {
     pub done: Done<CAP>,
 }
 
-impl<const CAP: usize> Games<CAP> {
-    /// Completes a job that was out.
-    fn complete_job(&mut self, job: JobName, out: Out, blocks: &mut Vec<Owned<CAP>>)
-        requires game { job.game < length self.old.lanes }
-        requires out { (worker : ℕ) × (is_out worker (lane_of self.old.lanes job.game) job.kind job.part ≡ true) }
-        requires worked { out ≡ out_seen job.kind job.part (lane_view (lane_of self.old.lanes job.game)) (lane_command (lane_of self.old.lanes job.game)) }
-        requires names { names_of (frames_in blocks.old.items) ≡ names_for self.old.storage job }
-        requires holds { (input : AnyInput) × HoldsWork (record { input = input; frames = frames_in blocks.old.items }) out }
-        ensures { self.new ≡ games_completed CAP self.old job }
-    {
-        let game = job.game as usize;
-        self.list[game].keeps();
-        self.list[game].complete(&mut self.pool, job, out, blocks);
-    }
-
-    /// Whether the worker has the job out, and its ticket holds the core's input for it and the
-    /// blocks that it was taken with.
-    pub(crate) fn is_own(&self, worker: usize, done: &Done<CAP>) -> bool
-        ensures { IsTrue result ↔ IsOwn self.now worker done.now }
-    {
-        let ticket = done.ticket();
-        let game = ticket.job().game as usize;
-        if game >= self.list.len() {
-            return false;
-        }
-        self.list[game].is_own(worker, ticket)
-    }
-
-    /// Whether the done is of a Begin or a Join, and `is_own` holds of it.
-    fn is_own_job(&self, worker: usize, done: &Done<CAP>) -> bool
-        ensures { IsTrue result ↔ IsOwnJob self.now worker done.now }
-    {
-        done.ticket().job().kind != JobKind::Part && self.is_own(worker, done)
-    }
-
-    /// Completes a job of this core, and returns the contents of its ticket.
-    fn complete(&mut self, done: Done<CAP>) -> Box<Contents<CAP>>
-        requires { (worker : ℕ) × IsOwn self.old worker done }
-        ensures { self.new ≡ games_completed CAP self.old done.entry.input.job }
-    {
-        let job = done.ticket().job();
-        self.game(job.game as usize).keeps();
-        let (ticket, out) = done.into_parts();
-        let mut contents = ticket.into_contents();
-        self.complete_job(job, out, &mut contents.frames);
-        contents
-    }
+/// The list is not all parts of one game's move, in part order, each out with its worker.
+#[derive(Debug, Drop, Error)]
+#[error("these are not the parts of a move that is out")]
+pub struct Strays<const CAP: usize> {
+    /// The list, unchanged.
+    pub parts: ArrayVec<Option<Done<CAP>>, 4>,
 }
 
 /// Keeps the contents, unless the list is full.
@@ -87,7 +41,7 @@ fn keep_spare<const CAP: usize>(spares: &mut Vec<Box<Contents<CAP>>>, spent: Box
 impl<const CAP: usize> Core<CAP> {
     /// Completes a job of the worker, and keeps the memory of its ticket for a later one. The
     /// journal has room for the event, which `take` reserved.
-    pub(crate) fn complete(&mut self, worker: usize, done: Done<CAP>)
+    fn complete(&mut self, worker: usize, done: Done<CAP>)
         requires { IsOwn self.old.games worker done }
         ensures { self.new ≡ core_after CAP self.old (event.Put worker done.entry.input.job) }
     {
@@ -111,6 +65,48 @@ impl<const CAP: usize> Core<CAP> {
             return Err(Stray { done });
         }
         self.complete(worker, done);
+        Ok(())
+    }
+
+    /// Completes one part of a move of this core.
+    fn complete_part(&mut self, completed: Option<Done<CAP>>)
+        requires { (game part : ℕ) × IsOwnPart self.old.games game part completed }
+        ensures { self.new ≡ core_run CAP self.old (puts_of (completed.entry ∷ [])) }
+    {
+        match completed {
+            Some(done) => {
+                let worker = done.ticket().worker() as usize;
+                self.complete(worker, done);
+            }
+            None => unreachable!(),
+        }
+    }
+
+    /// Completes all parts of one move of this core. The journal has room for their events.
+    fn complete_parts(&mut self, parts: &mut [Option<Done<CAP>>])
+        requires { AreOwnParts self.old.games parts.old }
+        ensures { self.new ≡ core_run CAP self.old (puts_of parts.old) }
+    {
+        for part in 0..parts.len() {
+            let done = parts[part].take();
+            self.complete_part(done);
+        }
+    }
+
+    /// Completes all parts of one game's move, in part order, each for the worker that has it out.
+    /// Takes no memory. Any other list is returned in `Strays`, and the core is unchanged.
+    #[tactic(auto, using(crate::proofs::OwnParts::all_enabled))]
+    pub fn put_parts(&mut self, parts: ArrayVec<Option<Done<CAP>>, 4>) -> Result<(), Strays<CAP>>
+        ensures own { OnOk result (AreOwnParts self.old.games parts.entry.items) }
+        ensures enabled { OnOk result (are_enabled (setting_in CAP self.old) self.old.games.lanes (puts_of parts.entry.items) ≡ true) }
+        ensures ok { OnOk result (self.new ≡ core_run CAP self.old (puts_of parts.entry.items)) }
+        ensures strays { IfErr result (λ strays. (strays.parts ≡ parts.entry) × (self.new ≡ self.old) × (AreOwnParts self.old.games parts.entry.items → ⊥)) }
+    {
+        if !self.games.are_own_parts(parts.as_slice()) {
+            return Err(Strays { parts });
+        }
+        let mut parts = parts;
+        self.complete_parts(parts.as_mut_slice());
         Ok(())
     }
 }

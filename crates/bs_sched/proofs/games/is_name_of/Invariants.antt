@@ -2,7 +2,7 @@ use Rattle.std.proofs.Common.{◌≡◌, ℕ, ◌<◌, false, slice_index_or}
 use Rattle.bs_board.specs.Texts.{is_same_text}
 use Rattle.bs_sched.specs.GamesLayout.{lanes_in}
 use Rattle.bs_sched.specs.Machine.{lane_of}
-use Rattle.bs_sched.proofs.stays.is_name_of.Given as goal
+use Rattle.bs_sched.proofs.games.is_name_of.Given as goal
 
 -- no stay so far has the name
 abbrev pub invariant-loop-place : goal.invariant-loop-place

@@ -1,6 +1,6 @@
 use Rattle.bs_sched.specs.GamesLayout.{lanes_in}
 use Rattle.bs_sched.specs.Taking.{AreNoneReadyBetween}
-use Rattle.bs_sched.proofs.taking.find_job.Given as goal
+use Rattle.bs_sched.proofs.games.find_job.Given as goal
 
 -- no lane so far has a ready job
 abbrev pub invariant-loop-place : goal.invariant-loop-place
