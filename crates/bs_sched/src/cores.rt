@@ -173,7 +173,7 @@ impl<const CAP: usize> Core<CAP> {
         self.games.game(game).row()
     }
 
-    /// Whether the stay of that row has not left.
+    /// Whether the stay of that row is open.
     pub fn is_open(&self, game: usize) -> bool
         requires { game < length self.now.games.lanes }
         ensures { result ≡ (lane_of self.now.games.lanes game).is_open }

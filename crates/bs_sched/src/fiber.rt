@@ -41,7 +41,7 @@ impl Model for Fiber {
     ghost invariant = { IsFiber };
 }
 
-/// Recalls for the prover that a command is within the limits, which its types keep.
+/// Does nothing. Gives the prover the limits of a command, which its types guarantee.
 pub(crate) fn keeps_limits(command: &Command)
     ensures { Fits command.now }
 {
@@ -122,7 +122,7 @@ impl Fiber {
         self.left = Some(charge);
     }
 
-    /// Whether the stay has not left.
+    /// Whether the stay is open.
     pub(crate) fn is_open(&self) -> bool
         ensures { result ≡ self.now.is_open }
     {

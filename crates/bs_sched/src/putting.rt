@@ -75,8 +75,8 @@ impl<const CAP: usize> Core<CAP> {
     {
         match completed {
             Some(done) => {
-                let worker = done.ticket().worker() as usize;
-                self.complete(worker, done);
+                let taker = done.ticket().worker() as usize;
+                self.complete(taker, done);
             }
             None => unreachable!(),
         }

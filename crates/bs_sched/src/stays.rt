@@ -64,7 +64,7 @@ impl From<AllocError> for Leave {
     }
 }
 
-/// Recalls for the prover that a row is within its limits, which its type keeps.
+/// Does nothing. Gives the prover the limits of a row, which its type guarantees.
 fn keeps_row(row: &Row)
     ensures { is_fit_row row.now ≡ true }
 {

@@ -48,8 +48,8 @@ impl<const CAP: usize> Core<CAP> {
         is_marked(self.busy.as_slice(), worker)
     }
 
-    /// Recalls for the prover that a stay that has left has no job: if no open stay has one, no
-    /// stay has one.
+    /// Does nothing. Gives the prover that if no open stay has a job ready, no stay has one: a stay
+    /// that has left has none.
     fn has_none(&self)
         requires { AreNoneOpenReady self.now.games.lanes }
         ensures { AreNoneReady self.now.games.lanes }
