@@ -7,4 +7,4 @@ use Rattle.bs_workers.proofs.single.hand.Goals as goal
 pub returns : goal.returns
 returns g c =
     makes_act g.row.CAP c.args.core.now c.hand_handles.new.self (event.Hand c.args.stay c.args.command.now) (act.Hand c.args.stay c.args.command.now) refl
-    c.in_ok-hand_handles.ensures.ok
+    (rw c.in_ok-new.ensures at c.in_ok-hand_handles.ensures.ok)
