@@ -1,7 +1,7 @@
 //! The parts of a game's move. A part has its key until it is taken, then its worker and the number
 //! of its frame block; once it is completed it has its moved snakes and the block, and once the
 //! Join is taken the block's number.
-ghost use Rattle.std.specs.Prelude.{◌≡◌, ◌<◌, ◌≤◌, [], ◌∷◌, ◌++◌, List, ℕ, Some, None, IfOk, true, false, slice_get, slice_set, replicate, vec_len, vec_capacity, length, map, flat_map, option_to_list, slice_index_or, MatchOption, ◌↔◌, IsTrue};
+ghost use Rattle.std.specs.Prelude.{◌≡◌, ◌<◌, ◌≤◌, [], ◌∷◌, ◌++◌, List, ℕ, Some, None, IfOk, true, false, slice_get, vec_len, vec_capacity, length, map, flat_map, option_to_list, slice_index_or, MatchOption, ◌↔◌, IsTrue};
 ghost use Rattle.std.specs.List.{list_all};
 ghost use Rattle.bs_board.specs.declared.boards.snake.Snake.{Snake};
 ghost use Rattle.bs_fiber.specs.Frames.{frame_of};
