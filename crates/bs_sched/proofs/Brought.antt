@@ -1,5 +1,5 @@
 -- The frame blocks of a job that is completed.
-use Rattle.std.proofs.Common.{◌≡◌, ◌≢◌, ℕ, zero, suc, List, [], ◌∷◌, map, Option, Some, None, slice_get, refl, sym, ap, subst, ◌∙◌, inl, inr, true}
+use Rattle.std.proofs.Common.{◌≡◌, ◌≢◌, ℕ, zero, suc, List, [], ◌∷◌, map, Option, Some, None, slice_get, refl, sym, ap, ◌∙◌, inl, inr, true}
 use Rattle.std.specs.Prelude.{nat_eq, slice_index_or, slice_set}
 use Rattle.std.proofs.lemmas.Bool.{and_parts, cases_Bool}
 use Rattle.std.proofs.lemmas.List.{set-get_or}
@@ -16,29 +16,19 @@ use Rattle.bs_fiber.specs.declared.out.Out.TheVariants.{Goes, Answered, Moved}
 use Rattle.bs_fiber.specs.Frames.{frame_of}
 use Rattle.bs_fiber.specs.Tickets.{HoldsWork, bytes_of, frames_in, names_of}
 use Rattle.bs_fiber.specs.Work.{goes, moved_part, out_seen}
-use Rattle.bs_sched.specs.declared.stage.Stage.{Stage}
-use Rattle.bs_sched.specs.Frames.{FramesView, AreBegunFrames, AreFramesAt, FitFrames, flattened}
+use Rattle.bs_sched.specs.Frames.{flattened}
 use Rattle.bs_sched.specs.Games.{answer_effect, storage_answered}
 use Rattle.bs_sched.specs.Inputs.{job_numbers}
 use Rattle.bs_sched.specs.Lane.{Lane, has_begin, has_join, is_out, occupies}
 use Rattle.bs_sched.specs.Storage.{Storage, frames_of, stored, without_frames}
-use Rattle.bs_sched.proofs.PartFrames.{at_begin}
 
 -- ---- a job that answers
 
--- while a command is begun no block is drawn
-pub none_begun : (x : Lane) (worker p : ℕ) (f : FramesView) → is_out worker x kind.Begin p ≡ true → FitFrames x f → f.numbers ≡ []
-none_begun x worker p f out are =
-    let at = at_begin worker x.stage (and_parts (nat_eq p 0) (has_begin worker x.stage) out).1 in
-    let none : AreBegunFrames x f = subst (λ (s : Stage). AreFramesAt s x f) at are.at in
-    ap (λ (v : FramesView). v.numbers) none.none
-
 -- it has all frame blocks of its game
-pub all_of_job : (k : JobKind) (x : Lane) (worker p : ℕ) (f : FramesView) → k ≢ kind.Part → is_out worker x k p ≡ true → FitFrames x f
-    → job_numbers k p f.numbers ≡ flattened f.numbers
-all_of_job kind.Begin x worker p f other out are = ap (λ (ns : List (Option ℕ)). flattened ns) (sym (none_begun x worker p f out are))
-all_of_job kind.Part x worker p f other out are = absurd (other refl)
-all_of_job kind.Join x worker p f other out are = refl
+pub all_of_job : (k : JobKind) (p : ℕ) (numbers : List (Option ℕ)) → k ≢ kind.Part → (k ≡ kind.Begin → numbers ≡ []) → job_numbers k p numbers ≡ flattened numbers
+all_of_job kind.Begin p numbers other none = ap (λ (ns : List (Option ℕ)). flattened ns) (sym (none refl))
+all_of_job kind.Part p numbers other none = absurd (other refl)
+all_of_job kind.Join p numbers other none = refl
 
 pub occupied : (k : JobKind) (x : Lane) (worker p : ℕ) → k ≢ kind.Part → is_out worker x k p ≡ true → occupies worker x ≡ true
 occupied kind.Begin x worker p other out = let has = (and_parts (nat_eq p 0) (has_begin worker x.stage) out).1 in rw has refl

@@ -1,42 +1,42 @@
 -- One stay after an event: its heap and its frames still match its lane, and its blocks are its own.
-use Rattle.std.proofs.Common.{◌≡◌, ◌≢◌, ℕ, ◌<◌, ◌≤◌, true, false, List, [], length, map, Option, Some, None, Result, Ok, Err, refl, sym, ap, subst, ◌∙◌, arith}
-use Rattle.std.specs.Prelude.{slice_index_or, slice_set, OnOk, OnErr}
-use Rattle.std.specs.List.{range_with_len}
+use Rattle.std.proofs.Common.{◌≡◌, ◌≢◌, ℕ, ◌<◌, true, false, List, [], length, map, Option, Some, None, Result, Ok, Err, refl, sym, ap, subst, ◌∙◌, arith}
+use Rattle.std.specs.Prelude.{replicate, slice_get, OnOk, OnErr}
 use Rattle.std.proofs.lemmas.Bool.{cond-true}
-use Rattle.std.proofs.lemmas.List.{length-set}
+use Rattle.std.proofs.lemmas.List.{length-replicate, length-set}
 use Rattle.bs_board.specs.plans.Plan.{GameRow}
 use Rattle.bs_board.specs.declared.boards.snake.Snake.{Snake}
 use Rattle.bs_board.specs.declared.commands.command.Command.{Command}
 use Rattle.bs_fiber.specs.declared.job.JobKind.{JobKind}
 use Rattle.bs_fiber.specs.declared.job.JobKind.TheVariants as kind
-use Rattle.bs_fiber.specs.Work.{moved_part}
-use Rattle.bs_game.specs.Game.{game_charge}
-use Rattle.bs_game.specs.declared.view.View.{View}
+use Rattle.bs_fiber.specs.declared.job.JobName.{JobName}
+use Rattle.bs_fiber.specs.Work.{moved_part, parts_of, snakes_in}
+use Rattle.bs_counter.specs.Keys.{Key, TallyId}
+use Rattle.bs_game.specs.Game.{game_charge, last_board}
 use Rattle.bs_game.proofs.Recorded.{same_charge}
 use Rattle.bs_heap.specs.Charge.{charge_of}
 use Rattle.bs_heap.specs.Heap.{Heap, with_index_room}
 use Rattle.bs_heap.specs.HeldBlocks.{Holds, LeavesOthers}
-use Rattle.bs_heap.specs.Packing.{numbers_of}
+use Rattle.bs_heap.specs.Packing.{Packing, numbers_of}
 use Rattle.bs_pool.specs.Ledger.{Ledger}
 use Rattle.bs_pool.specs.Reservations.{reserved_by}
 use Rattle.bs_sched.specs.declared.game.Game.TheInside.{Inside}
 use Rattle.bs_sched.specs.PartState.{PartState}
-use Rattle.bs_sched.specs.PartState as part
+use Rattle.bs_sched.specs.PartState as state
 use Rattle.bs_sched.specs.declared.stage.Stage.{Stage}
 use Rattle.bs_sched.specs.declared.stage.Stage.TheVariants as stage
 use Rattle.bs_sched.specs.Courses.{IsRight}
-use Rattle.bs_sched.specs.Frames.{AreFramesAt, ArePartFrames, FitFrames, FramesView, PartsView, LeavesBut, idle_frames, flattened, with_moved}
-use Rattle.bs_sched.specs.Game.{GameView, HasBlocks, IsGame, KeepsBoards, lane_at}
+use Rattle.bs_sched.specs.Frames.{FramesView, LeavesBut, flattened, forked_frames, with_moved}
+use Rattle.bs_sched.specs.Game.{GameView, HasBlocks, IsGame, KeepsBoards, forked_game, game_in, game_with_part, lane_at, taken_game}
 use Rattle.bs_sched.specs.Insides.{HasParts, IsRightWithParts, may_answer}
-use Rattle.bs_sched.specs.Lane.{Lane, answered, is_idle, is_in_parts, is_out, is_playing, is_ready, kept_of, lane_command, lane_view, part_at, records_of, with_part_done, with_taken, with_waiting}
-use Rattle.bs_sched.proofs.JoinFrames.{to_join}
-use Rattle.bs_sched.proofs.Lanes.{out_part, parts_stage}
-use Rattle.bs_sched.proofs.PartFrames.{part_completed, same_frame}
+use Rattle.bs_sched.specs.Lane.{Lane, answered, goes_on, is_idle, is_out, is_playing, is_ready, kept_of, lane_command, lane_view, records_of, with_part_done, with_taken, with_waiting}
+use Rattle.bs_sched.specs.MoveParts.{ArePartsIn, FitParts, PartsView, frames_of, number_of, part_completed, part_taken, parts_forked, parts_idle, parts_joined, ready_part, states_of}
+use Rattle.bs_sched.proofs.JoinFrames.{seen_joined, states_joined, to_join}
+use Rattle.bs_sched.proofs.PartFrames.{seen_completed, seen_forked, seen_taken, states_completed, states_forked, states_taken, to_fork}
 use Rattle.bs_sched.proofs.RightRuns.{busy_out, busy_ready, not_quiet, open_busy}
 
 -- a stay is right, with its parts
 pub right_game : (cap : ℕ) {at : ℕ} (c : Inside at) → IsGame cap c → IsRightWithParts c.fiber → IsRight (lane_at c)
-right_game cap c is right = right c.parts.states is.parts
+right_game cap c is right = right (states_of c.parts) is.many
 
 -- a stay with a job that is out or may be taken is open
 
@@ -69,9 +69,9 @@ pub record SameBoards (x y : Lane) : Type 0 where
   pub game : y.game ≡ x.game
 
 pub kept_game : (cap : ℕ) {at : ℕ} (c : Inside at) (x : Lane) (heap : Heap) (ps : PartsView) → IsGame cap c → c.fiber.is_open ≡ true → SameBoards c.fiber x
-    → heap ≡ with_index_room heap.index_room c.heap → (may_answer x.stage ≡ true → 0 < heap.index_room) → HasParts x ps.states → FitFrames (record x { parts = ps.states }) ps.frames
+    → heap ≡ with_index_room heap.index_room c.heap → (may_answer x.stage ≡ true → 0 < heap.index_room) → HasParts x (states_of ps) → FitParts x ps
     → IsGame cap (record c { fiber = x; heap = heap; parts = ps })
-kept_game cap c x heap ps is stands same grown room parts frames =
+kept_game cap c x heap ps is stands same grown room many parts =
     let stands_still : x.is_open ≡ true = same.flag ∙ stands in
     record {
       wide = is.wide;
@@ -79,23 +79,22 @@ kept_game cap c x heap ps is stands same grown room parts frames =
       records = ap (λ (h : Heap). h.records) grown ∙ is.records ∙ kept_open c.fiber stands ∙ ap records_of (sym same.game) ∙ sym (kept_open x stands_still);
       room = room;
       quiet = λ shut. let wrong : true ≡ false = sym stands_still ∙ shut in absurd cc;
+      many = many;
       parts = parts;
-      frames = frames;
     }
 
 -- the command is answered
 pub answered_kept : (cap : ℕ) {at : ℕ} (c : Inside at) (x : Lane) (heap : Heap) (ps : PartsView) → IsGame cap c → c.fiber.is_open ≡ true → x ≡ answered c.fiber
-    → KeepsBoards (answered c.fiber) heap → ps.frames ≡ idle_frames ps.frames.tag ps.frames.tally → IsGame cap (record c { fiber = x; heap = heap; parts = ps })
+    → KeepsBoards (answered c.fiber) heap → ps ≡ parts_idle c.parts → IsGame cap (record c { fiber = x; heap = heap; parts = ps })
 answered_kept cap c x heap ps is stands lane boards idle =
-    let few : length ps.frames.numbers ≤ 4 = rw idle (omega arith) in
-    rw lane (record {
+    rw (lane, idle) (record {
       wide = is.wide;
       quota = boards.quota;
       records = boards.records ∙ sym (kept_open (answered c.fiber) stands);
       room = λ may. let wrong : false ≡ true = may in absurd cc;
       quiet = λ shut. let wrong : true ≡ false = sym stands ∙ shut in absurd cc;
-      parts = λ plays. let wrong : false ≡ true = plays in absurd cc;
-      frames = record { few = few; at = idle };
+      many = λ plays. let wrong : false ≡ true = plays in absurd cc;
+      parts = record { few = omega arith; at = (refl, refl) };
     })
 
 -- ---- a command is queued, or is not because memory ran out
@@ -105,49 +104,26 @@ pub record SameStage (x y : Lane) : Type 0 where
   pub stage : y.stage ≡ x.stage
   pub view : lane_view y ≡ lane_view x
   pub command : lane_command y ≡ lane_command x
-  pub parts : y.parts ≡ x.parts
-
-same_parts : (x y : Lane) (parts : List PartState) → SameStage x y → SameStage (record x { parts = parts }) (record y { parts = parts })
-same_parts x y parts same = record { boards = record { row = same.boards.row; flag = same.boards.flag; game = same.boards.game }; stage = same.stage; view = same.view; command = same.command; parts = refl }
 
 pub same_stage : {A B : Type 0} (result : Result A B) (x y : Lane) (command : Command) → OnOk result (y ≡ with_waiting command x) → OnErr result (y ≡ x)
     → SameStage x y
 same_stage (Ok value) x y command handed same =
-    rw handed (record { boards = record { row = refl; flag = refl; game = refl }; stage = refl; view = refl; command = refl; parts = refl })
+    rw handed (record { boards = record { row = refl; flag = refl; game = refl }; stage = refl; view = refl; command = refl })
 same_stage (Err error) x y command handed same =
-    rw same (record { boards = record { row = refl; flag = refl; game = refl }; stage = refl; view = refl; command = refl; parts = refl })
+    rw same (record { boards = record { row = refl; flag = refl; game = refl }; stage = refl; view = refl; command = refl })
 
-abbrev moved_in_parts : View → Command → List PartState → List (Option (List Snake))
-moved_in_parts view command parts = map (λ p. Some (moved_part p view command)) (range_with_len 0 (length parts))
+same_at : (s : Stage) (x y : Lane) (v : PartsView) → lane_view y ≡ lane_view x → lane_command y ≡ lane_command x → ArePartsIn s x v → ArePartsIn s y v
+same_at stage.Idle x y v view command at = at
+same_at (stage.Begin worker) x y v view command at = record { none = at.none; keys = rw (view, command) at.keys }
+same_at stage.Parts x y v view command at = rw (view, command) at
+same_at (stage.Join None) x y v view command at = rw (view, command) at
+same_at (stage.Join (Some worker)) x y v view command at = tt
 
-same_moved : (x y : Lane) → lane_view y ≡ lane_view x → lane_command y ≡ lane_command x → y.parts ≡ x.parts
-    → moved_in_parts (lane_view x) (lane_command x) x.parts ≡ moved_in_parts (lane_view y) (lane_command y) y.parts
-same_moved x y view command parts =
-    ap (λ (v : View). moved_in_parts v (lane_command x) x.parts) (sym view) ∙ ap (λ (c : Command). moved_in_parts (lane_view y) c x.parts) (sym command)
-    ∙ ap (λ (ps : List PartState). moved_in_parts (lane_view y) (lane_command y) ps) (sym parts)
-
-same_at : (s : Stage) (x y : Lane) (f : FramesView) → lane_view y ≡ lane_view x → lane_command y ≡ lane_command x → y.parts ≡ x.parts
-    → AreFramesAt s x f → AreFramesAt s y f
-same_at stage.Idle x y f view command parts at = at
-same_at (stage.Begin worker) x y f view command parts at = record { none = at.none; keys = rw (view, command) at.keys }
-same_at stage.Parts x y f view command parts at = record {
-  all = at.all ∙ ap length (sym parts);
-  same = at.same ∙ ap length (sym parts);
-  each = λ p number moved n_is m_is.
-      let state : part_at y p ≡ part_at x p = ap (λ (ps : List PartState). slice_index_or ps p part.Done) parts in
-      rw state (same_frame (part_at x p) x y p number moved (sym view) (sym command) (at.each p number moved n_is m_is));
+pub handed_fit : (x y : Lane) (v : PartsView) → FitParts x v → SameStage x y → FitParts y v
+handed_fit x y v fit same = record {
+  few = fit.few;
+  at = subst (λ (s : Stage). ArePartsIn s y v) (sym same.stage) (same_at x.stage x y v same.view same.command fit.at);
 }
-same_at (stage.Join None) x y f view command parts at = record { all = rw parts at.all; moved_are = at.moved_are ∙ same_moved x y view command parts }
-same_at (stage.Join (Some worker)) x y f view command parts at = record { all = rw parts at.all; none = rw parts at.none }
-
-same_frames : (x y : Lane) (f : FramesView) → FitFrames x f → SameStage x y → FitFrames y f
-same_frames x y f are same = record {
-  few = are.few;
-  at = subst (λ (s : Stage). AreFramesAt s y f) (sym same.stage) (same_at x.stage x y f same.view same.command same.parts are.at);
-}
-
-pub handed_frames : (x y : Lane) (ps : PartsView) → FitFrames (record x { parts = ps.states }) ps.frames → SameStage x y → FitFrames (record y { parts = ps.states }) ps.frames
-handed_frames x y ps are same = same_frames (record x { parts = ps.states }) (record y { parts = ps.states }) ps.frames are (same_parts x y ps.states same)
 
 pub handed_parts : (x y : Lane) (parts : List PartState) → HasParts x parts → SameStage x y → HasParts y parts
 handed_parts x y parts has same plays = rw same.boards.game (has (ap is_playing (sym same.stage) ∙ plays))
@@ -200,38 +176,64 @@ framed_blocks cap v w pool pool' has tag packing row frame_tag holds leaves = re
 
 -- ---- as many parts as the board of the move needs
 
-pub taken_parts : (cap : ℕ) {at : ℕ} (c : Inside at) (p worker : ℕ) (new : List PartState) → is_ready (lane_at c) kind.Part p ≡ true → IsGame cap c
-    → new ≡ slice_set c.parts.states p (part.Out worker) → HasParts c.fiber new
-taken_parts cap c p worker new ready is new_is plays = ap length new_is ∙ length-set c.parts.states p (part.Out worker) ∙ is.parts plays
+pub taken_parts : (cap : ℕ) {at : ℕ} (c : Inside at) (p worker n : ℕ) → IsGame cap c → HasParts c.fiber (states_of (part_taken p worker n c.parts))
+taken_parts cap c p worker n is plays =
+    ap length (states_taken c.parts p worker n) ∙ length-set (states_of c.parts) p (state.Out worker) ∙ is.many plays
 
-pub joined_parts : (cap : ℕ) {at : ℕ} (c : Inside at) (x : Lane) (new : List PartState) (p worker : ℕ) → is_ready (lane_at c) kind.Join p ≡ true → IsGame cap c
-    → x ≡ with_taken worker kind.Join p c.fiber → new ≡ c.parts.states → HasParts x new
-joined_parts cap c x new p worker ready is lane same plays =
-    let at : c.fiber.stage ≡ stage.Join None = (to_join (lane_at c) c.parts.frames p ready is.frames).at in
-    let playing : is_playing c.fiber.stage ≡ true = ap is_playing at in
-    rw (lane, same) (is.parts playing)
+pub joined_parts : (cap : ℕ) {at : ℕ} (c : Inside at) (x : Lane) (p worker : ℕ) → is_ready c.fiber kind.Join p ≡ true → IsGame cap c
+    → x ≡ with_taken worker kind.Join p c.fiber → HasParts x (states_of (parts_joined c.parts))
+joined_parts cap c x p worker ready is lane plays =
+    let at : c.fiber.stage ≡ stage.Join None = (to_join c.fiber c.parts p ready is.parts).at in
+    rw (lane, states_joined c.parts) (is.many (ap is_playing at))
 
-pub done_parts : (cap : ℕ) {at : ℕ} (c : Inside at) (s : Stage) (p worker : ℕ) (new : List PartState) → is_out worker (lane_at c) kind.Part p ≡ true → IsGame cap c
-    → new ≡ slice_set c.parts.states p part.Done → HasParts (record c.fiber { stage = s }) new
-done_parts cap c s p worker new out is new_is plays =
-    let at : c.fiber.stage ≡ stage.Parts = out_part (lane_at c) worker p out in
-    ap length new_is ∙ length-set c.parts.states p part.Done ∙ is.parts (ap is_playing at)
-
-pub few_parts : (cap : ℕ) {at : ℕ} (c : Inside at) → is_in_parts c.fiber.stage ≡ true → IsGame cap c → length c.parts.states ≤ 4
-few_parts cap c on is =
-    let frames : ArePartFrames (lane_at c) c.parts.frames = subst (λ (s : Stage). AreFramesAt s (lane_at c) c.parts.frames) (parts_stage (lane_at c) on) is.frames.at in
-    let all = frames.all in
-    let few = is.frames.few in
-    omega (arith, all, few)
+done_parts : (cap : ℕ) {at : ℕ} (c : Inside at) (s : Stage) (p n : ℕ) (moved : List Snake) → c.fiber.stage ≡ stage.Parts → IsGame cap c
+    → HasParts (record c.fiber { stage = s }) (states_of (part_completed p moved n c.parts))
+done_parts cap c s p n moved at is plays =
+    ap length (states_completed c.parts p n moved) ∙ length-set (states_of c.parts) p state.Done ∙ is.many (ap is_playing at)
 
 -- a part is completed, and the stage is then this one
-pub done_game : (cap : ℕ) {at : ℕ} (c : Inside at) (x : Lane) (s : Stage) (ps : PartsView) (p worker : ℕ) (moved : List Snake) → IsGame cap c → is_out worker (lane_at c) kind.Part p ≡ true
-    → x ≡ record c.fiber { stage = s } → may_answer s ≡ false → record x { parts = ps.states } ≡ with_part_done p (lane_at c)
-    → ps.states ≡ slice_set c.parts.states p part.Done → ps.frames ≡ with_moved p moved c.parts.frames → moved ≡ moved_part p (lane_view c.fiber) (lane_command c.fiber)
-    → IsGame cap (record c { fiber = x; parts = ps })
-done_game cap c x s ps p worker moved is out x_is silent lane states frames moved_is =
-    kept_game cap c x c.heap ps is (open_out cap c worker kind.Part p is out)
-    (record { row = ap (λ (y : Lane). y.row) x_is; flag = ap (λ (y : Lane). y.is_open) x_is; game = ap (λ (y : Lane). y.game) x_is }) refl
-    (λ may. let wrong : false ≡ true = sym (ap (λ (y : Lane). may_answer y.stage) x_is ∙ silent) ∙ may in absurd cc)
-    (subst (λ (y : Lane). HasParts y ps.states) (sym x_is) (done_parts cap c s p worker ps.states out is states))
-    (part_completed (lane_at c) (record x { parts = ps.states }) c.parts.frames ps.frames p worker moved out is.frames lane frames moved_is)
+pub done_game : (cap : ℕ) {at : ℕ} (c : Inside at) (x : Lane) (s : Stage) (p n : ℕ) (moved : List Snake) → IsGame cap c → c.fiber.is_open ≡ true → c.fiber.stage ≡ stage.Parts
+    → x ≡ record c.fiber { stage = s } → may_answer s ≡ false → FitParts (record c.fiber { stage = s }) (part_completed p moved n c.parts)
+    → IsGame cap (record c { fiber = x; parts = part_completed p moved n c.parts })
+done_game cap c x s p n moved is stands at x_is silent fit =
+    rw x_is (kept_game cap c (record c.fiber { stage = s }) c.heap (part_completed p moved n c.parts) is stands (record { row = refl; flag = refl; game = refl }) refl
+    (λ may. let wrong : false ≡ true = sym silent ∙ may in absurd cc) (done_parts cap c s p n moved at is) fit)
+
+-- ---- what contracts see of a stay whose parts changed
+
+same_view : (tag : ℕ) (packing : Packing) (x y : Lane) (f h : FramesView) → x ≡ y → f ≡ h
+    → ◌≡◌ {A = GameView} (record { tag = tag; lane = x; packing = packing; frames = f }) (record { tag = tag; lane = y; packing = packing; frames = h })
+same_view tag packing x y f h lane frames = rw (lane, frames) refl
+
+pub game_taken : {at : ℕ} (c : Inside at) (v : GameView) (ps : PartsView) (worker n : ℕ) (job : JobName) (tally : Option TallyId) (keys : List Key) → game_in c ≡ v → job.kind ≡ kind.Part
+    → slice_get c.parts.list job.part ≡ Some ready_part → ps ≡ part_taken job.part worker n c.parts → game_in (record c { parts = ps }) ≡ taken_game worker job n tally keys v
+game_taken c v ps worker n job tally keys is part free taken =
+    let lane = ap (λ (l : List PartState). record c.fiber { parts = l }) (states_taken c.parts job.part worker n) in
+    let new = same_view c.heap.tag c.heap.packing _ _ _ _ lane (seen_taken c.parts job.part worker n free) in
+    subst (λ (u : GameView). game_in (record c { parts = ps }) ≡ taken_game worker job n tally keys u) is (rw (taken, part) new)
+
+pub game_joined : {at : ℕ} (c : Inside at) (v : GameView) (x : Lane) (heap : Heap) (ps : PartsView) (worker n : ℕ) (job : JobName) (tally : Option TallyId) (keys : List Key) → game_in c ≡ v → job.kind ≡ kind.Join
+    → x ≡ with_taken worker kind.Join job.part c.fiber → heap ≡ with_index_room heap.index_room c.heap → ps ≡ parts_joined c.parts
+    → game_in (record c { fiber = x; heap = heap; parts = ps }) ≡ taken_game worker job n tally keys v
+game_joined c v x heap ps worker n job tally keys is join lane grown joined =
+    let parts = ap (λ (l : List PartState). record (with_taken worker kind.Join job.part c.fiber) { parts = l }) (states_joined c.parts) in
+    let new = same_view c.heap.tag c.heap.packing _ _ _ _ parts (seen_joined c.parts) in
+    subst (λ (u : GameView). game_in (record c { fiber = x; heap = heap; parts = ps }) ≡ taken_game worker job n tally keys u) is
+    (rw (lane, joined, join, ap (λ (h : Heap). h.tag) grown, ap (λ (h : Heap). h.packing) grown) new)
+
+pub game_forked : (cap : ℕ) {at : ℕ} (c : Inside at) (v : GameView) (x : Lane) (ps : PartsView) (worker : ℕ) → IsGame cap c → game_in c ≡ v → is_out worker c.fiber kind.Begin 0 ≡ true → goes_on c.fiber ≡ true
+    → x ≡ record c.fiber { stage = stage.Parts } → ps ≡ parts_forked c.parts → game_in (record c { fiber = x; parts = ps }) ≡ forked_game v
+game_forked cap c v x ps worker kept is out goes lane parts =
+    let n = parts_of (length (snakes_in (last_board c.fiber.game))) in
+    let many = (to_fork c.fiber worker c.parts out goes kept.parts).many in
+    let states = ap (λ (l : List PartState). record c.fiber { stage = stage.Parts; parts = l }) (states_forked c.parts ∙ ap (λ (k : ℕ). replicate k state.Ready) many) in
+    let frames = seen_forked c.parts ∙ ap (forked_frames c.parts.tag c.parts.tally) (many ∙ sym (length-replicate n state.Ready)) in
+    subst (λ (u : GameView). game_in (record c { fiber = x; parts = ps }) ≡ forked_game u) is (rw (lane, parts) (same_view c.heap.tag c.heap.packing _ _ _ _ states frames))
+
+pub game_completed : {at : ℕ} (c : Inside at) (v : GameView) (x : Lane) (p n : ℕ) (moved : List Snake) → game_in c ≡ v → slice_get (map number_of c.parts.list) p ≡ Some (Some n)
+    → moved ≡ moved_part p (lane_view c.fiber) (lane_command c.fiber) → record x { parts = states_of (part_completed p moved n c.parts) } ≡ with_part_done p (lane_at c)
+    → game_in (record c { fiber = x; parts = part_completed p moved n c.parts }) ≡ game_with_part p v
+game_completed c v x p n moved is number moved_is lane =
+    let frames = seen_completed c.parts p n moved number ∙ ap (λ (m : List Snake). with_moved p m (frames_of c.parts)) moved_is in
+    subst (λ (u : GameView). game_in (record c { fiber = x; parts = part_completed p moved n c.parts }) ≡ game_with_part p u) is
+    (same_view c.heap.tag c.heap.packing _ _ _ _ lane frames)

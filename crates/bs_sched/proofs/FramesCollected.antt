@@ -6,7 +6,7 @@ use Rattle.std.proofs.lemmas.List.Concat.{flat_map-append}
 use Rattle.std.proofs.lemmas.Option.{slice_get_read}
 use Rattle.bs_modes.proofs.InPlace.{set_next}
 use Rattle.bs_sched.specs.declared.parts.Part.{Part}
-use Rattle.bs_sched.specs.declared.parts.Part.TheVariants as part
+use Rattle.bs_sched.specs.declared.parts.Part.TheVariants as field
 use Rattle.bs_sched.specs.PartsLayout.{block_in, moved_in}
 
 seam_here : {X : Type 0} (f : X → X) (xs : List X) (i : ℕ) (d : X) → get_or (map f (take i xs) ++ drop i xs) i d ≡ get_or xs i d
@@ -43,13 +43,13 @@ few_collected h one [] = omega arith
 few_collected h one (x ∷ xs) = let here = one x in let rest = few_collected h one xs in omega (arith, length-append (h x) (flat_map h xs))
 
 pub one_block : {most : ℕ} (s : Part most) → length (option_to_list (block_in s)) ≤ 1
-one_block (part.Ready key) = omega arith
-one_block (part.Out worker block) = omega arith
-one_block (part.Joining block) = omega arith
-one_block (part.Done moved owned) = omega arith
+one_block (field.Ready key) = omega arith
+one_block (field.Out worker block) = omega arith
+one_block (field.Joining block) = omega arith
+one_block (field.Done moved owned) = omega arith
 
 pub one_moved : {most : ℕ} (s : Part most) → length (option_to_list (moved_in s)) ≤ 1
-one_moved (part.Ready key) = omega arith
-one_moved (part.Out worker block) = omega arith
-one_moved (part.Joining block) = omega arith
-one_moved (part.Done moved owned) = omega arith
+one_moved (field.Ready key) = omega arith
+one_moved (field.Out worker block) = omega arith
+one_moved (field.Joining block) = omega arith
+one_moved (field.Done moved owned) = omega arith

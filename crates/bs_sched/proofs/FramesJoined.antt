@@ -1,5 +1,5 @@
 -- What the Join gets from the parts, and what is given back to the pool after it.
-use Rattle.std.proofs.Common.{◌≡◌, ℕ, ◌<◌, arith, List, [], ◌∷◌, ◌++◌, length, map, Option, Some, None, refl, sym, ap, subst, All, append-nil}
+use Rattle.std.proofs.Common.{◌≡◌, ℕ, ◌<◌, arith, List, [], ◌∷◌, ◌++◌, length, map, Option, Some, refl, sym, ap, subst, All, append-nil}
 use Rattle.std.specs.Prelude.{flat_map, option_to_list, slice_index_or}
 use Rattle.std.proofs.lemmas.List.{get_or-map, length-map}
 use Rattle.std.proofs.lemmas.List.Elements.{All-nil, All-cons, All-head, All-tail}
@@ -14,10 +14,10 @@ use Rattle.bs_heap.specs.Lent.{AreLent, owned_numbers}
 use Rattle.bs_heap.proofs.GivenBlocks.{lent_from_owned}
 use Rattle.bs_heap.proofs.HeldBlocks.{holds_rest, leaves_rest}
 use Rattle.bs_sched.specs.declared.parts.Part.{Part}
-use Rattle.bs_sched.specs.declared.parts.Part.TheVariants as part
-use Rattle.bs_sched.specs.PartsLayout.{block_in, joined, number_in, moved_in, state_in, AreReadyAt, IsReadyAt, IsPartOf}
-use Rattle.bs_sched.specs.PartState.{PartState}
-use Rattle.bs_sched.specs.PartState as state
+use Rattle.bs_sched.specs.declared.parts.Part.TheVariants as field
+use Rattle.bs_sched.specs.PartsLayout.{block_in, joined, moved_in, view_of, AreReadyAt, IsReadyAt, IsPartOf}
+use Rattle.bs_sched.specs.MoveParts.{PartView, joined_of, moved_of, number_of}
+use Rattle.bs_sched.specs.MoveParts as part
 use Rattle.bs_sched.specs.Frames.{flattened}
 
 -- ---- to the Join
@@ -25,66 +25,52 @@ use Rattle.bs_sched.specs.Frames.{flattened}
 abbrev blocks_in : {most : ℕ} → List (Part most) → List (Owned most)
 blocks_in = flat_map (λ s. option_to_list (block_in s))
 
-pub all_moved : {most : ℕ} (parts : List (Part most)) → flat_map (λ s. option_to_list (moved_in s)) parts ≡ flattened (map moved_in parts)
+pub all_moved : {most : ℕ} (parts : List (Part most)) → flat_map (λ s. option_to_list (moved_in s)) parts ≡ flattened (map moved_of (map view_of parts))
 all_moved [] = refl
-all_moved (part.Ready key ∷ parts) = all_moved parts
-all_moved (part.Out worker block ∷ parts) = all_moved parts
-all_moved (part.Joining block ∷ parts) = all_moved parts
-all_moved (part.Done moved owned ∷ parts) = ap (λ (l : List (List Snake)). moved ∷ l) (all_moved parts)
+all_moved (field.Ready key ∷ parts) = all_moved parts
+all_moved (field.Out worker block ∷ parts) = all_moved parts
+all_moved (field.Joining block ∷ parts) = all_moved parts
+all_moved (field.Done moved owned ∷ parts) = ap (λ (l : List (List Snake)). moved ∷ l) (all_moved parts)
 
 pub all_bytes : {most : ℕ} (tag : ℕ) (parts : List (Part most)) → All (IsPartOf tag) parts
-    → bytes_of (frames_in (blocks_in parts)) ≡ map frame_of (flattened (map moved_in parts))
+    → bytes_of (frames_in (blocks_in parts)) ≡ map frame_of (flattened (map moved_of (map view_of parts)))
 all_bytes tag [] fit = refl
-all_bytes tag (part.Ready key ∷ parts) fit = all_bytes tag parts (All-tail (IsPartOf tag) (part.Ready key) parts fit)
-all_bytes tag (part.Out worker block ∷ parts) fit = all_bytes tag parts (All-tail (IsPartOf tag) (part.Out worker block) parts fit)
-all_bytes tag (part.Joining block ∷ parts) fit = all_bytes tag parts (All-tail (IsPartOf tag) (part.Joining block) parts fit)
-all_bytes tag (part.Done moved owned ∷ parts) fit =
-    let here = All-head (IsPartOf tag) (part.Done moved owned) parts fit in
-    let rest = all_bytes tag parts (All-tail (IsPartOf tag) (part.Done moved owned) parts fit) in
+all_bytes tag (field.Ready key ∷ parts) fit = all_bytes tag parts (All-tail (IsPartOf tag) (field.Ready key) parts fit)
+all_bytes tag (field.Out worker block ∷ parts) fit = all_bytes tag parts (All-tail (IsPartOf tag) (field.Out worker block) parts fit)
+all_bytes tag (field.Joining block ∷ parts) fit = all_bytes tag parts (All-tail (IsPartOf tag) (field.Joining block) parts fit)
+all_bytes tag (field.Done moved owned ∷ parts) fit =
+    let here = All-head (IsPartOf tag) (field.Done moved owned) parts fit in
+    let rest = all_bytes tag parts (All-tail (IsPartOf tag) (field.Done moved owned) parts fit) in
     rw (here.1, rest) refl
 
-pub all_names : {most : ℕ} (tag : ℕ) (parts : List (Part most)) (all : List (List Snake)) → All (IsPartOf tag) parts → map moved_in parts ≡ map Some all
-    → names_of (frames_in (blocks_in parts)) ≡ map (λ n. (tag, n)) (flattened (map number_in parts))
+pub all_names : {most : ℕ} (tag : ℕ) (parts : List (Part most)) (all : List (List Snake)) → All (IsPartOf tag) parts → map moved_of (map view_of parts) ≡ map Some all
+    → names_of (frames_in (blocks_in parts)) ≡ map (λ n. (tag, n)) (flattened (map number_of (map view_of parts)))
 all_names tag [] all fit back = refl
-all_names tag (part.Ready key ∷ parts) [] fit back = absurd cc
-all_names tag (part.Ready key ∷ parts) (m ∷ all) fit back = absurd cc
-all_names tag (part.Out worker block ∷ parts) [] fit back = absurd cc
-all_names tag (part.Joining block ∷ parts) [] fit back = absurd cc
-all_names tag (part.Out worker block ∷ parts) (m ∷ all) fit back = absurd cc
-all_names tag (part.Joining block ∷ parts) (m ∷ all) fit back = absurd cc
-all_names tag (part.Done moved owned ∷ parts) [] fit back = absurd cc
-all_names tag (part.Done moved owned ∷ parts) (m ∷ all) fit back =
-    let here = All-head (IsPartOf tag) (part.Done moved owned) parts fit in
-    let others : map moved_in parts ≡ map Some all = cc in
-    let rest = all_names tag parts all (All-tail (IsPartOf tag) (part.Done moved owned) parts fit) others in
+all_names tag (field.Ready key ∷ parts) [] fit back = absurd cc
+all_names tag (field.Ready key ∷ parts) (m ∷ all) fit back = absurd cc
+all_names tag (field.Out worker block ∷ parts) [] fit back = absurd cc
+all_names tag (field.Joining block ∷ parts) [] fit back = absurd cc
+all_names tag (field.Out worker block ∷ parts) (m ∷ all) fit back = absurd cc
+all_names tag (field.Joining block ∷ parts) (m ∷ all) fit back = absurd cc
+all_names tag (field.Done moved owned ∷ parts) [] fit back = absurd cc
+all_names tag (field.Done moved owned ∷ parts) (m ∷ all) fit back =
+    let here = All-head (IsPartOf tag) (field.Done moved owned) parts fit in
+    let others : map moved_of (map view_of parts) ≡ map Some all = cc in
+    let rest = all_names tag parts all (All-tail (IsPartOf tag) (field.Done moved owned) parts fit) others in
     rw (here.0, rest) refl
 
-pub numbers_stay : {most : ℕ} (parts : List (Part most)) → map number_in (map joined parts) ≡ map number_in parts
-numbers_stay [] = refl
-numbers_stay (part.Ready key ∷ parts) = ap (λ (l : List (Option ℕ)). None ∷ l) (numbers_stay parts)
-numbers_stay (part.Out worker block ∷ parts) = ap (λ (l : List (Option ℕ)). Some block ∷ l) (numbers_stay parts)
-numbers_stay (part.Joining block ∷ parts) = ap (λ (l : List (Option ℕ)). Some block ∷ l) (numbers_stay parts)
-numbers_stay (part.Done moved owned ∷ parts) = ap (λ (l : List (Option ℕ)). Some owned.number ∷ l) (numbers_stay parts)
-
-pub states_stay : {most : ℕ} (parts : List (Part most)) → map state_in (map joined parts) ≡ map state_in parts
-states_stay [] = refl
-states_stay (part.Ready key ∷ parts) = ap (λ (l : List PartState). state.Ready ∷ l) (states_stay parts)
-states_stay (part.Out worker block ∷ parts) = ap (λ (l : List PartState). state.Out worker ∷ l) (states_stay parts)
-states_stay (part.Done moved owned ∷ parts) = ap (λ (l : List PartState). state.Done ∷ l) (states_stay parts)
-states_stay (part.Joining block ∷ parts) = ap (λ (l : List PartState). state.Done ∷ l) (states_stay parts)
-
-pub nothing_stays : {most : ℕ} (parts : List (Part most)) → map moved_in (map joined parts) ≡ map (λ _. None) (map moved_in parts)
-nothing_stays [] = refl
-nothing_stays (part.Ready key ∷ parts) = ap (λ (l : List (Option (List Snake))). None ∷ l) (nothing_stays parts)
-nothing_stays (part.Out worker block ∷ parts) = ap (λ (l : List (Option (List Snake))). None ∷ l) (nothing_stays parts)
-nothing_stays (part.Joining block ∷ parts) = ap (λ (l : List (Option (List Snake))). None ∷ l) (nothing_stays parts)
-nothing_stays (part.Done moved owned ∷ parts) = ap (λ (l : List (Option (List Snake))). None ∷ l) (nothing_stays parts)
+pub views_joined : {most : ℕ} (parts : List (Part most)) → map view_of (map joined parts) ≡ map joined_of (map view_of parts)
+views_joined [] = refl
+views_joined (field.Ready key ∷ parts) = ap (λ (l : List PartView). part.Ready ∷ l) (views_joined parts)
+views_joined (field.Out worker block ∷ parts) = ap (λ (l : List PartView). part.Out worker block ∷ l) (views_joined parts)
+views_joined (field.Done moved owned ∷ parts) = ap (λ (l : List PartView). part.Joining owned.number ∷ l) (views_joined parts)
+views_joined (field.Joining block ∷ parts) = ap (λ (l : List PartView). part.Joining block ∷ l) (views_joined parts)
 
 sent_fits : {most : ℕ} (tag : ℕ) (s : Part most) → IsPartOf tag (joined s)
-sent_fits tag (part.Ready key) = tt
-sent_fits tag (part.Out worker block) = tt
-sent_fits tag (part.Joining block) = tt
-sent_fits tag (part.Done moved owned) = tt
+sent_fits tag (field.Ready key) = tt
+sent_fits tag (field.Out worker block) = tt
+sent_fits tag (field.Joining block) = tt
+sent_fits tag (field.Done moved owned) = tt
 
 pub all_sent_fit : {most : ℕ} (tag : ℕ) (parts : List (Part most)) → All (IsPartOf tag) (map joined parts)
 all_sent_fit tag [] = All-nil (IsPartOf tag)
@@ -124,15 +110,15 @@ module _ {most : ℕ} (frames : List (Owned most)) (tag : ℕ) (numbers : List �
 
 -- a part that is ready keeps its key
 sent_ready : {most : ℕ} (tally : Option TallyId) (parts p : ℕ) (s : Part most) → IsReadyAt tally parts p s → IsReadyAt tally parts p (joined s)
-sent_ready tally parts p (part.Ready key) is = is
-sent_ready tally parts p (part.Out worker block) is = tt
-sent_ready tally parts p (part.Joining block) is = tt
-sent_ready tally parts p (part.Done moved owned) is = tt
+sent_ready tally parts p (field.Ready key) is = is
+sent_ready tally parts p (field.Out worker block) is = tt
+sent_ready tally parts p (field.Joining block) is = tt
+sent_ready tally parts p (field.Done moved owned) is = tt
 
 pub all_sent_ready : {most : ℕ} (tally : Option TallyId) (parts : List (Part most)) → AreReadyAt tally parts → AreReadyAt tally (map joined parts)
 all_sent_ready {most} tally parts are p within =
     let many : length (map joined parts) ≡ length parts = length-map parts joined in
     let here : p < length parts = omega (arith, many, within) in
-    let ready = sent_ready tally (length parts) p (slice_index_or parts p (part.Joining 0)) (are p here) in
-    subst (λ (n : ℕ). IsReadyAt tally n p (slice_index_or (map joined parts) p (part.Joining 0))) (sym many)
-    (subst (λ (s : Part most). IsReadyAt tally (length parts) p s) (sym (get_or-map joined parts p (part.Joining 0) (part.Joining 0) here)) ready)
+    let ready = sent_ready tally (length parts) p (slice_index_or parts p (field.Joining 0)) (are p here) in
+    subst (λ (n : ℕ). IsReadyAt tally n p (slice_index_or (map joined parts) p (field.Joining 0))) (sym many)
+    (subst (λ (s : Part most). IsReadyAt tally (length parts) p s) (sym (get_or-map joined parts p (field.Joining 0) (field.Joining 0) here)) ready)

@@ -1,44 +1,27 @@
--- The frames of a lane from which a job is taken, or whose job is completed.
-use Rattle.std.proofs.Common.{◌≡◌, ◌≢◌, ℕ, zero, suc, ◌+◌, ◌<◌, ◌≤◌, Bool, true, false, ◌&&◌, List, [], ◌∷◌, length, map, Option, Some, None, slice_get, set, refl, sym, ap, ◌∙◌, subst, arith, inl, inr}
-use Rattle.std.specs.Prelude.{slice_set, slice_index_or, replicate, nat_eq, nat_lt, if◌then◌else◌}
-use Rattle.std.specs.List.{list_all, range_with_len}
+-- The parts of a move that are taken or completed, and what contracts see of them.
+use Rattle.std.proofs.Common.{◌≡◌, ◌≢◌, ℕ, zero, suc, ◌<◌, ◌≤◌, true, ◌&&◌, List, [], ◌∷◌, length, map, Option, Some, None, slice_get, set, refl, sym, ap, subst, arith, inl, inr}
+use Rattle.std.specs.Prelude.{slice_set, slice_index_or, replicate, nat_eq, nat_lt}
+use Rattle.std.specs.List.{list_all}
 use Rattle.std.proofs.lemmas.Bool.{and_parts, cases_eq, eqb-true}
-use Rattle.std.proofs.lemmas.List.{length-replicate, length-set, get_or-set_other, get_or-set_same}
+use Rattle.std.proofs.lemmas.List.{length-map, length-replicate, length-set, map-set}
 use Rattle.bs_board.specs.declared.boards.snake.Snake.{Snake}
 use Rattle.bs_board.specs.declared.commands.command.Command.{Command}
 use Rattle.bs_game.specs.declared.view.View.{View}
+use Rattle.bs_fiber.specs.declared.job.JobKind.{JobKind}
 use Rattle.bs_fiber.specs.declared.job.JobKind.TheVariants as kind
 use Rattle.bs_fiber.specs.Work.{moved_part, parts_of, snakes_in}
 use Rattle.bs_game.specs.Game.{last_board}
 use Rattle.bs_sched.specs.declared.stage.Stage.{Stage}
 use Rattle.bs_sched.specs.declared.stage.Stage.TheVariants as stage
 use Rattle.bs_sched.specs.PartState.{PartState}
-use Rattle.bs_sched.specs.PartState as part
+use Rattle.bs_sched.specs.PartState as state
 use Rattle.bs_counter.specs.Keys.{Key, TallyId}
-use Rattle.bs_sched.specs.Frames.{FramesView, forked_frames, idle_frames, flattened, with_moved, with_keys, with_number, IsFrameOf, AreBegunFrames, ArePartFrames, AreFramesAt, FitFrames}
+use Rattle.bs_sched.specs.Frames.{flattened, forked_frames, with_moved, with_number}
+use Rattle.bs_sched.specs.Inputs.{job_numbers}
 use Rattle.bs_sched.specs.Keyed.{AreKeysOf, HasKeys}
-use Rattle.bs_sched.specs.Lane.{Lane, forked, goes_on, has_begin, has_part, is_idle, is_in_parts, is_out, is_part_done, is_part_ready, with_part_done, is_ready, part_at, with_taken, lane_view, lane_command}
-
-in_parts : (s : Stage) → is_in_parts s ≡ true → s ≡ stage.Parts
-in_parts stage.Idle is = absurd cc
-in_parts (stage.Begin worker) is = absurd cc
-in_parts stage.Parts is = refl
-in_parts (stage.Join taker) is = absurd cc
-
-ready_state : (s : PartState) → is_part_ready s ≡ true → s ≡ part.Ready
-ready_state part.Ready is = refl
-ready_state (part.Out worker) is = absurd cc
-ready_state part.Done is = absurd cc
-
-there : (parts : List PartState) (p : ℕ) → slice_index_or parts p part.Done ≡ part.Ready → p < length parts
-there [] p is = absurd cc
-there (s ∷ parts) zero is = omega arith
-there (s ∷ parts) (suc p) is = let rest = there parts p is in omega arith
-
-some_at : {X : Type 0} (xs : List X) (p : ℕ) → p < length xs → (x : X) × (slice_get xs p ≡ Some x)
-some_at [] p within = absurd (omega arith)
-some_at (x ∷ xs) zero within = (x, refl)
-some_at (x ∷ xs) (suc p) within = some_at xs p (omega arith)
+use Rattle.bs_sched.specs.Lane.{Lane, goes_on, has_begin, has_part, is_idle, is_in_parts, is_out, is_part_done, is_part_ready, is_ready, lane_command, lane_view, with_taken}
+use Rattle.bs_sched.specs.MoveParts.{ArePartsAt, ArePartsIn, AreBegunAt, FitParts, IsPartAt, PartView, PartsView, frames_of, moved_of, number_of, part_completed, part_taken, parts_begun, parts_forked, state_of, states_of}
+use Rattle.bs_sched.specs.MoveParts as part
 
 pub length_known : (numbers : List (Option ℕ)) → length (flattened numbers) ≤ length numbers
 length_known [] = omega arith
@@ -52,29 +35,97 @@ one_less (Some n ∷ numbers) zero is = absurd (let wrong : Some (Some n) ≡ So
 one_less (None ∷ numbers) (suc p) is = let rest = one_less numbers p is in omega arith
 one_less (Some n ∷ numbers) (suc p) is = let rest = one_less numbers p is in omega arith
 
--- a ready part has no block, and one is free for it
-pub record IsFreePart (x : Lane) (p : ℕ) (f : FramesView) : Type 0 where
-  pub parts : x.stage ≡ stage.Parts
-  pub within : p < length x.parts
-  pub state : part_at x p ≡ part.Ready
-  pub frames : ArePartFrames x f
-  pub free : slice_get f.numbers p ≡ Some None
-  pub less : length (flattened f.numbers) < 4
+-- the part that a lane has ready, or out
 
-pub free_part : (x : Lane) (p : ℕ) (f : FramesView) → is_ready x kind.Part p ≡ true → FitFrames x f → IsFreePart x p f
-free_part x p f ready are =
-    let both = and_parts (is_in_parts x.stage) (is_part_ready (part_at x p)) ready in
-    let parts = in_parts x.stage both.0 in
-    let state = ready_state (part_at x p) both.1 in
-    let frames : ArePartFrames x f = subst (λ (s : Stage). AreFramesAt s x f) parts are.at in
-    let within = there x.parts p state in
-    let number = some_at f.numbers p (omega (arith, within, frames.all)) in
-    let moved = some_at f.moved p (omega (arith, within, frames.same)) in
-    let own_frame : IsFrameOf part.Ready x p number.0 moved.0 = subst (λ (s : PartState). IsFrameOf s x p number.0 moved.0) state (frames.each p number.0 moved.0 number.1 moved.1) in
-    let free : slice_get f.numbers p ≡ Some None = number.1 ∙ ap (λ (o : Option ℕ). Some o) own_frame.0 in
-    record { parts = parts; within = within; state = state; frames = frames; free = free; less = omega (arith, one_less f.numbers p free, are.few) }
+ready_there : (list : List PartView) (p : ℕ) → is_part_ready (slice_index_or (map state_of list) p state.Done) ≡ true → slice_get list p ≡ Some part.Ready
+ready_there [] p is = absurd cc
+ready_there (part.Ready ∷ list) zero is = refl
+ready_there (part.Out worker block ∷ list) zero is = absurd cc
+ready_there (part.Done moved block ∷ list) zero is = absurd cc
+ready_there (part.Joining block ∷ list) zero is = absurd cc
+ready_there (s ∷ list) (suc p) is = ready_there list p is
 
--- the blocks of the other parts are unchanged
+pub free_part : (x : Lane) (p : ℕ) (v : PartsView) → is_ready (record x { parts = states_of v }) kind.Part p ≡ true → slice_get v.list p ≡ Some part.Ready
+free_part x p v ready = ready_there v.list p (and_parts (is_in_parts x.stage) (is_part_ready (slice_index_or (states_of v) p state.Done)) ready).1
+
+out_there : (list : List PartView) (p worker : ℕ) → has_part worker (slice_index_or (map state_of list) p state.Done) ≡ true → p < length list
+out_there [] p worker is = absurd cc
+out_there (s ∷ list) zero worker is = omega arith
+out_there (s ∷ list) (suc p) worker is = let rest = out_there list p worker is in omega arith
+
+pub part_out : (x : Lane) (p worker : ℕ) (v : PartsView) → is_out worker (record x { parts = states_of v }) kind.Part p ≡ true → p < length v.list
+part_out x p worker v out = out_there v.list p worker (and_parts (is_in_parts x.stage) (has_part worker (slice_index_or (states_of v) p state.Done)) out).1
+
+pub no_number : (list : List PartView) (p : ℕ) → slice_get list p ≡ Some part.Ready → slice_get (map number_of list) p ≡ Some None
+no_number [] p is = absurd cc
+no_number (s ∷ list) zero is = let same : s ≡ part.Ready = cc in ap (λ (t : PartView). Some (number_of t)) same
+no_number (s ∷ list) (suc p) is = no_number list p is
+
+-- while one part is ready, not all blocks are drawn
+pub one_free : (v : PartsView) (p : ℕ) → slice_get v.list p ≡ Some part.Ready → length v.list ≤ 4 → length (flattened (map number_of v.list)) < 4
+one_free v p free few = omega (arith, one_less (map number_of v.list) p (no_number v.list p free), length-map v.list number_of, few)
+
+-- ---- what contracts see of a part that is taken
+
+pub numbers_taken : (list : List PartView) (p worker n : ℕ) → map number_of (slice_set list p (part.Out worker n)) ≡ slice_set (map number_of list) p (Some n)
+numbers_taken list p worker n = map-set number_of list p (part.Out worker n)
+
+none_moved : (list : List PartView) (p worker n : ℕ) → slice_get list p ≡ Some part.Ready → map moved_of (set list p (part.Out worker n)) ≡ map moved_of list
+none_moved [] p worker n is = absurd cc
+none_moved (s ∷ list) zero worker n is =
+    let same : s ≡ part.Ready = cc in
+    ap (λ (t : PartView). moved_of t ∷ map moved_of list) (sym same)
+none_moved (s ∷ list) (suc p) worker n is = ap (λ (l : List (Option (List Snake))). moved_of s ∷ l) (none_moved list p worker n is)
+
+pub seen_taken : (v : PartsView) (p worker n : ℕ) → slice_get v.list p ≡ Some part.Ready → frames_of (part_taken p worker n v) ≡ with_number p n (frames_of v)
+seen_taken v p worker n free = rw (numbers_taken v.list p worker n, none_moved v.list p worker n free) refl
+
+pub states_taken : (v : PartsView) (p worker n : ℕ) → states_of (part_taken p worker n v) ≡ slice_set (states_of v) p (state.Out worker)
+states_taken v p worker n = map-set state_of v.list p (part.Out worker n)
+
+-- its block is the only one of its job
+one_number : (list : List PartView) (p worker n : ℕ) → slice_get list p ≡ Some part.Ready → slice_index_or (map number_of (set list p (part.Out worker n))) p None ≡ Some n
+one_number [] p worker n is = absurd cc
+one_number (s ∷ list) zero worker n is = refl
+one_number (s ∷ list) (suc p) worker n is = one_number list p worker n is
+
+pub taken_numbers : (v : PartsView) (k : JobKind) (p worker n : ℕ) → k ≡ kind.Part → slice_get v.list p ≡ Some part.Ready
+    → job_numbers k p (frames_of (part_taken p worker n v)).numbers ≡ n ∷ []
+taken_numbers v k p worker n is free = rw is (ap (λ (o : Option ℕ). flattened (o ∷ [])) (one_number v.list p worker n free))
+
+-- of one that is completed
+
+same_number : (list : List PartView) (p n : ℕ) (moved : List Snake) → slice_get (map number_of list) p ≡ Some (Some n) → map number_of (set list p (part.Done moved n)) ≡ map number_of list
+same_number [] p n moved is = absurd cc
+same_number (s ∷ list) zero n moved is =
+    let same : number_of s ≡ Some n = let e : Some (number_of s) ≡ Some (Some n) = is in cc in
+    ap (λ (o : Option ℕ). o ∷ map number_of list) (sym same)
+same_number (s ∷ list) (suc p) n moved is = ap (λ (l : List (Option ℕ)). number_of s ∷ l) (same_number list p n moved is)
+
+pub seen_completed : (v : PartsView) (p n : ℕ) (moved : List Snake) → slice_get (map number_of v.list) p ≡ Some (Some n)
+    → frames_of (part_completed p moved n v) ≡ with_moved p moved (frames_of v)
+seen_completed v p n moved is = rw (same_number v.list p n moved is, map-set moved_of v.list p (part.Done moved n)) refl
+
+pub states_completed : (v : PartsView) (p n : ℕ) (moved : List Snake) → states_of (part_completed p moved n v) ≡ slice_set (states_of v) p state.Done
+states_completed v p n moved = map-set state_of v.list p (part.Done moved n)
+
+-- of a move that begins
+
+same_ready : {X : Type 0} (f : PartView → X) (n : ℕ) → map f (replicate n part.Ready) ≡ replicate n (f part.Ready)
+same_ready f zero = refl
+same_ready f (suc n) = ap (λ xs. f part.Ready ∷ xs) (same_ready f n)
+
+pub seen_forked : (v : PartsView) → frames_of (parts_forked v) ≡ forked_frames v.tag v.tally (length v.keys)
+seen_forked v = rw (same_ready number_of (length v.keys), same_ready moved_of (length v.keys)) refl
+
+pub states_forked : (v : PartsView) → states_of (parts_forked v) ≡ replicate (length v.keys) state.Ready
+states_forked v = same_ready state_of (length v.keys)
+
+pub none_known : (n : ℕ) → flattened (replicate {A = Option ℕ} n None) ≡ []
+none_known zero = refl
+none_known (suc n) = none_known n
+
+-- ---- against the lane
 
 get_set_same : {X : Type 0} (xs : List X) (p : ℕ) (y z : X) → slice_get (set xs p y) p ≡ Some z → y ≡ z
 get_set_same [] p y z is = absurd cc
@@ -88,190 +139,52 @@ get_set_other (x ∷ xs) zero (suc q) y z other is = is
 get_set_other (x ∷ xs) (suc p) zero y z other is = is
 get_set_other (x ∷ xs) (suc p) (suc q) y z other is = get_set_other xs p q y z (λ same. other (ap suc same)) is
 
--- a frame depends on a part's view and command, which taking the part leaves unchanged
-pub same_frame : (s : PartState) (x y : Lane) (p : ℕ) (number : Option ℕ) (moved : Option (List Snake)) → lane_view x ≡ lane_view y → lane_command x ≡ lane_command y
-    → IsFrameOf s x p number moved → IsFrameOf s y p number moved
-same_frame part.Ready x y p number moved view command is = is
-same_frame (part.Out worker) x y p number moved view command is = is
-same_frame part.Done x y p number moved view command is =
-    let same : Some (moved_part p (lane_view x) (lane_command x)) ≡ Some (moved_part p (lane_view y) (lane_command y)) =
-    ap (λ (v : View). Some (moved_part p v (lane_command x))) view ∙ ap (λ (c : Command). Some (moved_part p (lane_view y) c)) command in
-    (is.0, is.1, is.2 ∙ same)
+-- one part changes
+one_set : (view : View) (command : Command) (list : List PartView) (p : ℕ) (new : PartView) → ArePartsAt view command list → IsPartAt view command p new
+    → ArePartsAt view command (slice_set list p new)
+one_set view command list p new are here q s is =
+    elim (cases_eq q p) [
+      | inl same ↦
+          let there : new ≡ s = get_set_same list p new s (subst (λ (k : ℕ). slice_get (slice_set list p new) k ≡ Some s) same is) in
+          subst (λ (k : ℕ). IsPartAt view command k s) (sym same) (subst (λ (t : PartView). IsPartAt view command p t) there here)
+      | inr other ↦ are q s (get_set_other list p q new s other is)
+    ]
 
-taken_frames : (x : Lane) (f : FramesView) (p worker number : ℕ) → IsFreePart x p f
-    → ArePartFrames (with_taken worker kind.Part p x) (with_number p number f)
-taken_frames x f p worker number free = record {
-  all = length-set f.numbers p (Some number) ∙ free.frames.all ∙ sym (length-set x.parts p (part.Out worker));
-  same = free.frames.same ∙ sym (length-set x.parts p (part.Out worker));
-  each = each;
-}
-  where
-    y : Lane
-    y = with_taken worker kind.Part p x
-
-    each : (q : ℕ) (n : Option ℕ) (moved : Option (List Snake)) → slice_get (slice_set f.numbers p (Some number)) q ≡ Some n → slice_get f.moved q ≡ Some moved
-        → IsFrameOf (slice_index_or (slice_set x.parts p (part.Out worker)) q part.Done) (with_taken worker kind.Part p x) q n moved
-    each q n moved n_is b_is =
-        elim (cases_eq q p) [
-          | inl same ↦
-              let here : IsFrameOf part.Ready x p None moved =
-              subst (λ (s : PartState). IsFrameOf s x p None moved) free.state (free.frames.each p None moved free.free (subst (λ (k : ℕ). slice_get f.moved k ≡ Some moved) same b_is)) in
-              let n_here : Some number ≡ n = get_set_same f.numbers p (Some number) n (subst (λ (k : ℕ). slice_get (slice_set f.numbers p (Some number)) k ≡ Some n) same n_is) in
-              let state : slice_index_or (slice_set x.parts p (part.Out worker)) q part.Done ≡ part.Out worker =
-              ap (λ (k : ℕ). slice_index_or (slice_set x.parts p (part.Out worker)) k part.Done) same ∙ get_or-set_same x.parts p (part.Out worker) part.Done free.within in
-              subst (λ (s : PartState). IsFrameOf s (with_taken worker kind.Part p x) q n moved) (sym state) (number, sym n_here, here.1)
-          | inr other ↦
-              let state : slice_index_or (slice_set x.parts p (part.Out worker)) q part.Done ≡ part_at x q = get_or-set_other x.parts p q (part.Out worker) part.Done other in
-              let here = free.frames.each q n moved (get_set_other f.numbers p q (Some number) n other n_is) b_is in
-              subst (λ (s : PartState). IsFrameOf s (with_taken worker kind.Part p x) q n moved) (sym state)
-              (same_frame (part_at x q) x (with_taken worker kind.Part p x) q n moved refl refl here)
-        ]
-
--- the frames of a lane after a part of it was taken
-pub part_taken : (x y : Lane) (f h : FramesView) (p worker number : ℕ) → is_ready x kind.Part p ≡ true → FitFrames x f
-    → y ≡ with_taken worker kind.Part p x → h ≡ with_number p number f → FitFrames y h
-part_taken x y f h p worker number ready are y_is h_is =
-    let free = free_part x p f ready are in
-    let frames = taken_frames x f p worker number free in
-    let few = are.few in
-    let long = length-set f.numbers p (Some number) in
-    let whole : FitFrames (with_taken worker kind.Part p x) (with_number p number f) =
+pub taken_fit : (x : Lane) (v : PartsView) (p worker n : ℕ) → x.stage ≡ stage.Parts → FitParts x v → FitParts x (part_taken p worker n v)
+taken_fit x v p worker n at fit =
+    let few = fit.few in
+    let many = length-set v.list p (part.Out worker n) in
+    let are : ArePartsAt (lane_view x) (lane_command x) v.list = subst (λ (s : Stage). ArePartsIn s x v) at fit.at in
     record {
-      few = omega (arith, few, long);
-      at = subst (λ (s : Stage). AreFramesAt s (with_taken worker kind.Part p x) (with_number p number f)) (sym free.parts) frames;
-    } in
-    rw (y_is, h_is) whole
-
--- ---- a part is completed
-
-out_state : (worker : ℕ) (s : PartState) → has_part worker s ≡ true → s ≡ part.Out worker
-out_state worker part.Ready is = absurd cc
-out_state worker (part.Out w) is = ap (λ (n : ℕ). part.Out n) (eqb-true w worker is)
-out_state worker part.Done is = absurd cc
-
-there_out : (parts : List PartState) (p worker : ℕ) → slice_index_or parts p part.Done ≡ part.Out worker → p < length parts
-there_out [] p worker is = absurd cc
-there_out (s ∷ parts) zero worker is = omega arith
-there_out (s ∷ parts) (suc p) worker is = let rest = there_out parts p worker is in omega arith
-
--- a part that is out has its block
-pub record IsPartOut (x : Lane) (p worker : ℕ) (f : FramesView) : Type 0 where
-  pub parts : x.stage ≡ stage.Parts
-  pub within : p < length x.parts
-  pub state : part_at x p ≡ part.Out worker
-  pub frames : ArePartFrames x f
-  pub number : (n : ℕ) × (slice_get f.numbers p ≡ Some (Some n)) × (slice_get f.moved p ≡ Some None)
-
-pub part_is_out : (x : Lane) (p worker : ℕ) (f : FramesView) → is_out worker x kind.Part p ≡ true → FitFrames x f → IsPartOut x p worker f
-part_is_out x p worker f out are =
-    let both = and_parts (is_in_parts x.stage) (has_part worker (part_at x p)) out in
-    let parts = in_parts x.stage both.0 in
-    let state = out_state worker (part_at x p) both.1 in
-    let frames : ArePartFrames x f = subst (λ (s : Stage). AreFramesAt s x f) parts are.at in
-    let within = there_out x.parts p worker state in
-    let number = some_at f.numbers p (omega (arith, within, frames.all)) in
-    let moved = some_at f.moved p (omega (arith, within, frames.same)) in
-    let own_frame : IsFrameOf (part.Out worker) x p number.0 moved.0 = subst (λ (s : PartState). IsFrameOf s x p number.0 moved.0) state (frames.each p number.0 moved.0 number.1 moved.1) in
-    record {
-      parts = parts;
-      within = within;
-      state = state;
-      frames = frames;
-      number = (own_frame.0, number.1 ∙ ap (λ (o : Option ℕ). Some o) own_frame.1, moved.1 ∙ ap (λ (o : Option (List Snake)). Some o) own_frame.2);
+      few = omega (arith, few, many);
+      at = subst (λ (s : Stage). ArePartsIn s x (part_taken p worker n v)) (sym at) (one_set (lane_view x) (lane_command x) v.list p (part.Out worker n) are tt);
     }
 
-done_frames : (x : Lane) (f : FramesView) (p worker : ℕ) (moved : List Snake) → IsPartOut x p worker f → moved ≡ moved_part p (lane_view x) (lane_command x)
-    → ArePartFrames (with_part_done p x) (with_moved p moved f)
-done_frames x f p worker moved out moved_are = record {
-  all = out.frames.all ∙ sym (length-set x.parts p part.Done);
-  same = length-set f.moved p (Some moved) ∙ out.frames.same ∙ sym (length-set x.parts p part.Done);
-  each = each;
-}
-  where
-    each : (q : ℕ) (n : Option ℕ) (b : Option (List Snake)) → slice_get f.numbers q ≡ Some n → slice_get (slice_set f.moved p (Some moved)) q ≡ Some b
-        → IsFrameOf (slice_index_or (slice_set x.parts p part.Done) q part.Done) (with_part_done p x) q n b
-    each q n b n_is b_is =
-        elim (cases_eq q p) [
-          | inl same ↦
-              let n_here : Some n ≡ Some (Some out.number.0) = sym n_is ∙ ap (λ (k : ℕ). slice_get f.numbers k) same ∙ out.number.1 in
-              let number : n ≡ Some out.number.0 = cc in
-              let b_here : Some moved ≡ b = get_set_same f.moved p (Some moved) b (subst (λ (k : ℕ). slice_get (slice_set f.moved p (Some moved)) k ≡ Some b) same b_is) in
-              let holds : b ≡ Some (moved_part q (lane_view x) (lane_command x)) =
-              sym b_here ∙ ap (λ (l : List Snake). Some l) moved_are ∙ ap (λ (k : ℕ). Some (moved_part k (lane_view x) (lane_command x))) (sym same) in
-              let state : slice_index_or (slice_set x.parts p part.Done) q part.Done ≡ part.Done =
-              ap (λ (k : ℕ). slice_index_or (slice_set x.parts p part.Done) k part.Done) same ∙ get_or-set_same x.parts p part.Done part.Done out.within in
-              subst (λ (s : PartState). IsFrameOf s (with_part_done p x) q n b) (sym state) (out.number.0, number, holds)
-          | inr other ↦
-              let state : slice_index_or (slice_set x.parts p part.Done) q part.Done ≡ part_at x q = get_or-set_other x.parts p q part.Done part.Done other in
-              let here = out.frames.each q n b n_is (get_set_other f.moved p q (Some moved) b other b_is) in
-              subst (λ (s : PartState). IsFrameOf s (with_part_done p x) q n b) (sym state) (same_frame (part_at x q) x (with_part_done p x) q n b refl refl here)
-        ]
+-- a part is completed; after the last one the move can be joined
 
--- ---- all parts are completed
+completed_are : (x : Lane) (v : PartsView) (p n : ℕ) (moved : List Snake) → x.stage ≡ stage.Parts → FitParts x v → moved ≡ moved_part p (lane_view x) (lane_command x)
+    → ArePartsAt (lane_view x) (lane_command x) (part_completed p moved n v).list
+completed_are x v p n moved at fit is =
+    one_set (lane_view x) (lane_command x) v.list p (part.Done moved n) (subst (λ (s : Stage). ArePartsIn s x v) at fit.at) is
 
-same_cons : {X : Type 0} (a b : X) (xs ys : List X) → a ≡ b → xs ≡ ys → (a ∷ xs) ≡ (b ∷ ys)
-same_cons a b xs ys head tail = rw (head, tail) refl
-
--- each of them is done, from k on: the numbers of their blocks, and their moved snakes
-all_back : (x : Lane) (parts : List PartState) (numbers : List (Option ℕ)) (moved : List (Option (List Snake))) (k : ℕ) → length numbers ≡ length parts → length moved ≡ length parts
-    → list_all is_part_done parts ≡ true
-    → ((p : ℕ) (n : Option ℕ) (b : Option (List Snake)) → slice_get numbers p ≡ Some n → slice_get moved p ≡ Some b → IsFrameOf (slice_index_or parts p part.Done) x (k + p) n b)
-    → ((ns : List ℕ) × (numbers ≡ map Some ns) × (length ns ≡ length parts))
-    × (moved ≡ map (λ p. Some (moved_part p (lane_view x) (lane_command x))) (range_with_len k (length parts)))
-all_back x [] [] [] k many same done each = (([], refl, refl), refl)
-all_back x [] [] (b ∷ moved) k many same done each = absurd (omega arith)
-all_back x [] (n ∷ numbers) moved k many same done each = absurd (omega arith)
-all_back x (s ∷ parts) [] moved k many same done each = absurd (omega arith)
-all_back x (s ∷ parts) (n ∷ numbers) [] k many same done each = absurd (omega arith)
-all_back x (part.Ready ∷ parts) (n ∷ numbers) (b ∷ moved) k many same done each = let wrong : false ≡ true = done in absurd cc
-all_back x (part.Out w ∷ parts) (n ∷ numbers) (b ∷ moved) k many same done each = let wrong : false ≡ true = done in absurd cc
-all_back x (part.Done ∷ parts) (n ∷ numbers) (b ∷ moved) k many same done each =
-    let first : IsFrameOf part.Done x (k + 0) n b = each 0 n b refl refl in
-    let start : k + 0 ≡ k = omega arith in
-    let rest = all_back x parts numbers moved (k + 1) (omega arith) (omega arith) done
-    (λ p m c m_is c_is. let next : k + 1 + p ≡ k + suc p = omega arith in rw next (each (suc p) m c m_is c_is)) in
-    let here : b ≡ Some (moved_part k (lane_view x) (lane_command x)) =
-    first.2 ∙ ap (λ (q : ℕ). Some (moved_part q (lane_view x) (lane_command x))) start in (
-      (first.0 ∷ rest.0.0, same_cons n (Some first.0) numbers (map Some rest.0.0) first.1 rest.0.1, ap suc rest.0.2),
-      same_cons b (Some (moved_part k (lane_view x) (lane_command x))) moved
-          (map (λ p. Some (moved_part p (lane_view x) (lane_command x))) (range_with_len (k + 1) (length parts))) here rest.1,
-    )
-
-done_or_not : (done : Bool) (x : Lane) (f : FramesView) → list_all is_part_done x.parts ≡ done → ArePartFrames x f
-    → AreFramesAt (if done then stage.Join None else stage.Parts) x f
-done_or_not false x f is frames = frames
-done_or_not true x f is frames =
-    let back = all_back x x.parts f.numbers f.moved 0 frames.all frames.same is
-    (λ p n b n_is b_is. let none : 0 + p ≡ p = omega arith in rw none (frames.each p n b n_is b_is)) in
-    record { all = back.0; moved_are = back.1 }
-
--- the frames of a lane after a part of it was completed
-pub part_completed : (x y : Lane) (f h : FramesView) (p worker : ℕ) (moved : List Snake) → is_out worker x kind.Part p ≡ true → FitFrames x f
-    → y ≡ with_part_done p x → h ≡ with_moved p moved f → moved ≡ moved_part p (lane_view x) (lane_command x) → FitFrames y h
-part_completed x y f h p worker moved out are y_is h_is moved_are =
-    let is_out = part_is_out x p worker f out are in
-    let frames = done_frames x f p worker moved is_out moved_are in
-    let whole : FitFrames (with_part_done p x) (with_moved p moved f) =
+pub completed_fit : (x : Lane) (v : PartsView) (p n : ℕ) (moved : List Snake) → x.stage ≡ stage.Parts → FitParts x v → moved ≡ moved_part p (lane_view x) (lane_command x)
+    → FitParts x (part_completed p moved n v)
+completed_fit x v p n moved at fit is =
+    let few = fit.few in
+    let many = length-set v.list p (part.Done moved n) in
     record {
-      few = are.few;
-      at = done_or_not (list_all is_part_done (slice_set x.parts p part.Done)) (with_part_done p x) (with_moved p moved f) refl frames;
-    } in
-    rw (y_is, h_is) whole
+      few = omega (arith, few, many);
+      at = subst (λ (s : Stage). ArePartsIn s x (part_completed p moved n v)) (sym at) (completed_are x v p n moved at fit is);
+    }
 
--- ---- a move forks, and is answered
+pub all_completed_fit : (x : Lane) (v : PartsView) (p n : ℕ) (moved : List Snake) → x.stage ≡ stage.Parts → FitParts x v → moved ≡ moved_part p (lane_view x) (lane_command x)
+    → list_all is_part_done (states_of (part_completed p moved n v)) ≡ true → FitParts (record x { stage = stage.Join None }) (part_completed p moved n v)
+all_completed_fit x v p n moved at fit is all =
+    let few = fit.few in
+    let many = length-set v.list p (part.Done moved n) in
+    record { few = omega (arith, few, many); at = record { each = completed_are x v p n moved at fit is; all = all } }
 
-fresh_part : (x : Lane) (n p : ℕ) (number : Option ℕ) (moved : Option (List Snake)) (k : ℕ) → slice_get (replicate n None) p ≡ Some number → slice_get (replicate n None) p ≡ Some moved
-    → IsFrameOf (slice_index_or (replicate n part.Ready) p part.Done) x k number moved
-fresh_part x zero p number moved k n_is b_is = absurd cc
-fresh_part x (suc n) zero number moved k n_is b_is =
-    let a : Some None ≡ Some number = n_is in
-    let b : Some None ≡ Some moved = b_is in
-    (cc, cc)
-fresh_part x (suc n) (suc p) number moved k n_is b_is = fresh_part x n p number moved k n_is b_is
-
-pub none_known : (n : ℕ) → flattened (replicate {A = Option ℕ} n None) ≡ []
-none_known zero = refl
-none_known (suc n) = none_known n
+-- ---- a command is begun, and a move forks
 
 pub at_begin : (worker : ℕ) (s : Stage) → has_begin worker s ≡ true → s ≡ stage.Begin worker
 at_begin worker stage.Idle is = absurd cc
@@ -279,65 +192,56 @@ at_begin worker (stage.Begin w) is = ap (λ (n : ℕ). stage.Begin n) (eqb-true 
 at_begin worker stage.Parts is = absurd cc
 at_begin worker (stage.Join taker) is = absurd cc
 
--- a command is begun
-
 idle_stage : (s : Stage) → is_idle s ≡ true → s ≡ stage.Idle
 idle_stage stage.Idle is = refl
 idle_stage (stage.Begin worker) is = absurd cc
 idle_stage stage.Parts is = absurd cc
 idle_stage (stage.Join taker) is = absurd cc
 
--- without a command in progress no part has a block
-pub at_rest : (x : Lane) (f : FramesView) → is_idle x.stage ≡ true → FitFrames x f → f.numbers ≡ []
-at_rest x f idle are =
-    let none : f ≡ idle_frames f.tag f.tally = subst (λ (s : Stage). AreFramesAt s x f) (idle_stage x.stage idle) are.at in
-    ap (λ (v : FramesView). v.numbers) none
+-- without a command in progress there is no part
+pub at_rest : (x : Lane) (v : PartsView) → is_idle x.stage ≡ true → FitParts x v → v.list ≡ []
+at_rest x v idle fit =
+    let none : (v.keys ≡ []) × (v.list ≡ []) = subst (λ (s : Stage). ArePartsIn s x v) (idle_stage x.stage idle) fit.at in
+    none.1
 
--- before a command is begun no part has a block
-pub none_ready : (x : Lane) (f : FramesView) (p : ℕ) → is_ready x kind.Begin p ≡ true → FitFrames x f → f ≡ idle_frames f.tag f.tally
-none_ready x f p ready are =
-    let idle = idle_stage x.stage (and_parts (is_idle x.stage) (nat_lt 0 (length x.waiting)) (and_parts (nat_eq p 0) (is_idle x.stage && nat_lt 0 (length x.waiting)) ready).1).0 in
-    subst (λ (s : Stage). AreFramesAt s x f) idle are.at
+pub none_ready : (x : Lane) (v : PartsView) (p : ℕ) → is_ready x kind.Begin p ≡ true → FitParts x v → v.list ≡ []
+none_ready x v p ready fit =
+    let idle = (and_parts (is_idle x.stage) (nat_lt 0 (length x.waiting)) (and_parts (nat_eq p 0) (is_idle x.stage && nat_lt 0 (length x.waiting)) ready).1).0 in
+    at_rest x v idle fit
 
-pub command_begun : (x y : Lane) (f h : FramesView) (worker p : ℕ) (tally : Option TallyId) (keys : List Key) → is_ready x kind.Begin p ≡ true → FitFrames x f
-    → y ≡ with_taken worker kind.Begin p x → h ≡ with_keys tally keys f → HasKeys (with_taken worker kind.Begin p x) tally keys → FitFrames y h
-command_begun x y f h worker p tally keys ready are y_is h_is has =
-    let none = none_ready x f p ready are in
-    let whole : FitFrames (with_taken worker kind.Begin p x) (with_keys tally keys f) =
-    record { few = are.few; at = record { none = ap (with_keys tally keys) none; keys = has } } in
-    rw (y_is, h_is) whole
+pub begun_fit : (x y : Lane) (v w : PartsView) (worker p : ℕ) (tally : Option TallyId) (keys : List Key) → is_ready x kind.Begin p ≡ true → FitParts x v
+    → y ≡ with_taken worker kind.Begin p x → w ≡ parts_begun tally keys v → HasKeys (with_taken worker kind.Begin p x) tally keys → FitParts y w
+begun_fit x y v w worker p tally keys ready fit y_is w_is has =
+    rw (y_is, w_is) (record { few = fit.few; at = record { none = none_ready x v p ready fit; keys = has } })
 
--- while a command is begun there is no frame, and an accepted move has its keys
-pub record IsToFork (x : Lane) (f : FramesView) : Type 0 where
-  pub none : f.numbers ≡ []
-  pub many : length f.keys ≡ parts_of (length (snakes_in (last_board x.game)))
-  pub few : length f.keys ≤ 4
-  pub keys : AreKeysOf f.tally (length f.keys) f.keys
+-- while a command is begun there is none
+pub begun_parts : (x : Lane) (worker p : ℕ) (v : PartsView) → is_out worker x kind.Begin p ≡ true → FitParts x v → AreBegunAt x v
+begun_parts x worker p v out fit =
+    subst (λ (s : Stage). ArePartsIn s x v) (at_begin worker x.stage (and_parts (nat_eq p 0) (has_begin worker x.stage) out).1) fit.at
 
-pub to_fork : (x : Lane) (worker : ℕ) (f : FramesView) → is_out worker x kind.Begin 0 ≡ true → goes_on x ≡ true → FitFrames x f → IsToFork x f
-to_fork x worker f out goes are =
-    let at = at_begin worker x.stage (and_parts (nat_eq 0 0) (has_begin worker x.stage) out).1 in
-    let begun : AreBegunFrames x f = subst (λ (s : Stage). AreFramesAt s x f) at are.at in
+-- an accepted move has its keys
+pub record IsToFork (x : Lane) (v : PartsView) : Type 0 where
+  pub none : v.list ≡ []
+  pub many : length v.keys ≡ parts_of (length (snakes_in (last_board x.game)))
+  pub few : length v.keys ≤ 4
+  pub keys : AreKeysOf v.tally (length v.keys) v.keys
+
+pub to_fork : (x : Lane) (worker : ℕ) (v : PartsView) → is_out worker x kind.Begin 0 ≡ true → goes_on x ≡ true → FitParts x v → IsToFork x v
+to_fork x worker v out goes fit =
+    let begun = begun_parts x worker 0 v out fit in
     let keys = begun.keys.each goes in
     let many = keys.all.all in
-    record {
-      none = ap (λ (v : FramesView). v.numbers) begun.none;
-      many = many;
-      few = begun.keys.few;
-      keys = subst (λ (n : ℕ). AreKeysOf f.tally n f.keys) (sym many) keys;
-    }
+    record { none = begun.none; many = many; few = begun.keys.few; keys = subst (λ (n : ℕ). AreKeysOf v.tally n v.keys) (sym many) keys }
 
-pub move_forked : (x y : Lane) (f h : FramesView) (worker : ℕ) → is_out worker x kind.Begin 0 ≡ true → goes_on x ≡ true
-    → FitFrames x f → y ≡ forked x → h ≡ forked_frames f.tag f.tally (length f.keys) → FitFrames y h
-move_forked x y f h worker out goes are y_is h_is =
-    let to = to_fork x worker f out goes are in
-    let n = parts_of (length (snakes_in (last_board x.game))) in
-    let numbers = length-replicate {A = Option ℕ} n None in
-    let moved = length-replicate {A = Option (List Snake)} n None in
-    let states = length-replicate n part.Ready in
-    let whole : FitFrames (forked x) (forked_frames f.tag f.tally n) =
-    record {
-      few = omega (arith, to.few, to.many, numbers);
-      at = record { all = numbers ∙ sym states; same = moved ∙ sym states; each = λ p number b n_is b_is. fresh_part (forked x) n p number b p n_is b_is };
-    } in
-    rw (y_is, h_is, to.many) whole
+all_ready : (view : View) (command : Command) (n p : ℕ) (s : PartView) (k : ℕ) → slice_get (replicate n part.Ready) p ≡ Some s → IsPartAt view command k s
+all_ready view command zero p s k is = absurd cc
+all_ready view command (suc n) zero s k is = let same : part.Ready ≡ s = cc in subst (λ (t : PartView). IsPartAt view command k t) same tt
+all_ready view command (suc n) (suc p) s k is = all_ready view command n p s k is
+
+pub forked_fit : (x : Lane) (worker : ℕ) (v : PartsView) → is_out worker x kind.Begin 0 ≡ true → goes_on x ≡ true → FitParts x v
+    → FitParts (record x { stage = stage.Parts }) (parts_forked v)
+forked_fit x worker v out goes fit =
+    let to = to_fork x worker v out goes fit in
+    let few = to.few in
+    let many = length-replicate (length v.keys) part.Ready in
+    record { few = omega (arith, few, many); at = λ p s is. all_ready (lane_view x) (lane_command x) (length v.keys) p s p is }

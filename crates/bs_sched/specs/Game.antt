@@ -18,11 +18,12 @@ use Rattle.bs_pool.specs.Ledger.{Ledger, reserved}
 use Rattle.bs_sched.specs.declared.cores.TheConstants.{LEAST_CAPACITY}
 use Rattle.bs_sched.specs.declared.game.Game.TheInside.{Inside}
 use Rattle.bs_sched.specs.declared.plan_blocks.TheConstants.{FRAME_BLOCKS}
-use Rattle.bs_sched.specs.Frames.{FitFrames, FramesView, forked_frames, frames_taken, idle_frames, flattened, no_frames, with_moved}
+use Rattle.bs_sched.specs.Frames.{FramesView, forked_frames, frames_taken, idle_frames, flattened, no_frames, with_moved}
 use Rattle.bs_sched.specs.Games.{answer_effect}
 use Rattle.bs_sched.specs.Inputs.{input_of, job_numbers}
 use Rattle.bs_sched.specs.Insides.{HasParts, may_answer}
 use Rattle.bs_sched.specs.Lane.{Lane, answered, closed_lane, empty_lane, forked, goes_on, is_out, is_quiet, kept_of, lane_command, lane_view, no_lane, with_part_done, with_taken, with_waiting}
+use Rattle.bs_sched.specs.MoveParts.{FitParts, frames_of, states_of}
 use Rattle.bs_sched.specs.Putting.{IsOwnOf}
 use Rattle.bs_sched.specs.Storage.{frame_tag, packing_after, pool_after, record_tag}
 
@@ -44,10 +45,10 @@ no_game = record { tag = 0; lane = no_lane; packing = no_packing; frames = no_fr
 
 -- the fiber's lane, with the parts of its move
 abbrev pub lane_at : {cap : ℕ} → Inside cap → Lane
-lane_at c = record c.fiber { parts = c.parts.states }
+lane_at c = record c.fiber { parts = states_of c.parts }
 
 abbrev pub game_in : {cap : ℕ} → Inside cap → GameView
-game_in c = record { tag = c.heap.tag; lane = lane_at c; packing = c.heap.packing; frames = c.parts.frames }
+game_in c = record { tag = c.heap.tag; lane = lane_at c; packing = c.heap.packing; frames = frames_of c.parts }
 
 -- the heap keeps the records of the lane's boards
 pub record KeepsBoards (x : Lane) (heap : Heap) : Type 0 where
@@ -62,8 +63,8 @@ pub record IsGame (cap : ℕ) {at : ℕ} (c : Inside at) : Type 0 where
   -- room for one more record if one may be added
   pub room : may_answer c.fiber.stage ≡ true → 0 < c.heap.index_room
   pub quiet : c.fiber.is_open ≡ false → is_quiet c.fiber ≡ true
-  pub parts : HasParts c.fiber c.parts.states
-  pub frames : FitFrames (lane_at c) c.parts.frames
+  pub many : HasParts c.fiber (states_of c.parts)
+  pub parts : FitParts c.fiber c.parts
 
 -- the blocks of the stay in the pool: those of its records and of its move, and no others
 pub record HasBlocks (cap : ℕ) (v : GameView) (pool : Ledger) : Type 0 where

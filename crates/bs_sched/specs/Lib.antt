@@ -19,6 +19,7 @@ pub mod Lane
 pub mod LastBoards
 pub mod Machine
 pub mod Memory
+pub mod MoveParts
 pub mod PartState
 pub mod Parts
 pub mod PlanBlocks

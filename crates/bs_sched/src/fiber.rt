@@ -317,7 +317,7 @@ impl Fiber {
         self.stage == Stage::Parts
     }
 
-    /// Whether the worker has that Begin or Join out. No part is out of the fiber.
+    /// Whether the worker has that Begin or Join out; `false` for a part.
     pub(crate) fn has_out(&self, worker: usize, kind: JobKind, part: u8) -> bool
         ensures { result ≡ is_out worker self.now kind part }
     {

@@ -17,7 +17,7 @@ ghost use Rattle.bs_heap.specs.HeldBlocks.{IsKeptIn, LeavesOthers, all_given, ne
 ghost use Rattle.bs_heap.specs.Packing.{numbers_of};
 ghost use Rattle.bs_pool.specs.Ledger.{Ledger, drawn, reserved};
 ghost use Rattle.bs_sched.specs.Courses.{IsRight};
-ghost use Rattle.bs_sched.specs.Frames.{FitFrames, LeavesBut, pool_taken};
+ghost use Rattle.bs_sched.specs.Frames.{LeavesBut, pool_taken};
 ghost use Rattle.bs_sched.specs.Game.{HasBlocks, IsAnswering, IsOwnTicket, IsTicketOf, answered_game, closed_game, completed_game, forked_game, game_with_part, handed_game, opened_game, own_names, pool_answered, pool_completed, taken_game};
 ghost use Rattle.bs_sched.specs.Inputs.{board_asked, current_input, input_for};
 ghost use Rattle.bs_sched.specs.Keyed.{HasKeys, IsKeyAt, IsKeyOf};
@@ -173,7 +173,7 @@ impl<const CAP: usize> Game<CAP> {
     /// Does nothing. Gives the prover a part of a stay's invariant.
     pub(crate) fn keeps(&self)
         ensures right { IsRight self.now.lane }
-        ensures frames { FitFrames self.now.lane self.now.frames }
+        ensures begun { (worker part : ℕ) → is_out worker self.now.lane kind.Begin part ≡ true → self.now.frames.numbers ≡ [] }
     {
         self.fiber.keeps();
     }

@@ -1,7 +1,7 @@
 //! The parts of a game's move. A part has its key until it is taken, then its worker and the number
 //! of its frame block; once it is completed it has its moved snakes and the block, and once the
 //! Join is taken the block's number.
-ghost use Rattle.std.specs.Prelude.{◌≡◌, ◌<◌, ◌≤◌, [], ◌∷◌, ◌++◌, List, ℕ, Some, None, IfOk, true, false, slice_get, slice_set, replicate, vec_len, vec_capacity, length, map, flat_map, option_to_list, slice_index_or, MatchOption, ◌↔◌, IsTrue};
+ghost use Rattle.std.specs.Prelude.{◌≡◌, ◌<◌, ◌≤◌, [], ◌∷◌, ◌++◌, List, ℕ, Some, None, IfOk, true, false, slice_get, vec_len, vec_capacity, length, map, flat_map, option_to_list, slice_index_or, MatchOption, ◌↔◌, IsTrue};
 ghost use Rattle.std.specs.List.{list_all};
 ghost use Rattle.bs_board.specs.declared.boards.snake.Snake.{Snake};
 ghost use Rattle.bs_fiber.specs.Frames.{frame_of};
@@ -10,10 +10,11 @@ ghost use Rattle.bs_sched.specs.Inputs.{job_numbers};
 ghost use Rattle.bs_heap.specs.HeldBlocks.{Holds, LeavesOthers, next_number, all_given};
 ghost use Rattle.bs_heap.specs.Lent.{AreLent, owned_numbers};
 ghost use Rattle.bs_pool.specs.Ledger.{held, reserved, drawn};
-ghost use Rattle.bs_sched.specs.declared.parts.Part.TheVariants as part;
+ghost use Rattle.bs_sched.specs.declared.parts.Part.TheVariants as field;
+ghost use Rattle.bs_sched.specs.MoveParts.{frames_of, no_parts, part_completed, part_taken, parts_begun, parts_forked, parts_idle, parts_joined, ready_part, states_of};
 ghost use Rattle.bs_sched.specs.PartState as state;
 ghost use Rattle.bs_sched.specs.PartsLayout.{block_in, is_ready_part, joined, moved_in, number_in, part_in, state_in};
-ghost use Rattle.bs_sched.specs.Frames.{flattened, idle_frames, no_parts, forked_frames, joining_frames, with_keys, with_number, with_moved};
+ghost use Rattle.bs_sched.specs.Frames.{flattened};
 ghost use Rattle.bs_sched.specs.Keyed.{AreKeysOf, IsKeyAt};
 ghost use Rattle.bs_sched.specs.Lane.{has_part, is_part_done, is_part_ready};
 
@@ -51,7 +52,7 @@ pub(crate) struct MoveParts<const CAP: usize> {
 }
 
 impl<const CAP: usize> Model for MoveParts<CAP> {
-    ghost use Rattle.bs_sched.specs.Frames.{PartsView};
+    ghost use Rattle.bs_sched.specs.MoveParts.{PartsView};
 
     ghost Value = { PartsView };
 
@@ -66,7 +67,7 @@ impl<const CAP: usize> Model for MoveParts<CAP> {
 fn push_ready<const CAP: usize>(parts: &mut Vec<Part<CAP>>, keys: &mut Vec<PartKey<Done<CAP>>>)
     requires none { parts.old.items ≡ [] }
     requires room { vec_len keys.old ≤ vec_capacity parts.old }
-    ensures parts { parts.new.items ≡ map (λ key. part.Ready key) keys.old.items }
+    ensures parts { parts.new.items ≡ map (λ key. field.Ready key) keys.old.items }
     ensures keys { keys.new.items ≡ [] }
     ensures room { vec_capacity parts.new ≡ vec_capacity parts.old }
 {
@@ -83,8 +84,8 @@ fn take_key<const CAP: usize>(
     block: usize,
 ) -> PartKey<Done<CAP>>
     requires { is_ready_part place.old ≡ true }
-    ensures place { place.new ≡ part.Out worker block }
-    ensures key { place.old ≡ part.Ready result }
+    ensures place { place.new ≡ field.Out worker block }
+    ensures key { place.old ≡ field.Ready result }
 {
     match replace(place, Part::Out { worker, block }) {
         Part::Ready(key) => key,
@@ -291,9 +292,8 @@ impl<const CAP: usize> MoveParts<CAP> {
         tally: Option<TallyName<Done<CAP>>>,
         keys: Vec<PartKey<Done<CAP>>>,
     )
-        requires { self.old.frames.numbers ≡ [] }
-        ensures frames { self.new.frames ≡ with_keys tally.entry keys.entry.items self.old.frames }
-        ensures states { self.new.states ≡ self.old.states }
+        requires { self.old.list ≡ [] }
+        ensures { self.new ≡ parts_begun tally.entry keys.entry.items self.old }
     {
         self.tally = tally;
         self.keys = keys;
@@ -301,11 +301,10 @@ impl<const CAP: usize> MoveParts<CAP> {
 
     /// Starts the move: one ready part for each key.
     pub(crate) fn fork(&mut self)
-        requires none { self.old.frames.numbers ≡ [] }
-        requires few { length self.old.frames.keys ≤ MOST_PARTS }
-        requires keys { AreKeysOf self.old.frames.tally (length self.old.frames.keys) self.old.frames.keys }
-        ensures frames { self.new.frames ≡ forked_frames self.old.frames.tag self.old.frames.tally (length self.old.frames.keys) }
-        ensures states { self.new.states ≡ replicate (length self.old.frames.keys) state.Ready }
+        requires none { self.old.list ≡ [] }
+        requires few { length self.old.keys ≤ MOST_PARTS }
+        requires keys { AreKeysOf self.old.tally (length self.old.keys) self.old.keys }
+        ensures { self.new ≡ parts_forked self.old }
     {
         push_ready(&mut self.list, &mut self.keys);
     }
@@ -317,17 +316,16 @@ impl<const CAP: usize> MoveParts<CAP> {
         worker: usize,
         part: usize,
     ) -> (Owned<CAP>, PartKey<Done<CAP>>)
-        requires ready { slice_get self.old.frames.numbers part ≡ Some None }
-        requires reserved { held self.old.frames.tag pool.old < reserved self.old.frames.tag pool.old }
+        requires ready { slice_get self.old.list part ≡ Some ready_part }
+        requires reserved { held self.old.tag pool.old < reserved self.old.tag pool.old }
         ensures block { result.0.block ≡ [] }
-        ensures tag { result.0.tag ≡ self.old.frames.tag }
+        ensures tag { result.0.tag ≡ self.old.tag }
         ensures number { result.0.number ≡ next_number pool.old }
-        ensures key { IsKeyAt self.old.frames.tally (length self.old.frames.numbers) part result.1 }
-        ensures frames { self.new.frames ≡ with_number part (next_number pool.old) self.old.frames }
-        ensures states { self.new.states ≡ slice_set self.old.states part (state.Out worker) }
-        ensures pool { pool.new ≡ drawn self.old.frames.tag (next_number pool.old) pool.old }
-        ensures kept { Holds self.old.frames.tag (flattened self.old.frames.numbers) pool.old → Holds self.old.frames.tag (flattened (with_number part (next_number pool.old) self.old.frames).numbers) pool.new }
-        ensures others { LeavesOthers self.old.frames.tag pool.old pool.new }
+        ensures key { IsKeyAt self.old.tally (length self.old.list) part result.1 }
+        ensures parts { self.new ≡ part_taken part worker (next_number pool.old) self.old }
+        ensures pool { pool.new ≡ drawn self.old.tag (next_number pool.old) pool.old }
+        ensures kept { Holds self.old.tag (flattened (frames_of self.old).numbers) pool.old → Holds self.old.tag (flattened (frames_of self.new).numbers) pool.new }
+        ensures others { LeavesOthers self.old.tag pool.old pool.new }
     {
         let owned = draw_block(pool, self.tag);
         let key = take_key(&mut self.list[part], worker, owned.number());
@@ -336,41 +334,38 @@ impl<const CAP: usize> MoveParts<CAP> {
 
     /// Completes a part: keeps its moved snakes and its block.
     pub(crate) fn complete(&mut self, part: usize, moved: Moved, owned: Owned<CAP>)
-        requires out { slice_get self.old.frames.numbers part ≡ Some (Some owned.number) }
-        requires tag { owned.tag ≡ self.old.frames.tag }
+        requires within { part < length self.old.list }
+        requires tag { owned.tag ≡ self.old.tag }
         requires holds { owned.block ≡ frame_of moved }
-        ensures frames { self.new.frames ≡ with_moved part moved self.old.frames }
-        ensures states { self.new.states ≡ slice_set self.old.states part state.Done }
+        ensures { self.new ≡ part_completed part moved owned.entry.number self.old }
     {
         self.list[part] = Part::Done(moved, owned);
     }
 
     /// Moves the snakes and the blocks of all parts into the Join's ticket.
     pub(crate) fn join(&mut self, moved: &mut Vec<Moved>, frames: &mut Vec<Owned<CAP>>)
-        requires back { (all : List (List Snake)) × (self.old.frames.moved ≡ map Some all) }
+        requires back { (all : List (List Snake)) × ((frames_of self.old).moved ≡ map Some all) }
         requires no_moved { moved.old.items ≡ [] }
-        requires moved_room { length self.old.frames.numbers ≤ vec_capacity moved.old }
+        requires moved_room { length self.old.list ≤ vec_capacity moved.old }
         requires no_frames { frames.old.items ≡ [] }
-        requires room { length self.old.frames.numbers ≤ vec_capacity frames.old }
-        ensures frames { self.new.frames ≡ joining_frames self.old.frames }
-        ensures states { self.new.states ≡ self.old.states }
-        ensures moved { moved.new.items ≡ flattened self.old.frames.moved }
-        ensures bytes { bytes_of (frames_in frames.new.items) ≡ map frame_of (flattened self.old.frames.moved) }
-        ensures names { names_of (frames_in frames.new.items) ≡ map (λ n. (self.old.frames.tag, n)) (flattened self.old.frames.numbers) }
+        requires room { length self.old.list ≤ vec_capacity frames.old }
+        ensures parts { self.new ≡ parts_joined self.old }
+        ensures moved { moved.new.items ≡ flattened (frames_of self.old).moved }
+        ensures bytes { bytes_of (frames_in frames.new.items) ≡ map frame_of (flattened (frames_of self.old).moved) }
+        ensures names { names_of (frames_in frames.new.items) ≡ map (λ n. (self.old.tag, n)) (flattened (frames_of self.old).numbers) }
     {
         join_all(&mut self.list, moved, frames);
     }
 
     /// Gives the blocks of the answered command back to the pool, and drops its parts and keys.
     pub(crate) fn give_back(&mut self, frames: &mut Vec<Owned<CAP>>, pool: &mut Pool<CAP>)
-        requires names { names_of (frames_in frames.old.items) ≡ map (λ n. (self.old.frames.tag, n)) (flattened self.old.frames.numbers) }
-        requires held { Holds self.old.frames.tag (flattened self.old.frames.numbers) pool.old }
-        ensures frames { self.new.frames ≡ idle_frames self.old.frames.tag self.old.frames.tally }
-        ensures states { self.new.states ≡ [] }
+        requires names { names_of (frames_in frames.old.items) ≡ map (λ n. (self.old.tag, n)) (flattened (frames_of self.old).numbers) }
+        requires held { Holds self.old.tag (flattened (frames_of self.old).numbers) pool.old }
+        ensures parts { self.new ≡ parts_idle self.old }
         ensures blocks { frames.new.items ≡ [] }
-        ensures pool { pool.new ≡ all_given (flattened self.old.frames.numbers) pool.old }
-        ensures kept { Holds self.old.frames.tag [] pool.new }
-        ensures others { LeavesOthers self.old.frames.tag pool.old pool.new }
+        ensures pool { pool.new ≡ all_given (flattened (frames_of self.old).numbers) pool.old }
+        ensures kept { Holds self.old.tag [] pool.new }
+        ensures others { LeavesOthers self.old.tag pool.old pool.new }
     {
         give_all(frames, pool);
         self.list.clear();
@@ -379,38 +374,38 @@ impl<const CAP: usize> MoveParts<CAP> {
 
     /// The number of parts; 0 if no move is in progress.
     pub(crate) fn count(&self) -> usize
-        ensures { result ≡ length self.now.states }
+        ensures { result ≡ length self.now.list }
     {
         self.list.len()
     }
 
     /// The first part that no worker has taken.
     pub(crate) fn first_ready(&self) -> Option<u8>
-        requires { length self.now.states ≤ 4 }
+        requires { length self.now.list ≤ 4 }
         ensures { MatchOption result
-            ((p : ℕ) → is_part_ready (slice_index_or self.now.states p state.Done) ≡ false)
-            (λ p. is_part_ready (slice_index_or self.now.states p state.Done) ≡ true) }
+            ((p : ℕ) → is_part_ready (slice_index_or (states_of self.now) p state.Done) ≡ false)
+            (λ p. is_part_ready (slice_index_or (states_of self.now) p state.Done) ≡ true) }
     {
         first_ready(&self.list)
     }
 
     /// Whether all parts are completed.
     pub(crate) fn are_done(&self) -> bool
-        ensures { result ≡ list_all is_part_done self.now.states }
+        ensures { result ≡ list_all is_part_done (states_of self.now) }
     {
         are_done(&self.list)
     }
 
     /// Whether the worker has that part out.
     pub(crate) fn has_out(&self, worker: usize, part: usize) -> bool
-        ensures { result ≡ has_part worker (slice_index_or self.now.states part state.Done) }
+        ensures { result ≡ has_part worker (slice_index_or (states_of self.now) part state.Done) }
     {
         has_part(&self.list, worker, part)
     }
 
     /// The number of the block of a part.
     fn number(&self, part: usize) -> Option<usize>
-        ensures { result ≡ slice_index_or self.now.frames.numbers part None }
+        ensures { result ≡ slice_index_or (frames_of self.now).numbers part None }
     {
         match self.list.get(part) {
             None => None,
@@ -420,7 +415,7 @@ impl<const CAP: usize> MoveParts<CAP> {
 
     /// Whether the blocks are those that the job was taken with.
     pub(crate) fn are_of(&self, job: JobName, blocks: &[Owned<CAP>]) -> bool
-        ensures { IsTrue result ↔ names_of (frames_in blocks.now) ≡ map (λ n. (self.now.frames.tag, n)) (job_numbers job.kind job.part self.now.frames.numbers) }
+        ensures { IsTrue result ↔ names_of (frames_in blocks.now) ≡ map (λ n. (self.now.tag, n)) (job_numbers job.kind job.part (frames_of self.now).numbers) }
     {
         match job.kind {
             JobKind::Begin => blocks.is_empty(),

@@ -1,10 +1,10 @@
-use Rattle.std.proofs.Common.{◌≡◌, true, false, refl, sym, ap, subst, ◌∙◌}
+use Rattle.std.proofs.Common.{◌≡◌, true, false, sym, ap, subst, ◌∙◌}
 use Rattle.bs_fiber.specs.declared.job.JobKind.{JobKind}
 use Rattle.bs_fiber.specs.declared.job.JobKind.TheVariants as kind
 use Rattle.bs_sched.specs.Game.{GameView, lane_at}
 use Rattle.bs_sched.specs.Lane.{Lane, is_playing, is_ready, with_taken}
 use Rattle.bs_sched.proofs.ChangedGame.{kept_game, open_ready, taken_boards}
-use Rattle.bs_sched.proofs.PartFrames.{command_begun}
+use Rattle.bs_sched.proofs.PartFrames.{begun_fit}
 use Rattle.bs_sched.proofs.game.Game.begin.Goals as goal
 
 pub invariant_of-self-2 : goal.invariant_of-self-2
@@ -18,10 +18,7 @@ invariant_of-self-2 g c =
     let lane : x ≡ with_taken c.args.worker kind.Begin p inside.fiber
     = c.in_ok-begin.ensures.ok ∙ ap (with_taken c.args.worker kind.Begin 0) c.take_handle-handle.ensures.same in
     let ps = c.begin-2.new.self in
-    let states : ps.states ≡ inside.parts.states = c.begin-2.ensures.states in
-    let whole : record x { parts = ps.states } ≡ with_taken c.args.worker kind.Begin p (lane_at inside) = rw (lane, states) refl in
     kept_game g.row.CAP inside x c.grow_index.new.self ps c.self.invariant stands
     (taken_boards inside.fiber x c.args.worker kind.Begin p lane) c.grow_index.ensures.heap (λ may. c.in_ok-grow_index.ensures.ok)
     (λ plays. let wrong : false ≡ true = ap (λ (y : Lane). is_playing y.stage) (sym lane) ∙ plays in absurd cc)
-    (command_begun (lane_at inside) (record x { parts = ps.states }) inside.parts.frames ps.frames c.args.worker p c.in_ok-tally.tally c.in_ok-tally.keys.items ready c.self.invariant.frames whole
-    c.begin-2.ensures.frames (c.in_ok-tally.ensures c.args.worker))
+    (begun_fit inside.fiber x inside.parts ps c.args.worker p c.in_ok-tally.tally c.in_ok-tally.keys.items ready c.self.invariant.parts lane c.begin-2.ensures (c.in_ok-tally.ensures c.args.worker))

@@ -1,4 +1,4 @@
-use Rattle.std.proofs.Common.{rules, ◌≡◌, ◌≤◌, true, refl, List, [], map, sym, ap, subst, ◌∙◌, arith, vec_capacity}
+use Rattle.std.proofs.Common.{rules, ◌≡◌, ◌≤◌, true, List, [], map, sym, ap, subst, ◌∙◌, arith, vec_capacity}
 use Rattle.std.proofs.lemmas.Grind.{common_steps}
 use Rattle.bs_fiber.specs.declared.contents.Contents.{Contents}
 use Rattle.bs_fiber.specs.declared.input.Input.{Input}
@@ -8,11 +8,14 @@ use Rattle.bs_fiber.specs.Frames.{frame_of}
 use Rattle.bs_fiber.specs.Tickets.{IsFresh, TicketView, bytes_of, frames_in, fresh_bytes, names_of}
 use Rattle.bs_pool.specs.declared.owned.Owned.{Owned}
 use Rattle.bs_sched.specs.Game.{GameView, lane_at}
+use Rattle.bs_sched.specs.Insides.{HasParts}
+use Rattle.bs_sched.specs.MoveParts.{PartsView, frames_of, parts_joined, states_of}
+use Rattle.bs_sched.specs.PartState.{PartState}
 use Rattle.bs_sched.specs.Inputs.{current_input}
 use Rattle.bs_sched.specs.Lane.{Lane, is_out, is_ready, with_taken}
-use Rattle.bs_sched.proofs.ChangedGame.{joined_parts, kept_game, open_ready, taken_boards}
+use Rattle.bs_sched.proofs.ChangedGame.{game_joined, joined_parts, kept_game, open_ready, taken_boards}
 use Rattle.bs_sched.proofs.FitInputs.{join_input, lane_input, out_taken}
-use Rattle.bs_sched.proofs.JoinFrames.{join_names, join_taken, joined_moved, to_join}
+use Rattle.bs_sched.proofs.JoinFrames.{join_names, joined_fit, joined_moved, seen_joined, states_joined, to_join}
 use Rattle.bs_sched.proofs.game.Game.join.Goals as goal
 
 pub join-requires-2 : goal.join-requires-2
@@ -21,7 +24,7 @@ join-requires-2 g c =
     let p = c.args.job.part in
     let ready = subst (λ (k : JobKind). is_ready (lane_at inside) k p ≡ true) c.requires.kind
     (subst (λ (v : GameView). is_ready v.lane c.args.job.kind p ≡ true) (sym c.self.view_is) c.requires.ready) in
-    let here = to_join (lane_at inside) inside.parts.frames p ready c.self.invariant.frames in
+    let here = to_join inside.fiber inside.parts p ready c.self.invariant.parts in
     let few = here.few in
     let none : c.in_ok-moved.moved.items ≡ [] = search rules in
     let room : 4 ≤ vec_capacity c.in_ok-moved.moved = grind (arith, common_steps) in
@@ -35,42 +38,46 @@ new-requires g c =
     let job = c.args.job in
     let y = c.join.new.self in
     let ps = c.join-2.new.self in
-    let x : Lane = record y { parts = ps.states } in
+    let x : Lane = record y { parts = states_of ps } in
     let ready = subst (λ (k : JobKind). is_ready (lane_at inside) k job.part ≡ true) c.requires.kind
     (subst (λ (v : GameView). is_ready v.lane job.kind job.part ≡ true) (sym c.self.view_is) c.requires.ready) in
-    let here = to_join (lane_at inside) inside.parts.frames job.part ready c.self.invariant.frames in
-    let lane : x ≡ with_taken c.args.worker kind.Join job.part (lane_at inside) = rw (c.in_ok-join.ensures.ok, c.join-2.ensures.states) refl in
+    let here = to_join inside.fiber inside.parts job.part ready c.self.invariant.parts in
+    let states = ap states_of c.join-2.ensures.parts ∙ states_joined inside.parts in
+    let lane : x ≡ with_taken c.args.worker kind.Join job.part (lane_at inside) = rw c.in_ok-join.ensures.ok (ap (λ (l : List PartState). record (with_taken c.args.worker kind.Join job.part inside.fiber) { parts = l }) states) in
     let held : c.deref_mut-3.result.now.input ≡ current_input (lane_at inside) c.args.worker job
     = ap (λ (t : Contents g.row.CAP). t.input) c.deref_mut-3.ensures.value ∙ ap (λ (t : Contents g.row.CAP). t.input) c.deref_mut-2.ensures.value
     ∙ ap (λ (t : Contents g.row.CAP). t.input) c.deref_mut.ensures.value ∙ c.in_ok-contents.ensures.input
     ∙ ap (λ (v : GameView). current_input v.lane c.args.worker job) (sym c.self.view_is) in
     let blocks : c.deref_mut-3.result.now.frames.items ≡ c.join-2.new.frames.items = ap (λ (t : Contents g.row.CAP). t.frames.items) c.deref_mut-3.ensures.value in
-    let moved = c.from_vec.ensures ∙ c.join-2.ensures.moved ∙ joined_moved (lane_at inside) inside.parts.frames here in
+    let moved = c.from_vec.ensures ∙ c.join-2.ensures.moved ∙ joined_moved inside.fiber inside.parts here in
     let input = join_input (lane_at inside) x c.args.worker job c.deref_mut-3.result.now.input c.from_vec.result c.requires.kind lane held moved in
     let out : is_out c.args.worker x job.kind job.part ≡ true = rw (lane, c.requires.kind) (out_taken (lane_at inside) c.args.worker kind.Join job.part ready) in
     let bytes : bytes_of (frames_in c.deref_mut-3.result.now.frames.items) ≡ map frame_of c.from_vec.result
     = ap (λ (l : List (Owned g.row.CAP)). bytes_of (frames_in l)) blocks ∙ c.join-2.ensures.bytes ∙ ap (map frame_of) (sym (c.from_vec.ensures ∙ c.join-2.ensures.moved)) in
     let kind_is : c.deref_mut-3.result.now.input.job.kind ≡ kind.Join = ap (λ (i : Input). i.job.kind) held ∙ c.requires.kind in
     let fresh = subst (λ (k : JobKind). bytes_of (frames_in c.deref_mut-3.result.now.frames.items) ≡ fresh_bytes k c.from_vec.result) (sym kind_is) bytes in
-    let many = joined_parts g.row.CAP inside y ps.states job.part c.args.worker ready c.self.invariant c.in_ok-join.ensures.ok c.join-2.ensures.states in
-    (omega arith, (omega arith, (c.self.invariant.wide, (rw input (lane_input x c.args.worker job (c.keeps.ensures ps.states many) out), fresh))))
+    let many = subst (λ (v : PartsView). HasParts y (states_of v)) (sym c.join-2.ensures.parts)
+    (joined_parts g.row.CAP inside y job.part c.args.worker ready c.self.invariant c.in_ok-join.ensures.ok) in
+    (omega arith, (omega arith, (c.self.invariant.wide, (rw input (lane_input x c.args.worker job (c.keeps.ensures (states_of ps) many) out), fresh))))
 
 pub invariant_of-self-2 : goal.invariant_of-self-2
 invariant_of-self-2 g c =
     let inside = c.self.inside in
     let p = c.args.job.part in
     let y = c.join.new.self in
-    let ps = c.join-2.new.self in
-    let x : Lane = record y { parts = ps.states } in
     let ready = subst (λ (k : JobKind). is_ready (lane_at inside) k p ≡ true) c.requires.kind
     (subst (λ (v : GameView). is_ready v.lane c.args.job.kind p ≡ true) (sym c.self.view_is) c.requires.ready) in
     let stands = open_ready g.row.CAP inside kind.Join p c.self.invariant ready in
-    let own : y ≡ with_taken c.args.worker kind.Join p inside.fiber = c.in_ok-join.ensures.ok in
-    let lane : x ≡ with_taken c.args.worker kind.Join p (lane_at inside) = rw (own, c.join-2.ensures.states) refl in
-    kept_game g.row.CAP inside y c.grow_index.new.self ps c.self.invariant stands
-    (taken_boards inside.fiber y c.args.worker kind.Join p own) c.grow_index.ensures.heap (λ may. c.in_ok-grow_index.ensures.ok)
-    (joined_parts g.row.CAP inside y ps.states p c.args.worker ready c.self.invariant own c.join-2.ensures.states)
-    (join_taken (lane_at inside) x inside.parts.frames ps.frames c.args.worker p ready lane c.join-2.ensures.frames c.self.invariant.frames)
+    let lane : y ≡ with_taken c.args.worker kind.Join p inside.fiber = c.in_ok-join.ensures.ok in
+    rw c.join-2.ensures.parts
+    (kept_game g.row.CAP inside y c.grow_index.new.self (parts_joined inside.parts) c.self.invariant stands (taken_boards inside.fiber y c.args.worker kind.Join p lane)
+    c.grow_index.ensures.heap (λ may. c.in_ok-grow_index.ensures.ok) (joined_parts g.row.CAP inside y p c.args.worker ready c.self.invariant lane)
+    (joined_fit inside.fiber y inside.parts c.args.worker p lane c.self.invariant.parts))
+
+pub returns-clause-ok : goal.returns-clause-ok
+returns-clause-ok g c =
+    game_joined c.self.inside c.args.self.now c.join.new.self c.grow_index.new.self c.join-2.new.self c.args.worker 0 c.args.job _ _ c.self.view_is c.requires.kind
+    c.in_ok-join.ensures.ok c.grow_index.ensures.heap c.join-2.ensures.parts
 
 pub returns-clause-ticket : goal.returns-clause-ticket
 returns-clause-ticket g c =
@@ -78,24 +85,25 @@ returns-clause-ticket g c =
     let job = c.args.job in
     let y = c.join.new.self in
     let ps = c.join-2.new.self in
-    let x : Lane = record y { parts = ps.states } in
+    let x : Lane = record y { parts = states_of ps } in
     let ready = subst (λ (k : JobKind). is_ready (lane_at inside) k job.part ≡ true) c.requires.kind
     (subst (λ (v : GameView). is_ready v.lane job.kind job.part ≡ true) (sym c.self.view_is) c.requires.ready) in
-    let here = to_join (lane_at inside) inside.parts.frames job.part ready c.self.invariant.frames in
-    let lane : x ≡ with_taken c.args.worker kind.Join job.part (lane_at inside) = rw (c.in_ok-join.ensures.ok, c.join-2.ensures.states) refl in
+    let here = to_join inside.fiber inside.parts job.part ready c.self.invariant.parts in
+    let states = ap states_of c.join-2.ensures.parts ∙ states_joined inside.parts in
+    let lane : x ≡ with_taken c.args.worker kind.Join job.part (lane_at inside) = rw c.in_ok-join.ensures.ok (ap (λ (l : List PartState). record (with_taken c.args.worker kind.Join job.part inside.fiber) { parts = l }) states) in
     let held : c.deref_mut-3.result.now.input ≡ current_input (lane_at inside) c.args.worker job
     = ap (λ (t : Contents g.row.CAP). t.input) c.deref_mut-3.ensures.value ∙ ap (λ (t : Contents g.row.CAP). t.input) c.deref_mut-2.ensures.value
     ∙ ap (λ (t : Contents g.row.CAP). t.input) c.deref_mut.ensures.value ∙ c.in_ok-contents.ensures.input
     ∙ ap (λ (v : GameView). current_input v.lane c.args.worker job) (sym c.self.view_is) in
     let blocks : c.deref_mut-3.result.now.frames.items ≡ c.join-2.new.frames.items = ap (λ (t : Contents g.row.CAP). t.frames.items) c.deref_mut-3.ensures.value in
-    let moved = c.from_vec.ensures ∙ c.join-2.ensures.moved ∙ joined_moved (lane_at inside) inside.parts.frames here in
+    let moved = c.from_vec.ensures ∙ c.join-2.ensures.moved ∙ joined_moved inside.fiber inside.parts here in
     let input = join_input (lane_at inside) x c.args.worker job c.deref_mut-3.result.now.input c.from_vec.result c.requires.kind lane held moved in
     let bytes : bytes_of (frames_in c.deref_mut-3.result.now.frames.items) ≡ map frame_of c.from_vec.result
     = ap (λ (l : List (Owned g.row.CAP)). bytes_of (frames_in l)) blocks ∙ c.join-2.ensures.bytes ∙ ap (map frame_of) (sym (c.from_vec.ensures ∙ c.join-2.ensures.moved)) in
     let kind_is : c.deref_mut-3.result.now.input.job.kind ≡ kind.Join = ap (λ (i : Input). i.job.kind) held ∙ c.requires.kind in
     let fresh = subst (λ (k : JobKind). bytes_of (frames_in c.deref_mut-3.result.now.frames.items) ≡ fresh_bytes k c.from_vec.result) (sym kind_is) bytes in
     let names = ap (λ (l : List (Owned g.row.CAP)). names_of (frames_in l)) blocks
-    ∙ join_names job.kind job.part inside.parts.frames ps.frames _ c.requires.kind c.join-2.ensures.frames c.join-2.ensures.names in
+    ∙ join_names job.kind job.part (frames_of inside.parts) (frames_of ps) _ c.requires.kind (ap frames_of c.join-2.ensures.parts ∙ seen_joined inside.parts) c.join-2.ensures.names in
     record {
       input = ap (λ (t : TicketView). t.input) c.new.ensures ∙ input;
       names = ap (λ (t : TicketView). names_of t.frames) c.new.ensures ∙ names;

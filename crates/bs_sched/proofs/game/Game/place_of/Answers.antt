@@ -4,6 +4,7 @@ use Rattle.bs_game.specs.Game.{board_of_turn, last_board}
 use Rattle.bs_game.specs.Recorded.{IsRecorded}
 use Rattle.bs_game.proofs.Recorded.{kept_turns, nothing_of_turn}
 use Rattle.bs_sched.specs.Game.{GameView}
+use Rattle.bs_sched.specs.MoveParts.{states_of}
 use Rattle.bs_sched.specs.Lane.{kept_of}
 use Rattle.bs_sched.specs.Turns.{FindsTurn}
 use Rattle.bs_sched.proofs.ChangedGame.{keeps_boards}
@@ -17,7 +18,7 @@ place_of_turn-requires g c =
     let game = inside.fiber.game in
     let stands = subst (λ (v : GameView). v.lane.is_open ≡ true) (sym c.self.view_is) c.requires in
     let boards = keeps_boards g.row.CAP inside c.self.invariant stands in
-    let kept : IsRecorded game inside.heap.records = record { right = (c.keeps.ensures inside.parts.states c.self.invariant.parts).right; is = boards.records } in
+    let kept : IsRecorded game inside.heap.records = record { right = (c.keeps.ensures (states_of inside.parts) c.self.invariant.many).right; is = boards.records } in
     let new = newest (last_board game) c.in-Some.last.now c.in-Some.ensures in
     let turn = c.turn.ensures new.board new.is in
     let many = kept_turns game inside.heap.records new.board c.count.result kept new.there c.count.ensures.value in
@@ -35,7 +36,7 @@ returns-in-Some g c =
     let game = inside.fiber.game in
     let stands = subst (λ (v : GameView). v.lane.is_open ≡ true) (sym c.self.view_is) c.requires in
     let boards = keeps_boards g.row.CAP inside c.self.invariant stands in
-    let kept : IsRecorded game inside.heap.records = record { right = (c.keeps.ensures inside.parts.states c.self.invariant.parts).right; is = boards.records } in
+    let kept : IsRecorded game inside.heap.records = record { right = (c.keeps.ensures (states_of inside.parts) c.self.invariant.many).right; is = boards.records } in
     let new = newest (last_board game) c.in-Some.last.now c.in-Some.ensures in
     let found = finds_turn game inside.heap.records c.in-Some.last.now c.turn.result c.count.result c.args.at c.place_of_turn.result kept new
     (c.turn.ensures new.board new.is) c.count.ensures.value c.place_of_turn.ensures in

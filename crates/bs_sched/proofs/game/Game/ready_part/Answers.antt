@@ -1,16 +1,13 @@
-use Rattle.std.proofs.Common.{◌≡◌, true, arith, ap, sym, subst, ◌∙◌}
+use Rattle.std.proofs.Common.{arith, ap, sym, ◌∙◌}
 use Rattle.std.specs.Prelude.{slice_index_or}
 use Rattle.bs_sched.specs.PartState as state
 use Rattle.bs_sched.specs.Game.{GameView}
-use Rattle.bs_sched.specs.Lane.{is_in_parts, is_part_ready}
-use Rattle.bs_sched.proofs.ChangedGame.{few_parts}
+use Rattle.bs_sched.specs.Lane.{is_part_ready}
 use Rattle.bs_sched.proofs.Lanes.{none_in_parts, parts_stage}
 use Rattle.bs_sched.proofs.game.Game.ready_part.Goals as goal
 
 pub first_ready-requires : goal.first_ready-requires
-first_ready-requires g c =
-    let on = subst (λ (v : GameView). is_in_parts v.lane.stage ≡ true) (sym c.self.view_is) c.requires in
-    (omega arith, few_parts g.row.CAP c.self.inside on c.self.invariant)
+first_ready-requires g c = (omega arith, c.self.invariant.parts.few)
 
 pub returns-in-None : goal.returns-in-None
 returns-in-None g c =

@@ -3,11 +3,9 @@ use Rattle.bs_fiber.specs.declared.job.JobKind.{JobKind}
 use Rattle.bs_fiber.specs.declared.job.JobKind.TheVariants as kind
 use Rattle.bs_fiber.specs.Work.{out_seen}
 use Rattle.bs_heap.specs.HeldBlocks.{next_number}
-use Rattle.bs_sched.specs.Frames.{FitFrames}
 use Rattle.bs_sched.specs.Game.{GameView, no_game}
 use Rattle.bs_sched.specs.Games.{GamesView, games_completed}
 use Rattle.bs_sched.specs.Lane.{Lane, is_out, lane_command, lane_view}
-use Rattle.bs_sched.proofs.Brought.{none_begun}
 use Rattle.bs_sched.proofs.ChangedGames.{completed_stay, completed_view, names_there, open_with_out, row_there, sound_game, stay_there}
 use Rattle.bs_sched.proofs.ListedGames.{read_at}
 use Rattle.bs_sched.proofs.games.Games.complete_job.Goals as goal
@@ -49,8 +47,8 @@ returns g c =
     let at = row_there g.row.CAP inside c.args.self.now job.game v c.self.invariant here stands in
     let done = c.complete.ensures in
     let same : c.index.result.now ≡ v = read_at inside.list.items job.game c.index.result.now no_game here.within c.index.ensures ∙ sym here.there in
-    let fit = subst (λ (u : GameView). FitFrames u.lane u.frames) same c.keeps.ensures.frames in
+    let begun = subst (λ (u : GameView). (w p : ℕ) → is_out w u.lane kind.Begin p ≡ true → u.frames.numbers ≡ []) same c.keeps.ensures.begun in
     let none : job.kind ≡ kind.Begin → v.frames.numbers ≡ []
-    = λ begins. none_begun v.lane out.0 job.part v.frames (subst (λ (k : JobKind). is_out out.0 v.lane k job.part ≡ true) begins out.1) fit in
+    = λ begins. begun out.0 job.part (subst (λ (k : JobKind). is_out out.0 v.lane k job.part ≡ true) begins out.1) in
     completed_view g.row.CAP inside job v c.complete.new.self c.complete.new.pool here.there at.tag none done.game done.pool
     ∙ ap (λ (u : GamesView). games_completed g.row.CAP u job) c.self.view_is
