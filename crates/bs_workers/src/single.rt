@@ -20,10 +20,10 @@ const WORKER: usize = 0;
 fn complete<const CAP: usize>(core: &mut Core<CAP>, done: Done<CAP>) -> Result<(), Run>
     ensures { Makes core.old [] core.new }
 {
-    match core.put(WORKER, done) {
-        Ok(()) => Ok(()),
-        Err(_) => Err(Run::Broken),
-    }
+    let Ok(()) = core.put(WORKER, done) else {
+        return Err(Run::Broken);
+    };
+    Ok(())
 }
 
 /// Runs a Begin or a Join and completes it.
