@@ -102,10 +102,10 @@ record IsOpenStay (first : ℕ) (registry : List Stay) (stay : ℕ × GameRow) :
   row : stay.1 ≡ (stay_at registry at).row
 
 further : (first : ℕ) (entry : Stay) (registry : List Stay) (stay : ℕ × GameRow) → IsOpenStay (first + 1) registry stay → IsOpenStay first (entry ∷ registry) stay
-further first entry registry stay stay =
-    let number = stay.number in
-    let inside = stay.inside in
-    record { at = suc stay.at; number = omega (arith, number); inside = omega (arith, inside); row = stay.row }
+further first entry registry stay is =
+    let number = is.number in
+    let inside = is.inside in
+    record { at = suc is.at; number = omega (arith, number); inside = omega (arith, inside); row = is.row }
 
 open_stay_at : (first : ℕ) (entry : Stay) (registry : List Stay) (b : Bool) (i : ℕ) (d : ℕ × GameRow)
     → ((k : ℕ) → k < length (open_from (first + 1) registry) → IsOpenStay (first + 1) registry (get_or (open_from (first + 1) registry) k d))
