@@ -141,14 +141,14 @@ pub open_stay_row : (blocks : ℕ) (version : Version) (plan : List GameRow) (li
 open_stay_row blocks version plan lines games open_stays number index d is inside =
     let registry = stays_left blocks version plan lines in
     let stays : open_stays.stays ≡ open_of registry = ap (λ (g : OpenStayList). g.stays) is.are_open_stays in
-    let opened : IsOpenStay 0 registry (get_or open_stays.stays index d)
+    let found : IsOpenStay 0 registry (get_or open_stays.stays index d)
     = subst (λ (all : List (ℕ × GameRow)). IsOpenStay 0 registry (get_or all index d)) (sym stays)
     (open_stay_of 0 registry index d (subst (λ (all : List (ℕ × GameRow)). index < length all) stays inside)) in
     let stay = (get_or open_stays.stays index d).0 in
-    let at = opened.number in
-    let same : stay ≡ opened.at = omega (arith, at) in
+    let at = found.number in
+    let same : stay ≡ found.at = omega (arith, at) in
     ap (λ (all : List GameRow). get_or all stay (row_of [] 0)) (sym (rows_left blocks version plan lines))
-    ∙ get_or-map (λ (e : Stay). e.row) registry stay no_stay ∙ ap (λ n. (stay_at registry n).row) same ∙ sym opened.row
+    ∙ get_or-map (λ (e : Stay). e.row) registry stay no_stay ∙ ap (λ n. (stay_at registry n).row) same ∙ sym found.row
 
 pub one_more_closed : (blocks : ℕ) (version : Version) (plan : List GameRow) (lines : List (List ℕ)) (open_stays : OpenStayList) (index : ℕ) (d : ℕ × GameRow)
     (mid new total : List ℕ) → index < length open_stays.stays
