@@ -157,8 +157,9 @@ impl<const CAP: usize> State<CAP> {
         }
     }
 
-    /// Takes a job for the core's worker of that number. Returns true for a part, after which the
-    /// number can take another job.
+    /// Takes a job for the core's worker of that number. Returns true for a part of a move that has
+    /// later parts, which the number can take too. After any other job it would go on to another
+    /// game, whose data would move to this thread's processor and back.
     fn take_job(&mut self, worker: &mut Worker<CAP>, number: usize) -> Result<bool, Next> {
         if number > self.core.workers() {
             return Err(self.end(Run::Broken));
@@ -174,15 +175,15 @@ impl<const CAP: usize> State<CAP> {
             Ok(Taken::Busy) => return Err(self.end(Run::Broken)),
             Err(_) => return Err(self.end(Run::Memory)),
         };
-        let is_part = job.key.is_some();
+        let goes_on = job.has_later_parts();
         match worker.jobs.push(job) {
-            Ok(()) => Ok(is_part),
+            Ok(()) => Ok(goes_on),
             Err(_) => Err(self.end(Run::Memory)),
         }
     }
 
     /// Takes a batch of jobs for the worker, whose results gave work to `games` games. Each of its
-    /// numbers takes up to four jobs, and stops after a Begin or a Join. While other threads wait,
+    /// numbers takes a Begin, a Join, or parts of one move. While other threads wait,
     /// `games / (waiting + 1)` of its numbers take one job each, at least one number and at most
     /// all. A worker with a single number takes one job.
     fn take_batch(&mut self, worker: &mut Worker<CAP>, games: usize) -> Result<(), Next> {

@@ -8,7 +8,7 @@ use crate::fault::Run;
 use crate::gate::Gate;
 use arrayvec::ArrayVec;
 use bs_counter::{Finish, PartKey};
-use bs_fiber::{Done, Stopped, Ticket, work};
+use bs_fiber::{Done, SEATS, Stopped, Ticket, work};
 use std::alloc::{AllocError, Global};
 
 /// The largest number of parts of a move, and of jobs that a worker number takes in one batch.
@@ -21,6 +21,19 @@ pub(crate) struct Job<const CAP: usize> {
     pub(crate) key: Option<PartKey<Done<CAP>>>,
     ghost fresh: { IsFresh ticket },
     ghost its_key: { IfSome key (λ key. (ticket.input.job.kind ≡ kind.Part) × (key.part ≡ ticket.input.job.part)) } by { Prim.hlevel props },
+}
+
+impl<const CAP: usize> Job<CAP> {
+    /// Whether the job is a part of a move that has later parts.
+    pub(crate) fn has_later_parts(&self) -> bool {
+        match self.ticket.last() {
+            Some(last) if self.key.is_some() => {
+                let parts = usize::from(self.ticket.job().part).saturating_add(1);
+                parts.saturating_mul(SEATS) < last.seats()
+            }
+            _ => false,
+        }
+    }
 }
 
 /// A thread, and the jobs that it took while it last held the lock. It has one or more worker
