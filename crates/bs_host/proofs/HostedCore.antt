@@ -55,7 +55,7 @@ is_fresh capacity blocks workers rows core is =
     ∙ ap (λ games. opened_core capacity (size core.games.storage.pool) core.games.workers games) (sym games)
 
 -- the workers of all threads are within a core's limit
-pub few_workers : (threads each : ℕ) → threads ≤ 1024 → each ≤ 16 → threads * each ≤ 16384
+pub few_workers : (threads each : ℕ) → threads ≤ 1024 → each ≤ 8 → threads * each ≤ 8192
 few_workers threads each t e = mul-le-mul t e
 
 pub hosts_lines : (capacity blocks workers : ℕ) (rows stays : List GameRow) (routes : List (ℕ × Route)) (acts : List Act) (old new : CoreView)

@@ -29,13 +29,12 @@ use std::thread::Threads;
 /// The largest number of threads. If more are requested, this many are used.
 const MOST_THREADS: usize = 1_024;
 
-/// The largest number of workers of a thread. With 16 jobs between two critical sections, a thread
-/// spends little of its time at the lock.
-const MOST_WORKERS_OF_THREAD: usize = 16;
+/// The largest number of workers of a thread. With 8 a thread spends little of its time at the
+/// lock; with 16 its critical sections are so long that others use up their polls and sleep.
+const MOST_WORKERS_OF_THREAD: usize = 8;
 
 /// The number of workers of a core for that plan. Each thread has as many as games may be open,
-/// divided by the number of threads, but at least 1 and at most 16, so that all games advance
-/// together. A single thread has one.
+/// divided by the number of threads, but at least 1 and at most 8. A single thread has one.
 #[tactic(auto, using(crate::proofs::HostedCore::few_workers))]
 fn count_workers(plan: &Plan, threads: usize) -> usize
     requires { threads ≤ MOST_THREADS }
