@@ -24,6 +24,7 @@ pub mod LivePlays
 pub mod LiveRefusals
 pub mod LiveStops
 pub mod LiveTexts
+pub mod NamedOnce
 pub mod OpenStays
 pub mod OwnLines
 pub mod ParsedLines

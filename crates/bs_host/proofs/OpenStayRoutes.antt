@@ -131,13 +131,17 @@ one_more_open rows stay row old new within is pushed before =
     ∙ ap (λ first. old ++ (stay, first) ∷ enumerate_from (stay + 1) (drop (stay + 1) rows)) is
     ∙ ap (λ stays. old ++ stays) (sym next) ∙ before
 
+-- the stays behind the last row
+pub all_stays : (all : List GameRow) (stays : List (ℕ × GameRow)) (end : ℕ) → end ≡ length all
+    → stays ++ enumerate_from end (drop end all) ≡ enumerate_from 0 all → stays ≡ enumerate_from 0 all
+all_stays all stays end is before =
+    let none : [] ≡ drop end all = sym (drop_all end all (omega (arith, is))) in
+    sym (append-nil stays) ∙ ap (λ left. stays ++ enumerate_from end left) none ∙ before
+
 pub all_open : (rows all : List GameRow) (stays : List (ℕ × GameRow)) → all ≡ rows
-    → stays ++ enumerate_from (length all) (drop (length all) all) ≡ enumerate_from 0 all → open_stays_with (length all) stays ≡ open_stays_of (opened rows)
-all_open rows all stays same before =
-    let none : [] ≡ drop (length all) all = sym (drop_all (length all) all (omega arith)) in
-    let told : stays ≡ enumerate_from 0 all =
-    sym (append-nil stays) ∙ ap (λ left. stays ++ enumerate_from (length all) left) none ∙ before in
-    ap (λ list. open_stays_with (length all) list) (told ∙ ap (enumerate_from 0) same ∙ sym (rows_are_open 0 rows))
+    → stays ≡ enumerate_from 0 all → open_stays_with (length all) stays ≡ open_stays_of (opened rows)
+all_open rows all stays same are =
+    ap (λ list. open_stays_with (length all) list) (are ∙ ap (enumerate_from 0) same ∙ sym (rows_are_open 0 rows))
     ∙ ap (λ n. open_stays_with n (open_of (opened rows))) (ap length same ∙ sym (length-map rows open_stay))
 
 -- if nothing refuses a row, there is a number for it

@@ -20,7 +20,7 @@ pub record HasName (rows : List GameRow) (row : ℕ) (game : List ℕ) : Type 0 
   pub same : is_same_text game (slice_index_or rows row (row_of [] 0)).game ≡ true
 
 -- If no two elements of a list pass a test, an element that passes it is the first one that passes.
-only_first : {X : Type 0} (same : X → X → Bool) (p : X → Bool) → ((x y : X) → p x ≡ true → p y ≡ true → same x y ≡ true)
+pub only_first : {X : Type 0} (same : X → X → Bool) (p : X → Bool) → ((x y : X) → p x ≡ true → p y ≡ true → same x y ≡ true)
     → (xs : List X) (i : ℕ) (d : X) → are_distinct same xs ≡ true → i < length xs → p (get_or xs i d) ≡ true → position_or_len p xs ≡ i
 only_first same p alike [] i d distinct within hit = absurd (omega arith)
 only_first same p alike (x ∷ xs) zero d distinct within hit = rw hit refl

@@ -1,11 +1,12 @@
 -- The open stays as the code keeps them: each with the number of its row, and the number of rows
 -- made. Routing needs no more of the registry.
-use Rattle.std.specs.Prelude.{◌≡◌, ℕ, ◌+◌, ◌-◌, Bool, ◌&&◌, not, if◌then◌else◌, List, [], ◌∷◌, ◌++◌, length, count_by, sum_by, nat_eq, nat_lt, Option, Some, None, is_some}
+use Rattle.std.specs.Prelude.{◌≡◌, ℕ, ◌+◌, ◌-◌, Bool, ◌&&◌, not, if◌then◌else◌, List, [], ◌∷◌, ◌++◌, length, slice_index_or, count_by, sum_by, nat_eq, nat_lt, Option, Some, None, is_some}
 use Rattle.std.specs.List.{filter, list_any}
 use Rattle.bs_board.specs.declared.commands.command.Command.TheVariants as command
 use Rattle.bs_board.specs.declared.limits.TheConstants.{MOST_ROWS}
 use Rattle.bs_board.specs.declared.plans.version.Version.{Version}
-use Rattle.bs_board.specs.plans.Plan.{GameRow}
+use Rattle.bs_board.specs.Distinct.{are_distinct}
+use Rattle.bs_board.specs.plans.Plan.{GameRow, row_of}
 use Rattle.bs_board.specs.Texts.{is_same_text}
 use Rattle.bs_json.specs.declared.line.Line.{Line}
 use Rattle.bs_json.specs.declared.line.Line.TheVariants as line
@@ -42,6 +43,14 @@ open_stays_of registry = record { made = length registry; stays = open_of regist
 
 abbrev pub bears : List ℕ → ℕ × GameRow → Bool
 bears name stay = is_same_text name stay.1.game
+
+-- no two have one name
+abbrev pub are_named_once : List (ℕ × GameRow) → Bool
+are_named_once = are_distinct (λ one other. is_same_text one.1.game other.1.game)
+
+-- whether one of that name is at that index
+abbrev pub is_named_at : List ℕ → ℕ → List (ℕ × GameRow) → Bool
+is_named_at name place stays = nat_lt place (length stays) && bears name (slice_index_or stays place (0, row_of [] 0))
 
 -- the number of the open stay of that name
 abbrev pub found_in : List ℕ → List (ℕ × GameRow) → Option ℕ

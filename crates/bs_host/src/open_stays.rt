@@ -1,7 +1,7 @@
 //! The open stays, while the lines of a file are routed.
-ghost use Rattle.std.specs.Prelude.{◌≡◌, not, nat_eq};
+ghost use Rattle.std.specs.Prelude.{◌≡◌, true, not, nat_eq};
 ghost use Rattle.std.specs.List.{filter};
-ghost use Rattle.bs_host.specs.OpenStays.{OpenStayList, open_stays_in};
+ghost use Rattle.bs_host.specs.OpenStays.{OpenStayList, are_named_once, open_stays_in};
 
 use crate::limits::BLOCK_BYTES;
 use crate::parse::ParsedLine;
@@ -21,12 +21,17 @@ use std::marker::Model;
 pub struct OpenStays {
     made: usize,
     stays: Vec<(usize, Row)>,
+    /// The index behind that of the name found last, where the next one often is: a file's lines
+    /// go round its games.
+    likely: usize,
 }
 
 impl Model for OpenStays {
     ghost Value = { OpenStayList };
 
     ghost view = { open_stays_in };
+
+    ghost invariant = { λ g. are_named_once g.stays.items ≡ true };
 }
 
 fn remove_stay(stays: &mut Vec<(usize, Row)>, stay: usize)
@@ -41,7 +46,7 @@ impl OpenStays {
     ghost use Rattle.std.specs.List.{list_any, position};
     ghost use Rattle.bs_workers.specs.Acts.{opened};
     ghost use Rattle.bs_host.specs.declared.route.Route.TheVariants as route;
-    ghost use Rattle.bs_host.specs.OpenStays.{bears, blocks_in, found_in, open_stays_of, open_stays_then, refusal_by};
+    ghost use Rattle.bs_host.specs.OpenStays.{bears, blocks_in, found_in, is_named_at, open_stays_of, open_stays_then, refusal_by};
     ghost use Rattle.bs_host.specs.Parsed.{route_parsed};
     ghost use Rattle.bs_host.specs.Routing.{admit_route, hand_route, capacity_of, leave_route};
 
@@ -58,6 +63,7 @@ impl OpenStays {
         Ok(OpenStays {
             made: rows.len(),
             stays,
+            likely: 0,
         })
     }
 
@@ -83,22 +89,41 @@ impl OpenStays {
         self.stays[place].0
     }
 
-    /// The index of that name among the open stays.
+    /// Whether an open stay of that name is at that index.
+    fn is_at(&self, place: usize, name: &Id) -> bool
+        ensures { result ≡ is_named_at name.now place self.now.stays }
+    {
+        place < self.stays.len() && name.is_same(&self.stays[place].1.game)
+    }
+
+    /// The index of that name among the open stays. Looks at the likely index first, then at 0,
+    /// since after the last game comes the first, and only then searches.
+    #[tactic(auto, using(crate::proofs::NamedOnce::only_place))]
     fn place(&self, name: &Id) -> Option<usize>
         ensures { result ≡ position (bears name.now) self.now.stays }
     {
+        if self.is_at(self.likely, name) {
+            return Some(self.likely);
+        }
+        if self.is_at(0, name) {
+            return Some(0);
+        }
         self.stays
             .iter()
             .position(|stay| name.is_same(&stay.1.game))
     }
 
-    /// The row number of the open stay of that name.
+    /// The row number of the open stay of that name. Notes the index behind it as the likely one.
     #[tactic(auto, using(crate::proofs::OpenStayRoutes::found_at, crate::proofs::OpenStayRoutes::found_nowhere))]
-    fn find(&self, name: &Id) -> Option<usize>
-        ensures { result ≡ found_in name.now self.now.stays }
+    fn find(&mut self, name: &Id) -> Option<usize>
+        ensures found { result ≡ found_in name.now self.old.stays }
+        ensures after { self.new ≡ self.old }
     {
         match self.place(name) {
-            Some(place) => Some(self.stays[place].0),
+            Some(place) => {
+                self.likely = place + 1;
+                Some(self.stays[place].0)
+            }
             None => None,
         }
     }
@@ -143,9 +168,9 @@ impl OpenStays {
         }
     }
 
-    fn hand(&self, game: &Id, command: &SharedCommand) -> Result<Route, AllocError>
-        ensures route { IfOk result (λ route. route ≡ hand_route (found_in game.now self.now.stays) command.now) }
-        ensures after { IfOk result (λ route. open_stays_then self.now route ≡ self.now) }
+    fn hand(&mut self, game: &Id, command: &SharedCommand) -> Result<Route, AllocError>
+        ensures route { IfOk result (λ route. route ≡ hand_route (found_in game.now self.old.stays) command.now) }
+        ensures after { IfOk result (λ route. self.new ≡ open_stays_then self.old route) }
     {
         match self.find(game) {
             Some(stay) => Ok(Route::Act(Act::Hand(stay, command.share()?))),
@@ -153,7 +178,7 @@ impl OpenStays {
         }
     }
 
-    #[tactic(auto, using(crate::proofs::OpenStayRoutes::room_for_one))]
+    #[tactic(auto, using(crate::proofs::OpenStayRoutes::room_for_one, crate::proofs::NamedOnce::unrefused_is_new, crate::proofs::NamedOnce::pushed_named_once))]
     fn admit(&mut self, alloc: Global, blocks: usize, row: &Row) -> Result<Route, AllocError>
         ensures route { IfOk result (λ route. route ≡ admit_route (refusal_by (capacity_of blocks) self.old row.now) row.now) }
         ensures after { IfOk result (λ route. self.new ≡ open_stays_then self.old route) }

@@ -1,10 +1,14 @@
-use Rattle.std.proofs.Common.{◌≡◌, ◌++◌, ℕ, length, drop, subst, arith, rules}
-use Rattle.std.specs.List.{enumerate_from}
-use Rattle.bs_host.proofs.OpenStayRoutes.{all_open}
+use Rattle.std.proofs.Common.{arith, rules}
+use Rattle.bs_host.proofs.NamedOnce.{plan_named_once}
+use Rattle.bs_host.proofs.OpenStayRoutes.{all_open, all_stays}
 use Rattle.bs_host.proofs.open_stays.OpenStays.of_plan.Goals as goal
+
+pub invariant_of-result : goal.invariant_of-result
+invariant_of-result c =
+    let are = all_stays c.as_slice-rows.result.now c.loop-stay.stays.items c.loop-stay.stay (omega arith) c.loop-stay.invariant in
+    plan_named_once c.args.rows.now c.as_slice-rows.result.now c.loop-stay.stays.items c.as_slice-rows.ensures.fits.distinct (search rules) are
 
 pub returns : goal.returns
 returns c =
-    let end : c.loop-stay.stay ≡ length c.as_slice-rows.result.now = omega arith in
-    all_open c.args.rows.now c.as_slice-rows.result.now c.loop-stay.stays.items (search rules)
-    (subst (λ (at : ℕ). c.loop-stay.stays.items ++ enumerate_from at (drop at c.as_slice-rows.result.now) ≡ enumerate_from 0 c.as_slice-rows.result.now) end c.loop-stay.invariant)
+    let are = all_stays c.as_slice-rows.result.now c.loop-stay.stays.items c.loop-stay.stay (omega arith) c.loop-stay.invariant in
+    all_open c.args.rows.now c.as_slice-rows.result.now c.loop-stay.stays.items (search rules) are
