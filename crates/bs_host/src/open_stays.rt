@@ -21,8 +21,8 @@ use std::marker::Model;
 pub struct OpenStays {
     made: usize,
     stays: Vec<(usize, Row)>,
-    /// The index behind that of the name found last, where the next one often is: a file's lines
-    /// go round its games.
+    /// The index after that of the name found last. The next name is often there, since the lines
+    /// of a file go round its games.
     likely: usize,
 }
 
@@ -113,7 +113,7 @@ impl OpenStays {
             .position(|stay| name.is_same(&stay.1.game))
     }
 
-    /// The row number of the open stay of that name. Notes the index behind it as the likely one.
+    /// The row number of the open stay of that name. Notes the index after it as the likely one.
     #[tactic(auto, using(crate::proofs::OpenStayRoutes::found_at, crate::proofs::OpenStayRoutes::found_nowhere))]
     fn find(&mut self, name: &Id) -> Option<usize>
         ensures found { result ≡ found_in name.now self.old.stays }
