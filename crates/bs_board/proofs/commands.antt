@@ -1,3 +1,4 @@
 -- Lemmas on the contents of commands.
 pub mod Ascending
+pub mod FitSetup
 pub mod SameValues

@@ -2,6 +2,7 @@
 pub mod BoardRecord
 pub mod Fields
 pub mod FitSnake
+pub mod HazardRecord
 pub mod KeptRecord
 pub mod LayoutBytes
 pub mod Lengths

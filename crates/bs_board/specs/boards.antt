@@ -1,5 +1,6 @@
 -- Cells, boards and their snakes.
 pub mod Cell
+pub mod Hazards
 pub mod Legal
 pub mod Lending
 pub mod Over

@@ -4,6 +4,7 @@ pub(crate) mod area;
 pub mod board;
 pub mod body;
 pub mod cells;
+pub mod hazards;
 pub mod legal;
 pub mod point;
 pub mod snake;

@@ -13,6 +13,7 @@ pub mod records;
 pub use boards::board::{Board, Mode};
 pub use boards::body::head_of;
 pub use boards::cells::Cells;
+pub use boards::hazards::{Hazards, copy_hazards};
 pub use boards::legal::is_legal;
 pub use boards::point::{Direction, Point};
 pub use boards::snake::{Cause, Snake};

@@ -22,6 +22,12 @@ pub const MOST_MIN_FOOD: u8 = 255;
 /// The largest chance of food, in percent.
 pub const MOST_CHANCE: u8 = 100;
 
+/// The largest damage of a hazard.
+pub const MOST_DAMAGE: u8 = 100;
+
+/// The largest number of entries of a board's list of hazards.
+pub const MOST_HAZARDS: usize = 2_500;
+
 /// The number of the last turn of a game.
 pub const LAST_TURN: u16 = 10_000;
 
@@ -41,4 +47,4 @@ pub const LEAST_QUOTA: u32 = 16;
 pub const MOST_QUOTA: u32 = 16_777_216;
 
 /// The largest length of a legal board's record, in bytes.
-pub const LONGEST_RECORD: usize = 161_885;
+pub const LONGEST_RECORD: usize = 166_888;

@@ -8,7 +8,7 @@ use Rattle.bs_board.specs.declared.boards.board.Board.{Board}
 use Rattle.bs_board.specs.declared.boards.point.Point.{Point}
 use Rattle.bs_board.specs.declared.boards.snake.Snake.{Snake}
 use Rattle.bs_board.specs.declared.boards.snake.Cause.{Cause}
-use Rattle.bs_board.specs.declared.boards.snake.Cause.TheVariants.{OutOfHealth, WallCollision, SelfCollision, BodyCollision, HeadCollision}
+use Rattle.bs_board.specs.declared.boards.snake.Cause.TheVariants.{OutOfHealth, WallCollision, SelfCollision, BodyCollision, HeadCollision, Hazard}
 use Rattle.bs_board.specs.declared.boards.point.Direction.{Direction}
 use Rattle.bs_board.specs.declared.commands.command.Command.{Command}
 use Rattle.bs_board.specs.declared.limits.TheConstants.{LONGEST_SIDE}
@@ -56,6 +56,7 @@ killer_fits WallCollision seats seat killer few within is = seat_of_none killer 
 killer_fits SelfCollision seats seat killer few within is = own_seat seat killer (omega arith) is
 killer_fits BodyCollision seats seat killer few within is = other_seat seats seat killer few is
 killer_fits HeadCollision seats seat killer few within is = other_seat seats seat killer few is
+killer_fits Hazard seats seat killer few within is = seat_of_none killer is
 
 health_fits : (cause : Cause) (health : ℕ) → IsHealthOf cause health → health ≤ 100
 health_fits OutOfHealth health is = omega arith
@@ -63,6 +64,7 @@ health_fits WallCollision health is = is.1
 health_fits SelfCollision health is = is.1
 health_fits BodyCollision health is = is.1
 health_fits HeadCollision health is = is.1
+health_fits Hazard health is = omega arith
 
 -- a moved head is where a starved snake's may be
 head_is_near : (wraps : Bool) (width height : ℕ) (p : Point) → is_head_of wraps OutOfHealth width height p ≡ true → is_near width height p ≡ true

@@ -31,7 +31,7 @@ use Rattle.bs_fiber.proofs.Seen.{some_view}
 
 -- ---- the room
 
-record_is_small : (quota charge : ℕ) (bytes : List ℕ) → IsFitRecord quota charge bytes → rounded (length bytes) ≤ 161888
+record_is_small : (quota charge : ℕ) (bytes : List ℕ) → IsFitRecord quota charge bytes → rounded (length bytes) ≤ 166896
 record_is_small quota charge bytes fit =
     let small = board_charge_small fit.board fit.legal in
     rw fit.is (omega (arith, small))

@@ -1,4 +1,5 @@
 pub mod FreeCells
+pub mod GivenFood
 pub mod MarkedCells
 pub mod Minimum
 pub mod NewFood

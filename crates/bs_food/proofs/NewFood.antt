@@ -65,7 +65,7 @@ or_both false b h = (refl, h)
 or_both true b h = let wrong : true ≡ false = h in cc
 
 -- a cell that differs from all earlier ones is appended
-distinct_and_last : (xs : List Point) (c : Point) → are_distinct_cells xs ≡ true → list_any (is_same_cell c) xs ≡ false
+pub distinct_and_last : (xs : List Point) (c : Point) → are_distinct_cells xs ≡ true → list_any (is_same_cell c) xs ≡ false
     → are_distinct_cells (xs ++ c ∷ []) ≡ true
 distinct_and_last [] c distinct none = refl
 distinct_and_last (x ∷ xs) c distinct none =
@@ -80,10 +80,10 @@ pub record Refed (b c : Board) : Type 0 where
   pub only : c ≡ record b { food = c.food }
   pub fits : is_fit_food b.width b.height b.food ≡ true → is_fit_food b.width b.height c.food ≡ true
 
-refed_self : (b : Board) → Refed b b
+pub refed_self : (b : Board) → Refed b b
 refed_self b = record { only = refl; fits = λ h. h }
 
-refed_then : (b c d : Board) → Refed b c → Refed c d → Refed b d
+pub refed_then : (b c d : Board) → Refed b c → Refed c d → Refed b d
 refed_then b c d first second =
     let width : c.width ≡ b.width = ap (λ (t : Board). t.width) first.only in
     let height : c.height ≡ b.height = ap (λ (t : Board). t.height) first.only in

@@ -1,3 +1,4 @@
 pub mod Free
+pub mod Given
 pub mod Marks
 pub mod Spawning

@@ -2,8 +2,10 @@
 #![tactic(auto)]
 
 mod free;
+mod given;
 mod marks;
 mod spawning;
 
 pub use free::free_cells;
+pub use given::give;
 pub use spawning::spawn;

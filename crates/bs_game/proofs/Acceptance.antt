@@ -126,10 +126,9 @@ some_moved view orders seats (Some last) is legal early from =
     let same : moved_board orders.moves last ≡ seats = cc in
     record { before = last; last = is; is = sym same; legal = legal; early = early }
 
-finished_is_turn : (last seats next : Board) (orders : Orders) (words : List ℕ) → seats ≡ moved_board orders.moves last → words ≡ orders.words
-    → next ≡ finished words seats → next ≡ turn_of last orders
+finished_is_turn : (last seats next : Board) (orders : Orders) → seats ≡ moved_board orders.moves last → next ≡ finished orders seats → next ≡ turn_of last orders
 unfolding turn_of
-finished_is_turn last seats next orders words moved same is = is ∙ ap (λ words. finished words seats) same ∙ ap (finished orders.words) moved
+finished_is_turn last seats next orders moved is = is ∙ ap (finished orders) moved
 
 module _ (view : View) (orders : Orders) (seats : Board) (fit : IsFitView view) (none : first_reason view (command.Move orders) ≡ None)
     (from : option_map (moved_board orders.moves) view.last ≡ Some seats) where
@@ -141,9 +140,9 @@ module _ (view : View) (orders : Orders) (seats : Board) (fit : IsFitView view) 
       let m = moved_last in
       rw m.is m.early
 
-  module _ (words : List ℕ) (next : Board) (same : words ≡ orders.words) (is : next ≡ finished words seats) where
+  module _ (next : Board) (is : next ≡ finished orders seats) where
     joined_is_turn : next ≡ turn_of moved_last.before orders
-    joined_is_turn = finished_is_turn moved_last.before seats next orders words moved_last.is same is
+    joined_is_turn = finished_is_turn moved_last.before seats next orders moved_last.is is
 
     pub joined_is_legal : IsLegal next
     joined_is_legal =

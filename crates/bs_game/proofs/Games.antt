@@ -97,7 +97,7 @@ board_charge_small b legal =
 pub legal_size_rounds : (b : Board) → IsLegal b → length (record_of b) + 15 < 2 ^ 64
 legal_size_rounds b legal =
     let size = legal_size b legal in
-    let small : 161900 < 2 ^ 64 = lit< tt in
+    let small : 166903 < 2 ^ 64 = lit< tt in
     omega arith
 
 pub charge_of_one : (board : Board) → game_charge (board ∷ []) ≡ board_charge board

@@ -182,6 +182,6 @@ pub fn joined_within(
     ensures value { IfOk result (λ answer. (view : AnyView) → IsMovedFrom quota charge orders.now moved view → answer ≡ answer_of view (command.Move orders.now)) }
     ensures fits { IfOk result (λ answer. IsFitEffect quota charge answer.effect) }
 {
-    let board = finish_turn(alloc, moved, orders.words.as_slice())?;
+    let board = finish_turn(alloc, moved, orders)?;
     record_board(alloc, quota, charge, Word::Move, board)
 }

@@ -16,8 +16,8 @@ use bs_block::round_up;
 use bs_board::{Board, KeptBoard, Record, Refusal, Reply, Word, size};
 use std::alloc::{AllocError, Global};
 
-/// The largest charge of a board's record, in bytes: 161,885 rounded up.
-pub(crate) const MOST_BOARD_CHARGE: u32 = 161_888;
+/// The largest charge of a board's record, in bytes: 166,888 rounded up.
+pub(crate) const MOST_BOARD_CHARGE: u32 = 166_896;
 
 /// The charge of the board's record, in bytes.
 #[tactic(auto, using(bs_board::proofs::records::Longest::legal_size_fits, crate::proofs::Games::legal_size_rounds, crate::proofs::Games::board_charge_small))]

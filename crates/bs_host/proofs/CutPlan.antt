@@ -25,7 +25,7 @@ use Rattle.serde_json.proofs.Numbers.{number_of-decimal}
 use Rattle.serde_json.proofs.Texts.{print-outline}
 use Rattle.bs_board.specs.declared.limits.TheConstants.{LEAST_QUOTA, LONGEST_ID, MOST_QUOTA}
 use Rattle.bs_board.specs.declared.plans.version.Version.{Version}
-use Rattle.bs_board.specs.declared.plans.version.Version.TheVariants.{One, Two, Three}
+use Rattle.bs_board.specs.declared.plans.version.Version.TheVariants.{One, Two, Three, Five}
 use Rattle.bs_board.specs.plans.Plan.{GameRow, is_fit_row}
 use Rattle.bs_board.specs.Texts.{is_short_text}
 use Rattle.bs_json.specs.declared.limits.TheConstants.{MAX_LINE}
@@ -39,6 +39,7 @@ unfolding lone_plan_data
 lone_plan_has_no_float One row = refl
 lone_plan_has_no_float Two row = refl
 lone_plan_has_no_float Three row = refl
+lone_plan_has_no_float Five row = refl
 
 -- a row within its limits
 
@@ -74,18 +75,22 @@ lone_plan_is_printable Two row small =
     (tt, (tt, (tt, (tt, (tt, (tt, (tt, (IsNumber-decimal row.quota small, (tt, (tt, (tt, (IsNumber-decimal 2 (omega arith), (tt, tt)))))))))))))
 lone_plan_is_printable Three row small =
     (tt, (tt, (tt, (tt, (tt, (tt, (tt, (IsNumber-decimal row.quota small, (tt, (tt, (tt, (IsNumber-decimal 3 (omega arith), (tt, tt)))))))))))))
+lone_plan_is_printable Five row small =
+    (tt, (tt, (tt, (tt, (tt, (tt, (tt, (IsNumber-decimal row.quota small, (tt, (tt, (tt, (IsNumber-decimal 5 (omega arith), (tt, tt)))))))))))))
 
 lone_plan_back : (version : Version) (row : GameRow) → row.quota < 2 ^ 64 → of_json (outline (lone_plan_data version row)) ≡ Some (lone_plan_data version row)
 unfolding lone_plan_data
 lone_plan_back One row small = rw (number_of-decimal row.quota small) refl
 lone_plan_back Two row small = rw (number_of-decimal row.quota small, number_of-decimal 2 (omega arith)) refl
 lone_plan_back Three row small = rw (number_of-decimal row.quota small, number_of-decimal 3 (omega arith)) refl
+lone_plan_back Five row small = rw (number_of-decimal row.quota small, number_of-decimal 5 (omega arith)) refl
 
 lone_plan_depth : (version : Version) (row : GameRow) → tree.depth (outline (lone_plan_data version row)) ≤ 127
 unfolding lone_plan_data
 lone_plan_depth One row = omega arith
 lone_plan_depth Two row = omega arith
 lone_plan_depth Three row = omega arith
+lone_plan_depth Five row = omega arith
 
 lone_plan_reads : (version : Version) (row : GameRow) → row.quota < 2 ^ 64 → read (lone_plan_of version row) ≡ Some (lone_plan_data version row)
 lone_plan_reads version row small =
@@ -101,6 +106,7 @@ abbrev pub plan_end : Version → List ℕ
 plan_end One = codes "}]}"
 plan_end Two = codes "}],\"version\":2}"
 plan_end Three = codes "}],\"version\":3}"
+plan_end Five = codes "}],\"version\":5}"
 
 regroup : (name middle number end : List ℕ) → ((name ++ (middle ++ (number ++ 125 ∷ []))) ++ 93 ∷ []) ++ end ≡ name ++ (middle ++ (number ++ 125 ∷ 93 ∷ end))
 regroup name middle number end = simp append_assoc
@@ -115,21 +121,27 @@ lone_plan_text Two row =
 lone_plan_text Three row =
     rw (decimal_digit 3 (omega arith))
     (ap (λ rest. codes "{\"games\":[{\"game\":" ++ rest) (regroup (quoted row.game) (codes ",\"quota\":") (decimal row.quota) (codes ",\"version\":3}")))
+lone_plan_text Five row =
+    rw (decimal_digit 5 (omega arith))
+    (ap (λ rest. codes "{\"games\":[{\"game\":" ++ rest) (regroup (quoted row.game) (codes ",\"quota\":") (decimal row.quota) (codes ",\"version\":5}")))
 
 end_is_ascii : (version : Version) → are_ascii (plan_end version) ≡ true
 end_is_ascii One = refl
 end_is_ascii Two = refl
 end_is_ascii Three = refl
+end_is_ascii Five = refl
 
 end_has_no_feed : (version : Version) → list_all is_no_feed (plan_end version) ≡ true
 end_has_no_feed One = refl
 end_has_no_feed Two = refl
 end_has_no_feed Three = refl
+end_has_no_feed Five = refl
 
 end_is_short : (version : Version) → length (plan_end version) ≤ 15
 end_is_short One = omega arith
 end_is_short Two = omega arith
 end_is_short Three = omega arith
+end_is_short Five = omega arith
 
 lone_plan_is_text : (version : Version) (row : GameRow) → IsFit row → is_utf8 (lone_plan_of version row) ≡ true
 lone_plan_is_text version row fit =
@@ -227,6 +239,7 @@ unfolding lone_plan_data
 lone_plan_from One row parts fit = rw (parts.most, fit) refl
 lone_plan_from Two row parts fit = rw (parts.most, fit) refl
 lone_plan_from Three row parts fit = rw (parts.most, fit) refl
+lone_plan_from Five row parts fit = rw (parts.most, fit) refl
 
 pub lone_plan_is_plan : (version : Version) (row : GameRow) → is_fit_row row ≡ true
     → plan_line_of (lone_plan_of version row) ≡ Ok (record { rows = row ∷ []; version = version })

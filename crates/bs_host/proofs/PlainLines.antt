@@ -1,5 +1,5 @@
 -- Without admissions and leaves each line is routed by itself.
-use Rattle.std.proofs.Common.{◌≡◌, ◌≢◌, ℕ, ◌+◌, Bool, true, false, ◌&&◌, List, [], ◌∷◌, ◌++◌, Option, Some, None, is_some, length, nat_lt, codes, inl, inr, refl, sym, ap, ◌∙◌}
+use Rattle.std.proofs.Common.{◌≡◌, ℕ, ◌+◌, Bool, true, false, ◌&&◌, List, [], ◌∷◌, ◌++◌, Option, Some, None, is_some, length, nat_lt, codes, inl, inr, refl, sym, ap, ◌∙◌}
 use Rattle.std.specs.List.{enumerate_from, flat_map, list_all}
 use Rattle.std.proofs.lemmas.Bool.{cases_Bool}
 use Rattle.serde_json.specs.Data.{Data}
@@ -8,7 +8,6 @@ use Rattle.bs_board.specs.declared.commands.command.Command.{Command}
 use Rattle.bs_board.specs.plans.Plan.{GameRow}
 use Rattle.bs_board.specs.plans.Version.{has_stays}
 use Rattle.bs_board.specs.declared.plans.version.Version.{Version}
-use Rattle.bs_board.specs.declared.plans.version.Version.TheVariants.{One, Two, Three}
 use Rattle.bs_board.specs.declared.commands.command.Command.TheVariants as command
 use Rattle.bs_json.specs.declared.limits.TheConstants.{MAX_LINE}
 use Rattle.bs_json.specs.Commands.{command_of}
@@ -90,11 +89,6 @@ same_behind capacity version registry (text ∷ lines) early =
     let same : next_registry capacity version registry text ≡ registry = same_registry capacity registry (line_of version text) (plain_line version text early) in
     ap (λ b. registry_behind capacity version b lines) same ∙ same_behind capacity version registry lines early
 
-not_the_last : (version : Version) → version ≢ Three → has_stays version ≡ false
-not_the_last One other = refl
-not_the_last Two other = refl
-not_the_last Three other = absurd (other refl)
-
 -- nor does the number of blocks matter
 
 same_route : (capacity other : Capacity) (registry : List Stay) (l : Line) → IsPlain l → route_of capacity registry l ≡ route_of other registry l
@@ -138,5 +132,4 @@ text_early blocks other file early =
 
 pub early_law : EarlyLaw
 early_law blocks other file early =
-    let plain = not_the_last (version_of file) early in
-    record { stays = stays_early blocks file plain; text = text_early blocks other file plain }
+    record { stays = stays_early blocks file early; text = text_early blocks other file early }

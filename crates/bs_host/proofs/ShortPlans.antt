@@ -13,7 +13,7 @@ use Rattle.bs_board.specs.declared.commands.command.Command.{Command}
 use Rattle.bs_board.specs.declared.limits.TheConstants.{MOST_QUOTA, MOST_ROWS}
 use Rattle.bs_board.specs.declared.plans.plan.Plan.{Plan}
 use Rattle.bs_board.specs.declared.plans.version.Version.{Version}
-use Rattle.bs_board.specs.declared.plans.version.Version.TheVariants.{One, Two, Three}
+use Rattle.bs_board.specs.declared.plans.version.Version.TheVariants.{One, Two, Three, Five}
 use Rattle.bs_board.specs.plans.Plan.{GameRow, row_of, is_fit_row, have_distinct_names}
 use Rattle.bs_board.specs.plans.Version.{has_stays}
 use Rattle.bs_json.specs.declared.limits.TheConstants.{MAX_LINE}
@@ -164,6 +164,7 @@ abbrev pub plan_cost : Version → ℕ
 plan_cost One = 11
 plan_cost Two = 23
 plan_cost Three = 23
+plan_cost Five = 23
 
 lone_length : (version : Version) (row : GameRow) → length (lone_plan_of version row) ≤ plan_cost version + 1 + row_cost row
 unfolding escape_byte
@@ -176,6 +177,9 @@ lone_length Two row =
 lone_length Three row =
     let all = ap length (lone_plan_text Three row) in
     omega (arith, all, length-append (quoted row.game) (codes ",\"quota\":" ++ (decimal row.quota ++ plan_end Three)), length-append (decimal row.quota) (plan_end Three))
+lone_length Five row =
+    let all = ap length (lone_plan_text Five row) in
+    omega (arith, all, length-append (quoted row.game) (codes ",\"quota\":" ++ (decimal row.quota ++ plan_end Five)), length-append (decimal row.quota) (plan_end Five))
 
 -- each with its comma
 abbrev AreCheap : ℕ → List GameRow → Type 0
@@ -227,6 +231,7 @@ most_plan : (version : Version) → plan_cost version ≤ 23
 most_plan One = omega arith
 most_plan Two = omega arith
 most_plan Three = omega arith
+most_plan Five = omega arith
 
 found_version : (o : Option Data) (version : Version) → version_of o ≡ Some version → (plan_cost version ≤ 11) ⊎ ((e : Data) × (o ≡ Some e) × (1 ≤ data_cost e))
 found_version None version is = inl (omega (arith, ap (λ (o : Option Version). cost_if_read o) is))

@@ -7,7 +7,7 @@ use Rattle.serde_json.specs.View.{items_of}
 use Rattle.serde_json.specs.Written.{compact_text}
 use Rattle.bs_board.specs.declared.plans.plan.Plan.{Plan}
 use Rattle.bs_board.specs.declared.plans.version.Version.{Version}
-use Rattle.bs_board.specs.declared.plans.version.Version.TheVariants.{One, Two, Three}
+use Rattle.bs_board.specs.declared.plans.version.Version.TheVariants.{One, Two, Three, Five}
 use Rattle.bs_board.specs.plans.Plan.{GameRow, row_of}
 use Rattle.bs_board.specs.plans.Version.{has_stays}
 use Rattle.bs_board.specs.Texts.{is_same_text}
@@ -34,6 +34,7 @@ abbrev pub version_members : Version → List (List ℕ × Data)
 version_members One = []
 version_members Two = (codes "version", whole_data 2) ∷ []
 version_members Three = (codes "version", whole_data 3) ∷ []
+version_members Five = (codes "version", whole_data 5) ∷ []
 
 -- the plan of that version with this row alone
 unfoldable pub lone_plan_data : Version → GameRow → Data

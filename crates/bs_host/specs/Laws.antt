@@ -1,11 +1,11 @@
 -- Laws of the stays of a file, and of their lines.
-use Rattle.std.specs.Prelude.{◌≡◌, ◌≢◌, ℕ, ◌<◌, ◌≤◌, true, List, ◌∷◌, ◌++◌, length, count_by, Some, None}
+use Rattle.std.specs.Prelude.{◌≡◌, ℕ, ◌<◌, ◌≤◌, true, false, List, ◌∷◌, ◌++◌, length, count_by, Some, None}
 use Rattle.std.specs.List.{filter, filter_map}
 use Rattle.bs_board.specs.declared.commands.command.Command.{Command}
 use Rattle.bs_board.specs.declared.limits.TheConstants.{MOST_ROWS}
 use Rattle.bs_board.specs.declared.plans.version.Version.{Version}
-use Rattle.bs_board.specs.declared.plans.version.Version.TheVariants.{Three}
 use Rattle.bs_board.specs.plans.Plan.{GameRow}
+use Rattle.bs_board.specs.plans.Version.{has_stays}
 use Rattle.bs_board.specs.Texts.{is_same_text}
 use Rattle.bs_json.specs.declared.line.Stray.{Stray}
 use Rattle.bs_json.specs.declared.line.Stray.TheVariants as stray
@@ -53,7 +53,7 @@ pub record IsEarly (blocks other : ℕ) (file : List ℕ) : Type 0 where
   pub text : transcript_of blocks file ≡ transcript_of other file
 
 abbrev pub EarlyLaw : Type 0
-EarlyLaw = (blocks other : ℕ) (file : List ℕ) → version_of file ≢ Three → IsEarly blocks other file
+EarlyLaw = (blocks other : ℕ) (file : List ℕ) → has_stays (version_of file) ≡ false → IsEarly blocks other file
 
 -- A stay that is found by its name is one of the file's, so the law of the cut holds of it.
 pub record IsFound (blocks : ℕ) (file name : List ℕ) (n stay : ℕ) : Type 0 where

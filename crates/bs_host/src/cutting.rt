@@ -43,7 +43,7 @@ fn lone_plan(alloc: Global, version: Version, row: &Row) -> Result<Value, AllocE
     let games = lone_games(alloc, row)?;
     match version {
         Version::One => json!(in alloc; {"games": games}),
-        Version::Two | Version::Three => {
+        Version::Two | Version::Three | Version::Five => {
             json!(in alloc; {"games": games, "version": version.number()})
         }
     }

@@ -1,6 +1,6 @@
 -- The compact text of a command is parsed as that command again: the line of that text is the
 -- command for its game.
-use Rattle.std.proofs.Common.{◌≡◌, ◌≤◌, ◌<◌, ◌^◌, ◌==◌, ℕ, List, [], ◌∷◌, ◌++◌, All, Bool, true, false, not, nat_le, nat_lt, Some, option_and_then, IsUtf8}
+use Rattle.std.proofs.Common.{◌≡◌, ◌≤◌, ◌<◌, ◌^◌, ◌==◌, ℕ, List, [], ◌∷◌, ◌++◌, All, Bool, true, false, not, nat_le, nat_lt, Some, None, option_and_then, IsUtf8}
 use Rattle.std.proofs.Common.{length, codes, refl, sym, ap, ap₂, ◌∙◌, subst, arith, append_assoc, append-nil, Less, Equal, Greater}
 use Rattle.std.proofs.lemmas.Bool.{le-leb, le-ltb, leb-true}
 use Rattle.std.proofs.lemmas.Cmp.{nat_list_cmp_total}
@@ -17,6 +17,7 @@ use Rattle.json.proofs.Printed.Strings.{escape_byte_plain}
 use Rattle.json.proofs.Printed.Tokens.{tokens-print}
 use Rattle.json.proofs.Printed.Trees.{ArePrintable-json_tokens, value-json_tokens}
 use Rattle.serde_json.specs.Data.{Data, unsigned, number, string, array, object, Items, no_items, item, Members, no_members, member, put}
+use Rattle.serde_json.specs.Find.{get}
 use Rattle.serde_json.specs.Read.{of_json, of_items, of_members, max_depth, read}
 use Rattle.serde_json.specs.Written as written_as
 use Rattle.serde_json.proofs.Numbers.{number_of-decimal}
@@ -32,10 +33,11 @@ use Rattle.bs_board.proofs.Chains.{and_both}
 use Rattle.bs_json.specs.declared.limits.TheConstants.{MAX_LINE, MOST_WORD}
 use Rattle.bs_json.specs.declared.line.Line.TheVariants as line
 use Rattle.bs_board.specs.declared.plans.version.Version.{Version}
+use Rattle.bs_board.specs.declared.plans.version.Version.TheVariants.{One, Two, Three, Five}
 use Rattle.bs_json.specs.Commands.{command_of}
 use Rattle.bs_json.specs.Compact.{IsCompact, are_plain, compact_text, direction_name, is_plain, moves_text, words_text}
 use Rattle.bs_json.specs.Line.{is_space, line_from, line_of}
-use Rattle.bs_json.specs.Moves.{direction_named, directions_of, orders_from}
+use Rattle.bs_json.specs.Moves.{direction_named, directions_of, map_from, orders_from}
 use Rattle.bs_json.specs.Values.{each, value_of, whole_to}
 use Rattle.bs_json.proofs.CompactBytes.{all_parts, compact_is_utf8}
 use Rattle.bs_json.proofs.Texts.{value_of_read}
@@ -290,6 +292,14 @@ words_members words = member (codes "words") (array (words_items words)) no_memb
 abbrev move_data : List ℕ → List (List ℕ × Direction) → Members → Data
 move_data game moves more = object (member (codes "do") (string (codes "move")) (member (codes "game") (string game) (move_members moves more)))
 
+-- a line without these members gives no hazards and no food, in any version
+no_map : (version : Version) (d : Data) → get (codes "hazards") d ≡ None → get (codes "food") d ≡ None → map_from version d ≡ Some (None, None)
+unfolding map_from
+no_map One d none nothing = refl
+no_map Two d none nothing = refl
+no_map Three d none nothing = refl
+no_map Five d none nothing = rw (none, nothing) refl
+
 -- a move whose words are left out, since there are none
 bare_move_line_is : (version : Version) (text game : List ℕ) (orders : Orders) → text ≡ compact_text false game (command.Move orders) → are_plain game ≡ true
     → IsCompact false (command.Move orders) → IsUtf8 text → length text ≤ MAX_LINE → line_of version text ≡ line.Command game (command.Move orders)
@@ -304,7 +314,9 @@ bare_move_line_is version text game orders is plain compact utf8 short =
     let back : of_json (written_as.outline (line_data game (codes "move") rest)) ≡ Some (move_data game moves no_members) =
     rw (members_from [] moves compact.1) refl in
     let asks : line_from version (Some (move_data game moves no_members)) ≡ line.Command game (command.Move orders) =
-    ap₂ (λ found words. line.Command game (command.Move (orders_of found words))) (directions_back moves) (sym compact.3) in
+    rw (no_map version (move_data game moves no_members) refl refl)
+    (ap₂ (λ found words. line.Command game (command.Move (orders_of found words))) (directions_back moves) (sym compact.3)
+    ∙ ap (λ orders. line.Command game (command.Move orders)) (sym compact.4)) in
     let shallow = no_depth moves in
     line_is_from version text game (codes "move") rest (move_data game moves no_members) sent plain refl (has_numbers moves, tt) (omega arith) back utf8 short
     ∙ asks
@@ -333,7 +345,8 @@ full_move_line_is version text game orders is plain compact utf8 short =
     let back : of_json (written_as.outline (line_data game (codes "move") rest)) ≡ Some (move_data game moves more) =
     rw (members_from [] moves compact.1, items_back words fit.small) refl in
     let asks : line_from version (Some (move_data game moves more)) ≡ line.Command game (command.Move orders) =
-    rw (words_back words fit.small, le-leb (length words) MOST_WORDS fit.few, directions_back moves) refl in
+    rw (no_map version (move_data game moves more) refl refl, words_back words fit.small, le-leb (length words) MOST_WORDS fit.few, directions_back moves)
+    (ap (λ orders. line.Command game (command.Move orders)) (sym compact.4)) in
     let shallow = no_depth moves in
     let shallow_words = no_items_depth words in
     let numbers : tree.MembersHaveNumbers (written_as.members_outline rest) = (has_numbers moves, (have_numbers words fit.small, tt)) in

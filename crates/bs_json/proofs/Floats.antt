@@ -6,6 +6,7 @@ use Rattle.serde_json.specs.View.{items_of}
 use Rattle.serde_json.specs.Written.{has_float, items_have_float}
 use Rattle.bs_board.specs.declared.boards.point.Point.{Point}
 use Rattle.bs_board.specs.declared.boards.board.Board.{Board}
+use Rattle.bs_board.specs.declared.boards.hazards.Hazards.{Hazards}
 use Rattle.bs_board.specs.declared.boards.snake.Snake.{Snake}
 use Rattle.bs_board.specs.declared.boards.snake.Cause.{Cause}
 use Rattle.bs_json.specs.Boards.{cell_data, cause_data, killer_data, id_data, out_data, snake_data, board_data}
@@ -43,10 +44,19 @@ unfolding snake_data
 snake_has_no_float snakes s =
     rw (list_has_no_float cell_data cell_has_no_float s.body, killer_has_no_float snakes s.killer, cause_has_no_float s.cause, out_has_no_float s.out)
 
-board_has_no_float : (b : Board) → has_float (board_data b) ≡ false
+board_with_no_float : (b : Board) (hazards : Option Hazards) → has_float (board_data (record b { hazards = hazards })) ≡ false
 unfolding board_data
-board_has_no_float b =
+board_with_no_float b None =
     rw (list_has_no_float cell_data cell_has_no_float b.food, list_has_no_float (snake_data b.snakes) (snake_has_no_float b.snakes) b.snakes)
+board_with_no_float b (Some h) =
+    rw (
+      list_has_no_float cell_data cell_has_no_float b.food,
+      list_has_no_float cell_data cell_has_no_float h.cells,
+      list_has_no_float (snake_data b.snakes) (snake_has_no_float b.snakes) b.snakes,
+    )
+
+board_has_no_float : (b : Board) → has_float (board_data b) ≡ false
+board_has_no_float b = board_with_no_float b b.hazards
 
 last_has_no_float : (board : Option Board) → has_float (last_data board) ≡ false
 last_has_no_float None = refl

@@ -2,6 +2,7 @@
 use Rattle.std.proofs.Common.{◌≡◌, ℕ, suc, ◌+◌, ◌*◌, ◌<◌, ◌≤◌, ◌^◌, Bool, true, false, cond, List, [], ◌∷◌, ◌++◌, codes, length, get_or, All, IfSome, MatchOption, Option, Some, None, ℤ, pos, negsuc, ◌+ℤ◌, nat_lt, refl, ap, subst, arith, length-append}
 use Rattle.std.specs.Prelude.{decimal, flat_map, map, slice_get}
 use Rattle.std.specs.List.{AllByRecursion}
+use Rattle.std.proofs.lemmas.Bool.{leb-true}
 use Rattle.std.proofs.lemmas.Fmt.{length-decimal-le}
 use Rattle.std.proofs.lemmas.Int.{ints}
 use Rattle.std.proofs.lemmas.List.Concat.{length-flat_map}
@@ -14,14 +15,17 @@ use Rattle.bs_board.specs.declared.boards.board.Board.{Board}
 use Rattle.bs_board.specs.declared.boards.board.Mode.{Mode}
 use Rattle.bs_board.specs.declared.boards.board.Mode.TheVariants.{Standard, Solo, Constrictor, Wrapped}
 use Rattle.bs_board.specs.declared.boards.point.Point.{Point}
+use Rattle.bs_board.specs.declared.boards.hazards.Hazards.{Hazards}
 use Rattle.bs_board.specs.declared.boards.snake.Snake.{Snake}
 use Rattle.bs_board.specs.declared.boards.snake.Cause.{Cause}
-use Rattle.bs_board.specs.declared.boards.snake.Cause.TheVariants.{OutOfHealth, WallCollision, SelfCollision, BodyCollision, HeadCollision}
+use Rattle.bs_board.specs.declared.boards.snake.Cause.TheVariants.{OutOfHealth, WallCollision, SelfCollision, BodyCollision, HeadCollision, Hazard}
 use Rattle.bs_board.specs.boards.Legal.{IsLegal, IsLegalLiving, IsLegalOut, IsLegalSnake, IsTurnBy}
+use Rattle.bs_board.specs.boards.Hazards.{are_fit_hazards}
 use Rattle.bs_board.specs.boards.Over.{is_over}
-use Rattle.bs_board.specs.records.Record.{record_of, snake_record}
-use Rattle.bs_board.specs.records.Writing.{IsByte, IsByteCell, IsWritable}
-use Rattle.bs_board.proofs.records.Lengths.{length_of_record, length_of_snake}
+use Rattle.bs_board.specs.records.Record.{hazard_bytes, record_of, snake_record}
+use Rattle.bs_board.specs.records.Writing.{AreWritableHazards, IsByte, IsByteCell, IsWritable}
+use Rattle.bs_board.proofs.records.Lengths.{length_of_hazards, length_of_record, length_of_snake}
+use Rattle.bs_board.proofs.Chains.{and_both}
 use Rattle.bs_board.proofs.records.Longest.{side_fits}
 use Rattle.bs_board.proofs.records.Writable.{legal_is_writable}
 use Rattle.bs_board.specs.declared.commands.command.Word.{Word}
@@ -33,7 +37,7 @@ use Rattle.bs_board.specs.declared.commands.reply.Reply.TheVariants.{Shown, Plai
 use Rattle.bs_json.specs.declared.line.Stray.{Stray}
 use Rattle.bs_json.specs.declared.line.Stray.TheVariants as stray
 use Rattle.bs_json.specs.Boards.{board_data, cause_data, cell_data, cells_data, id_data, killer_data, mode_text, out_data, snake_data, snakes_data}
-use Rattle.bs_json.specs.BoardText.{coordinate_text}
+use Rattle.bs_json.specs.BoardText.{coordinate_text, hazard_pieces}
 use Rattle.bs_json.specs.Replies.{final_line_of, last_data, refusal_code, refusal_text, reply_line_of, stray_code, stray_line_of, stray_text, tail_pieces, text_line, word_text}
 use Rattle.bs_json.proofs.ReplyText.{final_is, plain_is, refused_is, shown_is, stray_is}
 use Rattle.bs_json.proofs.ShownSnakes.{board_is, found_at, nobody, snake_is}
@@ -94,6 +98,7 @@ cause_bound (Some WallCollision) = is_within _ _ (let b = (string_bound (codes "
 cause_bound (Some SelfCollision) = is_within _ _ (let b = (string_bound (codes "snake-self-collision")).long in omega arith)
 cause_bound (Some BodyCollision) = is_within _ _ (let b = (string_bound (codes "snake-collision")).long in omega arith)
 cause_bound (Some HeadCollision) = is_within _ _ (let b = (string_bound (codes "head-collision")).long in omega arith)
+cause_bound (Some Hazard) = is_within _ _ (let b = (string_bound (codes "hazard")).long in omega arith)
 
 -- ---- cells
 
@@ -137,6 +142,18 @@ cells_bound : (raised : ℕ) (cells : List Point) → raised ≤ 1 → All (IsBy
 cells_bound raised cells few fits =
     is_within _ _ (let items = cells_bound_from raised false cells few (recursion_from_All (IsByteCell raised) cells fits) in omega arith)
 
+hazards_bound : (width height : ℕ) (hazards : Option Hazards) → are_fit_hazards width height hazards ≡ true → AreWritableHazards hazards
+    → Within (hazard_pieces hazards) (10 * length (hazard_bytes hazards) + 10)
+hazards_bound width height None fits cells = is_within _ _ (omega arith)
+hazards_bound width height (Some h) fits cells =
+    let low : h.damage ≤ 100 = leb-true _ _ (and_both _ _ (and_both _ _ fits).0).0 in
+    let damage = small 3 h.damage (omega arith) (omega arith) (omega arith) (omega arith) in
+    let size = length_of_hazards h in
+    is_within _ _
+    (bounded _ _ _ _ refl
+    (two (is_within (codes ",\"hazard_damage\":") 17 (omega arith)) (two (is_within _ _ damage) (two (is_within (codes ",\"hazards\":") 11 (omega arith)) (cells_bound 0 h.cells (omega arith) cells.cells))))
+    (omega arith))
+
 -- ---- a snake
 
 health_of : (b : Board) (seat : ℕ) (s : Snake) (cause : Option Cause) → MatchOption cause (IsLegalLiving b s) (IsLegalOut b seat s) → s.health ≤ 100
@@ -146,6 +163,7 @@ health_of b seat s (Some WallCollision) state = state.health.1
 health_of b seat s (Some SelfCollision) state = state.health.1
 health_of b seat s (Some BodyCollision) state = state.health.1
 health_of b seat s (Some HeadCollision) state = state.health.1
+health_of b seat s (Some Hazard) state = let none = state.health in omega arith
 
 turn_bound : (turn : ℕ) (out : Option ℕ) → turn ≤ 10000 → IsTurnBy turn out → Within (compact_text (out_data out)) 5
 turn_bound turn None few by = absurd by
@@ -212,6 +230,7 @@ board_bound b legal =
     let fits = legal_is_writable b legal in
     let turn = legal.limits.turn in
     let food = cells_bound 0 b.food (omega arith) fits.cells in
+    let hazards = hazards_bound b.width b.height b.hazards legal.hazards fits.hazards in
     let most_chance = legal.limits.chance in
     let chance = small 3 b.chance (omega arith) (omega arith) (omega arith) (omega arith) in
     let high = side_fits b.height legal.limits.height in
@@ -227,12 +246,12 @@ board_bound b legal =
     let digits = small 5 b.turn (omega arith) (omega arith) (omega arith) (omega arith) in
     let wide = side_fits b.width legal.limits.width in
     let width = small 2 b.width (omega arith) (omega arith) (omega arith) (omega arith) in
-    let text : length (compact_text (board_data b)) ≤ 20 * length b.food + 10 * length (flat_map snake_record b.snakes) + 16300 =
+    let text : length (compact_text (board_data b)) ≤ 20 * length b.food + 10 * length (hazard_bytes b.hazards) + 10 * length (flat_map snake_record b.snakes) + 16310 =
     bounded _ _ _ _ (board_is b)
     (two
     (two (is_within (codes "{\"food\":") 8 (omega arith)) (two food (two (is_within (codes ",\"food_chance\":") 15 (omega arith)) (two (is_within _ _ chance)
-    (two (is_within (codes ",\"height\":") 10 (omega arith)) (two (is_within _ _ height) (two (is_within (codes ",\"min_food\":") 12 (omega arith)) (two (is_within _ _ min_food)
-    (two (is_within (codes ",\"mode\":") 8 (omega arith)) (two mode (two (is_within (codes ",\"over\":") 8 (omega arith)) (two over (is_within (codes ",\"snakes\":") 10 (omega arith))))))))))))))
+    (two hazards (two (is_within (codes ",\"height\":") 10 (omega arith)) (two (is_within _ _ height) (two (is_within (codes ",\"min_food\":") 12 (omega arith)) (two (is_within _ _ min_food)
+    (two (is_within (codes ",\"mode\":") 8 (omega arith)) (two mode (two (is_within (codes ",\"over\":") 8 (omega arith)) (two over (is_within (codes ",\"snakes\":") 10 (omega arith)))))))))))))))
     (two listed
     (two (is_within (codes ",\"turn\":") 8 (omega arith)) (two (is_within _ _ digits) (two (is_within (codes ",\"width\":") 9 (omega arith)) (two (is_within _ _ width) (is_within (codes "}") 1 (omega arith))))))))
     (let seats = legal.limits.few in omega arith) in

@@ -1,5 +1,5 @@
 -- The text of snakes and boards, from the parts of their records.
-use Rattle.std.proofs.Common.{◌≡◌, ℕ, zero, suc, ◌+◌, ◌<◌, Bool, true, List, [], ◌∷◌, ◌++◌, codes, length, drop, get_or, Some, None, refl, sym, ap, ◌∙◌, append_assoc, arith}
+use Rattle.std.proofs.Common.{◌≡◌, ℕ, zero, suc, ◌+◌, ◌<◌, Bool, true, List, [], ◌∷◌, ◌++◌, codes, length, drop, get_or, Option, Some, None, is_some, refl, sym, ap, ◌∙◌, append_assoc, arith}
 use Rattle.std.specs.Prelude.{decimal, flat_map, map, slice_get}
 use Rattle.std.proofs.lemmas.List.{drop_more}
 use Rattle.json.specs.Print.{escape_byte}
@@ -7,15 +7,16 @@ use Rattle.serde_json.specs.Data.{Data, boolean, string}
 use Rattle.serde_json.specs.View.{items_of}
 use Rattle.serde_json.specs.Written.{comma_if, compact_text, items_text}
 use Rattle.bs_board.specs.declared.boards.board.Board.{Board}
+use Rattle.bs_board.specs.declared.boards.hazards.Hazards.{Hazards}
 use Rattle.bs_board.specs.declared.boards.snake.Snake.{Snake}
 use Rattle.bs_board.specs.declared.records.layout.BoardBytes.{BoardBytes}
 use Rattle.bs_board.specs.declared.records.layout.SnakeBytes.{SnakeBytes}
 use Rattle.bs_board.specs.boards.Over.{is_over}
-use Rattle.bs_board.specs.records.Layout.{IsBoardBytes, IsSnakeBytes}
-use Rattle.bs_board.specs.records.Record.{snake_record}
-use Rattle.bs_board.specs.records.Writing.{IsWritable, IsWritableBoard}
+use Rattle.bs_board.specs.records.Layout.{IsBoardBytes, IsSnakeBytes, cells_of, damage_of}
+use Rattle.bs_board.specs.records.Record.{cell_bytes, snake_record}
+use Rattle.bs_board.specs.records.Writing.{AreWritableHazards, IsWritable, IsWritableBoard}
 use Rattle.bs_json.specs.Boards.{board_data, cells_data, killer_data, mode_text, snake_data, snakes_data}
-use Rattle.bs_json.specs.BoardText.{back_pieces, board_of, front_pieces, snake_of, snake_pieces}
+use Rattle.bs_json.specs.BoardText.{back_pieces, board_of, front_pieces, hazard_pieces, hazards_of, snake_of, snake_pieces}
 use Rattle.bs_json.specs.Text.{Text, put}
 use Rattle.bs_json.proofs.Puts.{put_put}
 use Rattle.bs_json.proofs.ShownCells.{cells_again}
@@ -27,10 +28,16 @@ is_snake s parts fits is =
     let body = cells_again 1 s.body parts.body.now fits.cells is.body in
     rw (is.id, is.health, is.cause, is.killer, is.out fits, body) refl
 
+hazards_again : (hazards : Option Hazards) (hazardous : Bool) (damage : ℕ) (bytes : List ℕ) → AreWritableHazards hazards → hazardous ≡ is_some hazards
+    → damage ≡ damage_of hazards → bytes ≡ flat_map (cell_bytes 0) (cells_of hazards) → hazards_of hazardous damage bytes ≡ hazards
+hazards_again None hazardous damage bytes fits some hurts is = rw some refl
+hazards_again (Some h) hazardous damage bytes fits some hurts is = rw (some, hurts, cells_again 0 h.cells bytes fits.cells is) refl
+
 pub is_board : (b : Board) (parts : BoardBytes) → IsWritableBoard b → IsBoardBytes b parts → board_of parts b.snakes ≡ b
 is_board b parts fits is =
     let food = cells_again 0 b.food parts.food.now fits.cells is.food in
-    rw (is.mode, is.width, is.height, is.turn, is.min_food, is.chance, food) refl
+    let hazards = hazards_again b.hazards parts.hazardous parts.damage parts.hazards.now fits.hazards is.hazardous is.damage is.hazards in
+    rw (is.mode, is.width, is.height, is.turn, is.min_food, is.chance, food, hazards) refl
 
 -- ---- one snake
 
@@ -75,13 +82,27 @@ regroup_board : (a food b chance c height d min e mode f over g snakes back : Li
     ≡ a ++ (food ++ (b ++ (chance ++ (c ++ (height ++ (d ++ (min ++ (e ++ (mode ++ (f ++ (over ++ (g ++ (snakes ++ back)))))))))))))
 regroup_board a food b chance c height d min e mode f over g snakes back = simp append_assoc
 
--- the members up to the snakes, the snakes, and what follows them
-pub board_is : (b : Board) → front_pieces (is_over b) b ++ (compact_text (snakes_data b.snakes) ++ back_pieces b) ≡ compact_text (board_data b)
+regroup_hazardous : (a food b chance h damage k cells c height d min e mode f over g snakes back : List ℕ)
+    → (a ++ (food ++ (b ++ (chance ++ ((h ++ (damage ++ (k ++ cells))) ++ (c ++ (height ++ (d ++ (min ++ (e ++ (mode ++ (f ++ (over ++ g))))))))))))) ++ (snakes ++ back)
+    ≡ a ++ (food ++ (b ++ (chance ++ (h ++ (damage ++ (k ++ (cells ++ (c ++ (height ++ (d ++ (min ++ (e ++ (mode ++ (f ++ (over ++ (g ++ (snakes ++ back)))))))))))))))))
+regroup_hazardous a food b chance h damage k cells c height d min e mode f over g snakes back = simp append_assoc
+
+board_with : (b : Board) (hazards : Option Hazards)
+    → front_pieces (is_over b) (record b { hazards = hazards }) ++ (compact_text (snakes_data b.snakes) ++ back_pieces b) ≡ compact_text (board_data (record b { hazards = hazards }))
 unfolding escape_byte board_data
-board_is b =
+board_with b None =
     regroup_board (codes "{\"food\":") (compact_text (cells_data b.food)) (codes ",\"food_chance\":") (decimal b.chance) (codes ",\"height\":") (decimal b.height)
     (codes ",\"min_food\":") (decimal b.min_food) (codes ",\"mode\":") (compact_text (string (mode_text b.mode))) (codes ",\"over\":") (compact_text (boolean (is_over b)))
     (codes ",\"snakes\":") (compact_text (snakes_data b.snakes)) (back_pieces b)
+board_with b (Some h) =
+    regroup_hazardous (codes "{\"food\":") (compact_text (cells_data b.food)) (codes ",\"food_chance\":") (decimal b.chance) (codes ",\"hazard_damage\":") (decimal h.damage)
+    (codes ",\"hazards\":") (compact_text (cells_data h.cells)) (codes ",\"height\":") (decimal b.height)
+    (codes ",\"min_food\":") (decimal b.min_food) (codes ",\"mode\":") (compact_text (string (mode_text b.mode))) (codes ",\"over\":") (compact_text (boolean (is_over b)))
+    (codes ",\"snakes\":") (compact_text (snakes_data b.snakes)) (back_pieces b)
+
+-- the members up to the snakes, the snakes, and what follows them
+pub board_is : (b : Board) → front_pieces (is_over b) b ++ (compact_text (snakes_data b.snakes) ++ back_pieces b) ≡ compact_text (board_data b)
+board_is b = board_with b b.hazards
 
 pub board_text : (b : Board) (parts : BoardBytes) (over : Bool) → IsWritableBoard b → IsBoardBytes b parts → over ≡ is_over b
     → front_pieces over (board_of parts []) ++ (compact_text (snakes_data b.snakes) ++ back_pieces (board_of parts [])) ≡ compact_text (board_data b)

@@ -1,5 +1,5 @@
 -- The JSON value of a board.
-use Rattle.std.specs.Prelude.{ℕ, codes, List, [], ◌∷◌, Option, Some, None, option_and_then, map, slice_get}
+use Rattle.std.specs.Prelude.{ℕ, codes, List, [], ◌∷◌, ◌++◌, Option, Some, None, option_and_then, map, slice_get}
 use Rattle.serde_json.specs.Data.{Data, null, boolean, number, string, array, object, unsigned, Members, no_members, member}
 use Rattle.serde_json.specs.Find.{of_integer}
 use Rattle.serde_json.specs.View.{items_of}
@@ -7,9 +7,10 @@ use Rattle.bs_board.specs.declared.boards.point.Point.{Point}
 use Rattle.bs_board.specs.declared.boards.board.Board.{Board}
 use Rattle.bs_board.specs.declared.boards.board.Mode.{Mode}
 use Rattle.bs_board.specs.declared.boards.board.Mode.TheVariants.{Standard, Solo, Constrictor, Wrapped}
+use Rattle.bs_board.specs.declared.boards.hazards.Hazards.{Hazards}
 use Rattle.bs_board.specs.declared.boards.snake.Snake.{Snake}
 use Rattle.bs_board.specs.declared.boards.snake.Cause.{Cause}
-use Rattle.bs_board.specs.declared.boards.snake.Cause.TheVariants.{OutOfHealth, WallCollision, SelfCollision, BodyCollision, HeadCollision}
+use Rattle.bs_board.specs.declared.boards.snake.Cause.TheVariants.{OutOfHealth, WallCollision, SelfCollision, BodyCollision, HeadCollision, Hazard}
 use Rattle.bs_board.specs.boards.Over.{is_over}
 
 abbrev pub members_from : List (List ℕ × Data) → Members
@@ -35,6 +36,7 @@ cause_text WallCollision = codes "wall-collision"
 cause_text SelfCollision = codes "snake-self-collision"
 cause_text BodyCollision = codes "snake-collision"
 cause_text HeadCollision = codes "head-collision"
+cause_text Hazard = codes "hazard"
 
 abbrev pub cause_data : Option Cause → Data
 cause_data None = null
@@ -71,15 +73,20 @@ snake_data snakes s = object_of (
 abbrev pub snakes_data : List Snake → Data
 snakes_data snakes = array (items_of (map (snake_data snakes) snakes))
 
+-- no members in a game without hazards
+abbrev pub hazard_members : Option Hazards → List (List ℕ × Data)
+hazard_members None = []
+hazard_members (Some h) = (codes "hazard_damage", whole_data h.damage) ∷ (codes "hazards", cells_data h.cells) ∷ []
+
 unfoldable pub board_data : Board → Data
 board_data b = object_of (
     (codes "food", cells_data b.food)
     ∷ (codes "food_chance", whole_data b.chance)
-    ∷ (codes "height", whole_data b.height)
+    ∷ (hazard_members b.hazards ++ ((codes "height", whole_data b.height)
     ∷ (codes "min_food", whole_data b.min_food)
     ∷ (codes "mode", string (mode_text b.mode))
     ∷ (codes "over", boolean (is_over b))
     ∷ (codes "snakes", snakes_data b.snakes)
     ∷ (codes "turn", whole_data b.turn)
     ∷ (codes "width", whole_data b.width)
-    ∷ [])
+    ∷ [])))

@@ -27,7 +27,7 @@ word_at d = text_at (codes "do") d >>= word_named
 
 abbrev pub command_for : Version → Word → Data → Option Command
 command_for version word.New d = option_map command.New (setup_from version d)
-command_for version word.Move d = option_map command.Move (orders_from d)
+command_for version word.Move d = option_map command.Move (orders_from version d)
 command_for version word.Show d = Some command.Show
 command_for version word.Turn d = option_map command.Turn (number_at (codes "at") LAST_TURN d)
 command_for version word.Free d = Some command.Free

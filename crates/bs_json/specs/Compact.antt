@@ -7,7 +7,7 @@ use Rattle.bs_board.specs.declared.boards.point.Direction.{Direction}
 use Rattle.bs_board.specs.declared.boards.point.Direction.TheVariants.{Up, Down, Left, Right}
 use Rattle.bs_board.specs.declared.commands.command.Command.{Command}
 use Rattle.bs_board.specs.declared.commands.command.Command.TheVariants as command
-use Rattle.bs_board.specs.commands.Orders.{AreFitWords, Orders, is_ascending}
+use Rattle.bs_board.specs.commands.Orders.{AreFitWords, Orders, is_ascending, orders_of}
 use Rattle.bs_board.specs.declared.limits.TheConstants.{LAST_TURN}
 
 -- a printable byte of ASCII that needs no escape in a string
@@ -62,8 +62,11 @@ abbrev pub MayLeaveOut : Bool → List ℕ → Type 0
 MayLeaveOut false words = words ≡ []
 MayLeaveOut true words = ⊤
 
+-- it gives no hazards and no food
 abbrev pub IsCompactMove : Bool → Orders → Type 0
-IsCompactMove written orders = (are_plain_moves orders.moves ≡ true) × (is_ascending orders.moves ≡ true) × AreFitWords orders.words × MayLeaveOut written orders.words
+IsCompactMove written orders =
+    (are_plain_moves orders.moves ≡ true) × (is_ascending orders.moves ≡ true) × AreFitWords orders.words × MayLeaveOut written orders.words
+    × (orders ≡ orders_of orders.moves orders.words)
 
 -- the commands that have a compact text
 abbrev pub IsCompact : Bool → Command → Type 0

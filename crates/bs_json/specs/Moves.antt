@@ -5,10 +5,14 @@ use Rattle.serde_json.specs.Data.{Data, Members, no_members, member}
 use Rattle.serde_json.specs.Find.{get, as_str, as_object}
 use Rattle.bs_board.specs.declared.boards.point.Direction.{Direction}
 use Rattle.bs_board.specs.declared.boards.point.Direction.TheVariants.{Up, Down, Left, Right}
+use Rattle.bs_board.specs.declared.boards.point.Point.{Point}
+use Rattle.bs_board.specs.declared.plans.version.Version.{Version}
 use Rattle.bs_board.specs.commands.Orders.{Orders, orders_of}
+use Rattle.bs_board.specs.plans.Version.{has_hazards}
 use Rattle.bs_board.specs.Texts.{is_same_text}
-use Rattle.bs_board.specs.declared.limits.TheConstants.{MOST_WORDS}
-use Rattle.bs_json.specs.declared.limits.TheConstants.{MOST_WORD}
+use Rattle.bs_board.specs.declared.limits.TheConstants.{MOST_HAZARDS, MOST_WORDS}
+use Rattle.bs_json.specs.declared.limits.TheConstants.{MOST_FOOD, MOST_WORD}
+use Rattle.bs_json.specs.Setups.{cell_from}
 use Rattle.bs_json.specs.Values.{◌>>=◌, or_default, list_of, whole_to}
 
 abbrev pub direction_named : List ℕ → Option Direction
@@ -43,9 +47,28 @@ words_from d = list_of (whole_to MOST_WORD) d >>= few_words
 abbrev pub moves_of : Data → Option Members
 moves_of d = get (codes "moves") d >>= as_object
 
+abbrev pub few_cells : ℕ → List Point → Option (Option (List Point))
+few_cells most cells = if nat_le (length cells) most then Some (Some cells) else None
+
+-- the cells, if they are within the limits
+abbrev pub cells_from : ℕ → Data → Option (Option (List Point))
+cells_from most d = list_of cell_from d >>= few_cells most
+
+-- None if the line has no such member
+abbrev pub cells_at : List ℕ → ℕ → Data → Option (Option (List Point))
+cells_at name most d = or_default (cells_from most) None (get name d)
+
+-- the hazards and the food that the move gives, in versions that have hazards
+unfoldable pub map_from : Version → Data → Option (Option (List Point) × Option (List Point))
+map_from version d =
+    if has_hazards version
+    then cells_at (codes "hazards") MOST_HAZARDS d >>= (λ hazards. option_map (λ food. (hazards, food)) (cells_at (codes "food") MOST_FOOD d))
+    else Some (None, None)
+
 -- no words if the line has no such member
-unfoldable pub orders_from : Data → Option Orders
-orders_from d = do
+unfoldable pub orders_from : Version → Data → Option Orders
+orders_from version d = do
   words ← or_default words_from [] (get (codes "words") d)
+  given ← map_from version d
   members ← moves_of d
-  Some (orders_of (directions_of members) words)
+  Some (record (orders_of (directions_of members) words) { hazards = given.0; food = given.1 })

@@ -1,16 +1,18 @@
 -- The contents of a `new` line.
-use Rattle.std.specs.Prelude.{ℕ, ◌-◌, ◌&&◌, pos, codes, List, Option, Some, None, if◌then◌else◌}
+use Rattle.std.specs.Prelude.{ℕ, ◌-◌, ◌&&◌, pos, codes, List, [], Option, Some, None, if◌then◌else◌}
 use Rattle.serde_json.specs.Data.{Data}
+use Rattle.serde_json.specs.Find.{get}
 use Rattle.bs_board.specs.declared.boards.point.Point.{Point}
 use Rattle.bs_board.specs.declared.boards.board.Mode.{Mode}
+use Rattle.bs_board.specs.declared.boards.hazards.Hazards.{Hazards}
 use Rattle.bs_board.specs.declared.boards.board.Mode.TheVariants.{Standard, Solo, Constrictor, Wrapped}
 use Rattle.bs_board.specs.declared.plans.version.Version.{Version}
 use Rattle.bs_board.specs.commands.Setup.{Setup, setup_of, is_fit_setup}
-use Rattle.bs_board.specs.plans.Version.{has_wrapped}
+use Rattle.bs_board.specs.plans.Version.{has_hazards, has_wrapped}
 use Rattle.bs_board.specs.Texts.{is_same_text}
-use Rattle.bs_board.specs.declared.limits.TheConstants.{LONGEST_SIDE, MOST_CHANCE, MOST_MIN_FOOD}
-use Rattle.bs_json.specs.declared.limits.TheConstants.{USUAL_CHANCE, USUAL_MIN_FOOD}
-use Rattle.bs_json.specs.Values.{◌>>=◌, number_at, number_or, text_at, list_at}
+use Rattle.bs_board.specs.declared.limits.TheConstants.{LONGEST_SIDE, MOST_CHANCE, MOST_DAMAGE, MOST_MIN_FOOD}
+use Rattle.bs_json.specs.declared.limits.TheConstants.{USUAL_CHANCE, USUAL_DAMAGE, USUAL_MIN_FOOD}
+use Rattle.bs_json.specs.Values.{◌>>=◌, number_at, number_or, or_default, text_at, list_at, list_of}
 
 -- `wrapped` names a mode only in versions that have it
 abbrev pub mode_named : Version → List ℕ → Option Mode
@@ -40,6 +42,20 @@ start_from d = do
 abbrev pub fit_setup : Setup → Option Setup
 fit_setup setup = if is_fit_setup setup then Some setup else None
 
+-- the damage has a default; no cells if they are left out
+abbrev pub hazards_from : Data → Option Hazards
+hazards_from d = do
+  damage ← number_or (codes "hazard_damage") MOST_DAMAGE USUAL_DAMAGE d
+  cells ← or_default (list_of cell_from) [] (get (codes "hazards") d)
+  Some (record { damage = damage; cells = cells })
+
+abbrev pub with_hazards : Setup → Hazards → Option Setup
+with_hazards setup hazards = fit_setup (record setup { hazards = Some hazards })
+
+-- a game has hazards in versions that have them
+abbrev pub hazardous : Version → Data → Setup → Option Setup
+hazardous version d setup = if has_hazards version then hazards_from d >>= with_hazards setup else Some setup
+
 -- the minimum of food and its chance have defaults
 unfoldable pub setup_from : Version → Data → Option Setup
 setup_from version d = do
@@ -50,4 +66,5 @@ setup_from version d = do
   food ← list_at (codes "food") cell_from d
   min_food ← number_or (codes "min_food") MOST_MIN_FOOD USUAL_MIN_FOOD d
   chance ← number_or (codes "food_chance") MOST_CHANCE USUAL_CHANCE d
-  fit_setup (setup_of mode width height snakes food min_food chance)
+  setup ← fit_setup (setup_of mode width height snakes food min_food chance)
+  hazardous version d setup

@@ -1,11 +1,11 @@
 //! The JSON value of a board, and the texts of its mode and of causes.
-ghost use Rattle.std.specs.Prelude.{◌≡◌, IfOk, option_and_then, slice_get};
+ghost use Rattle.std.specs.Prelude.{◌≡◌, IfOk, None, Some, option_and_then, slice_get};
 ghost use Rattle.std.specs.Option.{option_copied};
 ghost use Rattle.serde_json.specs.View.{view};
 ghost use Rattle.bs_board.specs.boards.Over.{is_over};
 ghost use Rattle.bs_json.specs.Boards.{mode_text, cause_text, cause_data, killer_data, out_data, cell_data, cells_data, snake_data, snakes_data, board_data};
 
-use bs_board::{Board, Cause, Mode, Point, Snake};
+use bs_board::{Board, Cause, Hazards, Mode, Point, Snake};
 use serde_json::{Value, json};
 use std::alloc::{AllocError, Global};
 
@@ -29,6 +29,7 @@ pub fn cause_text(cause: Cause) -> &'static str
         Cause::SelfCollision => "snake-self-collision",
         Cause::BodyCollision => "snake-collision",
         Cause::HeadCollision => "head-collision",
+        Cause::Hazard => "hazard",
     }
 }
 
@@ -127,8 +128,44 @@ pub fn is_over(board: &Board) -> bool
 }
 
 /// Makes the JSON value of a board, as a reply shows it.
-#[tactic(auto, unfolding(crate::specs::Boards::board_data))]
 pub fn board_value(alloc: Global, board: &Board) -> Result<Value, AllocError>
+    ensures { IfOk result (λ v. view v ≡ board_data board.now) }
+{
+    match &board.hazards {
+        None => plain_value(alloc, board),
+        Some(hazards) => hazardous_value(alloc, board, hazards),
+    }
+}
+
+#[tactic(auto, unfolding(crate::specs::Boards::board_data))]
+fn hazardous_value(alloc: Global, board: &Board, hazards: &Hazards) -> Result<Value, AllocError>
+    requires { board.now.hazards ≡ Some hazards.now }
+    ensures { IfOk result (λ v. view v ≡ board_data board.now) }
+{
+    let food = cells_value(alloc, board.food.as_slice())?;
+    let cells = cells_value(alloc, hazards.cells.as_slice())?;
+    let snakes = snakes_value(alloc, board.snakes.as_slice())?;
+    let mode = mode_text(board.mode);
+    let over = is_over(board);
+    let (width, height) = (board.width, board.height);
+    json!(in alloc; {
+        "food": food,
+        "food_chance": board.chance,
+        "hazard_damage": hazards.damage,
+        "hazards": cells,
+        "height": height,
+        "min_food": board.min_food,
+        "mode": mode,
+        "over": over,
+        "snakes": snakes,
+        "turn": board.turn,
+        "width": width
+    })
+}
+
+#[tactic(auto, unfolding(crate::specs::Boards::board_data))]
+fn plain_value(alloc: Global, board: &Board) -> Result<Value, AllocError>
+    requires { board.now.hazards ≡ None }
     ensures { IfOk result (λ v. view v ≡ board_data board.now) }
 {
     let food = cells_value(alloc, board.food.as_slice())?;

@@ -42,7 +42,7 @@ fn command_for(
 {
     Ok(match word {
         Word::New => setup_from(alloc, version, line)?.map(Command::New),
-        Word::Move => orders_from(alloc, line)?.map(Command::Move),
+        Word::Move => orders_from(alloc, version, line)?.map(Command::Move),
         Word::Show => Some(Command::Show),
         Word::Turn => turn_at(line).map(Command::Turn),
         Word::Free => Some(Command::Free),

@@ -3,13 +3,13 @@ ghost use Rattle.std.specs.Prelude.{◌≡◌, [], IfOk, codes, option_map, true
 ghost use Rattle.serde_json.specs.Find.{get};
 ghost use Rattle.serde_json.specs.View.{view, members_view};
 ghost use Rattle.bs_board.specs.commands.Orders.{is_ascending};
-ghost use Rattle.bs_json.specs.Moves.{moves_of, direction_named, direction_from, directions_of, words_from, orders_from};
+ghost use Rattle.bs_json.specs.Moves.{moves_of, direction_named, direction_from, directions_of, words_from, cells_at, cells_from, map_from, orders_from};
 ghost use Rattle.bs_json.specs.Values.{or_default, whole_to};
 
-use crate::limits::MOST_WORD;
+use crate::limits::{MOST_FOOD, MOST_WORD};
 use crate::values::{FromItem, each, whole_to};
-use bs_board::limits::MOST_WORDS;
-use bs_board::{Direction, Id, Move, Moves, Words};
+use bs_board::limits::{MOST_HAZARDS, MOST_WORDS};
+use bs_board::{Cells, Direction, Id, Move, Moves, Version, Words};
 use serde_json::{Map, Value};
 use std::alloc::{AllocError, Global};
 use std::mem;
@@ -83,6 +83,58 @@ fn words_at(alloc: Global, line: &Value) -> Result<Option<Words>, AllocError>
     }
 }
 
+fn cells_from(
+    alloc: Global,
+    most: usize,
+    value: &Value,
+) -> Result<Option<Option<Cells>>, AllocError>
+    ensures { IfOk result (λ given. given ≡ cells_from most (view value.now)) }
+{
+    let Some(items) = value.as_array() else {
+        return Ok(None);
+    };
+    match each(alloc, items.as_slice())? {
+        Some(cells) if cells.len() <= most => Ok(Some(Some(Cells::from_vec(cells)))),
+        _ => Ok(None),
+    }
+}
+
+/// The cells of a member; none if it is left out.
+fn cells_at(
+    alloc: Global,
+    name: &str,
+    most: usize,
+    line: &Value,
+) -> Result<Option<Option<Cells>>, AllocError>
+    ensures { IfOk result (λ given. given ≡ cells_at name.now most (view line.now)) }
+{
+    match line.get(name) {
+        Some(value) => cells_from(alloc, most, value),
+        None => Ok(Some(None)),
+    }
+}
+
+/// Reads the hazards and the food that a move gives, in versions that have hazards.
+#[tactic(auto, unfolding(crate::specs::Moves::map_from))]
+fn map_from(
+    alloc: Global,
+    version: Version,
+    line: &Value,
+) -> Result<Option<(Option<Cells>, Option<Cells>)>, AllocError>
+    ensures { IfOk result (λ given. given ≡ map_from version (view line.now)) }
+{
+    if !version.has_hazards() {
+        return Ok(Some((None, None)));
+    }
+    let Some(hazards) = cells_at(alloc, "hazards", MOST_HAZARDS, line)? else {
+        return Ok(None);
+    };
+    match cells_at(alloc, "food", MOST_FOOD, line)? {
+        Some(food) => Ok(Some((hazards, food))),
+        None => Ok(None),
+    }
+}
+
 /// Takes the object of the moves out of the line.
 fn take_moves(alloc: Global, line: &mut Value) -> Option<Map<String, Value>>
     ensures { option_map (λ m. members_view m.entries) result
@@ -95,15 +147,22 @@ fn take_moves(alloc: Global, line: &mut Value) -> Option<Map<String, Value>>
 /// Reads a move. `None` if a member is missing, of another type or out of range. Takes the moves
 /// out of the line.
 #[tactic(auto, unfolding(crate::specs::Moves::orders_from))]
-pub fn orders_from(alloc: Global, line: &mut Value) -> Result<Option<Move>, AllocError>
-    ensures { IfOk result (λ orders. orders ≡ orders_from (view line.old)) }
+pub fn orders_from(
+    alloc: Global,
+    version: Version,
+    line: &mut Value,
+) -> Result<Option<Move>, AllocError>
+    ensures { IfOk result (λ orders. orders ≡ orders_from version (view line.old)) }
 {
     let Some(words) = words_at(alloc, line)? else {
+        return Ok(None);
+    };
+    let Some((hazards, food)) = map_from(alloc, version, line)? else {
         return Ok(None);
     };
     let Some(members) = take_moves(alloc, line) else {
         return Ok(None);
     };
     let moves = Moves::from_vec(directions_of(alloc, members)?);
-    Ok(Some(Move::new(moves, words)))
+    Ok(Some(Move::new(moves, words).with_map(hazards, food)))
 }

@@ -1,13 +1,14 @@
 //! The contents of a `new` line.
-ghost use Rattle.std.specs.Prelude.{◌≡◌, IfOk, codes};
+ghost use Rattle.std.specs.Prelude.{◌≡◌, [], IfOk, codes};
+ghost use Rattle.serde_json.specs.Find.{get};
 ghost use Rattle.serde_json.specs.View.{view};
-ghost use Rattle.bs_json.specs.Setups.{mode_named, mode_at, cell_from, start_from, setup_from};
-ghost use Rattle.bs_json.specs.Values.{list_at};
+ghost use Rattle.bs_json.specs.Setups.{mode_named, mode_at, cell_from, start_from, hazardous, hazards_from, setup_from};
+ghost use Rattle.bs_json.specs.Values.{list_at, list_of, or_default};
 
-use crate::limits::{USUAL_CHANCE, USUAL_MIN_FOOD};
+use crate::limits::{USUAL_CHANCE, USUAL_DAMAGE, USUAL_MIN_FOOD};
 use crate::values::{FromItem, byte_at, byte_or, each, id_at, text_at};
-use bs_board::limits::{LONGEST_SIDE, MOST_CHANCE, MOST_MIN_FOOD};
-use bs_board::{Cells, Id, Mode, New, Point, Starts, Version};
+use bs_board::limits::{LONGEST_SIDE, MOST_CHANCE, MOST_DAMAGE, MOST_MIN_FOOD};
+use bs_board::{Cells, Hazards, Id, Mode, New, Point, Starts, Version};
 use serde_json::Value;
 use std::alloc::{AllocError, Global};
 
@@ -86,6 +87,49 @@ fn food_at(alloc: Global, line: &Value) -> Result<Option<Cells>, AllocError>
     }
 }
 
+/// The cells of the hazards; none if they are left out.
+fn hazard_cells_at(alloc: Global, line: &Value) -> Result<Option<Cells>, AllocError>
+    ensures { IfOk result (λ cells. cells ≡ or_default (list_of cell_from) [] (get (codes "hazards") (view line.now))) }
+{
+    let Some(value) = line.get("hazards") else {
+        return Ok(Some(Cells::new(alloc)));
+    };
+    match value.as_array() {
+        Some(items) => Ok(each(alloc, items.as_slice())?.map(Cells::from_vec)),
+        None => Ok(None),
+    }
+}
+
+fn hazards_from(alloc: Global, line: &Value) -> Result<Option<Hazards>, AllocError>
+    ensures { IfOk result (λ hazards. hazards ≡ hazards_from (view line.now)) }
+{
+    let Some(damage) = byte_or(line, "hazard_damage", MOST_DAMAGE, USUAL_DAMAGE) else {
+        return Ok(None);
+    };
+    match hazard_cells_at(alloc, line)? {
+        Some(cells) => Ok(Some(Hazards { damage, cells })),
+        None => Ok(None),
+    }
+}
+
+/// The setup with the hazards of the line, in versions that have hazards.
+fn hazardous(
+    alloc: Global,
+    version: Version,
+    line: &Value,
+    setup: New,
+) -> Result<Option<New>, AllocError>
+    ensures { IfOk result (λ new. new ≡ hazardous version (view line.now) setup) }
+{
+    if !version.has_hazards() {
+        return Ok(Some(setup));
+    }
+    match hazards_from(alloc, line)? {
+        Some(hazards) => Ok(setup.with_hazards(hazards)),
+        None => Ok(None),
+    }
+}
+
 /// Reads a setup. `None` if a member is missing, of another type or out of range, or if the version
 /// does not have the mode.
 #[tactic(auto, unfolding(crate::specs::Setups::setup_from))]
@@ -113,5 +157,8 @@ pub fn setup_from(alloc: Global, version: Version, line: &Value) -> Result<Optio
     let Some(chance) = byte_or(line, "food_chance", MOST_CHANCE, USUAL_CHANCE) else {
         return Ok(None);
     };
-    Ok(New::new(mode, width, height, snakes, food, min_food, chance))
+    match New::new(mode, width, height, snakes, food, min_food, chance) {
+        Some(setup) => hazardous(alloc, version, line, setup),
+        None => Ok(None),
+    }
 }

@@ -9,7 +9,7 @@ ghost use Rattle.bs_board.specs.records.Layout.{IsBoardBytes, IsSnakeBytes};
 ghost use Rattle.bs_board.specs.records.Record.{snake_record};
 ghost use Rattle.bs_board.specs.records.Writing.{IsWritable, IsWritableBoard};
 ghost use Rattle.bs_json.specs.Boards.{board_data, cause_data, cell_data, cells_data, killer_data, mode_text, out_data, snake_data, snakes_data};
-ghost use Rattle.bs_json.specs.BoardText.{back_pieces, board_of, cell_of, cells_of, coordinate_text, front_pieces, snake_of, snake_pieces, text_data};
+ghost use Rattle.bs_json.specs.BoardText.{back_pieces, board_of, cell_of, cells_of, coordinate_text, front_pieces, hazard_pieces, hazards_of, snake_of, snake_pieces, text_data};
 ghost use Rattle.bs_json.specs.Text.{put};
 
 use crate::boards::{cause_text, mode_text};
@@ -211,6 +211,19 @@ fn push_mode(mode: Mode, text: &mut TextBuffer)
     push_string(mode_text(mode).as_bytes(), text);
 }
 
+/// Appends the hazards, in a game that has some.
+#[tactic(auto, using(crate::proofs::Puts::put_none))]
+fn push_hazards(board: &BoardBytes<'_>, text: &mut TextBuffer)
+    ensures { text.new ≡ put text.old (hazard_pieces (hazards_of board.now.hazardous board.now.damage board.now.hazards.now)) }
+{
+    if board.hazardous {
+        text.push(b",\"hazard_damage\":");
+        push_small(board.damage, text);
+        text.push(b",\"hazards\":");
+        push_cells(0, board.hazards, text);
+    }
+}
+
 /// Appends a board up to its snakes, and whether its game is over.
 fn push_front(over: bool, board: &BoardBytes<'_>, text: &mut TextBuffer)
     ensures { text.new ≡ put text.old (front_pieces over (board_of board.now [])) }
@@ -219,6 +232,7 @@ fn push_front(over: bool, board: &BoardBytes<'_>, text: &mut TextBuffer)
     push_cells(0, board.food, text);
     text.push(b",\"food_chance\":");
     push_small(board.chance, text);
+    push_hazards(board, text);
     text.push(b",\"height\":");
     push_small(board.height, text);
     text.push(b",\"min_food\":");

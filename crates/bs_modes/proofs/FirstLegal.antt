@@ -57,7 +57,8 @@ first_snakes_are_legal b starts fits seat d within =
 pub first_board_is_legal : (s : Setup) → is_fit_setup s ≡ true → IsLegal (first_board s)
 unfolding is_fit_setup first_board
 first_board_is_legal s fits =
-    let food = and_both _ _ fits in
+    let hazards = and_both _ _ fits in
+    let food = and_both _ _ hazards.0 in
     let starts = and_both _ _ food.0 in
     let chance = and_both _ _ starts.0 in
     let minimum = and_both _ _ chance.0 in
@@ -72,6 +73,7 @@ first_board_is_legal s fits =
     record {
       limits = record { width = sides.0; height = sides.1; turn = lit≤ tt; chance = leb-true _ _ chance.1; some = some; few = few };
       food = record { fits = first_food_fits s.mode s.width s.height s.food food.1; mode = first_food_free s.mode s.food; minimum = leb-true _ _ minimum.1 };
+      hazards = hazards.1;
       ids = are_distinct_map _ first_snake s.snakes ∙ ids.1;
       snakes = first_snakes_are_legal _ s.snakes members.1;
     }

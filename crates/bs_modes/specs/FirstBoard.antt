@@ -35,5 +35,6 @@ first_board s = record {
   min_food = s.min_food;
   chance = s.chance;
   food = first_food s.mode s.food;
+  hazards = s.hazards;
   snakes = map first_snake s.snakes;
 }

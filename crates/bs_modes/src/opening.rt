@@ -5,7 +5,7 @@ ghost use Rattle.bs_board.specs.boards.Legal.{IsLegal};
 ghost use Rattle.bs_modes.specs.FirstBoard.{first_board, first_food, first_snake};
 
 use bs_board::limits::{FIRST_PARTS, FULL_HEALTH};
-use bs_board::{Board, Cells, Id, Mode, New, Point, Snake, Snakes};
+use bs_board::{Board, Cells, Id, Mode, New, Point, Snake, Snakes, copy_hazards};
 use std::alloc::{AllocError, Global};
 
 fn first_snake(alloc: Global, id: &Id, cell: Point) -> Result<Snake, AllocError>
@@ -61,6 +61,7 @@ pub fn start(alloc: Global, new: &New) -> Result<Board, AllocError>
         min_food: new.min_food,
         chance: new.chance,
         food: first_food(alloc, new.mode, &new.food)?,
+        hazards: copy_hazards(&new.hazards, alloc)?,
         snakes: first_snakes(alloc, new.snakes.as_slice())?,
     })
 }

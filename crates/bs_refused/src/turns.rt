@@ -148,7 +148,7 @@ impl Question for FinishTurn {
         if copy.turn >= LAST_TURN || copy.snakes.len() > MOST_SNAKES {
             return Err(Fault::NoTurn);
         }
-        Ok(finish_turn(alloc, copy, &[5, 7])?)
+        Ok(finish_turn(alloc, copy, &two_orders(alloc)?)?)
     }
 }
 

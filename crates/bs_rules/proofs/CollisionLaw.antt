@@ -5,7 +5,7 @@ use Rattle.std.proofs.lemmas.List.{same_lists}
 use Rattle.bs_board.specs.declared.boards.board.Board.{Board}
 use Rattle.bs_board.specs.declared.boards.snake.Snake.{Snake}
 use Rattle.bs_board.specs.declared.boards.snake.Cause.{Cause}
-use Rattle.bs_board.specs.declared.boards.snake.Cause.TheVariants.{OutOfHealth, WallCollision, SelfCollision, BodyCollision, HeadCollision}
+use Rattle.bs_board.specs.declared.boards.snake.Cause.TheVariants.{OutOfHealth, WallCollision, SelfCollision, BodyCollision, HeadCollision, Hazard}
 use Rattle.bs_rules.specs.Collision.{collided, collision_verdict, snake_at, CollidesWith, CollisionLaw, EscapesBefore, IsCollided, IsJudged, IsKiller, IsPutOut}
 use Rattle.bs_rules.specs.Elimination.{judged}
 use Rattle.bs_rules.proofs.CollisionMeaning.{collided_is_judged}
@@ -28,18 +28,22 @@ one_cause : (snakes : List Snake) (seat : ℕ) (c d : Cause) (k l : ℕ) → Col
     → EscapesBefore snakes seat c → EscapesBefore snakes seat d → c ≡ d
 one_cause snakes seat OutOfHealth d k l p q e f = absurd p.hit
 one_cause snakes seat WallCollision d k l p q e f = absurd p.hit
+one_cause snakes seat Hazard d k l p q e f = absurd p.hit
 one_cause snakes seat SelfCollision OutOfHealth k l p q e f = absurd q.hit
 one_cause snakes seat SelfCollision WallCollision k l p q e f = absurd q.hit
+one_cause snakes seat SelfCollision Hazard k l p q e f = absurd q.hit
 one_cause snakes seat SelfCollision SelfCollision k l p q e f = refl
 one_cause snakes seat SelfCollision BodyCollision k l p q e f = absurd (f k p)
 one_cause snakes seat SelfCollision HeadCollision k l p q e f = absurd (f.0 k p)
 one_cause snakes seat BodyCollision OutOfHealth k l p q e f = absurd q.hit
 one_cause snakes seat BodyCollision WallCollision k l p q e f = absurd q.hit
+one_cause snakes seat BodyCollision Hazard k l p q e f = absurd q.hit
 one_cause snakes seat BodyCollision SelfCollision k l p q e f = absurd (e l q)
 one_cause snakes seat BodyCollision BodyCollision k l p q e f = refl
 one_cause snakes seat BodyCollision HeadCollision k l p q e f = absurd (f.1 k p)
 one_cause snakes seat HeadCollision OutOfHealth k l p q e f = absurd q.hit
 one_cause snakes seat HeadCollision WallCollision k l p q e f = absurd q.hit
+one_cause snakes seat HeadCollision Hazard k l p q e f = absurd q.hit
 one_cause snakes seat HeadCollision SelfCollision k l p q e f = absurd (e.0 l q)
 one_cause snakes seat HeadCollision BodyCollision k l p q e f = absurd (e.1 l q)
 one_cause snakes seat HeadCollision HeadCollision k l p q e f = refl

@@ -5,7 +5,7 @@ use Rattle.std.proofs.lemmas.List.{get_or_past}
 use Rattle.bs_board.specs.declared.boards.board.Board.{Board}
 use Rattle.bs_board.specs.declared.boards.snake.Snake.{Snake}
 use Rattle.bs_board.specs.declared.boards.snake.Cause.{Cause}
-use Rattle.bs_board.specs.declared.boards.snake.Cause.TheVariants.{OutOfHealth, WallCollision, SelfCollision, BodyCollision, HeadCollision}
+use Rattle.bs_board.specs.declared.boards.snake.Cause.TheVariants.{OutOfHealth, WallCollision, SelfCollision, BodyCollision, HeadCollision, Hazard}
 use Rattle.bs_board.specs.boards.Legal.{EachSeat}
 use Rattle.bs_board.specs.boards.Over.{is_living}
 use Rattle.bs_rules.specs.declared.verdict.Verdict.{Verdict}
@@ -32,6 +32,7 @@ escapes_all snakes seat itself body head WallCollision = λ other h. h.hit
 escapes_all snakes seat itself body head SelfCollision = itself
 escapes_all snakes seat itself body head BodyCollision = body
 escapes_all snakes seat itself body head HeadCollision = head
+escapes_all snakes seat itself body head Hazard = λ other h. h.hit
 
 of_all : (snakes : List Snake) (seat : ℕ) (cause : Cause) (killer : ℕ) → IsKillerAmong (length snakes) snakes seat cause killer → IsKiller snakes seat cause killer
 of_all snakes seat cause killer m = record {

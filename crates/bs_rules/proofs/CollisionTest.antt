@@ -8,7 +8,7 @@ use Rattle.std.proofs.lemmas.List.Elements.{Decides-contains}
 use Rattle.bs_board.specs.declared.boards.point.Point.{Point}
 use Rattle.bs_board.specs.declared.boards.snake.Snake.{Snake}
 use Rattle.bs_board.specs.declared.boards.snake.Cause.{Cause}
-use Rattle.bs_board.specs.declared.boards.snake.Cause.TheVariants.{OutOfHealth, WallCollision, SelfCollision, BodyCollision, HeadCollision}
+use Rattle.bs_board.specs.declared.boards.snake.Cause.TheVariants.{OutOfHealth, WallCollision, SelfCollision, BodyCollision, HeadCollision, Hazard}
 use Rattle.bs_board.specs.boards.Cell.{head_of, is_same_cell}
 use Rattle.bs_board.specs.boards.Over.{is_living}
 use Rattle.bs_rules.specs.Collision.{collides, CollidesWith, runs_into, RunsInto, is_on_later_part, snake_at}
@@ -38,6 +38,7 @@ never = (λ e. false≢true e, λ h. absurd h)
 decides_runs_into : (cause : Cause) (i : ℕ) (s : Snake) (j : ℕ) (t : Snake) → Decides (runs_into cause i s j t) (RunsInto cause i s j t)
 decides_runs_into OutOfHealth i s j t = never
 decides_runs_into WallCollision i s j t = never
+decides_runs_into Hazard i s j t = never
 decides_runs_into SelfCollision i s j t = Decides-and (eqb i j) (is_on_later_part s t) (Decides-eqb i j) (has_cell (drop 1 t.body) (head_of s.body))
 decides_runs_into BodyCollision i s j t =
     Decides-and (not (eqb i j)) (is_on_later_part s t) (Decides-not (eqb i j) (Decides-eqb i j)) (has_cell (drop 1 t.body) (head_of s.body))

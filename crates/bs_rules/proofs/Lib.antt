@@ -3,6 +3,7 @@ pub mod CollisionMeaning
 pub mod CollisionTest
 pub mod FoodEaten
 pub mod FoodLeft
+pub mod HazardSteps
 pub mod Ids
 pub mod Killers
 pub mod Movable

@@ -9,7 +9,7 @@ use Rattle.bs_board.specs.declared.boards.point.Point.{Point}
 use Rattle.bs_board.specs.declared.boards.board.Board.{Board}
 use Rattle.bs_board.specs.declared.boards.snake.Snake.{Snake}
 use Rattle.bs_board.specs.declared.boards.snake.Cause.{Cause}
-use Rattle.bs_board.specs.declared.boards.snake.Cause.TheVariants.{OutOfHealth, WallCollision, SelfCollision, BodyCollision, HeadCollision}
+use Rattle.bs_board.specs.declared.boards.snake.Cause.TheVariants.{OutOfHealth, WallCollision, SelfCollision, BodyCollision, HeadCollision, Hazard}
 use Rattle.bs_board.specs.boards.Cell.{head_of, is_on_board}
 use Rattle.bs_board.specs.commands.Setup.{is_side}
 use Rattle.bs_board.specs.boards.Wrap.{is_wrapped, wrap_of, AreSides}
@@ -58,6 +58,7 @@ head_of_out WallCollision false w h p head = (and_parts (is_near w h p) (not (is
 head_of_out SelfCollision wraps w h p head = near_from_on_board w h p head
 head_of_out BodyCollision wraps w h p head = near_from_on_board w h p head
 head_of_out HeadCollision wraps w h p head = near_from_on_board w h p head
+head_of_out Hazard wraps w h p head = near_from_on_board w h p head
 
 head_is_near : (b : Board) (seat : ℕ) (s : Snake) (cause : Option Cause) → MatchOption cause (IsLegalLiving b s) (IsLegalOut b seat s)
     → is_near b.width b.height (head_of s.body) ≡ true

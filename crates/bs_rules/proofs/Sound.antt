@@ -113,7 +113,7 @@ out_by_later turn None h = h
 out_by_later turn (Some t) h = (h.0, let by = h.1 in omega arith)
 
 out_later : (b : Board) (seat : ℕ) (s : Snake) (cause : Cause) → IsLegalOut b seat s cause → IsLegalOut (later b) seat s cause
-out_later b seat s cause h = record { out = out_by_later b.turn s.out h.out; health = h.health; head = h.head; killer = h.killer }
+out_later b seat s cause h = record { out = out_by_later b.turn s.out h.out; health = h.health; head = h.head; killer = h.killer; hazard = h.hazard }
 
 moves_at : (b : Board) (seat : ℕ) (s : Snake) (given : Option Direction) (cause : Option Cause) → 1 ≤ b.width → 1 ≤ b.height → IsLegalSnake b seat (record s { cause = cause })
     → IsMoved (later b) (b.turn + 3) seat (moved (wrap_of b) given (record s { cause = cause }))

@@ -1,10 +1,10 @@
 -- Collisions leave each snake sound.
-use Rattle.std.proofs.Common.{◌≡◌, ℕ, ◌+◌, ◌≤◌, ◌<◌, true, length, MatchOption, Option, Some, None, is_none, ap, sym, arith, inl, inr}
+use Rattle.std.proofs.Common.{◌≡◌, ℕ, ◌+◌, ◌≤◌, ◌<◌, true, length, MatchOption, Option, Some, None, is_none, refl, ap, sym, arith, inl, inr}
 use Rattle.std.proofs.lemmas.Bool.{false≢true}
 use Rattle.bs_board.specs.declared.boards.board.Board.{Board}
 use Rattle.bs_board.specs.declared.boards.snake.Snake.{Snake}
 use Rattle.bs_board.specs.declared.boards.snake.Cause.{Cause}
-use Rattle.bs_board.specs.declared.boards.snake.Cause.TheVariants.{OutOfHealth, WallCollision, SelfCollision, BodyCollision, HeadCollision}
+use Rattle.bs_board.specs.declared.boards.snake.Cause.TheVariants.{OutOfHealth, WallCollision, SelfCollision, BodyCollision, HeadCollision, Hazard}
 use Rattle.bs_board.specs.boards.Legal.{EachSeat, IsLegalLiving, IsLegalOut}
 use Rattle.bs_rules.specs.Collision.{collided, IsJudged, RunsInto, snake_at, nobody}
 use Rattle.bs_rules.proofs.CollisionMeaning.{collided_is_judged}
@@ -21,23 +21,27 @@ out_by : (b : Board) (seat killer : ℕ) (s t : Snake) (cause : Cause) → RunsI
     → IsLegalOut b seat (record s { cause = Some cause; killer = Some killer; out = Some b.turn }) cause
 out_by b seat killer s t OutOfHealth hit played within living = absurd hit
 out_by b seat killer s t WallCollision hit played within living = absurd hit
+out_by b seat killer s t Hazard hit played within living = absurd hit
 out_by b seat killer s t SelfCollision hit played within living = record {
   out = (played, omega arith);
   health = (living.fed, living.full);
   head = living.head;
   killer = ap (λ (k : ℕ). Some k) (sym hit.0);
+  hazard = refl;
 }
 out_by b seat killer s t BodyCollision hit played within living = record {
   out = (played, omega arith);
   health = (living.fed, living.full);
   head = living.head;
   killer = (within, λ e. hit.0 (sym e));
+  hazard = refl;
 }
 out_by b seat killer s t HeadCollision hit played within living = record {
   out = (played, omega arith);
   health = (living.fed, living.full);
   head = living.head;
   killer = (within, λ e. hit.0 (sym e));
+  hazard = refl;
 }
 
 -- b is the board that is judged, f the one for which the snakes are sound

@@ -118,6 +118,7 @@ first_by b parts seat s true wraps inside c e w f played body living = record {
     health = eqb-true s.health 0 (sym e);
     head = living.near;
     killer = refl;
+    hazard = refl;
   };
 }
 first_by b parts seat s false true inside c e w f played body living =
@@ -154,6 +155,7 @@ first_by b parts seat s false false false c e w f played body living =
         health = (omega arith, living.full);
         head = let near = rw (← w) at living.near in rw (← w) (and_from (is_near b.width b.height (head_of s.body)) (not (is_on_board b.width b.height (head_of s.body))) near off);
         killer = refl;
+        hazard = refl;
       };
     }
 

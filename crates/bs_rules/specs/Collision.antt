@@ -5,7 +5,7 @@ use Rattle.std.specs.List.{list_any, range_with_len, enumerate_from}
 use Rattle.bs_board.specs.declared.boards.board.Board.{Board}
 use Rattle.bs_board.specs.declared.boards.snake.Snake.{Snake}
 use Rattle.bs_board.specs.declared.boards.snake.Cause.{Cause}
-use Rattle.bs_board.specs.declared.boards.snake.Cause.TheVariants.{OutOfHealth, WallCollision, SelfCollision, BodyCollision, HeadCollision}
+use Rattle.bs_board.specs.declared.boards.snake.Cause.TheVariants.{OutOfHealth, WallCollision, SelfCollision, BodyCollision, HeadCollision, Hazard}
 use Rattle.bs_board.specs.boards.Cell.{head_of, is_same_cell}
 use Rattle.bs_board.specs.boards.Legal.{EachSeat}
 use Rattle.bs_board.specs.boards.Over.{is_living}
@@ -36,6 +36,7 @@ RunsInto WallCollision i s j t = ⊥
 RunsInto SelfCollision i s j t = (i ≡ j) × IsOnLaterPart s t
 RunsInto BodyCollision i s j t = (i ≢ j) × IsOnLaterPart s t
 RunsInto HeadCollision i s j t = (i ≢ j) × (head_of s.body ≡ head_of t.body) × (length s.body ≤ length t.body)
+RunsInto Hazard i s j t = ⊥
 
 -- both are alive, and the one runs into the other
 pub record CollidesWith (snakes : List Snake) (seat : ℕ) (cause : Cause) (other : ℕ) : Type 0 where
@@ -60,6 +61,7 @@ EscapesBefore snakes seat WallCollision = Unit {0}
 EscapesBefore snakes seat SelfCollision = Unit {0}
 EscapesBefore snakes seat BodyCollision = EscapesBy snakes seat SelfCollision
 EscapesBefore snakes seat HeadCollision = EscapesBy snakes seat SelfCollision × EscapesBy snakes seat BodyCollision
+EscapesBefore snakes seat Hazard = Unit {0}
 
 -- the snake of that seat, eliminated by the killer
 pub record IsPutOut (old : Board) (seat : ℕ) (cause : Cause) (killer : ℕ) (now : Snake) : Type 0 where
@@ -95,6 +97,7 @@ runs_into WallCollision i s j t = false
 runs_into SelfCollision i s j t = nat_eq i j && is_on_later_part s t
 runs_into BodyCollision i s j t = not (nat_eq i j) && is_on_later_part s t
 runs_into HeadCollision i s j t = not (nat_eq i j) && meets_head s t
+runs_into Hazard i s j t = false
 
 unfoldable pub collides : List Snake → ℕ → Cause → ℕ → Bool
 collides snakes seat cause other =

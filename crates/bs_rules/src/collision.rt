@@ -49,6 +49,7 @@ fn runs_into(cause: Cause, seat: usize, snake: &Snake, other_seat: usize, other:
         Cause::SelfCollision => seat == other_seat && is_on_later_part(snake, other),
         Cause::BodyCollision => seat != other_seat && is_on_later_part(snake, other),
         Cause::HeadCollision => seat != other_seat && meets_head(snake, other),
+        Cause::Hazard => false,
     }
 }
 

@@ -1,8 +1,10 @@
-//! One turn of a game, step by step: snakes move, eat, starve or leave the board, and collide.
+//! One turn of a game, step by step: snakes move, are hurt by hazards, eat,
+//! starve or leave the board, and collide.
 #![tactic(auto)]
 
 mod collision;
 mod feeding;
+mod hurting;
 mod law;
 mod motion;
 mod parts;
@@ -12,6 +14,7 @@ mod verdict;
 
 pub use collision::collide;
 pub use feeding::feed;
+pub use hurting::{hazards_after, hurt};
 pub use law::collision_law;
 pub use motion::{move_snake, move_snakes};
 pub use starved_or_outside::first_out;

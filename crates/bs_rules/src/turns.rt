@@ -4,15 +4,16 @@ ghost use Rattle.std.specs.Prelude.{◌≡◌, ◌<◌, ◌≤◌, IfOk, OnOk, A
 ghost use Rattle.bs_board.specs.boards.Legal.{IsLegal};
 ghost use Rattle.bs_board.specs.boards.Wrap.{AreSides, wrap_of};
 ghost use Rattle.bs_rules.specs.Motion.{moved_board, IsMovable};
-ghost use Rattle.bs_rules.specs.Turn.{replenished, finished, turn_of};
+ghost use Rattle.bs_rules.specs.Turn.{redrawn, refilled, replenished, finished, turn_of};
 
 use crate::collision::collide;
 use crate::feeding::feed;
+use crate::hurting::{hazards_after, hurt};
 use crate::motion::move_snakes;
 use crate::starved_or_outside::first_out;
 use bs_board::limits::{LAST_TURN, MOST_SNAKES};
-use bs_board::{Board, Direction, Id, Mode, Move};
-use bs_food::spawn;
+use bs_board::{Board, Direction, Id, Mode, Move, copy_hazards};
+use bs_food::{give, spawn};
 use bs_modes::grow;
 use std::alloc::{AllocError, Global};
 
@@ -29,37 +30,62 @@ fn move_board(alloc: Global, board: &Board, moves: &[(Id, Direction)]) -> Result
         min_food: board.min_food,
         chance: board.chance,
         food: board.food.copy(alloc)?,
+        hazards: copy_hazards(&board.hazards, alloc)?,
         snakes: move_snakes(alloc, board.snakes.as_slice(), moves, board.wrap())?,
     })
 }
 
-/// Grows the snakes in constrictor; in the other modes adds food from the words.
-fn replenish(alloc: Global, board: &mut Board, words: &[u32]) -> Result<(), AllocError>
-    ensures { OnOk result (board.new ≡ replenished board.old.mode words.now board.old) }
+/// Adds food from the words, and then the food that the move gives.
+fn refill(alloc: Global, board: &mut Board, order: &Move) -> Result<(), AllocError>
+    ensures { OnOk result (board.new ≡ refilled order.now board.old) }
+{
+    spawn(alloc, board, order.words.as_slice())?;
+    give(board, &order.food)
+}
+
+/// Grows the snakes in constrictor; in the other modes adds food.
+fn replenish(alloc: Global, board: &mut Board, order: &Move) -> Result<(), AllocError>
+    ensures { OnOk result (board.new ≡ replenished board.old.mode order.now board.old) }
 {
     match board.mode {
-        Mode::Standard => spawn(alloc, board, words),
-        Mode::Solo => spawn(alloc, board, words),
+        Mode::Standard => refill(alloc, board, order),
+        Mode::Solo => refill(alloc, board, order),
         Mode::Constrictor => grow(alloc, board),
-        Mode::Wrapped => spawn(alloc, board, words),
+        Mode::Wrapped => refill(alloc, board, order),
     }
 }
 
-/// Plays the rest of a turn once all seats are moved: feeding, the first eliminations, collisions,
-/// growth or new food. The turn number rises last. `turn` moves all seats and then calls this.
-pub fn finish_turn(alloc: Global, board: Board, words: &[u32]) -> Result<Board, AllocError>
+/// The hazards from the end of the turn on.
+fn redraw(alloc: Global, board: Board, order: &Move) -> Result<Board, AllocError>
+    ensures { IfOk result (λ next. next ≡ redrawn order.now board) }
+{
+    let hazards = hazards_after(
+        alloc,
+        board.width,
+        board.height,
+        &order.hazards,
+        board.hazards,
+    )?;
+    Ok(Board { hazards, ..board })
+}
+
+/// Plays the rest of a turn once all seats are moved: hazards, feeding, the first eliminations,
+/// collisions, growth or new food, and the hazards that the move gives. The turn number rises last.
+/// `turn` moves all seats and then calls this.
+pub fn finish_turn(alloc: Global, board: Board, order: &Move) -> Result<Board, AllocError>
     requires turn { board.turn < LAST_TURN }
     requires few { length board.snakes ≤ MOST_SNAKES }
-    ensures { IfOk result (λ next. next ≡ finished words.now board) }
+    ensures { IfOk result (λ next. next ≡ finished order.now board) }
 {
     let turn = board.turn + 1;
     let mut next = board;
+    hurt(&mut next);
     feed(alloc, &mut next)?;
     first_out(&mut next);
     collide(&mut next);
-    replenish(alloc, &mut next, words)?;
+    replenish(alloc, &mut next, order)?;
     next.turn = turn;
-    Ok(next)
+    redraw(alloc, next, order)
 }
 
 /// Plays one turn. A snake without a direction goes straight on; directions for ids of no living
@@ -72,5 +98,5 @@ pub fn turn(alloc: Global, board: &Board, order: &Move) -> Result<Board, AllocEr
     ensures legal { IfOk result IsLegal }
 {
     let moved = move_board(alloc, board, order.moves.as_slice())?;
-    finish_turn(alloc, moved, order.words.as_slice())
+    finish_turn(alloc, moved, order)
 }

@@ -36,6 +36,7 @@ pub fn board(alloc: Global, mode: Mode, side: u8, turn: u16, snakes: Vec<Snake>)
         min_food: 0,
         chance: 0,
         food: Cells::new(alloc),
+        hazards: None,
         snakes: Snakes::from_vec(snakes),
     }
 }

@@ -12,7 +12,7 @@ use Rattle.bs_board.specs.declared.commands.command.Word.TheVariants as word
 use Rattle.bs_board.specs.declared.commands.reply.Reply.TheVariants.{Shown}
 use Rattle.bs_board.specs.commands.Orders.{orders_of}
 use Rattle.bs_board.specs.plans.Plan.{GameRow}
-use Rattle.bs_board.specs.records.Record.{record_of, snake_record}
+use Rattle.bs_board.specs.records.Record.{hazard_bytes, record_of, snake_record}
 use Rattle.bs_modes.specs.FirstBoard.{first_board}
 use Rattle.bs_food.specs.Spawning.{spawned}
 use Rattle.bs_rules.specs.Collision.{collides, collision_verdict, killer_among}
@@ -42,7 +42,7 @@ abbrev snake_on : ℕ → List Point → Snake
 snake_on health body = record { id = codes "s"; body = body; health = health; cause = None; killer = None; out = None }
 
 abbrev board_of : ℕ → Snake → Board
-board_of turn s = record { mode = Solo; width = 5; height = 5; turn = turn; min_food = 0; chance = 0; food = []; snakes = s ∷ [] }
+board_of turn s = record { mode = Solo; width = 5; height = 5; turn = turn; min_food = 0; chance = 0; food = []; hazards = None; snakes = s ∷ [] }
 
 abbrev first : Board
 first = board_of 0 (snake_on 100 (point 1 1 ∷ point 1 1 ∷ point 1 1 ∷ []))
@@ -55,15 +55,15 @@ unfolding turn_of collides killer_among collision_verdict spawned
 second_is = refl
 
 first_charge : game_charge (first ∷ []) ≡ 32
-unfolding record_of snake_record rounded game_charge
+unfolding record_of hazard_bytes snake_record rounded game_charge
 first_charge = refl
 
 second_charge : board_charge second ≡ 32
-unfolding record_of snake_record rounded
+unfolding record_of hazard_bytes snake_record rounded
 second_charge = refl
 
 first_answer : (quota : ℕ) → nat_lt quota 32 ≡ false → answer_to quota [] (command.New solo_setup) ≡ record { reply = Shown word.New first 32; game = first ∷ [] }
-unfolding answer_to reply_to reason_against first_board record_of snake_record rounded game_charge
+unfolding answer_to reply_to reason_against first_board record_of hazard_bytes snake_record rounded game_charge
 first_answer quota fits = rw fits refl
 
 second_answer : (quota : ℕ) → nat_lt quota 64 ≡ false

@@ -289,7 +289,7 @@ changed_added cap quota tag number bytes records packing pool memory wide flatte
 
 pub small_record : (most charge : ℕ) (bytes : List ℕ) → IsFitRecord most charge bytes → rounded (length bytes) ≤ MOST_RECORD_BYTES
 small_record most charge bytes fit =
-    let size : rounded (length bytes) ≤ 161888 = rw fit.is (board_charge_small fit.board fit.legal) in
+    let size : rounded (length bytes) ≤ 166896 = rw fit.is (board_charge_small fit.board fit.legal) in
     omega (arith, size)
 
 pub changed_by : (effect : Effect) (cap quota tag : ℕ) (records : List (List ℕ)) (packing : Packing) (pool : Ledger) (memory : Memory)

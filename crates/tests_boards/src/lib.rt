@@ -13,6 +13,8 @@ mod food;
 #[cfg(test)]
 mod games;
 #[cfg(test)]
+mod hazards;
+#[cfg(test)]
 mod heaps;
 #[cfg(test)]
 mod modes;

@@ -4,7 +4,7 @@ use crate::texts::{board, board_after, order};
 use bs_board::limits::{LAST_TURN, MOST_SNAKES};
 use bs_board::{Board, Move, Snake, is_legal};
 use bs_rules::{collide, feed, finish_turn, first_out, move_snake, move_snakes, turn};
-use bs_samples::{holds, same};
+use bs_samples::{holds, no_orders, same};
 use std::alloc::Global;
 use std::test::Fail;
 
@@ -209,6 +209,6 @@ fn the_rest_of_a_turn(rt: HostRuntime) -> Result<(), Fail> {
     let moved = meeting(alloc)?;
     holds("a turn to come", moved.turn < LAST_TURN)?;
     holds("few snakes", moved.snakes.len() <= MOST_SNAKES)?;
-    let finished = finish_turn(alloc, moved, &[])?;
+    let finished = finish_turn(alloc, moved, &no_orders(alloc))?;
     check_after(alloc, "at the end", &finished, FINISHED)
 }

@@ -52,7 +52,7 @@ fn range(place: usize) -> (u8, u8) {
         1 => (0, 127),
         // health, cause, the killer's seat plus 1
         2 => (0, 100),
-        3 => (0, 5),
+        3 => (0, 6),
         4 => (0, 8),
         // the turn of elimination, at most 10,000: 39 times 256, and 16
         5 => (0, 39),

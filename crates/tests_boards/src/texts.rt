@@ -38,6 +38,7 @@ fn cause(word: &str) -> Option<Cause> {
         "SelfCollision" => Some(Cause::SelfCollision),
         "BodyCollision" => Some(Cause::BodyCollision),
         "HeadCollision" => Some(Cause::HeadCollision),
+        "Hazard" => Some(Cause::Hazard),
         _ => None,
     }
 }
@@ -137,6 +138,7 @@ fn empty(alloc: Global, text: &str) -> Result<Board, Fail> {
         min_food: small(min_food)?,
         chance: 0,
         food: Cells::new(alloc),
+        hazards: None,
         snakes: Snakes::from_vec(Vec::new(alloc)),
     })
 }
@@ -170,6 +172,7 @@ fn emptied(alloc: Global, before: &Board, turn: u8) -> Board {
         min_food: before.min_food,
         chance: before.chance,
         food: Cells::new(alloc),
+        hazards: None,
         snakes: Snakes::from_vec(Vec::new(alloc)),
     }
 }

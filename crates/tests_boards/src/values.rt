@@ -116,17 +116,22 @@ fn a_plan_is_copied(rt: HostRuntime) -> Result<(), Fail> {
 
 #[test]
 fn versions_by_number(rt: HostRuntime) -> Result<(), Fail> {
-    for (number, version, has_wrapped, has_stays) in [
-        (1, Version::One, false, false),
-        (2, Version::Two, true, false),
-        (3, Version::Three, true, true),
+    for (number, version, features) in [
+        (1, Version::One, (false, false, false)),
+        (2, Version::Two, (true, false, false)),
+        (3, Version::Three, (true, true, false)),
+        (5, Version::Five, (true, true, true)),
     ] {
         same("a version", Version::from_number(number), Some(version))?;
         same("its number", u64::from(version.number()), number)?;
-        let has = (version, version.has_wrapped(), version.has_stays());
-        same("its features", has, (version, has_wrapped, has_stays))?;
+        let has = (
+            version.has_wrapped(),
+            version.has_stays(),
+            version.has_hazards(),
+        );
+        same("its features", (version, has), (version, features))?;
     }
-    for number in [0, 4, 257, 258, 259] {
+    for number in [0, 4, 6, 257, 258, 259] {
         let found = (number, Version::from_number(number));
         same("no version", found, (number, None))?;
     }

@@ -48,7 +48,7 @@ fn are_of_memory() -> Result<(), Fail> {
     same(
         "bytes of a record",
         (LONGEST_RECORD, MOST_RECORD_BYTES),
-        (161_885, 262_144),
+        (166_888, 262_144),
     )?;
     same("workers of a core", MOST_WORKERS, 4_294_967_295)
 }

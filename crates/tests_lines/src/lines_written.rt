@@ -141,6 +141,7 @@ fn wide_board(alloc: Global, first: &str) -> Result<Board, AllocError> {
         min_food: 0,
         chance: 10,
         food: cells(alloc, &[(0, 0), (9, 10), (18, 18)])?,
+        hazards: None,
         snakes: Snakes::from_vec(vec![in alloc; outside, struck, living]?),
     })
 }
@@ -356,6 +357,7 @@ fn a_board_is_shown(rt: HostRuntime) -> Result<(), Fail> {
         min_food: 3,
         chance: 15,
         food: cells(alloc, &[(0, 3), (2, 0)])?,
+        hazards: None,
         snakes: Snakes::from_vec(seats_of_all_causes(alloc)?),
     };
     let shown = board_value(alloc, &board)?.to_string(alloc)?;

@@ -1,6 +1,6 @@
 -- A board: what is read is what is written so, and what is written is read again. So a record is of
 -- one board.
-use Rattle.std.proofs.Common.{◌≡◌, ℕ, zero, suc, Bool, true, cond, List, [], ◌∷◌, ◌++◌, length, Option, Some, None, refl, sym, ap, subst, ◌∙◌, append_assoc, arith}
+use Rattle.std.proofs.Common.{◌≡◌, ℕ, zero, suc, Bool, true, cond, List, [], ◌∷◌, ◌++◌, length, Option, Some, None, is_some, refl, sym, ap, subst, ◌∙◌, arith}
 use Rattle.std.specs.Prelude.{nat_eq, Result, Ok, Err, IfOk, MatchResult}
 use Rattle.std.specs.List.{flat_map, list_all, AllByRecursion}
 use Rattle.std.specs.Str.{is_utf8}
@@ -14,21 +14,23 @@ use Rattle.bs_board.specs.declared.records.decode_error.Decode.{Decode}
 use Rattle.bs_board.specs.declared.records.decode_error.Decode.TheVariants.{NotARecord, Memory}
 use Rattle.bs_board.specs.declared.records.decoding.Head.{Head}
 use Rattle.bs_board.specs.declared.boards.point.Point.{Point}
+use Rattle.bs_board.specs.declared.boards.hazards.Hazards.{Hazards}
 use Rattle.bs_board.specs.declared.boards.snake.Snake.{Snake}
 use Rattle.bs_board.specs.boards.Legal.{IsLegal, EachSeat}
-use Rattle.bs_board.specs.records.Decoder.{◌>>=◌, Fails, mode_from_bytes, from_two_bytes, read_cell, read_many, read_snake, read_head, read_board}
-use Rattle.bs_board.specs.records.Record.{two_bytes, mode_byte, version_byte, cell_bytes, snake_record, head_bytes, record_of}
+use Rattle.bs_board.specs.records.Decoder.{◌>>=◌, Fails, kind_from_bytes, from_two_bytes, read_cell, read_many, read_snake, read_hazards, read_head, read_board}
+use Rattle.bs_board.specs.records.Record.{two_bytes, mode_byte, version_byte, cell_bytes, snake_record, head_bytes, hazard_bytes, record_of}
 use Rattle.bs_board.specs.records.Writing.{IsByteCell, IsWritable, IsWritableBoard}
 use Rattle.bs_board.proofs.Chains.{and_both}
-use Rattle.bs_board.proofs.records.Fields.{AreBytes, bind_some, some_is, along, carried, Takes, takes_both, high_back, low_back, number_again, mode_back, mode_again, cell_takes, cell_again}
+use Rattle.bs_board.proofs.records.Fields.{AreBytes, bind_some, some_is, along, carried, Takes, takes_both, high_back, low_back, number_again, kind_back, kind_again, cell_takes, cell_again}
 use Rattle.bs_board.proofs.records.SnakeRecord.{snake_takes, snake_again}
+use Rattle.bs_board.proofs.records.HazardRecord.{hazards_take, hazards_again, regrouped}
 use Rattle.bs_board.proofs.records.Repeats.{many_takes, many_again}
 use Rattle.bs_board.proofs.records.Writable.{legal_is_writable}
 
 -- ---- the bytes before the cells of the food
 
 abbrev head_text : Head → List ℕ
-head_text h = (version_byte h.mode ∷ mode_byte h.mode ∷ h.width ∷ h.height ∷ two_bytes h.turn) ++ (h.min_food ∷ h.chance ∷ h.snakes ∷ two_bytes h.food)
+head_text h = (version_byte h.hazardous h.mode ∷ mode_byte h.mode ∷ h.width ∷ h.height ∷ two_bytes h.turn) ++ (h.min_food ∷ h.chance ∷ h.snakes ∷ two_bytes h.food)
 
 head_takes : (bytes : List ℕ) (head : Head) (rest : List ℕ) → AreBytes bytes → read_head bytes ≡ Some (head, rest) → Takes bytes (head_text head) rest
 unfolding read_head
@@ -44,8 +46,9 @@ head_takes (v ∷ a ∷ b ∷ c ∷ d ∷ f ∷ g ∷ h ∷ []) head rest fits e
 head_takes (v ∷ a ∷ b ∷ c ∷ d ∷ f ∷ g ∷ h ∷ i ∷ []) head rest fits e = absurd cc
 head_takes (v ∷ a ∷ b ∷ c ∷ d ∷ f ∷ g ∷ h ∷ i ∷ j ∷ []) head rest fits e = absurd cc
 head_takes (v ∷ mode ∷ width ∷ height ∷ th ∷ tl ∷ min_food ∷ chance ∷ snakes ∷ fh ∷ fl ∷ after) head rest fits e =
-    let made : Mode → Head = λ m. record {
-      mode = m;
+    let made : Bool × Mode → Head = λ kind. record {
+      hazardous = kind.0;
+      mode = kind.1;
       width = width;
       height = height;
       turn = from_two_bytes th tl;
@@ -54,16 +57,17 @@ head_takes (v ∷ mode ∷ width ∷ height ∷ th ∷ tl ∷ min_food ∷ chanc
       snakes = snakes;
       food = from_two_bytes fh fl;
     } in
-    let b = bind_some (mode_from_bytes v mode) (λ m. Some (made m, after)) (head, rest) e in
+    let b = bind_some (kind_from_bytes v mode) (λ kind. Some (made kind, after)) (head, rest) e in
     let bytes : List ℕ = v ∷ mode ∷ width ∷ height ∷ th ∷ tl ∷ min_food ∷ chance ∷ snakes ∷ fh ∷ fl ∷ after in
     let here : Takes bytes (head_text (made b.0)) after = record {
-      parts = let pair = mode_back v mode b.0 b.1 in rw (pair.0, pair.1, high_back th tl (fits 5), low_back th tl (fits 5), high_back fh fl (fits 10), low_back fh fl (fits 10)) refl;
+      parts = let pair = kind_back v mode b.0 b.1 in rw (pair.0, pair.1, high_back th tl (fits 5), low_back th tl (fits 5), high_back fh fl (fits 10), low_back fh fl (fits 10)) refl;
       rest_fits = λ i. fits (suc (suc (suc (suc (suc (suc (suc (suc (suc (suc (suc i)))))))))));
     } in
     carried (λ (r : Head × List ℕ). Takes bytes (head_text r.0) r.1) (made b.0, after) (head, rest) b.2 here
 
 abbrev head_of_board : Board → Head
 head_of_board b = record {
+  hazardous = is_some b.hazards;
   mode = b.mode;
   width = b.width;
   height = b.height;
@@ -76,12 +80,12 @@ head_of_board b = record {
 
 pub head_again : (b : Board) (rest : List ℕ) → read_head (head_bytes b ++ rest) ≡ Some (head_of_board b, rest)
 unfolding read_head
-head_again b rest = rw (mode_again b.mode, number_again b.turn, number_again (length b.food)) refl
+head_again b rest = rw (kind_again (is_some b.hazards) b.mode, number_again b.turn, number_again (length b.food)) refl
 
 -- ---- the board
 
-abbrev board_of : Head → List Point → List Snake → Board
-board_of h food snakes = record {
+abbrev board_of : Head → List Point → Option Hazards → List Snake → Board
+board_of h food hazards snakes = record {
   mode = h.mode;
   width = h.width;
   height = h.height;
@@ -89,20 +93,25 @@ board_of h food snakes = record {
   min_food = h.min_food;
   chance = h.chance;
   food = food;
+  hazards = hazards;
   snakes = snakes;
 }
 
 -- what was taken, with its counts, is all of the record
-read_whole : (bytes : List ℕ) (h : Head) (after_head : List ℕ) (food : List Point) (after_food : List ℕ) (snakes : List Snake) (rest : List ℕ)
-    → Takes bytes (head_text h) after_head → Takes after_head (flat_map (cell_bytes 0) food) after_food → Takes after_food (flat_map snake_record snakes) rest
-    → length food ≡ h.food → length snakes ≡ h.snakes → rest ≡ [] → bytes ≡ record_of (board_of h food snakes)
+read_whole : (bytes : List ℕ) (h : Head) (after_head : List ℕ) (food : List Point) (after_food : List ℕ) (hazards : Option Hazards) (after_hazards : List ℕ)
+    (snakes : List Snake) (rest : List ℕ)
+    → Takes bytes (head_text h) after_head → Takes after_head (flat_map (cell_bytes 0) food) after_food → Takes after_food (hazard_bytes hazards) after_hazards
+    → Takes after_hazards (flat_map snake_record snakes) rest
+    → length food ≡ h.food → is_some hazards ≡ h.hazardous → length snakes ≡ h.snakes → rest ≡ [] → bytes ≡ record_of (board_of h food hazards snakes)
 unfolding record_of
-read_whole bytes h after_head food after_food snakes rest p q r food_count snake_count none =
-    let front = takes_both bytes (head_text h) after_head (flat_map (cell_bytes 0) food) after_food p q in
-    let all = takes_both bytes (head_text h ++ flat_map (cell_bytes 0) food) after_food (flat_map snake_record snakes) rest front r in
-    let ended : bytes ≡ (head_text h ++ flat_map (cell_bytes 0) food) ++ flat_map snake_record snakes =
-    all.parts ∙ rw none (append-nil ((head_text h ++ flat_map (cell_bytes 0) food) ++ flat_map snake_record snakes)) in
-    rw (food_count, snake_count) ended
+read_whole bytes h after_head food after_food hazards after_hazards snakes rest p q o r food_count kind snake_count none =
+    let front = head_text h ++ flat_map (cell_bytes 0) food in
+    let two = takes_both bytes (head_text h) after_head (flat_map (cell_bytes 0) food) after_food p q in
+    let three = takes_both bytes front after_food (hazard_bytes hazards) after_hazards two o in
+    let all = takes_both bytes (front ++ hazard_bytes hazards) after_hazards (flat_map snake_record snakes) rest three r in
+    let ended : bytes ≡ (front ++ hazard_bytes hazards) ++ flat_map snake_record snakes =
+    all.parts ∙ rw none (append-nil ((front ++ hazard_bytes hazards) ++ flat_map snake_record snakes)) in
+    rw (food_count, kind, snake_count) ended
 
 -- each snake is writable, and its id a text
 pub both_by_recursion : (is_text : List ℕ → Bool) (snakes : List Snake) → AllByRecursion IsWritable snakes → list_all (λ s. is_text s.id) snakes ≡ true
@@ -116,34 +125,38 @@ board_takes : (is_text : List ℕ → Bool) (bytes : List ℕ) (b : Board) → A
     → (bytes ≡ record_of b) × (list_all (λ s. is_text s.id) b.snakes ≡ true)
 unfolding read_board record_of
 board_takes is_text bytes b fits e =
-    let all_of : Head → List Point → List Snake × List ℕ → Option Board = λ head food snakes. cond (nat_eq (length snakes.1) 0) (Some (board_of head food snakes.0)) None in
-    let a =
-    bind_some (read_head bytes)
-    (λ head. read_many (read_cell 0) head.0.food head.1 >>= λ food. read_many (read_snake is_text) head.0.snakes food.1 >>= all_of head.0 food.0) b e in
-    let c = bind_some (read_many (read_cell 0) a.0.0.food a.0.1) (λ food. read_many (read_snake is_text) a.0.0.snakes food.1 >>= all_of a.0.0 food.0) b a.2 in
-    let d = bind_some (read_many (read_snake is_text) a.0.0.snakes c.0.1) (all_of a.0.0 c.0.0) b c.2 in
-    let g = cond_some (nat_eq (length d.0.1) 0) (board_of a.0.0 c.0.0 d.0.0) b d.2 in
+    let all_of : Head → List Point → Option Hazards → List Snake × List ℕ → Option Board =
+    λ head food hazards snakes. cond (nat_eq (length snakes.1) 0) (Some (board_of head food hazards snakes.0)) None in
+    let behind : Head → List Point → List ℕ → Option Board =
+    λ head food bytes. read_hazards head.hazardous bytes >>= λ hazards. read_many (read_snake is_text) head.snakes hazards.1 >>= all_of head food hazards.0 in
+    let a = bind_some (read_head bytes) (λ head. read_many (read_cell 0) head.0.food head.1 >>= λ food. behind head.0 food.0 food.1) b e in
+    let c = bind_some (read_many (read_cell 0) a.0.0.food a.0.1) (λ food. behind a.0.0 food.0 food.1) b a.2 in
+    let h = bind_some (read_hazards a.0.0.hazardous c.0.1) (λ hazards. read_many (read_snake is_text) a.0.0.snakes hazards.1 >>= all_of a.0.0 c.0.0 hazards.0) b c.2 in
+    let d = bind_some (read_many (read_snake is_text) a.0.0.snakes h.0.1) (all_of a.0.0 c.0.0 h.0.0) b h.2 in
+    let g = cond_some (nat_eq (length d.0.1) 0) (board_of a.0.0 c.0.0 h.0.0 d.0.0) b d.2 in
     let head = head_takes bytes a.0.0 a.0.1 fits a.1 in
     let food =
     many_takes (read_cell 0) (cell_bytes 0) (λ p. true) (λ bytes p rest fits e. (cell_takes 0 bytes p rest fits e, refl)) a.0.0.food a.0.1 c.0.0 c.0.1
     head.rest_fits c.1 in
-    let snakes = many_takes (read_snake is_text) snake_record (λ s. is_text s.id) (snake_takes is_text) a.0.0.snakes c.0.1 d.0.0 d.0.1 food.0.rest_fits d.1 in
+    let hazards = hazards_take a.0.0.hazardous c.0.1 h.0.0 h.0.1 food.0.rest_fits h.1 in
+    let snakes = many_takes (read_snake is_text) snake_record (λ s. is_text s.id) (snake_takes is_text) a.0.0.snakes h.0.1 d.0.0 d.0.1 hazards.0.rest_fits d.1 in
     let none : d.0.1 ≡ [] = nil_from_length d.0.1 (eqb-true (length d.0.1) 0 g.0) in
-    let whole = read_whole bytes a.0.0 a.0.1 c.0.0 c.0.1 d.0.0 d.0.1 head food.0 snakes.0 food.1 snakes.1 none in
-    along (λ (b : Board). (bytes ≡ record_of b) × (list_all (λ s. is_text s.id) b.snakes ≡ true)) (board_of a.0.0 c.0.0 d.0.0) b g.1 (whole, snakes.2)
+    let whole = read_whole bytes a.0.0 a.0.1 c.0.0 c.0.1 h.0.0 h.0.1 d.0.0 d.0.1 head food.0 hazards.0 snakes.0 food.1 hazards.1 snakes.1 none in
+    along (λ (b : Board). (bytes ≡ record_of b) × (list_all (λ s. is_text s.id) b.snakes ≡ true)) (board_of a.0.0 c.0.0 h.0.0 d.0.0) b g.1 (whole, snakes.2)
 
 board_again : (is_text : List ℕ → Bool) (b : Board) → IsWritableBoard b → list_all (λ s. is_text s.id) b.snakes ≡ true → read_board is_text (record_of b) ≡ Some b
 unfolding read_board record_of
 board_again is_text b fits texts =
     let P : Snake → Type 0 = λ s. IsWritable s × (is_text s.id ≡ true) in
-    let food = many_again (read_cell 0) (cell_bytes 0) (IsByteCell 0) (cell_again 0) b.food (flat_map snake_record b.snakes ++ [])
+    let seats = flat_map snake_record b.snakes ++ [] in
+    let food = many_again (read_cell 0) (cell_bytes 0) (IsByteCell 0) (cell_again 0) b.food (hazard_bytes b.hazards ++ seats)
     (recursion_from_All (IsByteCell 0) b.food fits.cells) in
     let snakes = many_again (read_snake is_text) snake_record P (snake_again is_text) b.snakes []
     (both_by_recursion is_text b.snakes (recursion_from_All IsWritable b.snakes fits.snakes) texts) in
-    let regrouped : record_of b ≡ head_bytes b ++ (flat_map (cell_bytes 0) b.food ++ (flat_map snake_record b.snakes ++ [])) =
-    append_assoc (head_bytes b) (flat_map (cell_bytes 0) b.food) (flat_map snake_record b.snakes)
-    ∙ ap (λ (t : List ℕ). head_bytes b ++ (flat_map (cell_bytes 0) b.food ++ t)) (sym (append-nil (flat_map snake_record b.snakes))) in
-    ap (read_board is_text) regrouped ∙ rw (head_again b (flat_map (cell_bytes 0) b.food ++ (flat_map snake_record b.snakes ++ [])), food, snakes) refl
+    let hazards = hazards_again b.hazards seats fits.hazards in
+    let parts : record_of b ≡ head_bytes b ++ (flat_map (cell_bytes 0) b.food ++ (hazard_bytes b.hazards ++ seats)) =
+    regrouped b ∙ ap (λ (t : List ℕ). head_bytes b ++ (flat_map (cell_bytes 0) b.food ++ (hazard_bytes b.hazards ++ t))) (sym (append-nil (flat_map snake_record b.snakes))) in
+    ap (read_board is_text) parts ∙ rw (head_again b (flat_map (cell_bytes 0) b.food ++ (hazard_bytes b.hazards ++ seats)), food, hazards, snakes) refl
 
 -- ---- the laws
 

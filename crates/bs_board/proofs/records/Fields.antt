@@ -9,8 +9,8 @@ use Rattle.bs_board.specs.declared.boards.board.Mode.{Mode}
 use Rattle.bs_board.specs.declared.boards.board.Mode.TheVariants.{Standard, Solo, Constrictor, Wrapped}
 use Rattle.bs_board.specs.declared.boards.point.Point.{Point}
 use Rattle.bs_board.specs.declared.boards.snake.Cause.{Cause}
-use Rattle.bs_board.specs.declared.boards.snake.Cause.TheVariants.{OutOfHealth, WallCollision, SelfCollision, BodyCollision, HeadCollision}
-use Rattle.bs_board.specs.records.Decoder.{◌>>=◌, mode_from_bytes, cause_from_byte, killer_from_byte, out_from_number, from_two_bytes, read_cell}
+use Rattle.bs_board.specs.declared.boards.snake.Cause.TheVariants.{OutOfHealth, WallCollision, SelfCollision, BodyCollision, HeadCollision, Hazard}
+use Rattle.bs_board.specs.records.Decoder.{◌>>=◌, all_kinds, kind_from_bytes, cause_from_byte, killer_from_byte, out_from_number, from_two_bytes, read_cell}
 use Rattle.bs_board.specs.records.Record.{mode_byte, version_byte, cause_byte, killer_byte, cell_bytes}
 use Rattle.bs_board.specs.records.Writing.{IsByteCell}
 use Rattle.bs_board.proofs.Chains.{and_both}
@@ -71,24 +71,29 @@ find_passes {X = X} test (y ∷ xs) x found =
           find_passes test xs x (sym here ∙ found)
     ]
 
-pub mode_back : (version byte : ℕ) (mode : Mode) → mode_from_bytes version byte ≡ Some mode → (version_byte mode ≡ version) × (mode_byte mode ≡ byte)
-mode_back version byte mode found =
+pub kind_back : (version byte : ℕ) (kind : Bool × Mode) → kind_from_bytes version byte ≡ Some kind
+    → (version_byte kind.0 kind.1 ≡ version) × (mode_byte kind.1 ≡ byte)
+kind_back version byte kind found =
     let both =
-    and_both (nat_eq (version_byte mode) version) (nat_eq (mode_byte mode) byte)
-    (find_passes (λ m. nat_eq (version_byte m) version && nat_eq (mode_byte m) byte) (Standard ∷ Solo ∷ Constrictor ∷ Wrapped ∷ []) mode found) in
-    (eqb-true (version_byte mode) version both.0, eqb-true (mode_byte mode) byte both.1)
+    and_both (nat_eq (version_byte kind.0 kind.1) version) (nat_eq (mode_byte kind.1) byte)
+    (find_passes (λ k. nat_eq (version_byte k.0 k.1) version && nat_eq (mode_byte k.1) byte) all_kinds kind found) in
+    (eqb-true (version_byte kind.0 kind.1) version both.0, eqb-true (mode_byte kind.1) byte both.1)
 
-pub mode_again : (mode : Mode) → mode_from_bytes (version_byte mode) (mode_byte mode) ≡ Some mode
-mode_again Standard = refl
-mode_again Solo = refl
-mode_again Constrictor = refl
-mode_again Wrapped = refl
+pub kind_again : (hazardous : Bool) (mode : Mode) → kind_from_bytes (version_byte hazardous mode) (mode_byte mode) ≡ Some (hazardous, mode)
+kind_again false Standard = refl
+kind_again false Solo = refl
+kind_again false Constrictor = refl
+kind_again false Wrapped = refl
+kind_again true Standard = refl
+kind_again true Solo = refl
+kind_again true Constrictor = refl
+kind_again true Wrapped = refl
 
 pub cause_back : (byte : ℕ) (cause : Option Cause) → cause_from_byte byte ≡ Some cause → cause_byte cause ≡ byte
 cause_back byte cause found =
     eqb-true (cause_byte cause) byte
     (find_passes (λ c. nat_eq (cause_byte c) byte)
-    (None ∷ Some OutOfHealth ∷ Some WallCollision ∷ Some SelfCollision ∷ Some BodyCollision ∷ Some HeadCollision ∷ []) cause found)
+    (None ∷ Some OutOfHealth ∷ Some WallCollision ∷ Some SelfCollision ∷ Some BodyCollision ∷ Some HeadCollision ∷ Some Hazard ∷ []) cause found)
 
 pub cause_again : (cause : Option Cause) → cause_from_byte (cause_byte cause) ≡ Some cause
 cause_again None = refl
@@ -97,6 +102,7 @@ cause_again (Some WallCollision) = refl
 cause_again (Some SelfCollision) = refl
 cause_again (Some BodyCollision) = refl
 cause_again (Some HeadCollision) = refl
+cause_again (Some Hazard) = refl
 
 pub killer_back : (byte : ℕ) → killer_byte (killer_from_byte byte) ≡ byte
 killer_back byte =

@@ -1,5 +1,5 @@
 -- Reading a record that is known to be a legal board's.
-use Rattle.std.proofs.Common.{◌≡◌, ℕ, zero, suc, ◌-◌, ◌≤◌, true, List, [], ◌∷◌, ◌++◌, length, take, drop, min, Option, Some, Result, Ok, Err, refl, sym, ap, ap₂, subst, ◌∙◌, append_assoc, arith}
+use Rattle.std.proofs.Common.{◌≡◌, ℕ, zero, suc, ◌-◌, ◌≤◌, true, List, [], ◌∷◌, ◌++◌, length, take, drop, min, Option, Some, Result, Ok, Err, refl, sym, ap, ap₂, subst, ◌∙◌, arith}
 use Rattle.std.specs.Prelude.{IfOk, IfErr, MatchResult, unwrap_or}
 use Rattle.std.specs.List.{flat_map, AllByRecursion}
 use Rattle.std.specs.Str.{is_utf8}
@@ -15,10 +15,11 @@ use Rattle.bs_board.specs.boards.Legal.{IsLegal}
 use Rattle.bs_board.specs.records.Decoder.{Fails, Gives, read_cell, read_many, read_snake, read_board, read_ground}
 use Rattle.bs_board.specs.records.Layout.{IsBoardBytes}
 use Rattle.bs_board.specs.records.Kept.{IsLegalRecord, board_in}
-use Rattle.bs_board.specs.records.Record.{cell_bytes, snake_record, head_bytes, record_of}
+use Rattle.bs_board.specs.records.Record.{cell_bytes, snake_record, hazard_bytes, record_of}
 use Rattle.bs_board.specs.records.Writing.{IsByteCell, IsWritable, IsWritableBoard}
 use Rattle.bs_board.proofs.records.BoardRecord.{head_again, legal_texts, both_by_recursion, record_is_read}
 use Rattle.bs_board.proofs.records.Fields.{cell_again}
+use Rattle.bs_board.proofs.records.HazardRecord.{hazards_again, regrouped}
 use Rattle.bs_board.proofs.records.Repeats.{many_again, some_again}
 use Rattle.bs_board.proofs.records.SnakeRecord.{snake_again}
 use Rattle.bs_board.proofs.records.Writable.{legal_is_writable}
@@ -75,16 +76,14 @@ record_of_board_in bytes kept = kept.is ∙ ap record_of (sym (only_board_in byt
 
 -- ---- the board without its snakes
 
-regrouped : (b : Board) → record_of b ≡ head_bytes b ++ (flat_map (cell_bytes 0) b.food ++ flat_map snake_record b.snakes)
-unfolding record_of
-regrouped b = append_assoc (head_bytes b) (flat_map (cell_bytes 0) b.food) (flat_map snake_record b.snakes)
-
 ground_again : (b : Board) → IsWritableBoard b → read_ground (record_of b) ≡ Some (record b { snakes = [] })
 unfolding read_ground
 ground_again b fits =
-    let food = many_again (read_cell 0) (cell_bytes 0) (IsByteCell 0) (cell_again 0) b.food (flat_map snake_record b.snakes)
+    let seats = flat_map snake_record b.snakes in
+    let food = many_again (read_cell 0) (cell_bytes 0) (IsByteCell 0) (cell_again 0) b.food (hazard_bytes b.hazards ++ seats)
     (recursion_from_All (IsByteCell 0) b.food fits.cells) in
-    ap read_ground (regrouped b) ∙ rw (head_again b (flat_map (cell_bytes 0) b.food ++ flat_map snake_record b.snakes), food) refl
+    let hazards = hazards_again b.hazards seats fits.hazards in
+    ap read_ground (regrouped b) ∙ rw (head_again b (flat_map (cell_bytes 0) b.food ++ (hazard_bytes b.hazards ++ seats)), food, hazards) refl
 
 ground_stands : (bytes : List ℕ) (b : Board) → IsLegal b → bytes ≡ record_of b → read_ground bytes ≡ Some (record b { snakes = [] })
 ground_stands bytes b legal is = ap read_ground is ∙ ground_again b (legal_is_writable b legal)

@@ -1,13 +1,16 @@
 -- Where the parts of a record lie in its bytes.
-use Rattle.std.proofs.Common.{◌≡◌, ℕ, ◌-◌, ◌*◌, ◌≤◌, List, ◌∷◌, ◌++◌, length, take, drop, refl, sym, ap, ◌∙◌, append_assoc, arith, length-append}
+use Rattle.std.proofs.Common.{◌≡◌, ℕ, ◌-◌, ◌*◌, ◌≤◌, Bool, true, false, Option, Some, None, is_some, List, [], ◌∷◌, ◌++◌, length, take, drop, refl, sym, ap, ◌∙◌, append_assoc, arith, length-append}
 use Rattle.std.specs.Prelude.{flat_map, slice_index_or, unwrap_or}
 use Rattle.std.proofs.lemmas.List.{drop_at, length-drop, take_all, take_at}
 use Rattle.bs_board.specs.declared.boards.board.Board.{Board}
+use Rattle.bs_board.specs.declared.boards.hazards.Hazards.{Hazards}
 use Rattle.bs_board.specs.declared.boards.point.Point.{Point}
 use Rattle.bs_board.specs.declared.boards.snake.Snake.{Snake}
 use Rattle.bs_board.specs.records.Decoder.{from_two_bytes}
-use Rattle.bs_board.specs.records.Record.{cause_byte, killer_byte, mode_byte, version_byte, cell_bytes, head_bytes, record_of, snake_record, state_bytes}
+use Rattle.bs_board.specs.records.Layout.{cells_of, damage_of}
+use Rattle.bs_board.specs.records.Record.{cause_byte, killer_byte, mode_byte, version_byte, cell_bytes, head_bytes, hazard_bytes, record_of, snake_record, state_bytes}
 use Rattle.bs_board.proofs.records.Fields.{number_again}
+use Rattle.bs_board.proofs.records.HazardRecord.{regrouped}
 use Rattle.bs_board.proofs.records.Lengths.{length_of_pairs}
 
 -- a pattern's rest is all that follows
@@ -68,6 +71,33 @@ state_parts s rest bytes is =
       left = rest_is 7 bytes ∙ ap (drop 7) is;
     }
 
+-- ---- the hazards
+
+pub no_hazards_are_split : (h : Option Hazards) (rest bytes : List ℕ) (hazardous : Bool) → hazardous ≡ false → hazardous ≡ is_some h → bytes ≡ hazard_bytes h ++ rest
+    → (0 ≡ damage_of h) × (◌≡◌ {A = List ℕ} [] (flat_map (cell_bytes 0) (cells_of h))) × (bytes ≡ rest)
+unfolding hazard_bytes
+no_hazards_are_split None rest bytes hazardous none kind is = (refl, refl, is)
+no_hazards_are_split (Some h) rest bytes hazardous none kind is = let wrong : false ≡ true = sym none ∙ kind in absurd cc
+
+-- the hazards have some bytes
+pub some_hazards : (h : Option Hazards) (rest bytes : List ℕ) (hazardous : Bool) → hazardous ≡ true → hazardous ≡ is_some h → bytes ≡ hazard_bytes h ++ rest
+    → 3 ≤ length bytes
+unfolding hazard_bytes
+some_hazards None rest bytes hazardous some kind is = let wrong : true ≡ false = sym some ∙ kind in absurd cc
+some_hazards (Some h) rest bytes hazardous some kind is = rw is (omega arith)
+
+pub hazards_are_split : (h : Option Hazards) (rest bytes cells behind : List ℕ) (hazardous : Bool) (count : ℕ) → hazardous ≡ true → hazardous ≡ is_some h
+    → bytes ≡ hazard_bytes h ++ rest → count ≡ from_two_bytes (slice_index_or bytes 1 0) (slice_index_or bytes 2 0)
+    → cells ≡ take (2 * count) (take (length bytes - 3) (drop 3 bytes)) → behind ≡ drop (2 * count) (take (length bytes - 3) (drop 3 bytes))
+    → (slice_index_or bytes 0 0 ≡ damage_of h) × (cells ≡ flat_map (cell_bytes 0) (cells_of h)) × (behind ≡ rest)
+unfolding hazard_bytes
+hazards_are_split None rest bytes cells behind hazardous count some kind is many first after = let wrong : true ≡ false = sym some ∙ kind in absurd cc
+hazards_are_split (Some h) rest bytes cells behind hazardous count some kind is many first after =
+    let number : from_two_bytes (slice_index_or bytes 1 0) (slice_index_or bytes 2 0) ≡ length h.cells = rw is (number_again (length h.cells)) in
+    let left : take (length bytes - 3) (drop 3 bytes) ≡ flat_map (cell_bytes 0) h.cells ++ rest = rest_is 3 bytes ∙ ap (drop 3) is in
+    let cut = cut_cells 0 h.cells rest (take (length bytes - 3) (drop 3 bytes)) cells behind count left (many ∙ number) first after in
+    (rw is refl, cut.0, cut.1)
+
 -- ---- a board
 
 -- a board has the bytes of its numbers
@@ -81,7 +111,7 @@ head_fits b bytes is =
 
 -- the numbers before the cells of the food
 pub record HeadParts (b : Board) (bytes : List ℕ) : Type 0 where
-  pub version : slice_index_or bytes 0 0 ≡ version_byte b.mode
+  pub version : slice_index_or bytes 0 0 ≡ version_byte (is_some b.hazards) b.mode
   pub mode : slice_index_or bytes 1 0 ≡ mode_byte b.mode
   pub width : slice_index_or bytes 2 0 ≡ b.width
   pub height : slice_index_or bytes 3 0 ≡ b.height
@@ -90,12 +120,12 @@ pub record HeadParts (b : Board) (bytes : List ℕ) : Type 0 where
   pub chance : slice_index_or bytes 7 0 ≡ b.chance
   pub seats : slice_index_or bytes 8 0 ≡ length b.snakes
   pub food : from_two_bytes (slice_index_or bytes 9 0) (slice_index_or bytes 10 0) ≡ length b.food
-  pub left : take (length bytes - 11) (drop 11 bytes) ≡ flat_map (cell_bytes 0) b.food ++ flat_map snake_record b.snakes
+  pub left : take (length bytes - 11) (drop 11 bytes) ≡ flat_map (cell_bytes 0) b.food ++ (hazard_bytes b.hazards ++ flat_map snake_record b.snakes)
 
 pub head_parts : (b : Board) (bytes : List ℕ) → bytes ≡ record_of b → HeadParts b bytes
 unfolding record_of
 head_parts b bytes is =
-    let whole = is ∙ append_assoc (head_bytes b) (flat_map (cell_bytes 0) b.food) (flat_map snake_record b.snakes) in
+    let whole = is ∙ regrouped b in
     record {
       version = rw whole refl;
       mode = rw whole refl;

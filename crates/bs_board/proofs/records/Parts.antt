@@ -8,7 +8,7 @@ use Rattle.bs_board.specs.declared.boards.point.Point.{Point}
 use Rattle.bs_board.specs.declared.boards.board.Board.{Board}
 use Rattle.bs_board.specs.boards.Cell.{origin}
 use Rattle.bs_board.specs.declared.boards.snake.Snake.{Snake}
-use Rattle.bs_board.specs.records.Record.{cell_bytes, state_bytes, snake_record, head_bytes, record_of}
+use Rattle.bs_board.specs.records.Record.{cell_bytes, state_bytes, snake_record, head_bytes, hazard_bytes, record_of}
 use Rattle.bs_board.specs.records.Writing.{Puts}
 use Rattle.bs_board.proofs.records.Lengths.{length_of_pairs}
 
@@ -58,12 +58,15 @@ puts_snake s state at first second next old a b new is id numbers body =
     rw (← is) all
 
 -- the parts of a board, one after the other
-pub puts_board : (b : Board) (first second next : ℕ) (old x y new : List ℕ) → Puts 0 (head_bytes b) old x first
-    → Puts first (flat_map (cell_bytes 0) b.food) x y second → Puts second (flat_map snake_record b.snakes) y new next
+pub puts_board : (b : Board) (first second third next : ℕ) (old x y z new : List ℕ) → Puts 0 (head_bytes b) old x first
+    → Puts first (flat_map (cell_bytes 0) b.food) x y second → Puts second (hazard_bytes b.hazards) y z third
+    → Puts third (flat_map snake_record b.snakes) z new next
     → length old ≡ length (record_of b) → new ≡ record_of b
 unfolding record_of
-puts_board b first second next old x y new head food snakes same =
-    let front = puts_both 0 first second (head_bytes b) (flat_map (cell_bytes 0) b.food) old x y head food in
-    let all = puts_both 0 second next (head_bytes b ++ flat_map (cell_bytes 0) b.food) (flat_map snake_record b.snakes) old y new front snakes in
+puts_board b first second third next old x y z new head food hazards snakes same =
+    let front = head_bytes b ++ flat_map (cell_bytes 0) b.food in
+    let two = puts_both 0 first second (head_bytes b) (flat_map (cell_bytes 0) b.food) old x y head food in
+    let three = puts_both 0 second third front (hazard_bytes b.hazards) old y z two hazards in
+    let all = puts_both 0 third next (front ++ hazard_bytes b.hazards) (flat_map snake_record b.snakes) old z new three snakes in
     let whole : length new ≤ next = omega (arith, all.place, all.room) in
     sym (take_all next new whole) ∙ all.front

@@ -7,17 +7,19 @@ use Rattle.std.proofs.lemmas.List.Sums.{AllPass-from_list_all}
 use Rattle.std.proofs.lemmas.Nat.{mul-le}
 use Rattle.bs_board.specs.declared.boards.board.Board.{Board}
 use Rattle.bs_board.specs.declared.boards.point.Point.{Point}
+use Rattle.bs_board.specs.declared.boards.hazards.Hazards.{Hazards}
 use Rattle.bs_board.specs.declared.boards.snake.Snake.{Snake}
 use Rattle.bs_board.specs.declared.boards.snake.Cause.{Cause}
-use Rattle.bs_board.specs.declared.boards.snake.Cause.TheVariants.{OutOfHealth, WallCollision, SelfCollision, BodyCollision, HeadCollision}
+use Rattle.bs_board.specs.declared.boards.snake.Cause.TheVariants.{OutOfHealth, WallCollision, SelfCollision, BodyCollision, HeadCollision, Hazard}
 use Rattle.bs_board.specs.boards.Cell.{head_of, is_on_board}
 use Rattle.bs_board.specs.boards.Legal.{IsLegal, IsLegalSnake, IsLegalLiving, IsLegalOut, IsKillerOf, IsTurnBy, is_near, is_head_of}
+use Rattle.bs_board.specs.boards.Hazards.{are_fit_hazards}
 use Rattle.bs_board.specs.boards.Wrap.{is_wrapped}
-use Rattle.bs_board.specs.records.Writing.{IsByte, IsByteCell, IsWritable, IsWritableBoard}
+use Rattle.bs_board.specs.records.Writing.{AreWritableHazards, IsByte, IsByteCell, IsWritable, IsWritableBoard}
 use Rattle.bs_board.proofs.Utf8.{short_text}
 use Rattle.bs_board.proofs.Chains.{and_both}
 use Rattle.bs_board.proofs.boards.CellsOnBoard.{cells_on_board}
-use Rattle.bs_board.proofs.records.Longest.{side_fits}
+use Rattle.bs_board.proofs.records.Longest.{few_hazards, side_fits}
 
 on_side_is_byte : (z : ℤ) (n : ℕ) → n ≤ 25 → int_le (pos 0) z ≡ true → int_lt z (pos n) ≡ true → IsByte (z +ℤ pos 0) × IsByte (z +ℤ pos 1)
 on_side_is_byte z n few low high = ((grind (arith, ints), grind (arith, ints)), (grind (arith, ints), grind (arith, ints)))
@@ -50,6 +52,7 @@ out_is_byte WallCollision false width height p wide high head = near_is_byte wid
 out_is_byte SelfCollision wraps width height p wide high head = (on_board_is_byte width height p wide high head).1
 out_is_byte BodyCollision wraps width height p wide high head = (on_board_is_byte width height p wide high head).1
 out_is_byte HeadCollision wraps width height p wide high head = (on_board_is_byte width height p wide high head).1
+out_is_byte Hazard wraps width height p wide high head = (on_board_is_byte width height p wide high head).1
 
 head_is_byte : (b : Board) (seat : ℕ) (s : Snake) (cause : Option Cause) → b.width ≤ 25 → b.height ≤ 25 → MatchOption cause (IsLegalLiving b s) (IsLegalOut b seat s)
     → IsByteCell 1 (head_of s.body)
@@ -77,6 +80,7 @@ killer_fits WallCollision seats seat killer few within is = killer_of_none kille
 killer_fits SelfCollision seats seat killer few within is = killer_of_seat seats seat killer few within is
 killer_fits BodyCollision seats seat killer few within is = killer_of_other seats seat killer few is
 killer_fits HeadCollision seats seat killer few within is = killer_of_other seats seat killer few is
+killer_fits Hazard seats seat killer few within is = killer_of_none killer is
 
 killer_is_byte : (b : Board) (seat : ℕ) (s : Snake) (cause : Option Cause) → length b.snakes ≤ 8 → seat < length b.snakes → MatchOption cause (IsLegalLiving b s) (IsLegalOut b seat s)
     → FitsKiller s.killer
@@ -115,6 +119,16 @@ snake_is_writable b seat s wide high turn few within legal =
       cells = all_bytes s.body legal.body.long (head_is_byte b seat s s.cause wide high legal.state) parts;
     }
 
+hazards_are_writable : (width height : ℕ) (hazards : Option Hazards) → width ≤ 25 → height ≤ 25 → are_fit_hazards width height hazards ≡ true → AreWritableHazards hazards
+hazards_are_writable width height None wide high fits = tt
+hazards_are_writable width height (Some h) wide high fits =
+    let few = few_hazards width height h fits in
+    record {
+      few = omega arith;
+      cells = All-weaker (λ p. is_on_board width height p ≡ true) (IsByteCell 0) (λ p on. (on_board_is_byte width height p wide high on).0) h.cells
+          (AllPass-from_list_all _ h.cells (and_both _ _ fits).1);
+    }
+
 pub legal_is_writable : (b : Board) → IsLegal b → IsWritableBoard b
 legal_is_writable b legal =
     let wide : b.width ≤ 25 = side_fits b.width legal.limits.width in
@@ -127,5 +141,6 @@ legal_is_writable b legal =
       few = omega arith;
       food = omega arith;
       cells = All-weaker (λ p. is_on_board b.width b.height p ≡ true) (IsByteCell 0) (λ p on. (on_board_is_byte b.width b.height p wide high on).0) b.food (AllPass-from_list_all _ b.food food.0);
+      hazards = hazards_are_writable b.width b.height b.hazards wide high legal.hazards;
       snakes = λ seat d within. snake_is_writable b seat (get_or b.snakes seat d) wide high legal.limits.turn few within (legal.snakes seat d within);
     }

@@ -1,14 +1,15 @@
 -- The boards that a game can reach.
-use Rattle.std.specs.Prelude.{◌≡◌, ◌≢◌, ℕ, ◌+◌, ◌<◌, ◌≤◌, Bool, true, not, ◌&&◌, if◌then◌else◌, List, length, slice_index_or, drop, All, MatchOption, Some, None, Option, pos, negsuc, int_le}
+use Rattle.std.specs.Prelude.{◌≡◌, ◌≢◌, ℕ, ◌+◌, ◌<◌, ◌≤◌, Bool, true, not, ◌&&◌, if◌then◌else◌, List, length, slice_index_or, drop, All, MatchOption, Some, None, Option, is_some, pos, negsuc, int_le}
 use Rattle.bs_board.specs.declared.boards.point.Point.{Point}
 use Rattle.bs_board.specs.declared.boards.board.Board.{Board}
 use Rattle.bs_board.specs.declared.boards.board.Mode.{Mode}
 use Rattle.bs_board.specs.declared.boards.board.Mode.TheVariants.{Standard, Solo, Constrictor, Wrapped}
 use Rattle.bs_board.specs.declared.boards.snake.Snake.{Snake}
 use Rattle.bs_board.specs.declared.boards.snake.Cause.{Cause}
-use Rattle.bs_board.specs.declared.boards.snake.Cause.TheVariants.{OutOfHealth, WallCollision, SelfCollision, BodyCollision, HeadCollision}
+use Rattle.bs_board.specs.declared.boards.snake.Cause.TheVariants.{OutOfHealth, WallCollision, SelfCollision, BodyCollision, HeadCollision, Hazard}
 use Rattle.bs_board.specs.declared.limits.TheConstants.{FIRST_PARTS, FULL_HEALTH, LAST_TURN, MOST_CHANCE, MOST_MIN_FOOD, MOST_SNAKES}
 use Rattle.bs_board.specs.boards.Cell.{head_of, is_on_board}
+use Rattle.bs_board.specs.boards.Hazards.{are_fit_hazards}
 use Rattle.bs_board.specs.boards.Wrap.{is_wrapped}
 use Rattle.bs_board.specs.Distinct.{are_distinct}
 use Rattle.bs_board.specs.commands.Setup.{is_side, is_fit_food}
@@ -66,6 +67,7 @@ IsHealthOf WallCollision health = (1 ≤ health) × (health ≤ FULL_HEALTH)
 IsHealthOf SelfCollision health = (1 ≤ health) × (health ≤ FULL_HEALTH)
 IsHealthOf BodyCollision health = (1 ≤ health) × (health ≤ FULL_HEALTH)
 IsHealthOf HeadCollision health = (1 ≤ health) × (health ≤ FULL_HEALTH)
+IsHealthOf Hazard health = health ≡ 0
 
 -- where the head may be: on the board or next to it if the snake starved, next to the board if it
 -- hit the wall, on the board after any other cause; on a wrapped board always on the board, and no
@@ -76,6 +78,16 @@ is_head_of wraps WallCollision width height p = not wraps && is_near width heigh
 is_head_of wraps SelfCollision width height p = is_on_board width height p
 is_head_of wraps BodyCollision width height p = is_on_board width height p
 is_head_of wraps HeadCollision width height p = is_on_board width height p
+is_head_of wraps Hazard width height p = is_on_board width height p
+
+-- only hazards eliminate by a hazard
+abbrev pub may_cause : Bool → Cause → Bool
+may_cause hazardous OutOfHealth = true
+may_cause hazardous WallCollision = true
+may_cause hazardous SelfCollision = true
+may_cause hazardous BodyCollision = true
+may_cause hazardous HeadCollision = true
+may_cause hazardous Hazard = hazardous
 
 -- none, the snake itself, or another seat
 abbrev pub IsOtherSeat : ℕ → ℕ → Option ℕ → Type 0
@@ -87,6 +99,7 @@ IsKillerOf WallCollision seats seat killer = killer ≡ None
 IsKillerOf SelfCollision seats seat killer = killer ≡ Some seat
 IsKillerOf BodyCollision seats seat killer = IsOtherSeat seats seat killer
 IsKillerOf HeadCollision seats seat killer = IsOtherSeat seats seat killer
+IsKillerOf Hazard seats seat killer = killer ≡ None
 
 -- the number of a turn that was played
 abbrev pub IsTurnBy : ℕ → Option ℕ → Type 0
@@ -97,6 +110,7 @@ pub record IsLegalOut (b : Board) (seat : ℕ) (s : Snake) (cause : Cause) : Typ
   pub health : IsHealthOf cause s.health
   pub head : is_head_of (is_wrapped b.mode) cause b.width b.height (head_of s.body) ≡ true
   pub killer : IsKillerOf cause (length b.snakes) seat s.killer
+  pub hazard : may_cause (is_some b.hazards) cause ≡ true
 
 pub record IsLegalSnake (b : Board) (seat : ℕ) (s : Snake) : Type 0 where
   pub id : is_short_text s.id ≡ true
@@ -106,5 +120,6 @@ pub record IsLegalSnake (b : Board) (seat : ℕ) (s : Snake) : Type 0 where
 pub record IsLegal (b : Board) : Type 0 where
   pub limits : IsWithinLimits b
   pub food : IsLegalFood b
+  pub hazards : are_fit_hazards b.width b.height b.hazards ≡ true
   pub ids : are_distinct_ids b.snakes ≡ true
   pub snakes : EachSeat (IsLegalSnake b) b.snakes

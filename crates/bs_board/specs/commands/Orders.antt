@@ -1,6 +1,7 @@
 -- The contents of a `move` command, and their limits.
-use Rattle.std.specs.Prelude.{◌≡◌, ℕ, ◌≤◌, ◌<◌, ◌^◌, Bool, true, ◌&&◌, List, [], ◌∷◌, length, All}
+use Rattle.std.specs.Prelude.{◌≡◌, ℕ, ◌≤◌, ◌<◌, ◌^◌, Bool, true, ◌&&◌, List, [], ◌∷◌, length, All, Option, None}
 use Rattle.bs_board.specs.declared.boards.point.Direction.{Direction}
+use Rattle.bs_board.specs.declared.boards.point.Point.{Point}
 use Rattle.bs_board.specs.declared.commands.orders.Move.TheInside.{Inside}
 use Rattle.bs_board.specs.declared.limits.TheConstants.{MOST_WORDS}
 use Rattle.bs_board.specs.Distinct.{are_distinct}
@@ -9,12 +10,17 @@ use Rattle.bs_board.specs.Texts.{IdsAreTexts, is_same_text, is_text_below}
 pub record Orders : Type 0 where
   pub moves : List (List ℕ × Direction)
   pub words : List ℕ
+  -- the hazards from the end of the turn on; none: as before
+  pub hazards : Option (List Point)
+  -- food that is added at the end of the turn
+  pub food : Option (List Point)
 
+-- a move that gives no hazards and no food
 abbrev pub orders_of : List (List ℕ × Direction) → List ℕ → Orders
-orders_of moves words = record { moves = moves; words = words }
+orders_of moves words = record { moves = moves; words = words; hazards = None; food = None }
 
 abbrev pub orders_in : Inside → Orders
-orders_in m = orders_of m.moves m.words
+orders_in m = record { moves = m.moves; words = m.words; hazards = m.hazards; food = m.food }
 
 abbrev pub are_distinct_moves : List (List ℕ × Direction) → Bool
 are_distinct_moves = are_distinct (λ a b. is_same_text a.0 b.0)

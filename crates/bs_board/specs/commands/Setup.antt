@@ -1,10 +1,12 @@
 -- The contents of a `new` command, and their limits.
-use Rattle.std.specs.Prelude.{ℕ, Bool, ◌&&◌, List, length, nat_le}
+use Rattle.std.specs.Prelude.{ℕ, Bool, ◌&&◌, List, length, nat_le, Option, None}
 use Rattle.std.specs.List.{list_all}
 use Rattle.bs_board.specs.declared.boards.point.Point.{Point}
 use Rattle.bs_board.specs.declared.boards.board.Mode.{Mode}
+use Rattle.bs_board.specs.declared.boards.hazards.Hazards.{Hazards}
 use Rattle.bs_board.specs.declared.commands.setup.New.TheInside.{Inside}
 use Rattle.bs_board.specs.declared.limits.TheConstants.{LONGEST_SIDE, MOST_CHANCE, MOST_MIN_FOOD, MOST_SNAKES, SHORTEST_SIDE}
+use Rattle.bs_board.specs.boards.Hazards.{are_fit_hazards}
 use Rattle.bs_board.specs.boards.Cell.{is_same_cell, is_on_board, are_distinct_cells}
 use Rattle.bs_board.specs.Texts.{is_same_text, is_short_text}
 use Rattle.bs_board.specs.Distinct.{are_distinct}
@@ -15,6 +17,7 @@ pub record Setup : Type 0 where
   pub height : ℕ
   pub snakes : List (List ℕ × Point)
   pub food : List Point
+  pub hazards : Option Hazards
   pub min_food : ℕ
   pub chance : ℕ
 
@@ -25,10 +28,12 @@ setup_in n = record {
   height = n.height;
   snakes = n.snakes;
   food = n.food;
+  hazards = n.hazards;
   min_food = n.min_food;
   chance = n.chance;
 }
 
+-- a game without hazards
 abbrev pub setup_of : Mode → ℕ → ℕ → List (List ℕ × Point) → List Point → ℕ → ℕ → Setup
 setup_of mode width height snakes food min_food chance = record {
   mode = mode;
@@ -36,6 +41,7 @@ setup_of mode width height snakes food min_food chance = record {
   height = height;
   snakes = snakes;
   food = food;
+  hazards = None;
   min_food = min_food;
   chance = chance;
 }
@@ -62,3 +68,4 @@ unfoldable pub is_fit_setup : Setup → Bool
 is_fit_setup s =
     is_side s.width && is_side s.height && nat_le s.min_food MOST_MIN_FOOD && nat_le s.chance MOST_CHANCE
     && are_fit_starts s.width s.height s.snakes && is_fit_food s.width s.height s.food
+    && are_fit_hazards s.width s.height s.hazards

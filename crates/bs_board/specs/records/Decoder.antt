@@ -1,7 +1,7 @@
 -- The steps of the decoder, which only the contracts of its private functions cite. For callers
 -- `decode` defines the meaning of bytes: they are the record of a legal board, or of none. A reader
 -- gives a value and the bytes after it, or nothing if there is no value.
-use Rattle.std.specs.Prelude.{◌≡◌, ◌==◌, ℕ, zero, suc, ◌+◌, ◌*◌, ◌-◌, Bool, ◌&&◌, if◌then◌else◌, List, [], ◌∷◌, length, take, drop, find, Option, Some, None, Result, Ok, Err, nat_lt, pos, ◌-ℤ◌}
+use Rattle.std.specs.Prelude.{◌≡◌, ◌==◌, ℕ, zero, suc, ◌+◌, ◌*◌, ◌-◌, Bool, true, false, ◌&&◌, if◌then◌else◌, List, [], ◌∷◌, length, take, drop, find, Option, Some, None, Result, Ok, Err, nat_lt, pos, ◌-ℤ◌}
 use Rattle.bs_board.specs.declared.boards.board.Board.{Board}
 use Rattle.bs_board.specs.declared.boards.board.Mode.{Mode}
 use Rattle.bs_board.specs.declared.boards.board.Mode.TheVariants.{Standard, Solo, Constrictor, Wrapped}
@@ -9,10 +9,11 @@ use Rattle.bs_board.specs.declared.records.decode_error.Decode.{Decode}
 use Rattle.bs_board.specs.declared.records.decode_error.Decode.TheVariants.{NotARecord, Memory}
 use Rattle.bs_board.specs.declared.records.decoding.Head.{Head}
 use Rattle.bs_board.specs.declared.records.decoding.State.{State}
+use Rattle.bs_board.specs.declared.boards.hazards.Hazards.{Hazards}
 use Rattle.bs_board.specs.declared.boards.point.Point.{Point}
 use Rattle.bs_board.specs.declared.boards.snake.Snake.{Snake}
 use Rattle.bs_board.specs.declared.boards.snake.Cause.{Cause}
-use Rattle.bs_board.specs.declared.boards.snake.Cause.TheVariants.{OutOfHealth, WallCollision, SelfCollision, BodyCollision, HeadCollision}
+use Rattle.bs_board.specs.declared.boards.snake.Cause.TheVariants.{OutOfHealth, WallCollision, SelfCollision, BodyCollision, HeadCollision, Hazard}
 use Rattle.bs_board.specs.records.Record.{mode_byte, version_byte, cause_byte}
 
 infixl 10 ◌>>=◌
@@ -29,15 +30,21 @@ abbrev pub Gives : {X Y : Type 0} → (X → Y) → Result X Decode → Option Y
 Gives view (Ok x) read = read ≡ Some (view x)
 Gives view (Err error) read = Fails error read
 
--- the mode with that version and byte, and the cause with that byte
-abbrev pub mode_from_bytes : ℕ → ℕ → Option Mode
-mode_from_bytes version byte =
-    find (λ mode. version_byte mode == version && mode_byte mode == byte) (Standard ∷ Solo ∷ Constrictor ∷ Wrapped ∷ [])
+-- each mode, without hazards and with hazards
+abbrev pub all_kinds : List (Bool × Mode)
+all_kinds =
+    (false, Standard) ∷ (false, Solo) ∷ (false, Constrictor) ∷ (false, Wrapped)
+    ∷ (true, Standard) ∷ (true, Solo) ∷ (true, Constrictor) ∷ (true, Wrapped) ∷ []
+
+-- whether there are hazards, and the mode, by the version and the mode's byte; and the cause with
+-- that byte
+abbrev pub kind_from_bytes : ℕ → ℕ → Option (Bool × Mode)
+kind_from_bytes version byte = find (λ kind. version_byte kind.0 kind.1 == version && mode_byte kind.1 == byte) all_kinds
 
 abbrev pub cause_from_byte : ℕ → Option (Option Cause)
 cause_from_byte byte =
     find (λ cause. cause_byte cause == byte)
-    (None ∷ Some OutOfHealth ∷ Some WallCollision ∷ Some SelfCollision ∷ Some BodyCollision ∷ Some HeadCollision ∷ [])
+    (None ∷ Some OutOfHealth ∷ Some WallCollision ∷ Some SelfCollision ∷ Some BodyCollision ∷ Some HeadCollision ∷ Some Hazard ∷ [])
 
 abbrev pub killer_from_byte : ℕ → Option ℕ
 killer_from_byte byte = if byte == 0 then None else Some (byte - 1)
@@ -111,10 +118,11 @@ read_only_snake is_text bytes = do
 
 unfoldable pub read_head : List ℕ → Option (Head × List ℕ)
 read_head (version ∷ mode_is ∷ width ∷ height ∷ turn_high ∷ turn_low ∷ min_food ∷ chance ∷ snakes ∷ food_high ∷ food_low ∷ rest) = do
-  mode ← mode_from_bytes version mode_is
+  kind ← kind_from_bytes version mode_is
   Some (
     record {
-      mode = mode;
+      hazardous = kind.0;
+      mode = kind.1;
       width = width;
       height = height;
       turn = from_two_bytes turn_high turn_low;
@@ -127,12 +135,21 @@ read_head (version ∷ mode_is ∷ width ∷ height ∷ turn_high ∷ turn_low �
   )
 read_head _ = None
 
+-- a damage, and a number of cells with that many cells; nothing where there are no hazards
+unfoldable pub read_hazards : Bool → List ℕ → Option (Option Hazards × List ℕ)
+read_hazards false bytes = Some (None, bytes)
+read_hazards true (damage ∷ high ∷ low ∷ rest) = do
+  cells ← read_many (read_cell 0) (from_two_bytes high low) rest
+  Some (Some (record { damage = damage; cells = cells.0 }), cells.1)
+read_hazards true _ = None
+
 -- a board that takes all of the bytes
 unfoldable pub read_board : (List ℕ → Bool) → List ℕ → Option Board
 read_board is_text bytes = do
   head ← read_head bytes
   food ← read_many (read_cell 0) head.0.food head.1
-  snakes ← read_many (read_snake is_text) head.0.snakes food.1
+  hazards ← read_hazards head.0.hazardous food.1
+  snakes ← read_many (read_snake is_text) head.0.snakes hazards.1
   if length snakes.1 == 0 then Some (record {
     mode = head.0.mode;
     width = head.0.width;
@@ -141,6 +158,7 @@ read_board is_text bytes = do
     min_food = head.0.min_food;
     chance = head.0.chance;
     food = food.0;
+    hazards = hazards.0;
     snakes = snakes.0;
   }) else None
 
@@ -151,6 +169,7 @@ unfoldable pub read_ground : List ℕ → Option Board
 read_ground bytes = do
   head ← read_head bytes
   food ← read_many (read_cell 0) head.0.food head.1
+  hazards ← read_hazards head.0.hazardous food.1
   Some (record {
     mode = head.0.mode;
     width = head.0.width;
@@ -159,5 +178,6 @@ read_ground bytes = do
     min_food = head.0.min_food;
     chance = head.0.chance;
     food = food.0;
+    hazards = hazards.0;
     snakes = [];
   })

@@ -1,5 +1,5 @@
 -- Bytes that are known to be a record.
-use Rattle.std.specs.Prelude.{◌≡◌, ℕ, List, [], unwrap_or}
+use Rattle.std.specs.Prelude.{◌≡◌, ℕ, List, [], None, unwrap_or}
 use Rattle.std.specs.Str.{is_utf8}
 use Rattle.bs_board.specs.declared.boards.board.Board.{Board}
 use Rattle.bs_board.specs.declared.boards.board.Mode.TheVariants.{Standard}
@@ -14,7 +14,7 @@ pub record IsLegalRecord (bytes : List ℕ) : Type 0 where
   pub is : bytes ≡ record_of board
 
 abbrev no_board : Board
-no_board = record { mode = Standard; width = 0; height = 0; turn = 0; min_food = 0; chance = 0; food = []; snakes = [] }
+no_board = record { mode = Standard; width = 0; height = 0; turn = 0; min_food = 0; chance = 0; food = []; hazards = None; snakes = [] }
 
 -- the board whose record the bytes are; one without cells if they are no record
 unfoldable pub board_in : List ℕ → Board

@@ -1,6 +1,8 @@
 -- When a view shows the parts of a record.
-use Rattle.std.specs.Prelude.{◌≡◌, length, flat_map}
+use Rattle.std.specs.Prelude.{◌≡◌, ℕ, List, [], length, flat_map, Option, Some, None, is_some}
 use Rattle.bs_board.specs.declared.boards.board.Board.{Board}
+use Rattle.bs_board.specs.declared.boards.hazards.Hazards.{Hazards}
+use Rattle.bs_board.specs.declared.boards.point.Point.{Point}
 use Rattle.bs_board.specs.declared.boards.snake.Snake.{Snake}
 use Rattle.bs_board.specs.declared.records.layout.SnakeBytes.{SnakeBytes}
 use Rattle.bs_board.specs.declared.records.layout.BoardBytes.{BoardBytes}
@@ -16,6 +18,14 @@ pub record IsSnakeBytes (s : Snake) (parts : SnakeBytes) : Type 0 where
   pub out : IsWritable s → parts.out ≡ s.out
   pub body : parts.body.now ≡ flat_map (cell_bytes 1) s.body
 
+abbrev pub damage_of : Option Hazards → ℕ
+damage_of None = 0
+damage_of (Some h) = h.damage
+
+abbrev pub cells_of : Option Hazards → List Point
+cells_of None = []
+cells_of (Some h) = h.cells
+
 -- The view shows that board's record.
 pub record IsBoardBytes (b : Board) (parts : BoardBytes) : Type 0 where
   pub mode : parts.mode ≡ b.mode
@@ -25,5 +35,8 @@ pub record IsBoardBytes (b : Board) (parts : BoardBytes) : Type 0 where
   pub min_food : parts.min_food ≡ b.min_food
   pub chance : parts.chance ≡ b.chance
   pub food : parts.food.now ≡ flat_map (cell_bytes 0) b.food
+  pub hazardous : parts.hazardous ≡ is_some b.hazards
+  pub damage : parts.damage ≡ damage_of b.hazards
+  pub hazards : parts.hazards.now ≡ flat_map (cell_bytes 0) (cells_of b.hazards)
   pub seats : parts.seats ≡ length b.snakes
   pub snakes : parts.snakes.now ≡ flat_map snake_record b.snakes

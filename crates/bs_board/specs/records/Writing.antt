@@ -1,7 +1,8 @@
 -- Bytes written over part of a slice, from left to right.
-use Rattle.std.specs.Prelude.{◌≡◌, ℕ, ◌+◌, ◌<◌, ◌≤◌, List, ◌++◌, length, take, All, MatchOption, ℤ, pos, ◌+ℤ◌, ◌≤ℤ◌, ◌<ℤ◌}
+use Rattle.std.specs.Prelude.{◌≡◌, ℕ, ◌+◌, ◌<◌, ◌≤◌, List, ◌++◌, length, take, All, MatchOption, Option, ℤ, pos, ◌+ℤ◌, ◌≤ℤ◌, ◌<ℤ◌}
 use Rattle.bs_board.specs.declared.boards.board.Board.{Board}
 use Rattle.bs_board.specs.declared.boards.point.Point.{Point}
+use Rattle.bs_board.specs.declared.boards.hazards.Hazards.{Hazards}
 use Rattle.bs_board.specs.declared.boards.snake.Snake.{Snake}
 
 -- writes the bytes from index `at` on; `next` is the index after them; what is before `at` and the
@@ -27,9 +28,18 @@ pub record IsWritable (s : Snake) : Type 0 where
   pub parts : length s.body < 65536
   pub cells : All (IsByteCell 1) s.body
 
+-- hazards whose numbers fit their bytes
+pub record AreWritableCells (h : Hazards) : Type 0 where
+  pub few : length h.cells < 65536
+  pub cells : All (IsByteCell 0) h.cells
+
+abbrev pub AreWritableHazards : Option Hazards → Type 0
+AreWritableHazards hazards = MatchOption hazards (Unit {0}) AreWritableCells
+
 -- a board with such snakes, whose own numbers fit too
 pub record IsWritableBoard (b : Board) : Type 0 where
   pub few : length b.snakes < 256
   pub food : length b.food < 65536
   pub cells : All (IsByteCell 0) b.food
+  pub hazards : AreWritableHazards b.hazards
   pub snakes : All IsWritable b.snakes

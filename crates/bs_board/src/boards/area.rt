@@ -3,10 +3,12 @@
 ghost use Rattle.std.specs.Prelude.{◌≡◌};
 ghost use Rattle.std.specs.List.{list_all, list_any};
 ghost use Rattle.bs_board.specs.boards.Cell.{is_on_board, are_distinct_cells, is_same_cell};
+ghost use Rattle.bs_board.specs.boards.Hazards.{are_fit_hazards};
 ghost use Rattle.bs_board.specs.commands.Setup.{is_side, is_fit_food};
 
+use crate::boards::hazards::Hazards;
 use crate::boards::point::Point;
-use crate::limits::{LONGEST_SIDE, SHORTEST_SIDE};
+use crate::limits::{LONGEST_SIDE, MOST_DAMAGE, MOST_HAZARDS, SHORTEST_SIDE};
 
 /// Whether a side of a board may have `cells` cells.
 pub fn is_side(cells: u8) -> bool
@@ -45,4 +47,19 @@ pub fn is_fit_food(width: u8, height: u8, food: &[Point]) -> bool
     ensures { result ≡ is_fit_food width height food.now }
 {
     are_on_board(width, height, food) && are_distinct_cells(food)
+}
+
+/// Whether there are no hazards, or only cells of the board, and not too many, of a damage within
+/// its limit.
+pub fn are_fit_hazards(width: u8, height: u8, hazards: &Option<Hazards>) -> bool
+    ensures { result ≡ are_fit_hazards width height hazards.now }
+{
+    match hazards {
+        None => true,
+        Some(hazards) => {
+            hazards.damage <= MOST_DAMAGE
+                && hazards.cells.len() <= MOST_HAZARDS
+                && are_on_board(width, height, hazards.cells.as_slice())
+        }
+    }
 }

@@ -5,6 +5,7 @@ ghost use Rattle.bs_board.specs.boards.Over.{last_living};
 ghost use Rattle.bs_board.specs.boards.Wrap.{is_wrapped, wrap_of};
 
 use crate::boards::cells::Cells;
+use crate::boards::hazards::{Hazards, copy_hazards};
 use crate::boards::snakes::Snakes;
 use std::alloc::{AllocError, Global};
 
@@ -60,6 +61,8 @@ pub struct Board {
     /// The chance of one more food in a turn, in percent.
     pub chance: u8,
     pub food: Cells,
+    /// The hazards; `None` in a game without hazards.
+    pub hazards: Option<Hazards>,
     pub snakes: Snakes,
 }
 
@@ -76,6 +79,7 @@ impl Board {
             min_food: self.min_food,
             chance: self.chance,
             food: self.food.copy(alloc)?,
+            hazards: copy_hazards(&self.hazards, alloc)?,
             snakes: self.snakes.copy(alloc)?,
         })
     }

@@ -1,10 +1,13 @@
 //! Lists of cells.
 
+ghost use Rattle.std.specs.Prelude.{◌≡◌, IfOk};
+
 use crate::boards::point::Point;
 use std::alloc::{AllocError, Global};
 use std::marker::Model;
 
-/// A list of cells: the body of a snake, its head first, or the food on a board, the oldest first.
+/// A list of cells: the body of a snake, its head first, the food on a board, the oldest first, or
+/// its hazards.
 #[derive(Debug, Drop)]
 pub struct Cells {
     points: Vec<Point>,
@@ -76,5 +79,15 @@ impl Cells {
         Ok(Cells {
             points: Vec::from_slice(alloc, self.as_slice())?,
         })
+    }
+}
+
+/// Copies a list that may be missing.
+pub fn copy_given(cells: &Option<Cells>, alloc: Global) -> Result<Option<Cells>, AllocError>
+    ensures { IfOk result (λ copy. copy ≡ cells.now) }
+{
+    match cells {
+        None => Ok(None),
+        Some(cells) => Ok(Some(cells.copy(alloc)?)),
     }
 }

@@ -12,6 +12,7 @@ ghost use Rattle.bs_board.specs.boards.Legal.{
   IsHealthOf,
   is_near,
   is_head_of,
+  may_cause,
   IsOtherSeat,
   IsKillerOf,
   IsTurnBy,
@@ -23,7 +24,7 @@ ghost use Rattle.bs_board.specs.boards.Legal.{
 };
 ghost use Rattle.bs_board.specs.Texts.{is_same_text};
 
-use crate::boards::area::{is_fit_food, is_side};
+use crate::boards::area::{are_fit_hazards, is_fit_food, is_side};
 use crate::boards::board::{Board, Mode};
 use crate::boards::body::head_of;
 use crate::boards::point::Point;
@@ -38,6 +39,7 @@ pub fn is_legal(board: &Board) -> bool
 {
     is_within_limits(board)
         && is_legal_food(board)
+        && are_fit_hazards(board.width, board.height, &board.hazards)
         && have_distinct_ids(board.snakes.as_slice())
         && have_legal_seats(board)
 }
@@ -143,6 +145,7 @@ fn is_legal_out(board: &Board, seat: usize, snake: &Snake, cause: Cause) -> bool
             head_of(snake.body.as_slice()),
         )
         && is_killer_of(cause, board.snakes.len(), seat, snake.killer)
+        && may_cause(board.hazards.is_some(), cause)
 }
 
 fn is_turn_by(turn: u16, out: Option<u16>) -> bool
@@ -163,6 +166,7 @@ fn is_health_of(cause: Cause, health: u8) -> bool
         Cause::SelfCollision => 1 <= health && health <= FULL_HEALTH,
         Cause::BodyCollision => 1 <= health && health <= FULL_HEALTH,
         Cause::HeadCollision => 1 <= health && health <= FULL_HEALTH,
+        Cause::Hazard => health == 0,
     }
 }
 
@@ -189,6 +193,20 @@ fn is_head_of(wraps: bool, cause: Cause, width: u8, height: u8, head: Point) -> 
         Cause::SelfCollision => head.is_on_board(width, height),
         Cause::BodyCollision => head.is_on_board(width, height),
         Cause::HeadCollision => head.is_on_board(width, height),
+        Cause::Hazard => head.is_on_board(width, height),
+    }
+}
+
+fn may_cause(hazardous: bool, cause: Cause) -> bool
+    ensures { result ≡ may_cause hazardous cause }
+{
+    match cause {
+        Cause::OutOfHealth => true,
+        Cause::WallCollision => true,
+        Cause::SelfCollision => true,
+        Cause::BodyCollision => true,
+        Cause::HeadCollision => true,
+        Cause::Hazard => hazardous,
     }
 }
 
@@ -210,5 +228,6 @@ fn is_killer_of(cause: Cause, seats: usize, seat: usize, killer: Option<usize>) 
         Cause::SelfCollision => killer == Some(seat),
         Cause::BodyCollision => is_other_seat(seats, seat, killer),
         Cause::HeadCollision => is_other_seat(seats, seat, killer),
+        Cause::Hazard => killer.is_none(),
     }
 }

@@ -14,6 +14,7 @@ pub enum Cause {
     SelfCollision,
     BodyCollision,
     HeadCollision,
+    Hazard,
 }
 
 /// One snake. It is alive while it has no cause; once eliminated it keeps its last body and health.

@@ -2,6 +2,8 @@
 
 ghost use Rattle.std.specs.Prelude.{◌≡◌, ◌↔◌, IsTrue};
 
+use crate::boards::cells::Cells;
+use crate::boards::hazards::Hazards;
 use crate::boards::point::{Direction, Point};
 use crate::commands::command::Command;
 use crate::commands::orders::Move;
@@ -41,12 +43,37 @@ fn are_same_starts(starts: &[(Id, Point)], others: &[(Id, Point)]) -> bool
     starts == others
 }
 
+fn are_same_given(cells: &Option<Cells>, others: &Option<Cells>) -> bool
+    ensures { IsTrue result ↔ cells.now ≡ others.now }
+{
+    match (cells, others) {
+        (None, None) => true,
+        (Some(cells), Some(others)) => are_same_cells(cells.as_slice(), others.as_slice()),
+        _ => false,
+    }
+}
+
+fn are_same_hazards(hazards: &Option<Hazards>, others: &Option<Hazards>) -> bool
+    ensures { IsTrue result ↔ hazards.now ≡ others.now }
+{
+    match (hazards, others) {
+        (None, None) => true,
+        (Some(hazards), Some(others)) => {
+            hazards.damage == others.damage
+                && are_same_cells(hazards.cells.as_slice(), others.cells.as_slice())
+        }
+        _ => false,
+    }
+}
+
 impl Move {
     fn is_same(&self, other: &Move) -> bool
         ensures { IsTrue result ↔ self.now ≡ other.now }
     {
         are_same_moves(self.moves.as_slice(), other.moves.as_slice())
             && self.words.as_slice() == other.words.as_slice()
+            && are_same_given(&self.hazards, &other.hazards)
+            && are_same_given(&self.food, &other.food)
     }
 }
 
@@ -65,6 +92,7 @@ impl New {
             && self.chance == other.chance
             && are_same_starts(self.snakes.as_slice(), other.snakes.as_slice())
             && are_same_cells(self.food.as_slice(), other.food.as_slice())
+            && are_same_hazards(&self.hazards, &other.hazards)
     }
 }
 

@@ -3,6 +3,7 @@
 ghost use Rattle.std.specs.Prelude.{◌≡◌};
 ghost use Rattle.bs_board.specs.commands.Orders.{is_ascending};
 
+use crate::boards::cells::{Cells, copy_given};
 use crate::boards::point::Direction;
 use crate::commands::moves::Moves;
 use crate::commands::words::Words;
@@ -17,6 +18,10 @@ use std::marker::Model;
 pub struct Move {
     pub moves: Moves,
     pub words: Words,
+    /// The hazards from the end of the turn on; `None` leaves them as they are.
+    pub hazards: Option<Cells>,
+    /// Food that is added at the end of the turn, where its cells are free.
+    pub food: Option<Cells>,
 }
 
 impl Model for Move {
@@ -46,14 +51,31 @@ impl Move {
     ghost use Rattle.std.specs.Prelude.{true, ◌≤◌, length, IfOk};
     ghost use Rattle.bs_board.specs.commands.Orders.{Orders, orders_of, IsFitOrders};
 
-    /// Makes a move with these directions and words.
+    /// Makes a move with these directions and words, no hazards and no food.
     pub fn new(moves: Moves, words: Words) -> Move
         requires ascending { is_ascending moves ≡ true }
         requires few { length words ≤ MOST_WORDS }
         ensures { result ≡ orders_of moves words }
     {
         let (_moves, _words) = (moves.as_slice(), words.as_slice());
-        Move { moves, words }
+        Move {
+            moves,
+            words,
+            hazards: None,
+            food: None,
+        }
+    }
+
+    /// The move with these hazards and this food.
+    pub fn with_map(self, hazards: Option<Cells>, food: Option<Cells>) -> Move
+        ensures { result ≡ record self { hazards = hazards; food = food } }
+    {
+        Move {
+            moves: self.moves,
+            words: self.words,
+            hazards,
+            food,
+        }
     }
 
     /// Recalls for the prover that the value is within the limits.
@@ -71,6 +93,8 @@ impl Move {
         Ok(Move {
             moves: self.moves.copy(alloc)?,
             words: self.words.copy(alloc)?,
+            hazards: copy_given(&self.hazards, alloc)?,
+            food: copy_given(&self.food, alloc)?,
         })
     }
 }

@@ -2,9 +2,10 @@
 
 ghost use Rattle.std.specs.Prelude.{◌≡◌};
 
-use crate::boards::area::{is_fit_food, is_side};
+use crate::boards::area::{are_fit_hazards, is_fit_food, is_side};
 use crate::boards::board::Mode;
 use crate::boards::cells::Cells;
+use crate::boards::hazards::{Hazards, copy_hazards};
 use crate::commands::starts::{Starts, are_fit_starts};
 use crate::limits::MOST_CHANCE;
 use std::alloc::{AllocError, Global};
@@ -23,6 +24,8 @@ pub struct New {
     pub snakes: Starts,
     /// Distinct cells of the board.
     pub food: Cells,
+    /// The hazards, all on the board; `None` for a game without hazards.
+    pub hazards: Option<Hazards>,
     pub min_food: u8,
     /// The chance of food in percent, 0 to 100.
     pub chance: u8,
@@ -43,7 +46,7 @@ impl New {
     ghost use Rattle.std.specs.Prelude.{◌≡◌, true, Some, None, if◌then◌else◌, IfOk};
     ghost use Rattle.bs_board.specs.commands.Setup.{Setup, is_fit_setup, setup_of};
 
-    /// Makes a setup. `None` exactly if it exceeds a limit.
+    /// Makes a setup without hazards. `None` exactly if it exceeds a limit.
     #[tactic(auto, unfolding(crate::specs::commands::Setup::is_fit_setup))]
     pub fn new(
         mode: Mode,
@@ -69,9 +72,24 @@ impl New {
                 height,
                 snakes,
                 food,
+                hazards: None,
                 min_food,
                 chance,
             })
+        } else {
+            None
+        }
+    }
+
+    /// The setup with these hazards. `None` exactly if they exceed a limit.
+    #[tactic(auto, using(crate::proofs::commands::FitSetup::with_hazards_fits), unfolding(crate::specs::commands::Setup::is_fit_setup))]
+    pub fn with_hazards(self, hazards: Hazards) -> Option<New>
+        ensures { let setup = record self { hazards = Some hazards }
+            in result ≡ (if is_fit_setup setup then Some setup else None) }
+    {
+        let hazards = Some(hazards);
+        if are_fit_hazards(self.width, self.height, &hazards) {
+            Some(New { hazards, ..self })
         } else {
             None
         }
@@ -87,6 +105,7 @@ impl New {
             height: self.height,
             snakes: self.snakes.copy(alloc)?,
             food: self.food.copy(alloc)?,
+            hazards: copy_hazards(&self.hazards, alloc)?,
             min_food: self.min_food,
             chance: self.chance,
         })

@@ -1,7 +1,7 @@
 //! The versions of the format of command files.
 
 ghost use Rattle.std.specs.Prelude.{◌≡◌};
-ghost use Rattle.bs_board.specs.plans.Version.{has_stays, has_wrapped, version_number, version_numbered};
+ghost use Rattle.bs_board.specs.plans.Version.{has_hazards, has_stays, has_wrapped, version_number, version_numbered};
 
 /// A version of the format of command files. Each includes all of the versions before it.
 #[derive(Clone, Copy, Debug, PartialEq, Eq)]
@@ -11,6 +11,8 @@ pub enum Version {
     Two,
     /// Adds lines that admit and dismiss games.
     Three,
+    /// Adds hazards, and food that a move gives.
+    Five,
 }
 
 impl Version {
@@ -22,6 +24,7 @@ impl Version {
             1 => Some(Version::One),
             2 => Some(Version::Two),
             3 => Some(Version::Three),
+            5 => Some(Version::Five),
             _ => None,
         }
     }
@@ -34,6 +37,7 @@ impl Version {
             Version::One => 1,
             Version::Two => 2,
             Version::Three => 3,
+            Version::Five => 5,
         }
     }
 
@@ -43,7 +47,7 @@ impl Version {
     {
         match self {
             Version::One => false,
-            Version::Two | Version::Three => true,
+            Version::Two | Version::Three | Version::Five => true,
         }
     }
 
@@ -53,7 +57,17 @@ impl Version {
     {
         match self {
             Version::One | Version::Two => false,
-            Version::Three => true,
+            Version::Three | Version::Five => true,
+        }
+    }
+
+    /// Whether games have hazards, and moves may give hazards and food.
+    pub fn has_hazards(self) -> bool
+        ensures { result ≡ has_hazards self }
+    {
+        match self {
+            Version::One | Version::Two | Version::Three => false,
+            Version::Five => true,
         }
     }
 }

@@ -7,7 +7,7 @@ ghost use Rattle.bs_board.specs.declared.records.decode_error.Decode.TheVariants
 ghost use Rattle.bs_board.specs.boards.Legal.{IsLegal};
 ghost use Rattle.bs_board.specs.records.Decoder.{
   Gives,
-  mode_from_bytes,
+  kind_from_bytes,
   cause_from_byte,
   killer_from_byte,
   out_from_number,
@@ -19,12 +19,14 @@ ghost use Rattle.bs_board.specs.records.Decoder.{
   read_state,
   read_snake,
   read_head,
+  read_hazards,
   read_board,
 };
 ghost use Rattle.bs_board.specs.records.Record.{record_of};
 
 use crate::boards::board::{Board, Mode};
 use crate::boards::cells::Cells;
+use crate::boards::hazards::Hazards;
 use crate::boards::legal::is_legal;
 use crate::boards::point::Point;
 use crate::boards::snake::{Cause, Snake};
@@ -60,6 +62,7 @@ fn if_legal(board: Board) -> Result<Board, Decode>
 /// The fields before the cells of the food.
 #[derive(Drop)]
 pub(crate) struct Head {
+    pub(crate) hazardous: bool,
     pub(crate) mode: Mode,
     pub(crate) width: u8,
     pub(crate) height: u8,
@@ -80,15 +83,20 @@ struct State {
     parts: u16,
 }
 
-/// The mode of that version and byte. No record has any other pair.
-fn mode_from_bytes(version: u8, byte: u8) -> Result<Mode, Decode>
-    ensures { Gives (λ mode. mode) result (mode_from_bytes version byte) }
+/// Whether there are hazards, and the mode, by the version and the mode's byte. No record has any
+/// other pair.
+fn kind_from_bytes(version: u8, byte: u8) -> Result<(bool, Mode), Decode>
+    ensures { Gives (λ kind. kind) result (kind_from_bytes version byte) }
 {
     match (version, byte) {
-        (1, 0) => Ok(Mode::Standard),
-        (1, 1) => Ok(Mode::Solo),
-        (1, 2) => Ok(Mode::Constrictor),
-        (2, 3) => Ok(Mode::Wrapped),
+        (1, 0) => Ok((false, Mode::Standard)),
+        (1, 1) => Ok((false, Mode::Solo)),
+        (1, 2) => Ok((false, Mode::Constrictor)),
+        (2, 3) => Ok((false, Mode::Wrapped)),
+        (3, 0) => Ok((true, Mode::Standard)),
+        (3, 1) => Ok((true, Mode::Solo)),
+        (3, 2) => Ok((true, Mode::Constrictor)),
+        (3, 3) => Ok((true, Mode::Wrapped)),
         _ => Err(Decode::NotARecord),
     }
 }
@@ -103,6 +111,7 @@ fn cause_from_byte(byte: u8) -> Result<Option<Cause>, Decode>
         3 => Ok(Some(Cause::SelfCollision)),
         4 => Ok(Some(Cause::BodyCollision)),
         5 => Ok(Some(Cause::HeadCollision)),
+        6 => Ok(Some(Cause::Hazard)),
         _ => Err(Decode::NotARecord),
     }
 }
@@ -278,8 +287,10 @@ pub(crate) fn read_head(bytes: &[u8]) -> Result<(Head, &[u8]), Decode>
             food_low,
             rest @ ..,
         ] => {
+            let (hazardous, mode) = kind_from_bytes(*version, *mode)?;
             let head = Head {
-                mode: mode_from_bytes(*version, *mode)?,
+                hazardous,
+                mode,
                 width: *width,
                 height: *height,
                 turn: from_two_bytes(*turn_high, *turn_low),
@@ -294,6 +305,31 @@ pub(crate) fn read_head(bytes: &[u8]) -> Result<(Head, &[u8]), Decode>
     }
 }
 
+/// Reads the damage, the number of the cells and the cells; nothing where there are no hazards.
+#[tactic(auto, unfolding(crate::specs::records::Decoder::read_hazards))]
+pub(crate) fn read_hazards(
+    alloc: Global,
+    hazardous: bool,
+    bytes: &[u8],
+) -> Result<(Option<Hazards>, &[u8]), Decode>
+    ensures { Gives (λ x. (x.0, x.1.now)) result (read_hazards hazardous bytes.now) }
+{
+    if !hazardous {
+        return Ok((None, bytes));
+    }
+    match bytes {
+        [damage, high, low, rest @ ..] => {
+            let (cells, rest) = read_cells(alloc, from_two_bytes(*high, *low), 0, rest)?;
+            let hazards = Hazards {
+                damage: *damage,
+                cells,
+            };
+            Ok((Some(hazards), rest))
+        }
+        _ => Err(Decode::NotARecord),
+    }
+}
+
 /// Reads a board, legal or not, that takes all of the bytes.
 #[tactic(auto, unfolding(crate::specs::records::Decoder::read_board))]
 pub(crate) fn read_board(alloc: Global, bytes: &[u8]) -> Result<Board, Decode>
@@ -301,6 +337,7 @@ pub(crate) fn read_board(alloc: Global, bytes: &[u8]) -> Result<Board, Decode>
 {
     let (head, rest) = read_head(bytes)?;
     let (food, rest) = read_cells(alloc, head.food, 0, rest)?;
+    let (hazards, rest) = read_hazards(alloc, head.hazardous, rest)?;
     let (snakes, rest) = read_snakes(alloc, usize::from(head.snakes), rest)?;
     if !rest.is_empty() {
         return Err(Decode::NotARecord);
@@ -313,6 +350,7 @@ pub(crate) fn read_board(alloc: Global, bytes: &[u8]) -> Result<Board, Decode>
         min_food: head.min_food,
         chance: head.chance,
         food,
+        hazards,
         snakes,
     })
 }

@@ -1,10 +1,11 @@
 //! Encodes the record of a board.
 
-ghost use Rattle.std.specs.Prelude.{◌≡◌, ◌+◌, ◌<◌, ◌≤◌, ◌*◌, ◌∷◌, ◌+ℤ◌, nat_abs, true, length, All, flat_map, pos, MatchOption, IfOk, OnOk};
+ghost use Rattle.std.specs.Prelude.{◌≡◌, ◌+◌, ◌<◌, ◌≤◌, ◌*◌, ◌∷◌, ◌++◌, ◌+ℤ◌, nat_abs, true, length, All, flat_map, pos, MatchOption, IfOk, OnOk};
 ghost use Rattle.bs_board.specs.boards.Legal.{IsLegal};
 ghost use Rattle.bs_board.specs.records.Record.{
   two_bytes,
   mode_byte,
+  plain_version,
   version_byte,
   cause_byte,
   killer_byte,
@@ -12,18 +13,20 @@ ghost use Rattle.bs_board.specs.records.Record.{
   state_bytes,
   snake_record,
   head_bytes,
+  hazard_bytes,
   record_of,
 };
-ghost use Rattle.bs_board.specs.records.Writing.{Puts, IsByte, IsByteCell, IsWritable};
+ghost use Rattle.bs_board.specs.records.Writing.{AreWritableCells, AreWritableHazards, Puts, IsByte, IsByteCell, IsWritable};
 
 use crate::boards::board::{Board, Mode};
+use crate::boards::hazards::Hazards;
 use crate::boards::point::Point;
 use crate::boards::snake::{Cause, Snake};
 use crate::id::Id;
 use crate::records::sizes::size;
 use std::alloc::{AllocError, Global};
 
-/// Encodes a legal board as its record of at most 161,885 bytes.
+/// Encodes a legal board as its record of at most 166,888 bytes.
 #[tactic(auto, using(crate::proofs::records::Longest::legal_size_fits))]
 pub fn encode(alloc: Global, board: &Board) -> Result<Vec<u8>, AllocError>
     requires { IsLegal board.now }
@@ -41,7 +44,8 @@ pub fn encode_into(board: &Board, into: &mut [u8])
     ensures { into.new ≡ record_of board.now }
 {
     let food = put(into, 0, &head_bytes(board));
-    let snakes = put_cells(into, food, board.food.as_slice(), 0);
+    let hazards = put_cells(into, food, board.food.as_slice(), 0);
+    let snakes = put_hazards(into, hazards, &board.hazards);
     put_snakes(into, snakes, board.snakes.as_slice());
 }
 
@@ -54,7 +58,7 @@ fn head_bytes(board: &Board) -> [u8; 11]
     let [turn_high, turn_low] = two_bytes(board.turn);
     let [food_high, food_low] = two_bytes(board.food.len() as u16);
     [
-        version_byte(board.mode),
+        version_byte(board.hazards.is_some(), board.mode),
         mode_byte(board.mode),
         board.width,
         board.height,
@@ -95,9 +99,16 @@ fn mode_byte(mode: Mode) -> u8
     }
 }
 
-/// The version of the record, which depends on the mode alone.
-fn version_byte(mode: Mode) -> u8
-    ensures { result ≡ version_byte mode }
+/// The version of the record.
+fn version_byte(hazardous: bool, mode: Mode) -> u8
+    ensures { result ≡ version_byte hazardous mode }
+{
+    if hazardous { 3 } else { plain_version(mode) }
+}
+
+/// The version of a record without hazards, which depends on the mode alone.
+fn plain_version(mode: Mode) -> u8
+    ensures { result ≡ plain_version mode }
 {
     match mode {
         Mode::Standard => 1,
@@ -117,6 +128,7 @@ fn cause_byte(cause: Option<Cause>) -> u8
         Some(Cause::SelfCollision) => 3,
         Some(Cause::BodyCollision) => 4,
         Some(Cause::HeadCollision) => 5,
+        Some(Cause::Hazard) => 6,
     }
 }
 
@@ -162,6 +174,31 @@ fn put_cells(into: &mut [u8], at: usize, cells: &[Point], raised: u8) -> usize
         next = put_cell(into, next, *cell, raised);
     }
     next
+}
+
+#[tactic(auto, using(crate::proofs::records::Parts::puts_both))]
+/// Writes the damage, the number of the cells, then the cells.
+fn put_listed(into: &mut [u8], at: usize, hazards: &Hazards) -> usize
+    requires room { at + 3 + 2 * length hazards.now.cells ≤ length into.old }
+    requires numbers { AreWritableCells hazards.now }
+    ensures { Puts at ((hazards.now.damage ∷ two_bytes (length hazards.now.cells)) ++ flat_map (cell_bytes 0) hazards.now.cells) into.old into.new result }
+{
+    let [high, low] = two_bytes(hazards.cells.len() as u16);
+    let next = put(into, at, &[hazards.damage, high, low]);
+    put_cells(into, next, hazards.cells.as_slice(), 0)
+}
+
+/// Writes the hazards, if there are any.
+#[tactic(auto, using(crate::proofs::records::Parts::puts_nothing, crate::proofs::records::Lengths::length_of_hazards), unfolding(crate::specs::records::Record::hazard_bytes))]
+fn put_hazards(into: &mut [u8], at: usize, hazards: &Option<Hazards>) -> usize
+    requires room { at + length (hazard_bytes hazards.now) ≤ length into.old }
+    requires numbers { AreWritableHazards hazards.now }
+    ensures { Puts at (hazard_bytes hazards.now) into.old into.new result }
+{
+    match hazards {
+        None => at,
+        Some(hazards) => put_listed(into, at, hazards),
+    }
 }
 
 /// Writes the length of an id, then the id.

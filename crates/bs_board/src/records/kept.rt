@@ -10,7 +10,7 @@ ghost use Rattle.bs_board.specs.records.Layout.{IsBoardBytes};
 use crate::boards::board::Board;
 use crate::boards::snakes::Snakes;
 use crate::records::decode_error::Decode;
-use crate::records::decoding::{read_cells, read_head, read_snakes};
+use crate::records::decoding::{read_cells, read_hazards, read_head, read_snakes};
 use crate::records::layout::{BoardBytes, skip_snakes};
 use std::alloc::{AllocError, Global};
 
@@ -31,7 +31,8 @@ pub(crate) fn read_ground(alloc: Global, bytes: &[u8]) -> Result<Board, Decode>
     ensures { Gives (λ board. board) result (read_ground bytes.now) }
 {
     let (head, rest) = read_head(bytes)?;
-    let (food, _) = read_cells(alloc, head.food, 0, rest)?;
+    let (food, rest) = read_cells(alloc, head.food, 0, rest)?;
+    let (hazards, _) = read_hazards(alloc, head.hazardous, rest)?;
     Ok(Board {
         mode: head.mode,
         width: head.width,
@@ -40,6 +41,7 @@ pub(crate) fn read_ground(alloc: Global, bytes: &[u8]) -> Result<Board, Decode>
         min_food: head.min_food,
         chance: head.chance,
         food,
+        hazards,
         snakes: Snakes::from_vec(Vec::new(alloc)),
     })
 }

@@ -1,13 +1,14 @@
 //! Views of the fields of a record. Ids, cells and snakes are borrowed from its bytes; the other
 //! fields are decoded. No board is built, and legality is not checked.
-ghost use Rattle.std.specs.Prelude.{◌≡◌, ◌++◌, ◌≤◌, ℕ, List, MatchOption, None, count_by, drop, flat_map, if◌then◌else◌, length, take, unwrap_or};
+ghost use Rattle.std.specs.Prelude.{◌≡◌, ◌++◌, ◌≤◌, ℕ, List, MatchOption, None, Option, false, is_some, count_by, drop, flat_map, if◌then◌else◌, length, take, unwrap_or};
 ghost use Rattle.bs_board.specs.declared.boards.board.Board.{Board as AnyBoard};
 ghost use Rattle.bs_board.specs.declared.boards.board.Mode.TheVariants.{Standard};
+ghost use Rattle.bs_board.specs.declared.boards.hazards.Hazards.{Hazards as AnyHazards};
 ghost use Rattle.bs_board.specs.declared.boards.snake.Snake.{Snake as AnySnake};
 ghost use Rattle.bs_board.specs.boards.Over.{is_living};
-ghost use Rattle.bs_board.specs.records.Layout.{IsSnakeBytes, IsBoardBytes};
-ghost use Rattle.bs_board.specs.records.Decoder.{cause_from_byte, mode_from_bytes};
-ghost use Rattle.bs_board.specs.records.Record.{cell_bytes, record_of, snake_record, state_bytes};
+ghost use Rattle.bs_board.specs.records.Layout.{IsSnakeBytes, IsBoardBytes, cells_of, damage_of};
+ghost use Rattle.bs_board.specs.records.Decoder.{cause_from_byte, kind_from_bytes};
+ghost use Rattle.bs_board.specs.records.Record.{cell_bytes, hazard_bytes, record_of, snake_record, state_bytes};
 
 use crate::boards::board::Mode;
 use crate::boards::snake::Cause;
@@ -39,6 +40,12 @@ pub struct BoardBytes<'r> {
     pub chance: u8,
     /// The cells of the food, two bytes each.
     pub food: &'r [u8],
+    /// Whether the game has hazards.
+    pub hazardous: bool,
+    /// The damage of the hazards; 0 if there are none.
+    pub damage: u8,
+    /// The cells of the hazards, two bytes each.
+    pub hazards: &'r [u8],
     /// The number of snakes.
     pub seats: usize,
     /// The records of the snakes, one after the other.
@@ -78,19 +85,43 @@ fn known_cause(byte: u8) -> Option<Cause>
         3 => Some(Cause::SelfCollision),
         4 => Some(Cause::BodyCollision),
         5 => Some(Cause::HeadCollision),
+        6 => Some(Cause::Hazard),
         _ => None,
     }
 }
 
-/// The mode that the version and the byte stand for; `Standard` for an unknown pair.
-fn known_mode(version: u8, byte: u8) -> Mode
-    ensures { result ≡ unwrap_or (mode_from_bytes version byte) Standard }
+/// Whether there are hazards, and the mode, by the version and the byte; no hazards and `Standard`
+/// for an unknown pair.
+fn known_kind(version: u8, byte: u8) -> (bool, Mode)
+    ensures { result ≡ unwrap_or (kind_from_bytes version byte) (false, Standard) }
 {
     match (version, byte) {
-        (1, 1) => Mode::Solo,
-        (1, 2) => Mode::Constrictor,
-        (2, 3) => Mode::Wrapped,
-        _ => Mode::Standard,
+        (1, 1) => (false, Mode::Solo),
+        (1, 2) => (false, Mode::Constrictor),
+        (2, 3) => (false, Mode::Wrapped),
+        (3, 0) => (true, Mode::Standard),
+        (3, 1) => (true, Mode::Solo),
+        (3, 2) => (true, Mode::Constrictor),
+        (3, 3) => (true, Mode::Wrapped),
+        _ => (false, Mode::Standard),
+    }
+}
+
+/// The damage of the hazards, their cells, and the bytes that follow.
+fn split_hazards(hazardous: bool, bytes: &[u8]) -> (u8, &[u8], &[u8])
+    ensures { (h : Option AnyHazards) (rest : List ℕ) → hazardous ≡ is_some h → bytes.now ≡ hazard_bytes h ++ rest
+        → (result.0 ≡ damage_of h) × (result.1.now ≡ flat_map (cell_bytes 0) (cells_of h)) × (result.2.now ≡ rest) }
+{
+    if !hazardous {
+        return (0, &[], bytes);
+    }
+    match bytes {
+        [damage, high, low, cells @ ..] => {
+            let count = usize::from(from_two_bytes(*high, *low));
+            let (hazards, rest) = cut(CELL * count, cells);
+            (*damage, hazards, rest)
+        }
+        _ => (0, &[], &[]),
     }
 }
 
@@ -164,15 +195,20 @@ pub(crate) fn split_board(bytes: &[u8]) -> Option<BoardBytes<'_>>
             rest @ ..,
         ] => {
             let count = usize::from(from_two_bytes(*food_high, *food_low));
-            let (food, snakes) = cut(CELL * count, rest);
+            let (food, rest) = cut(CELL * count, rest);
+            let (hazardous, mode) = known_kind(*version, *mode);
+            let (damage, hazards, snakes) = split_hazards(hazardous, rest);
             Some(BoardBytes {
-                mode: known_mode(*version, *mode),
+                mode,
                 width: *width,
                 height: *height,
                 turn: from_two_bytes(*turn_high, *turn_low),
                 min_food: *min_food,
                 chance: *chance,
                 food,
+                hazardous,
+                damage,
+                hazards,
                 seats: usize::from(*seats),
                 snakes,
             })

@@ -15,13 +15,12 @@ pub record_board-requires-clause-legal : goal.record_board-requires-clause-legal
 record_board-requires-clause-legal c =
     let m = c.requires.1 in
     joined_is_legal c.requires.0 c.args.orders.now c.args.moved m.fit m.passes m.moved
-    c.as_slice.result.now c.in_ok-board.board (c.as_slice.ensures.value ∙ ap (λ orders. orders.words) c.orders.view_is) c.in_ok-board.ensures
+    c.in_ok-board.board c.in_ok-board.ensures
 
 pub returns-clause-value : goal.returns-clause-value
 returns-clause-value c =
-    let words = c.as_slice.ensures.value ∙ ap (λ orders. orders.words) c.orders.view_is in
     IfOk-weaker c.record_board.result _ _
     (λ answer is view m.
     is ∙ ap answer_with (same_within c.args.quota c.args.charge view word.Move c.in_ok-board.board m.quota m.charge)
-    ∙ joined_is_the_answer view c.args.orders.now c.args.moved m.fit m.passes m.moved c.as_slice.result.now c.in_ok-board.board words c.in_ok-board.ensures)
+    ∙ joined_is_the_answer view c.args.orders.now c.args.moved m.fit m.passes m.moved c.in_ok-board.board c.in_ok-board.ensures)
     c.record_board.ensures.value

@@ -3,7 +3,7 @@ use Rattle.std.proofs.lemmas.Result.{IfOk-weaker}
 use Rattle.bs_board.specs.boards.Legal.{IsLegal}
 use Rattle.bs_rules.specs.Turn.{turn_of}
 use Rattle.bs_rules.proofs.Movable.{legal_has_sides}
-use Rattle.bs_rules.proofs.TurnLegal.{next_is_legal, next_is_turn}
+use Rattle.bs_rules.proofs.TurnLegal.{next_is_turn, turn_is_legal}
 use Rattle.bs_rules.proofs.turns.turn.Goals as goal
 
 pub move_board-requires-clause-sides : goal.move_board-requires-clause-sides
@@ -12,13 +12,13 @@ move_board-requires-clause-sides c = legal_has_sides c.args.board.now c.requires
 pub returns-clause-value : goal.returns-clause-value
 returns-clause-value c =
     IfOk-weaker c.finish_turn.result _ (λ next. next ≡ turn_of c.args.board.now c.args.order.now)
-    (λ next e. next_is_turn c.args.board.now _ next c.args.order.now _ _
-    (c.as_slice.ensures.value ∙ ap (λ o. o.moves) c.order.view_is) (c.as_slice-2.ensures.value ∙ ap (λ o. o.words) c.order.view_is)
-    c.in_ok-moved.ensures e)
+    (λ next e. next_is_turn c.args.board.now _ next c.args.order.now _ (c.as_slice.ensures.value ∙ ap (λ o. o.moves) c.order.view_is) c.in_ok-moved.ensures e)
     c.finish_turn.ensures
 
 pub returns-clause-legal : goal.returns-clause-legal
 returns-clause-legal c =
     IfOk-weaker c.finish_turn.result _ IsLegal
-    (λ next e. next_is_legal c.args.board.now _ next _ _ c.in_ok-moved.ensures e c.requires.legal c.requires.turn)
+    (λ next e.
+    rw (next_is_turn c.args.board.now _ next c.args.order.now _ (c.as_slice.ensures.value ∙ ap (λ o. o.moves) c.order.view_is) c.in_ok-moved.ensures e)
+    (turn_is_legal c.args.board.now c.args.order.now c.requires.legal c.requires.turn))
     c.finish_turn.ensures
