@@ -121,6 +121,7 @@ class GamePanel {
     this.page.board.replaceChildren();
     this.page.board.setAttribute('aria-label', 'No board');
     this.page.controls.hidden = true;
+    this.page.watch.hidden = true;
     this.page.facts.textContent =
       'No new of this game was accepted, so the transcript holds no board of it.';
   }
@@ -148,6 +149,7 @@ class GamePanel {
     page.round.replaceChildren(...game.rounds.map((round, index) => option(index + 1)));
     page.rounds.hidden = game.rounds.length < 2;
     page.controls.hidden = false;
+    page.watch.hidden = false;
     page.panel.hidden = false;
     this.refusals.show(game.refusals);
     this.onGame(game);
