@@ -43,10 +43,7 @@ BROKEN = {
         GOOD + STRAY.replace("L1", "A6"),
         "Line 9 is no line of a transcript.",
     ),
-    "a line left out": (
-        "".join(LINES[:2] + LINES[3:]),
-        "Line 3 has the number 4, not 3.",
-    ),
+    "a line left out": ("".join(LINES[:2] + LINES[3:]), "Line 3 has the number 4, not 3."),
     "another game between": (
         changed(4, "game", to="b"),
         "Line 4 is of another game, and the one before has no final line.",
@@ -137,7 +134,6 @@ class FilesTest(PageCase):
                 self.browser.click("#forward")
                 message = f"Line 2 holds no board that can be drawn: {fault}."
                 self.browser.wait(
-                    "return document.getElementById('notice').textContent === arguments[0]",
-                    message,
+                    "return document.getElementById('notice').textContent === arguments[0]", message
                 )
                 self.page.wait_for_turn(0, 2)
