@@ -1,7 +1,7 @@
 //! First boards, growth, food, and the steps of a turn.
 use crate::fault::Fault;
 use crate::scene::Question;
-use crate::values::{new_solo, solo, two_heads, two_orders};
+use crate::values::{map_orders, new_solo, solo, two_heads};
 use bs_board::limits::{LAST_TURN, MOST_SNAKES};
 use bs_board::{Board, Direction, Mode, New, Point, Snake, Snakes, is_legal};
 use bs_food::{free_cells, spawn};
@@ -148,7 +148,7 @@ impl Question for FinishTurn {
         if copy.turn >= LAST_TURN || copy.snakes.len() > MOST_SNAKES {
             return Err(Fault::NoTurn);
         }
-        Ok(finish_turn(alloc, copy, &two_orders(alloc)?)?)
+        Ok(finish_turn(alloc, copy, &map_orders(alloc)?)?)
     }
 }
 
@@ -161,7 +161,7 @@ impl Question for NextBoard {
     type Answer = Board;
 
     fn call(alloc: Global, on: &Board) -> Result<Board, Fault> {
-        let orders = two_orders(alloc)?;
+        let orders = map_orders(alloc)?;
         if !is_legal(on) || on.turn >= LAST_TURN {
             return Err(Fault::NoTurn);
         }
