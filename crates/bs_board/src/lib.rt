@@ -32,7 +32,6 @@ pub use plans::version::Version;
 pub use records::decode_error::Decode;
 pub use records::decoding::decode;
 pub use records::encoding::{encode, encode_into};
-pub use records::kept::kept_snake;
 pub use records::kept_board::KeptBoard;
 pub use records::layout::{BoardBytes, SnakeBytes, skip_snakes, split_snake};
 pub use records::record::Record;

@@ -14,8 +14,7 @@ use crate::texts::{
     WholeText, last_board, two_replies,
 };
 use crate::turns::{
-    Feeding, FinishTurn, FirstBoard, FreeCells, Growing, MoveSnake, MoveSnakes, NextBoard,
-    Spawning, meeting,
+    Feeding, FinishTurn, FirstBoard, FreeCells, Growing, MoveSnake, NextBoard, Spawning, meeting,
 };
 use crate::values::{
     LONG_NAME, TWO_HEADS, bytes_of, kept_of, new_solo, plan_of, shown_reply, solo, two_heads,
@@ -177,12 +176,6 @@ fn spawn(rt: HostRuntime) -> Result<(), Fail> {
 fn move_snake(rt: HostRuntime) -> Result<(), Fail> {
     let alloc = rt.alloc();
     ask::<MoveSnake>(page_of(&rt), two_heads(alloc)?)
-}
-
-#[test]
-fn move_snakes(rt: HostRuntime) -> Result<(), Fail> {
-    let alloc = rt.alloc();
-    ask::<MoveSnakes>(page_of(&rt), two_heads(alloc)?)
 }
 
 #[test]

@@ -77,10 +77,6 @@ what_is_read bytes s fits e = only_takes is_utf8 bytes s fits e
 pub snake_is_read : (bytes : List ℕ) (s : Snake) → IsFitSnake s → bytes ≡ snake_record s → read_only_snake is_utf8 bytes ≡ Some s
 snake_is_read bytes s fit is = ap (read_only_snake is_utf8) is ∙ only_again is_utf8 s (fit_is_writable s fit) (fit_is_text s fit)
 
--- the bytes of a fit snake, read with no look at what is behind
-pub fit_again : (bytes : List ℕ) (s : Snake) → IsFitSnake s → bytes ≡ snake_record s → read_snake is_utf8 bytes ≡ Some (s, [])
-fit_again bytes s fit is = ap (read_snake is_utf8) (is ∙ sym (append-nil (snake_record s))) ∙ snake_again is_utf8 s [] (fit_is_writable s fit, fit_is_text s fit)
-
 -- if there is a snake, reading can fail only for memory
 pub failed_for_memory : (error : Decode) (read : Option Snake) (s : Snake) → read ≡ Some s → Fails error read → error ≡ Memory
 failed_for_memory NotARecord read s is none = absurd cc

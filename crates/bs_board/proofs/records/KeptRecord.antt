@@ -25,11 +25,10 @@ use Rattle.bs_board.proofs.records.SnakeRecord.{snake_again}
 use Rattle.bs_board.proofs.records.Writable.{legal_is_writable}
 
 -- if there is a value, reading can fail only for memory
-pub fails_for_memory : {X Y : Type 0} (view : X → Y) (read : Result X Decode) (stands : Option Y) (y : Y) → stands ≡ Some y → Gives view read stands
-    → IfErr read (λ error. error ≡ Memory)
-fails_for_memory view (Ok x) stands y is given = tt
-fails_for_memory view (Err NotARecord) stands y is given = absurd cc
-fails_for_memory view (Err Memory) stands y is given = refl
+fails_for_memory : {X : Type 0} (read : Result X Decode) (stands : Option X) (x : X) → stands ≡ Some x → Gives (λ x. x) read stands → IfErr read (λ error. error ≡ Memory)
+fails_for_memory (Ok y) stands x is given = tt
+fails_for_memory (Err NotARecord) stands x is given = absurd cc
+fails_for_memory (Err Memory) stands x is given = refl
 
 -- and what is found is that value
 finds_value : {X E : Type 0} (read : Result X Decode) (result : Result X E) (stands : Option X) (x : X) → stands ≡ Some x → Gives (λ x. x) read stands
@@ -43,7 +42,7 @@ finds_value (Err error) (Ok y) stands x is given found = absurd cc
 pub board_fails_for_memory : (bytes : List ℕ) (read : Result Board Decode) → IsLegalRecord bytes → Gives (λ board. board) read (read_board is_utf8 bytes)
     → IfErr read (λ error. error ≡ Memory)
 board_fails_for_memory bytes read kept =
-    fails_for_memory (λ board. board) read (read_board is_utf8 bytes) kept.board (record_is_read bytes kept.board kept.legal kept.is)
+    fails_for_memory read (read_board is_utf8 bytes) kept.board (record_is_read bytes kept.board kept.legal kept.is)
 
 pub board_is_found : {E : Type 0} (bytes : List ℕ) (b : Board) (read : Result Board Decode) (result : Result Board E) → IsLegal b → bytes ≡ record_of b
     → Gives (λ board. board) read (read_board is_utf8 bytes) → IfOk result (λ board. read ≡ Ok board) → IfOk result (λ board. board ≡ b)
@@ -92,7 +91,7 @@ ground_stands bytes b legal is = ap read_ground is ∙ ground_again b (legal_is_
 pub ground_fails_for_memory : (bytes : List ℕ) (read : Result Board Decode) → IsLegalRecord bytes → Gives (λ board. board) read (read_ground bytes)
     → IfErr read (λ error. error ≡ Memory)
 ground_fails_for_memory bytes read kept =
-    fails_for_memory (λ board. board) read (read_ground bytes) (record kept.board { snakes = [] }) (ground_stands bytes kept.board kept.legal kept.is)
+    fails_for_memory read (read_ground bytes) (record kept.board { snakes = [] }) (ground_stands bytes kept.board kept.legal kept.is)
 
 pub ground_is_found : {E : Type 0} (bytes : List ℕ) (b : Board) (read : Result Board Decode) (result : Result Board E) → IsLegal b → bytes ≡ record_of b
     → Gives (λ board. board) read (read_ground bytes) → IfOk result (λ board. read ≡ Ok board) → IfOk result (λ board. board ≡ record b { snakes = [] })

@@ -2,19 +2,15 @@
 
 ghost use Rattle.std.specs.Prelude.{◌≡◌, Ok, IfOk, IfErr, MatchResult, drop, take};
 ghost use Rattle.bs_board.specs.declared.boards.board.Board.{Board as AnyBoard};
-ghost use Rattle.bs_board.specs.declared.boards.snake.Snake.{Snake as AnySnake};
 ghost use Rattle.bs_board.specs.declared.records.decode_error.Decode.TheVariants.{Memory};
 ghost use Rattle.bs_board.specs.boards.Legal.{IsLegal};
 ghost use Rattle.bs_board.specs.records.Decoder.{Gives, read_ground};
-ghost use Rattle.bs_board.specs.records.FitSnake.{IsFitSnake};
 ghost use Rattle.bs_board.specs.records.Layout.{IsBoardBytes};
-ghost use Rattle.bs_board.specs.records.Record.{snake_record};
 
 use crate::boards::board::Board;
-use crate::boards::snake::Snake;
 use crate::boards::snakes::Snakes;
 use crate::records::decode_error::Decode;
-use crate::records::decoding::{read_cells, read_hazards, read_head, read_snake, read_snakes};
+use crate::records::decoding::{read_cells, read_hazards, read_head, read_snakes};
 use crate::records::layout::{BoardBytes, skip_snakes};
 use std::alloc::{AllocError, Global};
 
@@ -64,14 +60,4 @@ pub(crate) fn read_seats(
     let rest = skip_snakes(skipped, board.snakes);
     let (snakes, _) = read_snakes(alloc, count.min(board.seats - skipped), rest)?;
     Ok(snakes)
-}
-
-/// Decodes the snake whose part of a record the bytes are. They are not checked again, as
-/// `decode_snake` does.
-pub fn kept_snake(alloc: Global, bytes: &[u8]) -> Result<Snake, AllocError>
-    requires { (s : AnySnake) × IsFitSnake s × (bytes.now ≡ snake_record s) }
-    ensures { (s : AnySnake) → IsFitSnake s → bytes.now ≡ snake_record s → IfOk result (λ read. read ≡ s) }
-{
-    let (snake, _) = found(read_snake(alloc, bytes))?;
-    Ok(snake)
 }
