@@ -14,8 +14,7 @@ use crate::texts::{
     WholeText, last_board, two_replies,
 };
 use crate::turns::{
-    Feeding, FinishTurn, FirstBoard, FreeCells, Growing, MoveSnake, MoveSnakes, NextBoard,
-    Spawning, meeting,
+    Feeding, FinishTurn, FirstBoard, FreeCells, Growing, MoveSnake, NextBoard, Spawning, meeting,
 };
 use crate::values::{
     LONG_NAME, ON_HAZARDS, TWO_HEADS, bytes_of, kept_of, new_solo, on_hazards, plan_of,
@@ -184,12 +183,6 @@ fn spawn(rt: HostRuntime) -> Result<(), Fail> {
 fn move_snake(rt: HostRuntime) -> Result<(), Fail> {
     let alloc = rt.alloc();
     ask::<MoveSnake>(page_of(&rt), two_heads(alloc)?)
-}
-
-#[test]
-fn move_snakes(rt: HostRuntime) -> Result<(), Fail> {
-    let alloc = rt.alloc();
-    ask::<MoveSnakes>(page_of(&rt), two_heads(alloc)?)
 }
 
 #[test]
