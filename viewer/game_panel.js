@@ -122,6 +122,7 @@ class GamePanel {
     this.page.board.setAttribute('aria-label', 'No board');
     this.page.hazards.hidden = true;
     this.page.controls.hidden = true;
+    this.page.watch.hidden = true;
     this.page.facts.textContent =
       'No new of this game was accepted, so the transcript holds no board of it.';
   }
@@ -149,6 +150,7 @@ class GamePanel {
     page.round.replaceChildren(...game.rounds.map((round, index) => option(index + 1)));
     page.rounds.hidden = game.rounds.length < 2;
     page.controls.hidden = false;
+    page.watch.hidden = false;
     page.panel.hidden = false;
     this.refusals.show(game.refusals);
     this.onGame(game);
