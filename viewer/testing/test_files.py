@@ -93,6 +93,8 @@ BROKEN_LATER = [
     (("min_food",), -1, "its turn or the numbers for its food are out of their range"),
     (("over",), 0, "its mode or its member over is missing or wrong"),
     (("food",), [{"x": 5, "y": 0}], "its food is no list of cells"),
+    (("hazards",), [], "its hazards are no list of cells with a damage from 0 to 100"),
+    (("hazard_damage",), 14, "its hazards are no list of cells with a damage from 0 to 100"),
     (("snakes",), [], "it has no list of 1 to 8 snakes"),
     (("snakes", 0, "id"), 7, "a snake has no unique id"),
     (("snakes", 0, "body", 1, "x"), 5, "the body of s is no list of cells"),
