@@ -41,12 +41,6 @@ def program_of(given: argparse.Namespace) -> Path:
     return program.resolve()
 
 
-def ignore_lost_connections(loop: asyncio.AbstractEventLoop, context: dict[str, Any]) -> None:
-    """Ignores a lost connection in a task of aiohttp: the request reports it too."""
-    if not isinstance(context.get("exception"), ConnectionError):
-        loop.default_exception_handler(context)
-
-
 async def play_job(job: Job, store: Store, counts: Counts, address: Address | None) -> None:
     """Plays a job with its progress bar and, if there is an address, its page.
 
@@ -55,7 +49,6 @@ async def play_job(job: Job, store: Store, counts: Counts, address: Address | No
     task = asyncio.current_task()
     assert task is not None
     asyncio.get_running_loop().add_signal_handler(signal.SIGTERM, task.cancel)
-    asyncio.get_running_loop().set_exception_handler(ignore_lost_connections)
     async with AsyncExitStack() as stack:
         bar = stack.enter_context(ProgressBar(counts))
         watches: list[Watch] = [counts, bar]
