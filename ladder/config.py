@@ -17,6 +17,9 @@ MODES = ("standard", "solo", "constrictor", "wrapped")
 PAIRINGS = ("round_robin", "duels", "tables")
 MOST_BOTS = 200
 MOST_AT_ONCE = 64  # games that are open in a host
+AT_ONCE = 16
+GAMES_A_BOT = 2
+ORDER = "circle"  # of the games of a round: a folder of another order is another ladder's
 MOST_TURNS = 10_000
 LONGEST_FOOD = 32  # words of a move: at most this number of foods can appear in a turn
 
@@ -63,12 +66,13 @@ class Config:
     seed: int
     timeout: int  # milliseconds
     at_once: int  # games
+    games_a_bot: int  # at the same time
 
     @property
     def identity(self) -> dict[str, Any]:
         """What decides the games. A folder with results of another identity is refused.
 
-        The addresses of the bots, the number of rounds and the number of games at once may change.
+        The addresses of the bots, the number of rounds and the games at once may change.
         """
         return {
             "bots": [bot.name for bot in self.bots],
@@ -77,11 +81,14 @@ class Config:
             "snakes": self.snakes,
             "seed": self.seed,
             "timeout": self.timeout,
+            "order": ORDER,
         }
 
 
 def config_again(identity: dict[str, Any], folder: Path, rounds: int) -> Config:
     """The configuration of an identity. Its bots have no addresses."""
+    if identity.get("order") != ORDER:
+        raise ConfigFault(f"{folder} has games that an earlier version paired in another order")
     return Config(
         folder=folder,
         bots=tuple(Bot(name, "") for name in identity["bots"]),
@@ -92,6 +99,7 @@ def config_again(identity: dict[str, Any], folder: Path, rounds: int) -> Config:
         seed=identity["seed"],
         timeout=identity["timeout"],
         at_once=1,
+        games_a_bot=1,
     )
 
 
@@ -154,7 +162,8 @@ def config_of(table: dict[str, Any], place: str) -> Config:
         rounds=members.number("rounds", 1, 1, 100_000),
         seed=members.number("seed", 1, 0, 2**63 - 1),
         timeout=members.number("timeout", 500, 10, 60_000),
-        at_once=members.number("at_once", MOST_AT_ONCE, 1, MOST_AT_ONCE),
+        at_once=members.number("at_once", AT_ONCE, 1, MOST_AT_ONCE),
+        games_a_bot=members.number("games_a_bot", GAMES_A_BOT, 1, MOST_AT_ONCE),
     )
     members.finish()
     if len(bots) < config.snakes:
