@@ -4,7 +4,6 @@ from __future__ import annotations
 
 import json
 import re
-import unicodedata
 from collections.abc import Sequence
 from dataclasses import dataclass, replace
 from typing import Any
@@ -13,6 +12,7 @@ from ladder.addresses import AddressBook
 from ladder.connections import Connections, Exchange
 from ladder.payloads import Look
 from ladder.pulse import Pulse
+from ladder.texts import fit_text
 from ladder.urls import request_of, target_of
 
 DIRECTIONS = ("up", "down", "left", "right")
@@ -21,7 +21,6 @@ LONGEST_SHOUT = 256
 LOOK_SECONDS = 5.0
 LAG = 0.1  # of the timeout: if the ladder itself is late by more, it asks again
 MOST_REPEATS = 20  # of a request, while the ladder itself is late
-UNFIT = ("Cc", "Zl", "Zp")  # kinds of characters that no shout has: controls, ends of lines
 
 Request = tuple[str, bytes]  # the address of a bot or of one of its calls, and the body
 
@@ -145,15 +144,6 @@ def answer_of(members: dict[str, Any]) -> Answer:
     if move not in DIRECTIONS:
         raise NoAnswer("direction")
     return Answer(move, None, 0, fit_text(shout[:LONGEST_SHOUT]) if isinstance(shout, str) else "")
-
-
-def fit_text(text: str) -> str:
-    """A text that every reader of JSON takes, and that moves no cursor of a terminal.
-
-    Control characters are dropped; a lone surrogate, which is no character, becomes `?`.
-    """
-    kept = "".join(it for it in text if unicodedata.category(it) not in UNFIT)
-    return kept.encode("utf-8", "replace").decode()
 
 
 def look_of(members: dict[str, Any]) -> Look:

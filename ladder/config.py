@@ -2,6 +2,8 @@
 
 from __future__ import annotations
 
+import hashlib
+import json
 import re
 import tomllib
 from collections.abc import Sequence
@@ -19,6 +21,7 @@ MOST_BOTS = 200
 MOST_AT_ONCE = 64  # games that are open in a host
 AT_ONCE = 16
 GAMES_A_BOT = 2
+ID_LETTERS = 8
 ORDER = "circle"  # of the games of a round: a folder of another order is another ladder's
 MOST_TURNS = 10_000
 LONGEST_FOOD = 32  # words of a move: at most this number of foods can appear in a turn
@@ -64,9 +67,15 @@ class Config:
     snakes: int  # a game
     rounds: int
     seed: int
+    has_seed: bool  # whether the configuration gives it; otherwise it is drawn
     timeout: int  # milliseconds
     at_once: int  # games
     games_a_bot: int  # at the same time
+
+    @property
+    def letters(self) -> str:
+        """Letters that no other ladder has, for the ids of its games."""
+        return hashlib.sha256(json.dumps(self.identity).encode()).hexdigest()[:ID_LETTERS]
 
     @property
     def identity(self) -> dict[str, Any]:
@@ -80,6 +89,7 @@ class Config:
             "pairing": self.pairing,
             "snakes": self.snakes,
             "seed": self.seed,
+            "has_seed": self.has_seed,
             "timeout": self.timeout,
             "order": ORDER,
         }
@@ -97,6 +107,7 @@ def config_again(identity: dict[str, Any], folder: Path, rounds: int) -> Config:
         snakes=identity["snakes"],
         rounds=rounds,
         seed=identity["seed"],
+        has_seed=identity["has_seed"],
         timeout=identity["timeout"],
         at_once=1,
         games_a_bot=1,
@@ -153,6 +164,7 @@ def config_of(table: dict[str, Any], place: str) -> Config:
     folder = Path(members.text("folder"))
     rules = rules_of(members)
     pairing = members.word("pairing", PAIRINGS)
+    has_seed = "seed" in members.table
     config = Config(
         folder=folder,
         bots=bots,
@@ -160,7 +172,8 @@ def config_of(table: dict[str, Any], place: str) -> Config:
         pairing=pairing,
         snakes=snakes_of(members, rules, pairing),
         rounds=members.number("rounds", 1, 1, 100_000),
-        seed=members.number("seed", 1, 0, 2**63 - 1),
+        seed=members.number("seed", 0, 0, 2**63 - 1),
+        has_seed=has_seed,
         timeout=members.number("timeout", 500, 10, 60_000),
         at_once=members.number("at_once", AT_ONCE, 1, MOST_AT_ONCE),
         games_a_bot=members.number("games_a_bot", GAMES_A_BOT, 1, MOST_AT_ONCE),

@@ -25,8 +25,10 @@ from ladder.page import Address, address_of, page
 from ladder.pairing import Part, part_of
 from ladder.play import Job, locked, play
 from ladder.progress import Counts, ProgressBar
+from ladder.seeds import seed_line, with_seed
 from ladder.standings import as_csv, as_json, as_table, standings_of
 from ladder.store import Store, StoreFault, open_store
+from ladder.texts import fit_text
 from ladder.watch import Watch
 
 INTERRUPTED = 130
@@ -67,7 +69,7 @@ def rows_of(folder: Path) -> list[dict[str, Any]]:
 
 def run_play(given: argparse.Namespace) -> int:
     """Plays the games of a ladder that are not done."""
-    config = read_config(given.config)
+    config = with_seed(read_config(given.config))
     part = given.part or Part(1, 1)
     folder = config.folder / str(part) if given.part else config.folder
     job = Job(config, folder, part, program_of(given))
@@ -75,7 +77,7 @@ def run_play(given: argparse.Namespace) -> int:
     make_folders(folder)
     with locked(folder), closing(Store(folder)) as store:
         asyncio.run(play_job(job, store, counts, given.page))  # waits for its threads
-    for line in counts.summary():
+    for line in [*counts.summary(), seed_line(config.identity, is_closed=False)]:
         print(f"ladder: {line}")
     return 0
 
@@ -84,10 +86,27 @@ def run_standings(given: argparse.Namespace) -> int:
     """Prints the standings of a folder."""
     with closing(open_store(given.folder)) as store:
         standings = standings_of(store)
+        seed = seed_line_of(store)
     if given.csv or given.json:
         print(as_csv(standings) if given.csv else as_json(standings), end="")
     else:
         Console(width=None if sys.stdout.isatty() else 160).print(as_table(standings))
+        print(f"\n{seed}" if seed else "")
+    return 0
+
+
+def seed_line_of(store: Store) -> str:
+    """What everybody may know of the seed of a store; empty if it has no ladder."""
+    identity = store.identity()
+    return seed_line(identity, store.is_closed()) if identity else ""
+
+
+def run_close(given: argparse.Namespace) -> int:
+    """Closes a ladder, and prints its seed."""
+    with closing(open_store(given.folder)) as store, locked(given.folder):
+        if not store.is_closed():
+            store.close_ladder()
+        print(f"ladder: {seed_line_of(store)}")
     return 0
 
 
@@ -99,7 +118,7 @@ def run_check(given: argparse.Namespace) -> int:
             given.folder, program_of(given), lambda games: status.update(f"{games} games checked")
         )
     for name, why in checked.faults.items():
-        print(f"{name}: {why}")
+        print(fit_text(f"{name}: {why}"))
     print(f"{checked.games - len(checked.faults)} of {checked.games} games agree")
     return 1 if checked.faults else 0
 
@@ -131,6 +150,9 @@ def parser() -> argparse.ArgumentParser:
     one.add_argument("folder", metavar="FOLDER", type=Path)
     add_program(one)
     one.set_defaults(run=run_check)
+    one = commands.add_parser("close", help="adds no more games, and publishes a drawn seed")
+    one.add_argument("folder", metavar="FOLDER", type=Path)
+    one.set_defaults(run=run_close)
     one = commands.add_parser("merge", help="joins the folders of the parts of a ladder")
     one.add_argument("into", metavar="INTO", type=Path)
     one.add_argument("folders", metavar="FOLDER", type=Path, nargs="+")
@@ -149,7 +171,7 @@ def main(words: Sequence[str] | None = None) -> int:
     try:
         return int(given.run(given))
     except FAULTS as fault:
-        print(f"ladder: {fault}", file=sys.stderr)
+        print(f"ladder: {fit_text(str(fault))}", file=sys.stderr)
         return 1
     except (KeyboardInterrupt, asyncio.CancelledError):
         print("ladder: stopped; the same command goes on", file=sys.stderr)

@@ -44,7 +44,7 @@ def game_text(config: Config, name: str) -> str:
     }
     return text_of(
         {
-            "id": name,
+            "id": f"{config.letters}-{name}",
             "ruleset": {"name": rules.mode, "version": "v1.0.0", "settings": settings},
             "map": "empty" if rules.mode == "constrictor" else "standard",
             "timeout": config.timeout,

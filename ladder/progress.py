@@ -16,6 +16,7 @@ from ladder.host import Board
 from ladder.outcome import Outcome
 from ladder.pairing import Fixture
 from ladder.standings import quantile
+from ladder.texts import fit_text
 from ladder.watch import Watch
 
 REFRESHES_A_SECOND = 4
@@ -152,7 +153,8 @@ class ProgressBar(Watch):
         self.bar.update(self.task, completed=self.counts.done)
 
     def say(self, text: str) -> None:
+        line = f"ladder: {fit_text(text)}"
         if self.console.is_terminal:
-            self.console.print(f"ladder: {text}")
+            self.console.print(line)
         else:
-            print(f"ladder: {text}", file=sys.stderr)
+            print(line, file=sys.stderr)

@@ -21,7 +21,7 @@ def test_what_is_left_out_is_usual() -> None:
     assert config.rules == Rules("standard", 11, 11, 1, 15, 10_000)
     assert (config.pairing, config.snakes, config.rounds) == ("round_robin", 2, 1)
     assert (config.at_once, config.games_a_bot) == (16, 2)
-    assert (config.timeout, config.seed) == (500, 1)
+    assert (config.timeout, config.has_seed) == (500, False)
     assert config.bots[3].url == "http://127.0.0.1:8003"
     assert config_of(table(pairing="tables"), "here").snakes == 4
     assert config_of(table(mode="solo"), "here").snakes == 1
@@ -80,7 +80,8 @@ def test_identity_is_what_decides_the_games() -> None:
         "",
     )
     assert same.identity == config.identity
-    assert config_of(table(seed=2), "").identity != config.identity
+    assert config_of(table(seed=0), "").identity != config.identity
+    assert config_of(table(seed=2), "").letters != config.letters == same.letters
     assert config_of(table(timeout=100), "").identity != config.identity
     assert config_again(config.identity, Path("x"), 3).identity == config.identity
     with pytest.raises(ConfigFault, match="earlier version"):

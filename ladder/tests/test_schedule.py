@@ -94,11 +94,11 @@ def test_bot_that_answers_slower_with_more_games_is_named() -> None:
     counts.end(finished("r0001-t002", "slow", "other2"))
     assert counts.strain.playing["slow"] == 1
     assert counts.summary()[2:] == []
-    for _ in range(40):
+    for _ in range(60):
         counts.show(Fixture("r0001-t003", 1, ("slow", "other2")), {})
         counts.count({"slow": Answer("up", None, 80, is_lagged=True)}, None)
     assert counts.summary()[2:] == [
-        "the ladder itself was late in 40 turns: play fewer games at once",
+        "the ladder itself was late in 60 turns: play fewer games at once",
         "slow answers in 15 ms with 1 of its games at once, in 80 ms with 2: a smaller games_a_bot "
         "may serve it better",
     ]
