@@ -10,29 +10,36 @@ import sys
 from collections.abc import Sequence
 from contextlib import AsyncExitStack, closing
 from pathlib import Path
-from typing import Any
 
 from rich.console import Console
 
 from ladder.check import check
 from ladder.config import ConfigFault, read_config
-from ladder.feed import Feed
 from ladder.game import GameFault
 from ladder.game_files import make_folders
 from ladder.host import PROGRAM, HostDied, HostFault
 from ladder.merge import merge
-from ladder.page import Address, address_of, page
+from ladder.page_link import Address, PageFault, PageLink, address_of
 from ladder.pairing import Part, part_of
 from ladder.play import Job, locked, play
 from ladder.progress import Counts, ProgressBar
-from ladder.seeds import seed_line, with_seed
+from ladder.seeds import seed_line, seed_line_of, with_seed
 from ladder.standings import as_csv, as_json, as_table, standings_of
 from ladder.store import Store, StoreFault, open_store
 from ladder.texts import fit_text
 from ladder.watch import Watch
 
 INTERRUPTED = 130
-FAULTS = (ConfigFault, GameFault, HostDied, HostFault, StoreFault, OSError, sqlite3.Error)
+FAULTS = (
+    ConfigFault,
+    GameFault,
+    HostDied,
+    HostFault,
+    PageFault,
+    StoreFault,
+    OSError,
+    sqlite3.Error,
+)
 
 
 def program_of(given: argparse.Namespace) -> Path:
@@ -55,16 +62,10 @@ async def play_job(job: Job, store: Store, counts: Counts, address: Address | No
         bar = stack.enter_context(ProgressBar(counts))
         watches: list[Watch] = [counts, bar]
         if address is not None:
-            feed = Feed(lambda: rows_of(job.folder), counts.line)
-            bar.say(f"the page is {await stack.enter_async_context(page(feed, address))}")
-            watches.append(feed)
+            link = PageLink(job.folder, address, counts.line, bar.say)
+            watches.append(await stack.enter_async_context(link))
+            bar.say(f"the page is {link.address}")
         await play(job, store, watches)
-
-
-def rows_of(folder: Path) -> list[dict[str, Any]]:
-    """Reads the standings of a folder, by a new connection, since another thread calls this."""
-    with closing(open_store(folder)) as store:
-        return [standing.row() for standing in standings_of(store)]
 
 
 def run_play(given: argparse.Namespace) -> int:
@@ -93,12 +94,6 @@ def run_standings(given: argparse.Namespace) -> int:
         Console(width=None if sys.stdout.isatty() else 160).print(as_table(standings))
         print(f"\n{seed}" if seed else "")
     return 0
-
-
-def seed_line_of(store: Store) -> str:
-    """What everybody may know of the seed of a store; empty if it has no ladder."""
-    identity = store.identity()
-    return seed_line(identity, store.is_closed()) if identity else ""
 
 
 def run_close(given: argparse.Namespace) -> int:

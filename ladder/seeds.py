@@ -11,7 +11,7 @@ from pathlib import Path
 from typing import Any
 
 from ladder.config import Config
-from ladder.store import StoreFault
+from ladder.store import Store, StoreFault
 
 SEED_BITS = 128
 
@@ -49,3 +49,9 @@ def seed_line(identity: dict[str, Any], is_closed: bool) -> str:
         return f"the seed {seed} was given: who knows it can foretell what is drawn"
     digest = f"the SHA-256 of its digits is {hashlib.sha256(seed.encode()).hexdigest()}"
     return f"the seed was {seed}; {digest}" if is_closed else f"the seed is secret; {digest}"
+
+
+def seed_line_of(store: Store) -> str:
+    """What everybody may know of the seed of a store; empty if it has no ladder."""
+    identity = store.identity()
+    return seed_line(identity, store.is_closed()) if identity else ""
