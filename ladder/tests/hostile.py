@@ -143,7 +143,7 @@ async def hangs(*_: object) -> None:
 
 
 @kind("slow head")
-async def drips_head(writer: Writer, _: dict[str, Any]) -> None:
+async def drips_head(writer: Writer, state: dict[str, Any]) -> None:
     for byte in GOOD:
         writer.write(bytes([byte]))
         await asyncio.sleep(0.03)
@@ -152,7 +152,7 @@ async def drips_head(writer: Writer, _: dict[str, Any]) -> None:
 @kind("slow body")
 async def drips_body(writer: Writer, _: dict[str, Any]) -> None:
     writer.write(OK + b"Content-Length: 200\r\n\r\n")
-    for _ in range(100):
+    for at in range(100):
         writer.write(b" ")
         await asyncio.sleep(0.02)
     raise Closes
@@ -161,7 +161,7 @@ async def drips_body(writer: Writer, _: dict[str, Any]) -> None:
 @kind("bytes one by one")
 async def pours(writer: Writer, _: dict[str, Any]) -> None:
     writer.write(OK + b"\r\n")
-    for _ in range(20_000):
+    for at in range(20_000):
         writer.write(b" ")
         await writer.drain()
         await asyncio.sleep(0)

@@ -94,7 +94,7 @@ class Judged:
 @pytest.fixture(scope="module")
 def servers() -> Iterator[list[Served]]:
     """A process of honest bots, and some of hostile ones."""
-    words = [sys.executable, HERE / "hostile.py"]
+    words: list[str | Path] = [sys.executable, HERE / "hostile.py"]
     with serving([sys.executable, HERE / "honest.py"], free_port()) as good:
         with serving(words, free_port()) as one, serving(words, free_port()) as two:
             with serving(words, free_port()) as three:
