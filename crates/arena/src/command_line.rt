@@ -1,7 +1,7 @@
 //! The command line: the request that its words make.
 ghost use Rattle.std.specs.Prelude.{◌≡◌, ◌≤◌, ◌∷◌, [], codes, length, map, None, Some, IfOk, IsOk, option_map, false, true};
 ghost use Rattle.std.specs.Prelude.{Bool};
-ghost use Rattle.clap.specs.Words.{App, FailsBy, app_of, found_of, rows_of, rule_of, with_rule};
+ghost use Rattle.clap.specs.Words.{App, FailsBy, app_of, found_of, new_app, rows_of, rule_of, with_rule};
 ghost use Rattle.arena.specs.Words.{alone_app, alone_asked, arena_app, asked_of, blocks_at, blocks_rule, file_rule, game_rule, live_app, serve_app, serve_asked, stay_rule, workers_rule, workers_at, stay_at, text_at, top_app, IsArgOf, IsCommandOf, command_in, mistakes_in, asked_for, asked_in};
 ghost use Rattle.clap.specs.Words.{subcommand_rows_of};
 
@@ -20,16 +20,22 @@ const FIRST_STAY: u32 = 1;
 const VERSION: &str = "1.1.0";
 
 /// The end of `arena --help`.
-const HELP: &str = "\
+const HELP_END: &str = "\
 Without a word it serves the standard input, as 'arena serve -' does, and waits for its end.
 
 Example: arena serve examples/first_file.jsonl";
 
-const SERVE_HELP: &str = "Example: arena serve games.jsonl --blocks 168 > games.transcript";
+const SERVE_ABOUT: &str = "Plays the games of a command file and writes their transcript";
 
-const ALONE_HELP: &str = "Example: arena alone games.jsonl --game a > a.transcript";
+const SERVE_END: &str = "Example: arena serve games.jsonl --blocks 168 > games.transcript";
 
-const LIVE_HELP: &str = "Example: arena live --blocks 384 < games.jsonl";
+const ALONE_ABOUT: &str = "Plays one game of a command file by its own lines alone, on one worker";
+
+const ALONE_END: &str = "Example: arena alone games.jsonl --game a > a.transcript";
+
+const LIVE_ABOUT: &str = "Answers the lines of the standard input as they come";
+
+const LIVE_END: &str = "Example: arena live --blocks 384 < games.jsonl";
 
 /// `arena serve`.
 #[derive(Clone, Copy, Debug)]
@@ -114,13 +120,18 @@ fn stay_option<'a>(alloc: Global) -> Arg<'a>
         .help("Which stay of that game to play, from 1 on")
 }
 
+/// A command with the first and the last text of its help, and no argument yet.
+fn described<'a>(alloc: Global, name: &'a str, about: &'a str, end: &'a str) -> Command<'a>
+    ensures { IsCommandOf (new_app name.now) result }
+{
+    Command::new(alloc, name).about(about).after_help(end)
+}
+
 #[tactic(auto, using(crate::proofs::Commands::adds_arg))]
 fn serve_command<'a>(alloc: Global) -> Result<Command<'a>, AllocError>
     ensures { IfOk result (IsCommandOf serve_app) }
 {
-    Command::new(alloc, "serve")
-        .about("Plays the games of a command file and writes their transcript")
-        .after_help(SERVE_HELP)
+    described(alloc, "serve", SERVE_ABOUT, SERVE_END)
         .arg(file_word(alloc))?
         .arg(blocks_option(alloc))?
         .arg(workers_option(alloc))
@@ -130,9 +141,7 @@ fn serve_command<'a>(alloc: Global) -> Result<Command<'a>, AllocError>
 fn alone_command<'a>(alloc: Global) -> Result<Command<'a>, AllocError>
     ensures { IfOk result (IsCommandOf alone_app) }
 {
-    Command::new(alloc, "alone")
-        .about("Plays one game of a command file by its own lines alone, on one worker")
-        .after_help(ALONE_HELP)
+    described(alloc, "alone", ALONE_ABOUT, ALONE_END)
         .arg(file_word(alloc))?
         .arg(game_option(alloc))?
         .arg(stay_option(alloc))?
@@ -143,10 +152,7 @@ fn alone_command<'a>(alloc: Global) -> Result<Command<'a>, AllocError>
 fn live_command<'a>(alloc: Global) -> Result<Command<'a>, AllocError>
     ensures { IfOk result (IsCommandOf live_app) }
 {
-    Command::new(alloc, "live")
-        .about("Answers the lines of the standard input as they come")
-        .after_help(LIVE_HELP)
-        .arg(blocks_option(alloc))
+    described(alloc, "live", LIVE_ABOUT, LIVE_END).arg(blocks_option(alloc))
 }
 
 /// The program's own name and version, with no command yet.
@@ -155,7 +161,7 @@ fn top_command<'a>(alloc: Global) -> Command<'a>
 {
     Command::new(alloc, "arena")
         .about("A host for many Battlesnake games")
-        .after_help(HELP)
+        .after_help(HELP_END)
         .version(VERSION)
         .subcommand_required(true)
 }
