@@ -7,6 +7,7 @@ import io
 import json
 import math
 import random
+import sqlite3
 import time
 from collections import Counter
 from pathlib import Path
@@ -205,6 +206,20 @@ def test_folders_that_do_not_fit_are_not_merged(tmp_path: Path) -> None:
     with pytest.raises(StoreFault, match="another ladder: seed differ"):
         store.begin({**IDENTITY, "seed": 2}, BOTS)
     store.close()
+
+
+def test_folder_that_may_not_be_written_is_named(
+    tmp_path: Path, monkeypatch: pytest.MonkeyPatch
+) -> None:
+    """SQLite wants to finish the write of a killed ladder, and may not."""
+
+    class Base:
+        def executescript(self, _: str) -> None:
+            raise sqlite3.OperationalError("attempt to write a readonly database")
+
+    monkeypatch.setattr(sqlite3, "connect", lambda *_, **__: Base())
+    with pytest.raises(StoreFault, match="as its owner once, or read a copy"):
+        Store(tmp_path)
 
 
 def test_names_of_games_are_checked(tmp_path: Path) -> None:
