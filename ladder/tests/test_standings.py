@@ -18,8 +18,9 @@ import pytest
 from ladder.config import Bot
 from ladder.merge import merge
 from ladder.outcome import Finish, Outcome, Tally, finishes_of
+from ladder.quantiles import quantile
 from ladder.rating import ratings
-from ladder.standings import as_csv, as_json, cells_of, quantile, standings_of
+from ladder.standings import as_csv, as_json, cells_of, standings_of
 from ladder.store import Store, StoreFault, open_store
 
 IDENTITY = {"seed": 1, "bots": ["a", "b", "c"]}
