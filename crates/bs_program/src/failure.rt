@@ -1,6 +1,6 @@
 //! Why a request failed, by the call that failed.
 ghost use Rattle.std.specs.Prelude.{◌≡◌};
-ghost use Rattle.arena.specs.Reasons.{reason_of};
+ghost use Rattle.bs_program.specs.Reasons.{reason_of};
 
 use crate::reason::Reason;
 use bs_host::{Cut, Fault, LiveFault, ReadFault};

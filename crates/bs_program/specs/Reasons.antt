@@ -12,10 +12,10 @@ use Rattle.bs_host.specs.declared.live_fault.LiveFault.{LiveFault}
 use Rattle.bs_host.specs.declared.live_fault.LiveFault.TheVariants as live
 use Rattle.bs_host.specs.declared.read.ReadFault.{ReadFault}
 use Rattle.bs_host.specs.declared.read.ReadFault.TheVariants as read
-use Rattle.arena.specs.declared.failure.Failure.{Failure}
-use Rattle.arena.specs.declared.failure.Failure.TheVariants as failure
-use Rattle.arena.specs.declared.reason.Reason.{Reason}
-use Rattle.arena.specs.declared.reason.Reason.TheVariants.{NoText, CannotRead, FileTooLong, Plan, NoSuchGame, OutOfMemory, WriteFailed, FlushFailed, Broken}
+use Rattle.bs_program.specs.declared.failure.Failure.{Failure}
+use Rattle.bs_program.specs.declared.failure.Failure.TheVariants as failure
+use Rattle.bs_program.specs.declared.reason.Reason.{Reason}
+use Rattle.bs_program.specs.declared.reason.Reason.TheVariants.{NoText, CannotRead, FileTooLong, Plan, NoSuchGame, OutOfMemory, WriteFailed, FlushFailed, Broken}
 
 abbrev pub status_of : Reason → ℕ
 status_of NoText = 2
