@@ -10,14 +10,18 @@ from pathlib import Path
 from typing import Any
 from urllib.parse import urlsplit
 
-from ladder.starts import most_snakes
+from ladder.host import PLAN, PLAN_WITH_HAZARDS
+from ladder.maps import HazardMap, map_again
+from ladder.starts import Cell, most_snakes
 
 BOT_NAME = re.compile(r"[A-Za-z0-9][A-Za-z0-9_.-]{0,31}")
 MODES = ("standard", "solo", "constrictor", "wrapped")
+MAPS = ("standard", "royale")
 PAIRINGS = ("round_robin", "duels", "tables")
 MOST_BOTS = 200
 MOST_AT_ONCE = 64  # games that are open in a host
 MOST_TURNS = 10_000
+MOST_HAZARDS = 2_500
 LONGEST_FOOD = 32  # words of a move: at most this number of foods can appear in a turn
 
 
@@ -43,6 +47,19 @@ class Rules:
     min_food: int
     food_chance: int
     turns: int  # after which a game ends undecided
+    hazards: HazardMap | None = None
+
+    @property
+    def plan(self) -> bytes:
+        """The first line of the command files. Only hazards need the newest version."""
+        return PLAN if self.hazards is None else PLAN_WITH_HAZARDS
+
+    @property
+    def members(self) -> dict[str, Any]:
+        """The values of JSON from which `rules_again` makes these rules."""
+        members = asdict(self)
+        del members["hazards"]
+        return {**members, "hazards": self.hazards.members} if self.hazards else members
 
     @property
     def words(self) -> int:
@@ -72,7 +89,7 @@ class Config:
         """
         return {
             "bots": [bot.name for bot in self.bots],
-            "rules": asdict(self.rules),
+            "rules": self.rules.members,
             "pairing": self.pairing,
             "snakes": self.snakes,
             "seed": self.seed,
@@ -85,7 +102,7 @@ def config_again(identity: dict[str, Any], folder: Path, rounds: int) -> Config:
     return Config(
         folder=folder,
         bots=tuple(Bot(name, "") for name in identity["bots"]),
-        rules=Rules(**identity["rules"]),
+        rules=rules_again(identity["rules"]),
         pairing=identity["pairing"],
         snakes=identity["snakes"],
         rounds=rounds,
@@ -93,6 +110,12 @@ def config_again(identity: dict[str, Any], folder: Path, rounds: int) -> Config:
         timeout=identity["timeout"],
         at_once=1,
     )
+
+
+def rules_again(members: dict[str, Any]) -> Rules:
+    if "hazards" in members:
+        members = {**members, "hazards": map_again(members["hazards"])}
+    return Rules(**members)
 
 
 class Members:
@@ -163,14 +186,41 @@ def config_of(table: dict[str, Any], place: str) -> Config:
 
 
 def rules_of(members: Members) -> Rules:
+    width, height = (members.number(side, 11, 3, 25) for side in ("width", "height"))
     return Rules(
         mode=members.word("mode", MODES),
-        width=members.number("width", 11, 3, 25),
-        height=members.number("height", 11, 3, 25),
+        width=width,
+        height=height,
         min_food=members.number("min_food", 1, 0, LONGEST_FOOD),
         food_chance=members.number("food_chance", 15, 0, 100),
         turns=members.number("turns", MOST_TURNS, 1, MOST_TURNS),
+        hazards=hazards_of(members, width, height),
     )
+
+
+def hazards_of(members: Members, width: int, height: int) -> HazardMap | None:
+    """The map of the games: royale, or one of the given cells; None if there are no hazards."""
+    is_royale = members.word("map", MAPS) == "royale"
+    cells = members.table.pop("hazards", None)
+    if is_royale and cells is not None:
+        raise members.fault("the map royale draws its hazards, so hazards can't be given")
+    if not is_royale and cells is None:
+        return None
+    return HazardMap(
+        damage=members.number("hazard_damage", 14, 0, 100),
+        shrink_every=members.number("shrink_every", 25, 1, MOST_TURNS) if is_royale else 0,
+        cells=() if is_royale else hazard_cells(members, cells, width, height),
+    )
+
+
+def hazard_cells(members: Members, cells: Any, width: int, height: int) -> tuple[Cell, ...]:
+    if not isinstance(cells, list) or not 1 <= len(cells) <= MOST_HAZARDS:
+        raise members.fault(f"hazards has to be a list of 1 to {MOST_HAZARDS} cells [x, y]")
+    for cell in cells:
+        is_pair = isinstance(cell, list) and [type(part) for part in cell] == [int, int]
+        if not is_pair or not (0 <= cell[0] < width and 0 <= cell[1] < height):
+            raise members.fault(f"{cell!r} in hazards is no cell [x, y] of the board")
+    return tuple(Cell(*cell) for cell in cells)
 
 
 def snakes_of(members: Members, rules: Rules, pairing: str) -> int:

@@ -47,15 +47,16 @@ class GameFiles:
     `answers` has a line for each turn, written before the move of that turn.
     """
 
-    def __init__(self, folder: Path, name: str) -> None:
+    def __init__(self, folder: Path, name: str, plan: bytes = PLAN) -> None:
         self.folder = folder
         self.name = name
+        self.plan = plan
 
     def __enter__(self) -> GameFiles:
         self.commands = LineFile(command_file(self.folder, self.name))
         self.answers = LineFile(answers_file(self.folder, self.name))
         if not self.commands.lines:
-            self.commands.write(PLAN)
+            self.commands.write(self.plan)
         self.old_lines = self.commands.lines[1:]
         self.answers.cut(sum(b'"do":"move"' in line for line in self.old_lines))
         return self

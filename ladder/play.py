@@ -52,7 +52,7 @@ async def play(job: Job, store: Store, watches: Sequence[Watch]) -> None:
         forget_answers(job.folder, name)
     async with (
         BotClient(config.timeout / 1000) as client,
-        HostKeeper(job.program, BLOCKS_OF_GAME * config.at_once) as keeper,
+        HostKeeper(job.program, BLOCKS_OF_GAME * config.at_once, config.rules.plan) as keeper,
     ):
         watch = Watches([*watches, keeper])
         watch.begin(len(done), len(fixtures))

@@ -28,8 +28,10 @@ class GameCard {
   constructor(name) {
     this.turn = made('span', { className: 'turn' });
     this.board = drawn('svg', { role: 'img' });
+    this.hazards = made('p', { className: 'hazard-legend', hidden: true });
     this.snakes = made('ul');
-    this.item = made('article', {}, made('h3', {}, name, ' ', this.turn), this.board, this.snakes);
+    this.item = made('article', {}, made('h3', {}, name, ' ', this.turn), this.board, this.hazards,
+      this.snakes);
     this.item.dataset.game = name;
   }
 
@@ -39,6 +41,7 @@ class GameCard {
     }
     this.turn.textContent = `turn ${board.turn}`;
     drawBoard(this.board, board, false);
+    showHazardLegend(this.hazards, board);
     this.snakes.replaceChildren(...board.snakes.map(snakeItem));
   }
 }

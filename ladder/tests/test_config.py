@@ -2,12 +2,16 @@
 
 from __future__ import annotations
 
+import json
 from pathlib import Path
 from typing import Any
 
 import pytest
 
 from ladder.config import ConfigFault, Rules, config_again, config_of, read_config
+from ladder.host import PLAN, PLAN_WITH_HAZARDS
+from ladder.maps import HazardMap
+from ladder.starts import Cell
 
 BOTS = [{"name": f"bot{at}", "url": f"http://127.0.0.1:80{at:02}/"} for at in range(8)]
 
@@ -54,6 +58,22 @@ def test_what_is_left_out_is_usual() -> None:
         ({"bot": [{**BOTS[0], "url": "http://a:99999/"}]}, "is no address"),
         ({"bot": [{**BOTS[0], "url": "http://a/?x=1"}]}, "is no address"),
         ({"bot": [{**BOTS[0], "url": "http://a/ b"}]}, "is no address"),
+        ({"map": "hz_rivers"}, "map is 'hz_rivers', and has to be one of standard, royale"),
+        ({"map": "royale", "shrink_every": 0}, "shrink_every is 0"),
+        ({"map": "royale", "shrink_every": 10_001}, "shrink_every is 10001"),
+        ({"map": "royale", "hazard_damage": 101}, "hazard_damage is 101"),
+        ({"map": "royale", "hazards": [[1, 1]]}, "the map royale draws its hazards"),
+        ({"shrink_every": 25}, "nobody knows shrink_every"),
+        ({"hazard_damage": 14}, "nobody knows hazard_damage"),
+        ({"hazards": [[1, 1]], "shrink_every": 25}, "nobody knows shrink_every"),
+        ({"hazards": []}, "hazards has to be a list of 1 to 2500 cells [x, y]"),
+        ({"hazards": [[1, 1]] * 2501}, "hazards has to be a list of 1 to 2500 cells"),
+        ({"hazards": {"x": 1}}, "hazards has to be a list"),
+        ({"hazards": [[11, 0]]}, "[11, 0] in hazards is no cell [x, y] of the board"),
+        ({"hazards": [[0, -1]]}, "[0, -1] in hazards is no cell"),
+        ({"hazards": [[0, True]]}, "[0, True] in hazards is no cell"),
+        ({"hazards": [[0]]}, "[0] in hazards is no cell"),
+        ({"hazards": [1]}, "1 in hazards is no cell"),
     ],
 )
 def test_faults_are_reported(members: dict[str, Any], why: str) -> None:
@@ -78,6 +98,23 @@ def test_identity_is_what_decides_the_games() -> None:
     assert config_of(table(seed=2), "").identity != config.identity
     assert config_of(table(timeout=100), "").identity != config.identity
     assert config_again(config.identity, Path("x"), 3).identity == config.identity
+
+
+def test_maps_with_hazards() -> None:
+    plain = config_of(table(map="standard"), "here")
+    assert (plain.rules.hazards, plain.rules.plan) == (None, PLAN)
+    assert "hazards" not in plain.identity["rules"]
+    royale = config_of(table(map="royale"), "here")
+    assert royale.rules.hazards == HazardMap(damage=14, shrink_every=25)
+    assert royale.rules.plan == PLAN_WITH_HAZARDS
+    most = [[10, 10]] * 2_500
+    fixed = config_of(table(hazards=most, hazard_damage=100), "here")
+    assert fixed.rules.hazards == HazardMap(damage=100, cells=(Cell(10, 10),) * 2_500)
+    for config in (royale, fixed):
+        identity = json.loads(json.dumps(config.identity))
+        assert identity == config.identity != plain.identity
+        again = config_again(identity, config.folder, config.rounds)
+        assert again.rules == config.rules
 
 
 def test_the_example_can_be_read() -> None:

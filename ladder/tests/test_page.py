@@ -142,7 +142,7 @@ def browser() -> Iterator[chromium.Browser]:
     try:
         chromium.install()
     except chromium.NotToBeHad as fault:
-        pytest.skip(f"Chromium is missing and can't be installed ({fault})")
+        pytest.fail(f"Chromium is missing and can't be installed ({fault})")
     opened = chromium.Browser()
     yield opened
     opened.close()

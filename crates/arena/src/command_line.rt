@@ -16,7 +16,19 @@ const DEFAULT_WORKERS: u16 = 2;
 
 const FIRST_STAY: u32 = 1;
 
-const VERSION: &str = "1.0.0";
+const VERSION: &str = "1.1.0";
+
+/// The end of `arena --help`.
+const HELP: &str = "\
+Without a word it serves the standard input, as 'arena serve -' does, and waits for its end.
+
+Example: arena serve examples/first_file.jsonl";
+
+const SERVE_HELP: &str = "Example: arena serve games.jsonl --blocks 168 > games.transcript";
+
+const ALONE_HELP: &str = "Example: arena alone games.jsonl --game a > a.transcript";
+
+const LIVE_HELP: &str = "Example: arena live --blocks 384 < games.jsonl";
 
 fn file_word<'a>(alloc: Global) -> Arg<'a>
     ensures { IsArgOf file_rule result }
@@ -80,6 +92,7 @@ fn serve_command<'a>(alloc: Global) -> Result<Command<'a>, AllocError>
 {
     Command::new(alloc, "serve")
         .about("Plays the games of a command file and writes their transcript")
+        .after_help(SERVE_HELP)
         .arg(file_word(alloc))?
         .arg(blocks_option(alloc))?
         .arg(workers_option(alloc))
@@ -91,6 +104,7 @@ fn alone_command<'a>(alloc: Global) -> Result<Command<'a>, AllocError>
 {
     Command::new(alloc, "alone")
         .about("Plays one game of a command file by its own lines alone, on one worker")
+        .after_help(ALONE_HELP)
         .arg(file_word(alloc))?
         .arg(game_option(alloc))?
         .arg(stay_option(alloc))?
@@ -103,6 +117,7 @@ fn live_command<'a>(alloc: Global) -> Result<Command<'a>, AllocError>
 {
     Command::new(alloc, "live")
         .about("Answers the lines of the standard input as they come")
+        .after_help(LIVE_HELP)
         .arg(blocks_option(alloc))
 }
 
@@ -112,6 +127,7 @@ fn top_command<'a>(alloc: Global) -> Command<'a>
 {
     Command::new(alloc, "arena")
         .about("A host for many Battlesnake games")
+        .after_help(HELP)
         .version(VERSION)
         .subcommand_required(true)
 }

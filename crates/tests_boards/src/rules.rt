@@ -150,17 +150,18 @@ fn first_moved(alloc: Global, before: &Board) -> Result<Snake, Fail> {
 
 /// Moves each snake straight on.
 #[tactic(auto, using(bs_rules::proofs::Movable::legal_is_movable))]
-fn all_moved(alloc: Global, before: Board) -> Result<Board, Fail> {
+fn all_moved(before: Board) -> Result<Board, Fail> {
     holds("a legal board", is_legal(&before))?;
-    let snakes = move_snakes(alloc, before.snakes.as_slice(), &[], None)?;
-    Ok(Board { snakes, ..before })
+    let mut next = before;
+    move_snakes(&mut next.snakes, &[], None);
+    Ok(next)
 }
 
 /// Makes the board on which two snakes have moved to one food.
 fn meeting(alloc: Global) -> Result<Board, Fail> {
     let before = board(alloc, MEETING)?;
     let alone = first_moved(alloc, &before)?;
-    let next = all_moved(alloc, before)?;
+    let next = all_moved(before)?;
     let moved = next.snakes.as_slice().first().ok_or("a snake")?;
     same(
         "the first, by itself",
