@@ -1,7 +1,7 @@
 //! The command line: the request that its words make.
 ghost use Rattle.std.specs.Prelude.{◌≡◌, ◌≤◌, ◌∷◌, [], codes, length, map, None, Some, IfOk, IsOk, option_map, false, true};
 ghost use Rattle.std.specs.Prelude.{Bool};
-ghost use Rattle.clap.specs.Words.{App, FailsBy, app_of, found_of, rows_of, rule_of, with_rule};
+ghost use Rattle.clap.specs.Words.{App, FailsBy, app_of, new_app, found_of, rows_of, rule_of, with_rule};
 ghost use Rattle.arena.specs.Words.{alone_app, alone_asked, arena_app, asked_of, blocks_at, blocks_rule, file_rule, game_rule, live_app, serve_app, serve_asked, stay_rule, workers_rule, workers_at, stay_at, text_at, top_app, IsArgOf, IsCommandOf, command_in, mistakes_in, asked_in};
 ghost use Rattle.bs_program.specs.Asked.{asked_for};
 ghost use Rattle.clap.specs.Words.{subcommand_rows_of};
@@ -98,13 +98,20 @@ fn serve_command<'a>(alloc: Global) -> Result<Command<'a>, AllocError>
         .arg(workers_option(alloc))
 }
 
-#[tactic(auto, using(crate::proofs::Commands::adds_arg))]
-fn alone_command<'a>(alloc: Global) -> Result<Command<'a>, AllocError>
-    ensures { IfOk result (IsCommandOf alone_app) }
+/// `arena alone` with no argument yet.
+fn bare_alone_command<'a>(alloc: Global) -> Command<'a>
+    ensures { IsCommandOf (new_app (codes "alone")) result }
 {
     Command::new(alloc, "alone")
         .about("Plays one game of a command file by its own lines alone, on one worker")
         .after_help(ALONE_HELP)
+}
+
+#[tactic(auto, using(crate::proofs::Commands::adds_arg))]
+fn alone_command<'a>(alloc: Global) -> Result<Command<'a>, AllocError>
+    ensures { IfOk result (IsCommandOf alone_app) }
+{
+    bare_alone_command(alloc)
         .arg(file_word(alloc))?
         .arg(game_option(alloc))?
         .arg(stay_option(alloc))?
