@@ -1,4 +1,4 @@
-use Rattle.std.proofs.Common.{◌≡◌, ◌∙◌, codes, decimal, subst}
+use Rattle.std.proofs.Common.{◌∙◌, codes, decimal, subst}
 use Rattle.bs_program.specs.Outcome.{Puts}
 use Rattle.bs_program.proofs.Written.{puts_three}
 use Rattle.bs_program.proofs.report.put_written.Goals as goal
