@@ -5,8 +5,8 @@ import json
 import measure
 
 MAX_FILE, MAX_LINE = 16_777_216, 65_536
-SNAKE = {"id": "s", "x": 1, "y": 1}
-NEW = {
+SNAKE: dict = {"id": "s", "x": 1, "y": 1}
+NEW: dict = {
     **{"game": "a", "do": "new", "mode": "solo", "width": 5, "height": 5},
     **{"snakes": [SNAKE], "food": []},
 }

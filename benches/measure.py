@@ -89,7 +89,7 @@ def long_game(turns):
     food before its head."""
     side = 20
     cells = tour(side, side)
-    length, food = 3, None
+    food = None
     body = [cells[0]] * 3
     yield plan(["g"], 16_777_216)
     snakes = [{"id": "s", "x": 0, "y": 0}]

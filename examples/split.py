@@ -217,8 +217,8 @@ def groups(plan: Plan, found: Routed, most: int) -> Iterator[range]:
         own = sum(found.starts[at] - found.starts[at - 1] for at in found.games[row])
         own += len(row_text(game).encode()) + 1
         if frame + own > LONGEST_FILE:
-            size = f"the file of the game {game.name} alone has {frame + own} bytes"
-            raise ValueError(f"{size}, and a file has at most {LONGEST_FILE}")
+            alone = f"the file of the game {game.name} alone has {frame + own} bytes"
+            raise ValueError(f"{alone}, and a file has at most {LONGEST_FILE}")
         if row - first == most or size + own > LONGEST_FILE:
             yield range(first, row)
             first, size = row, frame
@@ -243,7 +243,7 @@ def write_files(folder: Path, data: Data, plan: Plan, found: Routed, most: int) 
     folder.mkdir(parents=True, exist_ok=True)
     if any(folder.iterdir()):
         raise ValueError(f"{folder} is not empty")
-    table, files = [("file", "blocks", "memory", "games", "bytes")], []
+    table, files = [], []
     for at, rows in enumerate(parts, 1):
         path = folder / f"{at:04}.jsonl"
         write_file(path, data, plan, found, rows)
@@ -252,9 +252,11 @@ def write_files(folder: Path, data: Data, plan: Plan, found: Routed, most: int) 
         table.append((path.name, blocks, memory, len(rows), path.stat().st_size))
         games = [[plan.games[row].name, len(found.games[row])] for row in rows]
         files.append({"file": path.name, "games": games})
-    (folder / "files.tsv").write_text("".join("\t".join(map(str, row)) + "\n" for row in table))
+    heads = ("file", "blocks", "memory", "games", "bytes")
+    rows_of_text = ["\t".join(map(str, row)) + "\n" for row in (heads, *table)]
+    (folder / "files.tsv").write_text("".join(rows_of_text))
     (folder / "files.json").write_bytes(line(files=files, strays=found.strays).encode() + b"\n")
-    return [list(row[1:3]) for row in table[1:]]
+    return [list(row[1:3]) for row in table]
 
 
 def describe_strays(strays: list[tuple[int, str]]) -> str:

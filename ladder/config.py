@@ -2,6 +2,8 @@
 
 from __future__ import annotations
 
+import hashlib
+import json
 import re
 import tomllib
 from collections.abc import Sequence
@@ -20,6 +22,10 @@ MAPS = ("standard", "royale")
 PAIRINGS = ("round_robin", "duels", "tables")
 MOST_BOTS = 200
 MOST_AT_ONCE = 64  # games that are open in a host
+AT_ONCE = 16
+GAMES_A_BOT = 2
+ID_LETTERS = 8
+ORDER = "circle"  # of the games of a round: a folder of another order is another ladder's
 MOST_TURNS = 10_000
 MOST_HAZARDS = 2_500
 LONGEST_FOOD = 32  # words of a move: at most this number of foods can appear in a turn
@@ -78,14 +84,21 @@ class Config:
     snakes: int  # a game
     rounds: int
     seed: int
+    has_seed: bool  # whether the configuration gives it; otherwise it is drawn
     timeout: int  # milliseconds
     at_once: int  # games
+    games_a_bot: int  # at the same time
+
+    @property
+    def letters(self) -> str:
+        """Letters that no other ladder has, for the ids of its games."""
+        return hashlib.sha256(json.dumps(self.identity).encode()).hexdigest()[:ID_LETTERS]
 
     @property
     def identity(self) -> dict[str, Any]:
         """What decides the games. A folder with results of another identity is refused.
 
-        The addresses of the bots, the number of rounds and the number of games at once may change.
+        The addresses of the bots, the number of rounds and the games at once may change.
         """
         return {
             "bots": [bot.name for bot in self.bots],
@@ -93,12 +106,16 @@ class Config:
             "pairing": self.pairing,
             "snakes": self.snakes,
             "seed": self.seed,
+            "has_seed": self.has_seed,
             "timeout": self.timeout,
+            "order": ORDER,
         }
 
 
 def config_again(identity: dict[str, Any], folder: Path, rounds: int) -> Config:
     """The configuration of an identity. Its bots have no addresses."""
+    if identity.get("order") != ORDER:
+        raise ConfigFault(f"{folder} has games that an earlier version paired in another order")
     return Config(
         folder=folder,
         bots=tuple(Bot(name, "") for name in identity["bots"]),
@@ -107,8 +124,10 @@ def config_again(identity: dict[str, Any], folder: Path, rounds: int) -> Config:
         snakes=identity["snakes"],
         rounds=rounds,
         seed=identity["seed"],
+        has_seed=identity["has_seed"],
         timeout=identity["timeout"],
         at_once=1,
+        games_a_bot=1,
     )
 
 
@@ -168,6 +187,7 @@ def config_of(table: dict[str, Any], place: str) -> Config:
     folder = Path(members.text("folder"))
     rules = rules_of(members)
     pairing = members.word("pairing", PAIRINGS)
+    has_seed = "seed" in members.table
     config = Config(
         folder=folder,
         bots=bots,
@@ -175,9 +195,11 @@ def config_of(table: dict[str, Any], place: str) -> Config:
         pairing=pairing,
         snakes=snakes_of(members, rules, pairing),
         rounds=members.number("rounds", 1, 1, 100_000),
-        seed=members.number("seed", 1, 0, 2**63 - 1),
+        seed=members.number("seed", 0, 0, 2**63 - 1),
+        has_seed=has_seed,
         timeout=members.number("timeout", 500, 10, 60_000),
-        at_once=members.number("at_once", MOST_AT_ONCE, 1, MOST_AT_ONCE),
+        at_once=members.number("at_once", AT_ONCE, 1, MOST_AT_ONCE),
+        games_a_bot=members.number("games_a_bot", GAMES_A_BOT, 1, MOST_AT_ONCE),
     )
     members.finish()
     if len(bots) < config.snakes:

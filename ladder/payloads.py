@@ -48,7 +48,7 @@ def game_text(config: Config, name: str) -> str:
         board_map = "royale"
     return text_of(
         {
-            "id": name,
+            "id": f"{config.letters}-{name}",
             "ruleset": {"name": rules.mode, "version": "v1.0.0", "settings": settings},
             "map": board_map,
             "timeout": config.timeout,

@@ -5,18 +5,20 @@ from __future__ import annotations
 import asyncio
 import fcntl
 from collections.abc import Iterator, Sequence
-from contextlib import contextmanager
+from concurrent.futures import ThreadPoolExecutor
+from contextlib import contextmanager, suppress
 from dataclasses import dataclass
 from pathlib import Path
 
 from ladder.bots import BotClient, NoAnswer
 from ladder.config import Bot, Config
 from ladder.game import Game, GameFault, RunContext
-from ladder.game_files import forget_answers, make_folders, running_games
+from ladder.game_files import forget_answers, running_games
 from ladder.host import BLOCKS_OF_GAME, HostDied, Refused
 from ladder.keeper import HostKeeper
 from ladder.pairing import Fixture, Part, fixtures_of
 from ladder.payloads import Look
+from ladder.schedule import CALM_SECONDS, Pace, Schedule
 from ladder.store import Store, StoreFault
 from ladder.watch import Watch, Watches
 
@@ -90,27 +92,48 @@ class Run:
         self.context = context
         self.store = store
         self.keeper = keeper
-        self.storing = asyncio.Lock()
+        self.storing = ThreadPoolExecutor(1, "store")
+        self.ended = asyncio.Event()  # a game has ended
 
     async def play(self, fixtures: Sequence[Fixture]) -> None:
         """Plays games, as many at once as the configuration says. The first fault stops all."""
-        waiting = iter(fixtures)
+        config = self.context.config
+        schedule = Schedule(fixtures, config.games_a_bot)
+        pace = Pace(config.at_once, self.context.client.pulse)
         try:
             async with asyncio.TaskGroup() as group:
-                for _ in range(min(len(fixtures), self.context.config.at_once)):
-                    group.create_task(self.play_some(waiting))
+                await self.begin_games(schedule, pace, group)
         except BaseExceptionGroup as faults:
             raise faults.exceptions[0] from None
+        finally:
+            self.storing.shutdown(cancel_futures=True)
 
-    async def play_some(self, waiting: Iterator[Fixture]) -> None:
-        """Plays waiting games one after the other until none is left."""
-        for fixture in waiting:
-            game = await self.play_one(fixture)
-            outcome = game.outcome()
-            async with self.storing:
-                await asyncio.to_thread(self.store.add, [(outcome, game.tallies)])
-            forget_answers(self.context.folder, fixture.name)
-            self.context.watch.end(outcome)
+    async def begin_games(self, schedule: Schedule, pace: Pace, group: asyncio.TaskGroup) -> None:
+        """Begins each game as soon as there is room for it, and returns when all have ended."""
+        is_slow = False
+        while True:
+            self.ended.clear()
+            while pace.may_begin(schedule.running) and (fixture := schedule.next()) is not None:
+                group.create_task(self.play_and_store(fixture, schedule))
+            if schedule.running == 0:
+                return
+            if pace.allowed < pace.most and not is_slow:
+                is_slow = True
+                self.context.watch.say("this machine is too busy: it plays fewer games at once")
+            with suppress(TimeoutError):
+                async with asyncio.timeout(CALM_SECONDS):
+                    await self.ended.wait()
+
+    async def play_and_store(self, fixture: Fixture, schedule: Schedule) -> None:
+        """Plays a game, makes room for the next one, and stores the result."""
+        game = await self.play_one(fixture)
+        schedule.leave(fixture)
+        self.ended.set()
+        outcome = game.outcome()
+        added = (self.store.add, [(outcome, game.tallies)])
+        await asyncio.get_running_loop().run_in_executor(self.storing, *added)
+        forget_answers(self.context.folder, fixture.name)
+        self.context.watch.end(outcome)
 
     async def play_one(self, fixture: Fixture) -> Game:
         """Plays a game; if its host dies, continues it in another host."""

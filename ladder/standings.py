@@ -12,11 +12,13 @@ from dataclasses import dataclass, field
 from typing import Any
 
 from rich.table import Table
+from rich.text import Text
 
 from ladder.bots import CAUSES
 from ladder.outcome import Outcome
 from ladder.rating import Rating, ratings
 from ladder.store import Store
+from ladder.texts import cell_text, fit_text
 
 
 @dataclass
@@ -98,7 +100,7 @@ def as_table(standings: Iterable[Standing]) -> Table:
     table.add_column("missed", justify="right", no_wrap=True)
     table.add_column("by cause")
     for standing in standings:
-        table.add_row(*cells_of(standing))
+        table.add_row(*map(Text, cells_of(standing)))
     return table
 
 
@@ -107,7 +109,13 @@ def cells_of(standing: Standing) -> list[str]:
     numbers = ("games", "wins", "draws", "losses", "turns", "elo", "error")
     times = ["-" if row[name] is None else f"{row[name]} ms" for name in ("median_ms", "p99_ms")]
     causes = ", ".join(f"{cause} {row[cause]}" for cause in CAUSES if row[cause]) or "-"
-    return [row["bot"], *(str(row[name]) for name in numbers), *times, str(row["missed"]), causes]
+    return [
+        fit_text(row["bot"]),
+        *(str(row[name]) for name in numbers),
+        *times,
+        str(row["missed"]),
+        causes,
+    ]
 
 
 def as_csv(standings: Iterable[Standing]) -> str:
@@ -116,7 +124,7 @@ def as_csv(standings: Iterable[Standing]) -> str:
     text = io.StringIO()
     writer = csv.DictWriter(text, list(rows[0]) if rows else [], lineterminator="\n")
     writer.writeheader()
-    writer.writerows(rows)
+    writer.writerows({**row, "bot": cell_text(row["bot"])} for row in rows)
     return text.getvalue()
 
 

@@ -16,6 +16,7 @@ from ladder.pairing import GAME_NAME
 BUSY_SECONDS = 60.0
 SCHEMA = """
 CREATE TABLE IF NOT EXISTS ladder (identity TEXT NOT NULL);
+CREATE TABLE IF NOT EXISTS closed (at TEXT NOT NULL);
 CREATE TABLE IF NOT EXISTS bot (name TEXT PRIMARY KEY, url TEXT NOT NULL);
 CREATE TABLE IF NOT EXISTS game (
     name TEXT PRIMARY KEY, round INTEGER NOT NULL, turns INTEGER NOT NULL,
@@ -55,7 +56,9 @@ class Store:
         return json.loads(row[0]) if row else None
 
     def begin(self, identity: Mapping[str, Any], bots: Iterable[Bot]) -> None:
-        """Stores the ladder's identity and bots; refuses the folder of another ladder."""
+        """Stores the ladder's identity and bots; refuses a closed folder, and another ladder's."""
+        if self.is_closed():
+            raise StoreFault(f"{self.path} is of a closed ladder, to which no game is added")
         known = self.identity()
         if known is not None and known != dict(identity):
             other = sorted(key for key in identity if known.get(key) != identity[key])
@@ -65,6 +68,14 @@ class Store:
                 self.base.execute("INSERT INTO ladder VALUES (?)", (json.dumps(dict(identity)),))
             rows = [(bot.name, bot.url) for bot in bots]
             self.base.executemany("INSERT OR REPLACE INTO bot VALUES (?, ?)", rows)
+
+    def is_closed(self) -> bool:
+        return self.base.execute("SELECT 1 FROM closed").fetchone() is not None
+
+    def close_ladder(self) -> None:
+        """Closes the ladder: no game is added from now on, and its seed is published."""
+        with self.base:
+            self.base.execute("INSERT INTO closed VALUES (datetime('now'))")
 
     def add(self, played: Iterable[tuple[Outcome, Mapping[str, Tally]]]) -> None:
         """Adds games that are done, with their seats and tallies, in one transaction."""

@@ -13,7 +13,7 @@ from pathlib import Path
 ROOT = Path(__file__).resolve().parent.parent
 FOLDER = ROOT / "examples"
 # Command lines that serve nothing.
-COMMAND_LINES = [
+COMMAND_LINES: list[list[str | bytes]] = [
     ["--help"],
     ["--version"],
     ["serve", "--help"],

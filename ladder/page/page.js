@@ -49,6 +49,7 @@ class GameCard {
 class LadderPage {
   constructor() {
     this.summary = document.getElementById('summary');
+    this.seed = document.getElementById('seed');
     this.standings = document.querySelector('#standings tbody');
     this.games = document.getElementById('games');
     this.cards = new Map();
@@ -61,6 +62,7 @@ class LadderPage {
   /** Shows the state in an event; `gone` has the names of the games that are done. */
   show(state) {
     this.summary.textContent = state.summary;
+    this.seed.textContent = state.seed;
     showStandings(this.standings, state.standings);
     Object.entries(state.boards).forEach(([name, board]) => this.showBoard(name, board));
     (state.gone ?? []).forEach((name) => this.remove(name));

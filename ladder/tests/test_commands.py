@@ -40,6 +40,7 @@ def config(small_bots: Served, tmp_path_factory: pytest.TempPathFactory) -> Path
         min_food=3,
         turns=40,
         timeout=5000,
+        seed=1,
     )
 
 
@@ -90,7 +91,8 @@ def test_standings_have_three_forms(played: Path) -> None:
     assert table[0].split() == [
         *("bot games won drawn lost turns Elo ± median 99 % missed by cause".split())
     ]
-    assert [line.split()[0] for line in table[1:]] == [row["bot"] for row in rows]
+    assert [line.split()[0] for line in table[1:-2]] == [row["bot"] for row in rows]
+    assert table[-1] == "the seed 1 was given: who knows it can foretell what is drawn"
     assert [{key: str(value) for key, value in row.items()} for row in rows] == texts
     assert sum(row["games"] for row in rows) == 30
     assert sum(row["wins"] for row in rows) <= 10
@@ -142,7 +144,7 @@ def test_another_ladder_is_not_played_in_the_folder(
     program: Path, config: Path, played: Path, tmp_path: Path
 ) -> None:
     other = tmp_path / "other.toml"
-    other.write_text("seed = 7\n" + config.read_text())
+    other.write_text(config.read_text().replace("seed = 1", "seed = 7"))
     ran = run_ladder("play", other, "--program", program)
     assert ran.returncode == 1
     assert ran.stderr == f"ladder: {played / 'results.sqlite'} is of another ladder: seed differ\n"

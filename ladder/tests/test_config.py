@@ -24,7 +24,8 @@ def test_what_is_left_out_is_usual() -> None:
     config = config_of(table(), "here")
     assert config.rules == Rules("standard", 11, 11, 1, 15, 10_000)
     assert (config.pairing, config.snakes, config.rounds) == ("round_robin", 2, 1)
-    assert (config.at_once, config.timeout, config.seed) == (64, 500, 1)
+    assert (config.at_once, config.games_a_bot) == (16, 2)
+    assert (config.timeout, config.has_seed) == (500, False)
     assert config.bots[3].url == "http://127.0.0.1:8003"
     assert config_of(table(pairing="tables"), "here").snakes == 4
     assert config_of(table(mode="solo"), "here").snakes == 1
@@ -43,6 +44,7 @@ def test_what_is_left_out_is_usual() -> None:
         ({"width": 3, "height": 3, "snakes": 5}, "snakes is 5, and has to be a number from 2 to 4"),
         ({"pairing": "duels", "snakes": 4}, "a duel has 2 snakes"),
         ({"at_once": 65}, "at_once is 65"),
+        ({"games_a_bot": 0}, "games_a_bot is 0, and has to be a number from 1 to 64"),
         ({"sead": 4}, "nobody knows sead"),
         ({"folder": ""}, "folder is missing or no text"),
         ({"bot": []}, "1 to 200 tables"),
@@ -93,11 +95,17 @@ def test_unreadable_file_is_reported(tmp_path: Path) -> None:
 
 def test_identity_is_what_decides_the_games() -> None:
     config = config_of(table(rounds=3), "here")
-    same = config_of(table(rounds=9, at_once=2, bot=[{**it, "url": "http://b"} for it in BOTS]), "")
+    same = config_of(
+        table(rounds=9, at_once=2, games_a_bot=1, bot=[{**it, "url": "http://b"} for it in BOTS]),
+        "",
+    )
     assert same.identity == config.identity
-    assert config_of(table(seed=2), "").identity != config.identity
+    assert config_of(table(seed=0), "").identity != config.identity
+    assert config_of(table(seed=2), "").letters != config.letters == same.letters
     assert config_of(table(timeout=100), "").identity != config.identity
     assert config_again(config.identity, Path("x"), 3).identity == config.identity
+    with pytest.raises(ConfigFault, match="earlier version"):
+        config_again({**config.identity, "order": None}, Path("x"), 3)
 
 
 def test_maps_with_hazards() -> None:

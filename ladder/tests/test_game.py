@@ -100,7 +100,8 @@ def test_bots_get_the_requests_of_the_api(program: Path, tmp_path: Path) -> None
 
     async def work() -> None:
         async with Bots() as bots:
-            (outcome,) = await played(config_for(tmp_path / "x", bots.port), program)
+            config = config_for(tmp_path / "x", bots.port)
+            (outcome,) = await played(config, program)
             for name in NAMES:
                 moves = bots.requests(name, "move")
                 assert len(bots.requests(name, "")) == 1
@@ -108,7 +109,7 @@ def test_bots_get_the_requests_of_the_api(program: Path, tmp_path: Path) -> None
                 assert [it["turn"] for it in moves] == list(range(outcome.turns))
                 (end,) = bots.requests(name, "end")
                 assert end["turn"] == outcome.turns == 30
-                assert {it["game"]["id"] for it in moves} == {NAME}
+                assert {it["game"]["id"] for it in moves} == {f"{config.letters}-{NAME}"}
                 assert {it["you"]["id"] for it in moves} == {name}
                 shouts = [
                     {it["id"]: it["shout"] for it in each["board"]["snakes"]} for each in moves

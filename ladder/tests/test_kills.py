@@ -56,6 +56,7 @@ def config_in(folder: Path, bots: Served, **members: Any) -> Path:
             "at_once": 4,
             "turns": 80,
             "timeout": 5000,
+            "seed": 1,
             **members,
         },
     )

@@ -63,7 +63,7 @@ def test_bodies_are_those_of_the_official_api() -> None:
     }
     assert found[0] == {
         "game": {
-            "id": "r0001-t001",
+            "id": f"{config.letters}-r0001-t001",
             "ruleset": {
                 "name": "standard",
                 "version": "v1.0.0",

@@ -1,6 +1,6 @@
 -- The request that the words of a command line make. clap's own definitions say how a command reads
 -- words; here are the commands, and what is read from their matches.
-use Rattle.std.specs.Prelude.{◌≡◌, false, ℕ, ◌∷◌, [], List, Bool, true, Option, Some, None, codes, option_and_then, unwrap_or, length, nat_le, nat_lt, if◌then◌else◌, pos, ◌^◌, map, ◌&&◌}
+use Rattle.std.specs.Prelude.{◌≡◌, false, ℕ, ◌∷◌, [], List, Bool, true, Option, Some, None, codes, option_and_then, unwrap_or, length, nat_le, nat_lt, if◌then◌else◌, pos, ◌^◌, ◌&&◌}
 use Rattle.std.specs.List.{list_all}
 use Rattle.std.specs.Char.{digit_value}
 use Rattle.std.specs.Str.{bytes_eq}

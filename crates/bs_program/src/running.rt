@@ -11,6 +11,7 @@ use bs_host::{ReadFault, cut, read_input, serve, serve_live};
 use bs_workers::OpenGate;
 use std::alloc::Global;
 use std::io::{self, Read, Write};
+use std::mem;
 use std::sync::Wait;
 use std::thread::Threads;
 
@@ -54,7 +55,8 @@ fn finish<W: Write>(output: &mut Output<W>) -> Result<(), Failure>
     output.flush().map_err(|_| Failure::Flush)
 }
 
-/// Writes the transcript of a file, then flushes the output. The core is freed after that.
+/// Writes the transcript of a file, then flushes the output. The core is left to the system, which
+/// frees its memory at once when the program ends; after a fault it is dropped.
 fn serve_bytes<H: Threads + Wait + Sync, W: Write>(
     rt: &H,
     alloc: Global,
@@ -67,7 +69,11 @@ fn serve_bytes<H: Threads + Wait + Sync, W: Write>(
     let blocks = usize::from(with.blocks);
     let workers = usize::from(with.workers);
     match serve(rt, alloc, bytes, blocks, workers, &OpenGate, output) {
-        Ok(_core) => finish(output),
+        Ok(core) => {
+            finish(output)?;
+            mem::forget(core);
+            Ok(())
+        }
         Err(fault) => Err(Failure::Serve(fault)),
     }
 }
