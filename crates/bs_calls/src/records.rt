@@ -1,0 +1,95 @@
+//! The calls on records.
+
+ghost use Rattle.std.specs.Prelude.{◌≡◌, ◌<◌, ◌≤◌, MatchResult, OnErr, length, take};
+ghost use Rattle.bs_board.specs.boards.Legal.{IsLegal};
+ghost use Rattle.bs_board.specs.boards.Over.{is_over};
+ghost use Rattle.bs_board.specs.declared.boards.board.Board.{Board as AnyBoard};
+ghost use Rattle.bs_board.specs.records.Record.{record_of};
+ghost use Rattle.bs_calls.specs.declared.fault.Fault.TheVariants.{Room};
+ghost use Rattle.bs_calls.specs.Records.{Begins, HasNoStart, HasNoTurn, IsRecordOf, IsStart, IsTurn, IsUnread};
+
+use crate::fault::Fault;
+use crate::orders::SeatOrders;
+use crate::setups::{SeatSetup, setup_by_seat};
+use crate::turns::turn_by_seat;
+use bs_board::limits::LAST_TURN;
+use bs_board::{Board, Decode, decode, encode_into, size};
+use bs_modes::over;
+use std::alloc::Global;
+
+/// Reads the board of a record.
+fn read(alloc: Global, bytes: &[u8]) -> Result<Board, Fault>
+    ensures { MatchResult result (IsRecordOf bytes.now) (IsUnread bytes.now) }
+{
+    match decode(alloc, bytes) {
+        Ok(board) => Ok(board),
+        Err(Decode::NotARecord) => Err(Fault::NotARecord),
+        Err(Decode::Memory) => Err(Fault::Memory),
+    }
+}
+
+/// Writes the record of a legal board, and returns its length.
+#[tactic(auto, using(bs_board::proofs::records::Longest::legal_size_fits))]
+fn write(board: &Board, into: &mut [u8]) -> Result<usize, Fault>
+    requires { IsLegal board.now }
+    ensures answer { MatchResult result
+        (λ n. Begins into.new n board.now)
+        (λ fault. (fault ≡ Room) × (length into.old < length (record_of board.now))) }
+    ensures err { OnErr result (into.new ≡ into.old) }
+{
+    let count = size(board);
+    if count > into.len() {
+        return Err(Fault::Room);
+    }
+    encode_into(board, &mut into[..count]);
+    Ok(count)
+}
+
+/// Whether the bytes are the record of a legal board: `NotARecord` if they are not.
+pub fn is_legal(alloc: Global, bytes: &[u8]) -> Result<(), Fault>
+    ensures { MatchResult result (λ _. (b : AnyBoard) × IsRecordOf bytes.now b) (IsUnread bytes.now) }
+{
+    let _board = read(alloc, bytes)?;
+    Ok(())
+}
+
+/// Whether the game of a record is over.
+pub fn is_over(alloc: Global, bytes: &[u8]) -> Result<bool, Fault>
+    ensures { MatchResult result (λ over. (b : AnyBoard) × IsRecordOf bytes.now b × (over ≡ is_over b)) (IsUnread bytes.now) }
+{
+    let board = read(alloc, bytes)?;
+    Ok(over(&board))
+}
+
+/// Writes the first record of a game, and returns its length. After an error nothing is written.
+pub fn start(alloc: Global, setup: &SeatSetup<'_>, into: &mut [u8]) -> Result<usize, Fault>
+    ensures answer { MatchResult result (IsStart setup.now into.new) (HasNoStart setup.now (length into.old)) }
+    ensures err { OnErr result (into.new ≡ into.old) }
+{
+    match setup_by_seat(alloc, setup)? {
+        None => Err(Fault::NotASetup),
+        Some(new) => {
+            let board = bs_modes::start(alloc, &new)?;
+            write(&board, into)
+        }
+    }
+}
+
+/// Plays a turn: reads a record, writes the record after the turn, and returns its length. After an
+/// error nothing is written.
+pub fn turn(
+    alloc: Global,
+    bytes: &[u8],
+    orders: &SeatOrders<'_>,
+    into: &mut [u8],
+) -> Result<usize, Fault>
+    ensures answer { MatchResult result (IsTurn bytes.now orders.now into.new) (HasNoTurn bytes.now orders.now (length into.old)) }
+    ensures err { OnErr result (into.new ≡ into.old) }
+{
+    let board = read(alloc, bytes)?;
+    if board.turn >= LAST_TURN {
+        return Err(Fault::LastTurn);
+    }
+    let next = turn_by_seat(alloc, board, orders)?;
+    write(&next, into)
+}
