@@ -1,9 +1,12 @@
 //! Large games of the caller, on boards of at most 25 by 25 cells.
 
+use crate::status::{NOT_A_RECORD, OK, OUT_OF_MEMORY, status_of_misfit};
 use bs_batch::{
-    LargeGame, ManyOrders, ManyStarts, Place, body_large, food_large, save_large, show_large, start_large,
+    LargeGame, ManyOrders, ManyStarts, Place, body_large, food_large, load_large, save_large, show_large, start_large,
     step_large,
 };
+use bs_board::{Decode, decode};
+use std::alloc::Global;
 
 /// Starts each game whose byte of `which` is not 0, and returns the number of those that started. A
 /// game whose settings or cells are not those of a first board is over, without a snake.
@@ -42,4 +45,18 @@ pub extern "C" fn arena_large_body(game: &LargeGame, seat: usize, into: &mut [Pl
 #[unsafe(no_mangle)]
 pub extern "C" fn arena_large_save(game: &LargeGame, into: &mut [u8]) -> usize {
     save_large(game, into)
+}
+
+/// Makes the game of a record, whose ids are not kept. If the board does not fit or has hazards, the
+/// game is over, with no living snake; after another fault it is as it was.
+#[unsafe(no_mangle)]
+pub extern "C" fn arena_large_load(alloc: Global, game: &mut LargeGame, bytes: &[u8]) -> u8 {
+    match decode(alloc, bytes) {
+        Ok(board) => match load_large(game, &board) {
+            Ok(()) => OK,
+            Err(misfit) => status_of_misfit(misfit),
+        },
+        Err(Decode::NotARecord) => NOT_A_RECORD,
+        Err(Decode::Memory) => OUT_OF_MEMORY,
+    }
 }

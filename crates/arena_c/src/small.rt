@@ -1,9 +1,12 @@
 //! Small games of the caller, on boards of at most 11 by 11 cells.
 
+use crate::status::{NOT_A_RECORD, OK, OUT_OF_MEMORY, status_of_misfit};
 use bs_batch::{
-    SmallGame, ManyOrders, ManyStarts, Place, body_small, food_small, save_small, show_small, start_small,
+    SmallGame, ManyOrders, ManyStarts, Place, body_small, food_small, load_small, save_small, show_small, start_small,
     step_small,
 };
+use bs_board::{Decode, decode};
+use std::alloc::Global;
 
 /// Starts each game whose byte of `which` is not 0, and returns the number of those that started. A
 /// game whose settings or cells are not those of a first board is over, without a snake.
@@ -42,4 +45,18 @@ pub extern "C" fn arena_small_body(game: &SmallGame, seat: usize, into: &mut [Pl
 #[unsafe(no_mangle)]
 pub extern "C" fn arena_small_save(game: &SmallGame, into: &mut [u8]) -> usize {
     save_small(game, into)
+}
+
+/// Makes the game of a record, whose ids are not kept. If the board does not fit or has hazards, the
+/// game is over, with no living snake; after another fault it is as it was.
+#[unsafe(no_mangle)]
+pub extern "C" fn arena_small_load(alloc: Global, game: &mut SmallGame, bytes: &[u8]) -> u8 {
+    match decode(alloc, bytes) {
+        Ok(board) => match load_small(game, &board) {
+            Ok(()) => OK,
+            Err(misfit) => status_of_misfit(misfit),
+        },
+        Err(Decode::NotARecord) => NOT_A_RECORD,
+        Err(Decode::Memory) => OUT_OF_MEMORY,
+    }
 }

@@ -96,9 +96,9 @@ fn load_snake(seat: &mut Seat, plane: &mut [u8], room: &mut [u16], snake: &Snake
         killer: killer_byte(snake.killer),
         spare: 0,
     };
-    match snake.cause {
-        None => add_parts(plane, &room[..parts]),
-        Some(_) => true,
+    match (snake.cause, room.get(..parts)) {
+        (None, Some(body)) => add_parts(plane, body),
+        _ => true,
     }
 }
 
@@ -130,7 +130,9 @@ fn load_food(head: &mut Head, food: &mut [u16], plane: &mut [u8], cells: &[Point
     true
 }
 
-fn settings_of(board: &Board) -> Settings {
+fn settings_of(board: &Board) -> Settings
+    ensures { result.seats ≤ SEATS }
+{
     Settings {
         mode: mode_byte(board.mode),
         width: board.width,
@@ -139,6 +141,22 @@ fn settings_of(board: &Board) -> Settings {
         min_food: board.min_food,
         chance: board.chance,
     }
+}
+
+/// Writes the cells of a board. False if they do not fit.
+fn load_cells(
+    head: &mut Head,
+    food: &mut [u16],
+    plane: &mut [u8],
+    bodies: &mut [u16],
+    board: &Board,
+) -> bool
+    ensures settings { head.new.settings ≡ head.old.settings }
+{
+    if !load_food(head, food, plane, board.food.as_slice()) {
+        return false;
+    }
+    load_snakes(head, plane, bodies, board.snakes.as_slice())
 }
 
 /// Makes the game of a board. If it does not fit, the game is over, without a snake.
@@ -155,9 +173,7 @@ pub fn load(
     if board.hazards.is_some() {
         return Err(Misfit::Hazards);
     }
-    let fits = load_food(head, food, plane, board.food.as_slice())
-        && load_snakes(head, plane, bodies, board.snakes.as_slice());
-    if !fits {
+    if !load_cells(head, food, plane, bodies, board) {
         clear(head, settings);
         return Err(Misfit::Room);
     }

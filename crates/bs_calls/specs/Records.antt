@@ -33,6 +33,18 @@ IsUnread bytes LastTurn = ⊥
 IsUnread bytes Room = ⊥
 IsUnread bytes Memory = ⊤
 
+-- a turn of the record's board leads to this legal board
+abbrev pub IsNext : List ℕ → SeatOrders → Board → Type 0
+IsNext bytes orders next = (b : Board) × IsRecordOf bytes b × IsLegal next × (next ≡ turn_by_seat orders b)
+
+-- why there is no next board
+abbrev pub HasNoNext : List ℕ → Fault → Type 0
+HasNoNext bytes NotARecord = IsNoRecord bytes
+HasNoNext bytes NotASetup = ⊥
+HasNoNext bytes LastTurn = (b : Board) × IsRecordOf bytes b × LAST_TURN ≤ b.turn
+HasNoNext bytes Room = ⊥
+HasNoNext bytes Memory = ⊤
+
 -- old is the record of a legal board, and the first n bytes of new are that of the board after the turn
 abbrev pub IsTurn : List ℕ → SeatOrders → List ℕ → ℕ → Type 0
 IsTurn old orders new n = (b : Board) × IsRecordOf old b × Begins new n (turn_by_seat orders b)

@@ -4,6 +4,7 @@
 
 mod cells;
 mod fault;
+mod front;
 mod orders;
 mod records;
 mod setups;
@@ -11,6 +12,6 @@ mod turns;
 
 pub use fault::Fault;
 pub use orders::SeatOrders;
-pub use records::{is_legal, is_over, start, turn};
+pub use records::{is_legal, is_over, start, turn, turn_in_place};
 pub use setups::{SeatSetup, setup_by_seat};
 pub use turns::turn_by_seat;

@@ -5,6 +5,7 @@ ghost use Rattle.bs_board.specs.declared.limits.TheConstants.{MOST_WORDS};
 ghost use Rattle.bs_calls.specs.BySeat.{direction_from, in_front, moves_by_seat, rest_of};
 
 use crate::cells::points_if;
+use crate::front::front;
 use bs_batch::Cell;
 use bs_board::limits::MOST_WORDS;
 use bs_board::{Direction, Id, Move, Moves, Snake, Words};
@@ -75,23 +76,11 @@ pub fn moves_by_seat(
     Ok(given)
 }
 
-/// The words that a move may have.
-fn first_words(words: &[u32]) -> &[u32]
-    ensures value { result.now ≡ take MOST_WORDS words.now }
-    ensures few { length result.now ≤ MOST_WORDS }
-{
-    if words.len() <= MOST_WORDS {
-        words
-    } else {
-        words.split_at(MOST_WORDS).0
-    }
-}
-
 fn words_of(alloc: Global, words: &[u32]) -> Result<Words, AllocError>
     ensures value { IfOk result (λ w. w ≡ take MOST_WORDS words.now) }
     ensures few { IfOk result (λ w. length w ≤ MOST_WORDS) }
 {
-    Ok(Words::from_vec(Vec::from_slice(alloc, first_words(words))?))
+    Ok(Words::from_vec(Vec::from_slice(alloc, front(words, MOST_WORDS))?))
 }
 
 /// The move without its directions.

@@ -6,9 +6,10 @@ ghost use Rattle.bs_board.specs.boards.Over.{is_over};
 ghost use Rattle.bs_board.specs.declared.boards.board.Board.{Board as AnyBoard};
 ghost use Rattle.bs_board.specs.records.Record.{record_of};
 ghost use Rattle.bs_calls.specs.declared.fault.Fault.TheVariants.{Room};
-ghost use Rattle.bs_calls.specs.Records.{Begins, HasNoStart, HasNoTurn, IsRecordOf, IsStart, IsTurn, IsUnread};
+ghost use Rattle.bs_calls.specs.Records.{Begins, HasNoNext, HasNoStart, HasNoTurn, IsNext, IsRecordOf, IsStart, IsTurn, IsUnread};
 
 use crate::fault::Fault;
+use crate::front::front;
 use crate::orders::SeatOrders;
 use crate::setups::{SeatSetup, setup_by_seat};
 use crate::turns::turn_by_seat;
@@ -75,6 +76,18 @@ pub fn start(alloc: Global, setup: &SeatSetup<'_>, into: &mut [u8]) -> Result<us
     }
 }
 
+/// The board after a turn of the record's board.
+fn next(alloc: Global, bytes: &[u8], orders: &SeatOrders<'_>) -> Result<Board, Fault>
+    ensures { MatchResult result (IsNext bytes.now orders.now) (HasNoNext bytes.now) }
+{
+    let board = read(alloc, bytes)?;
+    if board.turn >= LAST_TURN {
+        return Err(Fault::LastTurn);
+    }
+    let next = turn_by_seat(alloc, board, orders)?;
+    Ok(next)
+}
+
 /// Plays a turn: reads a record, writes the record after the turn, and returns its length. After an
 /// error nothing is written.
 pub fn turn(
@@ -86,10 +99,23 @@ pub fn turn(
     ensures answer { MatchResult result (IsTurn bytes.now orders.now into.new) (HasNoTurn bytes.now orders.now (length into.old)) }
     ensures err { OnErr result (into.new ≡ into.old) }
 {
-    let board = read(alloc, bytes)?;
-    if board.turn >= LAST_TURN {
-        return Err(Fault::LastTurn);
-    }
-    let next = turn_by_seat(alloc, board, orders)?;
+    let next = next(alloc, bytes, orders)?;
     write(&next, into)
+}
+
+/// Plays a turn of the record in the first `count` bytes of a slot: writes the record after the turn
+/// over it, and returns its length. After an error nothing is written.
+pub fn turn_in_place(
+    alloc: Global,
+    slot: &mut [u8],
+    count: usize,
+    orders: &SeatOrders<'_>,
+) -> Result<usize, Fault>
+    ensures answer { MatchResult result
+        (IsTurn (take count slot.old) orders.now slot.new)
+        (HasNoTurn (take count slot.old) orders.now (length slot.old)) }
+    ensures err { OnErr result (slot.new ≡ slot.old) }
+{
+    let next = next(alloc, front(slot, count), orders)?;
+    write(&next, slot)
 }

@@ -3,6 +3,7 @@
 use bs_batch::{
     Cell, Head, LargeGame, ManyOrders, ManyStarts, Place, Seat, Settings, SmallGame,
 };
+use bs_calls::{SeatOrders, SeatSetup};
 use std::mem::size_of;
 
 /// A head whose fields are all different.
@@ -77,6 +78,8 @@ pub extern "C" fn arena_layout(small: &mut SmallGame, large: &mut LargeGame, siz
         size_of::<Place>(),
         size_of::<ManyOrders<'_>>(),
         size_of::<ManyStarts<'_>>(),
+        size_of::<SeatOrders<'_>>(),
+        size_of::<SeatSetup<'_>>(),
     ];
     for (to, size) in sizes.iter_mut().zip(all.as_slice()) {
         *to = *size;

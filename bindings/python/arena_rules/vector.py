@@ -1,0 +1,102 @@
+"""Games as environments, in the shape of gymnasium's vector environments. Needs numpy."""
+
+from __future__ import annotations
+
+import numpy as np
+
+from arena_rules.games import Games
+from arena_rules.spaces import directions_space, planes_space
+
+LAST_TURN = 10_000
+
+
+def spots_of(width: int, height: int) -> np.ndarray:
+    """Cells to start on: those of the usual boards; on small boards every second cell."""
+    if min(width, height) < 7:
+        cells = [(x, y) for y in range(height) for x in range(width) if (x + y) % 2 == 0]
+        cells += [(x, y) for y in range(height) for x in range(width) if (x + y) % 2]
+    else:
+        (left, middle, right) = 1, (width - 1) // 2, width - 2
+        (low, centre, high) = 1, (height - 1) // 2, height - 2
+        cells = [(left, low), (left, high), (right, low), (right, high)]
+        cells += [(left, centre), (middle, low), (middle, high), (right, centre)]
+    return np.array(cells, "u1")
+
+
+class VectorEnv:
+    """Each environment is a game, and an action has a direction for each seat.
+
+    After a game has ended, the next step starts another in its place and ignores the action, as
+    gymnasium's autoreset does in the next step. Observations are planes of bytes (1 + seats,
+    height, width): see `Games.planes`; with `observe=False` they are not written. A seat's reward
+    is 1 when it is the last one alive, and -1 in the turn in which it goes out.
+    """
+
+    def __init__(
+        self,
+        num_envs: int,
+        *,
+        seed: int | None = None,
+        words: int = 2,
+        observe: bool = True,
+        **settings,
+    ):
+        self.num_envs = num_envs
+        self.games = Games(num_envs, **settings)
+        self.seats = self.games.seats
+        self.single_action_space = directions_space(self.seats)
+        self.single_observation_space = planes_space(
+            1 + self.seats, self.games.height, self.games.width
+        )
+        shape = (num_envs, 1 + self.seats, self.games.height, self.games.width)
+        self.observations = np.zeros(shape, "u1")
+        self._observe, self._words = observe, words
+        self._spots = spots_of(self.games.width, self.games.height)
+        if len(self._spots) < self.seats:
+            raise ValueError("the board has too few cells")
+        self._starts = np.zeros((num_envs, self.seats, 2), "u1")
+        centre = ((self.games.width - 1) // 2, (self.games.height - 1) // 2)
+        self._food = np.full((num_envs, 1, 2), centre, "u1")
+        head = self.games.states["head"]
+        self._over, self._turn = head["over"], head["turn"]
+        self._cause = head["seats"]["cause"][:, : self.seats]
+        self._seed(seed)
+
+    def _seed(self, seed: int | None) -> None:
+        self.rng = np.random.Generator(np.random.SFC64(seed))
+
+    def _start(self, which: np.ndarray) -> None:
+        rows = np.flatnonzero(which)
+        order = self.rng.random((len(rows), len(self._spots))).argsort(axis=1)
+        self._starts[rows] = self._spots[order[:, : self.seats]]
+        self.games.start(self._starts, self._food, which.view("u1"))
+
+    def _observed(self) -> np.ndarray:
+        if self._observe:
+            self.games.planes(self.observations)
+        return self.observations
+
+    def reset(self, *, seed: int | None = None, options=None):
+        """Starts every game. Returns the observations and no infos."""
+        if seed is not None:
+            self._seed(seed)
+        self._start(np.ones(self.num_envs, bool))
+        return self._observed(), {}
+
+    def step(self, actions: np.ndarray):
+        """Returns observations, rewards by seat, terminations, truncations and no infos."""
+        done = (self._over != 0) | (self._turn >= LAST_TURN)
+        before = self._cause == 0
+        words = self.rng.integers(0, 1 << 32, (self.num_envs, self._words), "u4")
+        self.games.step(np.ascontiguousarray(actions, "u1"), words)
+        if done.any():
+            self._start(done)
+        alive = self._cause == 0
+        over = self._over != 0
+        rewards = (over[:, None] & alive).astype("f4")
+        rewards -= before & ~alive & ~done[:, None]
+        truncated = (self._turn >= LAST_TURN) & ~over
+        return self._observed(), rewards, over, truncated, {}
+
+    def close(self) -> None:
+        """There is nothing to close."""
