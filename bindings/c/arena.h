@@ -6,8 +6,8 @@
  *   - Calls on records: a board is its record, as docs/FORMATS.md defines it. Each answer is proved
  *     to be the one of the rules' definition. They allocate by the program's malloc and free what
  *     they allocate.
- *   - Calls on games: a game is one struct in your memory, `arena_small_game` for boards of up to 11
- *     by 11 cells, `arena_large_game` for up to 25 by 25. They allocate nothing (the `load`s
+ *   - Calls on games: a game is one struct in your memory, `arena_small_game` for boards of up to
+ *     11 by 11 cells, `arena_large_game` for up to 25 by 25. They allocate nothing (the `load`s
  *     excepted). They are proved to be safe for whatever the memory holds, and to return; that they
  *     play by the rules is tested. Each `arena_small_..` has its `arena_large_..`.
  *
@@ -16,8 +16,8 @@
  *     pass a null pointer.
  *   - What a call writes overlaps nothing else that it is given.
  *   - Two threads do not write the same struct or buffer at once, and none reads what another
- *     writes. Apart from that any thread may call: the library has no state. Give each thread its own
- *     range of games.
+ *     writes. Apart from that any thread may call: the library has no state. Give each thread its
+ *     own range of games.
  *   - No call from a signal handler, nor in the forked child of a process with threads.
  *
  * Numbers
@@ -89,7 +89,8 @@ typedef struct {
 /* Whether the bytes are the record of a legal board: ARENA_OK, ARENA_NOT_A_RECORD, ARENA_MEMORY. */
 uint8_t arena_legal(const uint8_t *record, size_t record_len);
 
-/* Writes 1 if the game of the record is over, else 0. ARENA_OK, ARENA_NOT_A_RECORD, ARENA_MEMORY. */
+/* Writes 1 if the game of the record is over, else 0. ARENA_OK, ARENA_NOT_A_RECORD,
+ * ARENA_MEMORY. */
 uint8_t arena_over(const uint8_t *record, size_t record_len, uint8_t *over);
 
 /* Writes the record of turn 0 and its length. ARENA_OK, ARENA_NOT_A_SETUP, ARENA_ROOM,
@@ -141,8 +142,8 @@ typedef struct {
 } arena_head;
 
 /* In these lists the cell (x, y) is (y + 1) * 32 + x + 1. The plane has the number of parts of
- * living snakes on each cell, and 128 more where food is. The body of seat i begins at bodies[125 i]
- * or bodies[629 i], its head first. memcpy copies a game. */
+ * living snakes on each cell, and 128 more where food is. The body of seat i begins at
+ * bodies[125 i] or bodies[629 i], its head first. memcpy copies a game. */
 typedef struct {
     arena_head head;
     uint16_t food[121];
@@ -168,38 +169,44 @@ typedef struct {
     arena_settings settings;
 } arena_many_starts;
 
-#define ARENA_CALLS(size)                                                                          \
-    /* Starts games, and returns how many. One whose settings or cells are not those of a first    \
-     * board is over, with no living snake. */                                                     \
-    size_t arena_##size##_start(arena_##size##_game *games, size_t count,                          \
-                                const arena_many_starts *starts);                                  \
-    /* Plays a turn in each game that is not over and is below turn 10,000. */                     \
-    void arena_##size##_step(arena_##size##_game *games, size_t count,                             \
-                             const arena_many_orders *orders);                                     \
-    /* Writes the planes of game i into the i-th `each` bytes, each plane width * height bytes row \
-     * by row from the bottom: food (1), then by seats the living snakes: the number of turns until \
-     * that part is gone, if nothing is eaten, at most 255. */                                     \
-    void arena_##size##_planes(const arena_##size##_game *games, size_t count, uint8_t *into,      \
-                               size_t into_len, size_t each);                                      \
-    /* Lists the cells with food, the oldest first, or the parts of a seat, its head first, as far \
-     * as there is room. Returns their number. */                                                  \
-    size_t arena_##size##_food(const arena_##size##_game *game, arena_place *into, size_t room);   \
-    size_t arena_##size##_body(const arena_##size##_game *game, size_t seat, arena_place *into,    \
-                               size_t room);                                                       \
-    /* Writes the record of the board as far as there is room, with the ids "0" to "7", and returns \
-     * its length; 0 if the settings are not those of a game. */                                   \
-    size_t arena_##size##_save(const arena_##size##_game *game, uint8_t *into, size_t room);       \
-    /* Makes the game of a record; its ids are not kept. ARENA_OK, ARENA_NOT_A_RECORD, ARENA_ROOM, \
-     * ARENA_HAZARDS, ARENA_MEMORY. After ARENA_ROOM and ARENA_HAZARDS the game is over, with no     \
-     * living snake; after the other faults it is as it was. */                                    \
-    uint8_t arena_##size##_load(arena_##size##_game *game, const uint8_t *record, size_t record_len);
+/* For both sizes, here written for the small one:
+ *
+ * arena_small_start starts games, and returns how many. One whose settings or cells are not those
+ * of a first board is over, with no living snake.
+ *
+ * arena_small_step plays a turn in each game that is not over and is below turn 10,000.
+ *
+ * arena_small_planes writes the planes of game i into the i-th `each` bytes. A plane has width *
+ * height bytes, row by row from the bottom. The first has 1 where food is. Then come those of the
+ * seats, each 0 or, for a living snake, the number of turns until that part is gone, if nothing is
+ * eaten, at most 255.
+ *
+ * arena_small_food lists the cells with food, the oldest first, and arena_small_body the parts of a
+ * seat, its head first, as far as there is room. They return the number of cells.
+ *
+ * arena_small_save writes the record of the board as far as there is room, with the ids "0" to "7",
+ * and returns its length; 0 if the settings are not those of a game.
+ *
+ * arena_small_load makes the game of a record, whose ids are not kept: ARENA_OK,
+ * ARENA_NOT_A_RECORD, ARENA_ROOM, ARENA_HAZARDS, ARENA_MEMORY. After ARENA_ROOM and ARENA_HAZARDS
+ * the game is over, with no living snake; after the other faults it is as it was. */
+#define ARENA_CALLS(size, game)                                                                    \
+    size_t arena_##size##_start(game *games, size_t count, const arena_many_starts *starts);       \
+    void arena_##size##_step(game *games, size_t count, const arena_many_orders *orders);          \
+    void arena_##size##_planes(const game *games, size_t count, uint8_t *into, size_t into_len,    \
+                               size_t each);                                                       \
+    size_t arena_##size##_food(const game *from, arena_place *into, size_t room);                  \
+    size_t arena_##size##_body(const game *from, size_t seat, arena_place *into, size_t room);     \
+    size_t arena_##size##_save(const game *from, uint8_t *into, size_t room);                      \
+    uint8_t arena_##size##_load(game *to, const uint8_t *record, size_t record_len);
 
-ARENA_CALLS(small)
-ARENA_CALLS(large)
+ARENA_CALLS(small, arena_small_game)
+ARENA_CALLS(large, arena_large_game)
 
 /* For tests of declarations: writes the sizes of arena_settings, arena_seat, arena_head,
  * arena_small_game, arena_large_game, arena_cell, arena_place, arena_many_orders,
- * arena_many_starts, arena_seat_orders and arena_seat_setup, and numbers the fields of both games. */
+ * arena_many_starts, arena_seat_orders and arena_seat_setup, and numbers the fields of both
+ * games. */
 void arena_layout(arena_small_game *small, arena_large_game *large, size_t *sizes, size_t count);
 
 #ifdef __cplusplus

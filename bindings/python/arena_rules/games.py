@@ -145,7 +145,9 @@ class Games:
         if count < self.count * each:
             raise ValueError("a plane for the food and each seat of each game is needed")
         call = getattr(library, self._prefix + "planes")
-        self._each(lambda low, games: call(self._at(low), games, at + low * each, games * each, each))
+        self._each(
+            lambda low, games: call(self._at(low), games, at + low * each, games * each, each)
+        )
 
     def copy(self) -> "Games":
         """The same games in memory of their own."""

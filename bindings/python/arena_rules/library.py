@@ -133,15 +133,7 @@ class SeatSetup(Structure):
         *_slice("hazards"),
         *(
             (name, c_uint8)
-            for name in (
-                "mode",
-                "width",
-                "height",
-                "min_food",
-                "chance",
-                "has_hazards",
-                "damage",
-            )
+            for name in ("mode", "width", "height", "min_food", "chance", "has_hazards", "damage")
         ),
     ]
 

@@ -100,3 +100,37 @@ def turn(record: bytes, moves, words=(), *, hazards=None, food=None) -> bytes:
         )
     )
     return room.taken()
+
+
+def _two_bytes(number: int) -> bytes:
+    return number.to_bytes(2, "big")
+
+
+def _snake_bytes(snake: dict) -> bytes:
+    ident, body = snake["id"].encode(), snake["body"]
+    parts = bytes(number for part in body for number in (part["x"] + 1, part["y"] + 1))
+    state = bytes((snake["health"], 0, 0, 0, 0))
+    return bytes((len(ident),)) + ident + state + _two_bytes(len(body)) + parts
+
+
+def from_state(state: dict) -> bytes:
+    """The record of a request of the official API. Snakes that are out are not in it.
+
+    The hazards of the request are those of the record, with the damage of its ruleset.
+    """
+    board, rules = state["board"], state["game"]["ruleset"]
+    settings, snakes = rules.get("settings", {}), board["snakes"]
+    hazards, mode = board.get("hazards", []), MODES[rules["name"]]
+    version = 3 if hazards else 2 if mode == MODES["wrapped"] else 1
+    head = bytes((version, mode, board["width"], board["height"])) + _two_bytes(state["turn"])
+    food = settings.get("minimumFood", 1), settings.get("foodSpawnChance", 15)
+    head += bytes((*food, len(snakes))) + _two_bytes(len(board["food"]))
+    head += _flat(board["food"])
+    if hazards:
+        damage = settings.get("hazardDamagePerTurn", 14)
+        head += bytes((damage,)) + _two_bytes(len(hazards)) + _flat(hazards)
+    return head + b"".join(map(_snake_bytes, snakes))
+
+
+def _flat(cells: list[dict]) -> bytes:
+    return bytes(number for cell in cells for number in (cell["x"], cell["y"]))

@@ -58,6 +58,18 @@ HasNoTurn old orders room Room =
     (b : Board) × IsRecordOf old b × room < length (record_of (turn_by_seat orders b))
 HasNoTurn old orders room Memory = ⊤
 
+-- the first board of the setup, which is legal
+abbrev pub IsFirst : SeatSetup → Board → Type 0
+IsFirst s b = (setup : Setup) × (setup_by_seat s ≡ Some setup) × IsLegal b × (b ≡ first_board setup)
+
+-- why there is no setup
+abbrev pub HasNoSetup : SeatSetup → Fault → Type 0
+HasNoSetup s NotARecord = ⊥
+HasNoSetup s NotASetup = setup_by_seat s ≡ None
+HasNoSetup s LastTurn = ⊥
+HasNoSetup s Room = ⊥
+HasNoSetup s Memory = ⊤
+
 -- the first n bytes are the record of the setup's first board
 abbrev pub IsStart : SeatSetup → List ℕ → ℕ → Type 0
 IsStart s new n = (setup : Setup) × (setup_by_seat s ≡ Some setup) × Begins new n (first_board setup)

@@ -18,7 +18,7 @@ mode_from byte =
 
 -- the seat's digit, which is 48 for seat 0
 abbrev pub id_of : ℕ → List ℕ
-id_of seat = 48 + min seat 8 ∷ []
+id_of seat = (48 + min seat 8) ∷ []
 
 -- the seats from this one on, with their ids
 abbrev pub starts_from : ℕ → List Cell → List (List ℕ × Point)

@@ -19,10 +19,10 @@ pub fn point_of(cell: Cell) -> Point
 pub fn points_of(alloc: Global, cells: &[Cell]) -> Result<Cells, AllocError>
     ensures { IfOk result (λ points. points ≡ map point_of cells.now) }
 {
-    let points = cells
-        .iter()
-        .map(|cell| point_of(*cell))
-        .collect(alloc)?;
+    let mut points = Vec::with_capacity(alloc, cells.len())?;
+    for cell in cells {
+        points.push(point_of(*cell))?;
+    }
     Ok(Cells::from_vec(points))
 }
 

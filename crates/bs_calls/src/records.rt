@@ -1,12 +1,13 @@
 //! The calls on records.
 
-ghost use Rattle.std.specs.Prelude.{◌≡◌, ◌<◌, ◌≤◌, MatchResult, OnErr, length, take};
+ghost use Rattle.std.specs.Prelude.{◌≡◌, ◌<◌, ◌≤◌, Some, MatchResult, OnErr, length, take};
 ghost use Rattle.bs_board.specs.boards.Legal.{IsLegal};
 ghost use Rattle.bs_board.specs.boards.Over.{is_over};
 ghost use Rattle.bs_board.specs.declared.boards.board.Board.{Board as AnyBoard};
 ghost use Rattle.bs_board.specs.records.Record.{record_of};
 ghost use Rattle.bs_calls.specs.declared.fault.Fault.TheVariants.{Room};
-ghost use Rattle.bs_calls.specs.Records.{Begins, HasNoNext, HasNoStart, HasNoTurn, IsNext, IsRecordOf, IsStart, IsTurn, IsUnread};
+ghost use Rattle.bs_calls.specs.Setups.{setup_by_seat};
+ghost use Rattle.bs_calls.specs.Records.{Begins, HasNoNext, HasNoSetup, HasNoStart, HasNoTurn, IsFirst, IsNext, IsRecordOf, IsStart, IsTurn, IsUnread};
 
 use crate::fault::Fault;
 use crate::front::front;
@@ -14,7 +15,7 @@ use crate::orders::SeatOrders;
 use crate::setups::{SeatSetup, setup_by_seat};
 use crate::turns::turn_by_seat;
 use bs_board::limits::LAST_TURN;
-use bs_board::{Board, Decode, decode, encode_into, size};
+use bs_board::{Board, Decode, New, decode, encode_into, size};
 use bs_modes::over;
 use std::alloc::Global;
 
@@ -62,18 +63,32 @@ pub fn is_over(alloc: Global, bytes: &[u8]) -> Result<bool, Fault>
     Ok(over(&board))
 }
 
+/// The setup, within the limits of a game.
+fn setup_of(alloc: Global, seats: &SeatSetup<'_>) -> Result<New, Fault>
+    ensures { MatchResult result (λ new. setup_by_seat seats.now ≡ Some new) (HasNoSetup seats.now) }
+{
+    match setup_by_seat(alloc, seats)? {
+        Some(new) => Ok(new),
+        None => Err(Fault::NotASetup),
+    }
+}
+
+/// The first board of a game.
+fn first(alloc: Global, seats: &SeatSetup<'_>) -> Result<Board, Fault>
+    ensures { MatchResult result (IsFirst seats.now) (HasNoSetup seats.now) }
+{
+    let new = setup_of(alloc, seats)?;
+    let board = bs_modes::start(alloc, &new)?;
+    Ok(board)
+}
+
 /// Writes the first record of a game, and returns its length. After an error nothing is written.
-pub fn start(alloc: Global, setup: &SeatSetup<'_>, into: &mut [u8]) -> Result<usize, Fault>
-    ensures answer { MatchResult result (IsStart setup.now into.new) (HasNoStart setup.now (length into.old)) }
+pub fn start(alloc: Global, seats: &SeatSetup<'_>, into: &mut [u8]) -> Result<usize, Fault>
+    ensures answer { MatchResult result (IsStart seats.now into.new) (HasNoStart seats.now (length into.old)) }
     ensures err { OnErr result (into.new ≡ into.old) }
 {
-    match setup_by_seat(alloc, setup)? {
-        None => Err(Fault::NotASetup),
-        Some(new) => {
-            let board = bs_modes::start(alloc, &new)?;
-            write(&board, into)
-        }
-    }
+    let board = first(alloc, seats)?;
+    write(&board, into)
 }
 
 /// The board after a turn of the record's board.
