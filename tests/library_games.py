@@ -14,7 +14,7 @@ from arena_rules.library import CAUSES, MODES, STRUCTS, LargeGame, SmallGame, li
 STEPS = {0: 32, 1: -32, 2: -1, 3: 1}
 DIRECTIONS = ("up", "down", "left", "right")
 WORDS = (2, 2, 2, 2, 0, 1, 3, 8, 32)
-MOST_TURNS = 60
+TURNS = (10, 20, 20, 20, 40, 130)  # the most of a game
 GAMES_A_FILE = 250
 QUOTA = 1_835_007
 
@@ -33,6 +33,7 @@ class Game:
     setup: dict  # the arguments of records.start
     first: bytes  # the record of turn 0
     words: int  # for each turn
+    most: int  # turns
     turns: list = field(default_factory=list)
 
 
@@ -113,15 +114,23 @@ def words_of(words):
     return struct.pack(f"<{len(words)}I", *words)
 
 
+def starve(setup):
+    """A setup in which no food appears, and a snake alone lasts until it starves."""
+    more = {"mode": "solo", "food": [], "min_food": 0, "food_chance": 0, "width": 20}
+    return setup | more | {"starts": setup["starts"][:2]}
+
+
 def draw(count, seed):
     """Games without hazards, played by the calls on games."""
     drawn = []
     for number in range(count):
         rng = random.Random(f"{seed} {number}")
-        setup = draw_setup(rng)
+        setup, most = draw_setup(rng), rng.choice(TURNS)
+        if number % 40 == 0:
+            setup, most = starve(setup), 130
         games = one_game(setup)
-        game = Game(setup, games.record(0), rng.choice(WORDS))
-        while not games.is_over(0) and len(game.turns) < MOST_TURNS:
+        game = Game(setup, games.record(0), rng.choice(WORDS), most)
+        while not games.is_over(0) and len(game.turns) < game.most:
             moves, words = draw_moves(rng, games.memory[0]), draw_words(rng, game.words)
             games.step(moves, words_of(words))
             game.turns.append(Turn(moves, words, games.record(0)))
@@ -139,8 +148,8 @@ def draw_hazardous(count, seed):
         setup["hazards"] = rng.choices(cells, k=rng.choice([0, 3, 12]))
         setup["hazard_damage"] = rng.choice([0, 14, 14, 60, 100])
         record = records.start(**setup)
-        game = Game(setup, record, rng.choice(WORDS))
-        while not records.is_over(record) and len(game.turns) < MOST_TURNS // 2:
+        game = Game(setup, record, rng.choice(WORDS), rng.choice(TURNS))
+        while not records.is_over(record) and len(game.turns) < game.most:
             moves = bytes(rng.choice([0, 1, 2, 3, 4]) for _ in setup["starts"])
             words = draw_words(rng, game.words)
             hazards = rng.choices(cells, k=5) if rng.random() < 0.3 else None
@@ -183,7 +192,7 @@ def replay(games):
             assert loaded.record(0) == turn.record, (game.setup, number)
             turns += 1
         assert records.is_legal(record)
-        assert len(game.turns) == MOST_TURNS or records.is_over(record)
+        assert len(game.turns) == game.most or records.is_over(record)
     return f"{len(games)} games, {turns} turns agree\n"
 
 

@@ -27,7 +27,7 @@ try:
 except ImportError:
     numpy = None
 
-MOST_BYTES = 166_888
+MOST_BYTES = 20_000  # more than the record of any game in memory has
 
 
 def dtype_of(struct: type):
@@ -164,8 +164,7 @@ class Games:
         """The record of a game's board. Its snakes have the ids "0" to "7"."""
         into = ctypes.create_string_buffer(MOST_BYTES)
         call = getattr(library, self._prefix + "save")
-        length = call(byref(self.memory[game]), into, MOST_BYTES)
-        return into.raw[:length]
+        return ctypes.string_at(into, call(byref(self.memory[game]), into, MOST_BYTES))
 
     def load(self, game: int, record: bytes) -> None:
         """Makes the game of a record, whose ids are not kept."""

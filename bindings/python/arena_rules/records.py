@@ -31,7 +31,7 @@ class _Room:
         self.length = c_size_t()
 
     def taken(self) -> bytes:
-        return self.bytes.raw[: self.length.value]
+        return ctypes.string_at(self.bytes, self.length.value)
 
 
 def is_legal(record: bytes) -> bool:

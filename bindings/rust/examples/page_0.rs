@@ -9,7 +9,14 @@ fn draw(state: &mut u64) -> u32 {
 }
 
 fn main() {
-    let settings = Settings { mode: 0, width: 11, height: 11, seats: 2, min_food: 1, chance: 15 };
+    let settings = Settings {
+        mode: 0,
+        width: 11,
+        height: 11,
+        seats: 2,
+        min_food: 1,
+        chance: 15,
+    };
     let cells = [Cell { x: 1, y: 5 }, Cell { x: 9, y: 5 }];
     let (count, mut state, mut turns) = (256, 1, 0);
     let mut games = Games::<SmallGame>::new(count);
@@ -17,7 +24,9 @@ fn main() {
     let mut which = vec![1; count];
     for _ in 0..1000 {
         start_games(games.as_mut_slice(), settings, &starts, (&[], 0), &which);
-        let moves: Vec<u8> = (0..2 * count).map(|_| (draw(&mut state) % 4) as u8).collect();
+        let moves: Vec<u8> = (0..2 * count)
+            .map(|_| (draw(&mut state) % 4) as u8)
+            .collect();
         let words: Vec<u32> = (0..2 * count).map(|_| draw(&mut state)).collect();
         step(games.as_mut_slice(), &moves, &words);
         turns += count;

@@ -25,7 +25,10 @@ impl<'a> Input<'a> {
 
     fn cells(&mut self, count: usize) -> Vec<Cell> {
         let bytes = self.take(2 * count);
-        bytes.chunks(2).map(|at| Cell { x: at[0], y: at[1] }).collect()
+        bytes
+            .chunks(2)
+            .map(|at| Cell { x: at[0], y: at[1] })
+            .collect()
     }
 
     fn record(&mut self) -> &'a [u8] {
@@ -50,7 +53,10 @@ fn replay<G: Game>(input: &mut Input<'_>, settings: Settings, foods: usize, word
     .unwrap();
     let mut games = Games::<G>::new(1);
     let games = games.as_mut_slice();
-    assert_eq!(start_games(games, settings, &starts, (&food, foods), &[1]), 1);
+    assert_eq!(
+        start_games(games, settings, &starts, (&food, foods), &[1]),
+        1
+    );
     assert_eq!((&record[..], &games[0].record()[..]), (first, first));
     for number in 0..turns {
         let (moves, words) = (input.take(settings.seats.into()), input.words(words));

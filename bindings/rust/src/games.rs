@@ -152,7 +152,7 @@ pub fn start<G: Game>(
 }
 
 /// Plays a turn in each game that is not over and is below turn 10,000. `moves` and `words` have as
-/// many entries for each game; a direction is 0 to 3 for up, down, left and right, else straight on.
+/// many entries for each game; a direction is 0 to 3 for up, down, left, right, else straight on.
 pub fn step<G: Game>(games: &mut [G], moves: &[u8], words: &[u32]) {
     let count = games.len().max(1);
     let raw = RawOrders(ManyOrders {

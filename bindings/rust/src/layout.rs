@@ -54,7 +54,8 @@ fn numbered_head() -> Head {
 }
 
 fn are_numbered(food: &[u16], plane: &[u8], bodies: &[u16]) -> bool {
-    let from = |first: usize, list: &[u16]| (0..list.len()).all(|i| usize::from(list[i]) == first + i);
+    let from =
+        |first: usize, list: &[u16]| (0..list.len()).all(|i| usize::from(list[i]) == first + i);
     from(10_000, food)
         && (0..plane.len()).all(|i| usize::from(plane[i]) == i % 251)
         && from(20_000, bodies)

@@ -1,6 +1,6 @@
 //! The rules of Battlesnake games, in this process. docs/SIMULATOR.md says what is proved of them.
 //!
-//! Calls on records ([`start`], [`turn`], [`is_over`], [`is_legal`]) are proved to be exact. [`Games`]
+//! Calls on records ([`start`], [`turn`], [`is_over`], [`is_legal`]) are proved exact. [`Games`]
 //! plays many games at once; its calls are proved to be safe.
 
 mod games;

@@ -145,7 +145,8 @@ macro_rules! game_calls {
     ($game:ty, $start:ident, $step:ident, $planes:ident, $food:ident, $body:ident, $save:ident,
      $load:ident) => {
         extern "C" {
-            pub(crate) fn $start(games: *mut $game, count: usize, starts: &ManyStarts<'_>) -> usize;
+            pub(crate) fn $start(games: *mut $game, count: usize, starts: &ManyStarts<'_>)
+                -> usize;
             pub(crate) fn $step(games: *mut $game, count: usize, orders: &ManyOrders<'_>);
             pub(crate) fn $planes(
                 games: *const $game,

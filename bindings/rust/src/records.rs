@@ -75,7 +75,7 @@ pub fn start(setup: &Setup<'_>) -> Result<Vec<u8>, Fault> {
     record_of(|into, length| unsafe { arena_start(&raw, into.as_mut_ptr(), into.len(), length) })
 }
 
-/// The record after a turn. A move is 0 to 3 for up, down, left and right; a seat with another byte,
+/// The record after a turn. A move is 0 to 3 for up, down, left, right; a seat with another byte,
 /// or without one, goes straight on.
 pub fn turn(record: &[u8], moves: &[u8], words: &[u32], map: Map<'_>) -> Result<Vec<u8>, Fault> {
     let raw = SeatOrders {
