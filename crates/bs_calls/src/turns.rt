@@ -22,7 +22,7 @@ fn move_board(alloc: Global, board: Board, moves: &[(Id, Direction)]) -> Result<
 }
 
 /// Plays one turn of a legal board below the last turn.
-#[tactic(auto, using(bs_rules::proofs::Movable::legal_is_movable, bs_rules::proofs::Movable::legal_has_sides, bs_rules::proofs::TurnLegal::turn_is_legal), unfolding(crate::specs::BySeat::turn_with, bs_rules::specs::Turn::turn_of))]
+#[tactic(auto, using(bs_rules::proofs::Movable::legal_is_movable, bs_rules::proofs::Movable::legal_has_sides))]
 fn turn_with(alloc: Global, board: Board, bytes: &[u8], rest: &Move) -> Result<Board, AllocError>
     requires legal { IsLegal board }
     requires turn { board.turn < LAST_TURN }
