@@ -104,7 +104,8 @@ static void refuse(const char *name, call *made, uint8_t usual) {
         int came = left < 0;
         left = -1;
         if (!came) break;
-        need(status == ARENA_MEMORY, name);
+        if (status != ARENA_MEMORY) now = before;
+        need(status == ARENA_MEMORY || status == usual, name);
         need(!memcmp(&now, &before, sizeof now), name);
         need(made(&now) == usual && !memcmp(&now, &wanted, sizeof now), name);
     }

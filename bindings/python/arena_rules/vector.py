@@ -8,6 +8,7 @@ from arena_rules.games import Games
 from arena_rules.spaces import directions_space, planes_space
 
 LAST_TURN = 10_000
+ORDERS = 4096
 
 
 def spots_of(width: int, height: int) -> np.ndarray:
@@ -57,18 +58,34 @@ class VectorEnv:
         self._starts = np.zeros((num_envs, self.seats, 2), "u1")
         centre = ((self.games.width - 1) // 2, (self.games.height - 1) // 2)
         self._food = np.full((num_envs, 1, 2), centre, "u1")
-        head = self.games.states["head"]
-        self._over, self._turn = head["over"], head["turn"]
-        self._cause = head["seats"]["cause"][:, : self.seats]
+        self._lay_out_heads()
         self._seed(seed)
+
+    def _lay_out_heads(self) -> None:
+        """The heads of all games side by side, which is far less memory than the games are."""
+        head = self.games.states.dtype["head"]
+        games = self.games.states.view("u1").reshape(self.num_envs, -1)
+        self._from = games[:, : head.itemsize]
+        self._heads = np.zeros((self.num_envs, head.itemsize), "u1")
+        heads = self._heads.view(head)[:, 0]
+        self._over, self._turn = heads["over"], heads["turn"]
+        self._cause = heads["seats"]["cause"][:, : self.seats]
+
+    def _look(self) -> None:
+        np.copyto(self._heads, self._from)
+        self._alive = self._cause == 0
+        self._is_over = self._over != 0
+        self._is_cut = (self._turn >= LAST_TURN) & ~self._is_over
 
     def _seed(self, seed: int | None) -> None:
         self.rng = np.random.Generator(np.random.SFC64(seed))
+        orders = self.rng.random((ORDERS, len(self._spots))).argsort(axis=1)
+        self._orders = self._spots[orders[:, : self.seats]]
 
     def _start(self, which: np.ndarray) -> None:
+        """Starts games; their seats are on drawn cells, in one of 4,096 orders."""
         rows = np.flatnonzero(which)
-        order = self.rng.random((len(rows), len(self._spots))).argsort(axis=1)
-        self._starts[rows] = self._spots[order[:, : self.seats]]
+        self._starts[rows] = self._orders[self.rng.integers(0, ORDERS, len(rows))]
         self.games.start(self._starts, self._food, which.view("u1"))
 
     def _observed(self) -> np.ndarray:
@@ -81,22 +98,20 @@ class VectorEnv:
         if seed is not None:
             self._seed(seed)
         self._start(np.ones(self.num_envs, bool))
+        self._look()
         return self._observed(), {}
 
     def step(self, actions: np.ndarray):
         """Returns observations, rewards by seat, terminations, truncations and no infos."""
-        done = (self._over != 0) | (self._turn >= LAST_TURN)
-        before = self._cause == 0
+        done, before = self._is_over | self._is_cut, self._alive
         words = self.rng.integers(0, 1 << 32, (self.num_envs, self._words), "u4")
         self.games.step(np.ascontiguousarray(actions, "u1"), words)
         if done.any():
             self._start(done)
-        alive = self._cause == 0
-        over = self._over != 0
-        rewards = (over[:, None] & alive).astype("f4")
-        rewards -= before & ~alive & ~done[:, None]
-        truncated = (self._turn >= LAST_TURN) & ~over
-        return self._observed(), rewards, over, truncated, {}
+        self._look()
+        rewards = (self._is_over[:, None] & self._alive).astype("f4")
+        rewards -= before & ~self._alive & ~done[:, None]
+        return self._observed(), rewards, self._is_over, self._is_cut, {}
 
     def close(self) -> None:
         """There is nothing to close."""

@@ -2,8 +2,8 @@
 
 use crate::status::{NOT_A_RECORD, OK, OUT_OF_MEMORY, status_of_misfit};
 use bs_batch::{
-    LargeGame, ManyOrders, ManyStarts, Place, body_large, food_large, load_large, save_large, show_large, start_large,
-    step_large,
+    LargeGame, ManyOrders, ManyStarts, Place, body_large, food_large, load_large, save_large,
+    show_large, start_large, step_large,
 };
 use bs_board::{Decode, decode};
 use std::alloc::Global;
@@ -47,8 +47,8 @@ pub extern "C" fn arena_large_save(game: &LargeGame, into: &mut [u8]) -> usize {
     save_large(game, into)
 }
 
-/// Makes the game of a record, whose ids are not kept. If the board does not fit or has hazards, the
-/// game is over, with no living snake; after another fault it is as it was.
+/// Makes the game of a record, whose ids are not kept. If the board does not fit or has hazards,
+/// the game is over, with no living snake; after another fault it is as it was.
 #[unsafe(no_mangle)]
 pub extern "C" fn arena_large_load(alloc: Global, game: &mut LargeGame, bytes: &[u8]) -> u8 {
     match decode(alloc, bytes) {

@@ -1,8 +1,6 @@
 //! The layout of the structs that cross, for the tests of the bindings.
 
-use bs_batch::{
-    Cell, Head, LargeGame, ManyOrders, ManyStarts, Place, Seat, Settings, SmallGame,
-};
+use bs_batch::{Cell, Head, LargeGame, ManyOrders, ManyStarts, Place, Seat, Settings, SmallGame};
 use bs_calls::{SeatOrders, SeatSetup};
 use std::mem::size_of;
 

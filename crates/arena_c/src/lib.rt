@@ -1,4 +1,5 @@
-//! The rules for C: exact calls on records, and the calls of bs_batch on games in the caller's memory.
+//! The rules for C: exact calls on records, and the calls of bs_batch on games in the caller's
+//! memory.
 #![tactic(auto)]
 
 mod large;

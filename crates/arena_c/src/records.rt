@@ -49,8 +49,8 @@ pub extern "C" fn arena_start(
     ensures fault { result ≢ 0 → into.new ≡ into.old }
 {
     match start(alloc, setup, into) {
-        Ok(written) => {
-            *count = written;
+        Ok(first) => {
+            *count = first;
             OK
         }
         Err(fault) => status_of(fault),

@@ -2,8 +2,8 @@
 
 use crate::status::{NOT_A_RECORD, OK, OUT_OF_MEMORY, status_of_misfit};
 use bs_batch::{
-    SmallGame, ManyOrders, ManyStarts, Place, body_small, food_small, load_small, save_small, show_small, start_small,
-    step_small,
+    ManyOrders, ManyStarts, Place, SmallGame, body_small, food_small, load_small, save_small,
+    show_small, start_small, step_small,
 };
 use bs_board::{Decode, decode};
 use std::alloc::Global;
@@ -47,8 +47,8 @@ pub extern "C" fn arena_small_save(game: &SmallGame, into: &mut [u8]) -> usize {
     save_small(game, into)
 }
 
-/// Makes the game of a record, whose ids are not kept. If the board does not fit or has hazards, the
-/// game is over, with no living snake; after another fault it is as it was.
+/// Makes the game of a record, whose ids are not kept. If the board does not fit or has hazards,
+/// the game is over, with no living snake; after another fault it is as it was.
 #[unsafe(no_mangle)]
 pub extern "C" fn arena_small_load(alloc: Global, game: &mut SmallGame, bytes: &[u8]) -> u8 {
     match decode(alloc, bytes) {

@@ -104,13 +104,7 @@ fn verdict_of(head: &Head, bodies: &[u16], seat: usize) -> Verdict
 
 /// Eliminates the seat in the turn that is played, and takes its parts off the plane.
 #[inline]
-pub fn eliminate(
-    head: &mut Head,
-    plane: &mut [u8],
-    bodies: &[u16],
-    seat: usize,
-    verdict: Verdict,
-)
+pub fn eliminate(head: &mut Head, plane: &mut [u8], bodies: &[u16], seat: usize, verdict: Verdict)
     requires seat { seat < SEATS }
     ensures settings { head.new.settings ≡ head.old.settings }
 {

@@ -2,10 +2,8 @@
 
 use crate::layout::{LARGE_SIDE, LargeGame, Place, is_fit};
 use crate::lists::{list_body, list_food};
-use crate::loading::{Misfit, load};
-use crate::many::{
-    ManyOrders, ManyStarts, cells_of, has_to_start, may_step, orders_of, piece_mut,
-};
+use crate::loading::{Misfit, is_within, load, refuse};
+use crate::many::{ManyOrders, ManyStarts, cells_of, has_to_start, may_step, orders_of, piece_mut};
 use crate::saving::save;
 use crate::showing::show;
 use crate::starting::{clear, start};
@@ -77,6 +75,9 @@ pub fn save_large(game: &LargeGame, into: &mut [u8]) -> usize {
 
 /// Makes the game of this board. Its ids are not kept.
 pub fn load_large(game: &mut LargeGame, board: &Board) -> Result<(), Misfit> {
+    if !is_within(board, LARGE_SIDE) {
+        return refuse(&mut game.head, board);
+    }
     load(
         &mut game.head,
         &mut game.food,

@@ -89,8 +89,8 @@ pub struct Head {
     pub seats: [Seat; SEATS],
 }
 
-/// A game on a board of at most 11 by 11 cells. The body of seat i takes `bodies` from 125 i on, its
-/// head first.
+/// A game on a board of at most 11 by 11 cells. The body of seat i takes `bodies` from 125 i on,
+/// its head first.
 #[repr(C)]
 pub struct SmallGame {
     pub head: Head,
@@ -100,8 +100,8 @@ pub struct SmallGame {
     pub bodies: [u16; 1000],
 }
 
-/// A game on a board of at most 25 by 25 cells. The body of seat i takes `bodies` from 629 i on, its
-/// head first.
+/// A game on a board of at most 25 by 25 cells. The body of seat i takes `bodies` from 629 i on,
+/// its head first.
 #[repr(C)]
 pub struct LargeGame {
     pub head: Head,

@@ -19,9 +19,13 @@ mod small;
 mod starting;
 mod turns;
 
-pub use large::{body_large, food_large, load_large, save_large, show_large, start_large, step_large};
+pub use large::{
+    body_large, food_large, load_large, save_large, show_large, start_large, step_large,
+};
 pub use layout::{Cell, Head, LargeGame, Place, Seat, Settings, SmallGame};
 pub use loading::Misfit;
 pub use many::{ManyOrders, ManyStarts, orders_of, piece_mut};
+pub use small::{
+    body_small, food_small, load_small, save_small, show_small, start_small, step_small,
+};
 pub use turns::Orders;
-pub use small::{body_small, food_small, load_small, save_small, show_small, start_small, step_small};

@@ -159,6 +159,17 @@ fn load_cells(
     load_snakes(head, plane, bodies, board.snakes.as_slice())
 }
 
+/// Whether no side of the board is longer.
+pub fn is_within(board: &Board, longest: u8) -> bool {
+    board.width <= longest && board.height <= longest
+}
+
+/// Clears the game of a board that does not fit.
+pub fn refuse(head: &mut Head, board: &Board) -> Result<(), Misfit> {
+    clear(head, settings_of(board));
+    Err(Misfit::Room)
+}
+
 /// Makes the game of a board. If it does not fit, the game is over, without a snake.
 pub fn load(
     head: &mut Head,

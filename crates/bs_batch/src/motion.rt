@@ -74,8 +74,8 @@ fn push_head(body: &mut [u16], head: u16) {
     }
 }
 
-/// Moves the body one step in the direction, straight on if it is none. Returns the new head and the
-/// part that is lost; two zeros for a body of less than three parts, which stays.
+/// Moves the body one step in the direction, straight on if it is none. Returns the new head and
+/// the part that is lost; two zeros for a body of less than three parts, which stays.
 #[inline]
 pub fn move_body(settings: &Settings, body: &mut [u16], given: u8) -> (u16, u16) {
     let (head, second, last) = match body {

@@ -31,8 +31,8 @@ fn put_body(settings: &Settings, plane: &mut [u8], body: &[u16]) {
     }
 }
 
-/// Writes the planes of a game: its food, then its living snakes by their seats. A plane that has no
-/// room is left out.
+/// Writes the planes of a game: its food, then its living snakes by their seats. A plane that has
+/// no room is left out.
 pub fn show(head: &Head, food: &[u16], bodies: &[u16], into: &mut [u8])
     requires wide { head.now.settings.width ≤ LARGE_SIDE }
     requires high { head.now.settings.height ≤ LARGE_SIDE }
@@ -49,7 +49,11 @@ pub fn show(head: &Head, food: &[u16], bodies: &[u16], into: &mut [u8])
         if head.seats[seat].cause == ALIVE {
             let start = (seat + 1) * area;
             if let Some(plane) = into.get_mut(start..start + area) {
-                put_body(&settings, plane, body_of(bodies, seat, head.seats[seat].parts));
+                put_body(
+                    &settings,
+                    plane,
+                    body_of(bodies, seat, head.seats[seat].parts),
+                );
             }
         }
     }

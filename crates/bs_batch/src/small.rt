@@ -1,11 +1,9 @@
 //! Small games side by side. Game i has the i-th piece of each other list.
 
-use crate::layout::{SMALL_SIDE, SmallGame, Place, is_fit};
+use crate::layout::{Place, SMALL_SIDE, SmallGame, is_fit};
 use crate::lists::{list_body, list_food};
-use crate::loading::{Misfit, load};
-use crate::many::{
-    ManyOrders, ManyStarts, cells_of, has_to_start, may_step, orders_of, piece_mut,
-};
+use crate::loading::{Misfit, is_within, load, refuse};
+use crate::many::{ManyOrders, ManyStarts, cells_of, has_to_start, may_step, orders_of, piece_mut};
 use crate::saving::save;
 use crate::showing::show;
 use crate::starting::{clear, start};
@@ -77,6 +75,9 @@ pub fn save_small(game: &SmallGame, into: &mut [u8]) -> usize {
 
 /// Makes the game of this board. Its ids are not kept.
 pub fn load_small(game: &mut SmallGame, board: &Board) -> Result<(), Misfit> {
+    if !is_within(board, SMALL_SIDE) {
+        return refuse(&mut game.head, board);
+    }
     load(
         &mut game.head,
         &mut game.food,

@@ -118,8 +118,8 @@ pub fn turn(
     write(&next, into)
 }
 
-/// Plays a turn of the record in the first `count` bytes of a slot: writes the record after the turn
-/// over it, and returns its length. After an error nothing is written.
+/// Plays a turn of the record in the first `count` bytes of a slot: writes the record after the
+/// turn over it, and returns its length. After an error nothing is written.
 pub fn turn_in_place(
     alloc: Global,
     slot: &mut [u8],

@@ -88,11 +88,7 @@ fn plain_setup(alloc: Global, seats: &SeatSetup<'_>, mode: Mode) -> Result<Optio
     ))
 }
 
-fn with_hazards(
-    alloc: Global,
-    seats: &SeatSetup<'_>,
-    setup: New,
-) -> Result<Option<New>, AllocError>
+fn with_hazards(alloc: Global, seats: &SeatSetup<'_>, setup: New) -> Result<Option<New>, AllocError>
     ensures { IfOk result (λ new. new ≡ with_hazards seats.now setup) }
 {
     if seats.has_hazards == 0 {

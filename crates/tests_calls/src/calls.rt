@@ -1,12 +1,12 @@
 //! A game of three by three cells, by the calls on records and by value.
 
 use bs_batch::Cell;
+use bs_board::limits::LAST_TURN;
+use bs_board::{Board, Mode, New};
 use bs_calls::{
     Fault, SeatOrders, SeatSetup, is_legal, is_over, setup_by_seat, start, turn, turn_by_seat,
     turn_in_place,
 };
-use bs_board::limits::LAST_TURN;
-use bs_board::{Board, Mode, New};
 use bs_samples::{holds, same};
 use std::alloc::Global;
 use std::test::Fail;
@@ -64,14 +64,22 @@ fn check_turn(alloc: Global, from: &[u8], to: &[u8]) -> Result<(), Fail> {
     same("the length", turn(alloc, from, &up(), &mut into), Ok(26))?;
     same("the record", &into[..26], to)?;
     into[..26].copy_from_slice(from);
-    same("in its place", turn_in_place(alloc, &mut into, 26, &up()), Ok(26))?;
+    same(
+        "in its place",
+        turn_in_place(alloc, &mut into, 26, &up()),
+        Ok(26),
+    )?;
     same("the record in its place", &into[..26], to)
 }
 
 #[test]
 fn a_game_of_records(rt: HostRuntime) -> Result<(), Fail> {
     let mut into = [7u8; 40];
-    same("the length", start(rt.alloc(), &solo(&[CENTRE]), &mut into), Ok(26))?;
+    same(
+        "the length",
+        start(rt.alloc(), &solo(&[CENTRE]), &mut into),
+        Ok(26),
+    )?;
     same("the first record", &into[..26], FIRST.as_slice())?;
     same_over(rt.alloc(), &FIRST, false)?;
     check_turn(rt.alloc(), &FIRST, &SECOND)?;
@@ -83,9 +91,21 @@ fn a_game_of_records(rt: HostRuntime) -> Result<(), Fail> {
 fn what_is_refused(rt: HostRuntime) -> Result<(), Fail> {
     let mut into = [7u8; 25];
     let setup = solo(&[CENTRE, CENTRE]);
-    same("one cell twice", start(rt.alloc(), &setup, &mut into), Err(Fault::NotASetup))?;
-    same("no room", start(rt.alloc(), &solo(&[CENTRE]), &mut into), Err(Fault::Room))?;
-    same("no room", turn(rt.alloc(), &FIRST, &up(), &mut into), Err(Fault::Room))?;
+    same(
+        "one cell twice",
+        start(rt.alloc(), &setup, &mut into),
+        Err(Fault::NotASetup),
+    )?;
+    same(
+        "no room",
+        start(rt.alloc(), &solo(&[CENTRE]), &mut into),
+        Err(Fault::Room),
+    )?;
+    same(
+        "no room",
+        turn(rt.alloc(), &FIRST, &up(), &mut into),
+        Err(Fault::Room),
+    )?;
     let cut = turn_in_place(rt.alloc(), &mut into, 25, &up());
     same("no record", cut, Err(Fault::NotARecord))?;
     same("unchanged", into.as_slice(), [7u8; 25].as_slice())
