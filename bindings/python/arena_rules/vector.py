@@ -5,6 +5,7 @@ from __future__ import annotations
 import numpy as np
 
 from arena_rules.games import Games
+from arena_rules.library import SEATS
 from arena_rules.spaces import directions_space, planes_space
 
 LAST_TURN = 10_000
@@ -65,9 +66,10 @@ class VectorEnv:
         """The heads of all games side by side, which is far less memory than the games are."""
         head = self.games.states.dtype["head"]
         games = self.games.states.view("u1").reshape(self.num_envs, -1)
-        self._from = games[:, : head.itemsize]
-        self._heads = np.zeros((self.num_envs, head.itemsize), "u1")
-        heads = self._heads.view(head)[:, 0]
+        buffer = np.zeros((self.num_envs, head.itemsize), "u1")
+        used = head.itemsize - head["seats"].base.itemsize * (SEATS - self.seats)
+        self._from, self._heads = games[:, :used], buffer[:, :used]
+        heads = buffer.view(head)[:, 0]
         self._over, self._turn = heads["over"], heads["turn"]
         self._cause = heads["seats"]["cause"][:, : self.seats]
 
