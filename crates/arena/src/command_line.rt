@@ -2,14 +2,13 @@
 ghost use Rattle.std.specs.Prelude.{◌≡◌, ◌≤◌, ◌∷◌, [], codes, length, map, None, Some, IfOk, IsOk, option_map, false, true};
 ghost use Rattle.std.specs.Prelude.{Bool};
 ghost use Rattle.clap.specs.Words.{App, FailsBy, app_of, found_of, new_app, rows_of, rule_of, with_rule};
-ghost use Rattle.arena.specs.Words.{alone_app, alone_asked, arena_app, asked_of, blocks_at, blocks_rule, file_rule, game_rule, live_app, serve_app, serve_asked, stay_rule, workers_rule, workers_at, stay_at, text_at, top_app, IsArgOf, IsCommandOf, command_in, mistakes_in, asked_for, asked_in};
+ghost use Rattle.arena.specs.Words.{alone_app, alone_asked, arena_app, asked_of, blocks_at, blocks_rule, file_rule, game_rule, live_app, serve_app, serve_asked, stay_rule, workers_rule, workers_at, stay_at, text_at, top_app, IsArgOf, IsCommandOf, command_in, mistakes_in, asked_in};
+ghost use Rattle.bs_program.specs.Asked.{asked_for};
 ghost use Rattle.clap.specs.Words.{subcommand_rows_of};
 
+use bs_program::{Request, STANDARD_INPUT, Serving, Solo};
 use clap::{Arg, ArgAction, ArgMatches, Command, Error, value_parser};
 use std::alloc::{AllocError, Global};
-
-/// The file name of the standard input.
-pub const STANDARD_INPUT: &str = "-";
 
 const DEFAULT_BLOCKS: u16 = 64;
 
@@ -36,33 +35,6 @@ const ALONE_END: &str = "Example: arena alone games.jsonl --game a > a.transcrip
 const LIVE_ABOUT: &str = "Answers the lines of the standard input as they come";
 
 const LIVE_END: &str = "Example: arena live --blocks 384 < games.jsonl";
-
-/// `arena serve`.
-#[derive(Clone, Copy, Debug)]
-pub struct Serving<'a> {
-    pub file: &'a str,
-    pub blocks: u16,
-    pub workers: u16,
-}
-
-/// `arena alone`.
-#[derive(Clone, Copy, Debug)]
-pub struct Solo<'a> {
-    pub file: &'a str,
-    pub game: &'a str,
-    /// The number of the stay among those of that game, from 1.
-    pub stay: u32,
-    pub blocks: u16,
-}
-
-/// The request of a command line.
-#[derive(Clone, Copy, Debug)]
-pub enum Request<'a> {
-    Serve(Serving<'a>),
-    Alone(Solo<'a>),
-    /// The number of blocks.
-    Live(u16),
-}
 
 fn file_word<'a>(alloc: Global) -> Arg<'a>
     ensures { IsArgOf file_rule result }
