@@ -5,6 +5,7 @@ from __future__ import annotations
 import ctypes
 from concurrent.futures import ThreadPoolExecutor
 from ctypes import addressof, byref, c_uint8, c_uint32
+from typing import Any
 
 from arena_rules.library import (
     EMPTY,
@@ -25,7 +26,7 @@ from arena_rules.library import (
 try:
     import numpy
 except ImportError:
-    numpy = None
+    numpy = None  # type: ignore[assignment]
 
 MOST_BYTES = 20_000  # more than the record of any game in memory has
 
@@ -33,6 +34,11 @@ MOST_BYTES = 20_000  # more than the record of any game in memory has
 def dtype_of(struct: type):
     """The structured numpy type of a ctypes struct."""
     return numpy.dtype(struct)
+
+
+def _states(memory: Any, game: Any) -> Any:
+    """Games as a structured array; None without numpy."""
+    return None if numpy is None else numpy.frombuffer(memory, game)
 
 
 class Games:
@@ -63,7 +69,7 @@ class Games:
         self.memory = (self._game * count)()
         self._prefix = f"arena_{'small' if small else 'large'}_"
         self._step = getattr(library, self._prefix + "step")
-        self.states = None if numpy is None else numpy.frombuffer(self.memory, self._game)
+        self.states = _states(self.memory, self._game)
         self._pool = ThreadPoolExecutor(threads) if threads > 1 else None
         edges = [count * k // threads for k in range(threads + 1)]
         self._ranges = [(low, high - low) for low, high in zip(edges, edges[1:])]
@@ -154,7 +160,7 @@ class Games:
         twin = object.__new__(Games)
         twin.__dict__.update(self.__dict__)
         twin.memory = type(self.memory).from_buffer_copy(self.memory)
-        twin.states = None if numpy is None else numpy.frombuffer(twin.memory, self._game)
+        twin.states = _states(twin.memory, self._game)
         return twin
 
     def is_over(self, game: int) -> bool:

@@ -4,8 +4,9 @@ from __future__ import annotations
 
 import ctypes
 import os
-from ctypes import POINTER, Structure, c_int8, c_size_t, c_uint8, c_uint16, c_uint32, c_void_p
+from ctypes import Structure, c_int8, c_size_t, c_uint8, c_uint16, c_void_p
 from pathlib import Path
+from typing import Any
 
 SEATS = 8
 MODES = {"standard": 0, "solo": 1, "constrictor": 2, "wrapped": 3}
@@ -206,8 +207,8 @@ def address(buffer, of: type) -> tuple[int, int]:
     if count == 0:
         return ctypes.addressof(EMPTY), 0
     if view.readonly:
-        at = ctypes.cast(ctypes.c_char_p(view.obj), c_void_p).value
-        return at, count
+        memory: Any = view.obj
+        return ctypes.cast(ctypes.c_char_p(memory), c_void_p).value or 0, count
     return ctypes.addressof(c_uint8.from_buffer(view)), count
 
 

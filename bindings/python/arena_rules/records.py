@@ -7,6 +7,7 @@ from __future__ import annotations
 
 import ctypes
 from ctypes import byref, c_size_t, c_uint8, c_uint32
+from typing import Any
 
 from arena_rules.library import EMPTY, MODES, Cell, SeatOrders, SeatSetup, check, library
 
@@ -85,7 +86,7 @@ def turn(record: bytes, moves, words=(), *, hazards=None, food=None) -> bytes:
     straight on. `hazards` and `food` are cells that the map gives.
     """
     orders = SeatOrders(has_hazards=hazards is not None, has_food=food is not None)
-    lists = {
+    lists: dict[str, Any] = {
         "moves": (c_uint8 * len(moves))(*moves),
         "words": (c_uint32 * len(words))(*words),
         "hazards": _cells(hazards or ()),
