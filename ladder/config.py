@@ -10,11 +10,11 @@ from collections.abc import Sequence
 from dataclasses import asdict, dataclass
 from pathlib import Path
 from typing import Any
-from urllib.parse import urlsplit
 
 from ladder.host import PLAN, PLAN_WITH_HAZARDS
 from ladder.maps import HazardMap, map_again
 from ladder.starts import Cell, most_snakes
+from ladder.urls import shown, target_of
 
 BOT_NAME = re.compile(r"[A-Za-z0-9][A-Za-z0-9_.-]{0,31}")
 MODES = ("standard", "solo", "constrictor", "wrapped")
@@ -282,10 +282,11 @@ def bot_of(table: Any, place: str) -> Bot:
 def checked_url(url: str, members: Members) -> str:
     """Checks the address of a bot, and removes slashes at its end."""
     try:
-        parts = urlsplit(url)
-        is_fit = parts.scheme in ("http", "https") and bool(parts.hostname) and parts.port != 0
+        target_of(url)
+        is_fit = re.search(r"[\x00-\x20\x7f?#]", url) is None
     except ValueError:
         is_fit = False
-    if not is_fit or parts.query or parts.fragment or re.search(r"[\x00-\x20\x7f]", url):
-        raise members.fault(f"{url!r} is no address such as http://127.0.0.1:8001/name")
+    if not is_fit:
+        address = shown(url)
+        raise members.fault(f"{address!r} is no address such as http://127.0.0.1:8001/name")
     return url.rstrip("/")

@@ -34,7 +34,7 @@ class RunContext:
     folder: Path
     client: BotClient
     urls: Mapping[str, str]
-    looks: Mapping[str, Look]
+    looks: dict[str, Look]
     watch: Watch
 
 
@@ -114,8 +114,11 @@ class Game:
         first = opening(self.context.config, self.fixture)
         old = files.old_lines
         if old[:2] != first[: len(old)]:
-            raise GameFault(f"the file of {self.fixture.name} does not begin as in this ladder")
+            raise GameFault(
+                f"{files.path} does not begin as in this ladder: delete it, and the game begins anew"
+            )
         turns = files.old_answers()
+        self.say_lost(files.moves - len(turns))
         self.tallies = tallies_of(self.fixture.bots, turns)
         for answers in turns:
             self.hear(answers)
@@ -126,6 +129,14 @@ class Game:
         stay.log = files.commands
         self.context.watch.show(self.fixture, stay.board)
         return stay
+
+    def say_lost(self, turns: int) -> None:
+        """Says that answers of turns were lost, if they were."""
+        if turns > 0:
+            self.context.watch.say(
+                f"{self.fixture.name} lost the answers of {turns} turns: their times and missed "
+                "moves are not counted"
+            )
 
     def is_done(self, board: Board) -> bool:
         return bool(board["over"]) or board["turn"] >= self.context.config.rules.turns

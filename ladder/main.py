@@ -24,7 +24,6 @@ from ladder.pairing import Part, part_of
 from ladder.play import Job, locked, play
 from ladder.progress import Counts, ProgressBar
 from ladder.seeds import seed_line, seed_line_of, with_seed
-from ladder.standings import as_csv, as_json, as_table, standings_of
 from ladder.store import Store, StoreFault, open_store
 from ladder.texts import fit_text
 from ladder.watch import Watch
@@ -84,7 +83,9 @@ def run_play(given: argparse.Namespace) -> int:
 
 
 def run_standings(given: argparse.Namespace) -> int:
-    """Prints the standings of a folder."""
+    """Prints the standings of a folder. The other commands do without numpy, which loads slowly."""
+    from ladder.standings import as_csv, as_json, as_table, standings_of
+
     with closing(open_store(given.folder)) as store:
         standings = standings_of(store)
         seed = seed_line_of(store)

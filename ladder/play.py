@@ -13,14 +13,17 @@ from pathlib import Path
 from ladder.bots import BotClient, NoAnswer
 from ladder.config import Bot, Config
 from ladder.game import Game, GameFault, RunContext
-from ladder.game_files import forget_answers, running_games
+from ladder.game_files import command_file, forget_answers, running_games
 from ladder.host import BLOCKS_OF_GAME, HostDied, Refused
 from ladder.keeper import HostKeeper
 from ladder.pairing import Fixture, Part, fixtures_of
 from ladder.payloads import Look
 from ladder.schedule import CALM_SECONDS, Pace, Schedule
 from ladder.store import Store, StoreFault
+from ladder.urls import shown
 from ladder.watch import Watch, Watches
+
+LOOK_AGAIN_SECONDS = 60.0
 
 
 @dataclass(frozen=True)
@@ -59,30 +62,48 @@ async def play(job: Job, store: Store, watches: Sequence[Watch]) -> None:
         watch = Watches([*watches, keeper])
         watch.begin(len(done), len(fixtures))
         context = await run_context(job, client, watch)
-        run = Run(context, store, keeper)
-        await run.play([fixture for fixture in fixtures if fixture.name not in done])
+        asking = asyncio.create_task(ask_looks_again(context))
+        try:
+            run = Run(context, store, keeper)
+            await run.play([fixture for fixture in fixtures if fixture.name not in done])
+        finally:
+            asking.cancel()
 
 
 async def run_context(job: Job, client: BotClient, watch: Watch) -> RunContext:
-    """Makes the context of a run. Asks all bots for their looks; one that sends none is grey."""
-
-    async def look(bot: Bot) -> Look:
-        try:
-            return await client.look(bot.url)
-        except NoAnswer as fault:
-            watch.say(f"{bot.name} did not say how it looks ({fault.cause}): {bot.url}")
-            return Look()
-
-    bots = job.config.bots
-    looks = await asyncio.gather(*map(look, bots))
+    """Makes the context of a run, with the looks of the bots that say how they look."""
+    looks: dict[str, Look] = {}
+    await ask_looks(job.config.bots, client, looks, watch)
     return RunContext(
         config=job.config,
         folder=job.folder,
         client=client,
-        urls={bot.name: bot.url for bot in bots},
-        looks={bot.name: look for bot, look in zip(bots, looks)},
+        urls={bot.name: bot.url for bot in job.config.bots},
+        looks=looks,
         watch=watch,
     )
+
+
+async def ask_looks(
+    bots: Sequence[Bot], client: BotClient, looks: dict[str, Look], watch: Watch
+) -> None:
+    """Asks bots for their looks, all at once; one that sends none is grey."""
+
+    async def ask(bot: Bot) -> None:
+        try:
+            looks[bot.name] = await client.look(bot.url)
+        except NoAnswer as fault:
+            watch.say(f"{bot.name} did not say how it looks ({fault.cause}): {shown(bot.url)}")
+
+    await asyncio.gather(*map(ask, bots))
+
+
+async def ask_looks_again(context: RunContext) -> None:
+    """Asks the bots that were down for their looks, again and again, for their next games."""
+    while True:
+        await asyncio.sleep(LOOK_AGAIN_SECONDS)
+        missing = [bot for bot in context.config.bots if bot.name not in context.looks]
+        await ask_looks(missing, context.client, context.looks, Watch())
 
 
 class Run:
@@ -147,4 +168,8 @@ class Run:
                 if await self.keeper.bury(host, death):
                     self.context.watch.say(f"{death}; its games go on in another")
             except Refused as fault:
-                raise GameFault(f"the host refused a line of {fixture.name}: {fault}") from None
+                path = command_file(self.context.folder, fixture.name)
+                raise GameFault(
+                    f"the host refused a line of {path}: {fault}; delete the file, and the game "
+                    "begins anew"
+                ) from None

@@ -15,7 +15,7 @@ from ladder.bots import Answer
 from ladder.host import Board
 from ladder.outcome import Outcome
 from ladder.pairing import Fixture
-from ladder.standings import quantile
+from ladder.quantiles import quantile
 from ladder.texts import fit_text
 from ladder.watch import Watch
 

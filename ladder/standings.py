@@ -16,6 +16,7 @@ from rich.text import Text
 
 from ladder.bots import CAUSES
 from ladder.outcome import Outcome
+from ladder.quantiles import quantile
 from ladder.rating import Rating, ratings
 from ladder.store import Store
 from ladder.texts import cell_text, fit_text
@@ -50,17 +51,6 @@ class Standing:
             "missed": sum(self.missed.values()),
             **{cause: self.missed.get(cause, 0) for cause in CAUSES},
         }
-
-
-def quantile(counts: Mapping[int, int], share: float) -> int | None:
-    """The least value that a `share` of the counted values does not exceed; None without values."""
-    wanted = math.ceil(share * sum(counts.values()))
-    seen = 0
-    for value in sorted(counts):
-        seen += counts[value]
-        if seen >= wanted:
-            return value
-    return None
 
 
 def lived_in(outcome: Outcome) -> list[tuple[str, float]]:

@@ -12,6 +12,7 @@ from typing import Any
 from ladder.config import Bot
 from ladder.outcome import Finish, Outcome, Tally
 from ladder.pairing import GAME_NAME
+from ladder.urls import shown
 
 BUSY_SECONDS = 60.0
 SCHEMA = """
@@ -45,7 +46,15 @@ class Store:
         self.path = folder / "results.sqlite"
         # Another thread adds the games, one after the other.
         self.base = sqlite3.connect(self.path, timeout=BUSY_SECONDS, check_same_thread=False)
-        self.base.executescript(SCHEMA)
+        try:
+            self.base.executescript(SCHEMA)
+        except sqlite3.OperationalError as fault:
+            if "readonly" not in str(fault):
+                raise
+            raise StoreFault(
+                f"{self.path} has a write that a killed ladder left unfinished, and you may not "
+                "write there: play or read it as its owner once, or read a copy of the folder"
+            ) from None
 
     def close(self) -> None:
         self.base.close()
@@ -66,7 +75,7 @@ class Store:
         with self.base:
             if known is None:
                 self.base.execute("INSERT INTO ladder VALUES (?)", (json.dumps(dict(identity)),))
-            rows = [(bot.name, bot.url) for bot in bots]
+            rows = [(bot.name, shown(bot.url)) for bot in bots]
             self.base.executemany("INSERT OR REPLACE INTO bot VALUES (?, ?)", rows)
 
     def is_closed(self) -> bool:
@@ -79,6 +88,15 @@ class Store:
 
     def add(self, played: Iterable[tuple[Outcome, Mapping[str, Tally]]]) -> None:
         """Adds games that are done, with their seats and tallies, in one transaction."""
+        try:
+            self.add_all(played)
+        except sqlite3.IntegrityError as fault:
+            raise StoreFault(
+                f"{self.path} was changed ({fault}): restore a copy of it, or delete it, and the "
+                "results are read again from the games' files, without times and missed moves"
+            ) from None
+
+    def add_all(self, played: Iterable[tuple[Outcome, Mapping[str, Tally]]]) -> None:
         with self.base:
             for outcome, tallies in played:
                 name = outcome.name

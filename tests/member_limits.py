@@ -115,7 +115,7 @@ OTHERS = [
         )
     ],
 ]
-CELL = {"x": 2, "y": 1}
+CELL: dict = {"x": 2, "y": 1}
 # Values that are no list of cells, and what is no cell of any board.
 NO_CELLS: list = [None, {}, "x", 3, [3], [[1, 1]], [{"x": 1}], [{"y": 1}], [CELL, None]]
 NO_CELLS += [[{**CELL, "x": x}] for x in (-1, 25, 256, 2.0, "2", None, 2**64)]

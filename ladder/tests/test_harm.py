@@ -9,11 +9,14 @@ from __future__ import annotations
 
 import asyncio
 import json
+import signal
+import socket
 import sys
+import threading
 import time
 import urllib.request
 from collections.abc import Iterator
-from dataclasses import dataclass, field
+from dataclasses import dataclass, field, replace
 from pathlib import Path
 from typing import Any
 
@@ -24,8 +27,9 @@ from served import HERE, START_SECONDS, Served, free_port, serving
 
 from ladder import game
 from ladder.bots import Answer
-from ladder.config import Config, config_of
+from ladder.config import Bot, Config, config_of
 from ladder.game_files import make_folders
+from ladder.page_link import Address, PageLink
 from ladder.pairing import Part
 from ladder.play import Job, play
 from ladder.store import Store
@@ -114,9 +118,12 @@ def config_for(folder: Path, servers: list[Served], kinds: list[str], **members:
 
 
 async def played(
-    config: Config, program: Path, monkeypatch: pytest.MonkeyPatch
+    config: Config, program: Path, monkeypatch: pytest.MonkeyPatch, is_flooded: bool = False
 ) -> tuple[Beats, dict[tuple[str, str], Answer]]:
-    """Plays a ladder; the answers by the game with its turn, and the bot."""
+    """Plays a ladder; the answers by the game with its turn, and the bot.
+
+    With `is_flooded` it has a page, which is flooded, and whose process hangs after a while.
+    """
     beats, found = Beats(), {}
     ask_all = game.Game.ask_all
 
@@ -130,10 +137,26 @@ async def played(
     make_folders(config.folder)
     store = Store(config.folder)
     beating = asyncio.create_task(beats.run())
-    await play(Job(config, config.folder, Part(1, 1), program), store, [])
+    job = Job(config, config.folder, Part(1, 1), program)
+    if is_flooded:
+        async with PageLink(config.folder, Address("127.0.0.1", 0), str, print) as link:
+            flooding = asyncio.create_task(flood(link))
+            await play(job, store, [link])
+            await flooding
+    else:
+        await play(job, store, [])
     beating.cancel()
     store.close()
     return beats, found
+
+
+async def flood(link: PageLink) -> None:
+    """Floods a page for some seconds, and then stops its process."""
+    words = (sys.executable, str(HERE / "flood.py"), str(link.address.port), "3")
+    flooding = await asyncio.create_subprocess_exec(*words)
+    await flooding.wait()
+    if link.page is not None:
+        link.page.process.send_signal(signal.SIGSTOP)
 
 
 def measured_by(server: Served) -> dict[str, float]:
@@ -152,15 +175,72 @@ def test_honest_bots_play_as_if_alone(
     monkeypatch: pytest.MonkeyPatch,
     kinds: list[str],
 ) -> None:
-    config = config_for(tmp_path / "x", servers, kinds)
-    beats, found = asyncio.run(played(config, program, monkeypatch))
-    measured = measured_by(servers[0])
+    assert_unharmed(
+        servers[0],
+        *asyncio.run(played(config_for(tmp_path / "x", servers, kinds), program, monkeypatch)),
+    )
+
+
+def assert_unharmed(server: Served, beats: Beats, found: dict[tuple[str, str], Answer]) -> None:
+    """Checks the moves of the honest bots, and that the ladder never computed for long."""
+    measured = measured_by(server)
     judged = Judged()
     for (turn, bot), answer in found.items():
         if bot in honest.KINDS:
             starved = beats.starved(answer.asked_at, answer.answered_at)
             judged.judge(f"{turn} {bot}", answer, measured.get(f"{turn} {bot}"), starved)
-    print(judged.moves, judged.excused, beats.longest(), len(beats.rows))
     assert judged.faults == []
     assert judged.moves > 50
     assert beats.longest() < MOST_HELD
+
+
+@pytest.mark.parametrize("kind", HOSTILE)
+def test_honest_bots_play_as_if_alone_beside_one_kind(
+    request: pytest.FixtureRequest,
+    program: Path,
+    servers: list[Served],
+    tmp_path: Path,
+    monkeypatch: pytest.MonkeyPatch,
+    kind: str,
+) -> None:
+    if not request.config.getoption("--all"):
+        pytest.skip("by hand, with --all: some seconds for each kind")
+    config = config_for(tmp_path / "x", servers, [kind] * 3)
+    assert_unharmed(servers[0], *asyncio.run(played(config, program, monkeypatch)))
+
+
+def test_silent_names_and_deaf_servers_harm_no_other(
+    program: Path, servers: list[Served], tmp_path: Path, monkeypatch: pytest.MonkeyPatch
+) -> None:
+    """Bots whose name server is silent, and one that accepts no connection."""
+    ends, resolve = threading.Event(), socket.getaddrinfo
+
+    def silent(host: Any, *words: Any, **more: Any) -> Any:
+        if str(host).endswith(".test"):
+            ends.wait(60)
+        return resolve(host, *words, **more)
+
+    monkeypatch.setattr(socket, "getaddrinfo", silent)
+    with socket.create_server(("127.0.0.1", 0), backlog=1) as deaf:
+        place = deaf.getsockname()
+        filling = [socket.socket() for _ in range(4)]
+        for it in filling:
+            it.setblocking(False)
+            it.connect_ex(place)
+        config = config_for(tmp_path / "x", servers, [])
+        urls = [f"http://silent{at}.test/" for at in range(12)] + [f"http://127.0.0.1:{place[1]}"]
+        more = tuple(Bot(f"hostile{at}", url) for at, url in enumerate(urls))
+        config = replace(config, bots=config.bots + more, rounds=2)
+        began = time.monotonic()
+        assert_unharmed(servers[0], *asyncio.run(played(config, program, monkeypatch)))
+        assert time.monotonic() - began < 50, "the run waited for a name"
+        for it in filling:
+            it.close()
+    ends.set()
+
+
+def test_flooded_and_hanging_page_makes_no_move_late(
+    program: Path, servers: list[Served], tmp_path: Path, monkeypatch: pytest.MonkeyPatch
+) -> None:
+    config = config_for(tmp_path / "x", servers, [], rounds=6)
+    assert_unharmed(servers[0], *asyncio.run(played(config, program, monkeypatch, is_flooded=True)))

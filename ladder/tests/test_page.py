@@ -253,17 +253,6 @@ def test_page_is_on_this_machine_alone() -> None:
     assert asyncio.run(work()) == ["0100007F"]
 
 
-@pytest.fixture(scope="module")
-def browser() -> Iterator[chromium.Browser]:
-    try:
-        chromium.install()
-    except chromium.NotToBeHad as fault:
-        pytest.fail(f"Chromium is missing and can't be installed ({fault})")
-    opened = chromium.Browser()
-    yield opened
-    opened.close()
-
-
 @contextmanager
 def playing(program: Path, config: Path) -> Iterator[tuple[subprocess.Popen[str], str]]:
     """Plays a ladder with a page within the context, whose value has the page's address."""

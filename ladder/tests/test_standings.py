@@ -7,6 +7,7 @@ import io
 import json
 import math
 import random
+import sqlite3
 import time
 from collections import Counter
 from pathlib import Path
@@ -17,8 +18,9 @@ import pytest
 from ladder.config import Bot
 from ladder.merge import merge
 from ladder.outcome import Finish, Outcome, Tally, finishes_of
+from ladder.quantiles import quantile
 from ladder.rating import ratings
-from ladder.standings import as_csv, as_json, cells_of, quantile, standings_of
+from ladder.standings import as_csv, as_json, cells_of, standings_of
 from ladder.store import Store, StoreFault, open_store
 
 IDENTITY = {"seed": 1, "bots": ["a", "b", "c"]}
@@ -205,6 +207,20 @@ def test_folders_that_do_not_fit_are_not_merged(tmp_path: Path) -> None:
     with pytest.raises(StoreFault, match="another ladder: seed differ"):
         store.begin({**IDENTITY, "seed": 2}, BOTS)
     store.close()
+
+
+def test_folder_that_may_not_be_written_is_named(
+    tmp_path: Path, monkeypatch: pytest.MonkeyPatch
+) -> None:
+    """SQLite wants to finish the write of a killed ladder, and may not."""
+
+    class Base:
+        def executescript(self, _: str) -> None:
+            raise sqlite3.OperationalError("attempt to write a readonly database")
+
+    monkeypatch.setattr(sqlite3, "connect", lambda *_, **__: Base())
+    with pytest.raises(StoreFault, match="as its owner once, or read a copy"):
+        Store(tmp_path)
 
 
 def test_names_of_games_are_checked(tmp_path: Path) -> None:
