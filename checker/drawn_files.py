@@ -55,7 +55,7 @@ def bent(rng: random.Random, members: dict[str, Any]) -> dict[str, Any]:
 
 def stay_line(rng: random.Random) -> dict[str, Any]:
     """A line that admits a game, or lets one leave."""
-    name = rng.choice([*NAMES, *(f"h{rng.randrange(70)}" for _ in range(6)), "é" * 33])
+    name = rng.choice([*NAMES, *(f"h{rng.randrange(200)}" for _ in range(6)), "é" * 33])
     if drawn.chance(rng, 35):
         return {"game": name, "do": "leave"}
     return {"game": name, "do": "admit", "quota": rng.choice([*QUOTAS, 15, 16_777_217])}
@@ -66,8 +66,8 @@ def plan(rng: random.Random, version: int) -> dict[str, Any]:
     names = NAMES[: rng.choice([1, 2, 3, 4, 4, 4, 6])]
     if drawn.chance(rng, 15):
         names = rng.sample(NAMES, rng.choice([0, 1, 2]))
-    if drawn.chance(rng, 5):
-        names += [f"h{at}" for at in range(rng.choice([58, 62, 63, 64, 65]) - len(names))]
+    if drawn.chance(rng, 8):
+        names += [f"h{at}" for at in range(rng.choice([62, 63, 64, 64, 65]) - len(names))]
     rows = [{"game": name, "quota": rng.choice(QUOTAS)} for name in names]
     members: dict[str, Any] = {"games": rows}
     if version > 1 or drawn.chance(rng, 30):
