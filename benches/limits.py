@@ -102,7 +102,7 @@ MEMBERS["hazards"] = [
 ]
 MEMBERS["hazard_damage"] = [0, 1, 99, 100, 101, 256, -1, 14.0, "14", None, []]
 # Members of a move in files of version 5.
-GIVEN = {
+GIVEN: dict = {
     key: [
         *[None, {}, "", [], [CELL], [CELL] * most, [CELL] * (most + 1), [3]],
         *[[{"x": x, "y": y}] for x, y in ((5, 0), (0, 24), (25, 0), (0, 25), (-1, 0), (0.0, 0))],

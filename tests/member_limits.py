@@ -77,6 +77,7 @@ SETUPS = [
     *[({"mode": mode}, '"mode":"%s"' % mode) for mode in ("standard", "solo", "constrictor")],
     *[({"mode": mode}, None) for mode in ("Solo", "royale", "", 0, None)],
 ]
+NO_MOVES: list = [[], None, "up", 1]
 # Members of a command of a game that does not run, and the refusal: of the game, or of the command.
 OTHERS = [
     *[({"do": do}, G2) for do in ("show", "free", "end")],
@@ -92,7 +93,7 @@ OTHERS = [
         ({"do": "move", "moves": moves}, G2)
         for moves in ({}, {"s": "up"}, {"s": 1}, {"s": "Up"}, {"x" * 100: "up"}, {"": None})
     ],
-    *[({"do": "move", "moves": moves}, G1) for moves in ([], None, "up", 1)],
+    *[({"do": "move", "moves": moves}, G1) for moves in NO_MOVES],
     ({"do": "move"}, G1),
     *[
         ({"do": "move", "moves": {}, "words": words}, G2)
@@ -114,9 +115,9 @@ OTHERS = [
         )
     ],
 ]
-CELL = {"x": 2, "y": 1}
+CELL: dict = {"x": 2, "y": 1}
 # Values that are no list of cells, and what is no cell of any board.
-NO_CELLS = [None, {}, "x", 3, [3], [[1, 1]], [{"x": 1}], [{"y": 1}], [CELL, None]]
+NO_CELLS: list = [None, {}, "x", 3, [3], [[1, 1]], [{"x": 1}], [{"y": 1}], [CELL, None]]
 NO_CELLS += [[{**CELL, "x": x}] for x in (-1, 25, 256, 2.0, "2", None, 2**64)]
 NO_CELLS += [[{**CELL, "y": y}] for y in (-1, 25, 256, 2.0, "2", None, 2**64)]
 # Members of a `new` of version 5, and a part of the board, as above.

@@ -24,8 +24,6 @@ from served import (
     write_config,
 )
 from test_kills import wait_for
-from test_page import playing
-from testing import chromium  # of viewer/
 
 from ladder.config import config_of
 from ladder.game import map_members, opening
@@ -199,41 +197,3 @@ def test_royale_that_is_killed_goes_on(
     assert standings_without_times(tmp_path / "results") == standings_without_times(royale)
     checked = run_ladder("check", tmp_path / "results", "--program", program)
     assert checked.stdout == f"{GAMES} of {GAMES} games agree\n"
-
-
-SHOWN = """
-const card = [...document.querySelectorAll('article')].find((it) => it.querySelector('.hazards'));
-if (!card) {
-  return null;
-}
-const groups = [...card.querySelectorAll('svg[role="img"] .hazards')];
-return {
-  shades: groups.map((group) => group.dataset.shade),
-  cells: groups.flatMap((group) => [...group.querySelector('.squares').getAttribute('d')
-    .matchAll(/M([0-9]+) ([0-9]+)/g)].map(([, x, y]) => [Number(x), Number(y)])),
-  legend: card.querySelector('.hazard-legend:not([hidden])')?.textContent,
-  words: card.querySelector('svg[role="img"]').getAttribute('aria-label'),
-};
-"""
-
-
-def test_page_shows_hazards(
-    program: Path, faulty_bots: Served, browser: chromium.Browser, tmp_path: Path
-) -> None:
-    """The hazards of a running game are hatched, with a line of what they take."""
-    config = write_config(
-        tmp_path / "slow.toml",
-        [(name, faulty_bots.url("calm")) for name in ("one", "two")],
-        **{"folder": str(tmp_path / "results"), "timeout": 5000, "turns": 60, "rounds": 1000},
-        **{"map": "royale", "shrink_every": 1, "hazard_damage": 0, "width": 7, "height": 7},
-    )
-    with playing(program, config) as (_, address):
-        browser.complaints()
-        browser.go(address)
-        shown = browser.wait(SHOWN, seconds=60)
-        assert shown["shades"] == ["1"]
-        assert len(shown["cells"]) >= 7
-        assert all(0 <= x < 7 and 0 <= y < 7 for x, y in shown["cells"])
-        assert shown["legend"] == "A hazard takes in each turn0 health"
-        assert f"Hazards: {len(shown['cells'])}, damage 0." in shown["words"]
-        assert browser.complaints() == []

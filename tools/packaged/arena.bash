@@ -11,8 +11,8 @@ _arena_words() {
         "arena-ladder play") echo "--part --page --program --help" ;;
         "arena-ladder standings") echo "--csv --json --help" ;;
         "arena-ladder check") echo "--program --help" ;;
-        "arena-ladder merge") echo "--help" ;;
-        "arena-ladder "*) echo "play standings check merge --help" ;;
+        "arena-ladder close" | "arena-ladder merge") echo "--help" ;;
+        "arena-ladder "*) echo "play standings check close merge --help" ;;
     esac
 }
 

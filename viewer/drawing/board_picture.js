@@ -58,7 +58,8 @@ function showHazardLegend(element, board) {
   const shades = hazardsByShade(board);
   const words = shades.length > 0 ? 'A hazard takes in each turn'
     : `No hazards now; one would take ${board.hazard_damage} health in each turn`;
-  element.replaceChildren(words, ...shades.map((it) => hazardSample(it, board.hazard_damage)));
+  const samples = shades.flatMap((it) => [' ', hazardSample(it, board.hazard_damage)]);
+  element.replaceChildren(words, ...samples);
 }
 
 function foodPicture(cell, height) {

@@ -102,7 +102,7 @@ def legend(board):
         return None
     if not shades:
         return f"No hazards now; one would take {damage} health in each turn"
-    taken = [f"{shade * damage} health{' or more' if shade == 4 else ''}" for shade in shades]
+    taken = [f" {shade * damage} health{' or more' if shade == 4 else ''}" for shade in shades]
     return "A hazard takes in each turn" + "".join(taken)
 
 

@@ -34,7 +34,9 @@ solo 5 10 0||s 90 2,2 2,3 1,3 1,2 1,1>1>s=left>11||s 89 1,2 2,2 2,3 1,3 1,2 Self
 /// One head with two hits. In order: its own body and another's; a body and a head; its own body
 /// and a head. Then the longest of several candidates is the killer, whatever its seat: two heads;
 /// two bodies; three heads, of which the first two are equally long and the third is shorter; and
-/// the same three with a longer third.
+/// the same three with a longer third. The order of the causes is held by this table, and by
+/// examples/order_of_causes.jsonl as far as it can be seen in play: the bodies of two living snakes
+/// share no cell there, so that one's own body comes first is held by this table alone.
 const DOUBLE_HITS: &str =
     r"standard 5 10 0||A 90 2,2 2,3 1,3 1,2 1,1|B 90 0,3 0,2 1,2 1,1>1>A=left B=up>11||A 89 1,2 2,2 2,3 1,3 1,2 SelfCollision by 0 in 11|B 89 0,4 0,3 0,2 1,2
 standard 5 10 0||A 90 1,2 0,2 0,1|B 90 2,3 2,2 3,2|C 90 2,1 3,1 4,1 4,0>1>A=right B=up C=up>11||A 89 2,2 1,2 0,2 BodyCollision by 1 in 11|B 89 2,4 2,3 2,2|C 89 2,2 2,1 3,1 4,1 BodyCollision by 1 in 11

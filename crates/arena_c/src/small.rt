@@ -1,0 +1,62 @@
+//! Small games of the caller, on boards of at most 11 by 11 cells.
+
+use crate::status::{NOT_A_RECORD, OK, OUT_OF_MEMORY, status_of_misfit};
+use bs_batch::{
+    ManyOrders, ManyStarts, Place, SmallGame, body_small, food_small, load_small, save_small,
+    show_small, start_small, step_small,
+};
+use bs_board::{Decode, decode};
+use std::alloc::Global;
+
+/// Starts each game whose byte of `which` is not 0, and returns the number of those that started. A
+/// game whose settings or cells are not those of a first board is over, without a snake.
+#[unsafe(no_mangle)]
+pub extern "C" fn arena_small_start(games: &mut [SmallGame], starts: &ManyStarts<'_>) -> usize {
+    start_small(games, starts)
+}
+
+/// Plays a turn in each game that is not over and is below turn 10,000.
+#[unsafe(no_mangle)]
+pub extern "C" fn arena_small_step(games: &mut [SmallGame], orders: &ManyOrders<'_>) {
+    step_small(games, orders);
+}
+
+/// Writes the planes of each game into its `each` bytes: its food, then its living snakes by their
+/// seats.
+#[unsafe(no_mangle)]
+pub extern "C" fn arena_small_planes(games: &[SmallGame], into: &mut [u8], each: usize) {
+    show_small(games, into, each);
+}
+
+/// Lists the cells with food, the oldest first, as far as there is room. Returns their number.
+#[unsafe(no_mangle)]
+pub extern "C" fn arena_small_food(game: &SmallGame, into: &mut [Place]) -> usize {
+    food_small(game, into)
+}
+
+/// Lists the parts of a seat, its head first, as far as there is room. Returns their number.
+#[unsafe(no_mangle)]
+pub extern "C" fn arena_small_body(game: &SmallGame, seat: usize, into: &mut [Place]) -> usize {
+    body_small(game, seat, into)
+}
+
+/// Writes the record of the game's board, as far as there is room, and returns its length; 0 if the
+/// settings are not those of a game.
+#[unsafe(no_mangle)]
+pub extern "C" fn arena_small_save(game: &SmallGame, into: &mut [u8]) -> usize {
+    save_small(game, into)
+}
+
+/// Makes the game of a record, whose ids are not kept. If the board does not fit or has hazards,
+/// the game is over, with no living snake; after another fault it is as it was.
+#[unsafe(no_mangle)]
+pub extern "C" fn arena_small_load(alloc: Global, game: &mut SmallGame, bytes: &[u8]) -> u8 {
+    match decode(alloc, bytes) {
+        Ok(board) => match load_small(game, &board) {
+            Ok(()) => OK,
+            Err(misfit) => status_of_misfit(misfit),
+        },
+        Err(Decode::NotARecord) => NOT_A_RECORD,
+        Err(Decode::Memory) => OUT_OF_MEMORY,
+    }
+}

@@ -1,0 +1,162 @@
+//! The collisions of a turn, all judged on one board.
+
+ghost use Rattle.std.specs.Prelude.{◌≡◌, ◌≤◌, ◌<◌};
+
+use crate::layout::{ALIVE, BODY_COLLISION, HEAD_COLLISION, Head, NO_SEAT, SEATS, SELF_COLLISION};
+use crate::planes::{PARTS, at, remove_body};
+use crate::seats::{body_of, head_of};
+
+/// The cause and the killer of a seat.
+#[derive(Clone, Copy)]
+pub struct Verdict {
+    pub cause: u8,
+    pub killer: u8,
+}
+
+/// The verdict of a snake that stays alive.
+const SPARED: Verdict = Verdict {
+    cause: ALIVE,
+    killer: NO_SEAT,
+};
+
+#[inline]
+fn is_on_later_part(body: &[u16], cell: u16) -> bool {
+    match body {
+        [] => false,
+        [_, later @ ..] => later.iter().any(|part| *part == cell),
+    }
+}
+
+/// The longer of the killer so far and the other; the killer so far if equal.
+#[inline]
+fn longer_of(head: &Head, killer: u8, other: usize) -> u8
+    requires other { other < SEATS }
+{
+    if (killer as usize) < SEATS && head.seats[killer as usize].parts >= head.seats[other].parts {
+        killer
+    } else {
+        other as u8
+    }
+}
+
+/// The longest other living snake whose later parts hold the cell.
+fn body_killer(head: &Head, bodies: &[u16], seat: usize, cell: u16) -> u8
+    requires seats { head.now.settings.seats ≤ SEATS }
+{
+    let mut killer = NO_SEAT;
+    for other in 0..usize::from(head.settings.seats) {
+        if other != seat && head.seats[other].cause == ALIVE {
+            let body = body_of(bodies, other, head.seats[other].parts);
+            if is_on_later_part(body, cell) {
+                killer = longer_of(head, killer, other);
+            }
+        }
+    }
+    killer
+}
+
+/// The longest other living snake whose head is on the cell and that is no shorter.
+fn head_killer(head: &Head, bodies: &[u16], seat: usize, cell: u16) -> u8
+    requires seats { head.now.settings.seats ≤ SEATS }
+    requires seat { seat < SEATS }
+{
+    let mut killer = NO_SEAT;
+    for other in 0..usize::from(head.settings.seats) {
+        if other != seat && head.seats[other].cause == ALIVE {
+            let body = body_of(bodies, other, head.seats[other].parts);
+            if head_of(body) == cell && head.seats[seat].parts <= head.seats[other].parts {
+                killer = longer_of(head, killer, other);
+            }
+        }
+    }
+    killer
+}
+
+/// The verdict on a living seat.
+fn verdict_of(head: &Head, bodies: &[u16], seat: usize) -> Verdict
+    requires seats { head.now.settings.seats ≤ SEATS }
+    requires seat { seat < SEATS }
+{
+    let own = body_of(bodies, seat, head.seats[seat].parts);
+    let cell = head_of(own);
+    if is_on_later_part(own, cell) {
+        return Verdict {
+            cause: SELF_COLLISION,
+            killer: seat as u8,
+        };
+    }
+    let killer = body_killer(head, bodies, seat, cell);
+    if killer != NO_SEAT {
+        return Verdict {
+            cause: BODY_COLLISION,
+            killer,
+        };
+    }
+    let killer = head_killer(head, bodies, seat, cell);
+    if killer != NO_SEAT {
+        return Verdict {
+            cause: HEAD_COLLISION,
+            killer,
+        };
+    }
+    SPARED
+}
+
+/// Eliminates the seat in the turn that is played, and takes its parts off the plane.
+#[inline]
+pub fn eliminate(head: &mut Head, plane: &mut [u8], bodies: &[u16], seat: usize, verdict: Verdict)
+    requires seat { seat < SEATS }
+    ensures settings { head.new.settings ≡ head.old.settings }
+{
+    remove_body(plane, body_of(bodies, seat, head.seats[seat].parts));
+    let out = head.turn.wrapping_add(1);
+    let judged = &mut head.seats[seat];
+    judged.cause = verdict.cause;
+    judged.killer = verdict.killer;
+    judged.out = out;
+}
+
+/// Whether the head of each living snake is the only part on its cell. Then nothing collides.
+#[inline]
+fn are_all_alone(head: &Head, plane: &[u8], bodies: &[u16]) -> bool
+    requires seats { head.now.settings.seats ≤ SEATS }
+{
+    for seat in 0..usize::from(head.settings.seats) {
+        if head.seats[seat].cause == ALIVE {
+            let cell = head_of(body_of(bodies, seat, head.seats[seat].parts));
+            if at(plane, cell) & PARTS != 1 {
+                return false;
+            }
+        }
+    }
+    true
+}
+
+/// The verdicts on all seats, before any is applied.
+fn judge(head: &Head, bodies: &[u16]) -> [Verdict; SEATS]
+    requires seats { head.now.settings.seats ≤ SEATS }
+{
+    let mut verdicts = [SPARED; SEATS];
+    for seat in 0..usize::from(head.settings.seats) {
+        if head.seats[seat].cause == ALIVE {
+            verdicts[seat] = verdict_of(head, bodies, seat);
+        }
+    }
+    verdicts
+}
+
+/// Eliminates each living snake that collides.
+pub fn collide(head: &mut Head, plane: &mut [u8], bodies: &[u16])
+    requires seats { head.old.settings.seats ≤ SEATS }
+    ensures settings { head.new.settings ≡ head.old.settings }
+{
+    if are_all_alone(head, plane, bodies) {
+        return;
+    }
+    let verdicts = judge(head, bodies);
+    for seat in 0..SEATS {
+        if verdicts[seat].cause != ALIVE {
+            eliminate(head, plane, bodies, seat, verdicts[seat]);
+        }
+    }
+}

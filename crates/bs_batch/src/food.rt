@@ -1,0 +1,148 @@
+//! Food: what is eaten, and what appears.
+
+ghost use Rattle.std.specs.Prelude.{◌≡◌, ◌≤◌, ◌<◌};
+
+use crate::layout::{ALIVE, Head, LARGE_SIDE, SEATS, STRIDE, Settings};
+use crate::planes::{add_food, remove_food};
+use crate::seats::{body_of, head_of};
+
+#[inline]
+fn is_under_head(head: &Head, bodies: &[u16], cell: u16) -> bool
+    requires seats { head.now.settings.seats ≤ SEATS }
+{
+    for seat in 0..usize::from(head.settings.seats) {
+        if head.seats[seat].cause == ALIVE
+            && head_of(body_of(bodies, seat, head.seats[seat].parts)) == cell
+        {
+            return true;
+        }
+    }
+    false
+}
+
+/// Removes the food under living heads; the other food keeps its order.
+pub fn remove_eaten(head: &mut Head, food: &mut [u16], plane: &mut [u8], bodies: &[u16])
+    requires seats { head.old.settings.seats ≤ SEATS }
+    ensures settings { head.new.settings ≡ head.old.settings }
+{
+    let count = usize::from(head.foods).min(food.len());
+    let mut left = 0usize;
+    for index in 0..count {
+        let cell = food[index];
+        if is_under_head(head, bodies, cell) {
+            remove_food(plane, cell);
+        } else {
+            if left < count {
+                food[left] = cell;
+            }
+            left = left.wrapping_add(1);
+        }
+    }
+    head.foods = left.min(1024) as u16;
+}
+
+/// The number of free cells of a row.
+#[inline]
+fn free_in(row: &[u8]) -> u32 {
+    let mut free = 0u32;
+    for count in row {
+        free = free.wrapping_add(u32::from(*count == 0));
+    }
+    free
+}
+
+/// The cells of a row of the board.
+#[inline]
+fn row_of<'a>(plane: &'a [u8], settings: &Settings, row: usize) -> &'a [u8]
+    requires high { row < LARGE_SIDE }
+{
+    let start = (row + 1) * usize::from(STRIDE) + 1;
+    let width = usize::from(settings.width.min(LARGE_SIDE));
+    match plane.get(start..start + width) {
+        Some(cells) => cells,
+        None => &[],
+    }
+}
+
+fn count_free(plane: &[u8], settings: &Settings) -> u32
+    requires high { settings.now.height ≤ LARGE_SIDE }
+{
+    let mut free = 0u32;
+    for row in 0..usize::from(settings.height) {
+        free = free.wrapping_add(free_in(row_of(plane, settings, row)));
+    }
+    free
+}
+
+/// The column of the free cell of that number.
+#[inline]
+fn column_of(row: &[u8], number: u32) -> usize {
+    let mut left = number;
+    for (column, count) in row.iter().enumerate() {
+        if *count == 0 {
+            if left == 0 {
+                return column;
+            }
+            left -= 1;
+        }
+    }
+    0
+}
+
+/// The free cell of that number, counted row by row from the bottom left; 0 if there is none.
+fn free_cell(plane: &[u8], settings: &Settings, number: u32) -> u16
+    requires high { settings.now.height ≤ LARGE_SIDE }
+{
+    let mut left = number;
+    for row in 0..usize::from(settings.height) {
+        let cells = row_of(plane, settings, row);
+        let free = free_in(cells);
+        if left < free {
+            let column = column_of(cells, left).min(24);
+            return ((row + 1) * usize::from(STRIDE) + column + 1) as u16;
+        }
+        left -= free;
+    }
+    0
+}
+
+/// Puts food on the free cell that the word selects.
+fn place_food(head: &mut Head, food: &mut [u16], plane: &mut [u8], word: u32)
+    requires high { head.old.settings.height ≤ LARGE_SIDE }
+    ensures settings { head.new.settings ≡ head.old.settings }
+{
+    let count = usize::from(head.foods).min(food.len());
+    let free = count_free(plane, &head.settings);
+    if free > 0 && count < food.len() {
+        let cell = free_cell(plane, &head.settings, word % free);
+        food[count] = cell;
+        add_food(plane, cell);
+        head.foods = head.foods.wrapping_add(1);
+    }
+}
+
+fn place_missing(head: &mut Head, food: &mut [u16], plane: &mut [u8], words: &[u32])
+    requires high { head.old.settings.height ≤ LARGE_SIDE }
+    ensures settings { head.new.settings ≡ head.old.settings }
+{
+    for word in words {
+        place_food(head, food, plane, *word);
+    }
+}
+
+/// Adds food up to the minimum, with a word for each; if there is enough, the first word decides by
+/// the chance, and the second selects the cell.
+pub fn spawn(head: &mut Head, food: &mut [u16], plane: &mut [u8], words: &[u32])
+    requires high { head.old.settings.height ≤ LARGE_SIDE }
+    ensures settings { head.new.settings ≡ head.old.settings }
+{
+    let missing = u16::from(head.settings.min_food).saturating_sub(head.foods);
+    if missing > 0 {
+        let few = usize::from(missing).min(words.len());
+        place_missing(head, food, plane, &words[..few]);
+    } else if let [first, second, ..] = words {
+        if *first % 100 < u32::from(head.settings.chance) {
+            place_food(head, food, plane, *second);
+        }
+    }
+}

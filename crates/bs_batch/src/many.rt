@@ -1,0 +1,92 @@
+//! The lists of many games: game i has the i-th piece of each.
+
+ghost use Rattle.std.specs.Prelude.{◌≡◌, ◌≤◌, ◌<◌, IsTrue};
+
+use crate::layout::{Cell, Head, LAST_TURN, SEATS, Settings, is_fit};
+use crate::starting::FirstCells;
+use crate::turns::Orders;
+use bs_board::limits::MOST_WORDS;
+
+/// The directions and words of many games.
+#[repr(C)]
+#[derive(Clone, Copy)]
+pub struct ManyOrders<'a> {
+    /// A byte for each seat: 0 to 3 for up, down, left and right, else straight on.
+    pub moves: &'a [u8],
+    /// The number of bytes of `moves` for each game.
+    pub moves_each: usize,
+    pub words: &'a [u32],
+    /// The number of words for each game, of which the first 32 are used.
+    pub words_each: usize,
+}
+
+/// The settings and the first cells of many games.
+#[repr(C)]
+#[derive(Clone, Copy)]
+pub struct ManyStarts<'a> {
+    /// The starting cells of each game, one for each seat.
+    pub starts: &'a [Cell],
+    pub food: &'a [Cell],
+    /// The number of cells of `food` for each game.
+    pub food_each: usize,
+    /// A byte for each game: 0 leaves it as it is.
+    pub which: &'a [u8],
+    pub settings: Settings,
+}
+
+/// The piece of that number, of pieces of `each` entries; empty if the list is too short.
+#[inline]
+fn piece<T>(list: &[T], number: usize, each: usize) -> &[T] {
+    let from = number.saturating_mul(each);
+    match list.get(from..from.saturating_add(each)) {
+        Some(piece) => piece,
+        None => &[],
+    }
+}
+
+/// The piece of that number, of pieces of `each` bytes; empty if the list is too short.
+#[inline]
+pub fn piece_mut(list: &mut [u8], number: usize, each: usize) -> &mut [u8] {
+    let from = number.saturating_mul(each);
+    match list.get_mut(from..from.saturating_add(each)) {
+        Some(piece) => piece,
+        None => &mut [],
+    }
+}
+
+/// The directions and words of the game of that number.
+#[inline]
+pub fn orders_of<'a>(orders: &ManyOrders<'a>, number: usize) -> Orders<'a> {
+    let words = piece(orders.words, number, orders.words_each);
+    let few = words.len().min(MOST_WORDS);
+    Orders {
+        moves: piece(orders.moves, number, orders.moves_each),
+        words: &words[..few],
+    }
+}
+
+/// The first cells of the game of that number.
+pub fn cells_of<'a>(first: &ManyStarts<'a>, number: usize) -> FirstCells<'a> {
+    let seats = usize::from(first.settings.seats);
+    FirstCells {
+        starts: piece(first.starts, number, seats),
+        food: piece(first.food, number, first.food_each),
+    }
+}
+
+/// Whether the game of that number is to start.
+pub fn has_to_start(first: &ManyStarts<'_>, number: usize) -> bool {
+    match first.which.get(number) {
+        Some(byte) => *byte != 0,
+        None => false,
+    }
+}
+
+/// Whether a turn can be played.
+#[inline]
+pub fn may_step(head: &Head, longest: u8) -> bool
+    ensures seats { IsTrue result → head.now.settings.seats ≤ SEATS }
+    ensures high { IsTrue result → head.now.settings.height ≤ longest }
+{
+    head.over == 0 && head.turn < LAST_TURN && is_fit(&head.settings, longest)
+}

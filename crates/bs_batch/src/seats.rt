@@ -1,0 +1,59 @@
+//! The seats of a game and their bodies.
+
+ghost use Rattle.std.specs.Prelude.{◌≡◌, ◌≤◌, ◌<◌};
+
+use crate::layout::{ALIVE, Head, SEATS, SOLO};
+
+/// The room of a seat, with the parts that it does not have.
+#[inline]
+pub fn room_of(bodies: &mut [u16], seat: usize) -> &mut [u16]
+    requires seat { seat < SEATS }
+{
+    let row = bodies.len() / SEATS;
+    let start = seat * row;
+    match bodies.get_mut(start..start + row) {
+        Some(room) => room,
+        None => &mut [],
+    }
+}
+
+/// The parts of a seat, its head first.
+#[inline]
+pub fn body_of(bodies: &[u16], seat: usize, parts: u16) -> &[u16]
+    requires seat { seat < SEATS }
+{
+    let row = bodies.len() / SEATS;
+    let start = seat * row;
+    let parts = usize::from(parts).min(row);
+    match bodies.get(start..start + parts) {
+        Some(body) => body,
+        None => &[],
+    }
+}
+
+#[inline]
+pub fn head_of(body: &[u16]) -> u16 {
+    match body {
+        [] => 0,
+        [head, ..] => *head,
+    }
+}
+
+fn count_living(head: &Head) -> u8
+    requires seats { head.now.settings.seats ≤ SEATS }
+{
+    let mut living = 0u8;
+    for seat in 0..usize::from(head.settings.seats) {
+        living = living.wrapping_add(u8::from(head.seats[seat].cause == ALIVE));
+    }
+    living
+}
+
+/// Counts the living snakes, and decides whether the game is over.
+pub fn count(head: &mut Head)
+    requires seats { head.old.settings.seats ≤ SEATS }
+{
+    head.living = count_living(head);
+    let last = if head.settings.mode == SOLO { 0 } else { 1 };
+    head.over = u8::from(head.living <= last);
+}

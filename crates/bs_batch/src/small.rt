@@ -1,0 +1,99 @@
+//! Small games side by side. Game i has the i-th piece of each other list.
+
+use crate::layout::{Place, SMALL_SIDE, SmallGame, is_fit};
+use crate::lists::{list_body, list_food};
+use crate::loading::{Misfit, is_within, load, refuse};
+use crate::many::{ManyOrders, ManyStarts, cells_of, has_to_start, may_step, orders_of, piece_mut};
+use crate::saving::save;
+use crate::showing::show;
+use crate::starting::{clear, start};
+use crate::turns::step;
+use bs_board::Board;
+
+/// Plays a turn in each game that is not over and is below turn 10,000.
+pub fn step_small(games: &mut [SmallGame], orders: &ManyOrders<'_>) {
+    for (number, game) in games.iter_mut().enumerate() {
+        if may_step(&game.head, SMALL_SIDE) {
+            step(
+                &mut game.head,
+                &mut game.food,
+                &mut game.plane,
+                &mut game.bodies,
+                orders_of(orders, number),
+            );
+        }
+    }
+}
+
+/// Starts each game whose byte of `which` is not 0, and returns the number of those that started. A
+/// game whose cells do not fit the settings is over, without a snake.
+pub fn start_small(games: &mut [SmallGame], first: &ManyStarts<'_>) -> usize {
+    let mut started = 0usize;
+    for (number, game) in games.iter_mut().enumerate() {
+        if has_to_start(first, number) {
+            clear(&mut game.head, first.settings);
+            if is_fit(&first.settings, SMALL_SIDE)
+                && start(
+                    &mut game.head,
+                    &mut game.food,
+                    &mut game.plane,
+                    &mut game.bodies,
+                    cells_of(first, number),
+                )
+            {
+                started = started.wrapping_add(1);
+            }
+        }
+    }
+    started
+}
+
+/// Writes the planes of each game into its `each` bytes: its food, then its living snakes by their
+/// seats.
+pub fn show_small(games: &[SmallGame], into: &mut [u8], each: usize) {
+    for (number, game) in games.iter().enumerate() {
+        if is_fit(&game.head.settings, SMALL_SIDE) {
+            show(
+                &game.head,
+                &game.food,
+                &game.bodies,
+                piece_mut(into, number, each),
+            );
+        }
+    }
+}
+
+/// Writes the record of the game's board, as far as there is room, and returns its length; 0 if the
+/// settings are not those of a game.
+pub fn save_small(game: &SmallGame, into: &mut [u8]) -> usize {
+    if is_fit(&game.head.settings, SMALL_SIDE) {
+        save(&game.head, &game.food, &game.bodies, into)
+    } else {
+        0
+    }
+}
+
+/// Makes the game of this board. Its ids are not kept.
+pub fn load_small(game: &mut SmallGame, board: &Board) -> Result<(), Misfit> {
+    if !is_within(board, SMALL_SIDE) {
+        return refuse(&mut game.head, board);
+    }
+    load(
+        &mut game.head,
+        &mut game.food,
+        &mut game.plane,
+        &mut game.bodies,
+        board,
+    )
+}
+
+/// Lists the cells with food, the oldest first, as far as there is room. Returns their number.
+pub fn food_small(game: &SmallGame, into: &mut [Place]) -> usize {
+    list_food(&game.head, &game.food, into)
+}
+
+/// Lists the parts of a seat, its head first, as far as there is room. Returns their number, 0 for
+/// no seat.
+pub fn body_small(game: &SmallGame, seat: usize, into: &mut [Place]) -> usize {
+    list_body(&game.head, &game.bodies, seat, into)
+}

@@ -1,0 +1,159 @@
+//! One turn of one game.
+
+ghost use Rattle.std.specs.Prelude.{◌≡◌, ◌≤◌, ◌<◌};
+
+use crate::collisions::{Verdict, collide, eliminate};
+use crate::food::{remove_eaten, spawn};
+use crate::layout::{
+    ALIVE, CONSTRICTOR, FULL_HEALTH, Head, LARGE_SIDE, NO_SEAT, OUT_OF_HEALTH, SEATS, Seat,
+    Settings, WALL_COLLISION, WRAPPED,
+};
+use crate::motion::move_body;
+use crate::planes::{FOOD, add_part, at, is_on_board, remove_part};
+use crate::seats::{body_of, count, head_of, room_of};
+
+/// The directions and the words of a turn.
+#[derive(Clone, Copy)]
+pub struct Orders<'a> {
+    /// A byte for each seat: 0 to 3 for up, down, left and right, else straight on.
+    pub moves: &'a [u8],
+    pub words: &'a [u32],
+}
+
+/// Repeats the last part, if there is room.
+#[inline]
+fn repeat_last(seat: &mut Seat, plane: &mut [u8], room: &mut [u16]) {
+    let parts = usize::from(seat.parts);
+    if 0 < parts && parts < room.len() {
+        let last = room[parts - 1];
+        room[parts] = last;
+        add_part(plane, last);
+        seat.parts = seat.parts.wrapping_add(1);
+    }
+}
+
+/// Moves a living snake and feeds it. Returns whether it ate.
+#[inline]
+fn move_seat(
+    settings: &Settings,
+    seat: &mut Seat,
+    plane: &mut [u8],
+    room: &mut [u16],
+    given: u8,
+) -> bool {
+    let parts = usize::from(seat.parts).min(room.len());
+    let (next, lost) = move_body(settings, &mut room[..parts], given);
+    remove_part(plane, lost);
+    add_part(plane, next);
+    seat.health = seat.health.saturating_sub(1);
+    if at(plane, next) & FOOD != 0 {
+        seat.health = FULL_HEALTH;
+        repeat_last(seat, plane, room);
+        true
+    } else {
+        false
+    }
+}
+
+/// Moves and feeds all living snakes. Returns whether any ate.
+fn move_seats(head: &mut Head, plane: &mut [u8], bodies: &mut [u16], moves: &[u8]) -> bool
+    requires seats { head.old.settings.seats ≤ SEATS }
+    ensures settings { head.new.settings ≡ head.old.settings }
+{
+    let settings = head.settings;
+    let mut any = false;
+    for seat in 0..usize::from(settings.seats) {
+        if head.seats[seat].cause == ALIVE {
+            let given = match moves.get(seat) {
+                Some(given) => *given,
+                None => 4,
+            };
+            let room = room_of(bodies, seat);
+            any |= move_seat(&settings, &mut head.seats[seat], plane, room, given);
+        }
+    }
+    any
+}
+
+/// Eliminates the snakes that starved and those that left the board.
+fn first_out(head: &mut Head, plane: &mut [u8], bodies: &[u16])
+    requires seats { head.old.settings.seats ≤ SEATS }
+    ensures settings { head.new.settings ≡ head.old.settings }
+{
+    let settings = head.settings;
+    for seat in 0..usize::from(settings.seats) {
+        let judged = head.seats[seat];
+        if judged.cause == ALIVE {
+            let cause = first_cause(&settings, judged.health, bodies, seat, judged.parts);
+            if cause != ALIVE {
+                let verdict = Verdict {
+                    cause,
+                    killer: NO_SEAT,
+                };
+                eliminate(head, plane, bodies, seat, verdict);
+            }
+        }
+    }
+}
+
+#[inline]
+fn first_cause(settings: &Settings, health: u8, bodies: &[u16], seat: usize, parts: u16) -> u8
+    requires seat { seat < SEATS }
+{
+    if health == 0 {
+        OUT_OF_HEALTH
+    } else if settings.mode != WRAPPED
+        && !is_on_board(settings, head_of(body_of(bodies, seat, parts)))
+    {
+        WALL_COLLISION
+    } else {
+        ALIVE
+    }
+}
+
+/// Grows a living snake of constrictor.
+#[inline]
+fn grow_seat(seat: &mut Seat, plane: &mut [u8], room: &mut [u16]) {
+    let parts = usize::from(seat.parts);
+    if 2 <= parts && parts <= room.len() && room[parts - 1] != room[parts - 2] {
+        repeat_last(seat, plane, room);
+    }
+    seat.health = FULL_HEALTH;
+}
+
+fn grow(head: &mut Head, plane: &mut [u8], bodies: &mut [u16])
+    requires seats { head.old.settings.seats ≤ SEATS }
+    ensures settings { head.new.settings ≡ head.old.settings }
+{
+    let settings = head.settings;
+    for seat in 0..usize::from(settings.seats) {
+        if head.seats[seat].cause == ALIVE {
+            grow_seat(&mut head.seats[seat], plane, room_of(bodies, seat));
+        }
+    }
+}
+
+/// Plays a turn of a game.
+pub fn step(
+    head: &mut Head,
+    food: &mut [u16],
+    plane: &mut [u8],
+    bodies: &mut [u16],
+    orders: Orders<'_>,
+)
+    requires high { head.old.settings.height ≤ LARGE_SIDE }
+    requires seats { head.old.settings.seats ≤ SEATS }
+{
+    if move_seats(head, plane, bodies, orders.moves) {
+        remove_eaten(head, food, plane, bodies);
+    }
+    first_out(head, plane, bodies);
+    collide(head, plane, bodies);
+    if head.settings.mode == CONSTRICTOR {
+        grow(head, plane, bodies);
+    } else {
+        spawn(head, food, plane, orders.words);
+    }
+    head.turn = head.turn.wrapping_add(1);
+    count(head);
+}

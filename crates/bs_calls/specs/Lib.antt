@@ -1,0 +1,3 @@
+pub mod BySeat
+pub mod Records
+pub mod Setups

@@ -1,0 +1,5 @@
+//! Tests of bs_calls.
+#![tactic(auto)]
+
+#[cfg(test)]
+mod calls;
