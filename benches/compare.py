@@ -2,17 +2,18 @@
 """Compares the peer with the program, byte by byte: output, status and standard error.
 
     benches/compare.py [FILE..]            these command files, by default the cases
-    benches/compare.py --shapes            the shapes of measure.py, of versions 1 and 2
+    benches/compare.py --shapes            the shapes of measure.py, without that of stays
     benches/compare.py --limits            files and command lines at the ends of limits
     benches/compare.py --drawn N           N random files, from --seed S on
     benches/compare.py --time RUNS FILE..  times both in turns as well
 
     --program PATH   crates/arena/out/arena if not given
     --stored         the peer against NAME.transcript beside each file, without the program
-    --version 1|2    up to which version of plans to compare: 2 if not given
+    --version 1|2|5  up to which version of plans to compare: 5 if not given
     --keep FOLDER    for drawn files on which the two disagree, reduced to the lines that matter
 
-benches/peer/build builds the peer, which reads no file of version 3. The status is 0 if all agreed.
+benches/peer/build builds the peer, which reads files of versions 1, 2 and 5, and no line by which a
+game is admitted or leaves. The status is 0 if all agreed.
 """
 import os
 import random
@@ -157,7 +158,7 @@ def parse_args():
     parser.add_argument("--limits", action="store_true")
     parser.add_argument("--drawn", metavar="N", type=int, default=0)
     parser.add_argument("--seed", type=int, default=1)
-    parser.add_argument("--version", type=int, choices=[1, 2], default=2)
+    parser.add_argument("--version", type=int, choices=[1, 2, 5], default=5)
     parser.add_argument("--keep", metavar="FOLDER", type=Path, default=DISAGREEMENTS)
     parser.add_argument("--time", metavar="RUNS", type=int, default=0)
     given = parser.parse_args()
@@ -174,7 +175,7 @@ def main():
     files = given.files
     if not (files or given.drawn or given.shapes or given.limits):
         # The peer reads no file of version 3.
-        files = [case.file for case in cases.cases() if case.version <= 2]
+        files = [case.file for case in cases.cases() if case.version != 3]
     if given.stored:
         transcripts = {case.file: case.transcript for case in cases.cases()}
         for path in files:

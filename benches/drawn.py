@@ -9,7 +9,11 @@ STEPS = {"up": (0, 1), "down": (0, -1), "left": (-1, 0), "right": (1, 0)}
 MODES = {
     1: ["standard", "solo", "constrictor"] * 5 + ["wrapped"],
     2: ["standard", "solo", "constrictor", "wrapped", "wrapped"],
+    5: ["standard", "solo", "constrictor", "wrapped"],
 }
+# The versions of drawn files, of which none is higher than the version that is asked for.
+VERSIONS = {1: [1], 2: [1, 2, 2, 2], 5: [1, 2, 2, 5, 5, 5]}
+MOST_HAZARDS, MOST_GIVEN_FOOD = 2_500, 625
 IDS = [
     *["s", "t", "u", "a b", "A", "do", "/", "0", "é" * 32, "x" * 64],
     *['q"\\', "\u0001\n", "\u2028", "\U0001f600"],
@@ -161,10 +165,34 @@ class Game:
             members["min_food"] = rng.choice([0, 0, 1, 2, 5, 20, 255])
         if chance(rng, 70):
             members["food_chance"] = rng.choice([0, 1, 15, 50, 99, 100])
+        if self.version == 5:
+            members.update(self.first_hazards())
         if chance(rng, 3):  # a cell or an id twice
             which = rng.choice(["snakes", "food"])
             members[which] = members[which] + [dict(it) for it in members[which][:1]]
         return members
+
+    def first_hazards(self):
+        rng, members = self.rng, {}
+        if chance(rng, 80):
+            members["hazards"] = self.some_cells(MOST_HAZARDS, 1)
+        if chance(rng, 80):
+            members["hazard_damage"] = rng.choice([0, 1, 1, 5, 14, 14, 33, 50, 99, 100, 101])
+        return members
+
+    def some_cells(self, most, strays):
+        """Cells, some of them several times, of which `strays` of a hundred lists have one off the
+        board. A few lists are at their limit or beyond it."""
+        rng = self.rng
+        count = rng.choice([0, 1, 3, 10, len(self.cells) // 2, len(self.cells)])
+        if chance(rng, 2):
+            count = rng.choice([most, most + 1])
+        some = rng.choices(self.cells, k=count)
+        if chance(rng, strays):
+            off = [(self.width, 0), (0, self.height), (24, 24), (25, 0), (0, 25)]
+            some += rng.choices(off, k=rng.choice([1, 2, 9]))
+            rng.shuffle(some)
+        return [{"x": x, "y": y} for x, y in some]
 
     def move(self):
         rng = self.rng
@@ -183,11 +211,15 @@ class Game:
             count = rng.choice([0, 1, 1, 2, 3, 8, 32, 33])
             drawn = [rng.choice([rng.choice(WORDS), rng.randrange(2**32)]) for _ in range(count)]
             members["words"] = drawn
+        if self.version == 5 and chance(rng, 15):
+            members["hazards"] = self.some_cells(MOST_HAZARDS, 30)
+        if self.version == 5 and chance(rng, 15):
+            members["food"] = self.some_cells(MOST_GIVEN_FOOD, 30)
         return members
 
     def step(self, cell, direction):
         x, y = (at + by for at, by in zip(cell, STEPS[direction]))
-        if self.mode == "wrapped" and self.version == 2:
+        if self.mode == "wrapped" and self.version > 1:
             return x % self.width, y % self.height
         return x, y
 
@@ -220,7 +252,7 @@ def plan(rng, version):
         names = rng.sample(IDS, len(names))
     rows = [{"game": name, "quota": rng.choice(QUOTAS)} for name in names]
     members = {"games": rows}
-    if version == 2 or chance(rng, 30):
+    if version > 1 or chance(rng, 30):
         members["version"] = version
     if chance(rng, 3):
         wrong, count = Raw(rng.choice(WRONG)), rng.choice([10, 11, 64, 65])
@@ -259,7 +291,7 @@ def spoil_member(rng, members):
 
 def command_file(rng, version):
     """The names in the plan of a file, and its bytes; the file has at most that version."""
-    version = rng.choice([1, 2, 2, 2]) if version == 2 else 1
+    version = rng.choice(VERSIONS[version]) if version > 1 else 1
     names, first = plan(rng, version)
     games = [Game(rng, name, version) for name in names]
     lines = [written(rng, first, chance(rng, 10)).encode()]

@@ -5,13 +5,14 @@ import json
 import measure
 
 MAX_FILE, MAX_LINE = 16_777_216, 65_536
-SNAKE = {"id": "s", "x": 1, "y": 1}
-NEW = {
+SNAKE: dict = {"id": "s", "x": 1, "y": 1}
+NEW: dict = {
     **{"game": "a", "do": "new", "mode": "solo", "width": 5, "height": 5},
     **{"snakes": [SNAKE], "food": []},
 }
 SHOW = b'{"game":"a","do":"show"}'
 SERVE = ["serve", "-"]
+VERSIONS = (1, 2, 5)  # those that the peer reads
 
 
 def plan(*rows, **more):
@@ -56,7 +57,7 @@ def plans():
         *[b'{"games":[]}'.ljust(size, b"\n") for size in (MAX_FILE, MAX_FILE + 1)],
         b"x" * (MAX_FILE + 1),
     ]
-    for version in b"0 1 4 5 1.0 -1 '1' null true 18446744073709551617".split():
+    for version in b"0 1 4 5 6 1.0 -1 '1' null true 18446744073709551617".split():
         texts.append(b'{"games":[],"version":' + version.replace(b"'", b'"') + b"}")
     for number, text in enumerate([*texts, *(lines(plan(*rows)) for rows in row_lists())]):
         yield f"plan {number}", SERVE, text
@@ -94,17 +95,35 @@ MEMBERS = {
 }
 
 
+CELL = {"x": 2, "y": 1}
+MEMBERS["hazards"] = [
+    *[None, {}, "", [], [CELL], [CELL] * 2_500, [CELL] * 2_501, [{**CELL, "z": 0}], [[1, 1]]],
+    *[[{**CELL, key: value}] for key in "xy" for value in (0, 4, 5, 25, -1, 1.0, "1", None)],
+]
+MEMBERS["hazard_damage"] = [0, 1, 99, 100, 101, 256, -1, 14.0, "14", None, []]
+# Members of a move in files of version 5.
+GIVEN: dict = {
+    key: [
+        *[None, {}, "", [], [CELL], [CELL] * most, [CELL] * (most + 1), [3]],
+        *[[{"x": x, "y": y}] for x, y in ((5, 0), (0, 24), (25, 0), (0, 25), (-1, 0), (0.0, 0))],
+    ]
+    for key, most in (("hazards", 2_500), ("food", 625))
+}
+
+
 def members_of_new(version):
     first, move = plan(version=version), command("move", moves={"s": "up"}, words=[3, 4])
     for key, values in MEMBERS.items():
         for value in values:
-            yield f"{key} {value}", SERVE, lines(first, {**NEW, key: value}, move)
+            name = f"{key} {str(value)[:100]}"
+            yield name, SERVE, lines(first, {**NEW, key: value}, move)
     for key in NEW:
         less = {it: NEW[it] for it in NEW if it != key}
         yield f"without {key}", SERVE, lines(first, less, move)
 
 
-def other_members():
+def other_members(version):
+    first = plan(version=version)
     tried = [{"moves": {}}, {}]
     for words in ([0] * 32, [0] * 33, [2**32 - 1], [2**32], [-1], [1.0], {}, None, "5"):
         tried.append({"moves": {}, "words": words})
@@ -113,15 +132,20 @@ def other_members():
     for moves in ([], None, "up", {"x" * 100: "up"}):
         tried.append({"moves": moves})
     for members in tried:
-        yield f"move {members}", SERVE, lines(plan(), NEW, command("move", **members))
+        yield f"move {members}", SERVE, lines(first, NEW, command("move", **members))
+    for key in GIVEN:
+        for value in GIVEN[key]:
+            name = f"move, {key} {str(value)[:100]}"
+            given = command("move", moves={"s": "up"}, **{key: value})
+            yield name, SERVE, lines(first, NEW, given, command("move", moves={}))
     for at in (0, 1, 9999, 10_000, 10_001, -1, 0.0, "0", None):
-        yield f"turn {at}", SERVE, lines(plan(), NEW, command("turn", at=at))
+        yield f"turn {at}", SERVE, lines(first, NEW, command("turn", at=at))
 
 
 def to_the_last_turn(version):
     first, new, *moves = measure.long_game(10_003)
     yield "to the last turn", SERVE, "\n".join([first, new, *moves]).encode()
-    if version == 2:
+    if version > 1:
         first = first.replace("]}", '],"version":2}')
         new = new.replace('"solo"', '"wrapped"')
         new = new.replace('"y":0}', '"y":0},{"id":"t","x":0,"y":2}')
@@ -130,17 +154,23 @@ def to_the_last_turn(version):
 
 def hunger(version):
     """Two snakes go round in four cells; at the end of their health they go into food, into a wall,
-    or on."""
+    or on; in version 5 on hazards too, which cost no health."""
     snakes = [{"id": "s", "x": 0, "y": 0}, {"id": "t", "x": 3, "y": 3}]
     food = [{"x": x, "y": y} for x, y in ((2, 0), (2, 1), (0, 2), (1, 2))]
-    for mode in ("standard", "constrictor", "wrapped")[: version + 1]:
-        new = {**NEW, "mode": mode, "snakes": snakes, "food": food, "min_food": 0}
+    hazards = [{"x": x, "y": y} for x in range(2) for y in range(5)]
+    new = {**NEW, "snakes": snakes, "food": food, "min_food": 0}
+    news = [{**new, "mode": mode} for mode in ("standard", "constrictor", "wrapped")]
+    news = news[: min(version, 2) + 1]
+    if version == 5:
+        news += [{**it, "hazards": hazards, "hazard_damage": 0} for it in news]
+    for new in news:
         for turns in range(97, 101):
             round = [("up", "right", "down", "left")[turn % 4] for turn in range(turns)]
             for last in ("up", "right", "down", "left"):
                 moves = [command("move", moves={"s": it, "t": it}) for it in [*round, last, last]]
                 file = lines(plan(("a", MAX_FILE), version=version), new, *moves)
-                yield f"{mode}, {turns} turns, then {last}", SERVE, file
+                where = ", on hazards" if "hazards" in new else ""
+                yield f"{new['mode']}{where}, {turns} turns, then {last}", SERVE, file
 
 
 def meetings():
@@ -195,9 +225,10 @@ def command_lines():
 def runs(version):
     yield from plans()
     yield from line_lengths()
-    for one in range(1, version + 1):
-        yield from members_of_new(one)
-    yield from other_members()
+    for one in VERSIONS:
+        if one <= version:
+            yield from members_of_new(one)
+            yield from other_members(one)
     yield from to_the_last_turn(version)
     yield from hunger(version)
     yield from meetings()

@@ -34,7 +34,7 @@ ASKED = 100  # timed lines
 ROUNDS_OF_FILE = 100
 RUNS_OF_FILE = 3
 PARTS = ("memory", "latency", "lines")
-NEW = {
+NEW: dict = {
     "do": "new",
     "mode": "standard",
     "width": 25,
@@ -44,8 +44,8 @@ NEW = {
     "min_food": 0,
     "food_chance": 0,
 }
-ADMIT = {"do": "admit", "quota": 4096}
-MOVE = {"do": "move", "moves": {"s": "up", "t": "up"}}
+ADMIT: dict = {"do": "admit", "quota": 4096}
+MOVE: dict = {"do": "move", "moves": {"s": "up", "t": "up"}}
 # The lines of each stay of a round, step by step: one line of each step has an answer.
 STEPS = [[ADMIT, NEW], *[[MOVE]] * TURNS, [{"do": "leave"}]]
 LINES = sum(map(len, STEPS))  # of a stay

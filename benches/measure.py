@@ -89,7 +89,7 @@ def long_game(turns):
     food before its head."""
     side = 20
     cells = tour(side, side)
-    length, food = 3, None
+    food = None
     body = [cells[0]] * 3
     yield plan(["g"], 16_777_216)
     snakes = [{"id": "s", "x": 0, "y": 0}]
@@ -203,6 +203,33 @@ def wrapped(rounds):
     yield from rounds_of(games, rounds, ROUND, moves)
 
 
+CLOSING = 12  # turns, after which another ring of cells at the edge is hazardous
+
+
+def hazards(rounds):
+    """Eight games of royale, in each of which eight snakes go round in squares of two by two cells
+    while the hazards close in, and never reach them. Each is ended and begun anew."""
+    places = [(x, y) for x in (9, 11, 13) for y in (9, 11, 13)][:8]
+    snakes = [{"id": id, "x": x, "y": y} for id, (x, y) in zip("abcdefgh", places)]
+    game = {"mode": "standard", "side": LARGE, "snakes": snakes, **NO_FOOD, "hazard_damage": 14}
+    games = {f"g{index}": game for index in range(8)}
+
+    def moves(turn):
+        directions = dict.fromkeys("abcdefgh", ("up", "right", "down", "left")[turn % 4])
+        rings, is_new = divmod(turn + 1, CLOSING)
+        return {"moves": directions, **({} if is_new else {"hazards": outer(LARGE, rings)})}
+
+    yield plan(games, 16_777_216, version=5)
+    yield from rounds_of(games, rounds, ROUND, moves)
+
+
+def outer(side, rings):
+    """The cells of a square board that are among this many at some edge."""
+    inner = range(rings, side - rings)
+    cells = [(x, y) for y in range(side) for x in range(side)]
+    return [{"x": x, "y": y} for x, y in cells if not (x in inner and y in inner)]
+
+
 STAYED = 20  # turns of a stay
 COMING = 4  # games that are admitted between two turns, until 64 are open
 
@@ -244,6 +271,7 @@ SHAPES = [
     ("growing, large boards", growing_snakes, 4, lambda rounds: 8 * GROWING * rounds),
     ("constrictor, eight", constrictor, 8, lambda rounds: 8 * FILLING * rounds),
     ("wrapped, eight snakes", wrapped, 8, lambda rounds: 8 * ROUND * rounds),
+    ("hazards, eight snakes", hazards, 8, lambda rounds: 8 * ROUND * rounds),
     ("64 of many stays", stays, 2_000, lambda count: STAYED * count),
     ("short commands", short_commands, 200_000, lambda count: 0),
 ]

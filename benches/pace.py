@@ -86,6 +86,7 @@ def measure(given, ports, program):
         ]
         rules = {"pairing": "tables", "min_food": 0, "food_chance": 0, "timeout": 60_000}
         words = {"folder": folder, "bot": bots, "rounds": given.games, "turns": given.turns}
+        words |= {"at_once": given.games, "games_a_bot": given.games}
         config = config_of({**words, **rules}, "here")
         make_folders(config.folder)
         store, counts = Store(config.folder), Counts()

@@ -17,8 +17,8 @@ The plan has version 1 or 2. Lines are assigned to games as by the host (docs/FO
 that belong to no game are counted on the standard error and are in no file; the last line there has
 the number of files.
 
-Status 1, with the reason and without files.json: the plan is refused (P1, P2) or has version 3, the
-lines of one game make a file too long, or a file can't be read or written. 2: a fault of the
+Status 1, with the reason and without files.json: the plan is refused (P1, P2) or has version 3 or
+5, the lines of one game make a file too long, or a file can't be read or written. 2: a fault of the
 command line.
 """
 import argparse
@@ -40,6 +40,7 @@ LONGEST_FILE = 16_777_216  # bytes
 LONGEST_LINE = 65_536  # bytes without the line feed
 QUOTAS = range(16, 16_777_217)
 VERSIONS = (1, 2)
+WITH_STAYS = (3, 5)  # in which games can come and go
 DEEPEST = 127  # nested arrays and objects
 SPACE = b" \t\r\n"
 WHY = {"L1": "json", "L2": "game", "L3": "long"}
@@ -137,9 +138,10 @@ def plan_of(text: bytes) -> Plan:
     if not isinstance(value, dict):
         raise ValueError("plan P1: the first line is no plan")
     version, rows = value.get("version", 1), value.get("games")
-    if type(version) is int and version == 3:
+    if type(version) is int and version in WITH_STAYS:
         raise ValueError(
-            "a file of version 3 is not split: which games it admits depends on all its lines"
+            f"a file of version {version} is not split: which games it admits depends on all its "
+            "lines"
         )
     if type(version) is not int or version not in VERSIONS or not isinstance(rows, list):
         raise ValueError("plan P1: the first line is no plan of version 1 or 2")
@@ -215,8 +217,8 @@ def groups(plan: Plan, found: Routed, most: int) -> Iterator[range]:
         own = sum(found.starts[at] - found.starts[at - 1] for at in found.games[row])
         own += len(row_text(game).encode()) + 1
         if frame + own > LONGEST_FILE:
-            size = f"the file of the game {game.name} alone has {frame + own} bytes"
-            raise ValueError(f"{size}, and a file has at most {LONGEST_FILE}")
+            alone = f"the file of the game {game.name} alone has {frame + own} bytes"
+            raise ValueError(f"{alone}, and a file has at most {LONGEST_FILE}")
         if row - first == most or size + own > LONGEST_FILE:
             yield range(first, row)
             first, size = row, frame
@@ -241,7 +243,7 @@ def write_files(folder: Path, data: Data, plan: Plan, found: Routed, most: int) 
     folder.mkdir(parents=True, exist_ok=True)
     if any(folder.iterdir()):
         raise ValueError(f"{folder} is not empty")
-    table, files = [("file", "blocks", "memory", "games", "bytes")], []
+    table, files = [], []
     for at, rows in enumerate(parts, 1):
         path = folder / f"{at:04}.jsonl"
         write_file(path, data, plan, found, rows)
@@ -250,9 +252,11 @@ def write_files(folder: Path, data: Data, plan: Plan, found: Routed, most: int) 
         table.append((path.name, blocks, memory, len(rows), path.stat().st_size))
         games = [[plan.games[row].name, len(found.games[row])] for row in rows]
         files.append({"file": path.name, "games": games})
-    (folder / "files.tsv").write_text("".join("\t".join(map(str, row)) + "\n" for row in table))
+    heads = ("file", "blocks", "memory", "games", "bytes")
+    rows_of_text = ["\t".join(map(str, row)) + "\n" for row in (heads, *table)]
+    (folder / "files.tsv").write_text("".join(rows_of_text))
     (folder / "files.json").write_bytes(line(files=files, strays=found.strays).encode() + b"\n")
-    return [list(row[1:3]) for row in table[1:]]
+    return [list(row[1:3]) for row in table]
 
 
 def describe_strays(strays: list[tuple[int, str]]) -> str:

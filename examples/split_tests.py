@@ -55,7 +55,7 @@ ROW = b'{"game":"a","quota":%b}'
 LONG_NAME = b'{"games":[{"game":"%b","quota":16}]}'
 REFUSED = [
     *(b"", b"\n{}", b"{", b"[]", b'{"games":1}', b'{"games":null}', b'{"games":[],"more":NaN}'),
-    *(b'{"games":[],"version":%b}' % it for it in b'null 0 4 "1" 1.0 true'.split()),
+    *(b'{"games":[],"version":%b}' % it for it in b'null 0 4 6 "1" 1.0 true'.split()),
     *(b'{"games":[%b]}' % it for it in b'1 {"game":"a"} {"game":7,"quota":16}'.split()),
     *(LONG_NAME % b"", LONG_NAME % (b"a" * 65), LONG_NAME % ("\u00e9".encode() * 33)),
     *(b'{"games":[%b]}' % (ROW % it) for it in b'15 16777217 -16 16.0 1e3 "16" true'.split()),
@@ -122,7 +122,7 @@ class Split(InFolder):
         return str(found.exception)
 
     def test_each_case_is_the_same_in_parts(self):
-        # Which games a file of version 3 admits depends on all its lines: it is not split.
+        # Which games a file of version 3 or 5 admits depends on all its lines: it is not split.
         for case in [case for case in cases.cases() if case.version <= 2]:
             for most in (1, 2, 8):
                 with self.subTest(case=case.name, most=most):
@@ -220,9 +220,11 @@ class Split(InFolder):
             ],
         )
 
-    def test_a_file_of_version_three_is_refused(self):
-        fault = "a file of version 3 is not split: which games it admits depends on all its lines"
-        self.assertEqual(self.refused(b'{"games":[],"version":3}'), fault)
+    def test_a_file_in_which_games_can_come_and_go_is_refused(self):
+        fault = "a file of version %d is not split: which games it admits depends on all its lines"
+        for version in (3, 5):
+            plan = b'{"games":[],"version":%d}' % version
+            self.assertEqual(self.refused(plan), fault % version)
 
     def test_a_folder_that_is_not_empty_is_refused(self):
         self.parts.mkdir()

@@ -1,38 +1,28 @@
-"""An HTTP client of bots: asks for their moves, and checks and limits every answer."""
+"""A client of bots: asks for their moves, and checks and limits every answer."""
 
 from __future__ import annotations
 
-import asyncio
 import json
 import re
-import time
-from collections.abc import Callable, Coroutine, Sequence
+from collections.abc import Sequence
 from dataclasses import dataclass, replace
-from functools import lru_cache
-from typing import Any, TypeVar
+from typing import Any
 
-import aiohttp
-from yarl import URL
-
+from ladder.addresses import AddressBook
+from ladder.connections import Connections, Exchange
 from ladder.payloads import Look
+from ladder.pulse import Pulse
+from ladder.texts import fit_text
+from ladder.urls import request_of, target_of
 
 DIRECTIONS = ("up", "down", "left", "right")
 CAUSES = ("late", "refused", "cut", "status", "long", "json", "direction")
-MOST_BYTES = 64 * 1024  # of an answer
 LONGEST_SHOUT = 256
 LOOK_SECONDS = 5.0
-MOST_ADDRESSES = 1024
-ADDRESS_SECONDS = 300  # for which the address of a name is kept
-HEADERS = {
-    "Content-Type": "application/json",
-    "Accept-Encoding": "identity",
-    "User-Agent": "arena-ladder",
-}
+LAG = 0.1  # of the timeout: if the ladder itself is late by more, it asks again
+MOST_REPEATS = 20  # of a request, while the ladder itself is late
 
-
-Given = TypeVar("Given")
 Request = tuple[str, bytes]  # the address of a bot or of one of its calls, and the body
-Call = Callable[[str, bytes], Coroutine[Any, Any, Given]]
 
 
 class NoAnswer(Exception):
@@ -51,8 +41,9 @@ class Answer:
     cause: str | None
     latency: int  # milliseconds
     shout: str = ""
-    asked_at: float = 0.0  # seconds of the clock of time.perf_counter
+    asked_at: float = 0.0  # seconds of the loop's clock
     answered_at: float = 0.0
+    is_lagged: bool = False  # whether the ladder itself was late meanwhile
 
 
 class BotClient:
@@ -60,118 +51,80 @@ class BotClient:
 
     def __init__(self, timeout: float) -> None:
         self.timeout = timeout
+        self.pulse = Pulse(LAG * timeout)
+        self.addresses = AddressBook()
+        self.connections = Connections(self.addresses)
 
     async def __aenter__(self) -> BotClient:
-        self.session = aiohttp.ClientSession(
-            connector=aiohttp.TCPConnector(limit=0, ttl_dns_cache=ADDRESS_SECONDS),
-            cookie_jar=aiohttp.DummyCookieJar(),
-            auto_decompress=False,
-            headers=HEADERS,
-            timeout=aiohttp.ClientTimeout(total=None),
-        )
+        await self.pulse.__aenter__()
         return self
 
     async def __aexit__(self, *_: object) -> None:
-        await self.session.close()
+        await self.connections.__aexit__()
+        await self.pulse.__aexit__()
 
     async def look(self, url: str) -> Look:
         """Asks a bot for its look; raises `NoAnswer` if it sends none."""
-        try:
-            async with asyncio.timeout(LOOK_SECONDS):
-                return look_of(object_of(await self._call("GET", url + "/", b"")))
-        except TimeoutError:
-            raise NoAnswer("late") from None
+        exchange = self._exchange("GET", url + "/", b"", LOOK_SECONDS)
+        await self.connections.ask([exchange])
+        if exchange.cause is not None:
+            raise NoAnswer(exchange.cause)
+        return look_of(object_of(exchange.body))
 
     async def moves(self, requests: Sequence[Request]) -> list[Answer]:
         """Asks bots for their moves, all at once, and waits no longer than the timeout.
 
         An answer that has arrived by the end of the timeout counts, even if this program was too
-        busy to read it earlier.
+        busy to read it earlier. If the ladder itself was late, a bot that missed the timeout is
+        asked again.
         """
-        began = time.perf_counter()
-        found = await self._all(self._move, requests)
-        late = Answer(None, "late", self._latency(self.timeout), "", began, time.perf_counter())
-        return [answer or late for answer in found]
+        found: dict[int, Exchange] = {}
+        lagged: set[int] = set()
+        places = list(range(len(requests)))
+        for _ in range(1 + MOST_REPEATS):
+            asked = {at: self._exchange_for_move(*requests[at]) for at in places}
+            await self.connections.ask(list(asked.values()))
+            found.update(asked)
+            late = {at for at, it in asked.items() if self._was_late(it)}
+            lagged |= late
+            places = [at for at in late if asked[at].is_timed_out]
+            if not places:
+                break
+        return [self._answer(found[at], at in lagged) for at in sorted(found)]
 
     async def notify(self, requests: Sequence[Request]) -> None:
         """Sends requests whose answers are ignored, such as /end, within the timeout."""
-        await self._all(self._notify, requests)
-
-    async def _all(self, call: Call[Given], requests: Sequence[Request]) -> list[Given | None]:
-        """The results of the calls, in their order; None for a call that is not done in time.
-
-        All calls share one timer. When it ends, the event loop first reads the sockets and resumes
-        the calls, and then this method. A timer for each call would cancel the call before that.
-        """
-        tasks = [asyncio.create_task(call(url, body)) for url, body in requests]
-        try:
-            await asyncio.wait(tasks, timeout=self.timeout)
-            return [task.result() if task.done() else None for task in tasks]
-        finally:
-            for task in tasks:
-                task.cancel()
-
-    async def _move(self, url: str, body: bytes) -> Answer:
-        began = time.perf_counter()
-        try:
-            answer = answer_of(object_of(await self._call("POST", url + "/move", body)))
-        except NoAnswer as fault:
-            answer = Answer(None, fault.cause, 0)
-        ended = time.perf_counter()
-        return replace(
-            answer, latency=self._latency(ended - began), asked_at=began, answered_at=ended
+        await self.connections.ask(
+            [self._exchange("POST", url, body, self.timeout) for url, body in requests]
         )
 
-    def _latency(self, seconds: float) -> int:
-        """The time of an answer in milliseconds, no longer than the timeout."""
-        return round(1000 * min(seconds, self.timeout))
+    def _exchange(self, method: str, url: str, body: bytes, seconds: float) -> Exchange:
+        target = target_of(url)
+        return Exchange(target.place, request_of(method, target, body), seconds)
 
-    async def _notify(self, url: str, body: bytes) -> None:
-        try:
-            await self._call("POST", url, body)
-        except NoAnswer:
-            pass
+    def _exchange_for_move(self, url: str, body: bytes) -> Exchange:
+        return self._exchange("POST", url + "/move", body, self.timeout)
 
-    async def _call(self, method: str, url: str, body: bytes) -> bytes:
-        """The body of the answer with status 200; raises `NoAnswer` for any other answer."""
-        try:
+    def _was_late(self, exchange: Exchange) -> bool:
+        """Whether the ladder itself was late while a request had no answer."""
+        return self.pulse.lagged_since(exchange.began_at)
+
+    def _answer(self, exchange: Exchange, is_lagged: bool) -> Answer:
+        """The answer in what came of a request."""
+        answer = Answer(None, exchange.cause, 0)
+        if exchange.cause is None:
             try:
-                return await self._request(method, url, body)
-            except aiohttp.ServerDisconnectedError:
-                # Most often a connection that the bot closed while it was idle.
-                return await self._request(method, url, body)
-        except aiohttp.ClientConnectorError:
-            raise NoAnswer("refused") from None
-        except (aiohttp.ClientError, OSError, ValueError):
-            raise NoAnswer("cut") from None
-
-    async def _request(self, method: str, url: str, body: bytes) -> bytes:
-        async with self.session.request(
-            method, parsed(url), data=body or None, allow_redirects=False
-        ) as response:
-            try:
-                if response.status != 200:
-                    raise NoAnswer("status")
-                return await limited(response)
-            except BaseException:
-                response.close()  # the rest of the answer is not read
-                raise
-
-
-@lru_cache(MOST_ADDRESSES)
-def parsed(url: str) -> URL:
-    """Parses an address, which is cached."""
-    return URL(url)
-
-
-async def limited(response: aiohttp.ClientResponse) -> bytes:
-    """Reads the body of an answer; raises `NoAnswer` if it exceeds the limit."""
-    body = bytearray()
-    async for piece in response.content.iter_any():
-        body += piece
-        if len(body) > MOST_BYTES:
-            raise NoAnswer("long")
-    return bytes(body)
+                answer = answer_of(object_of(exchange.body))
+            except NoAnswer as fault:
+                answer = Answer(None, fault.cause, 0)
+        seconds = min(exchange.ended_at - exchange.asked_at, self.timeout)
+        return replace(
+            answer,
+            latency=round(1000 * seconds),
+            asked_at=exchange.asked_at,
+            answered_at=exchange.ended_at,
+            is_lagged=is_lagged,
+        )
 
 
 def object_of(text: bytes) -> dict[str, Any]:
@@ -190,7 +143,7 @@ def answer_of(members: dict[str, Any]) -> Answer:
     move, shout = members.get("move"), members.get("shout")
     if move not in DIRECTIONS:
         raise NoAnswer("direction")
-    return Answer(move, None, 0, shout[:LONGEST_SHOUT] if isinstance(shout, str) else "")
+    return Answer(move, None, 0, fit_text(shout[:LONGEST_SHOUT]) if isinstance(shout, str) else "")
 
 
 def look_of(members: dict[str, Any]) -> Look:

@@ -11,12 +11,13 @@ from concurrent.futures import ThreadPoolExecutor
 from contextlib import closing
 from dataclasses import dataclass
 from pathlib import Path
+from typing import Any
 
 from ladder.config import Config, config_again
 from ladder.draws import words_of
-from ladder.game import opening
+from ladder.game import map_members, opening
 from ladder.game_files import command_file
-from ladder.host import BLOCKS_OF_GAME, PLAN, line_of
+from ladder.host import BLOCKS_OF_GAME, line_of
 from ladder.outcome import Outcome, finishes_of
 from ladder.pairing import Fixture, fixtures_of
 from ladder.store import StoreFault, open_store
@@ -35,7 +36,7 @@ class Checked:
 def check(folder: Path, program: Path, note: Callable[[int], None]) -> Checked:
     """Checks every game of a folder that is done; calls `note` with the number checked so far.
 
-    A game agrees if its bots, places, food and words are those drawn from the seed, if `arena
+    A game agrees if its bots, places, food, words and hazards are those drawn from the seed, if `arena
     serve` writes for its file the same lines as the live host wrote, and if its last board is the
     one in the results.
     """
@@ -76,22 +77,35 @@ def fault_of(
 
 def fault_of_lines(lines: list[bytes], config: Config, fixture: Fixture) -> str | None:
     """Why lines are not the opening of this game, moves with the drawn words, and its leave."""
-    first = [PLAN, *opening(config, fixture)]
+    first = [config.rules.plan, *opening(config, fixture)]
     if lines[: len(first)] != first or lines[-1:] != [line_of(game=fixture.name, do="leave")]:
         return "its file does not begin as drawn from the seed, or has no end"
     turn = 0
     for line in lines[len(first) : -1]:
         try:
             command = json.loads(line)
-            do, words = command["do"], command.get("words")
+            do = command["do"]
         except (ValueError, LookupError, TypeError):
             return "a line of its file is no command"
         if do == "move":
-            if words != words_of(config.seed, fixture.name, turn, config.rules.words):
-                return f"the words of the move after turn {turn} are not those that are drawn"
+            fault = fault_of_move(command, turn, config, fixture)
+            if fault is not None:
+                return fault
             turn += 1
         elif do != "free":
             return f"its file has the command {do}"
+    return None
+
+
+def fault_of_move(
+    command: dict[str, Any], turn: int, config: Config, fixture: Fixture
+) -> str | None:
+    """Why the move after a turn does not have the drawn words, hazards, and nothing else."""
+    if command.get("words") != words_of(config.seed, fixture.name, turn, config.rules.words):
+        return f"the words of the move after turn {turn} are not those that are drawn"
+    given = {key: command[key] for key in ("hazards", "food") if key in command}
+    if given != map_members(config, fixture.name, turn):
+        return f"the hazards or the food of the move after turn {turn} are not as drawn"
     return None
 
 

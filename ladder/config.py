@@ -2,22 +2,32 @@
 
 from __future__ import annotations
 
+import hashlib
+import json
 import re
 import tomllib
 from collections.abc import Sequence
 from dataclasses import asdict, dataclass
 from pathlib import Path
 from typing import Any
-from urllib.parse import urlsplit
 
-from ladder.starts import most_snakes
+from ladder.host import PLAN, PLAN_WITH_HAZARDS
+from ladder.maps import HazardMap, map_again
+from ladder.starts import Cell, most_snakes
+from ladder.urls import shown, target_of
 
 BOT_NAME = re.compile(r"[A-Za-z0-9][A-Za-z0-9_.-]{0,31}")
 MODES = ("standard", "solo", "constrictor", "wrapped")
+MAPS = ("standard", "royale")
 PAIRINGS = ("round_robin", "duels", "tables")
 MOST_BOTS = 200
 MOST_AT_ONCE = 64  # games that are open in a host
+AT_ONCE = 16
+GAMES_A_BOT = 2
+ID_LETTERS = 8
+ORDER = "circle"  # of the games of a round: a folder of another order is another ladder's
 MOST_TURNS = 10_000
+MOST_HAZARDS = 2_500
 LONGEST_FOOD = 32  # words of a move: at most this number of foods can appear in a turn
 
 
@@ -43,6 +53,19 @@ class Rules:
     min_food: int
     food_chance: int
     turns: int  # after which a game ends undecided
+    hazards: HazardMap | None = None
+
+    @property
+    def plan(self) -> bytes:
+        """The first line of the command files. Only hazards need the newest version."""
+        return PLAN if self.hazards is None else PLAN_WITH_HAZARDS
+
+    @property
+    def members(self) -> dict[str, Any]:
+        """The values of JSON from which `rules_again` makes these rules."""
+        members = asdict(self)
+        del members["hazards"]
+        return {**members, "hazards": self.hazards.members} if self.hazards else members
 
     @property
     def words(self) -> int:
@@ -61,38 +84,57 @@ class Config:
     snakes: int  # a game
     rounds: int
     seed: int
+    has_seed: bool  # whether the configuration gives it; otherwise it is drawn
     timeout: int  # milliseconds
     at_once: int  # games
+    games_a_bot: int  # at the same time
+
+    @property
+    def letters(self) -> str:
+        """Letters that no other ladder has, for the ids of its games."""
+        return hashlib.sha256(json.dumps(self.identity).encode()).hexdigest()[:ID_LETTERS]
 
     @property
     def identity(self) -> dict[str, Any]:
         """What decides the games. A folder with results of another identity is refused.
 
-        The addresses of the bots, the number of rounds and the number of games at once may change.
+        The addresses of the bots, the number of rounds and the games at once may change.
         """
         return {
             "bots": [bot.name for bot in self.bots],
-            "rules": asdict(self.rules),
+            "rules": self.rules.members,
             "pairing": self.pairing,
             "snakes": self.snakes,
             "seed": self.seed,
+            "has_seed": self.has_seed,
             "timeout": self.timeout,
+            "order": ORDER,
         }
 
 
 def config_again(identity: dict[str, Any], folder: Path, rounds: int) -> Config:
     """The configuration of an identity. Its bots have no addresses."""
+    if identity.get("order") != ORDER:
+        raise ConfigFault(f"{folder} has games that an earlier version paired in another order")
     return Config(
         folder=folder,
         bots=tuple(Bot(name, "") for name in identity["bots"]),
-        rules=Rules(**identity["rules"]),
+        rules=rules_again(identity["rules"]),
         pairing=identity["pairing"],
         snakes=identity["snakes"],
         rounds=rounds,
         seed=identity["seed"],
+        has_seed=identity["has_seed"],
         timeout=identity["timeout"],
         at_once=1,
+        games_a_bot=1,
     )
+
+
+def rules_again(members: dict[str, Any]) -> Rules:
+    if "hazards" in members:
+        members = {**members, "hazards": map_again(members["hazards"])}
+    return Rules(**members)
 
 
 class Members:
@@ -145,6 +187,7 @@ def config_of(table: dict[str, Any], place: str) -> Config:
     folder = Path(members.text("folder"))
     rules = rules_of(members)
     pairing = members.word("pairing", PAIRINGS)
+    has_seed = "seed" in members.table
     config = Config(
         folder=folder,
         bots=bots,
@@ -152,9 +195,11 @@ def config_of(table: dict[str, Any], place: str) -> Config:
         pairing=pairing,
         snakes=snakes_of(members, rules, pairing),
         rounds=members.number("rounds", 1, 1, 100_000),
-        seed=members.number("seed", 1, 0, 2**63 - 1),
+        seed=members.number("seed", 0, 0, 2**63 - 1),
+        has_seed=has_seed,
         timeout=members.number("timeout", 500, 10, 60_000),
-        at_once=members.number("at_once", MOST_AT_ONCE, 1, MOST_AT_ONCE),
+        at_once=members.number("at_once", AT_ONCE, 1, MOST_AT_ONCE),
+        games_a_bot=members.number("games_a_bot", GAMES_A_BOT, 1, MOST_AT_ONCE),
     )
     members.finish()
     if len(bots) < config.snakes:
@@ -163,14 +208,41 @@ def config_of(table: dict[str, Any], place: str) -> Config:
 
 
 def rules_of(members: Members) -> Rules:
+    width, height = (members.number(side, 11, 3, 25) for side in ("width", "height"))
     return Rules(
         mode=members.word("mode", MODES),
-        width=members.number("width", 11, 3, 25),
-        height=members.number("height", 11, 3, 25),
+        width=width,
+        height=height,
         min_food=members.number("min_food", 1, 0, LONGEST_FOOD),
         food_chance=members.number("food_chance", 15, 0, 100),
         turns=members.number("turns", MOST_TURNS, 1, MOST_TURNS),
+        hazards=hazards_of(members, width, height),
     )
+
+
+def hazards_of(members: Members, width: int, height: int) -> HazardMap | None:
+    """The map of the games: royale, or one of the given cells; None if there are no hazards."""
+    is_royale = members.word("map", MAPS) == "royale"
+    cells = members.table.pop("hazards", None)
+    if is_royale and cells is not None:
+        raise members.fault("the map royale draws its hazards, so hazards can't be given")
+    if not is_royale and cells is None:
+        return None
+    return HazardMap(
+        damage=members.number("hazard_damage", 14, 0, 100),
+        shrink_every=members.number("shrink_every", 25, 1, MOST_TURNS) if is_royale else 0,
+        cells=() if is_royale else hazard_cells(members, cells, width, height),
+    )
+
+
+def hazard_cells(members: Members, cells: Any, width: int, height: int) -> tuple[Cell, ...]:
+    if not isinstance(cells, list) or not 1 <= len(cells) <= MOST_HAZARDS:
+        raise members.fault(f"hazards has to be a list of 1 to {MOST_HAZARDS} cells [x, y]")
+    for cell in cells:
+        is_pair = isinstance(cell, list) and [type(part) for part in cell] == [int, int]
+        if not is_pair or not (0 <= cell[0] < width and 0 <= cell[1] < height):
+            raise members.fault(f"{cell!r} in hazards is no cell [x, y] of the board")
+    return tuple(Cell(*cell) for cell in cells)
 
 
 def snakes_of(members: Members, rules: Rules, pairing: str) -> int:
@@ -210,10 +282,11 @@ def bot_of(table: Any, place: str) -> Bot:
 def checked_url(url: str, members: Members) -> str:
     """Checks the address of a bot, and removes slashes at its end."""
     try:
-        parts = urlsplit(url)
-        is_fit = parts.scheme in ("http", "https") and bool(parts.hostname) and parts.port != 0
+        target_of(url)
+        is_fit = re.search(r"[\x00-\x20\x7f?#]", url) is None
     except ValueError:
         is_fit = False
-    if not is_fit or parts.query or parts.fragment or re.search(r"[\x00-\x20\x7f]", url):
-        raise members.fault(f"{url!r} is no address such as http://127.0.0.1:8001/name")
+    if not is_fit:
+        address = shown(url)
+        raise members.fault(f"{address!r} is no address such as http://127.0.0.1:8001/name")
     return url.rstrip("/")

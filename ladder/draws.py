@@ -3,7 +3,7 @@
 from __future__ import annotations
 
 import hashlib
-from collections.abc import Iterable
+from collections.abc import Iterable, Iterator
 from typing import TypeVar
 
 Item = TypeVar("Item")
@@ -36,6 +36,12 @@ class Draw:
             other = self.below(at + 1)
             order[at], order[other] = order[other], order[at]
         return order
+
+
+def sides_of(seed: int, game: str, count: int) -> Iterator[int]:
+    """The sides that move in on the royale map, one after the other, each from 0 to 3."""
+    draw = Draw(seed, game, "sides")
+    return (draw.below(4) for _ in range(count))
 
 
 def words_of(seed: int, game: str, turn: int, count: int) -> list[int]:

@@ -1,4 +1,4 @@
-"""The server-sent events for the page of a run: its running games and its standings."""
+"""The server-sent events of the page: the running games and the standings of a run."""
 
 from __future__ import annotations
 
@@ -9,17 +9,13 @@ from collections.abc import Callable
 from typing import Any
 
 from ladder.host import Board
-from ladder.outcome import Outcome
-from ladder.pairing import Fixture
-from ladder.watch import Watch
 
-TICK_SECONDS = 0.25
 STANDINGS_SECONDS = 2.0
 REST = 20  # the pause before the next standings, as a multiple of the time that they took
 MOST_READERS = 32
 MOST_WAITING = 16  # events of a reader; a slower reader is disconnected
 
-Rows = list[dict[str, Any]]
+Results = dict[str, Any]  # the rows of the standings, and what may be known of the seed
 
 
 class Reader:
@@ -44,32 +40,21 @@ class Reader:
             self.events.put_nowait(item)
 
 
-class Feed(Watch):
+class Feed:
     """Keeps the last board of each running game, and sends the changes to all readers.
 
-    A reader gets the whole state when it joins, and then at each tick the newest board of each game
-    that changed. So the cost of a page does not grow with the speed of the games.
+    A reader gets the whole state when it joins, and then with each message of the ladder the newest
+    board of each game in it. So the cost of a page does not grow with the speed of the games.
     """
 
-    def __init__(self, standings: Callable[[], Rows], summary: Callable[[], str]) -> None:
-        self.standings = standings
-        self.summary = summary
-        self.rows: Rows = []
+    def __init__(self, results: Callable[[], Results]) -> None:
+        self.read_results = results
+        self.results: Results = {"standings": [], "seed": ""}
+        self.summary = ""
         self.readers: set[Reader] = set()
         self.boards: dict[str, Board] = {}
-        self.changed: set[str] = set()
-        self.gone: set[str] = set()
         self.is_stale = True
-        self.next_standings = 0.0
-
-    def show(self, fixture: Fixture, board: Board) -> None:
-        self.boards[fixture.name] = board
-        self.changed.add(fixture.name)
-
-    def end(self, outcome: Outcome) -> None:
-        self.boards.pop(outcome.name, None)
-        self.gone.add(outcome.name)
-        self.is_stale = True
+        self.next_results = 0.0
 
     def join(self) -> Reader | None:
         """Adds a reader, whose first event is the whole state; None if there are too many."""
@@ -84,27 +69,26 @@ class Feed(Watch):
         self.readers.discard(reader)
 
     def state(self, boards: dict[str, Board]) -> dict[str, Any]:
-        return {"summary": self.summary(), "boards": boards, "standings": self.rows}
+        return {"summary": self.summary, "boards": boards, **self.results}
 
-    async def run(self) -> None:
-        """Sends the changes to all readers, tick by tick, until it is cancelled."""
-        while True:
-            await asyncio.sleep(TICK_SECONDS)
-            await self.tick()
+    async def take(self, message: dict[str, Any]) -> None:
+        """Takes a message of the ladder, and sends what it changes to all readers."""
+        self.summary = message["summary"]
+        self.boards.update(message["boards"])
+        for name in message["gone"]:
+            self.boards.pop(name, None)
+        self.is_stale = self.is_stale or bool(message["gone"])
+        if self.readers and self.is_stale and time.monotonic() >= self.next_results:
+            await self.refresh()
+        self.publish(event("changes", {**self.state(message["boards"]), "gone": message["gone"]}))
 
-    async def tick(self) -> None:
-        if self.readers and self.is_stale and time.monotonic() >= self.next_standings:
-            self.is_stale = False
-            began = time.monotonic()
-            self.rows = await asyncio.to_thread(self.standings)
-            took = time.monotonic() - began
-            self.next_standings = began + max(STANDINGS_SECONDS, REST * took)
-        boards = {name: self.boards[name] for name in self.changed if name in self.boards}
-        state = {**self.state(boards), "gone": sorted(self.gone)}
-        self.changed.clear()
-        self.gone.clear()
-        if self.readers:
-            self.publish(event("changes", state))
+    async def refresh(self) -> None:
+        """Reads the results again, but no more than one part in REST of the time."""
+        self.is_stale = False
+        began = time.monotonic()
+        self.results = await asyncio.to_thread(self.read_results)
+        took = time.monotonic() - began
+        self.next_results = began + max(STANDINGS_SECONDS, REST * took)
 
     def publish(self, event: bytes) -> None:
         """Sends an event to all readers, and drops those whose queue is full."""
@@ -112,8 +96,8 @@ class Feed(Watch):
 
     async def close(self) -> None:
         """Sends the final state to all readers, and ends their events."""
-        self.rows = await asyncio.to_thread(self.standings)
-        last = event("end", {**self.state(self.boards), "gone": sorted(self.gone)})
+        await self.refresh()
+        last = event("end", {**self.state(self.boards), "gone": []})
         for reader in self.readers:
             reader.end(last)
 

@@ -5,12 +5,14 @@ from __future__ import annotations
 from collections.abc import Mapping
 from dataclasses import dataclass
 from pathlib import Path
+from typing import Any
 
 from ladder.bots import Answer, BotClient
 from ladder.config import Config
 from ladder.draws import Draw, words_of
 from ladder.game_files import GameFiles
 from ladder.host import QUOTA, Board, Host, Stay, line_of
+from ladder.maps import Ground
 from ladder.outcome import Outcome, Tally, finishes_of, tallies_of
 from ladder.pairing import Fixture
 from ladder.payloads import Look, Seat, bodies, game_text, living_of
@@ -32,7 +34,7 @@ class RunContext:
     folder: Path
     client: BotClient
     urls: Mapping[str, str]
-    looks: Mapping[str, Look]
+    looks: dict[str, Look]
     watch: Watch
 
 
@@ -53,8 +55,27 @@ def opening(config: Config, fixture: Fixture) -> list[bytes]:
         food=[] if rules.mode == "constrictor" else [cell._asdict() for cell in food],
         min_food=rules.min_food,
         food_chance=rules.food_chance,
+        **opening_hazards(config),
     )
     return [line_of(game=fixture.name, do="admit", quota=QUOTA), begin]
+
+
+def opening_hazards(config: Config) -> dict[str, Any]:
+    """The members of a `new` about hazards; none on a board without a map."""
+    hazards = config.rules.hazards
+    if hazards is None:
+        return {}
+    return {"hazards": [cell._asdict() for cell in hazards.cells], "hazard_damage": hazards.damage}
+
+
+def map_members(config: Config, game: str, turn: int) -> dict[str, Any]:
+    """What the move after a turn has beside directions and words: hazards, if they change."""
+    rules = config.rules
+    if rules.hazards is None:
+        return {}
+    ground = Ground(rules.width, rules.height, rules.hazards, config.seed, game)
+    hazards = ground.hazards_after(turn)
+    return {} if hazards is None else {"hazards": [cell._asdict() for cell in hazards]}
 
 
 class Game:
@@ -75,7 +96,8 @@ class Game:
         Each step depends only on the last board, the charge and the lines so far. So an interrupted
         game continues as it would have without the interruption.
         """
-        with GameFiles(self.context.folder, self.fixture.name) as files:
+        plan = self.context.config.rules.plan
+        with GameFiles(self.context.folder, self.fixture.name, plan) as files:
             self.stay = stay = await self.enter(host, files)
             if stay.board["turn"] == 0:
                 await self.notify_all("start", stay.board)
@@ -92,8 +114,11 @@ class Game:
         first = opening(self.context.config, self.fixture)
         old = files.old_lines
         if old[:2] != first[: len(old)]:
-            raise GameFault(f"the file of {self.fixture.name} does not begin as in this ladder")
+            raise GameFault(
+                f"{files.path} does not begin as in this ladder: delete it, and the game begins anew"
+            )
         turns = files.old_answers()
+        self.say_lost(files.moves - len(turns))
         self.tallies = tallies_of(self.fixture.bots, turns)
         for answers in turns:
             self.hear(answers)
@@ -104,6 +129,14 @@ class Game:
         stay.log = files.commands
         self.context.watch.show(self.fixture, stay.board)
         return stay
+
+    def say_lost(self, turns: int) -> None:
+        """Says that answers of turns were lost, if they were."""
+        if turns > 0:
+            self.context.watch.say(
+                f"{self.fixture.name} lost the answers of {turns} turns: their times and missed "
+                "moves are not counted"
+            )
 
     def is_done(self, board: Board) -> bool:
         return bool(board["over"]) or board["turn"] >= self.context.config.rules.turns
@@ -118,7 +151,8 @@ class Game:
         files.add_answers(answers)
         moves = {name: answer.move for name, answer in answers.items() if answer.move is not None}
         words = words_of(config.seed, self.fixture.name, board["turn"], config.rules.words)
-        self.context.watch.show(self.fixture, await stay.move(moves, words))
+        more = map_members(config, self.fixture.name, board["turn"])
+        self.context.watch.show(self.fixture, await stay.move(moves, words, **more))
 
     async def ask_all(self, board: Board) -> dict[str, Answer]:
         """Asks the bots of all living snakes at once; an answer may be that there is none."""

@@ -43,21 +43,25 @@ class LineFile:
 class GameFiles:
     """The files of one game in the folder of a ladder.
 
-    `commands` is the command file, and `old_lines` its lines when it was opened, without the plan.
+    `commands` is the command file, `old_lines` its lines when it was opened, without the plan, and
+    `moves` the number of moves among them.
     `answers` has a line for each turn, written before the move of that turn.
     """
 
-    def __init__(self, folder: Path, name: str) -> None:
+    def __init__(self, folder: Path, name: str, plan: bytes = PLAN) -> None:
         self.folder = folder
         self.name = name
+        self.path = command_file(folder, name)
+        self.plan = plan
 
     def __enter__(self) -> GameFiles:
-        self.commands = LineFile(command_file(self.folder, self.name))
+        self.commands = LineFile(self.path)
         self.answers = LineFile(answers_file(self.folder, self.name))
         if not self.commands.lines:
-            self.commands.write(PLAN)
+            self.commands.write(self.plan)
         self.old_lines = self.commands.lines[1:]
-        self.answers.cut(sum(b'"do":"move"' in line for line in self.old_lines))
+        self.moves = sum(b'"do":"move"' in line for line in self.old_lines)
+        self.answers.cut(self.moves)
         return self
 
     def __exit__(self, *_: object) -> None:
@@ -65,8 +69,18 @@ class GameFiles:
         self.answers.close()
 
     def old_answers(self) -> list[dict[str, Answer]]:
-        """The answers of the bots in the turns that the command file has."""
-        return [answers_in(line) for line in self.answers.lines]
+        """The answers of the bots in the turns that the command file has.
+
+        From a line on that can't be read they are lost, and removed.
+        """
+        turns = []
+        for line in self.answers.lines:
+            try:
+                turns.append(answers_in(line))
+            except (ValueError, TypeError, AttributeError):
+                break
+        self.answers.cut(len(turns))
+        return turns
 
     def add_answers(self, answers: dict[str, Answer]) -> None:
         rows = {name: [it.move, it.cause, it.latency, it.shout] for name, it in answers.items()}

@@ -27,6 +27,7 @@ Board = dict[str, Any]  # as docs/FORMATS.md has it
 
 PROGRAM = Path(__file__).resolve().parent.parent / "crates/arena/out/arena"
 PLAN = b'{"games":[],"version":3}\n'
+PLAN_WITH_HAZARDS = b'{"games":[],"version":5}\n'
 NO_GAME = b"{}\n"  # a line of no game: the answer is L2, and nothing changes
 QUOTA = 1_835_007  # the largest quota of a game that needs only BLOCKS_OF_GAME
 BLOCKS_OF_GAME = 6
@@ -125,9 +126,12 @@ class Stay:
         members.setdefault("food", [])
         return await self._command(do="new", **members)
 
-    async def move(self, moves: Mapping[str, str], words: Iterable[int] = ()) -> Board:
-        """Plays a turn. A snake without a direction goes straight on."""
-        return await self._command(do="move", moves=dict(sorted(moves.items())), words=list(words))
+    async def move(self, moves: Mapping[str, str], words: Iterable[int] = (), **more: Any) -> Board:
+        """Plays a turn. A snake without a direction goes straight on. A host with
+        `PLAN_WITH_HAZARDS` takes the members `hazards` and `food` too.
+        """
+        given = {"moves": dict(sorted(moves.items())), "words": list(words), **more}
+        return await self._command(do="move", **given)
 
     async def show(self) -> Board:
         """Asks for the last board."""
@@ -185,15 +189,17 @@ class Stay:
 
 
 class Host:
-    """A running `arena live`. `blocks` is the number of memory blocks that its open games share.
+    """A running `arena live`. `blocks` is the number of memory blocks that its open games share,
+    `plan` the first line of its input.
 
     It is an `async with` context. At the end of the block its input is closed and it ends; if the
     block raises an exception, it is killed.
     """
 
-    def __init__(self, blocks: int = 64, program: Path | str = PROGRAM) -> None:
+    def __init__(self, blocks: int = 64, program: Path | str = PROGRAM, plan: bytes = PLAN) -> None:
         self.blocks = blocks
         self.program = Path(program)
+        self.plan = plan
         self.lines_sent = 0
         self._asked: deque[Asked] = deque()
         self._fault: Exception | None = None
@@ -211,7 +217,7 @@ class Host:
         )
         self._reader = asyncio.create_task(self._read())
         with suppress(HostDied):  # the first call raises it
-            await self._write(PLAN)
+            await self._write(self.plan)
         return self
 
     async def __aexit__(self, kind: type[BaseException] | None, *_: object) -> None:

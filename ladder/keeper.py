@@ -7,7 +7,7 @@ from collections.abc import Mapping
 from pathlib import Path
 
 from ladder.bots import Answer
-from ladder.host import Host, HostDied
+from ladder.host import PLAN, Host, HostDied
 from ladder.watch import Watch
 
 FAULTS = (5, 7)  # out of memory, and broken: statuses after which another host is started
@@ -18,9 +18,10 @@ MOST_DEATHS = 100
 class HostKeeper(Watch):
     """The host of a run. Gives up if hosts die at once, or too often."""
 
-    def __init__(self, program: Path, blocks: int) -> None:
+    def __init__(self, program: Path, blocks: int, plan: bytes = PLAN) -> None:
         self.program = program
         self.blocks = blocks
+        self.plan = plan
         self.deaths = 0
         self.idle_deaths = 0
         self._lock = asyncio.Lock()
@@ -45,7 +46,7 @@ class HostKeeper(Watch):
         """The running host; starts one if there is none."""
         async with self._lock:
             if self._host is None:
-                self._host = await Host(self.blocks, self.program).__aenter__()
+                self._host = await Host(self.blocks, self.program, self.plan).__aenter__()
             return self._host
 
     async def bury(self, host: Host, death: HostDied) -> bool:

@@ -10,27 +10,35 @@ import sys
 from collections.abc import Sequence
 from contextlib import AsyncExitStack, closing
 from pathlib import Path
-from typing import Any
 
 from rich.console import Console
 
 from ladder.check import check
 from ladder.config import ConfigFault, read_config
-from ladder.feed import Feed
 from ladder.game import GameFault
 from ladder.game_files import make_folders
 from ladder.host import PROGRAM, HostDied, HostFault
 from ladder.merge import merge
-from ladder.page import Address, address_of, page
+from ladder.page_link import Address, PageFault, PageLink, address_of
 from ladder.pairing import Part, part_of
 from ladder.play import Job, locked, play
 from ladder.progress import Counts, ProgressBar
-from ladder.standings import as_csv, as_json, as_table, standings_of
+from ladder.seeds import seed_line, seed_line_of, with_seed
 from ladder.store import Store, StoreFault, open_store
+from ladder.texts import fit_text
 from ladder.watch import Watch
 
 INTERRUPTED = 130
-FAULTS = (ConfigFault, GameFault, HostDied, HostFault, StoreFault, OSError, sqlite3.Error)
+FAULTS = (
+    ConfigFault,
+    GameFault,
+    HostDied,
+    HostFault,
+    PageFault,
+    StoreFault,
+    OSError,
+    sqlite3.Error,
+)
 
 
 def program_of(given: argparse.Namespace) -> Path:
@@ -41,12 +49,6 @@ def program_of(given: argparse.Namespace) -> Path:
     return program.resolve()
 
 
-def ignore_lost_connections(loop: asyncio.AbstractEventLoop, context: dict[str, Any]) -> None:
-    """Ignores a lost connection in a task of aiohttp: the request reports it too."""
-    if not isinstance(context.get("exception"), ConnectionError):
-        loop.default_exception_handler(context)
-
-
 async def play_job(job: Job, store: Store, counts: Counts, address: Address | None) -> None:
     """Plays a job with its progress bar and, if there is an address, its page.
 
@@ -55,26 +57,19 @@ async def play_job(job: Job, store: Store, counts: Counts, address: Address | No
     task = asyncio.current_task()
     assert task is not None
     asyncio.get_running_loop().add_signal_handler(signal.SIGTERM, task.cancel)
-    asyncio.get_running_loop().set_exception_handler(ignore_lost_connections)
     async with AsyncExitStack() as stack:
         bar = stack.enter_context(ProgressBar(counts))
         watches: list[Watch] = [counts, bar]
         if address is not None:
-            feed = Feed(lambda: rows_of(job.folder), counts.line)
-            bar.say(f"the page is {await stack.enter_async_context(page(feed, address))}")
-            watches.append(feed)
+            link = PageLink(job.folder, address, counts.line, bar.say)
+            watches.append(await stack.enter_async_context(link))
+            bar.say(f"the page is {link.address}")
         await play(job, store, watches)
-
-
-def rows_of(folder: Path) -> list[dict[str, Any]]:
-    """Reads the standings of a folder, by a new connection, since another thread calls this."""
-    with closing(open_store(folder)) as store:
-        return [standing.row() for standing in standings_of(store)]
 
 
 def run_play(given: argparse.Namespace) -> int:
     """Plays the games of a ladder that are not done."""
-    config = read_config(given.config)
+    config = with_seed(read_config(given.config))
     part = given.part or Part(1, 1)
     folder = config.folder / str(part) if given.part else config.folder
     job = Job(config, folder, part, program_of(given))
@@ -82,19 +77,32 @@ def run_play(given: argparse.Namespace) -> int:
     make_folders(folder)
     with locked(folder), closing(Store(folder)) as store:
         asyncio.run(play_job(job, store, counts, given.page))  # waits for its threads
-    for line in counts.summary():
+    for line in [*counts.summary(), seed_line(config.identity, is_closed=False)]:
         print(f"ladder: {line}")
     return 0
 
 
 def run_standings(given: argparse.Namespace) -> int:
-    """Prints the standings of a folder."""
+    """Prints the standings of a folder. The other commands do without numpy, which loads slowly."""
+    from ladder.standings import as_csv, as_json, as_table, standings_of
+
     with closing(open_store(given.folder)) as store:
         standings = standings_of(store)
+        seed = seed_line_of(store)
     if given.csv or given.json:
         print(as_csv(standings) if given.csv else as_json(standings), end="")
     else:
         Console(width=None if sys.stdout.isatty() else 160).print(as_table(standings))
+        print(f"\n{seed}" if seed else "")
+    return 0
+
+
+def run_close(given: argparse.Namespace) -> int:
+    """Closes a ladder, and prints its seed."""
+    with closing(open_store(given.folder)) as store, locked(given.folder):
+        if not store.is_closed():
+            store.close_ladder()
+        print(f"ladder: {seed_line_of(store)}")
     return 0
 
 
@@ -106,7 +114,7 @@ def run_check(given: argparse.Namespace) -> int:
             given.folder, program_of(given), lambda games: status.update(f"{games} games checked")
         )
     for name, why in checked.faults.items():
-        print(f"{name}: {why}")
+        print(fit_text(f"{name}: {why}"))
     print(f"{checked.games - len(checked.faults)} of {checked.games} games agree")
     return 1 if checked.faults else 0
 
@@ -138,6 +146,9 @@ def parser() -> argparse.ArgumentParser:
     one.add_argument("folder", metavar="FOLDER", type=Path)
     add_program(one)
     one.set_defaults(run=run_check)
+    one = commands.add_parser("close", help="adds no more games, and publishes a drawn seed")
+    one.add_argument("folder", metavar="FOLDER", type=Path)
+    one.set_defaults(run=run_close)
     one = commands.add_parser("merge", help="joins the folders of the parts of a ladder")
     one.add_argument("into", metavar="INTO", type=Path)
     one.add_argument("folders", metavar="FOLDER", type=Path, nargs="+")
@@ -156,7 +167,7 @@ def main(words: Sequence[str] | None = None) -> int:
     try:
         return int(given.run(given))
     except FAULTS as fault:
-        print(f"ladder: {fault}", file=sys.stderr)
+        print(f"ladder: {fit_text(str(fault))}", file=sys.stderr)
         return 1
     except (KeyboardInterrupt, asyncio.CancelledError):
         print("ladder: stopped; the same command goes on", file=sys.stderr)

@@ -1,22 +1,39 @@
-"""Serves the page of a run: its standings and its running games, live in a browser."""
+"""Serves the page of a run: its standings and its running games, live in a browser.
+
+    python3 -m ladder.page FD HOST PORT FOLDER
+
+`ladder.page_link` starts it. FD is a socket to the ladder, whose lines are the messages for the
+feed; when it ends, so do the events and this program.
+"""
 
 from __future__ import annotations
 
 import asyncio
+import json
+import os
+import socket
+import sys
 from collections.abc import AsyncIterator
-from contextlib import asynccontextmanager
-from dataclasses import dataclass
+from contextlib import asynccontextmanager, closing, suppress
 from pathlib import Path
 
 from aiohttp import web
 
-from ladder.feed import Feed
+from ladder.feed import Feed, Results
+from ladder.page_link import Address
+from ladder.seeds import seed_line_of
+from ladder.standings import standings_of
+from ladder.store import open_store
 
 HERE = Path(__file__).resolve().parent
 FILES = {"/": "index.html", "/page.js": "page.js", "/page.css": "page.css"}
 DRAWING = HERE.parent / "viewer" / "drawing"
-LOCAL = "127.0.0.1"
 CLOSING_SECONDS = 2.0
+ALIVE_SECONDS = 1.0
+LONGEST_LINE = 256 * 1024 * 1024  # of the ladder; its messages have no more than 16 boards
+MOST_CONNECTIONS = 64
+SILENT_SECONDS = 10.0  # of a connection before its first request
+NICENESS = 10  # the games come first
 HEADERS = {
     "Cache-Control": "no-store",
     "Content-Security-Policy": "default-src 'none'; script-src 'self'; style-src 'self';"
@@ -25,43 +42,63 @@ HEADERS = {
 }
 
 
-@dataclass(frozen=True)
-class Address:
-    """The address at which the page is served."""
-
-    host: str
-    port: int
-
-    def __str__(self) -> str:
-        return f"http://{self.host}:{self.port}/"
+Protocols = set[asyncio.BaseProtocol]
 
 
-def address_of(word: str) -> Address:
-    """Parses `PORT`, which is on 127.0.0.1, or `HOST:PORT`."""
-    host, _, port = word.rpartition(":")
-    if not port.isascii() or not port.isdigit() or not int(port) < 65536:
-        raise ValueError(f"{word!r} is no port and no address with one")
-    return Address(host.strip("[]") or LOCAL, int(port))
+class Refuser(asyncio.Protocol):
+    """Closes a connection at once."""
+
+    def connection_made(self, transport: asyncio.BaseTransport) -> None:
+        assert isinstance(transport, asyncio.Transport)
+        transport.abort()
+
+
+class Doorkeeper:
+    """Lets a limited number of connections in, and closes those that ask nothing."""
+
+    def __init__(self, server: web.Server, silent: Protocols) -> None:
+        self.server = server
+        self.silent = silent
+
+    def __call__(self) -> asyncio.BaseProtocol:
+        if len(self.server.connections) >= MOST_CONNECTIONS:
+            return Refuser()
+        protocol = self.server()
+        self.silent.add(protocol)
+        asyncio.get_running_loop().call_later(SILENT_SECONDS, self.look_at, protocol)
+        return protocol
+
+    def look_at(self, protocol: web.RequestHandler) -> None:
+        if protocol in self.silent:
+            self.silent.discard(protocol)
+            if protocol.transport is not None:
+                protocol.transport.abort()
 
 
 @asynccontextmanager
 async def page(feed: Feed, address: Address) -> AsyncIterator[Address]:
     """Serves the page within the context, whose value is its address; port 0 chooses a free one."""
-    runner = web.AppRunner(application(feed), access_log=None)
+    silent: Protocols = set()
+    runner = web.AppRunner(application(feed, silent), access_log=None)
     await runner.setup()
-    ticking = asyncio.create_task(feed.run())
+    assert runner.server is not None
+    door = Doorkeeper(runner.server, silent)
+    loop = asyncio.get_running_loop()
+    server = await loop.create_server(door, address.host, address.port, backlog=MOST_CONNECTIONS)
     try:
-        site = web.TCPSite(runner, address.host, address.port, shutdown_timeout=CLOSING_SECONDS)
-        await site.start()
-        yield Address(address.host, runner.addresses[0][1])
+        yield Address(address.host, server.sockets[0].getsockname()[1])
     finally:
-        ticking.cancel()
         await feed.close()
+        server.close()
+        await runner.server.shutdown(CLOSING_SECONDS)
         await runner.cleanup()
 
 
-def application(feed: Feed) -> web.Application:
-    """The web application: the page's files, the scripts that draw boards, and the events."""
+def application(feed: Feed, silent: Protocols) -> web.Application:
+    """The web application: the page's files, the scripts that draw boards, and the events.
+
+    `silent` has the connections on which nothing was asked yet.
+    """
 
     def file(name: str) -> web.Response:
         kind = {"html": "text/html", "js": "text/javascript", "css": "text/css"}
@@ -74,7 +111,8 @@ def application(feed: Feed) -> web.Application:
     async def events(request: web.Request) -> web.StreamResponse:
         return await send_events(request, feed)
 
-    async def secure(_: web.Request, response: web.StreamResponse) -> None:
+    async def secure(request: web.Request, response: web.StreamResponse) -> None:
+        silent.discard(request.protocol)
         response.headers.update(HEADERS)
 
     app = web.Application()
@@ -99,3 +137,46 @@ async def send_events(request: web.Request, feed: Feed) -> web.StreamResponse:
     finally:
         feed.leave(reader)
     return response
+
+
+def results_of(folder: Path) -> Results:
+    """Reads the results of a folder."""
+    with closing(open_store(folder)) as store:
+        rows = [standing.row() for standing in standings_of(store)]
+        return {"standings": rows, "seed": seed_line_of(store)}
+
+
+async def say_alive(writer: asyncio.StreamWriter) -> None:
+    """Writes a line to the ladder again and again."""
+    while True:
+        writer.write(b"\n")
+        await writer.drain()
+        await asyncio.sleep(ALIVE_SECONDS)
+
+
+async def serve(ladder: socket.socket, address: Address, folder: Path) -> None:
+    """Serves the page until the socket to the ladder ends."""
+    reader, writer = await asyncio.open_connection(sock=ladder, limit=LONGEST_LINE)
+    feed = Feed(lambda: results_of(folder))
+    try:
+        async with page(feed, address) as served:
+            writer.write(json.dumps(vars(served)).encode() + b"\n")
+            alive = asyncio.create_task(say_alive(writer))
+            while line := await reader.readline():
+                await feed.take(json.loads(line))
+            alive.cancel()
+    except OSError as fault:
+        writer.write(json.dumps({"fault": str(fault)}).encode() + b"\n")
+    finally:
+        with suppress(ConnectionError):
+            await writer.drain()
+
+
+def main(words: list[str]) -> None:
+    number, host, port, folder = words
+    os.nice(NICENESS)
+    asyncio.run(serve(socket.socket(fileno=int(number)), Address(host, int(port)), Path(folder)))
+
+
+if __name__ == "__main__":
+    main(sys.argv[1:])

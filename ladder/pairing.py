@@ -62,9 +62,37 @@ def all_fixtures(config: Config) -> Iterator[Fixture]:
 
 
 def every_table(names: Sequence[str], config: Config) -> Iterator[Iterable[Iterable[str]]]:
-    """Every combination of `config.snakes` bots, once a round."""
+    """Every combination of `config.snakes` bots, once a round, in an order by turns."""
+    tables = circle if config.snakes == 2 else orbits
     for _ in range(config.rounds):
-        yield combinations(names, config.snakes)
+        yield ([names[at] for at in table] for table in tables(len(names), config.snakes))
+
+
+def circle(count: int, _: int) -> Iterator[tuple[int, ...]]:
+    """All pairs of numbers below `count`, by the circle method.
+
+    All sit round a table, and each plays the one opposite; then all but the last one move on by a
+    seat. So everybody plays once in each of these circles; with an odd number one sits out.
+    """
+    turning = count - 1 + count % 2
+    for turn in range(turning):
+        if count % 2 == 0:
+            yield turn, count - 1
+        for off in range(1, (turning + 1) // 2):
+            yield (turn - off) % turning, (turn + off) % turning
+
+
+def orbits(count: int, size: int) -> Iterator[tuple[int, ...]]:
+    """All combinations of `size` numbers below `count`, each followed by those shifted from it.
+
+    So in any `count` games in a row each number occurs about as often.
+    """
+    for others in combinations(range(1, count), size - 1):
+        table = (0, *others)
+        turned = [tuple(sorted((it - base) % count for it in table)) for base in table]
+        if min(turned) == table:
+            for shift in range(count // turned.count(table)):
+                yield tuple((it + shift) % count for it in table)
 
 
 def drawn_tables(names: Sequence[str], config: Config) -> Iterator[Iterable[Iterable[str]]]:

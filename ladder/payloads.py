@@ -36,17 +36,21 @@ def text_of(value: Any) -> str:
 
 def game_text(config: Config, name: str) -> str:
     """The member `game`, the same in all requests of a game."""
-    rules = config.rules
-    settings = {
+    rules, hazards = config.rules, config.rules.hazards
+    settings: dict[str, Any] = {
         "foodSpawnChance": rules.food_chance,
         "minimumFood": rules.min_food,
-        "hazardDamagePerTurn": 0,
+        "hazardDamagePerTurn": hazards.damage if hazards else 0,
     }
+    board_map = "empty" if rules.mode == "constrictor" else "standard"
+    if hazards and hazards.is_royale:
+        settings["royale"] = {"shrinkEveryNTurns": hazards.shrink_every}
+        board_map = "royale"
     return text_of(
         {
-            "id": name,
+            "id": f"{config.letters}-{name}",
             "ruleset": {"name": rules.mode, "version": "v1.0.0", "settings": settings},
-            "map": "empty" if rules.mode == "constrictor" else "standard",
+            "map": board_map,
             "timeout": config.timeout,
             "source": "league",
         }
@@ -89,7 +93,8 @@ def bodies(game: str, board: Board, seats: dict[str, Seat], names: Iterable[str]
     snakes = ",".join(texts[name] for name in living_of(board))
     shared = (
         f'{{"game":{game},"turn":{board["turn"]},"board":{{"height":{board["height"]},'
-        f'"width":{board["width"]},"food":{text_of(board["food"])},"hazards":[],'
+        f'"width":{board["width"]},"food":{text_of(board["food"])},'
+        f'"hazards":{text_of(board.get("hazards", []))},'
         f'"snakes":[{snakes}]}},"you":'
     )
     return [f"{shared}{texts[name]}}}".encode() for name in names]

@@ -15,10 +15,13 @@ from ladder.bots import Answer
 from ladder.host import Board
 from ladder.outcome import Outcome
 from ladder.pairing import Fixture
-from ladder.standings import quantile
+from ladder.quantiles import quantile
+from ladder.texts import fit_text
 from ladder.watch import Watch
 
 REFRESHES_A_SECOND = 4
+ENOUGH_MOVES = 30  # for a median
+GROWTH, GROWTH_MS = 1.5, 10  # a median that grows by more depends on the number of games
 
 
 class Counts(Watch):
@@ -30,22 +33,29 @@ class Counts(Watch):
         self.done = self.fixtures = self.played = self.turns = self.moves = 0
         self.missed: Counter[str] = Counter()
         self.own: Counter[int] = Counter()  # turns by own time, in tenths of a millisecond
+        self.lagged = 0  # turns in which the ladder itself was late
+        self.strain = Strain()
 
     def begin(self, done: int, fixtures: int) -> None:
         self.done, self.fixtures = done, fixtures
 
     def show(self, fixture: Fixture, board: Board) -> None:
-        self.running.add(fixture.name)
+        if fixture.name not in self.running:
+            self.running.add(fixture.name)
+            self.strain.playing.update(fixture.bots)
 
     def count(self, answers: Mapping[str, Answer], own_seconds: float | None) -> None:
         self.turns += 1
         self.moves += len(answers)
         self.missed.update(it.cause for it in answers.values() if it.cause is not None)
+        self.lagged += any(it.is_lagged for it in answers.values())
+        self.strain.count(answers)
         if own_seconds is not None:
             self.own[math.ceil(own_seconds * 10_000)] += 1
 
     def end(self, outcome: Outcome) -> None:
         self.running.discard(outcome.name)
+        self.strain.playing.subtract(it.bot for it in outcome.finishes)
         self.done += 1
         self.played += 1
 
@@ -61,7 +71,7 @@ class Counts(Watch):
         )
 
     def summary(self) -> list[str]:
-        """The summary of the run, in two lines: the games, and the moves with the own time."""
+        """The summary of the run: a line of the games, one of the moves, and warnings."""
         took = time.monotonic() - self.began
         games = (
             f"{self.done} of {self.fixtures} games are done, {self.played} of them now; "
@@ -71,12 +81,39 @@ class Counts(Watch):
         own = self.own_times()
         if own is not None:
             moves += f"; own time between turns {own[0]:.1f} ms, 99 % {own[1]:.1f} ms"
-        return [games, moves]
+        late = f"the ladder itself was late in {self.lagged} turns: play fewer games at once"
+        return [games, moves, *([late] if self.lagged else []), *self.strain.warnings()]
 
     def own_times(self) -> tuple[float, float] | None:
         """The median and the 99th percentile of the ladder's own time between turns, in ms."""
         median, most = quantile(self.own, 0.5), quantile(self.own, 0.99)
         return None if median is None or most is None else (median / 10, most / 10)
+
+
+class Strain:
+    """Finds the bots that answer slower the more games they play at the same time."""
+
+    def __init__(self) -> None:
+        self.playing: Counter[str] = Counter()  # games by bot
+        self.latencies: dict[str, dict[int, Counter[int]]] = {}  # by bot and its games
+
+    def count(self, answers: Mapping[str, Answer]) -> None:
+        for bot, answer in answers.items():
+            by_games = self.latencies.setdefault(bot, {})
+            by_games.setdefault(self.playing[bot], Counter())[answer.latency] += 1
+
+    def warnings(self) -> list[str]:
+        """A line for each bot whose median with most games is far above that with fewest."""
+        lines = []
+        for bot, by_games in sorted(self.latencies.items()):
+            enough = sorted(it for it in by_games if by_games[it].total() >= ENOUGH_MOVES)
+            medians = [quantile(by_games[it], 0.5) or 0 for it in enough]
+            if medians and medians[-1] > medians[0] * GROWTH + GROWTH_MS:
+                lines.append(
+                    f"{bot} answers in {medians[0]} ms with {enough[0]} of its games at once, in "
+                    f"{medians[-1]} ms with {enough[-1]}: a smaller games_a_bot may serve it better"
+                )
+        return lines
 
 
 class ProgressBar(Watch):
@@ -116,7 +153,8 @@ class ProgressBar(Watch):
         self.bar.update(self.task, completed=self.counts.done)
 
     def say(self, text: str) -> None:
+        line = f"ladder: {fit_text(text)}"
         if self.console.is_terminal:
-            self.console.print(f"ladder: {text}")
+            self.console.print(line)
         else:
-            print(f"ladder: {text}", file=sys.stderr)
+            print(line, file=sys.stderr)

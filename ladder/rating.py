@@ -15,6 +15,9 @@ from collections.abc import Iterable, Sequence
 from dataclasses import dataclass
 from itertools import combinations
 
+import numpy as np
+from numpy.typing import NDArray
+
 MEAN = 1500.0
 POINTS = 400 / math.log(10)  # for each unit of the model
 SURE = 1.96  # standard errors: half of the 95 % confidence interval
@@ -22,7 +25,7 @@ MOST_STEPS = 100
 LONGEST_STEP = 1.0
 EXACT = 1e-9
 
-Matrix = list[list[float]]
+Numbers = NDArray[np.float64]  # one for each bot, or for each two of them
 
 
 @dataclass(frozen=True)
@@ -40,7 +43,7 @@ class Comparisons:
         self.names = list(names)
         self.at = {name: at for at, name in enumerate(self.names)}
         size = len(self.names)
-        self.wins: Matrix = [[0.0] * size for _ in range(size)]
+        self.wins = [[0.0] * size for _ in range(size)]
 
     def add(self, lived: Sequence[tuple[str, float]]) -> None:
         """Adds a game: its bots, each with the time that it lived, in any unit."""
@@ -58,73 +61,40 @@ def ratings(
     results = Comparisons(names)
     for lived in games:
         results.add(lived)
-    strengths = [0.0] * len(names)
+    wins: Numbers = np.array(results.wins).reshape(len(names), len(names))
+    strengths: Numbers = np.zeros(len(names))
     for _ in range(MOST_STEPS):
-        slopes, curvature = derivatives(results.wins, strengths)
-        inverse = inverted(curvature)
-        steps = [sum(map(float.__mul__, row, slopes)) for row in inverse]
-        most = max((abs(step) for step in steps), default=0.0)
-        scale = min(1.0, LONGEST_STEP / most) if most else 0.0
-        strengths = [old + scale * step for old, step in zip(strengths, steps)]
+        slopes, curvature = derivatives(wins, strengths)
+        steps = np.linalg.solve(curvature, slopes)
+        most = float(np.max(np.abs(steps), initial=0.0))
+        strengths = strengths + steps * min(1.0, LONGEST_STEP / max(most, EXACT))
         if most < EXACT:
             break
-    return in_points(results.names, strengths, inverted(derivatives(results.wins, strengths)[1]))
+    return in_points(results.names, strengths, derivatives(wins, strengths)[1])
 
 
-def derivatives(wins: Matrix, strengths: Sequence[float]) -> tuple[list[float], Matrix]:
+def derivatives(wins: Numbers, strengths: Numbers) -> tuple[Numbers, Numbers]:
     """The gradient of the log-likelihood, and its negated Hessian."""
-    size = len(strengths)
-    slopes = [0.5 - expected(strength) for strength in strengths]
-    curvature = [[0.0] * size for _ in range(size)]
-    for one in range(size):
-        share = expected(strengths[one])
-        curvature[one][one] += share * (1 - share)
-    for one, other in combinations(range(size), 2):
-        played = wins[one][other] + wins[other][one]
-        share = expected(strengths[one] - strengths[other])
-        more, bend = wins[one][other] - played * share, played * share * (1 - share)
-        slopes[one] += more
-        slopes[other] -= more
-        curvature[one][one] += bend
-        curvature[other][other] += bend
-        curvature[one][other] -= bend
-        curvature[other][one] -= bend
-    return slopes, curvature
+    played = wins + wins.T
+    shares = expected(strengths[:, np.newaxis] - strengths[np.newaxis, :])
+    drawn = expected(strengths)  # of the draw against a bot of 1500
+    bends = played * shares * (1 - shares)
+    slopes = (wins - played * shares).sum(axis=1) + 0.5 - drawn
+    return slopes, np.diag(bends.sum(axis=1) + drawn * (1 - drawn)) - bends
 
 
-def expected(ahead: float) -> float:
+def expected(ahead: Numbers) -> Numbers:
     """The expected share of wins of a bot whose strength is `ahead` units higher."""
-    return 1 / (1 + math.exp(-ahead)) if ahead > 0 else 1 - 1 / (1 + math.exp(ahead))
+    share: Numbers = (1 + np.tanh(ahead / 2)) / 2
+    return share
 
 
-def inverted(matrix: Matrix) -> Matrix:
-    """The inverse of a symmetric, diagonally dominant matrix, by Gauss and Jordan."""
-    size = len(matrix)
-    rows = [[*row, *(float(at == other) for other in range(size))] for at, row in enumerate(matrix)]
-    for at in range(size):
-        pivot = rows[at][at]
-        rows[at] = [value / pivot for value in rows[at]]
-        for other in range(size):
-            factor = rows[other][at]
-            if other != at and factor != 0.0:
-                rows[other] = [a - factor * b for a, b in zip(rows[other], rows[at])]
-    return [row[size:] for row in rows]
-
-
-def in_points(
-    names: Sequence[str], strengths: Sequence[float], inverse: Matrix
-) -> dict[str, Rating]:
+def in_points(names: Sequence[str], strengths: Numbers, curvature: Numbers) -> dict[str, Rating]:
     """The ratings in points; each error is that of the difference from the mean."""
-    size = len(names)
-    if size == 0:
+    if not names:
         return {}
-    mean = sum(strengths) / size
-    shares = [sum(row) / size for row in inverse]
-    whole = sum(shares) / size
-    return {
-        name: Rating(
-            MEAN + POINTS * (strengths[at] - mean),
-            SURE * POINTS * math.sqrt(max(0.0, inverse[at][at] - 2 * shares[at] + whole)),
-        )
-        for at, name in enumerate(names)
-    }
+    inverse = np.linalg.inv(curvature)
+    elos = MEAN + POINTS * (strengths - strengths.mean())
+    variances = inverse.diagonal() - 2 * inverse.mean(axis=1) + inverse.mean()
+    errors = SURE * POINTS * np.sqrt(np.maximum(variances, 0.0))
+    return {name: Rating(float(elo), float(it)) for name, elo, it in zip(names, elos, errors)}

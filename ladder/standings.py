@@ -12,11 +12,14 @@ from dataclasses import dataclass, field
 from typing import Any
 
 from rich.table import Table
+from rich.text import Text
 
 from ladder.bots import CAUSES
 from ladder.outcome import Outcome
+from ladder.quantiles import quantile
 from ladder.rating import Rating, ratings
 from ladder.store import Store
+from ladder.texts import cell_text, fit_text
 
 
 @dataclass
@@ -48,17 +51,6 @@ class Standing:
             "missed": sum(self.missed.values()),
             **{cause: self.missed.get(cause, 0) for cause in CAUSES},
         }
-
-
-def quantile(counts: Mapping[int, int], share: float) -> int | None:
-    """The least value that a `share` of the counted values does not exceed; None without values."""
-    wanted = math.ceil(share * sum(counts.values()))
-    seen = 0
-    for value in sorted(counts):
-        seen += counts[value]
-        if seen >= wanted:
-            return value
-    return None
 
 
 def lived_in(outcome: Outcome) -> list[tuple[str, float]]:
@@ -98,7 +90,7 @@ def as_table(standings: Iterable[Standing]) -> Table:
     table.add_column("missed", justify="right", no_wrap=True)
     table.add_column("by cause")
     for standing in standings:
-        table.add_row(*cells_of(standing))
+        table.add_row(*map(Text, cells_of(standing)))
     return table
 
 
@@ -107,7 +99,13 @@ def cells_of(standing: Standing) -> list[str]:
     numbers = ("games", "wins", "draws", "losses", "turns", "elo", "error")
     times = ["-" if row[name] is None else f"{row[name]} ms" for name in ("median_ms", "p99_ms")]
     causes = ", ".join(f"{cause} {row[cause]}" for cause in CAUSES if row[cause]) or "-"
-    return [row["bot"], *(str(row[name]) for name in numbers), *times, str(row["missed"]), causes]
+    return [
+        fit_text(row["bot"]),
+        *(str(row[name]) for name in numbers),
+        *times,
+        str(row["missed"]),
+        causes,
+    ]
 
 
 def as_csv(standings: Iterable[Standing]) -> str:
@@ -116,7 +114,7 @@ def as_csv(standings: Iterable[Standing]) -> str:
     text = io.StringIO()
     writer = csv.DictWriter(text, list(rows[0]) if rows else [], lineterminator="\n")
     writer.writeheader()
-    writer.writerows(rows)
+    writer.writerows({**row, "bot": cell_text(row["bot"])} for row in rows)
     return text.getvalue()
 
 

@@ -12,10 +12,12 @@ from typing import Any
 from ladder.config import Bot
 from ladder.outcome import Finish, Outcome, Tally
 from ladder.pairing import GAME_NAME
+from ladder.urls import shown
 
 BUSY_SECONDS = 60.0
 SCHEMA = """
 CREATE TABLE IF NOT EXISTS ladder (identity TEXT NOT NULL);
+CREATE TABLE IF NOT EXISTS closed (at TEXT NOT NULL);
 CREATE TABLE IF NOT EXISTS bot (name TEXT PRIMARY KEY, url TEXT NOT NULL);
 CREATE TABLE IF NOT EXISTS game (
     name TEXT PRIMARY KEY, round INTEGER NOT NULL, turns INTEGER NOT NULL,
@@ -44,7 +46,15 @@ class Store:
         self.path = folder / "results.sqlite"
         # Another thread adds the games, one after the other.
         self.base = sqlite3.connect(self.path, timeout=BUSY_SECONDS, check_same_thread=False)
-        self.base.executescript(SCHEMA)
+        try:
+            self.base.executescript(SCHEMA)
+        except sqlite3.OperationalError as fault:
+            if "readonly" not in str(fault):
+                raise
+            raise StoreFault(
+                f"{self.path} has a write that a killed ladder left unfinished, and you may not "
+                "write there: play or read it as its owner once, or read a copy of the folder"
+            ) from None
 
     def close(self) -> None:
         self.base.close()
@@ -55,7 +65,9 @@ class Store:
         return json.loads(row[0]) if row else None
 
     def begin(self, identity: Mapping[str, Any], bots: Iterable[Bot]) -> None:
-        """Stores the ladder's identity and bots; refuses the folder of another ladder."""
+        """Stores the ladder's identity and bots; refuses a closed folder, and another ladder's."""
+        if self.is_closed():
+            raise StoreFault(f"{self.path} is of a closed ladder, to which no game is added")
         known = self.identity()
         if known is not None and known != dict(identity):
             other = sorted(key for key in identity if known.get(key) != identity[key])
@@ -63,11 +75,28 @@ class Store:
         with self.base:
             if known is None:
                 self.base.execute("INSERT INTO ladder VALUES (?)", (json.dumps(dict(identity)),))
-            rows = [(bot.name, bot.url) for bot in bots]
+            rows = [(bot.name, shown(bot.url)) for bot in bots]
             self.base.executemany("INSERT OR REPLACE INTO bot VALUES (?, ?)", rows)
+
+    def is_closed(self) -> bool:
+        return self.base.execute("SELECT 1 FROM closed").fetchone() is not None
+
+    def close_ladder(self) -> None:
+        """Closes the ladder: no game is added from now on, and its seed is published."""
+        with self.base:
+            self.base.execute("INSERT INTO closed VALUES (datetime('now'))")
 
     def add(self, played: Iterable[tuple[Outcome, Mapping[str, Tally]]]) -> None:
         """Adds games that are done, with their seats and tallies, in one transaction."""
+        try:
+            self.add_all(played)
+        except sqlite3.IntegrityError as fault:
+            raise StoreFault(
+                f"{self.path} was changed ({fault}): restore a copy of it, or delete it, and the "
+                "results are read again from the games' files, without times and missed moves"
+            ) from None
+
+    def add_all(self, played: Iterable[tuple[Outcome, Mapping[str, Tally]]]) -> None:
         with self.base:
             for outcome, tallies in played:
                 name = outcome.name

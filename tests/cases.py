@@ -13,7 +13,7 @@ from pathlib import Path
 ROOT = Path(__file__).resolve().parent.parent
 FOLDER = ROOT / "examples"
 # Command lines that serve nothing.
-COMMAND_LINES = [
+COMMAND_LINES: list[list[str | bytes]] = [
     ["--help"],
     ["--version"],
     ["serve", "--help"],
@@ -33,6 +33,7 @@ COMMAND_LINES += [["alone", "-", "--game", "a", "--stay", "0"]]
 # The number of blocks of a case, if it is not the program's default.
 BLOCKS = {"stays": 12}
 USUAL_BLOCKS = 64
+WITH_STAYS = (3, 5)  # versions of the format in which games can come and go
 PURPOSE = re.compile(r"^- `([a-z0-9_./]+)`: (\S.*)$")
 
 
@@ -44,13 +45,18 @@ class Case:
 
     @property
     def blocks(self):
-        """The number of blocks for the transcript, which depends on it in files of version 3."""
+        """The number of blocks for the transcript, which depends on it where games come and go."""
         return BLOCKS.get(self.name, USUAL_BLOCKS)
 
     @property
     def version(self):
         """The version of the format."""
         return json.loads(self.file.read_text().splitlines()[0]).get("version", 1)
+
+    @property
+    def has_stays(self):
+        """Whether games can come and go."""
+        return self.version in WITH_STAYS
 
     def words(self, workers):
         """The command line that serves the case."""
@@ -136,6 +142,6 @@ def stays(case):
 
 
 def played_alone(case):
-    """The stays that a slow test plays alone: the first, and in version 3 all."""
+    """The stays that a slow test plays alone: the first, or all if games can come and go."""
     all_stays = list(stays(case))
-    return all_stays if case.version == 3 else all_stays[:1]
+    return all_stays if case.has_stays else all_stays[:1]

@@ -39,6 +39,14 @@ def text_of(lines):
     return "".join(f"{line}\n" for line in lines)
 
 
+def peak_memory(pid):
+    """The peak of a process's resident memory so far, in bytes."""
+    for row in Path(f"/proc/{pid}/status").read_text().splitlines():
+        if row.startswith("VmHWM:"):
+            return int(row.split()[1]) * 1024
+    return 0  # the process has ended
+
+
 def argument_parser(about):
     """A parser of a test's command line that reads --program."""
     raw = argparse.RawDescriptionHelpFormatter

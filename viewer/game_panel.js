@@ -120,7 +120,9 @@ class GamePanel {
     this.cards.clear();
     this.page.board.replaceChildren();
     this.page.board.setAttribute('aria-label', 'No board');
+    this.page.hazards.hidden = true;
     this.page.controls.hidden = true;
+    this.page.watch.hidden = true;
     this.page.facts.textContent =
       'No new of this game was accepted, so the transcript holds no board of it.';
   }
@@ -148,6 +150,7 @@ class GamePanel {
     page.round.replaceChildren(...game.rounds.map((round, index) => option(index + 1)));
     page.rounds.hidden = game.rounds.length < 2;
     page.controls.hidden = false;
+    page.watch.hidden = false;
     page.panel.hidden = false;
     this.refusals.show(game.refusals);
     this.onGame(game);
@@ -157,12 +160,14 @@ class GamePanel {
     const { page } = this;
     this.board = board;
     drawBoard(page.board, board, page.earlier.checked);
+    showHazardLegend(page.hazards, board);
     this.cards.show(board, this.lastTurn);
     page.slider.value = board.turn;
     page.turn.textContent = `Turn ${board.turn} of ${this.lastTurn}`;
     page.slider.setAttribute('aria-valuetext', page.turn.textContent);
     const food = `food at least ${board.min_food}, chance ${board.food_chance}`;
-    page.facts.textContent = `${board.mode}, ${board.width} by ${board.height}, ${food}`
+    const hazards = board.hazards ? `, hazard damage ${board.hazard_damage}` : '';
+    page.facts.textContent = `${board.mode}, ${board.width} by ${board.height}, ${food}${hazards}`
       + `${board.over ? ', over' : ''}`;
     this.writeAddress();
   }

@@ -30,9 +30,13 @@ function placeOf(refusal) {
   return `after turn ${turn} of round ${round}`;
 }
 
-/** A list that shows 200 entries, and 200 more each time the button below it is pressed. */
+/**
+ * A list that shows 200 entries, and 200 more each time the button below it is pressed. Its section
+ * is hidden while it has none.
+ */
 class LongList {
   constructor(section, itemFor) {
+    this.section = section;
     this.list = section.querySelector('ol');
     this.count = section.querySelector('.count');
     this.more = section.querySelector('button.more');
@@ -42,6 +46,7 @@ class LongList {
 
   show(entries) {
     this.entries = entries;
+    this.section.hidden = entries.length === 0;
     this.count.textContent = entries.length.toLocaleString('en');
     this.list.replaceChildren();
     this.showMore();

@@ -197,6 +197,10 @@ function beginViewer() {
   const viewer = new Viewer(page);
   listenToFiles(viewer, page);
   listenToKeys(viewer);
+  showSamples(page.samples, (name) => {
+    forgetAddress(true);
+    viewer.open(`sample ${name}`, loadSample(name));
+  });
   window.addEventListener('hashchange', () => viewer.goToAddress());
   const name = fileInAddress(location.search);
   if (name) {

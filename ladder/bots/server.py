@@ -2,11 +2,14 @@
 
 from __future__ import annotations
 
+import socket
+import sys
 from collections.abc import Callable, Mapping
 from typing import Any
 
 from aiohttp import web
 
+BACKLOG = 128
 Choose = Callable[[dict[str, Any]], str]
 STEPS = {"up": (0, 1), "down": (0, -1), "left": (-1, 0), "right": (1, 0)}
 
@@ -53,4 +56,8 @@ def serve(bots: Mapping[str, tuple[str, Choose]], port: int) -> None:
     app = web.Application()
     for name, (color, choose) in bots.items():
         app.add_subapp(f"/{name}/", application(name, color, choose))
-    web.run_app(app, host="127.0.0.1", port=port, print=None, access_log=None)
+    try:
+        listener = socket.create_server(("127.0.0.1", port), backlog=BACKLOG)
+    except OSError as fault:
+        sys.exit(f"serve: port {port} can't be used: {fault.strerror}; choose one by --port")
+    web.run_app(app, sock=listener, print=lambda *_: None, access_log=None)

@@ -28,8 +28,10 @@ class GameCard {
   constructor(name) {
     this.turn = made('span', { className: 'turn' });
     this.board = drawn('svg', { role: 'img' });
+    this.hazards = made('p', { className: 'hazard-legend', hidden: true });
     this.snakes = made('ul');
-    this.item = made('article', {}, made('h3', {}, name, ' ', this.turn), this.board, this.snakes);
+    this.item = made('article', {}, made('h3', {}, name, ' ', this.turn), this.board, this.hazards,
+      this.snakes);
     this.item.dataset.game = name;
   }
 
@@ -39,6 +41,7 @@ class GameCard {
     }
     this.turn.textContent = `turn ${board.turn}`;
     drawBoard(this.board, board, false);
+    showHazardLegend(this.hazards, board);
     this.snakes.replaceChildren(...board.snakes.map(snakeItem));
   }
 }
@@ -46,6 +49,7 @@ class GameCard {
 class LadderPage {
   constructor() {
     this.summary = document.getElementById('summary');
+    this.seed = document.getElementById('seed');
     this.standings = document.querySelector('#standings tbody');
     this.games = document.getElementById('games');
     this.cards = new Map();
@@ -58,6 +62,7 @@ class LadderPage {
   /** Shows the state in an event; `gone` has the names of the games that are done. */
   show(state) {
     this.summary.textContent = state.summary;
+    this.seed.textContent = state.seed;
     showStandings(this.standings, state.standings);
     Object.entries(state.boards).forEach(([name, board]) => this.showBoard(name, board));
     (state.gone ?? []).forEach((name) => this.remove(name));

@@ -8,6 +8,7 @@ from pathlib import Path
 
 import pytest
 from served import Served, serve_faulty, serve_small
+from testing import chromium  # of viewer/
 
 from ladder.host import PROGRAM
 
@@ -46,3 +47,15 @@ def faulty_bots() -> Iterator[Served]:
     """The bots of faulty.py, which fail as planned."""
     with serve_faulty() as served:
         yield served
+
+
+@pytest.fixture(scope="session")
+def browser() -> Iterator[chromium.Browser]:
+    """Chromium without a window."""
+    try:
+        chromium.install()
+    except chromium.NotToBeHad as fault:
+        pytest.fail(f"Chromium is missing and can't be installed ({fault})")
+    opened = chromium.Browser()
+    yield opened
+    opened.close()

@@ -2,12 +2,16 @@
 
 from __future__ import annotations
 
+import json
 from pathlib import Path
 from typing import Any
 
 import pytest
 
 from ladder.config import ConfigFault, Rules, config_again, config_of, read_config
+from ladder.host import PLAN, PLAN_WITH_HAZARDS
+from ladder.maps import HazardMap
+from ladder.starts import Cell
 
 BOTS = [{"name": f"bot{at}", "url": f"http://127.0.0.1:80{at:02}/"} for at in range(8)]
 
@@ -20,7 +24,8 @@ def test_what_is_left_out_is_usual() -> None:
     config = config_of(table(), "here")
     assert config.rules == Rules("standard", 11, 11, 1, 15, 10_000)
     assert (config.pairing, config.snakes, config.rounds) == ("round_robin", 2, 1)
-    assert (config.at_once, config.timeout, config.seed) == (64, 500, 1)
+    assert (config.at_once, config.games_a_bot) == (16, 2)
+    assert (config.timeout, config.has_seed) == (500, False)
     assert config.bots[3].url == "http://127.0.0.1:8003"
     assert config_of(table(pairing="tables"), "here").snakes == 4
     assert config_of(table(mode="solo"), "here").snakes == 1
@@ -39,6 +44,7 @@ def test_what_is_left_out_is_usual() -> None:
         ({"width": 3, "height": 3, "snakes": 5}, "snakes is 5, and has to be a number from 2 to 4"),
         ({"pairing": "duels", "snakes": 4}, "a duel has 2 snakes"),
         ({"at_once": 65}, "at_once is 65"),
+        ({"games_a_bot": 0}, "games_a_bot is 0, and has to be a number from 1 to 64"),
         ({"sead": 4}, "nobody knows sead"),
         ({"folder": ""}, "folder is missing or no text"),
         ({"bot": []}, "1 to 200 tables"),
@@ -54,6 +60,22 @@ def test_what_is_left_out_is_usual() -> None:
         ({"bot": [{**BOTS[0], "url": "http://a:99999/"}]}, "is no address"),
         ({"bot": [{**BOTS[0], "url": "http://a/?x=1"}]}, "is no address"),
         ({"bot": [{**BOTS[0], "url": "http://a/ b"}]}, "is no address"),
+        ({"map": "hz_rivers"}, "map is 'hz_rivers', and has to be one of standard, royale"),
+        ({"map": "royale", "shrink_every": 0}, "shrink_every is 0"),
+        ({"map": "royale", "shrink_every": 10_001}, "shrink_every is 10001"),
+        ({"map": "royale", "hazard_damage": 101}, "hazard_damage is 101"),
+        ({"map": "royale", "hazards": [[1, 1]]}, "the map royale draws its hazards"),
+        ({"shrink_every": 25}, "nobody knows shrink_every"),
+        ({"hazard_damage": 14}, "nobody knows hazard_damage"),
+        ({"hazards": [[1, 1]], "shrink_every": 25}, "nobody knows shrink_every"),
+        ({"hazards": []}, "hazards has to be a list of 1 to 2500 cells [x, y]"),
+        ({"hazards": [[1, 1]] * 2501}, "hazards has to be a list of 1 to 2500 cells"),
+        ({"hazards": {"x": 1}}, "hazards has to be a list"),
+        ({"hazards": [[11, 0]]}, "[11, 0] in hazards is no cell [x, y] of the board"),
+        ({"hazards": [[0, -1]]}, "[0, -1] in hazards is no cell"),
+        ({"hazards": [[0, True]]}, "[0, True] in hazards is no cell"),
+        ({"hazards": [[0]]}, "[0] in hazards is no cell"),
+        ({"hazards": [1]}, "1 in hazards is no cell"),
     ],
 )
 def test_faults_are_reported(members: dict[str, Any], why: str) -> None:
@@ -73,11 +95,34 @@ def test_unreadable_file_is_reported(tmp_path: Path) -> None:
 
 def test_identity_is_what_decides_the_games() -> None:
     config = config_of(table(rounds=3), "here")
-    same = config_of(table(rounds=9, at_once=2, bot=[{**it, "url": "http://b"} for it in BOTS]), "")
+    same = config_of(
+        table(rounds=9, at_once=2, games_a_bot=1, bot=[{**it, "url": "http://b"} for it in BOTS]),
+        "",
+    )
     assert same.identity == config.identity
-    assert config_of(table(seed=2), "").identity != config.identity
+    assert config_of(table(seed=0), "").identity != config.identity
+    assert config_of(table(seed=2), "").letters != config.letters == same.letters
     assert config_of(table(timeout=100), "").identity != config.identity
     assert config_again(config.identity, Path("x"), 3).identity == config.identity
+    with pytest.raises(ConfigFault, match="earlier version"):
+        config_again({**config.identity, "order": None}, Path("x"), 3)
+
+
+def test_maps_with_hazards() -> None:
+    plain = config_of(table(map="standard"), "here")
+    assert (plain.rules.hazards, plain.rules.plan) == (None, PLAN)
+    assert "hazards" not in plain.identity["rules"]
+    royale = config_of(table(map="royale"), "here")
+    assert royale.rules.hazards == HazardMap(damage=14, shrink_every=25)
+    assert royale.rules.plan == PLAN_WITH_HAZARDS
+    most = [[10, 10]] * 2_500
+    fixed = config_of(table(hazards=most, hazard_damage=100), "here")
+    assert fixed.rules.hazards == HazardMap(damage=100, cells=(Cell(10, 10),) * 2_500)
+    for config in (royale, fixed):
+        identity = json.loads(json.dumps(config.identity))
+        assert identity == config.identity != plain.identity
+        again = config_again(identity, config.folder, config.rounds)
+        assert again.rules == config.rules
 
 
 def test_the_example_can_be_read() -> None:

@@ -44,10 +44,10 @@ def test_five_bots_give_the_standings_of_the_page(
     ran = run_ladder("play", config, "--program", program)
     assert ran.returncode == 0, ran.stderr
     summary = without_times(ran.stdout).splitlines()
-    assert len(summary) == 2, summary
+    assert len(summary) == 3, summary
     assert all(f"    {line}\n" in without_times(PAGE) for line in summary), summary
     table = run_ladder("standings", tmp_path / "five").stdout.splitlines()
-    assert len(table) == len(bots) + 1
-    for line in table[1:]:
+    assert table[len(bots) + 1] == "" and f"    {table[-1]}\n" in PAGE
+    for line in table[1 : len(bots) + 1]:
         numbers = " +".join(line.split()[:7])
         assert re.search(rf"^    {numbers} ", PAGE, re.MULTILINE), line

@@ -17,7 +17,7 @@ from aiohttp import web
 
 from ladder import game
 from ladder.config import Config, config_of
-from ladder.game_files import GameFiles, LineFile, make_folders
+from ladder.game_files import GameFiles, LineFile, answers_file, make_folders
 from ladder.host import Board
 from ladder.outcome import Outcome
 from ladder.pairing import Fixture, Part
@@ -100,7 +100,8 @@ def test_bots_get_the_requests_of_the_api(program: Path, tmp_path: Path) -> None
 
     async def work() -> None:
         async with Bots() as bots:
-            (outcome,) = await played(config_for(tmp_path / "x", bots.port), program)
+            config = config_for(tmp_path / "x", bots.port)
+            (outcome,) = await played(config, program)
             for name in NAMES:
                 moves = bots.requests(name, "move")
                 assert len(bots.requests(name, "")) == 1
@@ -108,7 +109,7 @@ def test_bots_get_the_requests_of_the_api(program: Path, tmp_path: Path) -> None
                 assert [it["turn"] for it in moves] == list(range(outcome.turns))
                 (end,) = bots.requests(name, "end")
                 assert end["turn"] == outcome.turns == 30
-                assert {it["game"]["id"] for it in moves} == {NAME}
+                assert {it["game"]["id"] for it in moves} == {f"{config.letters}-{NAME}"}
                 assert {it["you"]["id"] for it in moves} == {name}
                 shouts = [
                     {it["id"]: it["shout"] for it in each["board"]["snakes"]} for each in moves
@@ -166,9 +167,64 @@ def test_game_goes_on_from_a_file_that_was_cut_anywhere(
     run(work())
 
 
+class Says(Watch):
+    """Keeps what is said."""
+
+    def __init__(self) -> None:
+        self.said: list[str] = []
+
+    def say(self, text: str) -> None:
+        self.said.append(text)
+
+
+@pytest.mark.parametrize("harm", ["cut", "changed"])
+def test_lost_answers_are_said(program: Path, tmp_path: Path, harm: str) -> None:
+    """A file of answers that was cut or changed loses times, and stops no game."""
+
+    async def work() -> None:
+        async with Bots() as bots:
+            config = config_for(tmp_path / "x", bots.port)
+            with pytest.raises(InterruptedError):
+                await played(config, program, [Breaks(11)])
+            path = answers_file(config.folder, NAME)
+            lines = path.read_bytes().splitlines(keepends=True)
+            lines[4:] = [] if harm == "cut" else [b"[" + lines[4], *lines[5:]]
+            path.write_bytes(b"".join(lines))
+            says = Says()
+            await played(config, program, [says])
+            assert says.said == [
+                f"{NAME} lost the answers of 7 turns: their times and missed moves are not counted"
+            ]
+
+    run(work())
+
+
+def test_bot_that_was_down_is_asked_for_its_look_again(
+    program: Path, tmp_path: Path, monkeypatch: pytest.MonkeyPatch
+) -> None:
+    monkeypatch.setattr("ladder.play.LOOK_AGAIN_SECONDS", 0.05)
+
+    class Down(Bots):
+        """Bots that say how they look from the tenth request for a move on."""
+
+        async def answer(self, request: web.Request) -> web.Response:
+            if request.match_info["what"] == "" and len(self.requests("left", "move")) < 10:
+                return web.Response(status=503)
+            return await super().answer(request)
+
+    async def work() -> None:
+        async with Down() as bots:
+            config = config_for(tmp_path / "x", bots.port, rounds=40, games_a_bot=1, turns=20)
+            await played(config, program)
+            colors = [it["you"]["customizations"]["color"] for it in bots.requests("left", "start")]
+            assert colors[0] == "#888888" and colors[-1] == "#123456"
+
+    run(work())
+
+
 def test_quota_is_never_exceeded(program: Path, tmp_path: Path) -> None:
     """Records of the longest boards are freed before the quota is exhausted."""
-    assert game.FREE_AT + 161_885 < 1_835_007  # the longest record, docs/FORMATS.md
+    assert game.FREE_AT + 166_888 < 1_835_007  # the longest record, docs/FORMATS.md
 
 
 def test_line_files_have_whole_lines_alone(tmp_path: Path) -> None:

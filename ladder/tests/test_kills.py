@@ -4,6 +4,7 @@ from __future__ import annotations
 
 import os
 import random
+import resource
 import signal
 import subprocess
 import time
@@ -14,6 +15,7 @@ from typing import Any
 
 import pytest
 from served import (
+    LADDER,
     SMALL,
     Served,
     bytes_played,
@@ -56,6 +58,7 @@ def config_in(folder: Path, bots: Served, **members: Any) -> Path:
             "at_once": 4,
             "turns": 80,
             "timeout": 5000,
+            "seed": 1,
             **members,
         },
     )
@@ -139,6 +142,54 @@ def test_ladder_that_is_interrupted_says_so(
     assert (process.returncode, error) == (130, "ladder: stopped; the same command goes on\n")
     assert run_ladder("play", config, "--program", program).returncode == 0
     assert_same(tmp_path / "results", undisturbed, program)
+
+
+def play_with_limits(config: Path, program: Path, limit: int) -> subprocess.CompletedProcess[str]:
+    """Plays a ladder that may open only some descriptors."""
+    words: list[str | Path] = [LADDER, "play", config, "--program", program]
+    return subprocess.run(
+        words,
+        capture_output=True,
+        text=True,
+        preexec_fn=lambda: resource.setrlimit(resource.RLIMIT_NOFILE, (limit, limit)),
+    )
+
+
+def test_ladder_with_few_descriptors_blames_no_bot(
+    program: Path, small_bots: Served, undisturbed: Undisturbed, kills: int, tmp_path: Path
+) -> None:
+    """It ends with the reason; with more of them the same command goes on to the same results."""
+    config = config_in(tmp_path, small_bots)
+    for limit in range(24 - kills, 25, 2):
+        ran = play_with_limits(config, program, limit)
+        assert ran.returncode == 1
+        assert "Too many open files" in ran.stderr or "unable to open database" in ran.stderr
+        assert "Traceback" not in ran.stderr
+    assert run_ladder("play", config, "--program", program).returncode == 0
+    assert_same(tmp_path / "results", undisturbed, program)
+
+
+def test_ladder_on_a_full_disk_goes_on_later(
+    program: Path, small_bots: Served, undisturbed: Undisturbed, kills: int, tmp_path: Path
+) -> None:
+    """It ends with the reason; with more room the same command goes on to the same results."""
+    folder = tmp_path / "results"
+    folder.mkdir()
+    mount = ["mount", "-t", "tmpfs", "-o", "size=60k", "ladder", str(folder)]
+    if subprocess.run(mount, capture_output=True).returncode != 0:
+        pytest.skip("no file system can be mounted here")
+    try:
+        config = config_in(tmp_path, small_bots)
+        for size in range(60, 60 + 8 * kills, 8):
+            subprocess.run(["mount", "-o", f"remount,size={size}k", str(folder)], check=True)
+            ran = run_ladder("play", config, "--program", program)
+            assert ran.returncode == 1 and "Traceback" not in ran.stderr
+            assert "No space left on device" in ran.stderr or "disk is full" in ran.stderr
+        subprocess.run(["mount", "-o", "remount,size=20m", str(folder)], check=True)
+        assert run_ladder("play", config, "--program", program).returncode == 0
+        assert_same(folder, undisturbed, program)
+    finally:
+        subprocess.run(["umount", str(folder)], check=True)
 
 
 def test_second_ladder_in_a_folder_is_refused(

@@ -26,6 +26,8 @@ def test_64_games_of_four_with_every_fault(
         rounds=GAMES // (len(faulty.NAMES) // 4),
         timeout=TIMEOUT,
         turns=25,
+        at_once=GAMES,
+        games_a_bot=GAMES,
     )
     played = start_play(config, program)
     out, error = played.communicate(timeout=150)

@@ -5,10 +5,9 @@ from __future__ import annotations
 import asyncio
 import json
 import re
-import shutil
+import signal
 import socket
 import subprocess
-import time
 import urllib.error
 import urllib.request
 from collections.abc import Iterator
@@ -20,9 +19,14 @@ import pytest
 from served import Served, start_play, write_config
 from testing import chromium  # of viewer/
 
+from ladder import page as page_module
+from ladder import page_link
+from ladder.config import Bot
 from ladder.feed import MOST_READERS, MOST_WAITING, Feed, Reader
-from ladder.page import Address, address_of, page
+from ladder.page import MOST_CONNECTIONS, page
+from ladder.page_link import Address, PageFault, PageLink, address_of
 from ladder.pairing import Fixture
+from ladder.store import Store
 
 GAME = Fixture("r0001-t001", 1, ("a", "b"))
 WATCH = """
@@ -42,6 +46,20 @@ return [...document.querySelectorAll('#standings tbody th')].map((cell) => cell.
 """
 MOVED = """
 return Object.values(window.seen).find((turns) => new Set(Object.values(turns)).size > 2) ?? null;
+"""
+HAZARDS_SHOWN = """
+const card = [...document.querySelectorAll('article')].find((it) => it.querySelector('.hazards'));
+if (!card) {
+  return null;
+}
+const groups = [...card.querySelectorAll('svg[role="img"] .hazards')];
+return {
+  shades: groups.map((group) => group.dataset.shade),
+  cells: groups.flatMap((group) => [...group.querySelector('.squares').getAttribute('d')
+    .matchAll(/M([0-9]+) ([0-9]+)/g)].map(([, x, y]) => [Number(x), Number(y)])),
+  legend: card.querySelector('.hazard-legend:not([hidden])')?.textContent,
+  words: card.querySelector('svg[role="img"]').getAttribute('aria-label'),
+};
 """
 
 
@@ -68,21 +86,30 @@ def join_feed(feed: Feed) -> Reader:
     return reader
 
 
+def message(boards: dict[str, Any], *gone: str) -> dict[str, Any]:
+    """A message of the ladder."""
+    return {"summary": "one <line>\nand more", "boards": boards, "gone": list(gone)}
+
+
+def no_results() -> dict[str, Any]:
+    return {"standings": [], "seed": ""}
+
+
 def test_readers_get_the_changes() -> None:
     async def work() -> None:
-        feed = Feed(lambda: [{"bot": "a"}], lambda: "one <line>\nand more")
-        feed.show(GAME, {"turn": 0})
+        feed = Feed(lambda: {"standings": [{"bot": "a"}], "seed": "secret"})
+        await feed.take(message({GAME.name: {"turn": 0}}))
         reader = join_feed(feed)
         kind, state = parse_event(reader.events.get_nowait())
         assert (kind, state["boards"]) == ("all", {GAME.name: {"turn": 0}})
-        feed.show(GAME, {"turn": 1})
-        feed.show(GAME, {"turn": 2})
-        await feed.tick()
+        await feed.take(message({GAME.name: {"turn": 2}}))
         kind, state = parse_event(reader.events.get_nowait())
         assert (kind, state["boards"]) == ("changes", {GAME.name: {"turn": 2}})
-        assert state["standings"] == [{"bot": "a"}]
-        await feed.tick()
-        assert parse_event(reader.events.get_nowait())[1]["boards"] == {}
+        assert (state["standings"], state["seed"]) == ([{"bot": "a"}], "secret")
+        assert state["summary"] == "one <line>\nand more"
+        await feed.take(message({}, GAME.name))
+        state = parse_event(reader.events.get_nowait())[1]
+        assert (state["boards"], state["gone"], feed.boards) == ({}, [GAME.name], {})
         await feed.close()
         assert parse_event(reader.events.get_nowait())[0] == "end"
         assert reader.events.get_nowait() is None
@@ -92,15 +119,104 @@ def test_readers_get_the_changes() -> None:
 
 def test_slow_readers_are_let_go_and_too_many_are_refused() -> None:
     async def work() -> None:
-        feed = Feed(list, str)
+        feed = Feed(no_results)
         readers = [join_feed(feed) for _ in range(MOST_READERS)]
         assert feed.join() is None
         for _ in range(MOST_WAITING):
-            await feed.tick()
+            await feed.take(message({}))
         assert not feed.readers
         assert readers[0].events.get_nowait() is None
 
     asyncio.run(work())
+
+
+@pytest.fixture
+def folder(tmp_path: Path) -> Path:
+    """The folder of a ladder without games."""
+    store = Store(tmp_path)
+    store.begin({"seed": 1, "has_seed": True}, [Bot("a", "http://127.0.0.1:1")])
+    store.close()
+    return tmp_path
+
+
+async def events_at(address: Address, count: int) -> list[tuple[str, Any]]:
+    """The first events that a reader of a page gets; waits until the page is served."""
+    async with asyncio.timeout(60):
+        while True:
+            try:
+                reader, writer = await asyncio.open_connection(
+                    address.host, address.port, limit=1 << 24
+                )
+                writer.write(b"GET /events HTTP/1.0\r\n\r\n")
+                await reader.readuntil(b"\r\n\r\n")
+                found = [await reader.readuntil(b"\n\n") for _ in range(count)]
+                writer.close()
+                return [parse_event(it) for it in found]
+            except (OSError, asyncio.IncompleteReadError):
+                await asyncio.sleep(0.05)
+
+
+@pytest.mark.parametrize("number", [signal.SIGKILL, signal.SIGSTOP])
+def test_page_that_ends_or_hangs_is_served_again(
+    folder: Path, monkeypatch: pytest.MonkeyPatch, number: signal.Signals
+) -> None:
+    """The other process has the same address and the whole state; the ladder waits for neither."""
+    monkeypatch.setattr(page_link, "HANG_SECONDS", 3.0)
+    told: list[str] = []
+
+    async def work() -> None:
+        address = Address("127.0.0.1", 0)
+        async with PageLink(folder, address, lambda: "summary", told.append) as link:
+            link.show(GAME, {"turn": 5})
+            assert link.page is not None
+            first = link.page.process.pid
+            await events_at(link.address, 2)
+            link.page.process.send_signal(number)
+            async with asyncio.timeout(60):
+                while link.page is None or link.page.process.pid == first:
+                    link.show(GAME, {"turn": 6, "long": "x" * 100_000})
+                    link.send()
+                    await asyncio.sleep(0.05)
+            await asyncio.sleep(0.5)
+            _, state = (await events_at(link.address, 2))[0]
+            assert state["boards"][GAME.name]["turn"] == 6
+            assert state["seed"] == "" or "the seed 1 was given" in state["seed"]
+        assert told == ["the page ended or did not answer; it is served again"]
+
+    asyncio.run(work())
+
+
+def test_page_whose_port_is_taken_is_a_fault(folder: Path) -> None:
+    async def work() -> None:
+        with socket.create_server(("127.0.0.1", 0)) as taken:
+            address = Address("127.0.0.1", taken.getsockname()[1])
+            async with PageLink(folder, address, str, print):
+                pass
+
+    with pytest.raises(PageFault, match="can't be served.*in use"):
+        asyncio.run(work())
+
+
+def test_idle_connections_do_not_keep_others_out(monkeypatch: pytest.MonkeyPatch) -> None:
+    """At most 64 connections are open; those that ask nothing are closed after some time."""
+    monkeypatch.setattr(page_module, "SILENT_SECONDS", 1.0)
+
+    async def work() -> None:
+        async with page(Feed(no_results), Address("127.0.0.1", 0)) as address:
+            opened = [await asyncio.open_connection(address.host, address.port) for _ in range(200)]
+            await asyncio.sleep(0.2)
+            closed = sum(reader.at_eof() or has_ended(reader) for reader, _ in opened)
+            assert closed >= 200 - MOST_CONNECTIONS
+            assert (await events_at(address, 1))[0][0] == "all"
+            for _, writer in opened:
+                writer.close()
+
+    asyncio.run(work())
+
+
+def has_ended(reader: asyncio.StreamReader) -> bool:
+    """Whether a connection was closed or reset."""
+    return reader.exception() is not None
 
 
 def test_only_the_files_of_the_page_are_served() -> None:
@@ -117,7 +233,7 @@ def test_only_the_files_of_the_page_are_served() -> None:
         return await asyncio.to_thread(ask)
 
     async def work() -> None:
-        async with page(Feed(list, str), Address("127.0.0.1", 0)) as address:
+        async with page(Feed(no_results), Address("127.0.0.1", 0)) as address:
             for path in ("", "page.js", "page.css", "drawing/boards.js", "drawing/drawing.css"):
                 status, headers = await get(f"{address}{path}")
                 assert status == 200
@@ -130,22 +246,11 @@ def test_only_the_files_of_the_page_are_served() -> None:
 
 def test_page_is_on_this_machine_alone() -> None:
     async def work() -> list[str]:
-        async with page(Feed(list, str), Address("127.0.0.1", 0)) as address:
+        async with page(Feed(no_results), Address("127.0.0.1", 0)) as address:
             listening = await asyncio.to_thread(Path("/proc/net/tcp").read_text)
             return re.findall(rf"\d: (\w+):{address.port:04X} \w+:0000 0A", listening)
 
     assert asyncio.run(work()) == ["0100007F"]
-
-
-@pytest.fixture(scope="module")
-def browser() -> Iterator[chromium.Browser]:
-    try:
-        chromium.install()
-    except chromium.NotToBeHad as fault:
-        pytest.skip(f"Chromium is missing and can't be installed ({fault})")
-    opened = chromium.Browser()
-    yield opened
-    opened.close()
 
 
 @contextmanager
@@ -188,3 +293,25 @@ def test_board_moves_while_its_game_runs(
         assert browser.run("return document.querySelectorAll('script').length") == 5
         assert browser.complaints() == []
         assert process.wait(timeout=60) == 130
+
+
+def test_page_shows_hazards(
+    program: Path, faulty_bots: Served, browser: chromium.Browser, tmp_path: Path
+) -> None:
+    """The hazards of a running game are hatched, with a line of what they take."""
+    config = write_config(
+        tmp_path / "slow.toml",
+        [(name, faulty_bots.url("calm")) for name in ("one", "two")],
+        **{"folder": str(tmp_path / "results"), "timeout": 5000, "turns": 60, "rounds": 1000},
+        **{"map": "royale", "shrink_every": 1, "hazard_damage": 0, "width": 7, "height": 7},
+    )
+    with playing(program, config) as (_, address):
+        browser.complaints()
+        browser.go(address)
+        shown = browser.wait(HAZARDS_SHOWN, seconds=60)
+        assert shown["shades"] == ["1"]
+        assert len(shown["cells"]) >= 7
+        assert all(0 <= x < 7 and 0 <= y < 7 for x, y in shown["cells"])
+        assert shown["legend"] == "A hazard takes in each turn 0 health"
+        assert f"Hazards: {len(shown['cells'])}, damage 0." in shown["words"]
+        assert browser.complaints() == []

@@ -11,7 +11,7 @@ import pytest
 
 from ladder.config import Config, config_of
 from ladder.draws import Draw, words_of
-from ladder.pairing import GAME_NAME, Fixture, Part, fixtures_of, part_of
+from ladder.pairing import GAME_NAME, Fixture, Part, circle, fixtures_of, orbits, part_of
 from ladder.starts import Cell, first_food, start_cells
 
 NAMES = [f"bot{at}" for at in range(7)]
@@ -31,6 +31,25 @@ def test_round_robin_has_each_two_once_a_round() -> None:
     assert met(fixtures) == {frozenset(pair): 3 for pair in combinations(NAMES, 2)}
     assert [fixture.round for fixture in fixtures] == sorted([1, 2, 3] * 21)
     assert fixtures[22].name == "r0002-t002"
+
+
+@pytest.mark.parametrize("count", range(2, 10))
+def test_bots_take_turns_in_a_round_robin(count: int) -> None:
+    """In each circle every bot plays once; one sits out if their number is odd."""
+    pairs = [tuple(sorted(pair)) for pair in circle(count, 2)]
+    assert sorted(pairs) == list(combinations(range(count), 2))
+    for at in range(0, len(pairs), count // 2):
+        assert len({it for pair in pairs[at : at + count // 2] for it in pair}) == count // 2 * 2
+
+
+@pytest.mark.parametrize("size", range(1, 7))
+def test_bots_take_turns_at_larger_tables(size: int) -> None:
+    """Every table comes once; while all the shifted ones are played each bot plays as often."""
+    for count in range(size, 10):
+        tables = list(orbits(count, size))
+        assert sorted(tuple(sorted(it)) for it in tables) == list(combinations(range(count), size))
+    seated = Counter(it for table in list(orbits(7, size))[:7] for it in table)
+    assert size == 7 or set(seated.values()) == {size}
 
 
 def test_round_robin_of_three_has_each_three() -> None:

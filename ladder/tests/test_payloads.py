@@ -63,7 +63,7 @@ def test_bodies_are_those_of_the_official_api() -> None:
     }
     assert found[0] == {
         "game": {
-            "id": "r0001-t001",
+            "id": f"{config.letters}-r0001-t001",
             "ruleset": {
                 "name": "standard",
                 "version": "v1.0.0",
@@ -86,3 +86,27 @@ def test_bodies_are_those_of_the_official_api() -> None:
     assert found[1]["board"] == found[0]["board"]
     assert found[1]["you"]["head"] == {"x": 5, "y": 11}
     assert found[1]["you"]["latency"] == "400"
+
+
+def game_of(**members: Any) -> dict[str, Any]:
+    """The member `game` of a ladder with these members."""
+    bots = [{"name": name, "url": "http://127.0.0.1:1"} for name in ("one", "two")]
+    config = config_of({"folder": "x", "bot": bots, **members}, "here")
+    game: dict[str, Any] = json.loads(game_text(config, "r0001-t001"))
+    return game
+
+
+def test_hazards_are_those_of_the_official_api() -> None:
+    food = {"foodSpawnChance": 15, "minimumFood": 1}
+    royale = game_of(map="royale", shrink_every=20, hazard_damage=15)
+    assert royale["map"] == "royale"
+    settings = {**food, "hazardDamagePerTurn": 15, "royale": {"shrinkEveryNTurns": 20}}
+    assert royale["ruleset"]["settings"] == settings
+    fixed = game_of(hazards=[[1, 1]], hazard_damage=3)
+    assert fixed["map"] == "standard"
+    assert fixed["ruleset"]["settings"] == {**food, "hazardDamagePerTurn": 3}
+    cells = [{"x": 1, "y": 1}, {"x": 1, "y": 1}, {"x": 0, "y": 4}]
+    seats = {"one": Seat("one"), "two": Seat("two")}
+    board = {**BOARD, "hazard_damage": 3, "hazards": cells}
+    (body,) = bodies(json.dumps(fixed), board, seats, ["one"])
+    assert json.loads(body)["board"]["hazards"] == cells

@@ -6,6 +6,9 @@ import csv
 import io
 import json
 import math
+import random
+import sqlite3
+import time
 from collections import Counter
 from pathlib import Path
 from typing import Any
@@ -15,8 +18,9 @@ import pytest
 from ladder.config import Bot
 from ladder.merge import merge
 from ladder.outcome import Finish, Outcome, Tally, finishes_of
+from ladder.quantiles import quantile
 from ladder.rating import ratings
-from ladder.standings import as_csv, as_json, cells_of, quantile, standings_of
+from ladder.standings import as_csv, as_json, cells_of, standings_of
 from ladder.store import Store, StoreFault, open_store
 
 IDENTITY = {"seed": 1, "bots": ["a", "b", "c"]}
@@ -93,6 +97,30 @@ def test_games_of_four_count_as_three_of_two() -> None:
     two = ratings(names, pairs * 100)  # 1,200 games of two, as 400 of four count
     assert four["a"].elo == pytest.approx(1500)
     assert four["a"].error == pytest.approx(two["a"].error, rel=0.01)
+
+
+def test_ratings_of_200_bots_take_little_time() -> None:
+    """Less than 0.2 s of the processor for 4,000 games, apart from other programs."""
+    draw = random.Random(3)
+    names = [f"bot{at}" for at in range(200)]
+    pairs = [draw.sample(range(200), 2) for _ in range(4000)]
+    games = [
+        [(names[one], 1.0 + (draw.random() < 1 / (1 + 1.02 ** (other - one)))), (names[other], 1.5)]
+        for one, other in pairs
+    ]
+    best = math.inf
+    for _ in range(3):
+        began = time.process_time()
+        found = ratings(names, games)
+        best = min(best, time.process_time() - began)
+    assert best < 0.2
+    assert sum(it.elo for it in found.values()) == pytest.approx(200 * 1500)
+    assert found["bot150"].elo > found["bot100"].elo > found["bot50"].elo
+
+
+def test_ratings_of_no_and_of_one_bot() -> None:
+    assert ratings([], []) == {}
+    assert ratings(["a"], [])["a"].elo == pytest.approx(1500)
 
 
 def test_quantiles_are_values_that_were_counted() -> None:
@@ -179,6 +207,20 @@ def test_folders_that_do_not_fit_are_not_merged(tmp_path: Path) -> None:
     with pytest.raises(StoreFault, match="another ladder: seed differ"):
         store.begin({**IDENTITY, "seed": 2}, BOTS)
     store.close()
+
+
+def test_folder_that_may_not_be_written_is_named(
+    tmp_path: Path, monkeypatch: pytest.MonkeyPatch
+) -> None:
+    """SQLite wants to finish the write of a killed ladder, and may not."""
+
+    class Base:
+        def executescript(self, _: str) -> None:
+            raise sqlite3.OperationalError("attempt to write a readonly database")
+
+    monkeypatch.setattr(sqlite3, "connect", lambda *_, **__: Base())
+    with pytest.raises(StoreFault, match="as its owner once, or read a copy"):
+        Store(tmp_path)
 
 
 def test_names_of_games_are_checked(tmp_path: Path) -> None:

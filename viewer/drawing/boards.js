@@ -15,7 +15,9 @@ const CAUSES = {
     describe: (by) => `met the head of ${by}`,
     isKiller: (by, own, ids) => by !== own && ids.includes(by),
   },
+  hazard: { describe: () => 'hurt by a hazard', isKiller: (by) => by === null },
 };
+const MOST_HAZARDS = 2500;
 
 function isWhole(value, least, most) {
   return Number.isInteger(value) && value >= least && value <= most;
@@ -51,6 +53,16 @@ function faultOfSnake(snake, board, ids) {
   return isCause(snake, ids) ? null : `why ${snake.id} is out can't be read`;
 }
 
+/** Whether a board has hazards with their damage, or neither of the two. */
+function isHazards(board) {
+  const { hazards, hazard_damage: damage } = board;
+  if (hazards === undefined) {
+    return damage === undefined;
+  }
+  return isWhole(damage, 0, 100) && Array.isArray(hazards) && hazards.length <= MOST_HAZARDS
+    && hazards.every((cell) => isCell(cell, board, 0));
+}
+
 /** What is wrong with a board, in words, or null. */
 function faultOfBoard(board) {
   if (!isWhole(board?.width, 3, 25) || !isWhole(board.height, 3, 25)) {
@@ -66,6 +78,9 @@ function faultOfBoard(board) {
   }
   if (!Array.isArray(board.food) || !board.food.every((cell) => isCell(cell, board, 0))) {
     return 'its food is no list of cells';
+  }
+  if (!isHazards(board)) {
+    return 'its hazards are no list of cells with a damage from 0 to 100';
   }
   if (!Array.isArray(board.snakes) || !isWhole(board.snakes.length, 1, 8)) {
     return 'it has no list of 1 to 8 snakes';

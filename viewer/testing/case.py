@@ -8,7 +8,7 @@ from testing.chromium import Browser
 from testing.page import Page
 from testing.served import Server
 
-shared = {}
+shared: dict = {}
 
 
 def setUpModule():

@@ -30,6 +30,14 @@ return {
   view: document.getElementById('board').getAttribute('viewBox'),
   food: [...document.querySelectorAll('#board .food')].map(
     (disc) => [disc.cx.baseVal.value, disc.cy.baseVal.value]),
+  hazards: [...document.querySelectorAll('#board .hazards')].map((group) => ({
+    shade: Number(group.dataset.shade),
+    corners: cells(group.querySelector('.squares').getAttribute('d')),
+    lines: group.querySelector('.hatch').getAttribute('d').split('M').length - 1,
+  })),
+  legend: document.getElementById('hazards').hidden
+    ? null : document.getElementById('hazards').textContent,
+  samples: document.querySelectorAll('#hazards:not([hidden]) .sample').length,
   snakes: [...document.querySelectorAll('#board .snake')].map((snake) => ({
     seat: Number(snake.dataset.seat),
     out: snake.classList.contains('out'),

@@ -1,7 +1,12 @@
 # Steps through every board of every game and compares it with the transcript; tests the plots.
+import json
+from collections import Counter
+
 from testing.case import PageCase, setUpModule  # noqa: F401
+from testing.made import points, text
 from testing.page import CASES, TOURNAMENT
 from testing.reading import read
+from testing.served import ROOT
 
 FATES = {
     "out-of-health": "out of health",
@@ -9,7 +14,9 @@ FATES = {
     "snake-self-collision": "ran into itself",
     "snake-collision": "ran into the body of {by}",
     "head-collision": "met the head of {by}",
+    "hazard": "hurt by a hazard",
 }
+MOST_SHADES = 4
 LOOKS = {(0, 1): "up", (0, -1): "down", (-1, 0): "left", (1, 0): "right"}
 
 
@@ -74,6 +81,31 @@ def drawn_snake(seat, snake, board):
     }
 
 
+def drawn_hazards(board):
+    """The groups of hazards of one shade: how often a cell is in the list, at most four. A cell has
+    three lines. The corners are those at the top left."""
+    times = Counter((cell["x"], cell["y"]) for cell in board.get("hazards", []))
+    groups = {}
+    for (x, y), count in times.items():
+        corner = [x, board["height"] - y - 1]
+        groups.setdefault(min(count, MOST_SHADES), []).append(corner)
+    return [
+        {"shade": shade, "corners": corners, "lines": 3 * len(corners)}
+        for shade, corners in sorted(groups.items())
+    ]
+
+
+def legend(board):
+    """The words below a board with hazards; None below other boards."""
+    damage, shades = board.get("hazard_damage"), [it["shade"] for it in drawn_hazards(board)]
+    if damage is None:
+        return None
+    if not shades:
+        return f"No hazards now; one would take {damage} health in each turn"
+    taken = [f" {shade * damage} health{' or more' if shade == 4 else ''}" for shade in shades]
+    return "A hazard takes in each turn" + "".join(taken)
+
+
 def expected(board, last, with_earlier=False):
     """What the page has to show for a board of a round that ends with turn `last`."""
     snakes = list(enumerate(board["snakes"]))
@@ -85,11 +117,16 @@ def expected(board, last, with_earlier=False):
     living = [(seat, snake) for seat, snake in snakes if snake["cause"] is None]
     sides = f"{board['width']} by {board['height']}"
     food = f"food at least {board['min_food']}, chance {board['food_chance']}"
+    if "hazards" in board:
+        food += f", hazard damage {board['hazard_damage']}"
     return {
         "turn": f"Turn {board['turn']} of {last}",
         "facts": f"{board['mode']}, {sides}, {food}" + (", over" if board["over"] else ""),
         "view": f"-1 -1 {board['width'] + 2} {board['height'] + 2}",
         "food": middles(board["food"], board["height"]),
+        "hazards": drawn_hazards(board),
+        "legend": legend(board),
+        "samples": len(drawn_hazards(board)),
         "snakes": [drawn_snake(seat, snake, board) for seat, snake in out + living],
         "cards": [
             {
@@ -133,7 +170,11 @@ class BoardsTest(PageCase):
 
     def test_the_cases_hold_every_cause_and_eight_snakes(self):
         boards = [
-            board for game in read(TOURNAMENT)[0] for boards in game.rounds for board in boards
+            board
+            for path in CASES
+            for game in read(path)[0]
+            for boards in game.rounds
+            for board in boards
         ]
         self.assertEqual(
             {snake["cause"] for board in boards for snake in board["snakes"]}, {None, *FATES}
@@ -172,6 +213,49 @@ class BoardsTest(PageCase):
         self.assertNotEqual(
             expected(boards[-1], last, with_earlier=True), expected(boards[-1], last)
         )
+
+    def with_hazards(self, **members):
+        """A file of a solo game that shows one board, in which members are replaced."""
+        lines = (ROOT / "examples" / "hazards.transcript").read_text().splitlines()
+        first, last = json.loads(lines[0]), json.loads(lines[6])
+        board = {**first["board"], **members}
+        content = "".join(text({**line, "board": board}) + "\n" for line in (first, last))
+        return self.file("hazards.transcript", content), board
+
+    def test_a_cell_that_is_a_hazard_more_often_is_darker(self):
+        cells = [(x, 6) for x in range(6) for _ in range(x + 1)]
+        path, board = self.with_hazards(hazards=points(cells))
+        self.open(path)
+        self.page.wait_for_turn(0, 0)
+        self.assertEqual(self.page.board(), expected(board, 0))
+        self.assertEqual([it["shade"] for it in drawn_hazards(board)], [1, 2, 3, 4])
+        for part, property in ((".squares", "fillOpacity"), (".hatch", "strokeOpacity")):
+            found = self.browser.run(
+                "return [...document.querySelectorAll('#board ' + arguments[0])].map("
+                "(path) => Number(getComputedStyle(path)[arguments[1]]));",
+                part,
+                property,
+            )
+            self.assertEqual(found, sorted(set(found)), part)
+
+    def test_bad_hazards_are_reported(self):
+        for members in (
+            {"hazards": points([(7, 0)])},
+            {"hazards": points([(0, -1)])},
+            {"hazards": points([(0, 0)] * 2_501)},
+            {"hazards": {"x": 0, "y": 0}},
+            {"hazards": None},
+            {"hazard_damage": 101},
+            {"hazard_damage": "14"},
+        ):
+            with self.subTest(str(members)[:60]):
+                path, _ = self.with_hazards(**members)
+                self.page.open_empty()
+                self.page.choose(path)
+                self.assertIn(
+                    "its hazards are no list of cells with a damage from 0 to 100",
+                    self.page.text("#notice"),
+                )
 
     def test_a_game_without_a_board_says_so(self):
         games = self.open(TOURNAMENT)

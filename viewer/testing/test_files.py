@@ -43,10 +43,7 @@ BROKEN = {
         GOOD + STRAY.replace("L1", "A6"),
         "Line 9 is no line of a transcript.",
     ),
-    "a line left out": (
-        "".join(LINES[:2] + LINES[3:]),
-        "Line 3 has the number 4, not 3.",
-    ),
+    "a line left out": ("".join(LINES[:2] + LINES[3:]), "Line 3 has the number 4, not 3."),
     "another game between": (
         changed(4, "game", to="b"),
         "Line 4 is of another game, and the one before has no final line.",
@@ -96,6 +93,8 @@ BROKEN_LATER = [
     (("min_food",), -1, "its turn or the numbers for its food are out of their range"),
     (("over",), 0, "its mode or its member over is missing or wrong"),
     (("food",), [{"x": 5, "y": 0}], "its food is no list of cells"),
+    (("hazards",), [], "its hazards are no list of cells with a damage from 0 to 100"),
+    (("hazard_damage",), 14, "its hazards are no list of cells with a damage from 0 to 100"),
     (("snakes",), [], "it has no list of 1 to 8 snakes"),
     (("snakes", 0, "id"), 7, "a snake has no unique id"),
     (("snakes", 0, "body", 1, "x"), 5, "the body of s is no list of cells"),
@@ -137,7 +136,6 @@ class FilesTest(PageCase):
                 self.browser.click("#forward")
                 message = f"Line 2 holds no board that can be drawn: {fault}."
                 self.browser.wait(
-                    "return document.getElementById('notice').textContent === arguments[0]",
-                    message,
+                    "return document.getElementById('notice').textContent === arguments[0]", message
                 )
                 self.page.wait_for_turn(0, 2)

@@ -1,4 +1,4 @@
-# Takes pictures of three boards for people to look at; counts the colours, and measures their
+# Takes pictures of four boards for people to look at; counts the colours, and measures their
 # distances for colour-blind eyes.
 import itertools
 import os
@@ -20,6 +20,7 @@ FOLDER = Path(os.environ.get("VIEWER_PICTURES", ROOT / "viewer" / "out"))
 PICTURES = [
     ("board_of_eight", TOURNAMENT, "eight", 10, False),
     ("board_of_constrictor", TOURNAMENT, "constrictor", 24, True),
+    ("board_of_hazards", ROOT / "examples" / "hazards.transcript", "closing", 2, False),
     ("board_of_four", ROOT / "examples" / "four_snakes.transcript", "arena", 4, False),
 ]
 LEAST_DISTANCE = 20  # of two colours in lab, for each eye; 2 is just visible side by side

@@ -38,6 +38,7 @@ pub enum Cause {
     SnakeSelfCollision,
     SnakeCollision,
     HeadCollision,
+    Hazard,
 }
 
 #[derive(Clone, Serialize)]
@@ -78,6 +79,12 @@ impl Snake {
 pub struct Board {
     pub food: Vec<Cell>,
     pub food_chance: u8,
+    /// Given with the hazards, in files of version 5 alone.
+    #[serde(skip_serializing_if = "Option::is_none")]
+    pub hazard_damage: Option<u8>,
+    /// A cell may occur several times.
+    #[serde(skip_serializing_if = "Option::is_none")]
+    pub hazards: Option<Vec<Cell>>,
     pub height: i8,
     pub min_food: u8,
     pub mode: Mode,
@@ -122,7 +129,8 @@ impl Board {
     /// What the board's record is charged: its bytes, rounded up.
     pub fn charge(&self) -> usize {
         let snake_bytes = |snake: &Snake| 8 + snake.id.len() + 2 * snake.body.len();
+        let hazard_bytes = self.hazards.as_ref().map_or(0, |cells| 3 + 2 * cells.len());
         let bytes = 11 + 2 * self.food.len() + self.snakes.iter().map(snake_bytes).sum::<usize>();
-        bytes.next_multiple_of(ROUNDING)
+        (bytes + hazard_bytes).next_multiple_of(ROUNDING)
     }
 }

@@ -38,6 +38,9 @@ impl Host {
         let lines: Vec<_> = lines.map(|line| line.strip_suffix(b"\n").unwrap_or(line)).collect();
         let (first, lines) = lines.split_first().ok_or(Fault::NoPlan)?;
         let mut plan = Plan::read(first)?;
+        if plan.version.has_stays && plan.blocks() > self.blocks {
+            return Err(Fault::TooFewBlocks);
+        }
         if let Some(game) = &self.alone {
             plan.rows.retain(|row| row.game == *game);
             if plan.rows.is_empty() {
@@ -68,7 +71,7 @@ impl Host {
     fn read(&self, plan: &Plan, lines: &[&[u8]]) -> Vec<Line> {
         let names = plan.rows.iter().map(|row| &row.game[..]);
         let row_of: &HashMap<&str, usize> = &names.zip(0..).collect();
-        let read = |line: &&[u8]| command::read(line, row_of, plan.has_wrapped);
+        let read = |line: &&[u8]| command::read(line, row_of, plan.version);
         thread::scope(|scope| {
             let shares = lines.chunks(lines.len().div_ceil(self.workers).max(1));
             let threads: Vec<_> = shares

@@ -4,6 +4,8 @@
 //!     peer alone FILE --game NAME [--blocks N]
 //!
 //! The words, statuses and texts are those of `arena`, but for `--help` and a refused command line.
+//! Files of versions 1, 2 and 5 are read. Games come from the plan alone: the lines by which games
+//! are admitted and leave are no words of the peer.
 
 mod board;
 mod command;

@@ -19,15 +19,24 @@ pub struct Row {
     pub quota: usize,
 }
 
+/// What the version of the file adds to version 1.
+#[derive(Clone, Copy)]
+pub struct Version {
+    pub has_wrapped: bool,
+    /// Whether the whole plan has to fit, also where one game is played alone. The lines that admit
+    /// games are not read.
+    pub has_stays: bool,
+    pub has_hazards: bool,
+}
+
 pub struct Plan {
     pub rows: Vec<Row>,
-    /// Whether games may be wrapped: in version 2.
-    pub has_wrapped: bool,
+    pub version: Version,
 }
 
 impl Plan {
     pub fn read(line: &[u8]) -> Result<Plan, Fault> {
-        let (rows, has_wrapped) = rows_and_version(line).ok_or(Fault::NoPlan)?;
+        let (rows, version) = rows_and_version(line).ok_or(Fault::NoPlan)?;
         let rows: Vec<Row> = rows.iter().map(row).collect::<Option<_>>().ok_or(Fault::BadRow)?;
         let mut names = HashSet::new();
         if !rows.iter().all(|row| names.insert(&row.game)) {
@@ -36,7 +45,7 @@ impl Plan {
         if rows.len() > MAX_GAMES {
             return Err(Fault::TooManyGames);
         }
-        Ok(Plan { rows, has_wrapped })
+        Ok(Plan { rows, version })
     }
 
     pub fn blocks(&self) -> usize {
@@ -44,14 +53,23 @@ impl Plan {
     }
 }
 
-fn rows_and_version(line: &[u8]) -> Option<(Vec<Value>, bool)> {
+fn rows_and_version(line: &[u8]) -> Option<(Vec<Value>, Version)> {
     if line.len() > MAX_LINE {
         return None;
     }
     let Value::Object(mut plan) = serde_json::from_slice(line).ok()? else { return None };
-    let version: u64 = json::or(&plan, "version", 1, |plan, key| json::whole(plan, key, 1..=2))?;
+    let number: u64 = json::or(&plan, "version", 1, |plan, key| json::whole(plan, key, 1..=5))?;
     match plan.remove("games")? {
-        Value::Array(rows) => Some((rows, version == 2)),
+        Value::Array(rows) => Some((rows, version(number)?)),
+        _ => None,
+    }
+}
+
+fn version(number: u64) -> Option<Version> {
+    match number {
+        1 => Some(Version { has_wrapped: false, has_stays: false, has_hazards: false }),
+        2 => Some(Version { has_wrapped: true, has_stays: false, has_hazards: false }),
+        5 => Some(Version { has_wrapped: true, has_stays: true, has_hazards: true }),
         _ => None,
     }
 }

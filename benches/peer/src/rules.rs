@@ -14,6 +14,7 @@ pub fn turn(old: &Board, given: &Move) -> Board {
     let mut board = old.clone();
     board.turn += 1;
     move_snakes(&mut board, old, given);
+    hurt(&mut board);
     feed(&mut board);
     first_eliminations(&mut board);
     collisions(&mut board);
@@ -21,6 +22,11 @@ pub fn turn(old: &Board, given: &Move) -> Board {
         constrict(&mut board);
     } else {
         spawn(&mut board, &given.words);
+        add_food(&mut board, &given.food);
+    }
+    if let (Some(_), Some(cells)) = (&board.hazards, &given.hazards) {
+        let on_board = |cell: &&Cell| board.contains(**cell);
+        board.hazards = Some(cells.iter().filter(on_board).copied().collect());
     }
     board.over = board.is_over();
     board
@@ -42,6 +48,25 @@ fn ahead(board: &Board, snake: &Snake) -> Direction {
         .into_iter()
         .find(|&direction| board.step(snake.body[1], direction) == snake.head())
         .unwrap_or(Direction::Up)
+}
+
+/// Takes the damage once for each time that a head's cell is in the list, not where there is food.
+fn hurt(board: &mut Board) {
+    let (Some(damage), Some(hazards)) = (board.hazard_damage, board.hazards.take()) else { return };
+    for seat in 0..board.snakes.len() {
+        let head = board.snakes[seat].head();
+        let times = hazards.iter().filter(|&&cell| cell == head).count();
+        if times == 0 || !board.snakes[seat].lives() || board.food.contains(&head) {
+            continue;
+        }
+        let loss = u8::try_from(times * usize::from(damage)).unwrap_or(u8::MAX);
+        let health = board.snakes[seat].health.saturating_sub(loss);
+        board.snakes[seat].health = health;
+        if health == 0 {
+            eliminate(board, seat, Cause::Hazard, None);
+        }
+    }
+    board.hazards = Some(hazards);
 }
 
 fn feed(board: &mut Board) {
@@ -132,6 +157,17 @@ fn spawn(board: &mut Board, words: &[u32]) {
             return;
         }
         board.food.push(free[word as usize % free.len()]);
+    }
+}
+
+/// Adds food on those of the cells that are free when their turn comes.
+fn add_food(board: &mut Board, cells: &[Cell]) {
+    for &cell in cells {
+        let is_taken =
+            board.food.contains(&cell) || board.living().any(|snake| snake.body.contains(&cell));
+        if board.contains(cell) && !is_taken {
+            board.food.push(cell);
+        }
     }
 }
 

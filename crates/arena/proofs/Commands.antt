@@ -1,9 +1,8 @@
 -- Each step of a chain that makes a command.
-use Rattle.std.proofs.Common.{◌≡◌, ◌∙◌, ◌||◌, ap, ap₂, false, refl, sym}
-use Rattle.clap.specs.Words.{AddsArg, AddsSubcommand, App, Rule, app_of, rule_of, with_rule, with_subcommand}
+use Rattle.std.proofs.Common.{◌∙◌, ◌||◌, ap, ap₂}
+use Rattle.clap.specs.Words.{AddsArg, AddsSubcommand, App, Rule, with_rule, with_subcommand}
 use Rattle.clap.specs.declared.builder.arg.Arg.{Arg}
 use Rattle.clap.specs.declared.builder.command.Command.{Command}
-use Rattle.clap.specs.declared.builder.command.Command.TheViews.{out-Command}
 use Rattle.arena.specs.Words.{IsArgOf, IsCommandOf}
 
 pub adds_arg : (old new : Command) (arg : Arg) (app : App) (rule : Rule) → IsCommandOf app old → IsArgOf rule arg → AddsArg old arg new

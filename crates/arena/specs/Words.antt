@@ -1,6 +1,6 @@
 -- The request that the words of a command line make. clap's own definitions say how a command reads
 -- words; here are the commands, and what is read from their matches.
-use Rattle.std.specs.Prelude.{◌≡◌, false, ℕ, ◌∷◌, [], List, Bool, true, Option, Some, None, codes, option_and_then, unwrap_or, length, nat_le, nat_lt, if◌then◌else◌, pos, ◌^◌, map, ◌&&◌}
+use Rattle.std.specs.Prelude.{◌≡◌, false, ℕ, ◌∷◌, [], List, Bool, true, Option, Some, None, codes, option_and_then, unwrap_or, length, nat_le, nat_lt, if◌then◌else◌, pos, ◌^◌, ◌&&◌}
 use Rattle.std.specs.List.{list_all}
 use Rattle.std.specs.Char.{digit_value}
 use Rattle.std.specs.Str.{bytes_eq}
@@ -10,8 +10,7 @@ use Rattle.clap.specs.Walk.{Text}
 use Rattle.clap.specs.declared.builder.arg.Arg.{Arg}
 use Rattle.clap.specs.declared.builder.command.Command.{Command}
 use Rattle.clap.specs.declared.builder.command.Command.TheViews.{out-Command}
-use Rattle.arena.specs.declared.command_line.Request.{Request}
-use Rattle.arena.specs.declared.command_line.Request.TheVariants.{Serve, Alone, Live}
+use Rattle.bs_program.specs.Asked.{Asked, serve, alone, live}
 use Rattle.clap.specs.declared.builder.action.ArgAction.TheVariants.{Set}
 use Rattle.clap.specs.declared.builder.value_parser.ValueParser.TheVariants.{Signed}
 
@@ -57,14 +56,6 @@ unfoldable pub arena_app : App
 arena_app = with_subcommand (with_subcommand (with_subcommand top_app serve_app.top) alone_app.top) live_app.top
 
 -- The requests.
-
-pub data Asked : Type 0 where
-  -- the file, the blocks and the workers
-  serve : Text → ℕ → ℕ → Asked
-  -- the file, the game, which stay of it, and the blocks
-  alone : Text → Text → ℕ → ℕ → Asked
-  -- the blocks
-  live : ℕ → Asked
 
 abbrev pub is_number : ℕ → Text → Bool
 is_number bits text = nat_lt 0 (length text) && (list_all (λ digit. nat_lt (digit_value digit) 10) text && nat_lt (digits_value 10 text) (2 ^ bits))
@@ -118,12 +109,6 @@ asked_of words = if nat_le (length words) 1 then serve_asked [] else asked_in (c
 -- the kinds of error that clap may give for the words; none if it accepts them
 unfoldable pub mistakes_in : List Text → Kinds
 mistakes_in words = fault_of arena_app words
-
--- the request as a value
-abbrev pub asked_for : Request → Asked
-asked_for (Serve request) = serve request.file.now request.blocks request.workers
-asked_for (Alone request) = alone request.file.now request.game.now request.stay request.blocks
-asked_for (Live blocks) = live blocks
 
 -- clap's argument is this one
 pub record IsArgOf (rule : Rule) (arg : Arg) : Type 0 where

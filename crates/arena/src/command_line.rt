@@ -1,15 +1,14 @@
 //! The command line: the request that its words make.
 ghost use Rattle.std.specs.Prelude.{◌≡◌, ◌≤◌, ◌∷◌, [], codes, length, map, None, Some, IfOk, IsOk, option_map, false, true};
 ghost use Rattle.std.specs.Prelude.{Bool};
-ghost use Rattle.clap.specs.Words.{App, FailsBy, app_of, found_of, rows_of, rule_of, with_rule};
-ghost use Rattle.arena.specs.Words.{alone_app, alone_asked, arena_app, asked_of, blocks_at, blocks_rule, file_rule, game_rule, live_app, serve_app, serve_asked, stay_rule, workers_rule, workers_at, stay_at, text_at, top_app, IsArgOf, IsCommandOf, command_in, mistakes_in, asked_for, asked_in};
+ghost use Rattle.clap.specs.Words.{App, FailsBy, app_of, found_of, new_app, rows_of, rule_of, with_rule};
+ghost use Rattle.arena.specs.Words.{alone_app, alone_asked, arena_app, asked_of, blocks_at, blocks_rule, file_rule, game_rule, live_app, serve_app, serve_asked, stay_rule, workers_rule, workers_at, stay_at, text_at, top_app, IsArgOf, IsCommandOf, command_in, mistakes_in, asked_in};
+ghost use Rattle.bs_program.specs.Asked.{asked_for};
 ghost use Rattle.clap.specs.Words.{subcommand_rows_of};
 
+use bs_program::{Request, STANDARD_INPUT, Serving, Solo};
 use clap::{Arg, ArgAction, ArgMatches, Command, Error, value_parser};
 use std::alloc::{AllocError, Global};
-
-/// The file name of the standard input.
-pub const STANDARD_INPUT: &str = "-";
 
 const DEFAULT_BLOCKS: u16 = 64;
 
@@ -17,34 +16,25 @@ const DEFAULT_WORKERS: u16 = 2;
 
 const FIRST_STAY: u32 = 1;
 
-const VERSION: &str = "1.0.0";
+const VERSION: &str = "1.1.0";
 
-/// `arena serve`.
-#[derive(Clone, Copy, Debug)]
-pub struct Serving<'a> {
-    pub file: &'a str,
-    pub blocks: u16,
-    pub workers: u16,
-}
+/// The end of `arena --help`.
+const HELP_END: &str = "\
+Without a word it serves the standard input, as 'arena serve -' does, and waits for its end.
 
-/// `arena alone`.
-#[derive(Clone, Copy, Debug)]
-pub struct Solo<'a> {
-    pub file: &'a str,
-    pub game: &'a str,
-    /// The number of the stay among those of that game, from 1.
-    pub stay: u32,
-    pub blocks: u16,
-}
+Example: arena serve examples/first_file.jsonl";
 
-/// The request of a command line.
-#[derive(Clone, Copy, Debug)]
-pub enum Request<'a> {
-    Serve(Serving<'a>),
-    Alone(Solo<'a>),
-    /// The number of blocks.
-    Live(u16),
-}
+const SERVE_ABOUT: &str = "Plays the games of a command file and writes their transcript";
+
+const SERVE_END: &str = "Example: arena serve games.jsonl --blocks 168 > games.transcript";
+
+const ALONE_ABOUT: &str = "Plays one game of a command file by its own lines alone, on one worker";
+
+const ALONE_END: &str = "Example: arena alone games.jsonl --game a > a.transcript";
+
+const LIVE_ABOUT: &str = "Answers the lines of the standard input as they come";
+
+const LIVE_END: &str = "Example: arena live --blocks 384 < games.jsonl";
 
 fn file_word<'a>(alloc: Global) -> Arg<'a>
     ensures { IsArgOf file_rule result }
@@ -102,12 +92,18 @@ fn stay_option<'a>(alloc: Global) -> Arg<'a>
         .help("Which stay of that game to play, from 1 on")
 }
 
+/// A command with the first and the last text of its help, and no argument yet.
+fn described<'a>(alloc: Global, name: &'a str, about: &'a str, end: &'a str) -> Command<'a>
+    ensures { IsCommandOf (new_app name.now) result }
+{
+    Command::new(alloc, name).about(about).after_help(end)
+}
+
 #[tactic(auto, using(crate::proofs::Commands::adds_arg))]
 fn serve_command<'a>(alloc: Global) -> Result<Command<'a>, AllocError>
     ensures { IfOk result (IsCommandOf serve_app) }
 {
-    Command::new(alloc, "serve")
-        .about("Plays the games of a command file and writes their transcript")
+    described(alloc, "serve", SERVE_ABOUT, SERVE_END)
         .arg(file_word(alloc))?
         .arg(blocks_option(alloc))?
         .arg(workers_option(alloc))
@@ -117,8 +113,7 @@ fn serve_command<'a>(alloc: Global) -> Result<Command<'a>, AllocError>
 fn alone_command<'a>(alloc: Global) -> Result<Command<'a>, AllocError>
     ensures { IfOk result (IsCommandOf alone_app) }
 {
-    Command::new(alloc, "alone")
-        .about("Plays one game of a command file by its own lines alone, on one worker")
+    described(alloc, "alone", ALONE_ABOUT, ALONE_END)
         .arg(file_word(alloc))?
         .arg(game_option(alloc))?
         .arg(stay_option(alloc))?
@@ -129,9 +124,7 @@ fn alone_command<'a>(alloc: Global) -> Result<Command<'a>, AllocError>
 fn live_command<'a>(alloc: Global) -> Result<Command<'a>, AllocError>
     ensures { IfOk result (IsCommandOf live_app) }
 {
-    Command::new(alloc, "live")
-        .about("Answers the lines of the standard input as they come")
-        .arg(blocks_option(alloc))
+    described(alloc, "live", LIVE_ABOUT, LIVE_END).arg(blocks_option(alloc))
 }
 
 /// The program's own name and version, with no command yet.
@@ -140,6 +133,7 @@ fn top_command<'a>(alloc: Global) -> Command<'a>
 {
     Command::new(alloc, "arena")
         .about("A host for many Battlesnake games")
+        .after_help(HELP_END)
         .version(VERSION)
         .subcommand_required(true)
 }

@@ -2,37 +2,48 @@
 //! to the standard output.
 #![tactic(auto)]
 
-mod command_line;
-mod failure;
-mod program;
-mod reason;
-mod stream;
+ghost use Rattle.std.specs.Prelude.{◌≡◌, ◌⊎◌, map, string_bytes, OnErr, IfOk};
+ghost use Rattle.arena.specs.Outcome.{IsDone, IsRefused};
 
-use program::{arena_run, reported, unread_words};
-use reason::Reason;
+mod command_line;
+mod program;
+
+use bs_program::{Output, Reason, Sources, reported};
+use program::{arena_run, unread_words};
 use std::alloc::{AllocError, Global};
 use std::io::{Read, Write};
 use std::process::ExitCode;
-use std::rt::Files;
 use std::sync::Wait;
 use std::thread::Threads;
 use std::{env, io};
-use stream::Output;
 
 /// The words of the command line, the program's name first.
 fn words_of(rt: &HostRuntime) -> io::Result<Vec<String>> {
     Ok(env::args(rt)?.collect(rt.alloc())?)
 }
 
-fn status_on<H: Files + Threads + Wait + Sync, R: Read, W: Write, E: Write>(
+/// The words as texts.
+fn texts_of(alloc: Global, words: &[String]) -> Result<Vec<&str>, AllocError>
+    ensures { IfOk result (λ texts. map (λ text. text.now) texts.items ≡ map (λ word. string_bytes word) words.now) }
+{
+    words.iter().map(|word| word.as_str()).collect(alloc)
+}
+
+/// Runs the program on these words, and returns its exit status.
+fn status_on<H: Sources + Threads + Wait + Sync, R: Read, W: Write, E: Write>(
     rt: &H,
     alloc: Global,
     words: &[String],
     input: &mut R,
     output: &mut Output<W>,
     errors: &mut Output<E>,
-) -> Result<u8, AllocError> {
-    let texts: Vec<&str> = words.iter().map(|word| word.as_str()).collect(alloc)?;
+) -> Result<u8, AllocError>
+    ensures status { IfOk result (λ status. IsDone W.contents E.contents (R.remaining input.old) (H.named rt.now) (map (λ word. string_bytes word) words.now) status output.old output.new errors.old errors.new
+        ⊎ IsRefused E.contents (map (λ word. string_bytes word) words.now) status output.old output.new errors.old errors.new) }
+    ensures output { OnErr result (output.new ≡ output.old) }
+    ensures errors { OnErr result (errors.new ≡ errors.old) }
+{
+    let texts = texts_of(alloc, words)?;
     Ok(arena_run(rt, alloc, texts.as_slice(), input, output, errors))
 }
 

@@ -36,6 +36,7 @@ impl Model for Id {
 }
 
 /// Stores the text in the value, if it is short enough.
+#[inline(always)]
 fn inside(text: &str) -> Option<ArrayString<LONGEST_INSIDE>>
     ensures { IfSome result (λ short. short.bytes ≡ text.now) }
 {
@@ -59,6 +60,7 @@ impl Id {
     }
 
     /// Makes an id from a copy of this text. Allocates only if the text has more than 40 bytes.
+    #[inline(always)]
     pub fn from_str(alloc: Global, text: &str) -> Result<Id, AllocError>
         ensures { IfOk result (λ id. id ≡ text.now) }
     {
@@ -70,6 +72,7 @@ impl Id {
     }
 
     /// The text.
+    #[inline(always)]
     pub fn as_str(&self) -> &str
         ensures { result.now ≡ self.now }
     {
@@ -81,6 +84,7 @@ impl Id {
 
     #[tactic(auto, using(crate::proofs::Utf8::is_text))]
     /// The bytes, which are UTF-8.
+    #[inline(always)]
     pub fn as_bytes(&self) -> &[u8]
         ensures value { result.now ≡ self.now }
         ensures text { is_utf8 self.now ≡ true }
@@ -89,6 +93,7 @@ impl Id {
     }
 
     /// The number of bytes.
+    #[inline(always)]
     pub fn len(&self) -> usize
         ensures { result ≡ length self.now }
     {
@@ -104,6 +109,7 @@ impl Id {
     }
 
     /// Whether both have the same bytes.
+    #[inline(always)]
     pub fn is_same(&self, other: &Id) -> bool
         ensures { result ≡ is_same_text self.now other.now }
     {
@@ -111,6 +117,7 @@ impl Id {
     }
 
     /// Whether this id is below the other one, by bytes.
+    #[inline(always)]
     pub fn is_below(&self, other: &Id) -> bool
         ensures { result ≡ is_text_below self.now other.now }
     {
@@ -118,6 +125,7 @@ impl Id {
     }
 
     /// Copies the id. Allocates only if the text has more than 40 bytes.
+    #[inline(always)]
     pub fn copy(&self, alloc: Global) -> Result<Id, AllocError>
         ensures { IfOk result (λ id. id ≡ self.now) }
     {

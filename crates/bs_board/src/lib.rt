@@ -10,6 +10,7 @@ pub mod limits;
 pub mod plans;
 pub mod records;
 
+pub use boards::area::has_cell;
 pub use boards::board::{Board, Mode};
 pub use boards::body::head_of;
 pub use boards::cells::Cells;

@@ -10,7 +10,7 @@ ghost use Rattle.bs_fiber.specs.Tickets.{bytes_of, frames_in};
 
 use crate::contents::LEAST_CAPACITY;
 use crate::moved::Moved;
-use crate::piece::Piece;
+use crate::piece::{Piece, SEATS};
 use bs_board::{Decode, Snake, Snakes, decode_snake, encode_snake_into, snake_size};
 use bs_pool::Owned;
 use std::alloc::{AllocError, Global};
@@ -91,7 +91,7 @@ pub(crate) fn read_all<const CAP: usize>(
     requires { bytes_of (frames_in frames.now) ≡ map frame_of parts.now }
     ensures { IfOk result (λ snakes. snakes ≡ flat_map (λ part. part) parts.now) }
 {
-    let mut seats = Vec::new(alloc);
+    let mut seats = Vec::with_capacity(alloc, SEATS.saturating_mul(parts.len()))?;
     for part in 0..parts.len() {
         read_moved(alloc, &frames[part], &parts[part], &mut seats)?;
     }

@@ -64,9 +64,10 @@ fn move_seats(alloc: Global, input: &Input) -> Result<Snakes, AllocError>
     requires { IsFitGame input.now }
     ensures { IfOk result (λ moved. (view : AnyView) → IsSeen view input.now → moved ≡ moved_part input.now.job.part view input.now.command) }
 {
-    let seats = seats_of(alloc, &input.last, input.job.part as usize)?;
+    let mut seats = seats_of(alloc, &input.last, input.job.part as usize)?;
     let moves = moves_in(input.command.get());
-    move_snakes(alloc, seats.as_slice(), moves, wrap_in(&input.last))
+    move_snakes(&mut seats, moves, wrap_in(&input.last));
+    Ok(seats)
 }
 
 /// Moves the snakes of a part, and makes their pieces.

@@ -2,18 +2,11 @@
 
 ghost use Rattle.std.specs.Prelude.{◌≡◌, OnOk};
 ghost use Rattle.std.specs.List.{list_any};
-ghost use Rattle.bs_board.specs.boards.Cell.{is_same_cell};
 ghost use Rattle.bs_food.specs.Free.{is_free_cell, stands_on};
 ghost use Rattle.bs_food.specs.Given.{all_given, given, is_open, with_given_food};
 
-use bs_board::{Board, Cells, Point, Snake};
+use bs_board::{Board, Cells, Point, Snake, has_cell};
 use std::alloc::AllocError;
-
-fn has_cell(cells: &[Point], cell: Point) -> bool
-    ensures { result ≡ list_any (is_same_cell cell) cells.now }
-{
-    cells.iter().any(|other| cell.is_same_cell(*other))
-}
 
 fn stands_on(cell: Point, snake: &Snake) -> bool
     ensures { result ≡ stands_on cell snake.now }
@@ -36,6 +29,7 @@ fn is_open(board: &Board, cell: Point) -> bool
         && !is_taken(cell, board.snakes.as_slice())
 }
 
+/// Puts food on the cell, if it is free.
 #[tactic(auto, unfolding(crate::specs::Given::with_given_food))]
 fn give_one(board: &mut Board, cell: Point) -> Result<(), AllocError>
     ensures { OnOk result (board.new ≡ with_given_food board.old cell) }

@@ -81,7 +81,8 @@ fn lacks_feed(text: &[u8]) -> bool
 /// whatever follows.
 #[tactic(auto, using(crate::proofs::LiveHeld::same_text))]
 fn hold_line(pending: &mut Vec<u8>)
-    ensures { IsSameText pending.old.items pending.new.items }
+    ensures text { IsSameText pending.old.items pending.new.items }
+    ensures held { position (λ byte. byte == LINE_FEED) pending.new.items ≡ None → length pending.new.items ≤ MAX_LINE + 1 }
 {
     if pending.len() > MAX_LINE && lacks_feed(pending) {
         pending.truncate(MAX_LINE + 1);
@@ -89,8 +90,9 @@ fn hold_line(pending: &mut Vec<u8>)
 }
 
 /// Waits until a byte can be read, reads once, and appends the bytes. Returns false at the end of
-/// the input.
+/// the input. Of a line that is not complete at most 65,537 bytes may be held before the read.
 fn read_more<R: Read>(input: &mut R, pending: &mut Vec<u8>) -> Result<bool, LiveFault>
+    requires { position (λ byte. byte == LINE_FEED) pending.old.items ≡ None → length pending.old.items ≤ MAX_LINE + 1 }
     ensures bytes { OnOk result
         ((bytes : List ℕ) × Consumes (R.remaining input.old) (R.remaining input.new) bytes × (pending.new.items ≡ pending.old.items ++ bytes)) }
     ensures more { IfOk result (λ more. more ≡ true → length pending.old.items < length pending.new.items) }
@@ -190,7 +192,8 @@ fn end_plan<W: Write>(alloc: Global, host: &LiveHost, output: &mut W) -> Result<
 /// Serves a command file with `blocks` blocks of memory while it is read. After each read it
 /// answers the complete lines, writes their answers, and flushes the writer. At the end of the
 /// input it answers the text after the last line feed, and writes the final lines of the open
-/// stays. The input may have any length; at most 65,537 bytes of a line are held.
+/// stays. The input may have any length; of a line that is not complete at most 65,537 bytes are
+/// held, and the bytes of one read.
 ///
 /// A plan that is refused is a fault as soon as its line is complete or too long, and nothing is
 /// written for it. After any other fault the answers to the first lines are still written.

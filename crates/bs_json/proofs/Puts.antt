@@ -1,7 +1,9 @@
 -- Pieces that are appended one after the other.
 use Rattle.std.proofs.Common.{◌≡◌, ℕ, suc, ◌+◌, ◌-◌, ◌^◌, ◌≤◌, ◌<◌, List, [], ◌∷◌, ◌++◌, length, take, drop, min, refl, sym, ap, ap₂, ◌∙◌, append_assoc, length-append, take-append-drop, arith}
 use Rattle.std.proofs.lemmas.Bool.{le-ltb, lt-ltb}
-use Rattle.std.proofs.lemmas.List.{append-nil, length-take-le}
+use Rattle.std.proofs.lemmas.List.{append-nil, length-take-le, take_all}
+use Rattle.std.proofs.lemmas.List.Edits.{length-paste, take-paste}
+use Rattle.std.proofs.Math.Seq.{paste}
 use Rattle.bs_json.specs.Text.{Text, blank, put, put_byte}
 
 pub put_none : (text : Text) → put text [] ≡ text
@@ -31,6 +33,19 @@ put_whole text (byte ∷ piece) fits =
     ap (λ t. put t piece) (byte_stored text byte (omega (arith, fits)))
     ∙ put_whole more piece (omega (arith, fits, longer))
     ∙ ap (λ bytes. record { bytes = bytes; missing = text.missing; room = text.room }) (append_assoc text.bytes (byte ∷ []) piece)
+
+-- a piece for which there is room, written behind the stored bytes
+pub put_over : (room written piece : List ℕ) (len missing : ℕ) (text : Text) → record { bytes = take len room; missing = missing; room = length room } ≡ text
+    → written ≡ paste room len piece (length piece) → len + length piece ≤ length room
+    → record { bytes = take (len + length piece) written; missing = missing; room = length written } ≡ put text piece
+put_over room written piece len missing text is over fits =
+    let long : length (take len room) ≡ len = length-take-le len room (omega arith) in
+    let front : take (len + length piece) written ≡ take len room ++ piece =
+    ap (take (len + length piece)) over ∙ take-paste room len piece (length piece) (omega arith) (omega arith)
+    ∙ ap (λ (l : List ℕ). take len room ++ l) (take_all (length piece) piece (omega arith)) in
+    let same : length written ≡ length room = ap length over ∙ length-paste room len piece (length piece) fits (omega arith) in
+    let text_is = put_whole (record { bytes = take len room; missing = missing; room = length room }) piece (omega (arith, long, fits)) in
+    ap₂ (λ (b : List ℕ) (r : ℕ). record { bytes = b; missing = missing; room = r }) front same ∙ sym text_is ∙ ap (λ t. put t piece) is
 
 -- a piece for which there is no room at all
 pub put_full : (text : Text) (piece : List ℕ) → text.room ≤ length text.bytes → text.missing < 2 ^ 64

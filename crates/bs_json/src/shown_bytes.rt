@@ -65,13 +65,15 @@ fn push_small_cell(later: bool, raised: u8, x: u8, y: u8, text: &mut TextBuffer)
     let x = b'0' + (x - raised);
     let y = b'0' + (y - raised);
     if later {
-        text.push(&[
-            b',', b'{', b'"', b'x', b'"', b':', x, b',', b'"', b'y', b'"', b':', y, b'}',
-        ]);
+        let mut piece = *b",{\"x\":0,\"y\":0}";
+        piece[6] = x;
+        piece[12] = y;
+        text.push(&piece);
     } else {
-        text.push(&[
-            b'{', b'"', b'x', b'"', b':', x, b',', b'"', b'y', b'"', b':', y, b'}',
-        ]);
+        let mut piece = *b"{\"x\":0,\"y\":0}";
+        piece[5] = x;
+        piece[11] = y;
+        text.push(&piece);
     }
 }
 

@@ -9,20 +9,21 @@ use std::marker::Model;
 /// dropped. Contracts see the stored bytes, the count and the capacity.
 #[derive(Debug, Drop)]
 pub struct TextBuffer {
+    /// The capacity: the first `len` bytes are the stored ones.
     bytes: Vec<u8>,
+    len: usize,
     missing: usize,
-    room: usize,
 }
 
 impl Model for TextBuffer {
-    ghost use Rattle.std.specs.Prelude.{◌≤◌, length, vec_capacity};
+    ghost use Rattle.std.specs.Prelude.{◌≤◌, length, take};
     ghost use Rattle.bs_json.specs.Text.{Text};
 
     ghost Value = { Text };
 
-    ghost view = { λ t. record { bytes = t.bytes.items; missing = t.missing; room = t.room } };
+    ghost view = { λ t. record { bytes = take t.len t.bytes.items; missing = t.missing; room = length t.bytes.items } };
 
-    ghost invariant = { λ t. (length t.bytes.items ≤ t.room) × (t.room ≤ vec_capacity t.bytes) };
+    ghost invariant = { λ t. t.len ≤ length t.bytes.items };
 }
 
 impl TextBuffer {
@@ -33,8 +34,8 @@ impl TextBuffer {
     {
         TextBuffer {
             bytes: Vec::new(alloc),
+            len: 0,
             missing: 0,
-            room: 0,
         }
     }
 
@@ -48,9 +49,9 @@ impl TextBuffer {
             return Err(AllocError);
         }
         Ok(TextBuffer {
-            bytes: Vec::with_capacity(alloc, room)?,
+            bytes: Vec::from_elem(alloc, 0, room)?,
+            len: 0,
             missing: 0,
-            room,
         })
     }
 
@@ -58,7 +59,7 @@ impl TextBuffer {
     pub fn clear(&mut self)
         ensures { self.new ≡ blank self.old.room }
     {
-        self.bytes.clear();
+        self.len = 0;
         self.missing = 0;
     }
 
@@ -66,21 +67,24 @@ impl TextBuffer {
     pub fn as_slice(&self) -> &[u8]
         ensures { result.now ≡ self.now.bytes }
     {
-        self.bytes.as_slice()
+        &self.bytes[..self.len]
     }
 
     /// Converts the buffer into the stored bytes.
     pub fn into_vec(self) -> Vec<u8>
         ensures { result.items ≡ self.bytes }
     {
-        self.bytes
+        let mut bytes = self.bytes;
+        bytes.truncate(self.len);
+        bytes
     }
 
     /// The number of bytes for which there is still room.
+    #[inline(always)]
     pub fn left(&self) -> usize
         ensures { result + length self.now.bytes ≡ self.now.room }
     {
-        self.room - self.bytes.len()
+        self.bytes.len() - self.len
     }
 
     /// The number of bytes for which there was no room, at most `usize::MAX`.
@@ -97,8 +101,9 @@ impl TextBuffer {
         requires { length self.old.bytes + length piece.now ≤ self.old.room }
         ensures { self.new ≡ put self.old piece.now }
     {
-        // Cannot fail: the vector has the capacity.
-        let _stored = self.bytes.extend_from_slice(piece);
+        let end = self.len + piece.len();
+        self.bytes[self.len..end].copy_from_slice(piece);
+        self.len = end;
     }
 
     /// Appends the first bytes of a piece, as many as there is room for, and counts the others.

@@ -2,11 +2,11 @@
 use crate::fault::Fault;
 use crate::scene::Question;
 use crate::values::{
-    LONG_NAME, TWO_HEADS, bytes_of, kept_of, new_solo, plan_of, two_heads, two_orders,
+    LONG_NAME, TWO_HEADS, bytes_of, hazardous_solo, kept_of, map_orders, plan_of, two_heads,
 };
 use bs_board::{
-    Board, Cells, Command, Id, KeptBoard, Mode, Plan, Point, Record, Reply, Snake, decode,
-    decode_snake, encode, is_legal,
+    Board, Cells, Command, Id, KeptBoard, Plan, Point, Record, Reply, Snake, decode, decode_snake,
+    encode, is_legal,
 };
 use std::alloc::Global;
 
@@ -15,11 +15,11 @@ pub fn id_of(alloc: Global) -> Result<Id, Fault> {
 }
 
 pub fn new_of(alloc: Global) -> Result<Command, Fault> {
-    Ok(Command::New(new_solo(alloc, Mode::Solo)?))
+    Ok(Command::New(hazardous_solo(alloc)?))
 }
 
 pub fn orders_of(alloc: Global) -> Result<Command, Fault> {
-    Ok(Command::Move(two_orders(alloc)?))
+    Ok(Command::Move(map_orders(alloc)?))
 }
 
 /// `Id::from_str`.

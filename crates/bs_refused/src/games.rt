@@ -93,9 +93,8 @@ fn gone_on(alloc: Global, board: &Board) -> Result<Board, Fault>
     requires sides { AreSides (wrap_of board.now) }
     ensures { IfOk result (λ moved. moved ≡ moved_board [] board.now) }
 {
-    let snakes = move_snakes(alloc, board.snakes.as_slice(), &[], board.wrap())?;
     let mut moved = board.copy(alloc)?;
-    moved.snakes = snakes;
+    move_snakes(&mut moved.snakes, &[], board.wrap());
     Ok(moved)
 }
 

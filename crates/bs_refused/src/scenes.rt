@@ -14,11 +14,11 @@ use crate::texts::{
     WholeText, last_board, two_replies,
 };
 use crate::turns::{
-    Feeding, FinishTurn, FirstBoard, FreeCells, Growing, MoveSnake, MoveSnakes, NextBoard,
-    Spawning, meeting,
+    Feeding, FinishTurn, FirstBoard, FreeCells, Growing, MoveSnake, NextBoard, Spawning, meeting,
 };
 use crate::values::{
-    LONG_NAME, TWO_HEADS, bytes_of, kept_of, new_solo, plan_of, shown_reply, solo, two_heads,
+    LONG_NAME, ON_HAZARDS, TWO_HEADS, bytes_of, kept_of, new_solo, on_hazards, plan_of,
+    shown_reply, solo, two_heads,
 };
 use bs_board::{Command, Mode, Refusal, Reply, Word};
 use bs_json::Stray;
@@ -78,6 +78,12 @@ fn decode(rt: HostRuntime) -> Result<(), Fail> {
 }
 
 #[test]
+fn decode_hazards(rt: HostRuntime) -> Result<(), Fail> {
+    let alloc = rt.alloc();
+    ask::<Decoding>(page_of(&rt), bytes_of(alloc, &ON_HAZARDS)?)
+}
+
+#[test]
 fn decode_snake(rt: HostRuntime) -> Result<(), Fail> {
     let alloc = rt.alloc();
     ask::<DecodeSnake>(page_of(&rt), bytes_of(alloc, &TWO_HEADS[13..28])?)
@@ -86,7 +92,7 @@ fn decode_snake(rt: HostRuntime) -> Result<(), Fail> {
 #[test]
 fn encode(rt: HostRuntime) -> Result<(), Fail> {
     let alloc = rt.alloc();
-    ask::<Encoding>(page_of(&rt), two_heads(alloc)?)
+    ask::<Encoding>(page_of(&rt), on_hazards(alloc)?)
 }
 
 #[test]
@@ -116,7 +122,7 @@ fn copy_id(rt: HostRuntime) -> Result<(), Fail> {
 #[test]
 fn copy_board(rt: HostRuntime) -> Result<(), Fail> {
     let alloc = rt.alloc();
-    ask::<CopyBoard>(page_of(&rt), two_heads(alloc)?)
+    ask::<CopyBoard>(page_of(&rt), on_hazards(alloc)?)
 }
 
 #[test]
@@ -180,12 +186,6 @@ fn move_snake(rt: HostRuntime) -> Result<(), Fail> {
 }
 
 #[test]
-fn move_snakes(rt: HostRuntime) -> Result<(), Fail> {
-    let alloc = rt.alloc();
-    ask::<MoveSnakes>(page_of(&rt), two_heads(alloc)?)
-}
-
-#[test]
 fn feed(rt: HostRuntime) -> Result<(), Fail> {
     let alloc = rt.alloc();
     ask::<Feeding>(page_of(&rt), meeting(alloc)?)
@@ -207,6 +207,12 @@ fn turn_solo(rt: HostRuntime) -> Result<(), Fail> {
 fn turn(rt: HostRuntime) -> Result<(), Fail> {
     let alloc = rt.alloc();
     ask::<NextBoard>(page_of(&rt), two_heads(alloc)?)
+}
+
+#[test]
+fn turn_on_hazards(rt: HostRuntime) -> Result<(), Fail> {
+    let alloc = rt.alloc();
+    ask::<NextBoard>(page_of(&rt), on_hazards(alloc)?)
 }
 
 #[test]

@@ -1,9 +1,9 @@
 //! First boards, growth, food, and the steps of a turn.
 use crate::fault::Fault;
 use crate::scene::Question;
-use crate::values::{new_solo, solo, two_heads, two_orders};
+use crate::values::{map_orders, new_solo, solo, two_heads};
 use bs_board::limits::{LAST_TURN, MOST_SNAKES};
-use bs_board::{Board, Direction, Mode, New, Point, Snake, Snakes, is_legal};
+use bs_board::{Board, Direction, Mode, New, Point, Snake, is_legal};
 use bs_food::{free_cells, spawn};
 use bs_modes::{grow, start};
 use bs_rules::{feed, finish_turn, move_snake, move_snakes, turn};
@@ -92,31 +92,18 @@ impl Question for MoveSnake {
 }
 
 #[tactic(auto, using(bs_rules::proofs::Movable::legal_is_movable))]
-fn all_moved(alloc: Global, board: &Board) -> Result<Snakes, Fault> {
-    if !is_legal(board) {
+fn all_moved(board: Board) -> Result<Board, Fault> {
+    if !is_legal(&board) {
         return Err(Fault::NotLegal);
     }
-    Ok(move_snakes(alloc, board.snakes.as_slice(), &[], None)?)
-}
-
-/// `move_snakes`.
-pub struct MoveSnakes;
-
-impl Question for MoveSnakes {
-    type On = Board;
-
-    type Answer = Snakes;
-
-    fn call(alloc: Global, on: &Board) -> Result<Snakes, Fault> {
-        all_moved(alloc, on)
-    }
+    let mut next = board;
+    move_snakes(&mut next.snakes, &[], None);
+    Ok(next)
 }
 
 /// Makes the two snakes with their heads on the food.
 pub fn meeting(alloc: Global) -> Result<Board, Fault> {
-    let mut board = two_heads(alloc)?;
-    board.snakes = all_moved(alloc, &board)?;
-    Ok(board)
+    all_moved(two_heads(alloc)?)
 }
 
 /// `feed`, of a copy. After an error the copy is dropped.
@@ -148,7 +135,7 @@ impl Question for FinishTurn {
         if copy.turn >= LAST_TURN || copy.snakes.len() > MOST_SNAKES {
             return Err(Fault::NoTurn);
         }
-        Ok(finish_turn(alloc, copy, &two_orders(alloc)?)?)
+        Ok(finish_turn(alloc, copy, &map_orders(alloc)?)?)
     }
 }
 
@@ -161,7 +148,7 @@ impl Question for NextBoard {
     type Answer = Board;
 
     fn call(alloc: Global, on: &Board) -> Result<Board, Fault> {
-        let orders = two_orders(alloc)?;
+        let orders = map_orders(alloc)?;
         if !is_legal(on) || on.turn >= LAST_TURN {
             return Err(Fault::NoTurn);
         }

@@ -4,8 +4,8 @@ use bs_board::commands::orders::is_ascending;
 use bs_board::limits::{MOST_ROWS, MOST_WORDS};
 use bs_board::plans::plan::have_distinct_names;
 use bs_board::{
-    Board, Cells, Direction, Id, KeptBoard, Mode, Move, Moves, New, Plan, Point, Reply, Row, Rows,
-    Starts, Version, Word, Words, decode, is_legal,
+    Board, Cells, Direction, Hazards, Id, KeptBoard, Mode, Move, Moves, New, Plan, Point, Reply,
+    Row, Rows, Starts, Version, Word, Words, decode, is_legal,
 };
 use std::alloc::Global;
 
@@ -18,6 +18,13 @@ pub const RECORD: [u8; 26] = [
 pub const TWO_HEADS: [u8; 43] = [
     1, 0, 5, 5, 0, 10, 0, 0, 2, 0, 1, 2, 2, 1, 65, 90, 0, 0, 0, 0, 0, 3, 2, 3, 1, 3, 1, 2, 1, 66,
     90, 0, 0, 0, 0, 0, 3, 4, 3, 5, 3, 5, 2,
+];
+
+/// The same board with three hazards of damage 14: one where the first snake goes, and its own cell
+/// twice.
+pub const ON_HAZARDS: [u8; 52] = [
+    3, 0, 5, 5, 0, 10, 0, 0, 2, 0, 1, 2, 2, 14, 0, 3, 1, 3, 1, 2, 1, 2, 1, 65, 90, 0, 0, 0, 0, 0,
+    3, 2, 3, 1, 3, 1, 2, 1, 66, 90, 0, 0, 0, 0, 0, 3, 4, 3, 5, 3, 5, 2,
 ];
 
 /// A name too long to be stored in its `Id`.
@@ -37,6 +44,11 @@ pub fn solo(alloc: Global) -> Result<Board, Fault> {
 /// Makes a board of two snakes whose heads are at one food.
 pub fn two_heads(alloc: Global) -> Result<Board, Fault> {
     Ok(decode(alloc, &TWO_HEADS)?)
+}
+
+/// Makes the board of two snakes with hazards.
+pub fn on_hazards(alloc: Global) -> Result<Board, Fault> {
+    Ok(decode(alloc, &ON_HAZARDS)?)
 }
 
 /// Makes the record of the board of two snakes.
@@ -61,6 +73,23 @@ pub fn new_solo(alloc: Global, mode: Mode) -> Result<New, Fault> {
     New::new(mode, 5, 5, Starts::from_vec(starts), food, 2, 0).ok_or(Fault::NoSetup)
 }
 
+/// Makes a list of one cell.
+fn cell(alloc: Global, x: i16, y: i16) -> Result<Cells, Fault> {
+    let mut cells = Cells::new(alloc);
+    cells.push(Point { x, y })?;
+    Ok(cells)
+}
+
+/// Makes that setup with a hazard.
+pub fn hazardous_solo(alloc: Global) -> Result<New, Fault> {
+    let hazards = Hazards {
+        damage: 14,
+        cells: cell(alloc, 4, 4)?,
+    };
+    let setup = new_solo(alloc, Mode::Solo)?;
+    setup.with_hazards(hazards).ok_or(Fault::NoSetup)
+}
+
 /// Makes a move with these directions, in the order of their names, and these words.
 pub fn move_of(moves: Vec<(Id, Direction)>, words: Vec<u32>) -> Result<Move, Fault> {
     if !is_ascending(moves.as_slice()) || words.len() > MOST_WORDS {
@@ -74,6 +103,12 @@ pub fn two_orders(alloc: Global) -> Result<Move, Fault> {
     let first = (Id::from_str(alloc, "A")?, Direction::Up);
     let second = (Id::from_str(alloc, "B")?, Direction::Left);
     move_of(vec![in alloc; first, second]?, vec![in alloc; 5, 7]?)
+}
+
+/// Makes that move, which gives a hazard and a food too.
+pub fn map_orders(alloc: Global) -> Result<Move, Fault> {
+    let (hazards, food) = (cell(alloc, 0, 0)?, cell(alloc, 0, 4)?);
+    Ok(two_orders(alloc)?.with_map(Some(hazards), Some(food)))
 }
 
 pub fn row_of(alloc: Global, name: &str) -> Result<Row, Fault> {

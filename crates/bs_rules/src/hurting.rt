@@ -1,21 +1,15 @@
 //! What hazards do in a turn.
 
 ghost use Rattle.std.specs.Prelude.{◌≡◌, ◌+◌, ◌<◌, IfOk, count_by, filter, map};
-ghost use Rattle.std.specs.List.{list_any};
 ghost use Rattle.bs_board.specs.boards.Cell.{is_on_board, is_same_cell};
 ghost use Rattle.bs_rules.specs.Hurting.{cells_given, hazard_verdict, hazards_after, health_left, hurt, hurt_by, hurt_snake, is_hurt};
 
 use crate::verdict::{Verdict, eliminate};
 use bs_board::limits::{LAST_TURN, MOST_HAZARDS};
-use bs_board::{Board, Cause, Cells, Hazards, Point, Snake, Snakes, head_of};
+use bs_board::{Board, Cause, Cells, Hazards, Point, Snake, Snakes, has_cell, head_of};
 use std::alloc::{AllocError, Global};
 
-fn has_cell(cells: &[Point], cell: Point) -> bool
-    ensures { result ≡ list_any (is_same_cell cell) cells.now }
-{
-    cells.iter().any(|other| cell.is_same_cell(*other))
-}
-
+/// Whether the snake lives, with its head on one of the cells and on no food.
 fn is_hurt(cells: &[Point], food: &[Point], snake: &Snake) -> bool
     ensures { result ≡ is_hurt cells.now food.now snake.now }
 {

@@ -97,22 +97,26 @@ fn direction_taken(wrap: Option<(u8, u8)>, given: Option<Direction>, body: &[Poi
     }
 }
 
-fn move_body(
-    alloc: Global,
-    body: &[Point],
-    given: Option<Direction>,
-    wrap: Option<(u8, u8)>,
-) -> Result<Cells, AllocError>
+fn step_body(body: &mut Cells, given: Option<Direction>, wrap: Option<(u8, u8)>)
     requires sides { AreSides wrap }
-    requires some { 1 ≤ length body.now }
-    requires near { All (λ p. is_near LONGEST_SIDE LONGEST_SIDE p ≡ true) body.now }
-    ensures { IfOk result (λ cells. cells ≡ moved_body wrap given body.now) }
+    requires some { 1 ≤ length body.old }
+    requires near { All (λ p. is_near LONGEST_SIDE LONGEST_SIDE p ≡ true) body.old }
+    ensures { body.new ≡ moved_body wrap given body.old }
 {
-    let head = neighbor(wrap, head_of(body), direction_taken(wrap, given, body));
-    let mut parts = Vec::with_capacity(alloc, body.len())?;
-    parts.push(head)?;
-    parts.extend_from_slice(&body[..body.len() - 1])?;
-    Ok(Cells::from_vec(parts))
+    let parts = body.as_slice();
+    let head = neighbor(wrap, head_of(parts), direction_taken(wrap, given, parts));
+    body.step_to(head);
+}
+
+fn step_snake(snake: &mut Snake, given: Option<Direction>, wrap: Option<(u8, u8)>)
+    requires body { IsMovable snake.old }
+    requires sides { AreSides wrap }
+    ensures { snake.new ≡ moved wrap given snake.old }
+{
+    if snake.is_living() {
+        step_body(&mut snake.body, given, wrap);
+        snake.health = snake.health.saturating_sub(1);
+    }
 }
 
 /// Moves a living snake one step, in the given direction or else straight on: it gets a new head,
@@ -128,17 +132,9 @@ pub fn move_snake(
     requires sides { AreSides wrap }
     ensures { IfOk result (λ next. next ≡ moved wrap given snake.now) }
 {
-    if !snake.is_living() {
-        return snake.copy(alloc);
-    }
-    Ok(Snake {
-        id: snake.id.copy(alloc)?,
-        body: move_body(alloc, snake.body.as_slice(), given, wrap)?,
-        health: snake.health.saturating_sub(1),
-        cause: snake.cause,
-        killer: snake.killer,
-        out: snake.out,
-    })
+    let mut next = snake.copy(alloc)?;
+    step_snake(&mut next, given, wrap);
+    Ok(next)
 }
 
 fn given_to(moves: &[(Id, Direction)], id: &Id) -> Option<Direction>
@@ -150,22 +146,16 @@ fn given_to(moves: &[(Id, Direction)], id: &Id) -> Option<Direction>
         .map(|order| order.1)
 }
 
-/// Moves any number of seats, each in the direction given for its id. A whole turn moves all seats
-/// by this call; a part of a move moves some of them.
-pub fn move_snakes(
-    alloc: Global,
-    snakes: &[Snake],
-    moves: &[(Id, Direction)],
-    wrap: Option<(u8, u8)>,
-) -> Result<Snakes, AllocError>
-    requires bodies { All IsMovable snakes.now }
+/// Moves any number of seats in place, each in the direction given for its id. A whole turn moves
+/// all seats by this call; a part of a move moves some of them.
+pub fn move_snakes(snakes: &mut Snakes, moves: &[(Id, Direction)], wrap: Option<(u8, u8)>)
+    requires bodies { All IsMovable snakes.old }
     requires sides { AreSides wrap }
-    ensures { IfOk result (λ next. next ≡ moved_seats wrap moves.now snakes.now) }
+    ensures { snakes.new ≡ moved_seats wrap moves.now snakes.old }
 {
-    let mut seats = Vec::with_capacity(alloc, snakes.len())?;
-    for snake in snakes {
+    for seat in 0..snakes.len() {
+        let snake = snakes.seat_mut(seat);
         let given = given_to(moves, &snake.id);
-        seats.push(move_snake(alloc, snake, given, wrap)?)?;
+        step_snake(snake, given, wrap);
     }
-    Ok(Snakes::from_vec(seats))
 }

@@ -12,7 +12,7 @@ use crate::hurting::{hazards_after, hurt};
 use crate::motion::move_snakes;
 use crate::starved_or_outside::first_out;
 use bs_board::limits::{LAST_TURN, MOST_SNAKES};
-use bs_board::{Board, Direction, Id, Mode, Move, copy_hazards};
+use bs_board::{Board, Direction, Id, Mode, Move};
 use bs_food::{give, spawn};
 use bs_modes::grow;
 use std::alloc::{AllocError, Global};
@@ -22,17 +22,9 @@ fn move_board(alloc: Global, board: &Board, moves: &[(Id, Direction)]) -> Result
     requires sides { AreSides (wrap_of board.now) }
     ensures { IfOk result (λ next. next ≡ moved_board moves.now board.now) }
 {
-    Ok(Board {
-        mode: board.mode,
-        width: board.width,
-        height: board.height,
-        turn: board.turn,
-        min_food: board.min_food,
-        chance: board.chance,
-        food: board.food.copy(alloc)?,
-        hazards: copy_hazards(&board.hazards, alloc)?,
-        snakes: move_snakes(alloc, board.snakes.as_slice(), moves, board.wrap())?,
-    })
+    let mut next = board.copy(alloc)?;
+    move_snakes(&mut next.snakes, moves, board.wrap());
+    Ok(next)
 }
 
 /// Adds food from the words, and then the food that the move gives.

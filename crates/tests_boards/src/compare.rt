@@ -1,5 +1,5 @@
 //! Compares boards, member by member.
-use bs_board::{Board, Snake};
+use bs_board::{Board, Hazards, Snake};
 use bs_samples::{holds, same};
 use std::test::Fail;
 
@@ -24,6 +24,22 @@ pub fn same_snakes(what: &str, snakes: &[Snake], wanted: &[Snake]) -> Result<(),
     Ok(())
 }
 
+/// Compares hazards, entry by entry.
+pub fn same_hazards(
+    what: &str,
+    hazards: &Option<Hazards>,
+    wanted: &Option<Hazards>,
+) -> Result<(), Fail> {
+    match (hazards, wanted) {
+        (None, None) => Ok(()),
+        (Some(hazards), Some(wanted)) => {
+            same(what, hazards.damage, wanted.damage)?;
+            same(what, hazards.cells.as_slice(), wanted.cells.as_slice())
+        }
+        _ => Err(Fail::new(format_args!("{what}: hazards on one side"))),
+    }
+}
+
 /// Compares two boards, member by member.
 pub fn same_board(what: &str, board: &Board, wanted: &Board) -> Result<(), Fail> {
     holds(what, board.mode == wanted.mode)?;
@@ -39,5 +55,6 @@ pub fn same_board(what: &str, board: &Board, wanted: &Board) -> Result<(), Fail>
         (wanted.min_food, wanted.chance),
     )?;
     same(what, board.food.as_slice(), wanted.food.as_slice())?;
+    same_hazards(what, &board.hazards, &wanted.hazards)?;
     same_snakes(what, board.snakes.as_slice(), wanted.snakes.as_slice())
 }

@@ -277,13 +277,15 @@ fn reasons_of_a_game_that_runs(rt: HostRuntime) -> Result<(), Fail> {
 }
 
 /// Moves each snake of the board straight on.
-fn gone_on(alloc: Global, board: Board) -> Result<Board, AllocError>
+fn gone_on(board: Board) -> Board
     requires bodies { All IsMovable board.snakes }
     requires sides { AreSides (wrap_of board) }
-    ensures { IfOk result (λ moved. moved ≡ moved_board [] board) }
+    ensures { result ≡ moved_board [] board }
 {
-    let snakes = move_snakes(alloc, board.snakes.as_slice(), &[], board.wrap())?;
-    Ok(Board { snakes, ..board })
+    let mut moved = board;
+    let wrap = moved.wrap();
+    move_snakes(&mut moved.snakes, &[], wrap);
+    moved
 }
 
 /// Whether a move is accepted.
@@ -322,7 +324,7 @@ fn joined_turn(rt: HostRuntime) -> Result<(), Fail> {
     let before = solo_after(alloc, 5, 0)?;
     holds("a legal board", is_legal(&before))?;
     let last = before.copy(alloc)?;
-    let moved = gone_on(alloc, before)?;
+    let moved = gone_on(before);
     let view = view(64, 32, 1, Some(last));
     holds("it goes", is_accepted(alloc, &view, &orders)?)?;
     check_joined_within(alloc, &view, &orders, moved.copy(alloc)?)?;

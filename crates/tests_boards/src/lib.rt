@@ -30,3 +30,5 @@ mod snake_records;
 mod texts;
 #[cfg(test)]
 mod values;
+#[cfg(test)]
+mod written_out;

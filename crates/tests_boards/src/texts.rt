@@ -1,5 +1,7 @@
 //! Boards and moves written as texts.
-use bs_board::{Board, Cause, Cells, Direction, Id, Mode, Move, Point, Snake, Snakes};
+use bs_board::{
+    Board, Cause, Cells, Direction, Hazards, Id, Mode, Move, Point, Snake, Snakes, copy_hazards,
+};
 use bs_samples::orders;
 use std::alloc::{AllocError, Global};
 use std::test::Fail;
@@ -21,7 +23,7 @@ fn small(text: &str) -> Result<u8, Fail> {
 }
 
 /// Reads the cells among the words of the text, each as "X,Y".
-fn cells(alloc: Global, text: &str) -> Result<Cells, Fail> {
+pub fn cells(alloc: Global, text: &str) -> Result<Cells, Fail> {
     let mut cells = Cells::new(alloc);
     for word in text.split(' ') {
         if let Some(cell) = cell(word)? {
@@ -162,9 +164,18 @@ pub fn board(alloc: Global, text: &str) -> Result<Board, Fail> {
     fill(alloc, empty(alloc, head)?, rest)
 }
 
-/// Makes a board of the same game in that turn, without food and snakes.
-fn emptied(alloc: Global, before: &Board, turn: u8) -> Board {
-    Board {
+/// Reads "DAMAGE CELLS" as hazards.
+pub fn hazards(alloc: Global, text: &str) -> Result<Hazards, Fail> {
+    let (damage, places) = text.split_once(' ').ok_or("a damage")?;
+    Ok(Hazards {
+        damage: small(damage)?,
+        cells: cells(alloc, places)?,
+    })
+}
+
+/// Makes a board of the same game in that turn, without food and snakes. The hazards stay.
+fn emptied(alloc: Global, before: &Board, turn: u8) -> Result<Board, Fail> {
+    Ok(Board {
         mode: before.mode,
         width: before.width,
         height: before.height,
@@ -172,15 +183,15 @@ fn emptied(alloc: Global, before: &Board, turn: u8) -> Board {
         min_food: before.min_food,
         chance: before.chance,
         food: Cells::new(alloc),
-        hazards: None,
+        hazards: copy_hazards(&before.hazards, alloc)?,
         snakes: Snakes::from_vec(Vec::new(alloc)),
-    }
+    })
 }
 
 /// Reads the board "TURN|FOOD|SNAKE|SNAKE" of the same game as another board.
 pub fn board_after(alloc: Global, before: &Board, text: &str) -> Result<Board, Fail> {
     let (turn, rest) = text.split_once('|').ok_or("a turn")?;
-    fill(alloc, emptied(alloc, before, small(turn)?), rest)
+    fill(alloc, emptied(alloc, before, small(turn)?)?, rest)
 }
 
 fn direction(text: &str) -> Result<Direction, Fail> {

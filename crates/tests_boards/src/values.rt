@@ -1,8 +1,8 @@
 //! Copies of values with text or lists equal their sources; the versions of files.
 use crate::compare::same_board;
 use bs_board::{
-    Board, Command, Direction, Id, KeptBoard, Mode, Move, New, Point, Reply, Rows, Version, Word,
-    is_legal,
+    Board, Cells, Command, Direction, Hazards, Id, KeptBoard, Mode, Move, New, Point, Reply, Rows,
+    Version, Word, is_legal,
 };
 use bs_samples::{cells, holds, orders, plan_of, same, solo_after, starts};
 use std::alloc::Global;
@@ -44,19 +44,29 @@ fn check_direction(
     same("a direction", (name.as_str(), *to), (id, direction))
 }
 
+/// Compares cells that may be missing.
+fn check_cells(what: &str, cells: &Option<Cells>, wanted: &[Point]) -> Result<(), Fail> {
+    let cells = cells.as_ref().ok_or("cells")?;
+    same(what, cells.as_slice(), wanted)
+}
+
 fn check_move(copy: &Move) -> Result<(), Fail> {
     let moves = copy.moves.as_slice();
     same("directions", moves.len(), 2)?;
     check_direction(moves, 0, "a", Direction::Up)?;
     check_direction(moves, 1, "b", Direction::Left)?;
-    same("words", copy.words.as_slice(), [5, 6].as_slice())
+    same("words", copy.words.as_slice(), [5, 6].as_slice())?;
+    check_cells("hazards", &copy.hazards, &[Point { x: 2, y: 3 }])?;
+    check_cells("food", &copy.food, &[Point { x: 4, y: 1 }])
 }
 
 #[test]
 fn a_move_is_copied(rt: HostRuntime) -> Result<(), Fail> {
     let alloc = rt.alloc();
     let directions = [("a", Direction::Up), ("b", Direction::Left)];
-    let command = Command::Move(orders(alloc, &directions, &[5, 6])?);
+    let (hazards, food) = (cells(alloc, &[(2, 3)])?, cells(alloc, &[(4, 1)])?);
+    let order = orders(alloc, &directions, &[5, 6])?.with_map(Some(hazards), Some(food));
+    let command = Command::Move(order);
     match command.copy(alloc)? {
         Command::Move(copy) => check_move(&copy),
         _ => Err(Fail::from("another command")),
@@ -67,6 +77,14 @@ fn a_move_is_copied(rt: HostRuntime) -> Result<(), Fail> {
 fn check_start(starts: &[(Id, Point)], place: usize, id: &str, cell: Point) -> Result<(), Fail> {
     let (name, start) = starts.get(place).ok_or("a start")?;
     same("a start", (name.as_str(), *start), (id, cell))
+}
+
+/// Hazards of that damage on one cell.
+fn hazards(alloc: Global, damage: u8, place: (i16, i16)) -> Result<Hazards, Fail> {
+    Ok(Hazards {
+        damage,
+        cells: cells(alloc, &[place])?,
+    })
 }
 
 /// Makes a setup with the defaults for food.
@@ -86,13 +104,36 @@ fn check_setup(copy: &New) -> Result<(), Fail> {
     let starts = copy.snakes.as_slice();
     same("snakes", starts.len(), 2)?;
     check_start(starts, 0, "s", Point { x: 1, y: 1 })?;
-    check_start(starts, 1, "t", Point { x: 2, y: 0 })
+    check_start(starts, 1, "t", Point { x: 2, y: 0 })?;
+    let hazards = copy.hazards.as_ref().ok_or("hazards")?;
+    same("their damage", hazards.damage, 14)?;
+    let places = [Point { x: 1, y: 2 }];
+    same("their cells", hazards.cells.as_slice(), places.as_slice())
+}
+
+/// A damage of at most 100, on cells of the board.
+#[test]
+fn hazards_of_a_setup(rt: HostRuntime) -> Result<(), Fail> {
+    let alloc = rt.alloc();
+    for (damage, place, fits) in [
+        (0, (0, 0), true),
+        (100, (2, 2), true),
+        (101, (2, 2), false),
+        (14, (3, 0), false),
+        (14, (0, -1), false),
+    ] {
+        let new = two_starts(alloc)?.with_hazards(hazards(alloc, damage, place)?);
+        let found = (damage, place, new.is_some());
+        same("a setup", found, (damage, place, fits))?;
+    }
+    Ok(())
 }
 
 #[test]
 fn a_setup_is_copied(rt: HostRuntime) -> Result<(), Fail> {
     let alloc = rt.alloc();
-    let command = Command::New(two_starts(alloc)?);
+    let new = two_starts(alloc)?.with_hazards(hazards(alloc, 14, (1, 2))?);
+    let command = Command::New(new.ok_or("a setup")?);
     match command.copy(alloc)? {
         Command::New(copy) => check_setup(&copy),
         _ => Err(Fail::from("another command")),

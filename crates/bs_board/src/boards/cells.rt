@@ -23,7 +23,7 @@ impl Model for Cells {
 }
 
 impl Cells {
-    ghost use Rattle.std.specs.Prelude.{◌≡◌, ◌++◌, ◌∷◌, [], IfOk, OnOk, OnErr, length};
+    ghost use Rattle.std.specs.Prelude.{◌≡◌, ◌≤◌, ◌-◌, ◌++◌, ◌∷◌, [], IfOk, OnOk, OnErr, length, take};
 
     /// Makes an empty list.
     pub fn new(alloc: Global) -> Cells
@@ -70,6 +70,17 @@ impl Cells {
     {
         self.points.push(cell)?;
         Ok(())
+    }
+
+    /// Puts a cell in front and removes the last one: a body moves by one step.
+    #[inline(always)]
+    pub fn step_to(&mut self, head: Point)
+        requires { 1 ≤ length self.old }
+        ensures { self.new ≡ head ∷ take (length self.old - 1) self.old }
+    {
+        let kept = self.points.len() - 1;
+        self.points.copy_within(0..kept, 1);
+        self.points[0] = head;
     }
 
     /// Copies the list.

@@ -101,6 +101,7 @@ fn kind_from_bytes(version: u8, byte: u8) -> Result<(bool, Mode), Decode>
     }
 }
 
+#[inline(always)]
 fn cause_from_byte(byte: u8) -> Result<Option<Cause>, Decode>
     ensures { Gives (λ cause. cause) result (cause_from_byte byte) }
 {
@@ -116,12 +117,14 @@ fn cause_from_byte(byte: u8) -> Result<Option<Cause>, Decode>
     }
 }
 
+#[inline(always)]
 pub(crate) fn killer_from_byte(byte: u8) -> Option<usize>
     ensures { result ≡ killer_from_byte byte }
 {
     usize::from(byte).checked_sub(1)
 }
 
+#[inline(always)]
 pub(crate) fn out_from_number(number: u16) -> Option<u16>
     ensures { result ≡ out_from_number number }
 {
@@ -129,6 +132,7 @@ pub(crate) fn out_from_number(number: u16) -> Option<u16>
 }
 
 /// Reads a number of two bytes, the higher byte first.
+#[inline(always)]
 pub(crate) fn from_two_bytes(high: u8, low: u8) -> u16
     ensures { result ≡ from_two_bytes high low }
 {
@@ -136,6 +140,7 @@ pub(crate) fn from_two_bytes(high: u8, low: u8) -> u16
 }
 
 #[tactic(auto, unfolding(crate::specs::records::Decoder::read_cell))]
+#[inline(always)]
 fn read_cell(raised: u8, bytes: &[u8]) -> Result<(Point, &[u8]), Decode>
     ensures { Gives (λ x. (x.0, x.1.now)) result (read_cell raised bytes.now) }
 {
@@ -152,6 +157,7 @@ fn read_cell(raised: u8, bytes: &[u8]) -> Result<(Point, &[u8]), Decode>
 }
 
 #[tactic(auto, unfolding(crate::specs::records::Decoder::read_state))]
+#[inline(always)]
 fn read_state(bytes: &[u8]) -> Result<(State, &[u8]), Decode>
     ensures { Gives (λ x. (x.0, x.1.now)) result (read_state bytes.now) }
 {
@@ -180,6 +186,7 @@ fn read_state(bytes: &[u8]) -> Result<(State, &[u8]), Decode>
 }
 
 /// Reads `count` cells, each coordinate stored with `raised` added.
+#[inline(always)]
 pub(crate) fn read_cells(
     alloc: Global,
     count: u16,
@@ -188,18 +195,19 @@ pub(crate) fn read_cells(
 ) -> Result<(Cells, &[u8]), Decode>
     ensures { Gives (λ x. (x.0, x.1.now)) result (read_many (read_cell raised) count bytes.now) }
 {
-    let mut cells = Cells::new(alloc);
+    let mut cells = Vec::with_capacity(alloc, usize::from(count))?;
     let mut rest = bytes;
     for _ in 0..count {
         let (cell, after) = read_cell(raised, rest)?;
-        cells.push(cell)?;
+        cells.push_reserved(cell);
         rest = after;
     }
-    Ok((cells, rest))
+    Ok((Cells::from_vec(cells), rest))
 }
 
 /// Reads a length, then that many bytes.
 #[tactic(auto, unfolding(crate::specs::records::Decoder::read_piece))]
+#[inline(always)]
 pub(crate) fn read_piece(bytes: &[u8]) -> Result<(&[u8], &[u8]), Decode>
     ensures { Gives (λ x. (x.0.now, x.1.now)) result (read_piece bytes.now) }
 {
@@ -216,6 +224,7 @@ pub(crate) fn read_piece(bytes: &[u8]) -> Result<(&[u8], &[u8]), Decode>
 }
 
 #[tactic(auto, using(crate::proofs::Utf8::is_text, crate::proofs::Utf8::is_no_text))]
+#[inline(always)]
 fn utf8_text(bytes: &[u8]) -> Option<&str>
     ensures { MatchOption result (is_utf8 bytes.now ≡ false) (λ text. (text.now ≡ bytes.now) × (is_utf8 bytes.now ≡ true)) }
 {
@@ -223,6 +232,7 @@ fn utf8_text(bytes: &[u8]) -> Option<&str>
 }
 
 #[tactic(auto, unfolding(crate::specs::records::Decoder::read_id))]
+#[inline(always)]
 fn read_id(alloc: Global, bytes: &[u8]) -> Result<(Id, &[u8]), Decode>
     ensures { Gives (λ x. (x.0, x.1.now)) result (read_id is_utf8 bytes.now) }
 {
@@ -234,6 +244,7 @@ fn read_id(alloc: Global, bytes: &[u8]) -> Result<(Id, &[u8]), Decode>
 }
 
 #[tactic(auto, unfolding(crate::specs::records::Decoder::read_snake))]
+#[inline(always)]
 pub(crate) fn read_snake(alloc: Global, bytes: &[u8]) -> Result<(Snake, &[u8]), Decode>
     ensures { Gives (λ x. (x.0, x.1.now)) result (read_snake is_utf8 bytes.now) }
 {
@@ -251,6 +262,7 @@ pub(crate) fn read_snake(alloc: Global, bytes: &[u8]) -> Result<(Snake, &[u8]), 
     Ok((snake, rest))
 }
 
+#[inline(always)]
 pub(crate) fn read_snakes(
     alloc: Global,
     count: usize,
@@ -258,17 +270,18 @@ pub(crate) fn read_snakes(
 ) -> Result<(Snakes, &[u8]), Decode>
     ensures { Gives (λ x. (x.0, x.1.now)) result (read_many (read_snake is_utf8) count bytes.now) }
 {
-    let mut snakes = Vec::new(alloc);
+    let mut snakes = Vec::with_capacity(alloc, count)?;
     let mut rest = bytes;
     for _ in 0..count {
         let (snake, after) = read_snake(alloc, rest)?;
-        snakes.push(snake)?;
+        snakes.push_reserved(snake);
         rest = after;
     }
     Ok((Snakes::from_vec(snakes), rest))
 }
 
 #[tactic(auto, unfolding(crate::specs::records::Decoder::read_head))]
+#[inline(always)]
 pub(crate) fn read_head(bytes: &[u8]) -> Result<(Head, &[u8]), Decode>
     ensures { Gives (λ x. (x.0, x.1.now)) result (read_head bytes.now) }
 {

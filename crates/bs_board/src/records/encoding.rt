@@ -176,9 +176,9 @@ fn put_cells(into: &mut [u8], at: usize, cells: &[Point], raised: u8) -> usize
     next
 }
 
-#[tactic(auto, using(crate::proofs::records::Parts::puts_both))]
 /// Writes the damage, the number of the cells, then the cells.
-fn put_listed(into: &mut [u8], at: usize, hazards: &Hazards) -> usize
+#[tactic(auto, using(crate::proofs::records::Parts::puts_both))]
+fn put_damage_and_cells(into: &mut [u8], at: usize, hazards: &Hazards) -> usize
     requires room { at + 3 + 2 * length hazards.now.cells ≤ length into.old }
     requires numbers { AreWritableCells hazards.now }
     ensures { Puts at ((hazards.now.damage ∷ two_bytes (length hazards.now.cells)) ++ flat_map (cell_bytes 0) hazards.now.cells) into.old into.new result }
@@ -197,7 +197,7 @@ fn put_hazards(into: &mut [u8], at: usize, hazards: &Option<Hazards>) -> usize
 {
     match hazards {
         None => at,
-        Some(hazards) => put_listed(into, at, hazards),
+        Some(hazards) => put_damage_and_cells(into, at, hazards),
     }
 }
 

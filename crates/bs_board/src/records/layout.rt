@@ -53,6 +53,7 @@ pub struct BoardBytes<'r> {
 }
 
 /// Splits the bytes at `count`, or at their end if there are fewer.
+#[inline(always)]
 fn cut(count: usize, bytes: &[u8]) -> (&[u8], &[u8])
     ensures front { result.0.now ≡ take count bytes.now }
     ensures rest { result.1.now ≡ drop count bytes.now }
@@ -65,6 +66,7 @@ fn cut(count: usize, bytes: &[u8]) -> (&[u8], &[u8])
 }
 
 /// Splits off an id, whose length comes first.
+#[inline(always)]
 fn split_id(bytes: &[u8]) -> (&[u8], &[u8])
     ensures { (s : AnySnake) (rest : List ℕ) → bytes.now ≡ snake_record s ++ rest
         → (result.0.now ≡ s.id) × (result.1.now ≡ state_bytes s ++ (flat_map (cell_bytes 1) s.body ++ rest)) }
@@ -76,6 +78,7 @@ fn split_id(bytes: &[u8]) -> (&[u8], &[u8])
 }
 
 /// The cause that the byte stands for; `None` for 0 and for an unknown byte.
+#[inline(always)]
 fn known_cause(byte: u8) -> Option<Cause>
     ensures { result ≡ unwrap_or (cause_from_byte byte) None }
 {
@@ -92,6 +95,7 @@ fn known_cause(byte: u8) -> Option<Cause>
 
 /// Whether there are hazards, and the mode, by the version and the byte; no hazards and `Standard`
 /// for an unknown pair.
+#[inline(always)]
 fn known_kind(version: u8, byte: u8) -> (bool, Mode)
     ensures { result ≡ unwrap_or (kind_from_bytes version byte) (false, Standard) }
 {
@@ -108,6 +112,7 @@ fn known_kind(version: u8, byte: u8) -> (bool, Mode)
 }
 
 /// The damage of the hazards, their cells, and the bytes that follow.
+#[inline(always)]
 fn split_hazards(hazardous: bool, bytes: &[u8]) -> (u8, &[u8], &[u8])
     ensures { (h : Option AnyHazards) (rest : List ℕ) → hazardous ≡ is_some h → bytes.now ≡ hazard_bytes h ++ rest
         → (result.0 ≡ damage_of h) × (result.1.now ≡ flat_map (cell_bytes 0) (cells_of h)) × (result.2.now ≡ rest) }
@@ -126,6 +131,7 @@ fn split_hazards(hazardous: bool, bytes: &[u8]) -> (u8, &[u8], &[u8])
 }
 
 /// Splits the bytes after a snake's id into the snake's fields and the bytes that follow.
+#[inline(always)]
 fn split_state<'r>(id: &'r [u8], bytes: &'r [u8]) -> (SnakeBytes<'r>, &'r [u8])
     ensures { (s : AnySnake) (rest : List ℕ) → id.now ≡ s.id → bytes.now ≡ state_bytes s ++ (flat_map (cell_bytes 1) s.body ++ rest)
         → IsSnakeBytes s result.0 × (result.1.now ≡ rest) }
@@ -168,6 +174,7 @@ fn split_state<'r>(id: &'r [u8], bytes: &'r [u8]) -> (SnakeBytes<'r>, &'r [u8])
 }
 
 /// Splits off the first of several snakes' records.
+#[inline(always)]
 pub fn split_snake(bytes: &[u8]) -> (SnakeBytes<'_>, &[u8])
     ensures { (s : AnySnake) (rest : List ℕ) → bytes.now ≡ snake_record s ++ rest → IsSnakeBytes s result.0 × (result.1.now ≡ rest) }
 {
@@ -176,6 +183,7 @@ pub fn split_snake(bytes: &[u8]) -> (SnakeBytes<'_>, &[u8])
 }
 
 /// Splits the record of a board. `None` if the bytes are too few for one.
+#[inline(always)]
 pub(crate) fn split_board(bytes: &[u8]) -> Option<BoardBytes<'_>>
     ensures { (b : AnyBoard) → bytes.now ≡ record_of b → MatchOption result ⊥ (IsBoardBytes b) }
 {

@@ -1,4 +1,3 @@
-use Rattle.std.proofs.Common.{rules, ◌≡◌, ◌∙◌, ap, refl, map, inl}
 use Rattle.std.proofs.lemmas.Result.{IfOk-weaker}
 use Rattle.arena.proofs.Requests.{rows_matched, fails_by, none_of_spent, kind_of_spent}
 use Rattle.arena.proofs.command_line.match_words.Goals as goal

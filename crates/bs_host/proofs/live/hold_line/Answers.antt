@@ -6,8 +6,8 @@ use Rattle.bs_host.proofs.CutPieces.{is_feed}
 use Rattle.bs_host.proofs.LiveHeld.{held_back}
 use Rattle.bs_host.proofs.live.hold_line.Goals as goal
 
-pub returns-then-lacks_feed : goal.returns-then-lacks_feed
-returns-then-lacks_feed c =
+pub returns-then-lacks_feed-clause-text : goal.returns-then-lacks_feed-clause-text
+returns-then-lacks_feed-clause-text c =
     let none : position is_feed c.args.pending.now.items ≡ None = rw c.deref.ensures.value at (c.lacks_feed.ensures.0 c.if-lacks_feed.true) in
     let long : MAX_LINE + 1 ≤ length c.args.pending.now.items = omega arith in
     subst (λ new. IsSameText c.args.pending.now.items new) (sym c.truncate.ensures.items) (held_back c.args.pending.now.items none long)

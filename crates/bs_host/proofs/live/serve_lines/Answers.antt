@@ -49,7 +49,7 @@ loop-preserved g c =
                 (append_assoc pending bytes more)
                 (serving_reads host.blocks host.version plan (pending ++ bytes) c.hold_line.new.pending.items c.read_more.new.pending.items more first now count new.cores.open.items
                 new.open_stays new.number (serving_holds host.blocks host.version plan (pending ++ bytes) c.answer_ready.new.pending.items c.hold_line.new.pending.items first now count
-                new.cores.open.items new.open_stays new.number (serves plan (pending ++ bytes) first serving) c.hold_line.ensures) got),
+                new.cores.open.items new.open_stays new.number (serves plan (pending ++ bytes) first serving) c.hold_line.ensures.text) got),
           ),
     )
 
@@ -72,7 +72,7 @@ returns-then-not-branch-clause-written g c =
     (append_assoc pending bytes more)
     (serving_reads host.blocks host.version plan (pending ++ bytes) c.hold_line.new.pending.items c.read_more.new.pending.items more first now count new.cores.open.items
     new.open_stays new.number (serving_holds host.blocks host.version plan (pending ++ bytes) c.answer_ready.new.pending.items c.hold_line.new.pending.items first now count
-    new.cores.open.items new.open_stays new.number (serves plan (pending ++ bytes) first serving) c.hold_line.ensures) got) in
+    new.cores.open.items new.open_stays new.number (serves plan (pending ++ bytes) first serving) c.hold_line.ensures.text) got) in
     let same_blocks = c.in_ok-answer_ready.ensures.blocks ∙ inv.0 in
     let same_version = c.in_ok-answer_ready.ensures.version ∙ inv.1 in
     let ends = rw (same_blocks, same_version, c.deref.ensures.value) at c.in_ok-end_live.ensures.written in
@@ -153,7 +153,7 @@ returns-in_err-end_live-clause-left g c =
     (append_assoc pending bytes more)
     (serving_reads host.blocks host.version plan (pending ++ bytes) c.hold_line.new.pending.items c.read_more.new.pending.items more first now count new.cores.open.items
     new.open_stays new.number (serving_holds host.blocks host.version plan (pending ++ bytes) c.answer_ready.new.pending.items c.hold_line.new.pending.items first now count
-    new.cores.open.items new.open_stays new.number (serves plan (pending ++ bytes) first serving) c.hold_line.ensures) got) in
+    new.cores.open.items new.open_stays new.number (serves plan (pending ++ bytes) first serving) c.hold_line.ensures.text) got) in
     if_some input
     (λ left some same. subst (λ l. LeavesLines host.blocks host.version plan (pieces_of (pending ++ l)) first next fault) (sym same) (stops plan (pending ++ (bytes ++ more)) first served))
     (all_consumed input (g.R.Read.remaining c.read_more.new.input) (bytes ++ more)

@@ -1,0 +1,1 @@
+"""The checker of command files: `arena-check`."""

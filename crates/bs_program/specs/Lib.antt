@@ -1,0 +1,4 @@
+pub mod Asked
+pub mod Outcome
+pub mod Reasons
+pub mod Streams

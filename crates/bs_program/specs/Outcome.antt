@@ -1,0 +1,140 @@
+-- The answer of the program to a request, and what its output then has.
+use Rattle.std.specs.Prelude.{◌≡◌, ◌≢◌, ℕ, ◌<◌, ◌≤◌, List, length, codes, true, false, Option, Some, None, Result, Ok, Err, IfSome}
+use Rattle.std.specs.Io.KnownBytes.{Appends, Keeps}
+use Rattle.bs_host.specs.declared.limits.TheConstants.{MOST_FILE_BYTES}
+use Rattle.bs_host.specs.declared.read.ReadFault.{ReadFault}
+use Rattle.bs_host.specs.declared.read.ReadFault.TheVariants as read
+use Rattle.bs_host.specs.Cut.{cut_of, cut_refusal_of, nth_stay, IsCutRefusal}
+use Rattle.bs_host.specs.Faults.{refusal_of, IsFault, Leaves}
+use Rattle.bs_host.specs.Live.{live_of}
+use Rattle.bs_host.specs.LiveFaults.{live_refusal_of, IsLiveFault, LeavesLive}
+use Rattle.bs_host.specs.Transcript.{transcript_of}
+use Rattle.bs_program.specs.declared.failure.Failure.{Failure}
+use Rattle.bs_program.specs.declared.failure.Failure.TheVariants.{Read, Cut, Serve, Live, Flush}
+use Rattle.bs_program.specs.declared.reason.Reason.{Reason}
+use Rattle.bs_program.specs.declared.stream.Output.{Output}
+use Rattle.bs_program.specs.Reasons.{line_of, reason_of, status_of}
+use Rattle.bs_program.specs.Asked.{Asked, serve, alone, live}
+use Rattle.bs_program.specs.Streams.{held_by}
+
+-- The answer to a request: success, or why it failed.
+abbrev pub Answer : Type 0
+Answer = Result (Unit {0}) Failure
+
+-- the bytes of the file of each name, where they are known
+abbrev pub Named : Type 0
+Named = List ℕ → Option (List ℕ)
+
+-- The bytes of the file: of `-` those that the reader had left, of another name those of the file
+-- of that name.
+pub record IsInput (left : Option (List ℕ)) (named : Named) (name file : List ℕ) : Type 0 where
+  pub bytes : name ≡ codes "-" → IfSome left (λ bytes. file ≡ bytes)
+  pub other : name ≢ codes "-" → IfSome (named name) (λ bytes. file ≡ bytes)
+  pub short : length file ≤ MOST_FILE_BYTES
+
+-- that file has more bytes than a file may have
+pub record IsTooLong (left : Option (List ℕ)) (named : Named) (name : List ℕ) : Type 0 where
+  pub bytes : name ≡ codes "-" → IfSome left (λ bytes. MOST_FILE_BYTES < length bytes)
+  pub other : name ≢ codes "-" → IfSome (named name) (λ bytes. MOST_FILE_BYTES < length bytes)
+
+-- a file is too long only if it has more bytes than a file may have
+abbrev pub IsReadFault : Option (List ℕ) → Named → List ℕ → ReadFault → Type 0
+IsReadFault left named name read.Device = Unit {0}
+IsReadFault left named name read.TooLong = IsTooLong left named name
+IsReadFault left named name read.Memory = Unit {0}
+
+-- a flush changes no byte, and the output notes that it succeeded
+abbrev pub Finishes : {W : Type 0} → (W → Option (List ℕ)) → Output W → Output W → Answer → Type 0
+Finishes contents old new (Ok done) = Keeps (held_by contents old) (held_by contents new) × (new.is_flushed ≡ true)
+Finishes contents old new (Err (Read fault)) = ⊥
+Finishes contents old new (Err (Cut fault)) = ⊥
+Finishes contents old new (Err (Serve fault)) = ⊥
+Finishes contents old new (Err (Live fault)) = ⊥
+Finishes contents old new (Err Flush) = Keeps (held_by contents old) (held_by contents new) × (new.has_failed ≡ true)
+
+-- These bytes were appended to the output.
+abbrev pub Gains : {W : Type 0} → (W → Option (List ℕ)) → Output W → Output W → List ℕ → Type 0
+Gains contents old new = Appends (held_by contents old) (held_by contents new)
+
+-- A file is served with `blocks` blocks: the whole transcript, flushed; or a fault of `serve`, and
+-- what it leaves; or the whole transcript, and a flush that failed.
+abbrev pub Serves : {W : Type 0} → (W → Option (List ℕ)) → ℕ → List ℕ → Output W → Output W → Answer → Type 0
+Serves contents blocks file old new (Ok done) =
+    (refusal_of blocks file ≡ None) × Gains contents old new (transcript_of blocks file) × (new.is_flushed ≡ true)
+Serves contents blocks file old new (Err (Read fault)) = ⊥
+Serves contents blocks file old new (Err (Cut fault)) = ⊥
+Serves contents blocks file old new (Err (Serve fault)) =
+    IsFault (refusal_of blocks file) fault × Leaves (held_by contents) (transcript_of blocks file) old new fault
+Serves contents blocks file old new (Err (Live fault)) = ⊥
+Serves contents blocks file old new (Err Flush) =
+    (refusal_of blocks file ≡ None) × Gains contents old new (transcript_of blocks file) × (new.has_failed ≡ true)
+
+-- `arena serve`: the file was not read, and nothing is written; or it is served.
+abbrev pub ServesFile : {W : Type 0} → (W → Option (List ℕ)) → Option (List ℕ) → Named → List ℕ → ℕ → Output W → Output W → Answer → Type 0
+ServesFile contents left named name blocks old new (Err (Read fault)) = IsReadFault left named name fault × (new ≡ old)
+ServesFile contents left named name blocks old new (Ok done) = (file : List ℕ) × IsInput left named name file × Serves contents blocks file old new (Ok done)
+ServesFile contents left named name blocks old new (Err (Cut fault)) = ⊥
+ServesFile contents left named name blocks old new (Err (Serve fault)) =
+    (file : List ℕ) × IsInput left named name file × Serves contents blocks file old new (Err (Serve fault))
+ServesFile contents left named name blocks old new (Err (Live fault)) = ⊥
+ServesFile contents left named name blocks old new (Err Flush) = (file : List ℕ) × IsInput left named name file × Serves contents blocks file old new (Err Flush)
+
+-- a game, and which of its stays
+pub record Wanted : Type 0 where
+  pub game : List ℕ
+  pub nth : ℕ
+
+-- the file was read and has that stay, and the stay's own lines are served
+pub record PlaysStay {W : Type 0} (contents : W → Option (List ℕ)) (left : Option (List ℕ)) (named : Named) (name : List ℕ) (wanted : Wanted) (blocks : ℕ) (old new : Output W) (answer : Answer) : Type 0 where
+  pub file : List ℕ
+  pub stay : ℕ
+  pub input : IsInput left named name file
+  pub found : nth_stay blocks file wanted.game wanted.nth ≡ Some stay
+  pub served : Serves contents blocks (cut_of blocks file stay) old new answer
+
+-- `arena alone`: the file was not read, or cannot be cut to that stay, and nothing is written; or
+-- the stay's own lines are served.
+abbrev pub PlaysAlone : {W : Type 0} → (W → Option (List ℕ)) → Option (List ℕ) → Named → List ℕ → Wanted → ℕ → Output W → Output W → Answer → Type 0
+PlaysAlone contents left named name wanted blocks old new (Err (Read fault)) = IsReadFault left named name fault × (new ≡ old)
+PlaysAlone contents left named name wanted blocks old new (Err (Cut fault)) =
+    (file : List ℕ) × IsInput left named name file × IsCutRefusal (cut_refusal_of blocks file wanted.game wanted.nth) fault × (new ≡ old)
+PlaysAlone contents left named name wanted blocks old new (Ok done) = PlaysStay contents left named name wanted blocks old new (Ok done)
+PlaysAlone contents left named name wanted blocks old new (Err (Serve fault)) = PlaysStay contents left named name wanted blocks old new (Err (Serve fault))
+PlaysAlone contents left named name wanted blocks old new (Err (Live fault)) = ⊥
+PlaysAlone contents left named name wanted blocks old new (Err Flush) = PlaysStay contents left named name wanted blocks old new (Err Flush)
+
+-- `arena live`: the answers to all lines, flushed; or a fault of `serve_live`, and what it leaves;
+-- or all answers, and a last flush that failed. If the reader's bytes are not known, nothing is
+-- claimed of what is written.
+abbrev pub ServesLive : {W : Type 0} → (W → Option (List ℕ)) → Option (List ℕ) → ℕ → Output W → Output W → Answer → Type 0
+ServesLive contents left blocks old new (Ok done) =
+    IfSome left (λ file. (live_refusal_of blocks file ≡ None) × Gains contents old new (live_of blocks file)) × (new.is_flushed ≡ true)
+ServesLive contents left blocks old new (Err (Read fault)) = ⊥
+ServesLive contents left blocks old new (Err (Cut fault)) = ⊥
+ServesLive contents left blocks old new (Err (Serve fault)) = ⊥
+ServesLive contents left blocks old new (Err (Live fault)) =
+    IfSome left (λ file. IsLiveFault (live_refusal_of blocks file) fault × LeavesLive blocks file (held_by contents old) (held_by contents new) fault)
+ServesLive contents left blocks old new (Err Flush) =
+    IfSome left (λ file. (live_refusal_of blocks file ≡ None) × Gains contents old new (live_of blocks file)) × (new.has_failed ≡ true)
+
+-- the request is done
+abbrev pub Does : {W : Type 0} → (W → Option (List ℕ)) → Option (List ℕ) → Named → Asked → Output W → Output W → Answer → Type 0
+Does contents left named (serve name blocks workers) = ServesFile contents left named name blocks
+Does contents left named (alone name game nth blocks) = PlaysAlone contents left named name (record { game = game; nth = nth }) blocks
+Does contents left named (live blocks) = ServesLive contents left blocks
+
+-- The status and the line.
+
+-- The text was written, unless the writer failed at some call.
+pub record Puts {W : Type 0} (contents : W → Option (List ℕ)) (text : List ℕ) (old new : Output W) : Type 0 where
+  pub written : new.has_failed ≡ false → Gains contents old new text
+  pub lasting : old.has_failed ≡ true → new.has_failed ≡ true
+
+-- the reason's line was written to the errors, unless their writer failed
+abbrev pub Reports : {E : Type 0} → (E → Option (List ℕ)) → Reason → ℕ → Output E → Output E → Type 0
+Reports contents reason status old new = (status ≡ status_of reason) × Puts contents (line_of reason) old new
+
+-- success has status 0 and no line; a failure has the status and line of its reason
+abbrev pub Concludes : {E : Type 0} → (E → Option (List ℕ)) → Answer → ℕ → Output E → Output E → Type 0
+Concludes contents (Ok done) status old new = (status ≡ 0) × (new ≡ old)
+Concludes contents (Err failure) status old new = Reports contents (reason_of failure) status old new

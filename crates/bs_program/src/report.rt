@@ -1,0 +1,89 @@
+//! The exit status, and the line on the errors.
+ghost use Rattle.std.specs.Prelude.{◌++◌, codes, decimal};
+ghost use Rattle.bs_program.specs.Outcome.{Concludes, Puts, Reports};
+ghost use Rattle.bs_program.specs.Reasons.{line_of, plan_text_of, text_of};
+
+use crate::failure::Failure;
+use crate::reason::Reason;
+use crate::stream::Output;
+use bs_host::PlanRefusal;
+use itoa::Buffer;
+use std::io::Write;
+
+/// Writes the text. Stops at the first write that fails.
+#[tactic(auto, using(crate::proofs::Written::appends_more, crate::proofs::Written::appends_nothing))]
+fn put<E: Write>(text: &[u8], errors: &mut Output<E>)
+    ensures { Puts E.contents text.now errors.old errors.new }
+{
+    let mut written = 0;
+    'writes: while written < text.len() {
+        match errors.write(&text[written..]) {
+            Ok(0) => return,
+            Ok(count) => written += count,
+            Err(_) => return,
+        }
+    }
+}
+
+fn put_plan<E: Write>(refusal: PlanRefusal, errors: &mut Output<E>)
+    ensures { Puts E.contents (plan_text_of refusal) errors.old errors.new }
+{
+    match refusal {
+        PlanRefusal::Malformed => put(b"plan P1", errors),
+        PlanRefusal::BadRow => put(b"plan P2", errors),
+        PlanRefusal::TooMany => put(b"plan P3", errors),
+        PlanRefusal::Short => put(b"plan P4", errors),
+    }
+}
+
+fn put_written<E: Write>(written: usize, errors: &mut Output<E>)
+    ensures { Puts E.contents (codes "write failed after " ++ decimal written ++ codes " bytes") errors.old errors.new }
+{
+    put(b"write failed after ", errors);
+    put(Buffer::new().format(written).as_bytes(), errors);
+    put(b" bytes", errors);
+}
+
+fn put_text<E: Write>(reason: Reason, errors: &mut Output<E>)
+    ensures { Puts E.contents (text_of reason) errors.old errors.new }
+{
+    match reason {
+        Reason::NoText => put(b"a word of the command line is no UTF-8", errors),
+        Reason::CannotRead => put(b"cannot read the file", errors),
+        Reason::FileTooLong => put(b"file too long", errors),
+        Reason::Plan(refusal) => put_plan(refusal, errors),
+        Reason::NoSuchGame => put(b"no such game", errors),
+        Reason::OutOfMemory => put(b"out of memory", errors),
+        Reason::WriteFailed(written) => put_written(written, errors),
+        Reason::FlushFailed => put(b"flush failed", errors),
+        Reason::Broken => put(b"broken", errors),
+    }
+}
+
+/// Writes the line of a reason.
+#[tactic(auto, using(crate::proofs::Written::puts_three))]
+fn put_line<E: Write>(reason: Reason, errors: &mut Output<E>)
+    ensures { Puts E.contents (line_of reason) errors.old errors.new }
+{
+    put(b"arena: ", errors);
+    put_text(reason, errors);
+    put(b"\n", errors);
+}
+
+/// Writes the line of a reason, and returns its status.
+pub fn reported<E: Write>(reason: Reason, errors: &mut Output<E>) -> u8
+    ensures { Reports E.contents reason result errors.old errors.new }
+{
+    put_line(reason, errors);
+    reason.status()
+}
+
+/// Returns the status of an answer to a request. Writes the line of a failure.
+pub fn concluded<E: Write>(answer: Result<(), Failure>, errors: &mut Output<E>) -> u8
+    ensures { Concludes E.contents answer result errors.old errors.new }
+{
+    match answer {
+        Ok(()) => 0,
+        Err(failure) => reported(failure.reason(), errors),
+    }
+}

@@ -1,0 +1,148 @@
+//! A request, done over any reader and any writer.
+ghost use Rattle.std.specs.Prelude.{◌≡◌, IfOk, IfErr};
+ghost use Rattle.bs_program.specs.Asked.{asked_for};
+ghost use Rattle.bs_program.specs.Outcome.{Does, Finishes, IsInput, IsReadFault, PlaysAlone, Serves, ServesFile, ServesLive};
+
+use crate::failure::Failure;
+use crate::request::{Request, STANDARD_INPUT, Serving, Solo};
+use crate::source::Sources;
+use crate::stream::Output;
+use bs_host::{ReadFault, cut, read_input, serve, serve_live};
+use bs_workers::OpenGate;
+use std::alloc::Global;
+use std::io::{self, Read, Write};
+use std::mem;
+use std::sync::Wait;
+use std::thread::Threads;
+
+/// The number of workers of `arena alone`.
+const LONE_WORKER: u16 = 1;
+
+/// The memory and the workers that a file is served with.
+#[derive(Clone, Copy)]
+struct Resources {
+    blocks: u16,
+    workers: u16,
+}
+
+/// Reads all bytes of the file of that name; `-` is the standard input.
+fn read_file<S: Sources, R: Read>(
+    rt: &S,
+    alloc: Global,
+    name: &str,
+    input: &mut R,
+) -> Result<Vec<u8>, ReadFault>
+    ensures bytes { IfOk result (λ bytes. IsInput (R.remaining input.old) (S.named rt.now) name.now bytes.items) }
+    ensures fault { IfErr result (IsReadFault (R.remaining input.old) (S.named rt.now) name.now) }
+{
+    if name == STANDARD_INPUT {
+        return read_input(alloc, input);
+    }
+    match rt.open(name) {
+        Ok(mut opened) => read_input(alloc, &mut opened),
+        Err(error) => Err(if error.kind() == io::ErrorKind::OutOfMemory {
+            ReadFault::Memory
+        } else {
+            ReadFault::Device
+        }),
+    }
+}
+
+/// Flushes the output.
+fn finish<W: Write>(output: &mut Output<W>) -> Result<(), Failure>
+    ensures { Finishes W.contents output.old output.new result }
+{
+    output.flush().map_err(|_| Failure::Flush)
+}
+
+/// Writes the transcript of a file, then flushes the output. The core is left to the system, which
+/// frees its memory at once when the program ends; after a fault it is dropped.
+fn serve_bytes<H: Threads + Wait + Sync, W: Write>(
+    rt: &H,
+    alloc: Global,
+    bytes: &[u8],
+    with: Resources,
+    output: &mut Output<W>,
+) -> Result<(), Failure>
+    ensures { Serves W.contents with.blocks bytes.now output.old output.new result }
+{
+    let blocks = usize::from(with.blocks);
+    let workers = usize::from(with.workers);
+    match serve(rt, alloc, bytes, blocks, workers, &OpenGate, output) {
+        Ok(core) => {
+            finish(output)?;
+            mem::forget(core);
+            Ok(())
+        }
+        Err(fault) => Err(Failure::Serve(fault)),
+    }
+}
+
+/// Serves a file whole.
+fn serve_file<H: Sources + Threads + Wait + Sync, R: Read, W: Write>(
+    rt: &H,
+    alloc: Global,
+    request: Serving<'_>,
+    input: &mut R,
+    output: &mut Output<W>,
+) -> Result<(), Failure>
+    ensures { ServesFile W.contents (R.remaining input.old) (H.named rt.now) request.entry.file.now request.entry.blocks output.old output.new result }
+{
+    let bytes = read_file(rt, alloc, request.file, input).map_err(Failure::Read)?;
+    let with = Resources {
+        blocks: request.blocks,
+        workers: request.workers,
+    };
+    serve_bytes(rt, alloc, &bytes, with, output)
+}
+
+/// Serves one stay's own lines of a file.
+fn play_alone<H: Sources + Threads + Wait + Sync, R: Read, W: Write>(
+    rt: &H,
+    alloc: Global,
+    request: Solo<'_>,
+    input: &mut R,
+    output: &mut Output<W>,
+) -> Result<(), Failure>
+    ensures { PlaysAlone W.contents (R.remaining input.old) (H.named rt.now) request.entry.file.now (record { game = request.entry.game.now; nth = request.entry.stay }) request.entry.blocks output.old output.new result }
+{
+    let bytes = read_file(rt, alloc, request.file, input).map_err(Failure::Read)?;
+    let blocks = usize::from(request.blocks);
+    let lines = cut(alloc, &bytes, blocks, request.game, request.stay as usize);
+    let lines = lines.map_err(Failure::Cut)?;
+    let with = Resources {
+        blocks: request.blocks,
+        workers: LONE_WORKER,
+    };
+    serve_bytes(rt, alloc, &lines, with, output)
+}
+
+/// Answers the lines of the standard input as they arrive.
+fn play_live<R: Read, W: Write>(
+    alloc: Global,
+    blocks: u16,
+    input: &mut R,
+    output: &mut Output<W>,
+) -> Result<(), Failure>
+    ensures { ServesLive W.contents (R.remaining input.old) blocks output.old output.new result }
+{
+    serve_live(alloc, input, usize::from(blocks), output).map_err(Failure::Live)?;
+    finish(output)
+}
+
+/// Does what is asked for. Output that is written is flushed at the end.
+pub fn run_request<H: Sources + Threads + Wait + Sync, R: Read, W: Write>(
+    rt: &H,
+    alloc: Global,
+    request: Request<'_>,
+    input: &mut R,
+    output: &mut Output<W>,
+) -> Result<(), Failure>
+    ensures { Does W.contents (R.remaining input.old) (H.named rt.now) (asked_for request.entry) output.old output.new result }
+{
+    match request {
+        Request::Serve(request) => serve_file(rt, alloc, request, input, output),
+        Request::Alone(request) => play_alone(rt, alloc, request, input, output),
+        Request::Live(blocks) => play_live(alloc, blocks, input, output),
+    }
+}

@@ -1,0 +1,98 @@
+//! Files by their names, and want of memory.
+use crate::devices::{Device, Shelf};
+use bs_host::ReadFault;
+use bs_program::{Failure, Output, Request, Serving, Solo, run_request};
+use bs_samples::{holds, same};
+use std::alloc::Global;
+use std::io::ErrorKind;
+use std::sync::Wait;
+use std::test::Fail;
+use std::thread::Threads;
+
+const PLAN_OF_A: &str = "{\"games\":[{\"game\":\"a\",\"quota\":64}]}";
+
+const PLAN_OF_B: &str = "{\"games\":[{\"game\":\"b\",\"quota\":64}]}";
+
+const END_OF_A: &str = "{\"board\":null,\"charge\":0,\"final\":true,\"game\":\"a\"}\n";
+
+/// Does what is asked for on a system with the one file `games.jsonl`, of which the plan is that of
+/// `a`; the standard input has the plan of `b`.
+fn served<H: Threads + Wait + Sync>(
+    rt: &H,
+    alloc: Global,
+    request: Request<'_>,
+    error: ErrorKind,
+    device: &mut Device,
+) -> Result<(), Failure> {
+    let system = Shelf {
+        rt,
+        name: "games.jsonl",
+        bytes: PLAN_OF_A.as_bytes(),
+        error,
+    };
+    let mut input = PLAN_OF_B.as_bytes();
+    run_request(
+        &system,
+        alloc,
+        request,
+        &mut input,
+        &mut Output::new(device),
+    )
+}
+
+fn serve(file: &str) -> Request<'_> {
+    Request::Serve(Serving {
+        file,
+        blocks: 6,
+        workers: 1,
+    })
+}
+
+fn device(alloc: Global) -> Device {
+    Device {
+        taken: Vec::new(alloc),
+        room: 1000,
+        flushes: 100,
+        flushed: None,
+    }
+}
+
+#[test]
+fn a_file_is_read_by_its_name(rt: HostRuntime) -> Result<(), Fail> {
+    let alloc = rt.alloc();
+    let alone = Request::Alone(Solo {
+        file: "games.jsonl",
+        game: "a",
+        stay: 1,
+        blocks: 6,
+    });
+    for request in [serve("games.jsonl"), alone] {
+        let mut device = device(alloc);
+        let answer = served(&rt, alloc, request, ErrorKind::NotFound, &mut device);
+        holds("it is done", answer.is_ok())?;
+        same("of a", device.taken.as_slice(), END_OF_A.as_bytes())?;
+    }
+    Ok(())
+}
+
+/// A file that is missing, and one that cannot be opened for want of memory: nothing is written.
+#[test]
+fn a_file_that_cannot_be_opened(rt: HostRuntime) -> Result<(), Fail> {
+    let alloc = rt.alloc();
+    for (error, is_memory) in [
+        (ErrorKind::NotFound, false),
+        (ErrorKind::PermissionDenied, false),
+        (ErrorKind::OutOfMemory, true),
+    ] {
+        let mut device = device(alloc);
+        let answer = served(&rt, alloc, serve("other.jsonl"), error, &mut device);
+        let seen = match answer {
+            Err(Failure::Read(ReadFault::Device)) => Some(false),
+            Err(Failure::Read(ReadFault::Memory)) => Some(true),
+            _ => None,
+        };
+        same("memory", seen, Some(is_memory))?;
+        same("nothing is written", device.taken.len(), 0)?;
+    }
+    Ok(())
+}

@@ -1,0 +1,246 @@
+"""No bot harms the games of others: honest bots play beside bots of every hostile kind.
+
+The honest bots measure how long they take. None of their moves may be missed, and no latency may be
+far above what they measured. The time for which the machine gave the ladder no processor is taken
+off, so that other programs make no test fail; what the ladder computes itself is not.
+"""
+
+from __future__ import annotations
+
+import asyncio
+import json
+import signal
+import socket
+import sys
+import threading
+import time
+import urllib.request
+from collections.abc import Iterator
+from dataclasses import dataclass, field, replace
+from pathlib import Path
+from typing import Any
+
+import honest
+import hostile
+import pytest
+from served import HERE, START_SECONDS, Served, free_port, serving
+
+from ladder import game
+from ladder.bots import Answer
+from ladder.config import Bot, Config, config_of
+from ladder.game_files import make_folders
+from ladder.page_link import Address, PageLink
+from ladder.pairing import Part
+from ladder.play import Job, play
+from ladder.store import Store
+
+TIMEOUT = 500  # milliseconds
+MARGIN = 30  # before the timeout, within which an honest answer may be late
+MOST_EXCESS = 50  # milliseconds of a latency above what the bot measured
+MOST_HELD = 0.05  # seconds for which the ladder computes without looking at its connections
+BEAT_SECONDS = 0.004
+SERVERS = 3  # processes of hostile bots
+HOSTILE = sorted(hostile.KINDS)
+GROUPS = [HOSTILE[at::4] for at in range(4)]
+
+
+@dataclass
+class Beats:
+    """How the loop of the ladder was held up, beat by beat."""
+
+    rows: list[tuple[float, float, float]] = field(
+        default_factory=list
+    )  # time, seconds, of them own
+
+    async def run(self) -> None:
+        loop = asyncio.get_running_loop()
+        at, own = loop.time(), time.thread_time()
+        while True:
+            await asyncio.sleep(BEAT_SECONDS)
+            now, computed = loop.time(), time.thread_time()
+            self.rows.append((now, now - at - BEAT_SECONDS, computed - own))
+            at, own = now, computed
+
+    def starved(self, begin: float, end: float) -> float:
+        """The milliseconds between two moments in which this process waited for a processor."""
+        return 1000 * sum(
+            max(0.0, late - own)
+            for at, late, own in self.rows
+            if at > begin and at - late - BEAT_SECONDS < end
+        )
+
+    def longest(self) -> float:
+        """The most seconds that the ladder computed between two beats."""
+        return max(own for _, _, own in self.rows)
+
+
+@dataclass
+class Judged:
+    """The moves of honest bots in a run, and what is wrong with them."""
+
+    moves: int = 0
+    excused: int = 0
+    faults: list[str] = field(default_factory=list)
+
+    def judge(self, what: str, answer: Answer, measured: float | None, starved: float) -> None:
+        self.moves += 1
+        if measured is None:
+            self.faults.append(f"{what} was not asked, or could not read what it was asked")
+        elif answer.cause is None:
+            if answer.latency > measured + starved + MOST_EXCESS:
+                self.faults.append(f"{what} is told {answer.latency} ms and took {measured:.0f}")
+        elif answer.cause == "late" and measured + starved > TIMEOUT - MARGIN:
+            self.excused += 1
+        else:
+            self.faults.append(f"{what} missed ({answer.cause}), and took {measured:.0f} ms")
+
+
+@pytest.fixture(scope="module")
+def servers() -> Iterator[list[Served]]:
+    """A process of honest bots, and some of hostile ones."""
+    words: list[str | Path] = [sys.executable, HERE / "hostile.py"]
+    with serving([sys.executable, HERE / "honest.py"], free_port()) as good:
+        with serving(words, free_port()) as one, serving(words, free_port()) as two:
+            with serving(words, free_port()) as three:
+                yield [good, one, two, three]
+
+
+def config_for(folder: Path, servers: list[Served], kinds: list[str], **members: Any) -> Config:
+    bots = [
+        {"name": kind, "url": servers[0].url(f"{kind}/{at}")}
+        for at, kind in enumerate(honest.KINDS)
+    ]
+    for at, kind in enumerate(kinds):
+        server = servers[1 + at % (len(servers) - 1)]
+        bots.append({"name": f"hostile{at}", "url": server.url(kind.replace(" ", "%20"))})
+    words = {"pairing": "tables", "rounds": 3, "turns": 8, "timeout": TIMEOUT}
+    return config_of({"folder": str(folder), "bot": bots, **words, **members}, "here")
+
+
+async def played(
+    config: Config, program: Path, monkeypatch: pytest.MonkeyPatch, is_flooded: bool = False
+) -> tuple[Beats, dict[tuple[str, str], Answer]]:
+    """Plays a ladder; the answers by the game with its turn, and the bot.
+
+    With `is_flooded` it has a page, which is flooded, and whose process hangs after a while.
+    """
+    beats, found = Beats(), {}
+    ask_all = game.Game.ask_all
+
+    async def recorded(self: game.Game, board: Any) -> dict[str, Answer]:
+        answers = await ask_all(self, board)
+        turn = f"{config.letters}-{self.fixture.name} {board['turn']}"
+        found.update({(turn, bot): answer for bot, answer in answers.items()})
+        return answers
+
+    monkeypatch.setattr(game.Game, "ask_all", recorded)
+    make_folders(config.folder)
+    store = Store(config.folder)
+    beating = asyncio.create_task(beats.run())
+    job = Job(config, config.folder, Part(1, 1), program)
+    if is_flooded:
+        async with PageLink(config.folder, Address("127.0.0.1", 0), str, print) as link:
+            flooding = asyncio.create_task(flood(link))
+            await play(job, store, [link])
+            await flooding
+    else:
+        await play(job, store, [])
+    beating.cancel()
+    store.close()
+    return beats, found
+
+
+async def flood(link: PageLink) -> None:
+    """Floods a page for some seconds, and then stops its process."""
+    words = (sys.executable, str(HERE / "flood.py"), str(link.address.port), "3")
+    flooding = await asyncio.create_subprocess_exec(*words)
+    await flooding.wait()
+    if link.page is not None:
+        link.page.process.send_signal(signal.SIGSTOP)
+
+
+def measured_by(server: Served) -> dict[str, float]:
+    with urllib.request.build_opener(urllib.request.ProxyHandler({})).open(
+        server.url("measured"), timeout=START_SECONDS
+    ) as answer:
+        found: dict[str, float] = json.load(answer)
+    return found
+
+
+@pytest.mark.parametrize("kinds", GROUPS, ids=["first", "second", "third", "fourth"])
+def test_honest_bots_play_as_if_alone(
+    program: Path,
+    servers: list[Served],
+    tmp_path: Path,
+    monkeypatch: pytest.MonkeyPatch,
+    kinds: list[str],
+) -> None:
+    assert_unharmed(
+        servers[0],
+        *asyncio.run(played(config_for(tmp_path / "x", servers, kinds), program, monkeypatch)),
+    )
+
+
+def assert_unharmed(server: Served, beats: Beats, found: dict[tuple[str, str], Answer]) -> None:
+    """Checks the moves of the honest bots, and that the ladder never computed for long."""
+    measured = measured_by(server)
+    judged = Judged()
+    for (turn, bot), answer in found.items():
+        if bot in honest.KINDS:
+            starved = beats.starved(answer.asked_at, answer.answered_at)
+            judged.judge(f"{turn} {bot}", answer, measured.get(f"{turn} {bot}"), starved)
+    assert judged.faults == []
+    assert judged.moves > 50
+    assert beats.longest() < MOST_HELD
+
+
+@pytest.mark.parametrize("kind", HOSTILE)
+def test_honest_bots_play_as_if_alone_beside_one_kind(
+    request: pytest.FixtureRequest,
+    program: Path,
+    servers: list[Served],
+    tmp_path: Path,
+    monkeypatch: pytest.MonkeyPatch,
+    kind: str,
+) -> None:
+    if not request.config.getoption("--all"):
+        pytest.skip("by hand, with --all: some seconds for each kind")
+    config = config_for(tmp_path / "x", servers, [kind] * 3)
+    assert_unharmed(servers[0], *asyncio.run(played(config, program, monkeypatch)))
+
+
+def test_silent_names_and_deaf_servers_harm_no_other(
+    program: Path, servers: list[Served], tmp_path: Path, monkeypatch: pytest.MonkeyPatch
+) -> None:
+    """Bots whose name server is silent, and one that accepts no connection."""
+    ends, resolve = threading.Event(), socket.getaddrinfo
+
+    def silent(host: Any, *words: Any, **more: Any) -> Any:
+        if str(host).endswith(".test"):
+            ends.wait(60)
+        return resolve(host, *words, **more)
+
+    monkeypatch.setattr(socket, "getaddrinfo", silent)
+    with socket.create_server(("127.0.0.1", 0), backlog=1) as deaf:
+        place = deaf.getsockname()
+        filling = [socket.socket() for _ in range(4)]
+        for it in filling:
+            it.setblocking(False)
+            it.connect_ex(place)
+        config = config_for(tmp_path / "x", servers, [])
+        urls = [f"http://silent{at}.test/" for at in range(12)] + [f"http://127.0.0.1:{place[1]}"]
+        more = tuple(Bot(f"hostile{at}", url) for at, url in enumerate(urls))
+        config = replace(config, bots=config.bots + more, rounds=2)
+        began = time.monotonic()
+        assert_unharmed(servers[0], *asyncio.run(played(config, program, monkeypatch)))
+        assert time.monotonic() - began < 50, "the run waited for a name"
+        for it in filling:
+            it.close()
+    ends.set()
+
+
+def test_flooded_and_hanging_page_makes_no_move_late(
+    program: Path, servers: list[Served], tmp_path: Path, monkeypatch: pytest.MonkeyPatch
+) -> None:
+    config = config_for(tmp_path / "x", servers, [], rounds=6)
+    assert_unharmed(servers[0], *asyncio.run(played(config, program, monkeypatch, is_flooded=True)))
