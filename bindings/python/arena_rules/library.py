@@ -4,7 +4,7 @@ from __future__ import annotations
 
 import ctypes
 import os
-from ctypes import POINTER, Structure, c_int8, c_size_t, c_uint8, c_uint16, c_uint32, c_void_p
+from ctypes import Structure, c_int8, c_size_t, c_uint8, c_uint16, c_void_p
 from pathlib import Path
 
 SEATS = 8
