@@ -12,13 +12,15 @@ use bs_board::{Board, Direction, Id, Move};
 use bs_rules::{finish_turn, move_snakes};
 use std::alloc::{AllocError, Global};
 
-fn move_board(alloc: Global, board: Board, moves: &[(Id, Direction)]) -> Result<Board, AllocError>
+fn move_board(board: Board, moves: &[(Id, Direction)]) -> Board
     requires bodies { All IsMovable board.snakes }
     requires sides { AreSides (wrap_of board) }
-    ensures { IfOk result (λ next. next ≡ moved_board moves.now board) }
+    ensures { result ≡ moved_board moves.now board }
 {
-    let snakes = move_snakes(alloc, board.snakes.as_slice(), moves, board.wrap())?;
-    Ok(Board { snakes, ..board })
+    let wrap = board.wrap();
+    let mut next = board;
+    move_snakes(&mut next.snakes, moves, wrap);
+    next
 }
 
 /// Plays one turn of a legal board below the last turn.
@@ -30,7 +32,7 @@ fn turn_with(alloc: Global, board: Board, bytes: &[u8], rest: &Move) -> Result<B
     ensures legal { IfOk result IsLegal }
 {
     let moves = moves_by_seat(alloc, bytes, board.snakes.as_slice())?;
-    let moved = move_board(alloc, board, moves.as_slice())?;
+    let moved = move_board(board, moves.as_slice());
     finish_turn(alloc, moved, rest)
 }
 

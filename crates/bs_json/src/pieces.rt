@@ -15,6 +15,7 @@ use itoa::Buffer;
 
 /// Appends the digits of a number.
 #[tactic(auto, using(crate::proofs::ShownCells::one_digit, crate::proofs::ShownCells::two_digits))]
+#[inline(always)]
 pub(crate) fn push_number(number: u64, text: &mut TextBuffer)
     ensures { text.new ≡ put text.old (decimal number) }
 {
@@ -30,6 +31,7 @@ pub(crate) fn push_number(number: u64, text: &mut TextBuffer)
 }
 
 /// Appends a number of one byte.
+#[inline(always)]
 pub(crate) fn push_small(number: u8, text: &mut TextBuffer)
     ensures { text.new ≡ put text.old (decimal number) }
 {
@@ -37,6 +39,7 @@ pub(crate) fn push_small(number: u8, text: &mut TextBuffer)
 }
 
 /// Appends the number of a turn.
+#[inline(always)]
 pub(crate) fn push_turn(turn: u16, text: &mut TextBuffer)
     ensures { text.new ≡ put text.old (decimal turn) }
 {
@@ -86,6 +89,7 @@ fn push_escape(byte: u8, text: &mut TextBuffer)
     }
 }
 
+#[inline(always)]
 fn are_plain(text: &[u8]) -> bool
     ensures { result ≡ are_plain text.now }
 {
@@ -104,6 +108,7 @@ fn push_escapes(bytes: &[u8], text: &mut TextBuffer)
 
 /// Appends the bytes of a string. Nearly all strings have none to escape.
 #[tactic(auto, using(crate::proofs::CompactLines::escape_plain))]
+#[inline(always)]
 fn push_bytes(bytes: &[u8], text: &mut TextBuffer)
     ensures { text.new ≡ put text.old (escape bytes.now) }
 {
@@ -115,6 +120,7 @@ fn push_bytes(bytes: &[u8], text: &mut TextBuffer)
 }
 
 /// Appends a string in quotation marks.
+#[inline(always)]
 pub(crate) fn push_string(bytes: &[u8], text: &mut TextBuffer)
     ensures { text.new ≡ put text.old (compact_text (string bytes.now)) }
 {
@@ -124,6 +130,7 @@ pub(crate) fn push_string(bytes: &[u8], text: &mut TextBuffer)
 }
 
 /// Appends a string, or `null`.
+#[inline(always)]
 pub(crate) fn push_string_or_null(bytes: Option<&[u8]>, text: &mut TextBuffer)
     ensures { text.new ≡ put text.old (compact_text (text_data (option_copied bytes.entry))) }
 {

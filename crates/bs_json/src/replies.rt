@@ -97,6 +97,7 @@ fn stray_text(stray: Stray) -> &'static str
 }
 
 /// Appends the name of a command.
+#[inline(always)]
 fn push_word(word: Word, text: &mut TextBuffer)
     ensures { text.new ≡ put text.old (compact_text (string (word_text word))) }
 {
@@ -104,6 +105,7 @@ fn push_word(word: Word, text: &mut TextBuffer)
 }
 
 /// Appends the code of a refusal.
+#[inline(always)]
 fn push_code(refusal: Refusal, text: &mut TextBuffer)
     ensures { text.new ≡ put text.old (compact_text (string (refusal_code refusal))) }
 {
@@ -111,6 +113,7 @@ fn push_code(refusal: Refusal, text: &mut TextBuffer)
 }
 
 /// Appends the reason of a refusal.
+#[inline(always)]
 fn push_reason(refusal: Refusal, text: &mut TextBuffer)
     ensures { text.new ≡ put text.old (compact_text (string (refusal_text refusal))) }
 {
@@ -132,6 +135,7 @@ fn push_stray_reason(stray: Stray, text: &mut TextBuffer)
 }
 
 /// Appends a game's name.
+#[inline(always)]
 fn push_game(game: &Id, text: &mut TextBuffer)
     ensures { text.new ≡ put text.old (compact_text (string game.now)) }
 {
@@ -139,6 +143,7 @@ fn push_game(game: &Id, text: &mut TextBuffer)
 }
 
 /// Appends a charge.
+#[inline(always)]
 fn push_charge(charge: u32, text: &mut TextBuffer)
     ensures { text.new ≡ put text.old (decimal charge) }
 {
@@ -146,6 +151,7 @@ fn push_charge(charge: u32, text: &mut TextBuffer)
 }
 
 /// Appends a reply's members from the charge's number on, and the closing bracket.
+#[inline(always)]
 fn push_tail(game: &Id, seq: u64, word: Word, charge: u32, text: &mut TextBuffer)
     ensures { text.new ≡ put text.old (tail_pieces game.now seq word charge) }
 {
@@ -175,6 +181,7 @@ fn push_refused(game: &Id, seq: u64, refusal: Refusal, text: &mut TextBuffer)
 }
 
 /// Appends a reply, without the line feed.
+#[inline(always)]
 fn push_reply(game: &Id, seq: u64, reply: &Reply, text: &mut TextBuffer)
     ensures { text.new ≡ put text.old (compact_text (reply_data game.now seq reply.now)) }
 {

@@ -19,6 +19,7 @@ use bs_board::{BoardBytes, Cause, KeptBoard, Mode, SnakeBytes, skip_snakes, spli
 
 /// Appends a column or a row, which the record stores with `raised` added.
 #[tactic(auto, using(crate::proofs::ShownCells::coordinate_inside, crate::proofs::ShownCells::beyond_pieces))]
+#[inline(always)]
 fn push_coordinate(raised: u8, byte: u8, text: &mut TextBuffer)
     ensures { text.new ≡ put text.old (coordinate_text (pos byte -ℤ pos raised)) }
 {
@@ -31,6 +32,7 @@ fn push_coordinate(raised: u8, byte: u8, text: &mut TextBuffer)
 }
 
 /// Appends the text before the column of a cell, after a comma unless it is the first of a list.
+#[inline(always)]
 fn push_start(later: bool, text: &mut TextBuffer)
     ensures { text.new ≡ put text.old (comma_if later ++ codes "{\"x\":") }
 {
@@ -55,6 +57,7 @@ fn push_any_cell(later: bool, raised: u8, x: u8, y: u8, text: &mut TextBuffer)
 
 /// Appends a cell whose column and row have one digit each.
 #[tactic(auto, using(crate::proofs::ShownCells::small_cell))]
+#[inline(always)]
 fn push_small_cell(later: bool, raised: u8, x: u8, y: u8, text: &mut TextBuffer)
     requires left { raised ≤ x }
     requires below { raised ≤ y }
@@ -78,6 +81,7 @@ fn push_small_cell(later: bool, raised: u8, x: u8, y: u8, text: &mut TextBuffer)
 }
 
 /// Appends the cell of these two bytes, which the record stores with `raised` added.
+#[inline(always)]
 fn push_cell(later: bool, raised: u8, x: u8, y: u8, text: &mut TextBuffer)
     ensures { text.new ≡ put text.old (comma_if later ++ compact_text (cell_data (cell_of raised x y))) }
 {
@@ -89,6 +93,7 @@ fn push_cell(later: bool, raised: u8, x: u8, y: u8, text: &mut TextBuffer)
 }
 
 /// Appends a list of cells from their bytes, two for each cell.
+#[inline(always)]
 fn push_cells(raised: u8, cells: &[u8], text: &mut TextBuffer)
     ensures { text.new ≡ put text.old (compact_text (cells_data (cells_of raised cells.now))) }
 {
@@ -104,6 +109,7 @@ fn push_cells(raised: u8, cells: &[u8], text: &mut TextBuffer)
 }
 
 /// Appends the cause of a snake's elimination, or `null`.
+#[inline(always)]
 fn push_cause(cause: Option<Cause>, text: &mut TextBuffer)
     ensures { text.new ≡ put text.old (compact_text (cause_data cause)) }
 {
@@ -114,6 +120,7 @@ fn push_cause(cause: Option<Cause>, text: &mut TextBuffer)
 }
 
 /// Appends the turn of a snake's elimination, or `null`.
+#[inline(always)]
 fn push_out(out: Option<u16>, text: &mut TextBuffer)
     ensures { text.new ≡ put text.old (compact_text (out_data out)) }
 {
@@ -124,6 +131,7 @@ fn push_out(out: Option<u16>, text: &mut TextBuffer)
 }
 
 /// Appends a snake from the parts of its record, with its killer's id.
+#[inline(always)]
 fn push_parts(killer: Option<&[u8]>, snake: &SnakeBytes<'_>, text: &mut TextBuffer)
     ensures { text.new ≡ put text.old (snake_pieces (text_data (option_copied killer.entry)) (snake_of snake.now)) }
 {
@@ -162,6 +170,7 @@ fn killer_id<'r>(board: &BoardBytes<'r>, killer: Option<usize>) -> Option<&'r [u
 
 /// Appends a comma before every snake but the first.
 #[tactic(auto, using(crate::proofs::Puts::put_none))]
+#[inline(always)]
 fn push_comma(later: bool, text: &mut TextBuffer)
     ensures { text.new ≡ put text.old (comma_if later) }
 {
@@ -171,6 +180,7 @@ fn push_comma(later: bool, text: &mut TextBuffer)
 }
 
 /// Appends one of the board's snakes, after a comma unless it is the first.
+#[inline(always)]
 fn push_snake(later: bool, board: &BoardBytes<'_>, snake: &SnakeBytes<'_>, text: &mut TextBuffer)
     ensures { (b : AnyBoard) (s : AnySnake) → IsWritableBoard b → IsWritable s → IsBoardBytes b board.now → IsSnakeBytes s snake.now
         → text.new ≡ put text.old (comma_if later ++ compact_text (snake_data b.snakes s)) }
@@ -180,6 +190,7 @@ fn push_snake(later: bool, board: &BoardBytes<'_>, snake: &SnakeBytes<'_>, text:
 }
 
 /// Appends the list of the snakes.
+#[inline(always)]
 fn push_snakes(board: &BoardBytes<'_>, text: &mut TextBuffer)
     ensures { (b : AnyBoard) → IsWritableBoard b → IsBoardBytes b board.now → text.new ≡ put text.old (compact_text (snakes_data b.snakes)) }
 {
@@ -196,6 +207,7 @@ fn push_snakes(board: &BoardBytes<'_>, text: &mut TextBuffer)
 }
 
 /// Appends whether a game is over.
+#[inline(always)]
 fn push_over(over: bool, text: &mut TextBuffer)
     ensures { text.new ≡ put text.old (compact_text (boolean over)) }
 {
@@ -207,6 +219,7 @@ fn push_over(over: bool, text: &mut TextBuffer)
 }
 
 /// Appends the name of a mode.
+#[inline(always)]
 fn push_mode(mode: Mode, text: &mut TextBuffer)
     ensures { text.new ≡ put text.old (compact_text (string (mode_text mode))) }
 {
@@ -227,6 +240,7 @@ fn push_hazards(board: &BoardBytes<'_>, text: &mut TextBuffer)
 }
 
 /// Appends a board up to its snakes, and whether its game is over.
+#[inline(always)]
 fn push_front(over: bool, board: &BoardBytes<'_>, text: &mut TextBuffer)
     ensures { text.new ≡ put text.old (front_pieces over (board_of board.now [])) }
 {
@@ -247,6 +261,7 @@ fn push_front(over: bool, board: &BoardBytes<'_>, text: &mut TextBuffer)
 }
 
 /// Appends the rest of a board, after its snakes.
+#[inline(always)]
 fn push_back(board: &BoardBytes<'_>, text: &mut TextBuffer)
     ensures { text.new ≡ put text.old (back_pieces (board_of board.now [])) }
 {

@@ -58,31 +58,52 @@ fn same_over(alloc: Global, bytes: &[u8], over: bool) -> Result<(), Fail> {
     same("whether it is over", is_over(alloc, bytes), Ok(over))
 }
 
-/// Plays the turn from one record to another, and in its place.
-fn check_turn(alloc: Global, from: &[u8], to: &[u8]) -> Result<(), Fail> {
+/// Compares the first 26 bytes with a record.
+fn same_record(what: &str, bytes: &[u8], record: &[u8]) -> Result<(), Fail> {
+    match bytes.get(..26) {
+        Some(front) => same(what, front, record),
+        None => Err(Fail::new(format_args!("{what}: there are too few bytes"))),
+    }
+}
+
+/// A slot of 40 bytes with the record in front.
+fn slot_of(record: &[u8; 26]) -> [u8; 40] {
+    let mut slot = [7u8; 40];
+    for index in 0..26usize {
+        slot[index] = record[index];
+    }
+    slot
+}
+
+/// Plays the turn from one record to another.
+fn check_turn(alloc: Global, from: &[u8; 26], to: &[u8; 26]) -> Result<(), Fail> {
     let mut into = [7u8; 40];
-    same("the length", turn(alloc, from, &up(), &mut into), Ok(26))?;
-    same("the record", &into[..26], to)?;
-    into[..26].copy_from_slice(from);
-    same(
-        "in its place",
-        turn_in_place(alloc, &mut into, 26, &up()),
-        Ok(26),
-    )?;
-    same("the record in its place", &into[..26], to)
+    let written = turn(alloc, from.as_slice(), &up(), &mut into);
+    same("the length", written, Ok(26))?;
+    same_record("the record", into.as_slice(), to.as_slice())
+}
+
+/// Plays it in the place of the record.
+fn check_turn_in_place(alloc: Global, from: &[u8; 26], to: &[u8; 26]) -> Result<(), Fail> {
+    let mut slot = slot_of(from);
+    let written = turn_in_place(alloc, &mut slot, 26, &up());
+    same("the length in its place", written, Ok(26))?;
+    same_record("the record in its place", slot.as_slice(), to.as_slice())
+}
+
+fn check_start(alloc: Global) -> Result<(), Fail> {
+    let mut into = [7u8; 40];
+    let written = start(alloc, &solo(&[CENTRE]), &mut into);
+    same("the length", written, Ok(26))?;
+    same_record("the first record", into.as_slice(), FIRST.as_slice())
 }
 
 #[test]
 fn a_game_of_records(rt: HostRuntime) -> Result<(), Fail> {
-    let mut into = [7u8; 40];
-    same(
-        "the length",
-        start(rt.alloc(), &solo(&[CENTRE]), &mut into),
-        Ok(26),
-    )?;
-    same("the first record", &into[..26], FIRST.as_slice())?;
+    check_start(rt.alloc())?;
     same_over(rt.alloc(), &FIRST, false)?;
     check_turn(rt.alloc(), &FIRST, &SECOND)?;
+    check_turn_in_place(rt.alloc(), &FIRST, &SECOND)?;
     check_turn(rt.alloc(), &SECOND, &LAST)?;
     same_over(rt.alloc(), &LAST, true)
 }

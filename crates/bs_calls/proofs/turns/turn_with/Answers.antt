@@ -12,7 +12,7 @@ returns-clause-value c =
     (λ next e.
     next_is_turn c.args.bytes.now c.args.rest.now c.args.board _ next _
     (c.as_slice-2.ensures.value ∙ c.in_ok-moves.ensures ∙ ap (moves_by_seat c.args.bytes.now) c.as_slice.ensures)
-    c.in_ok-moved.ensures e)
+    c.move_board-moved.ensures e)
     c.finish_turn.ensures
 
 pub returns-clause-legal : goal.returns-clause-legal
@@ -22,6 +22,6 @@ returns-clause-legal c =
     rw
     (next_is_turn c.args.bytes.now c.args.rest.now c.args.board _ next _
     (c.as_slice-2.ensures.value ∙ c.in_ok-moves.ensures ∙ ap (moves_by_seat c.args.bytes.now) c.as_slice.ensures)
-    c.in_ok-moved.ensures e)
+    c.move_board-moved.ensures e)
     (turn_with_is_legal c.args.bytes.now c.args.rest.now c.args.board c.requires.legal c.requires.turn))
     c.finish_turn.ensures
