@@ -68,7 +68,7 @@ def test_at_last_all_cells_are_outside() -> None:
 
 
 def config(**members: Any) -> Any:
-    return config_of({"folder": "x", "bot": BOTS, **members}, "here")
+    return config_of({"folder": "x", "bot": BOTS, "seed": 1, **members}, "here")
 
 
 def test_lines_of_a_fixed_map() -> None:
@@ -91,10 +91,10 @@ def test_lines_of_royale() -> None:
 @pytest.mark.parametrize(
     ("members", "digest"),
     [
-        ({}, "1dfa585d4f5f7f7f7012d93c6bd62979d7e40f1ef29daef30bcbbe1b62f9782d"),
+        ({}, "f7e11b8f9290e5a9d095f91093e762f39d9cf1c7bc28fdb6e51620a39586bde1"),
         (
             {"mode": "wrapped", "snakes": 3, "width": 9, "height": 7, "min_food": 3},
-            "9bd5daf26b59000fa6cb49349ab5b3a2345e51c6f54ea41c87a56fba7ba10fda",
+            "57a0c45f79d482238b2587cdb60078a1e14f0200097de2e4689bafc29a3dee14",
         ),
     ],
 )
@@ -105,7 +105,7 @@ def test_ladder_without_a_map_writes_what_it_wrote(
     path = write_config(
         tmp_path / "plain.toml",
         [(name, small_bots.url(name)) for name in SMALL],
-        **{"folder": str(tmp_path / "results"), "turns": 80, "timeout": 5000, **members},
+        **{"folder": str(tmp_path / "results"), "turns": 80, "timeout": 5000, "seed": 1, **members},
     )
     ran = run_ladder("play", path, "--program", program)
     assert (ran.returncode, ran.stderr) == (0, "")
@@ -120,7 +120,7 @@ def royale_in(folder: Path, bots: Served) -> Path:
     return write_config(
         folder / "royale.toml",
         [(name, bots.url(name.rstrip("2"))) for name in names],
-        **{"folder": str(folder / "results"), "map": "royale", "shrink_every": EVERY},
+        **{"folder": str(folder / "results"), "map": "royale", "shrink_every": EVERY, "seed": 1},
         **{"pairing": "tables", "rounds": 2, "turns": 80, "timeout": 5000, "width": 9, "height": 9},
     )
 
