@@ -8,7 +8,9 @@ off, so that other programs make no test fail; what the ladder computes itself i
 from __future__ import annotations
 
 import asyncio
+import gc
 import json
+import os
 import signal
 import socket
 import sys
@@ -39,6 +41,7 @@ MARGIN = 30  # before the timeout, within which an honest answer may be late
 MOST_EXCESS = 50  # milliseconds of a latency above what the bot measured
 MOST_HELD = 0.05  # seconds for which the ladder computes without looking at its connections
 BEAT_SECONDS = 0.004
+TICKS = os.sysconf("SC_CLK_TCK")
 SERVERS = 3  # processes of hostile bots
 HOSTILE = sorted(hostile.KINDS)
 GROUPS = [HOSTILE[at::4] for at in range(4)]
@@ -54,12 +57,12 @@ class Beats:
 
     async def run(self) -> None:
         loop = asyncio.get_running_loop()
-        at, own = loop.time(), time.thread_time()
+        at, own, lost = loop.time(), time.thread_time(), stolen()
         while True:
             await asyncio.sleep(BEAT_SECONDS)
-            now, computed = loop.time(), time.thread_time()
-            self.rows.append((now, now - at - BEAT_SECONDS, computed - own))
-            at, own = now, computed
+            now, computed, gone = loop.time(), time.thread_time(), stolen()
+            self.rows.append((now, now - at - BEAT_SECONDS, computed - own - (gone - lost)))
+            at, own, lost = now, computed, gone
 
     def starved(self, begin: float, end: float) -> float:
         """The milliseconds between two moments in which this process waited for a processor."""
@@ -72,6 +75,16 @@ class Beats:
     def longest(self) -> float:
         """The most seconds that the ladder computed between two beats."""
         return max(own for _, _, own in self.rows)
+
+
+def stolen() -> float:
+    """The seconds that the processors of this virtual machine were taken away.
+
+    They may be in the time of the thread that was running.
+    """
+    with open("/proc/stat") as file:
+        fields = file.readline().split()
+    return int(fields[8]) / TICKS if len(fields) > 8 else 0.0
 
 
 @dataclass
@@ -134,6 +147,8 @@ async def played(
         return answers
 
     monkeypatch.setattr(game.Game, "ask_all", recorded)
+    gc.collect()
+    gc.freeze()  # the objects of earlier tests, which no ladder has
     make_folders(config.folder)
     store = Store(config.folder)
     beating = asyncio.create_task(beats.run())
