@@ -1,5 +1,5 @@
-"""A simulator in plain Python, as bots have them: lists, tuples and sets. For its speed alone: it is
-compared with nothing. No wrapped board, no constrictor."""
+"""A simulator in plain Python, as bots have them: lists, tuples and sets. For its speed alone: it
+is compared with nothing. No wrapped board, no constrictor."""
 
 STEPS = {0: (0, 1), 1: (0, -1), 2: (-1, 0), 3: (1, 0)}
 
