@@ -6,16 +6,28 @@ import asyncio
 import json
 import time
 from collections.abc import Callable
+from dataclasses import dataclass
 from typing import Any
 
+from ladder.colours import Looks, looks_of
 from ladder.host import Board
 
 STANDINGS_SECONDS = 2.0
 REST = 20  # the pause before the next standings, as a multiple of the time that they took
 MOST_READERS = 32
 MOST_WAITING = 16  # events of a reader; a slower reader is disconnected
+ENDED_SECONDS = 10.0  # for which the last board of a game stays
+MOST_ENDED = 24  # games whose last board stays
 
-Results = dict[str, Any]  # the rows of the standings, and what may be known of the seed
+Results = dict[str, Any]  # the rows of the standings, the bots, and what may be known of the seed
+
+
+@dataclass(frozen=True)
+class End:
+    """The end of a game: its winners, and the moment until which its board stays."""
+
+    winners: list[str]
+    until: float
 
 
 class Reader:
@@ -44,15 +56,19 @@ class Feed:
     """Keeps the last board of each running game, and sends the changes to all readers.
 
     A reader gets the whole state when it joins, and then with each message of the ladder the newest
-    board of each game in it. So the cost of a page does not grow with the speed of the games.
+    board of each game in it. So the cost of a page does not grow with the speed of the games. The
+    board of a game that has ended stays for some seconds.
     """
 
     def __init__(self, results: Callable[[], Results]) -> None:
         self.read_results = results
-        self.results: Results = {"standings": [], "seed": ""}
-        self.summary = ""
+        self.results: Results = {"standings": [], "seed": "", "bots": []}
+        self.words = dict.fromkeys(("games", "left", "summary", "waits"), "")
         self.readers: set[Reader] = set()
         self.boards: dict[str, Board] = {}
+        self.ended: dict[str, End] = {}
+        self.chosen: dict[str, str] = {}  # colours, by bot
+        self.looks: Looks = {}
         self.is_stale = True
         self.next_results = 0.0
 
@@ -61,32 +77,54 @@ class Feed:
         if len(self.readers) >= MOST_READERS:
             return None
         reader = Reader()
-        reader.put(event("all", self.state(self.boards)))
+        reader.put(event("all", self.all()))
         self.readers.add(reader)
         return reader
 
     def leave(self, reader: Reader) -> None:
         self.readers.discard(reader)
 
-    def state(self, boards: dict[str, Board]) -> dict[str, Any]:
-        return {"summary": self.summary, "boards": boards, **self.results}
+    def all(self) -> dict[str, Any]:
+        """The whole state, as far as a reader needs it."""
+        ended = {name: end.winners for name, end in self.ended.items()}
+        state: dict[str, Any] = {"boards": self.boards, "ended": ended, "gone": []}
+        return {**state, **self.words, **self.results, "looks": self.looks}
 
     async def take(self, message: dict[str, Any]) -> None:
         """Takes a message of the ladder, and sends what it changes to all readers."""
-        self.summary = message["summary"]
+        self.words = {key: message[key] for key in self.words}
         self.boards.update(message["boards"])
-        for name in message["gone"]:
-            self.boards.pop(name, None)
-        self.is_stale = self.is_stale or bool(message["gone"])
+        until = time.monotonic() + ENDED_SECONDS
+        self.ended.update((name, End(it, until)) for name, it in message["ended"].items())
+        gone = self.forget(set(message["running"]))
+        self.is_stale = self.is_stale or bool(message["ended"]) or message["colours"] != self.chosen
+        self.chosen = message["colours"]
+        state: dict[str, Any] = {key: message[key] for key in ("boards", "ended")}
+        state.update(self.words, gone=gone)
         if self.readers and self.is_stale and time.monotonic() >= self.next_results:
             await self.refresh()
-        self.publish(event("changes", {**self.state(message["boards"]), "gone": message["gone"]}))
+            state.update({**self.results, "looks": self.looks})
+        self.publish(event("changes", state))
+
+    def forget(self, running: set[str]) -> list[str]:
+        """Forgets the games that do not run and ended too long ago; returns their names."""
+        now = time.monotonic()
+        newest = set(list(self.ended)[-MOST_ENDED:])
+        self.ended = {
+            name: end for name, end in self.ended.items() if name in newest and end.until > now
+        }
+        gone = [name for name in self.boards if name not in running and name not in self.ended]
+        for name in gone:
+            del self.boards[name]
+        return gone
 
     async def refresh(self) -> None:
         """Reads the results again, but no more than one part in REST of the time."""
         self.is_stale = False
         began = time.monotonic()
         self.results = await asyncio.to_thread(self.read_results)
+        names = dict.fromkeys([*self.results["bots"], *self.chosen])
+        self.looks = await asyncio.to_thread(looks_of, list(names), dict(self.chosen))
         took = time.monotonic() - began
         self.next_results = began + max(STANDINGS_SECONDS, REST * took)
 
@@ -97,7 +135,8 @@ class Feed:
     async def close(self) -> None:
         """Sends the final state to all readers, and ends their events."""
         await self.refresh()
-        last = event("end", {**self.state(self.boards), "gone": []})
+        self.words.update(left="", summary="", waits="")
+        last = event("end", self.all())
         for reader in self.readers:
             reader.end(last)
 

@@ -127,6 +127,7 @@ class Game:
         stay = await host.admit(self.fixture.name, QUOTA)
         await stay.replay([*first[1:], *old[2:]])
         stay.log = files.commands
+        self.context.watch.enter(self.fixture, {bot: it.look for bot, it in self.seats.items()})
         self.context.watch.show(self.fixture, stay.board)
         return stay
 

@@ -61,7 +61,7 @@ async def play_job(job: Job, store: Store, counts: Counts, address: Address | No
         bar = stack.enter_context(ProgressBar(counts))
         watches: list[Watch] = [counts, bar]
         if address is not None:
-            link = PageLink(job.folder, address, counts.line, bar.say)
+            link = PageLink(job.folder, address, counts.line, bar.say, job.program)
             watches.append(await stack.enter_async_context(link))
             bar.say(f"the page is {link.address}")
         await play(job, store, watches)

@@ -1,9 +1,10 @@
 """Serves the page of a run: its standings and its running games, live in a browser.
 
-    python3 -m ladder.page FD HOST PORT FOLDER
+    python3 -m ladder.page FD HOST PORT FOLDER PROGRAM
 
 `ladder.page_link` starts it. FD is a socket to the ladder, whose lines are the messages for the
-feed; when it ends, so do the events and this program.
+feed; when it ends, so do the events and this program. PROGRAM is arena, which replays the finished
+games that are looked at.
 """
 
 from __future__ import annotations
@@ -20,14 +21,12 @@ from pathlib import Path
 from aiohttp import web
 
 from ladder.feed import Feed, Results
+from ladder.history import bots_of
+from ladder.page_calls import KINDS, Calls, faults_as_answers, files_of_page, rows_of
 from ladder.page_link import Address
 from ladder.seeds import seed_line_of
-from ladder.standings import standings_of
 from ladder.store import open_store
 
-HERE = Path(__file__).resolve().parent
-FILES = {"/": "index.html", "/page.js": "page.js", "/page.css": "page.css"}
-DRAWING = HERE.parent / "viewer" / "drawing"
 CLOSING_SECONDS = 2.0
 ALIVE_SECONDS = 1.0
 LONGEST_LINE = 256 * 1024 * 1024  # of the ladder; its messages have no more than 16 boards
@@ -76,10 +75,11 @@ class Doorkeeper:
 
 
 @asynccontextmanager
-async def page(feed: Feed, address: Address) -> AsyncIterator[Address]:
+async def page(calls: Calls, address: Address) -> AsyncIterator[Address]:
     """Serves the page within the context, whose value is its address; port 0 chooses a free one."""
     silent: Protocols = set()
-    runner = web.AppRunner(application(feed, silent), access_log=None)
+    feed = calls.feed
+    runner = web.AppRunner(application(calls, silent), access_log=None)
     await runner.setup()
     assert runner.server is not None
     door = Doorkeeper(runner.server, silent)
@@ -94,30 +94,28 @@ async def page(feed: Feed, address: Address) -> AsyncIterator[Address]:
         await runner.cleanup()
 
 
-def application(feed: Feed, silent: Protocols) -> web.Application:
-    """The web application: the page's files, the scripts that draw boards, and the events.
+def application(calls: Calls, silent: Protocols) -> web.Application:
+    """The web application: the files of the page and of the viewer, the events, and the results.
 
     `silent` has the connections on which nothing was asked yet.
     """
-
-    def file(name: str) -> web.Response:
-        kind = {"html": "text/html", "js": "text/javascript", "css": "text/css"}
-        text = (HERE / "page" / name).read_text()
-        return web.Response(text=text, content_type=kind[name.rpartition(".")[2]], charset="utf-8")
+    files = files_of_page()
 
     async def show(request: web.Request) -> web.Response:
-        return file(FILES[request.path])
+        path = files[request.path]
+        kind = KINDS[path.suffix[1:]]
+        return web.Response(text=path.read_text(), content_type=kind, charset="utf-8")
 
     async def events(request: web.Request) -> web.StreamResponse:
-        return await send_events(request, feed)
+        return await send_events(request, calls.feed)
 
     async def secure(request: web.Request, response: web.StreamResponse) -> None:
         silent.discard(request.protocol)
         response.headers.update(HEADERS)
 
-    app = web.Application()
-    app.add_routes([web.get(path, show) for path in FILES])
-    app.add_routes([web.get("/events", events), web.static("/drawing", DRAWING)])
+    app = web.Application(middlewares=[faults_as_answers])
+    app.add_routes([web.get(path, show) for path in files])
+    app.add_routes([web.get("/events", events), *calls.routes()])
     app.on_response_prepare.append(secure)
     return app
 
@@ -142,8 +140,8 @@ async def send_events(request: web.Request, feed: Feed) -> web.StreamResponse:
 def results_of(folder: Path) -> Results:
     """Reads the results of a folder."""
     with closing(open_store(folder)) as store:
-        rows = [standing.row() for standing in standings_of(store)]
-        return {"standings": rows, "seed": seed_line_of(store)}
+        rows = rows_of(store)
+        return {"standings": rows, "seed": seed_line_of(store), "bots": bots_of(store)}
 
 
 async def say_alive(writer: asyncio.StreamWriter) -> None:
@@ -154,12 +152,12 @@ async def say_alive(writer: asyncio.StreamWriter) -> None:
         await asyncio.sleep(ALIVE_SECONDS)
 
 
-async def serve(ladder: socket.socket, address: Address, folder: Path) -> None:
+async def serve(ladder: socket.socket, address: Address, folder: Path, program: Path) -> None:
     """Serves the page until the socket to the ladder ends."""
     reader, writer = await asyncio.open_connection(sock=ladder, limit=LONGEST_LINE)
     feed = Feed(lambda: results_of(folder))
     try:
-        async with page(feed, address) as served:
+        async with page(Calls(feed, folder, program), address) as served:
             writer.write(json.dumps(vars(served)).encode() + b"\n")
             alive = asyncio.create_task(say_alive(writer))
             while line := await reader.readline():
@@ -173,9 +171,10 @@ async def serve(ladder: socket.socket, address: Address, folder: Path) -> None:
 
 
 def main(words: list[str]) -> None:
-    number, host, port, folder = words
+    number, host, port, folder, program = words
     os.nice(NICENESS)
-    asyncio.run(serve(socket.socket(fileno=int(number)), Address(host, int(port)), Path(folder)))
+    ladder, address = socket.socket(fileno=int(number)), Address(host, int(port))
+    asyncio.run(serve(ladder, address, Path(folder), Path(program)))
 
 
 if __name__ == "__main__":

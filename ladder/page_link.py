@@ -19,11 +19,9 @@ from dataclasses import dataclass
 from pathlib import Path
 from typing import Any
 
-from ladder.host import Board
-from ladder.outcome import Outcome
-from ladder.pairing import Fixture
+from ladder.host import PROGRAM
+from ladder.news import News
 from ladder.urls import named_host
-from ladder.watch import Watch
 
 LOCAL = "127.0.0.1"
 ROOT = Path(__file__).resolve().parent.parent
@@ -32,7 +30,6 @@ START_SECONDS = 30.0
 HANG_SECONDS = 10.0  # without a sign of life
 CLOSING_SECONDS = 5.0
 MOST_STARTS = 6
-MOST_BOARDS = 16  # in a message
 LONGEST_LINE = 65_536  # from the page
 
 
@@ -62,8 +59,8 @@ class PageFault(Exception):
 class PageProcess:
     """One process that serves the page, and the socket to it."""
 
-    def __init__(self, folder: Path, address: Address) -> None:
-        self.words = [address.host, str(address.port), str(folder)]
+    def __init__(self, folder: Path, address: Address, program: Path) -> None:
+        self.words = [address.host, str(address.port), str(folder), str(program)]
 
     async def start(self) -> Address:
         """Starts it; returns its address, or raises `PageFault`."""
@@ -122,7 +119,7 @@ class PageProcess:
         self.writer.transport.abort()
 
 
-class PageLink(Watch):
+class PageLink(News):
     """Keeps a process with the page, and sends it the changes, tick by tick.
 
     `tell` is called with messages for the person who runs the ladder. It is an `async with` context.
@@ -134,15 +131,15 @@ class PageLink(Watch):
         address: Address,
         summary: Callable[[], str],
         tell: Callable[[str], None],
+        program: Path = PROGRAM,
     ) -> None:
+        super().__init__()
         self.folder = folder
         self.address = address
         self.summary = summary
         self.tell = tell
+        self.program = program
         self.page: PageProcess | None = None
-        self.boards: dict[str, Board] = {}
-        self.changed: dict[str, None] = {}  # names of games, those that changed first before others
-        self.gone: list[str] = []
 
     async def __aenter__(self) -> PageLink:
         await self.start()
@@ -158,19 +155,10 @@ class PageLink(Watch):
 
     async def start(self) -> None:
         """Starts a process for the page, which first gets all boards."""
-        page = PageProcess(self.folder, self.address)
+        page = PageProcess(self.folder, self.address, self.program)
         self.address = await page.start()
-        self.changed = dict.fromkeys(self.boards)
+        self.begin_anew()
         self.page = page
-
-    def show(self, fixture: Fixture, board: Board) -> None:
-        self.boards[fixture.name] = board
-        self.changed[fixture.name] = None
-
-    def end(self, outcome: Outcome) -> None:
-        self.boards.pop(outcome.name, None)
-        self.changed.pop(outcome.name, None)
-        self.gone.append(outcome.name)
 
     async def run(self) -> None:
         while True:
@@ -181,12 +169,7 @@ class PageLink(Watch):
         """Sends what has changed, if the page has read all that was sent before."""
         if self.page is None or self.page.is_behind:
             return
-        names = list(self.changed)[:MOST_BOARDS]
-        for name in names:
-            del self.changed[name]
-        gone, self.gone = self.gone, []
-        boards = {name: self.boards[name] for name in names}
-        self.page.send({"summary": self.summary(), "boards": boards, "gone": gone})
+        self.page.send({"summary": self.summary(), **self.message()})
 
     async def keep(self) -> None:
         """Starts another process when one ends or hangs, but not for ever."""

@@ -61,8 +61,14 @@ def ratings(
     results = Comparisons(names)
     for lived in games:
         results.add(lived)
-    wins: Numbers = np.array(results.wins).reshape(len(names), len(names))
-    strengths: Numbers = np.zeros(len(names))
+    return ratings_from(results)
+
+
+def ratings_from(results: Comparisons) -> dict[str, Rating]:
+    """The rating of each bot from these comparisons."""
+    size = len(results.names)
+    wins: Numbers = np.array(results.wins).reshape(size, size)
+    strengths: Numbers = np.zeros(size)
     for _ in range(MOST_STEPS):
         slopes, curvature = derivatives(wins, strengths)
         steps = np.linalg.solve(curvature, slopes)

@@ -8,6 +8,7 @@ from ladder.bots import Answer
 from ladder.host import Board
 from ladder.outcome import Outcome
 from ladder.pairing import Fixture
+from ladder.payloads import Look
 
 
 class Watch:
@@ -15,6 +16,9 @@ class Watch:
 
     def begin(self, done: int, fixtures: int) -> None:
         """Called first: `done` of `fixtures` games are done already."""
+
+    def enter(self, fixture: Fixture, looks: Mapping[str, Look]) -> None:
+        """Called when a game begins or goes on, with the looks of its bots."""
 
     def show(self, fixture: Fixture, board: Board) -> None:
         """Called with the first board of a game, and with the board after each turn."""
@@ -41,6 +45,10 @@ class Watches(Watch):
     def begin(self, done: int, fixtures: int) -> None:
         for watch in self.watches:
             watch.begin(done, fixtures)
+
+    def enter(self, fixture: Fixture, looks: Mapping[str, Look]) -> None:
+        for watch in self.watches:
+            watch.enter(fixture, looks)
 
     def show(self, fixture: Fixture, board: Board) -> None:
         for watch in self.watches:

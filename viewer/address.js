@@ -32,6 +32,11 @@ function fileInAddress(search) {
   return new URLSearchParams(search).get('file');
 }
 
+/** The file with the looks of the snakes that the address names, or null. */
+function looksInAddress(search) {
+  return new URLSearchParams(search).get('looks');
+}
+
 /** Removes the file from the address of the page, and the turn as well if `withTurn` is true. */
 function forgetAddress(withTurn) {
   const address = new URL(location);

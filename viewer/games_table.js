@@ -31,7 +31,7 @@ function livingCell(row) {
     cell.append(row.state === 'not begun' ? '–' : 'nobody');
   }
   for (const { snake, seat } of row.living) {
-    cell.append(made('span', { className: 'chip' }, swatchPicture(seat), snake.id));
+    cell.append(made('span', { className: 'chip' }, swatchPicture(snake.id, seat), snake.id));
   }
   return cell;
 }

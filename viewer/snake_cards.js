@@ -12,7 +12,7 @@ class SnakeCard {
     this.meter = made('meter', { ...range, ariaLabel: `Health of ${snake.id}` });
     this.plot = drawn('svg', { class: 'plot', role: 'img', preserveAspectRatio: 'none' });
     this.plot.addEventListener('click', (event) => onTurn(turnAtPlot(this.plot, event, this.last)));
-    this.look = made('span', {}, swatchPicture(seat));
+    this.look = made('span', {}, swatchPicture(snake.id, seat));
     this.item = made('li', {},
       made('div', { className: 'who' }, this.look, made('strong', {}, snake.id), this.fate),
       made('div', { className: 'how' }, this.numbers, this.meter), this.plot);
@@ -22,7 +22,7 @@ class SnakeCard {
   show(snake, turn, last) {
     this.last = last;
     this.item.classList.toggle('out', !isLiving(snake));
-    this.look.replaceChildren(swatchPicture(this.seat, isLiving(snake)));
+    this.look.replaceChildren(swatchPicture(snake.id, this.seat, isLiving(snake)));
     this.fate.textContent = fateOf(snake);
     this.numbers.textContent = `health ${snake.health}, length ${snake.body.length}`;
     this.meter.value = snake.health;

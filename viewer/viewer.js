@@ -192,6 +192,15 @@ function listenToFiles(viewer, page) {
   });
 }
 
+/** Fetches a transcript, after the looks of its snakes if a file with them is named and there. */
+async function fetchWithLooks(name, looks) {
+  if (looks) {
+    const reading = fetchFile(looks).then((file) => file.text()).then(JSON.parse);
+    setLooks(await reading.catch(() => ({})));
+  }
+  return fetchFile(name);
+}
+
 function beginViewer() {
   const page = elementsOfPage();
   const viewer = new Viewer(page);
@@ -204,7 +213,7 @@ function beginViewer() {
   window.addEventListener('hashchange', () => viewer.goToAddress());
   const name = fileInAddress(location.search);
   if (name) {
-    viewer.open(name, fetchFile(name));
+    viewer.open(name, fetchWithLooks(name, looksInAddress(location.search)));
   }
 }
 

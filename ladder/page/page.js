@@ -1,90 +1,88 @@
-// The page of a running ladder: shows the standings and each running game from the server's events.
+// The page of a running ladder: shows the standings, the running games and the finished ones.
 // Names and other texts of bots are inserted as text, never as markup.
 'use strict';
 
-/** The texts of the cells of a row of the standings, after the bot's name. */
+const REFRESH_MS = 2000;
+
+/** The cells of a row of the standings, after the bot's name. */
 function cellsOf(row) {
-  const inMs = (value) => (value === null ? '-' : `${value} ms`);
-  const rating = `${row.elo} ± ${row.error}`;
-  const times = [inMs(row.median_ms), inMs(row.p99_ms)];
-  return [row.games, row.wins, row.draws, row.losses, rating, ...times, row.missed];
+  const number = (value, more = '') => made('td', { className: `number ${more}` }, String(value));
+  return [
+    number(row.games), number(row.wins), number(row.draws, 'large'), number(row.losses),
+    number(`${row.elo} ± ${row.error}`), number(inMs(row.median_ms)),
+    number(inMs(row.p99_ms), 'large'), number(row.missed),
+    made('td', { className: 'large' }, wordsOfCauses(row)),
+  ];
 }
 
-function showStandings(body, rows) {
-  body.replaceChildren(...rows.map((row) => made('tr', {},
-    made('th', { scope: 'row' }, row.bot),
-    ...cellsOf(row).map((cell) => made('td', { className: 'number' }, String(cell))))));
-}
-
-/** A list item of a snake: its colour, its name, and its health and length or `out`. */
-function snakeItem(snake, seat) {
-  const lives = isLiving(snake);
-  return made('li', { className: lives ? '' : 'out' }, swatchPicture(seat, lives),
-    `${snake.id} ${lives ? `${snake.health}, ${snake.body.length}` : 'out'}`);
-}
-
-/** The card of a running game: its board, and its snakes in the order of their seats. */
-class GameCard {
-  constructor(name) {
-    this.turn = made('span', { className: 'turn' });
-    this.board = drawn('svg', { role: 'img' });
-    this.hazards = made('p', { className: 'hazard-legend', hidden: true });
-    this.snakes = made('ul');
-    this.item = made('article', {}, made('h3', {}, name, ' ', this.turn), this.board, this.hazards,
-      this.snakes);
-    this.item.dataset.game = name;
-  }
-
-  show(board) {
-    if (faultOfBoard(board) !== null) {
-      return;
-    }
-    this.turn.textContent = `turn ${board.turn}`;
-    drawBoard(this.board, board, false);
-    showHazardLegend(this.hazards, board);
-    this.snakes.replaceChildren(...board.snakes.map(snakeItem));
-  }
+function standingsRow(row) {
+  const line = made('tr', {}, made('th', { scope: 'row' }, botLabel(row.bot)), ...cellsOf(row));
+  line.dataset.bot = row.bot;
+  return line;
 }
 
 class LadderPage {
   constructor() {
-    this.summary = document.getElementById('summary');
-    this.seed = document.getElementById('seed');
+    const element = (id) => document.getElementById(id);
+    this.progress = element('progress');
+    this.summary = element('summary');
+    this.seed = element('seed');
+    this.filter = element('filter');
     this.standings = document.querySelector('#standings tbody');
-    this.games = document.getElementById('games');
-    this.cards = new Map();
+    this.boards = new Boards(element('games'), element('shown'));
+    this.finished = new FinishedGames(element('finished'), element('more'));
+    this.games = '';
+    this.gamesShown = '';
+    this.filter.addEventListener('change', () => this.choose(this.filter.value));
+    setInterval(() => this.refresh(), REFRESH_MS);
   }
 
   setState(state) {
     document.body.dataset.state = state;
   }
 
-  /** Shows the state in an event; `gone` has the names of the games that are done. */
-  show(state) {
-    this.summary.textContent = state.summary;
-    this.seed.textContent = state.seed;
-    showStandings(this.standings, state.standings);
-    Object.entries(state.boards).forEach(([name, board]) => this.showBoard(name, board));
-    (state.gone ?? []).forEach((name) => this.remove(name));
+  /** Shows the games of a bot alone, or all if it is empty. */
+  choose(bot) {
+    this.boards.choose(bot);
+    this.finished.show(bot);
   }
 
-  showBoard(name, board) {
-    if (!this.cards.has(name)) {
-      const card = new GameCard(name);
-      this.cards.set(name, card);
-      this.games.append(card.item);
+  /** Reads the finished games again if there are more. */
+  refresh() {
+    if (this.games !== this.gamesShown && document.body.dataset.state === 'running') {
+      this.gamesShown = this.games;
+      this.finished.refresh();
     }
-    this.cards.get(name).show(board);
   }
 
-  remove(name) {
-    this.cards.get(name)?.item.remove();
-    this.cards.delete(name);
+  /** Shows the state in an event, which has the standings only where they change. */
+  show(state) {
+    const words = (...all) => all.filter((word) => word !== '').join(', ');
+    this.games = state.games;
+    this.progress.textContent = words(state.games, state.left, state.waits);
+    this.summary.textContent = state.summary;
+    if (state.looks) {
+      setLooks(state.looks);
+    }
+    if (state.standings) {
+      this.seed.textContent = state.seed;
+      this.standings.replaceChildren(...state.standings.map(standingsRow));
+      this.showChoices(state.bots);
+      this.boards.drawAll();
+    }
+    this.boards.take(state);
   }
 
-  /** Removes all games. */
-  clear() {
-    [...this.cards.keys()].forEach((name) => this.remove(name));
+  /** Offers the bots in the filter. */
+  showChoices(bots) {
+    const shown = [...this.filter.options].map((option) => option.value);
+    const wanted = ['', ...[...bots].sort()];
+    if (shown.join(' ') !== wanted.join(' ')) {
+      const chosen = this.filter.value;
+      const option = (bot) => made('option', { value: bot, selected: bot === chosen },
+        bot === '' ? 'all bots' : bot);
+      this.filter.replaceChildren(...wanted.map(option));
+    }
   }
 }
 
@@ -93,8 +91,9 @@ function beginPage() {
   const events = new EventSource('events');
   events.addEventListener('all', (event) => {
     page.setState('running');
-    page.clear();
+    page.boards.clear();
     page.show(JSON.parse(event.data));
+    page.refresh();
   });
   events.addEventListener('changes', (event) => page.show(JSON.parse(event.data)));
   events.addEventListener('end', (event) => {

@@ -8,6 +8,7 @@ import re
 import signal
 import socket
 import subprocess
+import time
 import urllib.error
 import urllib.request
 from collections.abc import Iterator
@@ -21,9 +22,14 @@ from testing import chromium  # of viewer/
 
 from ladder import page as page_module
 from ladder import page_link
+from ladder.bots import Answer
 from ladder.config import Bot
 from ladder.feed import MOST_READERS, MOST_WAITING, Feed, Reader
+from ladder.host import PROGRAM
+from ladder.news import News, duration
+from ladder.outcome import Finish, Outcome
 from ladder.page import MOST_CONNECTIONS, page
+from ladder.page_calls import Calls
 from ladder.page_link import Address, PageFault, PageLink, address_of
 from ladder.pairing import Fixture
 from ladder.store import Store
@@ -86,18 +92,25 @@ def join_feed(feed: Feed) -> Reader:
     return reader
 
 
-def message(boards: dict[str, Any], *gone: str) -> dict[str, Any]:
-    """A message of the ladder."""
-    return {"summary": "one <line>\nand more", "boards": boards, "gone": list(gone)}
+def message(boards: dict[str, Any], **more: Any) -> dict[str, Any]:
+    """A message of the ladder, in which the games of these boards run."""
+    words = {"summary": "one <line>\nand more", "games": "3 of 9 games", "left": "", "waits": ""}
+    members = {"boards": boards, "running": list(boards), "ended": {}, "colours": {}}
+    return {**words, **members, **more}
 
 
 def no_results() -> dict[str, Any]:
-    return {"standings": [], "seed": ""}
+    return {"standings": [], "seed": "", "bots": []}
+
+
+def calls_of(feed: Feed) -> Calls:
+    """The calls of a page whose folder has no results."""
+    return Calls(feed, Path("/nonexistent"), PROGRAM)
 
 
 def test_readers_get_the_changes() -> None:
     async def work() -> None:
-        feed = Feed(lambda: {"standings": [{"bot": "a"}], "seed": "secret"})
+        feed = Feed(lambda: {"standings": [{"bot": "a"}], "seed": "secret", "bots": ["a"]})
         await feed.take(message({GAME.name: {"turn": 0}}))
         reader = join_feed(feed)
         kind, state = parse_event(reader.events.get_nowait())
@@ -107,14 +120,89 @@ def test_readers_get_the_changes() -> None:
         assert (kind, state["boards"]) == ("changes", {GAME.name: {"turn": 2}})
         assert (state["standings"], state["seed"]) == ([{"bot": "a"}], "secret")
         assert state["summary"] == "one <line>\nand more"
-        await feed.take(message({}, GAME.name))
+        assert state["looks"]["a"]["colour"] == "#d17700"
+        await feed.take(message({}))
         state = parse_event(reader.events.get_nowait())[1]
         assert (state["boards"], state["gone"], feed.boards) == ({}, [GAME.name], {})
         await feed.close()
-        assert parse_event(reader.events.get_nowait())[0] == "end"
+        kind, state = parse_event(reader.events.get_nowait())
+        assert (kind, state["games"], state["summary"]) == ("end", "3 of 9 games", "")
         assert reader.events.get_nowait() is None
 
     asyncio.run(work())
+
+
+def test_board_of_a_finished_game_stays_for_some_seconds(monkeypatch: pytest.MonkeyPatch) -> None:
+    async def work() -> None:
+        feed = Feed(no_results)
+        await feed.take(message({GAME.name: {"turn": 7}}))
+        reader = join_feed(feed)
+        reader.events.get_nowait()
+        await feed.take(message({GAME.name: {"turn": 8}}, running=[], ended={GAME.name: ["a"]}))
+        state = parse_event(reader.events.get_nowait())[1]
+        assert (state["ended"], state["gone"]) == ({GAME.name: ["a"]}, [])
+        state = parse_event(join_feed(feed).events.get_nowait())[1]
+        assert (state["boards"], state["ended"]) == ({GAME.name: {"turn": 8}}, {GAME.name: ["a"]})
+        now = time.monotonic()
+        for later, gone in ((9.0, []), (11.0, [GAME.name])):
+            monkeypatch.setattr(time, "monotonic", lambda: now + later)
+            await feed.take(message({}))
+            assert parse_event(reader.events.get_nowait())[1]["gone"] == gone
+        assert (feed.boards, feed.ended) == ({}, {})
+
+    asyncio.run(work())
+
+
+def outcome_of(name: str, *winners: str) -> Outcome:
+    """The outcome of a game of a and b."""
+    results = {True: "win", False: "loss"}
+    finishes = [Finish(it, results[it in winners], None, None, None, 3, 9) for it in ("a", "b")]
+    return Outcome(name, 1, 9, 12, "digest", tuple(finishes))
+
+
+def test_news_has_the_last_board_of_each_game_before_its_end() -> None:
+    """With more boards than a message has, those of ended games come first."""
+    news = News()
+    news.begin(3, 1000)
+    fixtures = [Fixture(f"r0001-t{at:03}", 1, ("a", "b")) for at in range(40)]
+    for turn in (0, 1):
+        for it in fixtures:
+            news.show(it, {"turn": turn})
+    for it in fixtures[20:]:
+        news.end(outcome_of(it.name, "a"))
+    first, second, third = (news.message() for _ in range(3))
+    assert list(first["boards"]) == [it.name for it in fixtures[20:36]]
+    assert list(first["ended"]) == list(first["boards"])
+    assert len(first["running"]) == 24
+    assert list(second["ended"]) == [it.name for it in fixtures[36:]]
+    assert second["ended"]["r0001-t039"] == ["a"]
+    assert second["running"] == third["running"] == [it.name for it in fixtures[:20]]
+    assert (len(second["boards"]), len(third["boards"])) == (16, 8)
+    assert first["games"] == "23 of 1,000 games"
+
+
+def test_news_without_a_reader_do_not_grow() -> None:
+    news = News()
+    for at in range(500):
+        fixture = Fixture(f"r0001-t{at:03}", 1, ("a", "b"))
+        news.show(fixture, {"turn": 0})
+        news.end(outcome_of(fixture.name))
+    assert (len(news.boards), len(news.changed), len(news.ended)) == (64, 64, 64)
+
+
+def test_news_say_who_is_waited_for() -> None:
+    news = News()
+    assert news.waits.line() == ""
+    for latency in (30, 60):
+        news.count({"a": Answer("up", None, 2), "b": Answer("up", None, latency)}, None)
+    news.count({"a": Answer("up", None, 10)}, None)
+    assert news.waits.line() == "waits most for b, 90 % of the time"
+    assert [duration(it) for it in (7, 150, 9000, 300_000)] == [
+        "7 seconds",
+        "2 minutes",
+        "2 hours",
+        "3 days",
+    ]
 
 
 def test_slow_readers_are_let_go_and_too_many_are_refused() -> None:
@@ -202,7 +290,7 @@ def test_idle_connections_do_not_keep_others_out(monkeypatch: pytest.MonkeyPatch
     monkeypatch.setattr(page_module, "SILENT_SECONDS", 1.0)
 
     async def work() -> None:
-        async with page(Feed(no_results), Address("127.0.0.1", 0)) as address:
+        async with page(calls_of(Feed(no_results)), Address("127.0.0.1", 0)) as address:
             opened = [await asyncio.open_connection(address.host, address.port) for _ in range(200)]
             await asyncio.sleep(0.2)
             closed = sum(reader.at_eof() or has_ended(reader) for reader, _ in opened)
@@ -233,12 +321,15 @@ def test_only_the_files_of_the_page_are_served() -> None:
         return await asyncio.to_thread(ask)
 
     async def work() -> None:
-        async with page(Feed(no_results), Address("127.0.0.1", 0)) as address:
-            for path in ("", "page.js", "page.css", "drawing/boards.js", "drawing/drawing.css"):
+        async with page(calls_of(Feed(no_results)), Address("127.0.0.1", 0)) as address:
+            drawing = ("drawing/boards.js", "drawing/drawing.css", "viewer/drawing/boards.js")
+            viewer = ("viewer/", "viewer/index.html", "viewer/viewer.js", "viewer/viewer.css")
+            for path in ("", "page.js", "page.css", "bot.html", *drawing, *viewer):
                 status, headers = await get(f"{address}{path}")
                 assert status == 200
                 assert "default-src 'none'; script-src 'self'" in headers["Content-Security-Policy"]
-            for path in ("page.py", "drawing/../viewer.js", "drawing/%2e%2e/viewer.js", "drawing/"):
+            others = ("viewer/test", "viewer/testing/png.py", "viewer/%2e%2e/ladder/page.py")
+            for path in ("page.py", "drawing/../viewer.js", "drawing/%2e%2e/viewer.js", *others):
                 assert (await get(f"{address}{path}"))[0] in (403, 404)
 
     asyncio.run(work())
@@ -246,7 +337,7 @@ def test_only_the_files_of_the_page_are_served() -> None:
 
 def test_page_is_on_this_machine_alone() -> None:
     async def work() -> list[str]:
-        async with page(Feed(no_results), Address("127.0.0.1", 0)) as address:
+        async with page(calls_of(Feed(no_results)), Address("127.0.0.1", 0)) as address:
             listening = await asyncio.to_thread(Path("/proc/net/tcp").read_text)
             return re.findall(rf"\d: (\w+):{address.port:04X} \w+:0000 0A", listening)
 
@@ -290,7 +381,7 @@ def test_board_moves_while_its_game_runs(
         process.terminate()
         browser.wait("return document.body.dataset.state === 'ended'", seconds=60)
         assert sorted(browser.run(BOTS_SHOWN)) == ["one", "three", "two"]
-        assert browser.run("return document.querySelectorAll('script').length") == 5
+        assert browser.run("return document.querySelectorAll('script').length") == 8
         assert browser.complaints() == []
         assert process.wait(timeout=60) == 130
 

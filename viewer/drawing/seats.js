@@ -1,5 +1,5 @@
-// The looks of the eight seats: each has a colour and a mark along the body, so that no two seats
-// differ by hue alone.
+// The looks of the snakes: each of the eight seats has a colour and a mark along the body, so that no
+// two seats differ by hue alone. A ladder has a look for each bot, whatever its seat.
 'use strict';
 
 /**
@@ -16,6 +16,23 @@ const SEATS = [
   { colour: '#8456de', mark: 'dashes' },
   { colour: '#673847', mark: 'line' },
 ];
+
+// By a snake's id, the look that it has in place of that of its seat.
+const LOOKS = new Map();
+
+/** The look of a snake. */
+function lookOf(id, seat) {
+  return LOOKS.get(id) ?? SEATS[seat];
+}
+
+/** Gives looks to snakes, by their ids. What is no look is left out. */
+function setLooks(looks) {
+  for (const [id, { colour, mark }] of Object.entries(looks)) {
+    if (/^#[0-9a-f]{6}$/i.test(colour) && SEATS.some((it) => it.mark === mark)) {
+      LOOKS.set(id, { colour, mark });
+    }
+  }
+}
 
 const SVG = 'http://www.w3.org/2000/svg';
 

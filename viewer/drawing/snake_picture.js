@@ -76,7 +76,7 @@ function crossPicture(body, height) {
 
 /** The picture of the snake of a seat on a board. */
 function snakePicture(snake, seat, board) {
-  const { colour, mark } = SEATS[seat];
+  const { colour, mark } = lookOf(snake.id, seat);
   const path = pathAlong(snake.body, board);
   const picture = drawn('g', { class: isLiving(snake) ? 'snake' : 'snake out', 'data-seat': seat },
     drawn('title'),
@@ -92,11 +92,11 @@ function snakePicture(snake, seat, board) {
   return picture;
 }
 
-/** A small snake that shows how a seat looks. */
-function swatchPicture(seat, lives = true) {
+/** A small snake that shows how the snake of a seat looks. */
+function swatchPicture(id, seat, lives = true) {
   const body = [{ x: 2, y: 0 }, { x: 1, y: 0 }, { x: 0, y: 0 }];
   const fate = lives ? { cause: null } : { cause: 'wall-collision', by: null, out: 1 };
-  const snake = { body, id: '', ...fate };
+  const snake = { body, id, ...fate };
   const picture = snakePicture(snake, seat, { mode: 'solo', width: 3, height: 1 });
   picture.firstChild.remove();
   return drawn('svg', { class: 'swatch', viewBox: '0 0 3 1', 'aria-hidden': 'true' }, picture);

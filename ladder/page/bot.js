@@ -1,0 +1,96 @@
+// The page of one bot: its rating over time, its results against each other bot, its deaths, its
+// latency and its last missed moves.
+'use strict';
+
+const CHART = { left: 0, right: 640, top: 10, bottom: 190 };
+
+/** The places of the points of a rating in the chart, and the least and the greatest value. */
+function chartOf(ratings) {
+  const low = Math.min(...ratings.map(([, elo, error]) => elo - error));
+  const high = Math.max(...ratings.map(([, elo, error]) => elo + error));
+  const last = ratings.at(-1)[0];
+  const first = ratings[0][0];
+  const x = (games) => (CHART.right * (games - first)) / Math.max(1, last - first);
+  const y = (elo) => CHART.bottom - ((CHART.bottom - CHART.top) * (elo - low))
+    / Math.max(1, high - low);
+  return { low, high, first, last, x, y };
+}
+
+/** Draws a rating over time with the band of its error. */
+function drawRatings(svg, words, ratings) {
+  if (ratings.length === 0) {
+    words.textContent = 'No games yet.';
+    return;
+  }
+  const chart = chartOf(ratings);
+  const point = (games, elo) => `${chart.x(games).toFixed(1)} ${chart.y(elo).toFixed(1)}`;
+  const above = ratings.map(([games, elo, error]) => point(games, elo + error));
+  const below = ratings.map(([games, elo, error]) => point(games, elo - error)).reverse();
+  svg.replaceChildren(
+    drawn('path', { class: 'band', d: `M${[...above, ...below].join('L')}Z` }),
+    drawn('path', {
+      class: 'rating',
+      'vector-effect': 'non-scaling-stroke',
+      d: `M${ratings.map(([games, elo]) => point(games, elo)).join('L')}`,
+    }));
+  const whole = (value) => Math.round(value).toLocaleString('en');
+  words.textContent = `From game ${whole(chart.first)} to game ${whole(chart.last)} of the ladder; `
+    + `the picture reaches from ${whole(chart.low)} to ${whole(chart.high)}. The band is the error.`;
+  svg.setAttribute('aria-label', `Rating over time. ${words.textContent}`);
+}
+
+function againstRow({ bot, games, outlived, equal }) {
+  const number = (value) => made('td', { className: 'number' }, String(value));
+  const line = made('tr', {}, made('th', { scope: 'row' }, botLabel(bot)),
+    ...[games, outlived, equal, games - outlived - equal].map(number));
+  line.dataset.bot = bot;
+  return line;
+}
+
+function wordsOfDeath(cause) {
+  return Object.hasOwn(CAUSES, cause) ? CAUSES[cause].describe('another snake') : cause;
+}
+
+/** The numbers of a bot in words: place, results, latency and missed moves. */
+function numbersOf({ place, standing, moves }) {
+  return [
+    `place ${place}`, `Elo ${standing.elo} ± ${standing.error}`,
+    `${standing.games} games: ${standing.wins} won, ${standing.draws} drawn, ${standing.losses} lost`,
+    `latency ${inMs(standing.median_ms)}, 99 % ${inMs(standing.p99_ms)}`,
+    `${standing.missed} of ${moves} moves missed${standing.missed > 0
+      ? ` (${wordsOfCauses(standing)})` : ''}`,
+  ].map((words) => made('span', {}, words));
+}
+
+function showRecord(record) {
+  const element = (id) => document.getElementById(id);
+  element('numbers').replaceChildren(...numbersOf(record));
+  drawRatings(element('ratings'), element('range'), record.ratings);
+  document.querySelector('#against tbody').replaceChildren(...record.against.map(againstRow));
+  const death = ([cause, times]) => made('li', {}, `${wordsOfDeath(cause)}: ${times}`);
+  element('deaths').replaceChildren(...Object.entries(record.deaths).map(death));
+  const miss = ({ game, cause, moves }) => made('li', {}, gameLink(game), ` ${cause} ${moves}`);
+  element('missed').replaceChildren(...record.missed.map(miss));
+  element('record').hidden = false;
+}
+
+async function beginBotPage() {
+  const bot = new URLSearchParams(location.search).get('bot') ?? '';
+  document.title = `${bot} – Ladder`;
+  const looks = await fetchJson('looks.json');
+  setLooks(looks ?? {});
+  document.getElementById('name').replaceChildren(swatchPicture(bot, 0), ` ${bot}`);
+  const record = await fetchJson(`bots/${encodeURIComponent(bot)}.json`);
+  if (record === null) {
+    document.getElementById('notice').textContent =
+      'The page has no such bot, or the ladder does not run.';
+    document.body.dataset.state = 'fault';
+    return;
+  }
+  showRecord(record);
+  const [list, more] = ['finished', 'more'].map((id) => document.getElementById(id));
+  await new FinishedGames(list, more).show(bot);
+  document.body.dataset.state = 'open';
+}
+
+beginBotPage();

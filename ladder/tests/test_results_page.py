@@ -1,0 +1,249 @@
+"""Tests of the results on the page: finished games, the record of a bot, transcripts, colours."""
+
+from __future__ import annotations
+
+import asyncio
+import json
+import re
+import stat
+import subprocess
+import threading
+import urllib.error
+import urllib.request
+from collections.abc import Iterator
+from contextlib import closing
+from dataclasses import dataclass
+from pathlib import Path
+from typing import Any
+
+import pytest
+from served import Served, free_port, start_play, write_config
+from testing import chromium  # of viewer/
+
+from ladder import transcripts
+from ladder.colours import COLOURS, GROUNDS, is_apart, looks_of, oklab
+from ladder.feed import Feed
+from ladder.history import games_of, record_of
+from ladder.news import News
+from ladder.page import page, results_of
+from ladder.page_calls import Calls, rows_of
+from ladder.page_link import Address
+from ladder.store import open_store
+from ladder.transcripts import NoTranscript, Transcripts
+
+BOTS = ("fleer", "hungry", "lazy")
+WIDE, NARROW = (1280, 900), (390, 844)
+
+
+@dataclass(frozen=True)
+class Site:
+    """A folder with the results of a ladder, and the address of its page."""
+
+    folder: Path
+    address: str
+
+    def get(self, path: str) -> tuple[int, bytes]:
+        """The status and the body of an answer."""
+        opener = urllib.request.build_opener(urllib.request.ProxyHandler({}))
+        try:
+            with opener.open(self.address + path, timeout=60) as answer:
+                return answer.status, answer.read()
+        except urllib.error.HTTPError as fault:
+            return fault.code, fault.read()
+
+    def json(self, path: str) -> Any:
+        status, body = self.get(path)
+        assert status == 200, body
+        return json.loads(body)
+
+
+@pytest.fixture(scope="module")
+def site(
+    program: Path, small_bots: Served, tmp_path_factory: pytest.TempPathFactory
+) -> Iterator[Site]:
+    """A ladder of three small bots and one that is gone, whose page is served."""
+    folder = tmp_path_factory.mktemp("ladder") / "results"
+    urls = [(name, small_bots.url(name)) for name in BOTS]
+    bots = [*urls, ("gone", f"http://127.0.0.1:{free_port()}")]
+    words = {"folder": str(folder), "rounds": 4, "turns": 40, "timeout": 5000, "seed": 1}
+    config = write_config(folder.parent / "four.toml", bots, **words)
+    playing = start_play(config, program)
+    playing.communicate(timeout=240)
+    assert playing.returncode == 0
+    ready, done = threading.Event(), threading.Event()
+    found: list[str] = []
+
+    async def serve() -> None:
+        feed = Feed(lambda: results_of(folder))
+        await feed.take({"summary": "", **News().message(), "games": "24 of 24 games"})
+        await feed.refresh()
+        async with page(Calls(feed, folder, program), Address("127.0.0.1", 0)) as address:
+            found.append(str(address))
+            ready.set()
+            await asyncio.to_thread(done.wait)
+
+    thread = threading.Thread(target=asyncio.run, args=(serve(),))
+    thread.start()
+    assert ready.wait(60)
+    yield Site(folder, found[0])
+    done.set()
+    thread.join()
+
+
+def test_results_are_json(site: Site) -> None:
+    with closing(open_store(site.folder)) as store:
+        assert site.json("standings.json") == rows_of(store)
+        assert site.json("games.json") == games_of(store, "", 10**9, 20)
+    names, before = [], 10**9
+    while before is not None:
+        answer = site.json(f"games.json?count=7&before={before}")
+        names += [game["game"] for game in answer["games"]]
+        before = answer["next"]
+    assert sorted(names) == sorted(path.stem for path in (site.folder / "games").iterdir())
+    assert len(names) == 24
+    games = site.json("games.json?bot=lazy&count=100")["games"]
+    assert len(games) == 12
+    assert all("lazy" in [seat["bot"] for seat in game["seats"]] for game in games)
+    assert site.json("games.json?bot=nobody") == {"games": [], "next": None}
+    for query in ("count=x", "before=-1", "count=1e3", f"before={10**20}"):
+        assert site.get(f"games.json?{query}")[0] == 400
+
+
+def test_files_of_finished_games_are_served(site: Site, program: Path) -> None:
+    path = site.folder / "games/r0002-t001.jsonl"
+    words: list[str | Path] = [program, "serve", path, "--blocks", "6", "--workers", "1"]
+    transcript = subprocess.run(words, stdout=subprocess.PIPE, check=True).stdout
+    assert site.get("games/r0002-t001.jsonl") == (200, path.read_bytes())
+    for _ in range(2):
+        assert site.get("games/r0002-t001.transcript") == (200, transcript)
+    for name in ("r0009-t001", "x", "..%2fresults", "%2e%2e/r0002-t001"):
+        for kind in ("jsonl", "transcript"):
+            assert site.get(f"games/{name}.{kind}")[0] == 404
+
+
+def test_record_of_a_bot(site: Site) -> None:
+    record = site.json("bots/gone.json")
+    standing = record["standing"]
+    assert record["place"] == 4
+    assert [(it["bot"], it["games"]) for it in record["against"]] == [(it, 4) for it in BOTS]
+    assert sum(record["deaths"].values()) == 12
+    assert len(record["missed"]) == 12
+    assert {it["cause"] for it in record["missed"]} == {"refused"}
+    assert sum(it["moves"] for it in record["missed"]) == standing["refused"] == record["moves"]
+    for bot in ("gone", *BOTS):
+        record = site.json(f"bots/{bot}.json")
+        games, elo, error = record["ratings"][-1]
+        assert games == 24
+        now = record["standing"]
+        assert abs(elo - now["elo"]) < 0.6 and abs(error - now["error"]) < 0.6
+        assert [it[0] for it in record["ratings"]] == sorted(it[0] for it in record["ratings"])
+    with closing(open_store(site.folder)) as store:
+        both = [{it["bot"]: it for it in record_of(store, bot)["against"]} for bot in BOTS[:2]]
+    assert both[0]["hungry"]["equal"] == both[1]["fleer"]["equal"]
+    won = both[0]["hungry"]["outlived"] + both[1]["fleer"]["outlived"]
+    assert won + both[0]["hungry"]["equal"] == both[0]["hungry"]["games"] == 4
+    assert site.get("bots/nobody.json")[0] == 404
+
+
+def program_that(folder: Path, script: str) -> Path:
+    """A program in place of arena."""
+    path = folder / "arena"
+    path.write_text(f"#!/bin/sh\n{script}\n")
+    path.chmod(path.stat().st_mode | stat.S_IXUSR)
+    return path
+
+
+def test_transcripts_have_limits(tmp_path: Path, monkeypatch: pytest.MonkeyPatch) -> None:
+    """What is too long, too slow, or one request too many is refused; old ones are forgotten."""
+    monkeypatch.setattr(transcripts, "MOST_BYTES", 1000)
+    monkeypatch.setattr(transcripts, "MOST_KEPT", 1200)
+
+    async def fault_of(script: str) -> str:
+        made = Transcripts(tmp_path, program_that(tmp_path, script))
+        with pytest.raises(NoTranscript) as caught:
+            await made.of("r0001-t001")
+        assert made.kept == {} and made.waiting == 0
+        return str(caught.value)
+
+    async def work() -> None:
+        assert await fault_of("exec yes") == "its transcript is too long for this page"
+        assert await fault_of("exit 3") == "arena serve ended with status 3"
+        monkeypatch.setattr(transcripts, "SERVE_SECONDS", 0.2)
+        assert await fault_of("exec sleep 60") == "arena serve took too long"
+        monkeypatch.setattr(transcripts, "SERVE_SECONDS", 60)
+        made = Transcripts(tmp_path, program_that(tmp_path, 'printf "%500s" "$2"'))
+        asked = [made.of(f"r0001-t00{at}") for at in range(9)]
+        found = await asyncio.gather(*asked, return_exceptions=True)
+        assert [isinstance(it, NoTranscript) and it.is_busy for it in found] == [False] * 8 + [True]
+        assert list(made.kept) == ["r0001-t006", "r0001-t007"]
+        assert (await made.of("r0001-t006")).endswith(b"games/r0001-t006.jsonl")
+
+    asyncio.run(work())
+
+
+def test_bots_have_colours_that_are_apart() -> None:
+    chosen = {"b": "#ff0000", "c": "#fe0101", "d": "#eceff3", "e": "#00FF00"}
+    looks = looks_of(["a", "b", "c", "d", "e"], chosen)
+    assert looks["b"]["colour"] == "#ff0000"
+    assert looks["e"]["colour"] == "#00FF00"
+    assert {looks[it]["colour"] for it in "acd"} < set(COLOURS)
+    many = looks_of([f"bot{at}" for at in range(16)], {})
+    given = [it["colour"] for it in many.values()]
+    assert all(is_apart(it, map(oklab, given[:at])) for at, it in enumerate(given))
+    assert all(is_apart(it, map(oklab, GROUNDS)) for it in given)
+    assert len(looks_of([f"bot{at}" for at in range(200)], chosen)) == 200
+
+
+def resize(browser: chromium.Browser, size: tuple[int, int]) -> None:
+    """Gives the window the size and the scale of a screen."""
+    screen: dict[str, Any] = {"width": size[0], "height": size[1], "deviceScaleFactor": 1}
+    params = {**screen, "mobile": size == NARROW}
+    command = "Emulation.setDeviceMetricsOverride"
+    browser.call("POST", "/goog/cdp/execute", {"cmd": command, "params": params})
+
+
+def fits(browser: chromium.Browser) -> bool:
+    """Whether the page is no wider than the window."""
+    return bool(browser.run("return document.documentElement.scrollWidth <= innerWidth"))
+
+
+@pytest.mark.parametrize("size", [WIDE, NARROW], ids=["wide", "narrow"])
+def test_finished_game_and_bot_are_looked_at(
+    site: Site, browser: chromium.Browser, size: tuple[int, int]
+) -> None:
+    """From the page to a bot, from there to one of its games, and turn by turn through it."""
+    resize(browser, size)
+    browser.complaints()
+    browser.go(site.address)
+    browser.wait("return document.querySelectorAll('#finished li').length === 20", seconds=60)
+    browser.click("#more")
+    browser.wait("return document.querySelectorAll('#finished li').length === 24", seconds=60)
+    colour = "return document.querySelector('[data-bot=gone] .body').getAttribute('stroke')"
+    shown = browser.run(colour)
+    assert fits(browser)
+    browser.click("#standings [data-bot=gone] a")
+    browser.wait("return document.body.dataset.state === 'open'", seconds=60)
+    text = browser.run("return document.body.innerText")
+    assert re.search(r"place 4\b.*12 games: 0 won", text, re.DOTALL)
+    assert re.search(r"refused \d+", text)
+    assert (
+        browser.run("return document.querySelector('#name .body').getAttribute('stroke')") == shown
+    )
+    assert browser.run("return document.querySelectorAll('#ratings .rating').length") == 1
+    assert fits(browser)
+    browser.click("#finished li a")
+    browser.wait("return document.body.dataset.state === 'open'", seconds=60)
+    (last,) = browser.wait(
+        "return /^Turn 0 of ([0-9]+)$/.exec(document.getElementById('turn').textContent)?.slice(1)",
+        seconds=60,
+    )
+    browser.click("#forward")
+    turn = f"return document.getElementById('turn').textContent === 'Turn 1 of {last}'"
+    browser.wait(turn, seconds=60)
+    strokes = (
+        "return [...document.querySelectorAll('#board .body')].map(it => it.getAttribute('stroke'))"
+    )
+    assert shown in browser.run(strokes)
+    assert fits(browser)
+    assert browser.complaints() == []
+    resize(browser, (1500, 1250))
