@@ -111,6 +111,9 @@ def ratings_over_time(store: Store) -> dict[str, list[Point]]:
 
 
 def games_in_order(store: Store) -> Iterator[list[tuple[str, float]]]:
-    """The turns that each bot lived, game by game, in the order in which they were stored."""
-    for _, rows in groupby(store.base.execute(LIVED), key=itemgetter(0)):
+    """The turns that each bot lived, game by game, in the order in which they were stored.
+
+    All rows are read first: an open query would hold up the ladder's writes.
+    """
+    for _, rows in groupby(store.base.execute(LIVED).fetchall(), key=itemgetter(0)):
         yield [(bot, math.inf if out is None else float(out)) for _, bot, out in rows]

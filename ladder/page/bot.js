@@ -34,8 +34,8 @@ function drawRatings(svg, words, ratings) {
       d: `M${ratings.map(([games, elo]) => point(games, elo)).join('L')}`,
     }));
   const whole = (value) => Math.round(value).toLocaleString('en');
-  words.textContent = `From game ${whole(chart.first)} to game ${whole(chart.last)} of the ladder; `
-    + `the picture reaches from ${whole(chart.low)} to ${whole(chart.high)}. The band is the error.`;
+  words.textContent = `From game ${whole(chart.first)} to game ${whole(chart.last)} of the ladder, `
+    + `between ${whole(chart.low)} and ${whole(chart.high)}. The band is the error.`;
   svg.setAttribute('aria-label', `Rating over time. ${words.textContent}`);
 }
 
@@ -53,12 +53,13 @@ function wordsOfDeath(cause) {
 
 /** The numbers of a bot in words: place, results, latency and missed moves. */
 function numbersOf({ place, standing, moves }) {
+  const { wins, draws, losses, missed } = standing;
+  const causes = missed > 0 ? ` (${wordsOfCauses(standing)})` : '';
   return [
     `place ${place}`, `Elo ${standing.elo} ± ${standing.error}`,
-    `${standing.games} games: ${standing.wins} won, ${standing.draws} drawn, ${standing.losses} lost`,
+    `${standing.games} games: ${wins} won, ${draws} drawn, ${losses} lost`,
     `latency ${inMs(standing.median_ms)}, 99 % ${inMs(standing.p99_ms)}`,
-    `${standing.missed} of ${moves} moves missed${standing.missed > 0
-      ? ` (${wordsOfCauses(standing)})` : ''}`,
+    `${missed} of ${moves} moves missed${causes}`,
   ].map((words) => made('span', {}, words));
 }
 

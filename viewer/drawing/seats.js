@@ -1,5 +1,5 @@
-// The looks of the snakes: each of the eight seats has a colour and a mark along the body, so that no
-// two seats differ by hue alone. A ladder has a look for each bot, whatever its seat.
+// The looks of the snakes: each of the eight seats has a colour and a mark along the body, so that
+// no two seats differ by hue alone. A ladder has a look for each bot, whatever its seat.
 'use strict';
 
 /**
