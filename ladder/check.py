@@ -101,10 +101,10 @@ def fault_of_move(
     command: dict[str, Any], turn: int, config: Config, fixture: Fixture
 ) -> str | None:
     """Why the move after a turn does not have the drawn words, hazards, and nothing else."""
-    if command.get("words") != words_of(config.seed, fixture.name, turn, config.rules.words):
+    if command.get("words") != words_of(config.seed, fixture.key, turn, config.rules.words):
         return f"the words of the move after turn {turn} are not those that are drawn"
     given = {key: command[key] for key in ("hazards", "food") if key in command}
-    if given != map_members(config, fixture.name, turn):
+    if given != map_members(config, fixture.key, turn):
         return f"the hazards or the food of the move after turn {turn} are not as drawn"
     return None
 

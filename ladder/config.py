@@ -19,7 +19,7 @@ from ladder.urls import shown, target_of
 BOT_NAME = re.compile(r"[A-Za-z0-9][A-Za-z0-9_.-]{0,31}")
 MODES = ("standard", "solo", "constrictor", "wrapped")
 MAPS = ("standard", "royale")
-PAIRINGS = ("round_robin", "duels", "tables")
+PAIRINGS = ("round_robin", "duels", "tables", "gauntlet")
 MOST_BOTS = 200
 MOST_AT_ONCE = 64  # games that are open in a host
 AT_ONCE = 16
@@ -250,8 +250,8 @@ def snakes_of(members: Members, rules: Rules, pairing: str) -> int:
     usual = {"tables": 4}.get(pairing, 1 if rules.mode == "solo" else 2)
     most = min(8, most_snakes(rules.width, rules.height))
     snakes = members.number("snakes", usual, 1 if rules.mode == "solo" else 2, most)
-    if pairing == "duels" and snakes != 2:
-        raise members.fault("a duel has 2 snakes")
+    if pairing in ("duels", "gauntlet") and snakes != 2:
+        raise members.fault(f"{pairing}: a game has 2 snakes")
     return snakes
 
 

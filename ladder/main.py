@@ -13,15 +13,19 @@ from pathlib import Path
 
 from rich.console import Console
 
+from ladder.author_commands import add_author_commands
+from ladder.bot_log import BotLog
 from ladder.check import check
 from ladder.config import ConfigFault, read_config
+from ladder.contests import add_contests
 from ladder.game import GameFault
 from ladder.game_files import make_folders
-from ladder.host import PROGRAM, HostDied, HostFault
+from ladder.host import HostDied, HostFault
 from ladder.merge import merge
 from ladder.page_link import Address, PageFault, PageLink, address_of
 from ladder.pairing import Part, part_of
 from ladder.play import Job, locked, play
+from ladder.program import add_program, program_of
 from ladder.progress import Counts, ProgressBar
 from ladder.seeds import seed_line, seed_line_of, with_seed
 from ladder.store import Store, StoreFault, open_store
@@ -41,14 +45,6 @@ FAULTS = (
 )
 
 
-def program_of(given: argparse.Namespace) -> Path:
-    """The path of the arena program, which has to exist."""
-    program = Path(given.program)
-    if not program.is_file():
-        raise StoreFault(f"there is no program {program}: ./arena --help proves and builds it")
-    return program.resolve()
-
-
 async def play_job(job: Job, store: Store, counts: Counts, address: Address | None) -> None:
     """Plays a job with its progress bar and, if there is an address, its page.
 
@@ -59,7 +55,8 @@ async def play_job(job: Job, store: Store, counts: Counts, address: Address | No
     asyncio.get_running_loop().add_signal_handler(signal.SIGTERM, task.cancel)
     async with AsyncExitStack() as stack:
         bar = stack.enter_context(ProgressBar(counts))
-        watches: list[Watch] = [counts, bar]
+        log = await stack.enter_async_context(BotLog(job.folder, bar.say))
+        watches: list[Watch] = [counts, bar, log]
         if address is not None:
             link = PageLink(job.folder, address, counts.line, bar.say)
             watches.append(await stack.enter_async_context(link))
@@ -153,12 +150,9 @@ def parser() -> argparse.ArgumentParser:
     one.add_argument("into", metavar="INTO", type=Path)
     one.add_argument("folders", metavar="FOLDER", type=Path, nargs="+")
     one.set_defaults(run=run_merge)
+    add_author_commands(commands)
+    add_contests(commands)
     return words
-
-
-def add_program(words: argparse.ArgumentParser) -> None:
-    usual = "arena, if not the built one"
-    words.add_argument("--program", metavar="PATH", default=PROGRAM, help=usual)
 
 
 def main(words: Sequence[str] | None = None) -> int:

@@ -127,6 +127,13 @@ class Store:
 
     def outcomes(self) -> Iterator[Outcome]:
         """The games that are done, in the order of their names."""
+        return self.outcomes_by("name")
+
+    def outcomes_by_end(self) -> Iterator[Outcome]:
+        """The games that are done, in the order in which their results were stored."""
+        return self.outcomes_by("rowid")
+
+    def outcomes_by(self, order: str) -> Iterator[Outcome]:
         finishes: dict[str, list[Finish]] = {}
         seats = self.base.execute(
             "SELECT game, bot, result, out, cause, killer, length, turns FROM seat"
@@ -135,7 +142,7 @@ class Store:
         for game, *values in seats:
             finishes.setdefault(game, []).append(Finish(*values))
         games = self.base.execute(
-            "SELECT name, round, turns, lines, digest FROM game ORDER BY name"
+            f"SELECT name, round, turns, lines, digest FROM game ORDER BY {order}"
         )
         for name, number, turns, lines, digest in games:
             yield Outcome(name, number, turns, lines, digest, tuple(finishes.get(name, ())))
