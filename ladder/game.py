@@ -33,7 +33,7 @@ class RunContext:
     config: Config
     folder: Path
     client: BotClient
-    urls: Mapping[str, str]
+    urls: dict[str, str]
     looks: dict[str, Look]
     watch: Watch
 

@@ -5,15 +5,17 @@ outlives the other ten times as often as not. Each two seats of a game are compa
 lived longer has won; two that went out in one turn, or that both live at the end, have half a win
 each. A game of k seats has k(k-1)/2 such pairs, which are not independent; each counts 2/k, so that
 the game counts as k-1 games of two. The ratings are those of maximum likelihood, with one draw of
-each bot against a bot of 1500 added, which keeps them finite. Their mean is 1500.
+each bot against a bot of 1500 added, which keeps them finite; of a bot that replaced another one,
+against that. Their mean is 1500.
 """
 
 from __future__ import annotations
 
 import math
-from collections.abc import Iterable, Sequence
+from collections.abc import Iterable, Mapping, Sequence
 from dataclasses import dataclass
 from itertools import combinations
+from types import MappingProxyType
 
 import numpy as np
 from numpy.typing import NDArray
@@ -55,32 +57,43 @@ class Comparisons:
 
 
 def ratings(
-    names: Sequence[str], games: Iterable[Sequence[tuple[str, float]]]
+    names: Sequence[str],
+    games: Iterable[Sequence[tuple[str, float]]],
+    replaced: Mapping[str, str] = MappingProxyType({}),
 ) -> dict[str, Rating]:
-    """The rating of each bot from these games, by Newton's method."""
+    """The rating of each bot from these games, by Newton's method.
+
+    `replaced` has the bot that a bot replaced.
+    """
     results = Comparisons(names)
     for lived in games:
         results.add(lived)
+    for new, old in replaced.items():
+        results.add([(new, 0.0), (old, 0.0)])
+    free: Numbers = np.array([float(name not in replaced) for name in names])
     wins: Numbers = np.array(results.wins).reshape(len(names), len(names))
     strengths: Numbers = np.zeros(len(names))
     for _ in range(MOST_STEPS):
-        slopes, curvature = derivatives(wins, strengths)
+        slopes, curvature = derivatives(wins, strengths, free)
         steps = np.linalg.solve(curvature, slopes)
         most = float(np.max(np.abs(steps), initial=0.0))
         strengths = strengths + steps * min(1.0, LONGEST_STEP / max(most, EXACT))
         if most < EXACT:
             break
-    return in_points(results.names, strengths, derivatives(wins, strengths)[1])
+    return in_points(results.names, strengths, derivatives(wins, strengths, free)[1])
 
 
-def derivatives(wins: Numbers, strengths: Numbers) -> tuple[Numbers, Numbers]:
-    """The gradient of the log-likelihood, and its negated Hessian."""
+def derivatives(wins: Numbers, strengths: Numbers, free: Numbers) -> tuple[Numbers, Numbers]:
+    """The gradient of the log-likelihood, and its negated Hessian.
+
+    `free` is 1 for bots with a draw against a bot of 1500.
+    """
     played = wins + wins.T
     shares = expected(strengths[:, np.newaxis] - strengths[np.newaxis, :])
     drawn = expected(strengths)  # of the draw against a bot of 1500
     bends = played * shares * (1 - shares)
-    slopes = (wins - played * shares).sum(axis=1) + 0.5 - drawn
-    return slopes, np.diag(bends.sum(axis=1) + drawn * (1 - drawn)) - bends
+    slopes = (wins - played * shares).sum(axis=1) + free * (0.5 - drawn)
+    return slopes, np.diag(bends.sum(axis=1) + free * drawn * (1 - drawn)) - bends
 
 
 def expected(ahead: Numbers) -> Numbers:
