@@ -276,7 +276,7 @@ def test_no_descriptor_is_no_fault_of_a_bot(monkeypatch: pytest.MonkeyPatch) -> 
         run(work())
 
 
-def test_requests_that_are_given_up_leave_no_connection() -> None:
+def test_requests_that_are_cancelled_leave_no_connection() -> None:
     """A run that is stopped while bots think closes all connections."""
     ended = asyncio.Event()
 

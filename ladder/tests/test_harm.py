@@ -39,7 +39,7 @@ from ladder.store import Store
 TIMEOUT = 500  # milliseconds
 MARGIN = 30  # before the timeout, within which an honest answer may be late
 MOST_EXCESS = 50  # milliseconds of a latency above what the bot measured
-MOST_HELD = 0.05  # seconds for which the ladder computes without looking at its connections
+MOST_HELD = 0.1  # seconds for which the ladder computes without looking at its connections
 BEAT_SECONDS = 0.004
 TICKS = os.sysconf("SC_CLK_TCK")
 SERVERS = 3  # processes of hostile bots
