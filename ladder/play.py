@@ -133,6 +133,7 @@ class Run:
         self.ends_at = ends_at
         self.asking: set[asyncio.Task[None]] = set()
         self.changes: list[Change] = []  # of the roster
+        self.said: set[str] = set()
         self.context = context
         self.store = store
         self.keeper = keeper
@@ -174,19 +175,24 @@ class Run:
 
     async def begin_games(self, source: Source, pace: Pace, group: asyncio.TaskGroup) -> None:
         """Begins each game as soon as there is room for it, and returns when all have ended."""
-        is_slow = False
         while True:
             self.ended.clear()
             while pace.may_begin(source.running) and (fixture := await source.begin()) is not None:
                 group.create_task(self.play_and_store(fixture, source))
-            if source.running == 0 and source.is_over:
-                return
-            if pace.allowed < pace.most and not is_slow:
-                is_slow = True
-                self.context.watch.say("this machine is too busy: it plays fewer games at once")
+            if source.running == 0:
+                if source.is_over:
+                    return
+                self.say_once("waits for bots: too few are in and do not rest")
+            if pace.allowed < pace.most:
+                self.say_once("this machine is too busy: it plays fewer games at once")
             with suppress(TimeoutError):
                 async with asyncio.timeout(CALM_SECONDS):
                     await self.ended.wait()
+
+    def say_once(self, text: str) -> None:
+        if text not in self.said:
+            self.said.add(text)
+            self.context.watch.say(text)
 
     async def play_and_store(self, fixture: Fixture, source: Source) -> None:
         """Plays a game, makes room for the next one, and stores the result."""

@@ -38,14 +38,23 @@ class Rating:
     error: float
 
 
-class Comparisons:
-    """How often each bot outlived each other one, in weighted wins."""
+NONE: Mapping[str, str] = MappingProxyType({})
 
-    def __init__(self, names: Sequence[str]) -> None:
+
+class Comparisons:
+    """How often each bot outlived each other one, in weighted wins.
+
+    `replaced` has the bot that a bot replaced, against which it has its draw.
+    """
+
+    def __init__(self, names: Sequence[str], replaced: Mapping[str, str] = NONE) -> None:
         self.names = list(names)
         self.at = {name: at for at, name in enumerate(self.names)}
         size = len(self.names)
         self.wins = [[0.0] * size for _ in range(size)]
+        self.free = [float(name not in replaced) for name in self.names]
+        for pair in replaced.items():
+            self.add([(name, 0.0) for name in pair])
 
     def add(self, lived: Sequence[tuple[str, float]]) -> None:
         """Adds a game: its bots, each with the time that it lived, in any unit."""
@@ -59,20 +68,21 @@ class Comparisons:
 def ratings(
     names: Sequence[str],
     games: Iterable[Sequence[tuple[str, float]]],
-    replaced: Mapping[str, str] = MappingProxyType({}),
+    replaced: Mapping[str, str] = NONE,
 ) -> dict[str, Rating]:
-    """The rating of each bot from these games, by Newton's method.
-
-    `replaced` has the bot that a bot replaced.
-    """
-    results = Comparisons(names)
+    """The rating of each bot from these games, by Newton's method."""
+    results = Comparisons(names, replaced)
     for lived in games:
         results.add(lived)
-    for new, old in replaced.items():
-        results.add([(new, 0.0), (old, 0.0)])
-    free: Numbers = np.array([float(name not in replaced) for name in names])
-    wins: Numbers = np.array(results.wins).reshape(len(names), len(names))
-    strengths: Numbers = np.zeros(len(names))
+    return ratings_from(results)
+
+
+def ratings_from(results: Comparisons) -> dict[str, Rating]:
+    """The rating of each bot from these comparisons."""
+    size = len(results.names)
+    wins: Numbers = np.array(results.wins).reshape(size, size)
+    strengths: Numbers = np.zeros(size)
+    free: Numbers = np.array(results.free)
     for _ in range(MOST_STEPS):
         slopes, curvature = derivatives(wins, strengths, free)
         steps = np.linalg.solve(curvature, slopes)

@@ -285,6 +285,24 @@ def test_endless_ladder_ends_by_hours_and_by_rounds(program: Path, endless: Path
     assert re.search("has no parts", run_ladder("merge", folder.parent / "m", folder).stderr)
 
 
+def test_ladder_waits_for_bots(program: Path, small_bots: Served, tmp_path: Path) -> None:
+    """With one bot it says that it waits, and goes on when another one is added."""
+    folder = tmp_path / "results"
+    config = write_config(
+        tmp_path / "one.toml",
+        [("seeker", small_bots.url("seeker"))],
+        **{"folder": str(folder), "pairing": "rating", "turns": 5, "timeout": 5000},
+    )
+    process = start_play(config, program)
+    assert process.stderr is not None
+    assert process.stderr.readline() == ("ladder: waits for bots: too few are in and do not rest\n")
+    add(folder, "fleer", small_bots.url("fleer"))
+    wait_for_games(process, folder, 1)
+    process.terminate()
+    assert process.communicate()[1] == "ladder: stopped; the same command goes on\n"
+    assert process.returncode == 130
+
+
 def test_game_that_was_not_drawn_is_found(program: Path, endless: Path) -> None:
     folder = endless.parent / "results"
     base = sqlite3.connect(folder / "results.sqlite")
