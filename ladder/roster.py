@@ -16,11 +16,9 @@ from ladder.urls import shown
 def add_config_bots(store: Store, bots: tuple[Bot, ...]) -> None:
     """Adds the bots of a configuration that are new, and addresses that have changed."""
     for bot in bots:
-        known = [it for it in store.changes(0) if it.bot == bot.name]
-        if not known:
-            store.add_change("add", bot.name, shown(bot.url))
-        elif shown(bot.url) not in {it.url for it in known}:
-            store.add_change("url", bot.name, shown(bot.url))
+        urls = [it.url for it in store.changes(0) if it.bot == bot.name and it.url]
+        if urls[-1:] != [shown(bot.url)]:
+            store.add_change("url" if urls else "add", bot.name, shown(bot.url))
 
 
 def urls_of(changes: list[Change], bots: tuple[Bot, ...]) -> dict[str, str]:

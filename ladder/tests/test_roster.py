@@ -17,9 +17,10 @@ from pathlib import Path
 import pytest
 from served import SMALL, Served, run_ladder, start_play, write_config
 
+from ladder.config import Bot
 from ladder.rated import START, Change, Drawn, Player, Rated, Result, gains_of
 from ladder.rating import ratings
-from ladder.roster import add, mark, replace
+from ladder.roster import add, add_config_bots, mark, replace, urls_of
 from ladder.standings import lived_in
 from ladder.store import Store, open_store
 
@@ -301,6 +302,18 @@ def test_ladder_waits_for_bots(program: Path, small_bots: Served, tmp_path: Path
     process.terminate()
     assert process.communicate()[1] == "ladder: stopped; the same command goes on\n"
     assert process.returncode == 130
+
+
+def test_addresses_of_the_configuration_are_taken_again(tmp_path: Path) -> None:
+    """Its passwords are in no file, and an address may come back."""
+    one, two = "http://me:s3cret@h:1", "http://h:2"
+    with closing(Store(tmp_path)) as store:
+        for url in (one, two, one, one):
+            bots = (Bot("a", url),)
+            add_config_bots(store, bots)
+            assert urls_of(store.changes(0), bots) == {"a": url}
+        assert [it.what for it in store.changes(0)] == ["add", "url", "url"]
+    assert b"s3cret" not in (tmp_path / "results.sqlite").read_bytes()
 
 
 def test_game_that_was_not_drawn_is_found(program: Path, endless: Path) -> None:
