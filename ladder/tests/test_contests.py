@@ -8,7 +8,7 @@ import random
 from pathlib import Path
 
 import pytest
-from served import Served, run_ladder
+from served import Served, complaints, run_ladder
 
 from ladder.outcome import Finish, Outcome
 from ladder.sprt import BOUND, Sprt, expected, log_ratio
@@ -78,7 +78,7 @@ def tested(program: Path, small_bots: Served, tmp_path_factory: pytest.TempPathF
     bots = [small_bots.url("fleer"), small_bots.url("lazy")]
     for _ in range(2):  # the second plays nothing
         ran = run_ladder("sprt", folder, *bots, *words, "--program", program)
-        assert (ran.returncode, ran.stderr) == (0, "")
+        assert (ran.returncode, complaints(ran.stderr)) == (0, "")
         first, second = ran.stdout.splitlines()
         assert "fleer is better than lazy: 300 Elo, and not 0" in first, ran.stdout
         assert f"(from -{BOUND:.2f} to {BOUND:.2f})" in first
@@ -105,6 +105,6 @@ def test_gauntlet_is_of_one_bot_against_each_other(
     bots = [small_bots.url(name) for name in ("fleer", "seeker", "lazy")]
     words: list[str | Path] = ["--turns", "20", "--timeout", "5000", "--program", program]
     ran = run_ladder("gauntlet", tmp_path / "results", *bots, *words)
-    assert (ran.returncode, ran.stderr) == (0, "")
+    assert (ran.returncode, complaints(ran.stderr)) == (0, "")
     played = {line.split()[0]: line.split()[1] for line in ran.stdout.splitlines()[1:]}
     assert played == {"fleer": "4", "seeker": "2", "lazy": "2"}

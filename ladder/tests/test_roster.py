@@ -15,7 +15,7 @@ from contextlib import closing
 from pathlib import Path
 
 import pytest
-from served import SMALL, Served, run_ladder, start_play, write_config
+from served import BUSY, SMALL, Served, complaints, run_ladder, start_play, write_config
 
 from ladder.config import Bot
 from ladder.rated import START, Change, Drawn, Player, Rated, Result, gains_of
@@ -213,7 +213,7 @@ def finished(config: Path, folder: Path, program: Path) -> int:
     with closing(open_store(folder)) as store:
         drawn = len(store.drawn())
     ran = run_ladder("play", config, "--rounds", str(drawn), "--program", program)
-    assert (ran.returncode, ran.stderr) == (0, "")
+    assert (ran.returncode, complaints(ran.stderr)) == (0, "")
     assert ran.stdout.startswith(f"ladder: {drawn} of {drawn} games are done")
     return drawn
 
@@ -265,10 +265,10 @@ def endless(program: Path, small_bots: Served, tmp_path_factory: pytest.TempPath
 
 def test_endless_ladder_ends_by_hours_and_by_rounds(program: Path, endless: Path) -> None:
     ran = run_ladder("play", endless, "--hours", "0", "--program", program)
-    assert (ran.returncode, ran.stderr) == (0, "")
+    assert (ran.returncode, complaints(ran.stderr)) == (0, "")
     assert ran.stdout.startswith("ladder: 0 games are done, 0 of them now")
     ran = run_ladder("play", endless, "--rounds", "3", "--program", program)
-    assert (ran.returncode, ran.stderr) == (0, "")
+    assert (ran.returncode, complaints(ran.stderr)) == (0, "")
     assert ran.stdout.startswith("ladder: 3 of 3 games are done, 3 of them now")
     folder = endless.parent / "results"
     refused = {
@@ -296,11 +296,14 @@ def test_ladder_waits_for_bots(program: Path, small_bots: Served, tmp_path: Path
     )
     process = start_play(config, program)
     assert process.stderr is not None
-    assert process.stderr.readline() == ("ladder: waits for bots: too few are in and do not rest\n")
+    while (line := process.stderr.readline()) == BUSY:
+        pass
+    assert line == "ladder: waits for bots: too few are in and do not rest\n"
     add(folder, "fleer", small_bots.url("fleer"))
     wait_for_games(process, folder, 1)
     process.terminate()
-    assert process.communicate()[1] == "ladder: stopped; the same command goes on\n"
+    error = process.communicate()[1]
+    assert complaints(error) == "ladder: stopped; the same command goes on\n"
     assert process.returncode == 130
 
 
