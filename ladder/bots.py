@@ -12,6 +12,7 @@ from ladder.addresses import AddressBook
 from ladder.connections import Connections, Exchange
 from ladder.payloads import Look
 from ladder.pulse import Pulse
+from ladder.response import EXCERPT, NOTHING, Received
 from ladder.texts import fit_text
 from ladder.urls import request_of, target_of
 
@@ -44,6 +45,7 @@ class Answer:
     asked_at: float = 0.0  # seconds of the loop's clock
     answered_at: float = 0.0
     is_lagged: bool = False  # whether the ladder itself was late meanwhile
+    received: Received = NOTHING
 
 
 class BotClient:
@@ -111,12 +113,13 @@ class BotClient:
 
     def _answer(self, exchange: Exchange, is_lagged: bool) -> Answer:
         """The answer in what came of a request."""
-        answer = Answer(None, exchange.cause, 0)
+        answer, received = Answer(None, exchange.cause, 0), exchange.received
         if exchange.cause is None:
             try:
                 answer = answer_of(object_of(exchange.body))
             except NoAnswer as fault:
                 answer = Answer(None, fault.cause, 0)
+                received = replace(received, excerpt=exchange.body[:EXCERPT])
         seconds = min(exchange.ended_at - exchange.asked_at, self.timeout)
         return replace(
             answer,
@@ -124,6 +127,7 @@ class BotClient:
             asked_at=exchange.asked_at,
             answered_at=exchange.ended_at,
             is_lagged=is_lagged,
+            received=received,
         )
 
 

@@ -6,7 +6,7 @@ import hashlib
 import json
 import os
 import subprocess
-from collections.abc import Callable
+from collections.abc import Callable, Iterable
 from concurrent.futures import ThreadPoolExecutor
 from contextlib import closing
 from dataclasses import dataclass
@@ -15,12 +15,14 @@ from typing import Any
 
 from ladder.config import Config, config_again
 from ladder.draws import words_of
+from ladder.endless import replay
 from ladder.game import map_members, opening
 from ladder.game_files import command_file
 from ladder.host import BLOCKS_OF_GAME, line_of
 from ladder.outcome import Outcome, finishes_of
 from ladder.pairing import Fixture, fixtures_of
-from ladder.store import StoreFault, open_store
+from ladder.rated import Rated
+from ladder.store import Store, StoreFault, open_store
 
 SERVE_SECONDS = 600
 
@@ -44,10 +46,11 @@ def check(folder: Path, program: Path, note: Callable[[int], None]) -> Checked:
         store.names()
         outcomes = list(store.outcomes())
         identity = store.identity()
-    if identity is None:
-        raise StoreFault(f"{folder} has no results of a ladder")
-    config = config_again(identity, folder, max((it.round for it in outcomes), default=1))
-    drawn = {fixture.name: fixture for fixture in fixtures_of(config)}
+        if identity is None:
+            raise StoreFault(f"{folder} has no results of a ladder")
+        rounds = max((it.round for it in outcomes), default=1)
+        config = config_again(identity, folder, rounds)
+        drawn = {fixture.name: fixture for fixture in drawn_again(config, store)}
 
     def fault(outcome: Outcome) -> str | None:
         return fault_of(outcome, config, drawn.get(outcome.name), program)
@@ -59,6 +62,14 @@ def check(folder: Path, program: Path, note: Callable[[int], None]) -> Checked:
                 faults[outcome.name] = why
             note(at)
     return Checked(len(outcomes), faults)
+
+
+def drawn_again(config: Config, store: Store) -> Iterable[Fixture]:
+    """The games of a ladder; those of an endless one are drawn from what was stored before each."""
+    if not config.is_endless:
+        return fixtures_of(config)
+    rated = Rated(config.seed, config.snakes)
+    return [Fixture(row.game, row.number, bots or ()) for row, bots in replay(store, rated)]
 
 
 def fault_of(
@@ -101,10 +112,10 @@ def fault_of_move(
     command: dict[str, Any], turn: int, config: Config, fixture: Fixture
 ) -> str | None:
     """Why the move after a turn does not have the drawn words, hazards, and nothing else."""
-    if command.get("words") != words_of(config.seed, fixture.name, turn, config.rules.words):
+    if command.get("words") != words_of(config.seed, fixture.key, turn, config.rules.words):
         return f"the words of the move after turn {turn} are not those that are drawn"
     given = {key: command[key] for key in ("hazards", "food") if key in command}
-    if given != map_members(config, fixture.name, turn):
+    if given != map_members(config, fixture.key, turn):
         return f"the hazards or the food of the move after turn {turn} are not as drawn"
     return None
 

@@ -19,13 +19,15 @@ from ladder.urls import shown, target_of
 BOT_NAME = re.compile(r"[A-Za-z0-9][A-Za-z0-9_.-]{0,31}")
 MODES = ("standard", "solo", "constrictor", "wrapped")
 MAPS = ("standard", "royale")
-PAIRINGS = ("round_robin", "duels", "tables")
+PAIRINGS = ("round_robin", "duels", "tables", "gauntlet", "rating")
 MOST_BOTS = 200
 MOST_AT_ONCE = 64  # games that are open in a host
 AT_ONCE = 16
 GAMES_A_BOT = 2
+ENDLESS = 999_999  # games of a ladder whose rounds are not given
 ID_LETTERS = 8
 ORDER = "circle"  # of the games of a round: a folder of another order is another ladder's
+MOST_ROUNDS = 100_000
 MOST_TURNS = 10_000
 MOST_HAZARDS = 2_500
 LONGEST_FOOD = 32  # words of a move: at most this number of foods can appear in a turn
@@ -90,6 +92,11 @@ class Config:
     games_a_bot: int  # at the same time
 
     @property
+    def is_endless(self) -> bool:
+        """Whether its games are drawn one by one, between bots of a roster that changes."""
+        return self.pairing == "rating"
+
+    @property
     def letters(self) -> str:
         """Letters that no other ladder has, for the ids of its games."""
         return hashlib.sha256(json.dumps(self.identity).encode()).hexdigest()[:ID_LETTERS]
@@ -101,7 +108,7 @@ class Config:
         The addresses of the bots, the number of rounds and the games at once may change.
         """
         return {
-            "bots": [bot.name for bot in self.bots],
+            "bots": [] if self.is_endless else [bot.name for bot in self.bots],
             "rules": self.rules.members,
             "pairing": self.pairing,
             "snakes": self.snakes,
@@ -188,13 +195,15 @@ def config_of(table: dict[str, Any], place: str) -> Config:
     rules = rules_of(members)
     pairing = members.word("pairing", PAIRINGS)
     has_seed = "seed" in members.table
+    is_endless = pairing == "rating"
+    usual, most = (ENDLESS, ENDLESS) if is_endless else (1, MOST_ROUNDS)
     config = Config(
         folder=folder,
         bots=bots,
         rules=rules,
         pairing=pairing,
         snakes=snakes_of(members, rules, pairing),
-        rounds=members.number("rounds", 1, 1, 100_000),
+        rounds=members.number("rounds", usual, 1, most),
         seed=members.number("seed", 0, 0, 2**63 - 1),
         has_seed=has_seed,
         timeout=members.number("timeout", 500, 10, 60_000),
@@ -202,7 +211,7 @@ def config_of(table: dict[str, Any], place: str) -> Config:
         games_a_bot=members.number("games_a_bot", GAMES_A_BOT, 1, MOST_AT_ONCE),
     )
     members.finish()
-    if len(bots) < config.snakes:
+    if len(bots) < config.snakes and not is_endless:
         raise members.fault(f"a game of {config.snakes} snakes wants as many bots")
     return config
 
@@ -250,8 +259,8 @@ def snakes_of(members: Members, rules: Rules, pairing: str) -> int:
     usual = {"tables": 4}.get(pairing, 1 if rules.mode == "solo" else 2)
     most = min(8, most_snakes(rules.width, rules.height))
     snakes = members.number("snakes", usual, 1 if rules.mode == "solo" else 2, most)
-    if pairing == "duels" and snakes != 2:
-        raise members.fault("a duel has 2 snakes")
+    if pairing in ("duels", "gauntlet") and snakes != 2:
+        raise members.fault(f"{pairing}: a game has 2 snakes")
     return snakes
 
 

@@ -9,7 +9,7 @@ from collections import defaultdict
 from collections.abc import Sequence
 
 from ladder.addresses import AddressBook
-from ladder.response import BadAnswer, Response
+from ladder.response import NOTHING, BadAnswer, Response
 from ladder.urls import Place
 
 OWN_FAULTS = (  # of this machine, so that no bot is blamed
@@ -38,6 +38,7 @@ class Exchange:
         self.cause: str | None = None
         self.fault: Exception | None = None
         self.body = b""
+        self.received = NOTHING
         self.done: asyncio.Future[None] = self.loop.create_future()
 
     def begin(self) -> None:
@@ -54,6 +55,8 @@ class Exchange:
             self.timer.cancel()
             self.ended_at = self.loop.time()
             self.cause, self.body = cause, body
+            if self.connection is not None:
+                self.received = self.connection.response.received(is_bad=cause is not None)
             self.done.set_result(None)
 
     def time_out(self, cause: str) -> None:

@@ -33,7 +33,7 @@ class RunContext:
     config: Config
     folder: Path
     client: BotClient
-    urls: Mapping[str, str]
+    urls: dict[str, str]
     looks: dict[str, Look]
     watch: Watch
 
@@ -41,7 +41,7 @@ class RunContext:
 def opening(config: Config, fixture: Fixture) -> list[bytes]:
     """The lines that admit and begin a game; its name, bots and seed determine them."""
     rules = config.rules
-    draw = Draw(config.seed, fixture.name, "start")
+    draw = Draw(config.seed, fixture.key, "start")
     heads = start_cells(draw, rules.width, rules.height, len(fixture.bots))
     food = first_food(draw, rules.width, rules.height, heads)
     snakes = [{"id": bot, **head._asdict()} for bot, head in zip(fixture.bots, heads)]
@@ -151,8 +151,8 @@ class Game:
             self.tallies[name].add(answer)
         files.add_answers(answers)
         moves = {name: answer.move for name, answer in answers.items() if answer.move is not None}
-        words = words_of(config.seed, self.fixture.name, board["turn"], config.rules.words)
-        more = map_members(config, self.fixture.name, board["turn"])
+        words = words_of(config.seed, self.fixture.key, board["turn"], config.rules.words)
+        more = map_members(config, self.fixture.key, board["turn"])
         self.context.watch.show(self.fixture, await stay.move(moves, words, **more))
 
     async def ask_all(self, board: Board) -> dict[str, Answer]:
@@ -165,6 +165,7 @@ class Game:
         own = None if self.answered_at is None else asked_at - self.answered_at
         self.answered_at = max(answer.answered_at for answer in answers.values())
         self.context.watch.count(answers, own)
+        self.context.watch.answered(self.fixture.name, board["turn"], answers)
         return answers
 
     def hear(self, answers: Mapping[str, Answer]) -> None:

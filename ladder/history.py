@@ -96,7 +96,7 @@ def ratings_over_time(store: Store) -> dict[str, list[Point]]:
     """The rating of each bot after parts of the games, from its first game on."""
     (count,) = store.base.execute("SELECT COUNT(*) FROM game").fetchone()
     ends = {math.ceil(count * point / POINTS) for point in range(1, POINTS + 1)}
-    results = Comparisons(bots_of(store))
+    results = Comparisons(bots_of(store), store.replaced())
     points: dict[str, list[Point]] = {name: [] for name in results.names}
     seen: set[str] = set()
     for at, lived in enumerate(games_in_order(store), 1):

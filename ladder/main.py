@@ -4,25 +4,33 @@ from __future__ import annotations
 
 import argparse
 import asyncio
+import math
 import signal
 import sqlite3
 import sys
+import time
 from collections.abc import Sequence
 from contextlib import AsyncExitStack, closing
+from dataclasses import replace
 from pathlib import Path
 
 from rich.console import Console
 
+from ladder.author_commands import add_author_commands
+from ladder.bot_log import BotLog
 from ladder.check import check
-from ladder.config import ConfigFault, read_config
+from ladder.config import MOST_ROUNDS, ConfigFault, read_config
+from ladder.contests import add_contests
 from ladder.game import GameFault
 from ladder.game_files import make_folders
-from ladder.host import PROGRAM, HostDied, HostFault
+from ladder.host import HostDied, HostFault
 from ladder.merge import merge
 from ladder.page_link import Address, PageFault, PageLink, address_of
 from ladder.pairing import Part, part_of
 from ladder.play import Job, locked, play
+from ladder.program import add_program, program_of
 from ladder.progress import Counts, ProgressBar
+from ladder.roster_commands import add_roster_commands
 from ladder.seeds import seed_line, seed_line_of, with_seed
 from ladder.store import Store, StoreFault, open_store
 from ladder.texts import fit_text
@@ -41,14 +49,6 @@ FAULTS = (
 )
 
 
-def program_of(given: argparse.Namespace) -> Path:
-    """The path of the arena program, which has to exist."""
-    program = Path(given.program)
-    if not program.is_file():
-        raise StoreFault(f"there is no program {program}: ./arena --help proves and builds it")
-    return program.resolve()
-
-
 async def play_job(job: Job, store: Store, counts: Counts, address: Address | None) -> None:
     """Plays a job with its progress bar and, if there is an address, its page.
 
@@ -59,7 +59,8 @@ async def play_job(job: Job, store: Store, counts: Counts, address: Address | No
     asyncio.get_running_loop().add_signal_handler(signal.SIGTERM, task.cancel)
     async with AsyncExitStack() as stack:
         bar = stack.enter_context(ProgressBar(counts))
-        watches: list[Watch] = [counts, bar]
+        log = await stack.enter_async_context(BotLog(job.folder, bar.say))
+        watches: list[Watch] = [counts, bar, log]
         if address is not None:
             link = PageLink(job.folder, address, counts.line, bar.say, job.program)
             watches.append(await stack.enter_async_context(link))
@@ -70,9 +71,14 @@ async def play_job(job: Job, store: Store, counts: Counts, address: Address | No
 def run_play(given: argparse.Namespace) -> int:
     """Plays the games of a ladder that are not done."""
     config = with_seed(read_config(given.config))
+    if config.is_endless and given.part:
+        raise ConfigFault("an endless ladder has no parts")
+    if given.rounds is not None:
+        config = replace(config, rounds=given.rounds)
     part = given.part or Part(1, 1)
     folder = config.folder / str(part) if given.part else config.folder
-    job = Job(config, folder, part, program_of(given))
+    ends_at = math.inf if given.hours is None else time.monotonic() + 3600 * given.hours
+    job = Job(config, folder, part, program_of(given), ends_at)
     counts = Counts()
     make_folders(folder)
     with locked(folder), closing(Store(folder)) as store:
@@ -126,6 +132,20 @@ def run_merge(given: argparse.Namespace) -> int:
     return 0
 
 
+def rounds_of(word: str) -> int:
+    rounds = int(word)
+    if not 1 <= rounds <= MOST_ROUNDS:
+        raise ValueError(word)
+    return rounds
+
+
+def hours_of(word: str) -> float:
+    hours = float(word)
+    if not 0 <= hours < math.inf:
+        raise ValueError(word)
+    return hours
+
+
 def parser() -> argparse.ArgumentParser:
     words = argparse.ArgumentParser(prog="ladder", description=__doc__)
     commands = words.add_subparsers(required=True, metavar="COMMAND")
@@ -134,6 +154,10 @@ def parser() -> argparse.ArgumentParser:
     one.add_argument("--part", metavar="K/N", type=part_of, help="one part of the games")
     help = "a page with the standings and the running games; on 127.0.0.1 if no host is named"
     one.add_argument("--page", metavar="[HOST:]PORT", type=address_of, help=help)
+    one.add_argument(
+        "--rounds", metavar="N", type=rounds_of, help="in place of the configuration's"
+    )
+    one.add_argument("--hours", metavar="H", type=hours_of, help="no game begins later")
     add_program(one)
     one.set_defaults(run=run_play)
     one = commands.add_parser("standings", help="prints the standings of a folder")
@@ -153,12 +177,10 @@ def parser() -> argparse.ArgumentParser:
     one.add_argument("into", metavar="INTO", type=Path)
     one.add_argument("folders", metavar="FOLDER", type=Path, nargs="+")
     one.set_defaults(run=run_merge)
+    add_author_commands(commands)
+    add_contests(commands)
+    add_roster_commands(commands)
     return words
-
-
-def add_program(words: argparse.ArgumentParser) -> None:
-    usual = "arena, if not the built one"
-    words.add_argument("--program", metavar="PATH", default=PROGRAM, help=usual)
 
 
 def main(words: Sequence[str] | None = None) -> int:

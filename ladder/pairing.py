@@ -16,11 +16,19 @@ MOST_GAMES = 1_000_000
 
 @dataclass(frozen=True)
 class Fixture:
-    """A game to be played: its name, its round, and the bots in the order of their seats."""
+    """A game to be played: its name, its round, and the bots in the order of their seats.
+
+    What is drawn for it depends on `key`, which is its name, but for the second game of a pair.
+    """
 
     name: str
     round: int
     bots: tuple[str, ...]
+    first: str = ""  # of a pair, the name of the first game
+
+    @property
+    def key(self) -> str:
+        return self.first or self.name
 
 
 @dataclass(frozen=True)
@@ -53,12 +61,31 @@ def fixtures_of(config: Config, part: Part = Part(1, 1)) -> list[Fixture]:
 
 def all_fixtures(config: Config) -> Iterator[Fixture]:
     names = [bot.name for bot in config.bots]
+    if config.pairing == "gauntlet":
+        yield from gauntlet(names, config)
+        return
     paired = every_table if config.pairing == "round_robin" else drawn_tables
     rounds: Iterator[Iterable[Iterable[str]]] = paired(names, config)
     for number, tables in enumerate(rounds, 1):
         for at, table in enumerate(tables, 1):
             name = f"r{number:04}-t{at:03}"
             yield Fixture(name, number, tuple(Draw(config.seed, name, "seats").shuffled(table)))
+
+
+def gauntlet(names: Sequence[str], config: Config) -> Iterator[Fixture]:
+    """Pairs of games of the first bot and each other one, with the seats changed, once a round."""
+    first, *others = names
+    for number in range(1, config.rounds + 1):
+        for at, other in enumerate(others):
+            one, two = (f"r{number:04}-t{2 * at + part:03}" for part in (1, 2))
+            bots = Draw(config.seed, one, "seats").shuffled((first, other))
+            yield Fixture(one, number, tuple(bots))
+            yield Fixture(two, number, tuple(reversed(bots)), one)
+
+
+def pair_of(name: str) -> int:
+    """The number of a pair of a gauntlet of two bots, from 0, by the name of one of its games."""
+    return int(name[1:].partition("-")[0]) - 1
 
 
 def every_table(names: Sequence[str], config: Config) -> Iterator[Iterable[Iterable[str]]]:

@@ -4,6 +4,7 @@ from __future__ import annotations
 
 import asyncio
 import fcntl
+import math
 from collections.abc import Iterator, Sequence
 from concurrent.futures import ThreadPoolExecutor
 from contextlib import contextmanager, suppress
@@ -11,19 +12,24 @@ from dataclasses import dataclass
 from pathlib import Path
 
 from ladder.bots import BotClient, NoAnswer
-from ladder.config import Bot, Config
+from ladder.config import ENDLESS, Bot, Config
+from ladder.endless import Endless
 from ladder.game import Game, GameFault, RunContext
 from ladder.game_files import command_file, forget_answers, running_games
 from ladder.host import BLOCKS_OF_GAME, HostDied, Refused
 from ladder.keeper import HostKeeper
 from ladder.pairing import Fixture, Part, fixtures_of
 from ladder.payloads import Look
+from ladder.rated import Change
+from ladder.roster import add_config_bots, urls_of
 from ladder.schedule import CALM_SECONDS, Pace, Schedule
 from ladder.store import Store, StoreFault
 from ladder.urls import shown
 from ladder.watch import Watch, Watches
 
 LOOK_AGAIN_SECONDS = 60.0
+
+Source = Schedule | Endless
 
 
 @dataclass(frozen=True)
@@ -34,6 +40,7 @@ class Job:
     folder: Path
     part: Part
     program: Path
+    ends_at: float = math.inf  # of the monotonic clock: no game begins later
 
 
 @contextmanager
@@ -51,8 +58,12 @@ async def play(job: Job, store: Store, watches: Sequence[Watch]) -> None:
     """Plays the games of a job that are not in the store."""
     store.begin(job.config.identity, job.config.bots)
     config = job.config
-    fixtures = fixtures_of(config, job.part)
-    done = store.names() & {fixture.name for fixture in fixtures}
+    fixtures = [] if config.is_endless else fixtures_of(config, job.part)
+    done = store.names()
+    if config.is_endless:
+        add_config_bots(store, config.bots)
+    else:
+        done &= {fixture.name for fixture in fixtures}
     for name in running_games(job.folder) & done:
         forget_answers(job.folder, name)
     async with (
@@ -60,14 +71,21 @@ async def play(job: Job, store: Store, watches: Sequence[Watch]) -> None:
         HostKeeper(job.program, BLOCKS_OF_GAME * config.at_once, config.rules.plan) as keeper,
     ):
         watch = Watches([*watches, keeper])
-        watch.begin(len(done), len(fixtures))
+        watch.begin(len(done), planned(config, fixtures))
         context = await run_context(job, client, watch)
         asking = asyncio.create_task(ask_looks_again(context))
         try:
-            run = Run(context, store, keeper)
+            run = Run(context, store, keeper, job.ends_at)
             await run.play([fixture for fixture in fixtures if fixture.name not in done])
         finally:
             asking.cancel()
+
+
+def planned(config: Config, fixtures: Sequence[Fixture]) -> int:
+    """The number of games of a run; 0 if there is no end."""
+    if not config.is_endless:
+        return len(fixtures)
+    return 0 if config.rounds == ENDLESS else config.rounds
 
 
 async def run_context(job: Job, client: BotClient, watch: Watch) -> RunContext:
@@ -102,14 +120,20 @@ async def ask_looks_again(context: RunContext) -> None:
     """Asks the bots that were down for their looks, again and again, for their next games."""
     while True:
         await asyncio.sleep(LOOK_AGAIN_SECONDS)
-        missing = [bot for bot in context.config.bots if bot.name not in context.looks]
+        missing = [Bot(*it) for it in context.urls.items() if it[0] not in context.looks]
         await ask_looks(missing, context.client, context.looks, Watch())
 
 
 class Run:
     """The games that one call of a ladder plays."""
 
-    def __init__(self, context: RunContext, store: Store, keeper: HostKeeper) -> None:
+    def __init__(
+        self, context: RunContext, store: Store, keeper: HostKeeper, ends_at: float = math.inf
+    ) -> None:
+        self.ends_at = ends_at
+        self.asking: set[asyncio.Task[None]] = set()
+        self.changes: list[Change] = []  # of the roster
+        self.said: set[str] = set()
         self.context = context
         self.store = store
         self.keeper = keeper
@@ -119,40 +143,66 @@ class Run:
     async def play(self, fixtures: Sequence[Fixture]) -> None:
         """Plays games, as many at once as the configuration says. The first fault stops all."""
         config = self.context.config
-        schedule = Schedule(fixtures, config.games_a_bot)
+        source = self.source(fixtures)
         pace = Pace(config.at_once, self.context.client.pulse)
         try:
             async with asyncio.TaskGroup() as group:
-                await self.begin_games(schedule, pace, group)
+                await self.begin_games(source, pace, group)
         except BaseExceptionGroup as faults:
             raise faults.exceptions[0] from None
         finally:
+            for task in self.asking:
+                task.cancel()
             self.storing.shutdown(cancel_futures=True)
 
-    async def begin_games(self, schedule: Schedule, pace: Pace, group: asyncio.TaskGroup) -> None:
+    def source(self, fixtures: Sequence[Fixture]) -> Source:
+        """Where the games come from: a list, or the results so far."""
+        config = self.context.config
+        if config.is_endless:
+            return Endless(config, self.store, self.storing, self.heed, self.ends_at)
+        return Schedule(fixtures, config.games_a_bot, self.ends_at)
+
+    def heed(self, changes: list[Change]) -> None:
+        """Takes changes of the roster: new addresses, and bots whose looks are not known."""
+        self.changes += changes
+        self.context.urls.update(urls_of(self.changes, self.context.config.bots))
+        fresh = {it.bot for it in changes if it.url} - self.context.looks.keys()
+        bots = [Bot(name, self.context.urls[name]) for name in sorted(fresh)]
+        looks = ask_looks(bots, self.context.client, self.context.looks, self.context.watch)
+        task = asyncio.get_running_loop().create_task(looks)
+        self.asking.add(task)
+        task.add_done_callback(self.asking.discard)
+
+    async def begin_games(self, source: Source, pace: Pace, group: asyncio.TaskGroup) -> None:
         """Begins each game as soon as there is room for it, and returns when all have ended."""
-        is_slow = False
         while True:
             self.ended.clear()
-            while pace.may_begin(schedule.running) and (fixture := schedule.next()) is not None:
-                group.create_task(self.play_and_store(fixture, schedule))
-            if schedule.running == 0:
-                return
-            if pace.allowed < pace.most and not is_slow:
-                is_slow = True
-                self.context.watch.say("this machine is too busy: it plays fewer games at once")
+            while pace.may_begin(source.running) and (fixture := await source.begin()) is not None:
+                group.create_task(self.play_and_store(fixture, source))
+            if source.running == 0:
+                if source.is_over:
+                    return
+                self.say_once("waits for bots: too few are in and do not rest")
+            if pace.allowed < pace.most:
+                self.say_once("this machine is too busy: it plays fewer games at once")
             with suppress(TimeoutError):
                 async with asyncio.timeout(CALM_SECONDS):
                     await self.ended.wait()
 
-    async def play_and_store(self, fixture: Fixture, schedule: Schedule) -> None:
+    def say_once(self, text: str) -> None:
+        if text not in self.said:
+            self.said.add(text)
+            self.context.watch.say(text)
+
+    async def play_and_store(self, fixture: Fixture, source: Source) -> None:
         """Plays a game, makes room for the next one, and stores the result."""
         game = await self.play_one(fixture)
-        schedule.leave(fixture)
+        source.leave(fixture)
         self.ended.set()
         outcome = game.outcome()
         added = (self.store.add, [(outcome, game.tallies)])
         await asyncio.get_running_loop().run_in_executor(self.storing, *added)
+        self.ended.set()  # an endless ladder draws from the results that are stored
         forget_answers(self.context.folder, fixture.name)
         self.context.watch.end(outcome)
 

@@ -73,8 +73,9 @@ class Counts(Watch):
     def summary(self) -> list[str]:
         """The summary of the run: a line of the games, one of the moves, and warnings."""
         took = time.monotonic() - self.began
+        of = f"{self.done} of {self.fixtures}" if self.fixtures else f"{self.done}"
         games = (
-            f"{self.done} of {self.fixtures} games are done, {self.played} of them now; "
+            f"{of} games are done, {self.played} of them now; "
             f"{self.turns} turns in {took:.1f} s, {self.rate():.0f} a second"
         )
         moves = f"{self.missed.total()} of {self.moves} moves missed"
@@ -143,7 +144,7 @@ class ProgressBar(Watch):
             self.bar.stop()
 
     def begin(self, done: int, fixtures: int) -> None:
-        self.bar.update(self.task, total=fixtures, completed=done)
+        self.bar.update(self.task, total=fixtures or None, completed=done)
 
     def count(self, answers: Mapping[str, Answer], own_seconds: float | None) -> None:
         if self.console.is_terminal:

@@ -5,15 +5,17 @@ outlives the other ten times as often as not. Each two seats of a game are compa
 lived longer has won; two that went out in one turn, or that both live at the end, have half a win
 each. A game of k seats has k(k-1)/2 such pairs, which are not independent; each counts 2/k, so that
 the game counts as k-1 games of two. The ratings are those of maximum likelihood, with one draw of
-each bot against a bot of 1500 added, which keeps them finite. Their mean is 1500.
+each bot against a bot of 1500 added, which keeps them finite; of a bot that replaced another one,
+against that. Their mean is 1500.
 """
 
 from __future__ import annotations
 
 import math
-from collections.abc import Iterable, Sequence
+from collections.abc import Iterable, Mapping, Sequence
 from dataclasses import dataclass
 from itertools import combinations
+from types import MappingProxyType
 
 import numpy as np
 from numpy.typing import NDArray
@@ -36,14 +38,23 @@ class Rating:
     error: float
 
 
-class Comparisons:
-    """How often each bot outlived each other one, in weighted wins."""
+NONE: Mapping[str, str] = MappingProxyType({})
 
-    def __init__(self, names: Sequence[str]) -> None:
+
+class Comparisons:
+    """How often each bot outlived each other one, in weighted wins.
+
+    `replaced` has the bot that a bot replaced, against which it has its draw.
+    """
+
+    def __init__(self, names: Sequence[str], replaced: Mapping[str, str] = NONE) -> None:
         self.names = list(names)
         self.at = {name: at for at, name in enumerate(self.names)}
         size = len(self.names)
         self.wins = [[0.0] * size for _ in range(size)]
+        self.free = [float(name not in replaced) for name in self.names]
+        for pair in replaced.items():
+            self.add([(name, 0.0) for name in pair])
 
     def add(self, lived: Sequence[tuple[str, float]]) -> None:
         """Adds a game: its bots, each with the time that it lived, in any unit."""
@@ -55,10 +66,12 @@ class Comparisons:
 
 
 def ratings(
-    names: Sequence[str], games: Iterable[Sequence[tuple[str, float]]]
+    names: Sequence[str],
+    games: Iterable[Sequence[tuple[str, float]]],
+    replaced: Mapping[str, str] = NONE,
 ) -> dict[str, Rating]:
     """The rating of each bot from these games, by Newton's method."""
-    results = Comparisons(names)
+    results = Comparisons(names, replaced)
     for lived in games:
         results.add(lived)
     return ratings_from(results)
@@ -69,24 +82,28 @@ def ratings_from(results: Comparisons) -> dict[str, Rating]:
     size = len(results.names)
     wins: Numbers = np.array(results.wins).reshape(size, size)
     strengths: Numbers = np.zeros(size)
+    free: Numbers = np.array(results.free)
     for _ in range(MOST_STEPS):
-        slopes, curvature = derivatives(wins, strengths)
+        slopes, curvature = derivatives(wins, strengths, free)
         steps = np.linalg.solve(curvature, slopes)
         most = float(np.max(np.abs(steps), initial=0.0))
         strengths = strengths + steps * min(1.0, LONGEST_STEP / max(most, EXACT))
         if most < EXACT:
             break
-    return in_points(results.names, strengths, derivatives(wins, strengths)[1])
+    return in_points(results.names, strengths, derivatives(wins, strengths, free)[1])
 
 
-def derivatives(wins: Numbers, strengths: Numbers) -> tuple[Numbers, Numbers]:
-    """The gradient of the log-likelihood, and its negated Hessian."""
+def derivatives(wins: Numbers, strengths: Numbers, free: Numbers) -> tuple[Numbers, Numbers]:
+    """The gradient of the log-likelihood, and its negated Hessian.
+
+    `free` is 1 for bots with a draw against a bot of 1500.
+    """
     played = wins + wins.T
     shares = expected(strengths[:, np.newaxis] - strengths[np.newaxis, :])
     drawn = expected(strengths)  # of the draw against a bot of 1500
     bends = played * shares * (1 - shares)
-    slopes = (wins - played * shares).sum(axis=1) + 0.5 - drawn
-    return slopes, np.diag(bends.sum(axis=1) + drawn * (1 - drawn)) - bends
+    slopes = (wins - played * shares).sum(axis=1) + free * (0.5 - drawn)
+    return slopes, np.diag(bends.sum(axis=1) + free * drawn * (1 - drawn)) - bends
 
 
 def expected(ahead: Numbers) -> Numbers:

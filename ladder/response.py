@@ -4,11 +4,13 @@ from __future__ import annotations
 
 import re
 from collections.abc import Callable
+from dataclasses import dataclass
 
 MOST_BYTES = 64 * 1024  # of all that an answer sends: heads, body, chunk lines and trailers
 MOST_HEAD = 16 * 1024  # of a status line with its headers
 MOST_PIECES = 1024  # in which an answer comes: reads from the socket, and chunks
 LONGEST_LINE = 256  # of a chunk's size and extensions
+EXCERPT = 200  # bytes that are kept of a bad answer
 
 EMPTY_LINE = re.compile(rb"\n\r?\n")
 STATUS = re.compile(rb"HTTP/1\.([01]) ([1-5][0-9][0-9])(?: [^\r\n]*)?(?=\r?\n|\Z)")
@@ -27,6 +29,18 @@ class BadAnswer(Exception):
         self.cause = cause
 
 
+@dataclass(frozen=True, slots=True)
+class Received:
+    """What came of a response: its status, 0 if none came, its bytes, and the first of them."""
+
+    status: int = 0
+    size: int = 0
+    excerpt: bytes = b""  # of a bad response: the first bytes of the body, or else of the head
+
+
+NOTHING = Received()
+
+
 class Response:
     """One response, which `feed` takes piece by piece.
 
@@ -36,9 +50,11 @@ class Response:
 
     def __init__(self) -> None:
         self.seen = 0
+        self.status = 0
         self.pieces = 0
         self.keeps = False
         self.body = b""
+        self._start = b""  # of the last head
         self._rest = bytearray()  # what was fed and is not read yet
         self._searched = 0  # its bytes before which no empty line begins
         self._parts: list[bytes] = []  # the chunks so far
@@ -64,6 +80,13 @@ class Response:
         if self._step != self._until_end:
             raise BadAnswer("cut")
         self.body = bytes(self._rest)
+
+    def received(self, is_bad: bool) -> Received:
+        """What came so far."""
+        if not is_bad:
+            return Received(self.status, self.seen)
+        body = self.body or b"".join(self._parts) or bytes(self._rest[:EXCERPT])
+        return Received(self.status, self.seen, (body or self._start)[:EXCERPT])
 
     def _count_piece(self) -> None:
         self.pieces += 1
@@ -91,9 +114,11 @@ class Response:
         if end == 0:
             return False
         head = self._taken(end)
+        self._start = head[:EXCERPT]
         line = STATUS.match(head)
         if line is None or line[2] == b"101":
             raise BadAnswer("cut")
+        self.status = int(line[2])
         if line[2].startswith(b"1"):
             if self._had_interim:
                 raise BadAnswer("cut")

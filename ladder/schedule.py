@@ -3,6 +3,8 @@
 from __future__ import annotations
 
 import asyncio
+import math
+import time
 from collections import Counter
 from collections.abc import Iterable
 
@@ -14,14 +16,25 @@ CALM_SECONDS = 1.0  # without a lag, after which one more game is allowed
 
 
 class Schedule:
-    """The games that wait. No bot plays more than `games_a_bot` games at the same time."""
+    """The games that wait. No bot plays more than `games_a_bot` games at the same time, and no
+    game begins after `ends_at`, of the monotonic clock.
+    """
 
-    def __init__(self, fixtures: Iterable[Fixture], games_a_bot: int) -> None:
+    is_over = True  # once no game runs and none can begin
+
+    def __init__(
+        self, fixtures: Iterable[Fixture], games_a_bot: int, ends_at: float = math.inf
+    ) -> None:
+        self.ends_at = ends_at
         self.rest = iter(fixtures)
         self.passed: list[Fixture] = []
         self.games_a_bot = games_a_bot
         self.playing: Counter[str] = Counter()  # games by bot
         self.running = 0
+
+    async def begin(self) -> Fixture | None:
+        """As `next`, until the time is over."""
+        return None if time.monotonic() >= self.ends_at else self.next()
 
     def next(self) -> Fixture | None:
         """The first waiting game whose bots have room, which begins now; None without any."""

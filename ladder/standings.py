@@ -69,7 +69,8 @@ def standings_of(store: Store) -> list[Standing]:
             standing.games += 1
             standing.results[it.result] += 1
             standing.turns += it.turns
-    rated = ratings(list(table), (lived_in(it) for it in outcomes if len(it.finishes) > 1))
+    games = (lived_in(it) for it in outcomes if len(it.finishes) > 1)
+    rated = ratings(list(table), games, store.replaced())
     for name, standing in table.items():
         standing.rating = rated[name]
         standing.latencies = latencies.get(name, {})

@@ -12,6 +12,7 @@ from typing import Any
 from ladder.config import Bot
 from ladder.outcome import Finish, Outcome, Tally
 from ladder.pairing import GAME_NAME
+from ladder.rated import Change, Drawn, Result
 from ladder.urls import shown
 
 BUSY_SECONDS = 60.0
@@ -26,6 +27,12 @@ CREATE TABLE IF NOT EXISTS seat (
     game TEXT NOT NULL REFERENCES game, seat INTEGER NOT NULL, bot TEXT NOT NULL REFERENCES bot,
     result TEXT NOT NULL, out INTEGER, cause TEXT, killer TEXT, length INTEGER NOT NULL,
     turns INTEGER NOT NULL, PRIMARY KEY (game, seat)) WITHOUT ROWID;
+CREATE TABLE IF NOT EXISTS roster (
+    number INTEGER PRIMARY KEY, what TEXT NOT NULL, bot TEXT NOT NULL, results INTEGER NOT NULL,
+    url TEXT NOT NULL, old TEXT NOT NULL, at TEXT NOT NULL);
+CREATE TABLE IF NOT EXISTS drawn (
+    number INTEGER PRIMARY KEY, game TEXT NOT NULL, results INTEGER NOT NULL,
+    changes INTEGER NOT NULL, room INTEGER NOT NULL, bots TEXT NOT NULL);
 CREATE TABLE IF NOT EXISTS missed (
     game TEXT NOT NULL, seat INTEGER NOT NULL, cause TEXT NOT NULL, moves INTEGER NOT NULL,
     PRIMARY KEY (game, seat, cause)) WITHOUT ROWID;
@@ -127,6 +134,13 @@ class Store:
 
     def outcomes(self) -> Iterator[Outcome]:
         """The games that are done, in the order of their names."""
+        return self.outcomes_by("name")
+
+    def outcomes_by_end(self) -> Iterator[Outcome]:
+        """The games that are done, in the order in which their results were stored."""
+        return self.outcomes_by("rowid")
+
+    def outcomes_by(self, order: str) -> Iterator[Outcome]:
         finishes: dict[str, list[Finish]] = {}
         seats = self.base.execute(
             "SELECT game, bot, result, out, cause, killer, length, turns FROM seat"
@@ -135,10 +149,62 @@ class Store:
         for game, *values in seats:
             finishes.setdefault(game, []).append(Finish(*values))
         games = self.base.execute(
-            "SELECT name, round, turns, lines, digest FROM game ORDER BY name"
+            f"SELECT name, round, turns, lines, digest FROM game ORDER BY {order}"
         )
         for name, number, turns, lines, digest in games:
             yield Outcome(name, number, turns, lines, digest, tuple(finishes.get(name, ())))
+
+    def results(self, after: int) -> list[Result]:
+        """The results behind the first `after`, in the order in which they were stored."""
+        seats: dict[str, list[tuple[str, int | None]]] = {}
+        rows = self.base.execute(
+            "SELECT game.name, seat.bot, seat.out FROM game JOIN seat ON seat.game = game.name"
+            " WHERE game.rowid > ? ORDER BY game.rowid, seat.seat",
+            (after,),
+        )
+        for name, bot, out in rows:
+            seats.setdefault(name, []).append((bot, out))
+        return [Result(name, tuple(it)) for name, it in seats.items()]
+
+    def changes(self, after: int) -> list[Change]:
+        """The changes of the roster behind number `after`."""
+        rows = self.base.execute(
+            "SELECT number, what, bot, results, url, old FROM roster WHERE number > ?"
+            " ORDER BY number",
+            (after,),
+        )
+        return [Change(*row) for row in rows]
+
+    def add_change(self, what: str, bot: str, url: str = "", old: str = "") -> None:
+        """Adds a change of the roster, after the results that are stored now."""
+        with self.base:
+            self.base.execute(
+                "INSERT INTO roster (what, bot, results, url, old, at)"
+                " SELECT ?, ?, COUNT(*), ?, ?, datetime('now') FROM game",
+                (what, bot, url, old),
+            )
+            if url:
+                self.base.execute("INSERT OR REPLACE INTO bot VALUES (?, ?)", (bot, url))
+
+    def replaced(self) -> dict[str, str]:
+        """The bot that each new version replaced."""
+        rows = self.base.execute("SELECT bot, old FROM roster WHERE what = 'replace'")
+        return dict(rows.fetchall())
+
+    def drawn(self) -> list[Drawn]:
+        """The games of an endless ladder that were drawn, in their order."""
+        rows = self.base.execute(
+            "SELECT number, game, results, changes, room, bots FROM drawn ORDER BY number"
+        )
+        return [
+            Drawn(number, game, results, changes, room, tuple(json.loads(bots)))
+            for number, game, results, changes, room, bots in rows
+        ]
+
+    def add_drawn(self, it: Drawn) -> None:
+        row = (it.number, it.game, it.results, it.changes, it.room, json.dumps(it.bots))
+        with self.base:
+            self.base.execute("INSERT INTO drawn VALUES (?, ?, ?, ?, ?, ?)", row)
 
     def tallies(self, game: str) -> dict[str, Tally]:
         """The tally of each bot of a game that is done."""

@@ -29,6 +29,9 @@ class Watch:
         The time is None in the first turn that this run plays of a game.
         """
 
+    def answered(self, game: str, turn: int, answers: Mapping[str, Answer]) -> None:
+        """Called with the answers to the requests of a game after a turn."""
+
     def end(self, outcome: Outcome) -> None:
         """Called with the result of a game after it was stored."""
 
@@ -57,6 +60,10 @@ class Watches(Watch):
     def count(self, answers: Mapping[str, Answer], own_seconds: float | None) -> None:
         for watch in self.watches:
             watch.count(answers, own_seconds)
+
+    def answered(self, game: str, turn: int, answers: Mapping[str, Answer]) -> None:
+        for watch in self.watches:
+            watch.answered(game, turn, answers)
 
     def end(self, outcome: Outcome) -> None:
         for watch in self.watches:

@@ -17,6 +17,7 @@ from typing import Any
 HERE = Path(__file__).resolve().parent
 LADDER = HERE.parent / "ladder"
 START_SECONDS = 30
+BUSY = "ladder: this machine is too busy: it plays fewer games at once\n"
 SMALL = ("seeker", "fleer", "hungry", "careful", "lazy")
 
 
@@ -94,6 +95,11 @@ def start_play(config: Path, program: Path, *words: str) -> subprocess.Popen[str
 def run_ladder(*words: str | Path) -> subprocess.CompletedProcess[str]:
     """Runs a command of the ladder, and waits for its end."""
     return subprocess.run([LADDER, *words], capture_output=True, text=True)
+
+
+def complaints(error: str) -> str:
+    """What a ladder wrote to its standard error, but that the machine is busy."""
+    return error.replace(BUSY, "")
 
 
 def children_of(pid: int) -> list[int]:

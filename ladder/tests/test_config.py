@@ -42,7 +42,7 @@ def test_what_is_left_out_is_usual() -> None:
         ({"snakes": 1}, "snakes is 1, and has to be a number from 2 to 8"),
         ({"snakes": 9}, "snakes is 9"),
         ({"width": 3, "height": 3, "snakes": 5}, "snakes is 5, and has to be a number from 2 to 4"),
-        ({"pairing": "duels", "snakes": 4}, "a duel has 2 snakes"),
+        ({"pairing": "duels", "snakes": 4}, "duels: a game has 2 snakes"),
         ({"at_once": 65}, "at_once is 65"),
         ({"games_a_bot": 0}, "games_a_bot is 0, and has to be a number from 1 to 64"),
         ({"sead": 4}, "nobody knows sead"),

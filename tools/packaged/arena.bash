@@ -8,11 +8,12 @@ _arena_words() {
         "arena live") echo "--blocks --help" ;;
         "arena "*) echo "serve alone live help --help --version" ;;
         "arena-check "*) echo "--json --most --help" ;;
-        "arena-ladder play") echo "--part --page --program --help" ;;
+        "arena-ladder play") echo "--part --page --rounds --hours --program --help" ;;
         "arena-ladder standings") echo "--csv --json --help" ;;
         "arena-ladder check") echo "--program --help" ;;
         "arena-ladder close" | "arena-ladder merge") echo "--help" ;;
-        "arena-ladder "*) echo "play standings check close merge --help" ;;
+        "arena-ladder "*) echo "play standings check close merge match log games export sprt gauntlet \
+            add replace pause resume remove --help" ;;
     esac
 }
 

@@ -1,0 +1,133 @@
+"""Tests of the commands for authors: a match, its boards on a terminal, and the log of a bot."""
+
+from __future__ import annotations
+
+import json
+import os
+import pty
+import re
+import subprocess
+from collections import Counter
+from pathlib import Path
+
+import pytest
+from served import LADDER, Served, run_ladder, write_config
+
+from ladder.bot_log import MOST_BYTES, Asked, add_lines, last_missed, log_files, read_log
+from ladder.config import ConfigFault
+from ladder.match import bots_of_words
+from ladder.store import open_store
+from ladder.view import step
+
+TURNS = 15
+PLANNED = (4, 13)  # turns in which the faulty bots fail
+
+
+@pytest.fixture(scope="module")
+def match_words(program: Path, small_bots: Served) -> list[str | Path]:
+    bots = [small_bots.url("fleer"), f"second={small_bots.url('seeker')}"]
+    rules = ["--seed", "3", "--turns", str(TURNS), "--timeout", "5000"]
+    return [LADDER, "match", *bots, *rules, "--program", program]
+
+
+def test_match_prints_its_boards_and_keeps_a_transcript(
+    match_words: list[str | Path], tmp_path: Path
+) -> None:
+    ran = subprocess.run([*match_words, "--view"], cwd=tmp_path, capture_output=True, text=True)
+    assert ran.returncode == 0, ran.stderr
+    turns = re.findall(r"^turn ([0-9]+)", ran.stdout, re.MULTILINE)
+    assert turns == [str(at) for at in range(TURNS + 1)]
+    rows = re.findall(r"^(?:[.*A-Ba-b] ){11}$", ran.stdout, re.MULTILINE)
+    assert len(rows) == 11 * (TURNS + 1)
+    heads = Counter(mark for row in rows for mark in row if mark in "AB")
+    assert heads == {"A": TURNS + 1, "B": TURNS + 1}
+    *_, result, link = ran.stdout.splitlines()
+    assert re.fullmatch(rf"(fleer|second): draw, length [0-9]+, {TURNS} turns", result)
+    assert link == "out/matches/0001/game.transcript opens in viewer/index.html"
+    transcript = (tmp_path / link.split()[0]).read_text().splitlines()
+    assert json.loads(transcript[-1])["board"]["turn"] == TURNS
+
+
+def test_match_is_stepped_through_on_a_terminal(
+    match_words: list[str | Path], tmp_path: Path
+) -> None:
+    """After the keys for back and home the terminal has shown the turns to which they lead."""
+    ours, theirs = pty.openpty()
+    with subprocess.Popen(
+        [*match_words, "--view"], cwd=tmp_path, stdin=theirs, stdout=theirs, stderr=theirs
+    ) as ran:
+        os.close(theirs)
+        shown = b""
+        while b"q: quit" not in shown:
+            shown += os.read(ours, 65_536)
+        os.write(ours, b"h")
+        while f"turn {TURNS - 1}".encode() not in shown:
+            shown += os.read(ours, 65_536)
+        os.write(ours, b"\x1b[Hq")
+        while b"opens in" not in shown:
+            shown += os.read(ours, 65_536)
+        assert ran.wait() == 0
+    os.close(ours)
+
+
+def test_keys_lead_to_boards_that_exist() -> None:
+    assert [step(5, key, 9) for key in (b"l", b"\x1b[D", b"G", b"g", b"\x1b[6~", b"x")] == [
+        *(6, 4, 8, 0, 8, 5)
+    ]
+
+
+def test_bots_of_a_match_have_names() -> None:
+    words = ["http://h:1/a/fleer/", "b=http://h:2/fleer", "https://host.example"]
+    assert [bot["name"] for bot in bots_of_words(words)] == ["fleer", "b", "host.example"]
+    for wrong in (["nothing=", "nothing="], ["http://"], ["a=http://h", "a=http://i"]):
+        with pytest.raises(ConfigFault):
+            bots_of_words(wrong)
+
+
+def test_log_says_why_moves_were_missed(program: Path, faulty_bots: Served, tmp_path: Path) -> None:
+    """The log has each request, the causes that the results have, and the start of bad answers."""
+    names = ("good", "error", "text", "garbage")
+    folder = tmp_path / "results"
+    config = write_config(
+        tmp_path / "x.toml",
+        [(name, faulty_bots.url(name)) for name in names],
+        **{"folder": str(folder), "pairing": "tables", "turns": TURNS, "timeout": 5000, "seed": 1},
+    )
+    assert run_ladder("play", config, "--program", program).returncode == 0
+    store = open_store(folder)
+    missed = store.missed()
+    (outcome,) = store.outcomes()
+    store.close()
+    starts = {"error": '{"move":"up"}', "text": "[" * 200, "garbage": "\\xff\\xfe this is"}
+    for finish in outcome.finishes:
+        asked = list(read_log(folder, finish.bot))
+        assert [it.turn for it in asked] == list(range(finish.turns))
+        bad = [it for it in asked if it.cause is not None]
+        assert [it.turn for it in bad] == [
+            it for it in PLANNED if it < finish.turns and finish.bot != "good"
+        ]
+        assert Counter(it.cause for it in bad) == missed.get(finish.bot, {})
+        assert last_missed(folder, finish.bot, 1) == bad[-1:]
+        assert all(it.start.startswith(starts[finish.bot]) for it in bad)
+        assert all(it.status == 200 and it.bytes > 0 for it in asked if it.cause is None)
+    printed = run_ladder("log", folder, "error", "--missed").stdout.splitlines()
+    assert printed[1].split()[:4] == ["r0001-t001", "4", "500", str(bad_bytes(folder))]
+    assert run_ladder("log", folder, "error", "--game", "r0009-t001").stdout.count("\n") == 1
+    assert "has no bot 'nobody'" in run_ladder("log", folder, "nobody").stderr
+
+
+def bad_bytes(folder: Path) -> int:
+    return last_missed(folder, "error", 9)[-1].bytes
+
+
+def test_log_is_bounded_and_read_over_cut_lines(tmp_path: Path) -> None:
+    for turn in range(40):
+        line = json.dumps({**vars(Asked("g", turn, 200, 9, 1, None)), "start": "x" * 99_000})
+        add_lines(tmp_path, "bot", [line + "\n"])
+    sizes = [path.stat().st_size for path in log_files(tmp_path, "bot")]
+    assert sum(sizes) < 4 * MOST_BYTES
+    turns = [it.turn for it in read_log(tmp_path, "bot")]
+    assert turns == list(range(turns[0], 40)) and 5 < len(turns) < 40
+    add_lines(tmp_path, "bot", ["x" * 9 * MOST_BYTES])
+    assert sum(path.stat().st_size for path in log_files(tmp_path, "bot")) < 4 * MOST_BYTES
+    assert [it.turn for it in read_log(tmp_path, "bot")][-1] == 39
