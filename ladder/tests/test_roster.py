@@ -170,7 +170,7 @@ def test_bots_come_and_go_in_a_ladder_that_is_killed(
     program: Path, small_bots: Served, request: pytest.FixtureRequest, tmp_path: Path
 ) -> None:
     """No game is lost or played twice, `check` agrees, and the ratings are computed apart."""
-    games = 300 if request.config.getoption("--all") else 60
+    games = 300 if request.config.getoption("--all") else 40
     folder = tmp_path / "results"
     config = open_config(tmp_path, small_bots)
     process = start_play(config, program)
