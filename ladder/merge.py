@@ -33,7 +33,7 @@ def add_folder(into: Path, store: Store, folder: Path) -> int:
         identity = part.identity()
         if identity is None:
             return 0
-        if identity["pairing"] == "rating":
+        if identity.get("pairing") == "rating":
             raise StoreFault(f"{folder} is of an endless ladder, which has no parts")
         store.begin(identity, part.bots())
         known = {outcome.name: outcome for outcome in store.outcomes()}
