@@ -4,3 +4,4 @@ pub mod Feeding
 pub mod Hurting
 pub mod Motion
 pub mod Turn
+pub mod inner
