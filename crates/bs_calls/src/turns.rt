@@ -5,8 +5,7 @@ ghost use Rattle.bs_board.specs.boards.Legal.{IsLegal};
 ghost use Rattle.bs_board.specs.boards.Wrap.{AreSides, wrap_of};
 ghost use Rattle.bs_board.specs.declared.limits.TheConstants.{LAST_TURN, MOST_SNAKES};
 ghost use Rattle.bs_calls.specs.BySeat.{turn_by_seat, turn_with};
-ghost use Rattle.bs_rules.specs.Motion.{moved_board};
-ghost use Rattle.bs_rules.specs.inner.Motion.{IsMovable};
+ghost use Rattle.bs_rules.specs.Motion.{moved_board, IsMovable};
 
 use crate::orders::{SeatOrders, moves_by_seat, rest_of};
 use bs_board::{Board, Direction, Id, Move};

@@ -7,7 +7,7 @@ use Rattle.bs_board.specs.boards.Legal.{IsLegal}
 use Rattle.bs_board.specs.boards.Wrap.{wrap_of, AreSides}
 use Rattle.bs_board.specs.records.Kept.{IsLegalRecord}
 use Rattle.bs_board.specs.records.Record.{record_of}
-use Rattle.bs_rules.specs.inner.Motion.{IsMovable}
+use Rattle.bs_rules.specs.Motion.{IsMovable}
 use Rattle.bs_rules.proofs.Movable.{legal_is_movable, legal_has_sides}
 
 -- some seats of a legal board can move

@@ -4,7 +4,7 @@ ghost use Rattle.bs_board.specs.declared.boards.board.Board.{Board as AnyBoard};
 ghost use Rattle.bs_board.specs.boards.Wrap.{AreSides};
 ghost use Rattle.bs_board.specs.records.Kept.{IsLegalRecord};
 ghost use Rattle.bs_game.specs.declared.view.View.{View as AnyView};
-ghost use Rattle.bs_rules.specs.inner.Motion.{IsMovable};
+ghost use Rattle.bs_rules.specs.Motion.{IsMovable};
 ghost use Rattle.bs_fiber.specs.Fit.{IsFitGame};
 ghost use Rattle.bs_fiber.specs.Frames.{frame_of};
 ghost use Rattle.bs_fiber.specs.Seeing.{IsBoardOf, IsSeen};

@@ -2,8 +2,7 @@
 ghost use Rattle.std.specs.Prelude.{◌≡◌, [], IfOk, All, Some, option_map};
 ghost use Rattle.bs_board.specs.boards.Wrap.{AreSides, wrap_of};
 ghost use Rattle.bs_board.specs.commands.Orders.{orders_of};
-ghost use Rattle.bs_rules.specs.Motion.{moved_board};
-ghost use Rattle.bs_rules.specs.inner.Motion.{IsMovable};
+ghost use Rattle.bs_rules.specs.Motion.{moved_board, IsMovable};
 
 use crate::fault::Fault;
 use crate::scene::Question;

@@ -14,7 +14,7 @@ use Rattle.bs_board.specs.boards.Cell.{head_of, is_on_board}
 use Rattle.bs_board.specs.commands.Setup.{is_side}
 use Rattle.bs_board.specs.boards.Wrap.{is_wrapped, wrap_of, AreSides}
 use Rattle.bs_board.specs.boards.Legal.{IsLegal, IsLegalSnake, IsLegalLiving, IsLegalOut, is_near, is_head_of}
-use Rattle.bs_rules.specs.inner.Motion.{IsMovable}
+use Rattle.bs_rules.specs.Motion.{IsMovable}
 
 -- one coordinate, on the board or one cell outside it
 on_side : (z : ℤ) (n : ℕ) → int_le (pos 0) z ≡ true → int_lt z (pos n) ≡ true → (int_le (negsuc 0) z ≡ true) × (int_le z (pos n) ≡ true)

@@ -4,4 +4,3 @@ pub mod Feeding
 pub mod Hurting
 pub mod Motion
 pub mod Turn
-pub mod inner

@@ -1,12 +1,14 @@
 -- The motion of a snake in a turn.
-use Rattle.std.specs.Prelude.{ℕ, ◌-◌, if◌then◌else◌, List, [], ◌∷◌, length, take, map, find, Option, Some, None, unwrap_or, option_map, slice_index_or, pos, ◌+ℤ◌, ◌-ℤ◌}
+use Rattle.std.specs.Prelude.{◌≡◌, ℕ, ◌-◌, ◌≤◌, true, if◌then◌else◌, List, [], ◌∷◌, length, take, map, find, All, Option, Some, None, unwrap_or, option_map, slice_index_or, pos, ◌+ℤ◌, ◌-ℤ◌}
 use Rattle.std.specs.Int.{int_rem_euclid}
 use Rattle.bs_board.specs.declared.boards.point.Point.{Point}
 use Rattle.bs_board.specs.declared.boards.point.Direction.{Direction}
 use Rattle.bs_board.specs.declared.boards.point.Direction.TheVariants.{Up, Down, Left, Right}
 use Rattle.bs_board.specs.declared.boards.board.Board.{Board}
 use Rattle.bs_board.specs.declared.boards.snake.Snake.{Snake}
+use Rattle.bs_board.specs.declared.limits.TheConstants.{LONGEST_SIDE}
 use Rattle.bs_board.specs.boards.Cell.{origin, head_of, is_same_cell}
+use Rattle.bs_board.specs.boards.Legal.{is_near}
 use Rattle.bs_board.specs.boards.Over.{is_living}
 use Rattle.bs_board.specs.boards.Wrap.{wrap_of}
 use Rattle.bs_board.specs.Texts.{is_same_text}
@@ -57,3 +59,9 @@ moved_seats wrap moves = map (λ s. moved wrap (given_to moves s.id) s)
 
 abbrev pub moved_board : List (List ℕ × Direction) → Board → Board
 moved_board moves b = record b { snakes = moved_seats (wrap_of b) moves b.snakes }
+
+-- a body whose parts have neighbors, as in each snake of a legal board: no part is more than one
+-- cell outside the largest board
+pub record IsMovable (s : Snake) : Type 0 where
+  pub some : 1 ≤ length s.body
+  pub near : All (λ p. is_near LONGEST_SIDE LONGEST_SIDE p ≡ true) s.body

@@ -3,8 +3,19 @@
 ghost use Rattle.std.specs.Prelude.{◌≡◌, ◌≤◌, true, IfOk, All, map, length};
 ghost use Rattle.bs_board.specs.boards.Legal.{is_near};
 ghost use Rattle.bs_board.specs.boards.Wrap.{AreSides};
-ghost use Rattle.bs_rules.specs.Motion.{second_of, one_step, on_torus, neighbor, onward, direction_taken, moved_body, moved, moved_seats, given_to};
-ghost use Rattle.bs_rules.specs.inner.Motion.{IsMovable};
+ghost use Rattle.bs_rules.specs.Motion.{
+  second_of,
+  one_step,
+  on_torus,
+  neighbor,
+  onward,
+  direction_taken,
+  moved_body,
+  moved,
+  moved_seats,
+  given_to,
+  IsMovable,
+};
 
 use crate::parts::second_of;
 use bs_board::limits::LONGEST_SIDE;

@@ -3,8 +3,7 @@
 ghost use Rattle.std.specs.Prelude.{◌≡◌, ◌<◌, ◌≤◌, IfOk, OnOk, All, length};
 ghost use Rattle.bs_board.specs.boards.Legal.{IsLegal};
 ghost use Rattle.bs_board.specs.boards.Wrap.{AreSides, wrap_of};
-ghost use Rattle.bs_rules.specs.Motion.{moved_board};
-ghost use Rattle.bs_rules.specs.inner.Motion.{IsMovable};
+ghost use Rattle.bs_rules.specs.Motion.{moved_board, IsMovable};
 ghost use Rattle.bs_rules.specs.Turn.{redrawn, refilled, replenished, finished, turn_of};
 
 use crate::collision::collide;

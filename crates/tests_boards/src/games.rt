@@ -4,8 +4,7 @@ ghost use Rattle.bs_board.specs.boards.Wrap.{AreSides, wrap_of};
 ghost use Rattle.bs_board.specs.declared.commands.command.Command.TheVariants as command;
 ghost use Rattle.bs_game.specs.Reasons.{first_reason};
 ghost use Rattle.bs_game.specs.View.{IsFitView};
-ghost use Rattle.bs_rules.specs.Motion.{moved_board};
-ghost use Rattle.bs_rules.specs.inner.Motion.{IsMovable};
+ghost use Rattle.bs_rules.specs.Motion.{moved_board, IsMovable};
 
 use bs_board::{Board, Command, Mode, Move, Point, Refusal, Reply, TurnNumber, Word, is_legal};
 use bs_game::{

@@ -1,2 +1,0 @@
--- What private contracts cite, and no public one.
-pub mod Motion
