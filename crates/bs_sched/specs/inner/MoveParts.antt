@@ -15,7 +15,7 @@ use Rattle.bs_sched.specs.PartState as state
 use Rattle.bs_sched.specs.declared.plan_blocks.TheConstants.{FRAME_BLOCKS}
 use Rattle.bs_sched.specs.declared.stage.Stage.{Stage}
 use Rattle.bs_sched.specs.declared.stage.Stage.TheVariants as stage
-use Rattle.bs_sched.specs.MoveParts.{PartView, PartsView}
+use Rattle.bs_sched.specs.MoveParts.{PartView, Ready, Out, Done, Joining, PartsView}
 
 abbrev pub state_of : PartView → PartState
 state_of Ready = state.Ready
