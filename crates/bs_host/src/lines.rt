@@ -56,6 +56,7 @@ pub(crate) fn split_first(bytes: &[u8]) -> Option<(&[u8], &[u8])>
 fn some_feed(bytes: &[u8], most: usize) -> Option<usize>
     ensures some { IfSome result (λ at. at < length bytes.now) }
     ensures feed { IfSome result (λ at. (slice_index_or bytes.now at 0 == LINE_FEED) ≡ true) }
+    ensures none { IsNone result → position (λ byte. byte == LINE_FEED) bytes.now ≡ None }
 {
     match memrchr(LINE_FEED, &bytes[..bytes.len().min(most)]) {
         Some(at) => Some(at),
@@ -69,6 +70,7 @@ fn some_feed(bytes: &[u8], most: usize) -> Option<usize>
 pub(crate) fn split_some(bytes: &[u8], most: usize) -> Option<(&[u8], &[u8])>
     ensures cut { IfSome result (λ cut. IsCutLast bytes.now cut.0.now cut.1.now) }
     ensures fewer { IfSome result (λ cut. length cut.1.now < length bytes.now) }
+    ensures none { IsNone result → position (λ byte. byte == LINE_FEED) bytes.now ≡ None }
 {
     let at = some_feed(bytes, most)?;
     Some((&bytes[..at], &bytes[at + 1..]))

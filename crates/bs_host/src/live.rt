@@ -68,6 +68,7 @@ fn answer_some<W: Write>(
         → IsServing blocks version plan after flow.old.pending.items first (W.contents output.old) flow.old.written host.old
         → OnOk result (IsServing blocks version plan after flow.new.pending.items first (W.contents output.new) flow.new.written host.new) }
     ensures fewer { IfOk result (λ more. more ≡ true → length flow.new.pending.items < length flow.old.pending.items) }
+    ensures ready { IfOk result (λ more. more ≡ false → position (λ byte. byte == LINE_FEED) flow.new.pending.items ≡ None) }
     ensures left { IfErr result (λ fault. (blocks : ℕ) (version : Version) (plan : List GameRow) (after : List ℕ) (first : Option (List ℕ))
         → IsServing blocks version plan after flow.old.pending.items first (W.contents output.old) flow.old.written host.old
         → (more : List ℕ) → LeavesLines blocks version plan (pieces_of (after ++ more)) first (W.contents output.new) fault) }
@@ -95,6 +96,7 @@ fn answer_ready<W: Write>(
     ensures serving { (blocks : ℕ) (version : Version) (plan : List GameRow) (after : List ℕ) (first : Option (List ℕ))
         → IsServing blocks version plan after flow.old.pending.items first (W.contents output.old) flow.old.written host.old
         → OnOk result (IsServing blocks version plan after flow.new.pending.items first (W.contents output.new) flow.new.written host.new) }
+    ensures ready { OnOk result (position (λ byte. byte == LINE_FEED) flow.new.pending.items ≡ None) }
     ensures left { IfErr result (λ fault. (blocks : ℕ) (version : Version) (plan : List GameRow) (after : List ℕ) (first : Option (List ℕ))
         → IsServing blocks version plan after flow.old.pending.items first (W.contents output.old) flow.old.written host.old
         → (more : List ℕ) → LeavesLines blocks version plan (pieces_of (after ++ more)) first (W.contents output.new) fault) }
@@ -118,6 +120,7 @@ fn lacks_feed(text: &[u8]) -> bool
 #[tactic(auto, using(crate::proofs::LiveHeld::same_text))]
 fn hold_line(pending: &mut Vec<u8>)
     ensures text { IsSameText pending.old.items pending.new.items }
+    ensures ready { position (λ byte. byte == LINE_FEED) pending.old.items ≡ None → position (λ byte. byte == LINE_FEED) pending.new.items ≡ None }
     ensures held { position (λ byte. byte == LINE_FEED) pending.new.items ≡ None → length pending.new.items ≤ MAX_LINE + 1 }
 {
     if pending.len() > MAX_LINE && lacks_feed(pending) {
@@ -126,9 +129,11 @@ fn hold_line(pending: &mut Vec<u8>)
 }
 
 /// Waits until a byte can be read, reads once, and appends the bytes. Returns false at the end of
-/// the input. Of a line that is not complete at most 65,537 bytes may be held before the read.
+/// the input. Before the read all complete lines are answered, and of one that is not complete at
+/// most 65,537 bytes are held.
 fn read_more<R: Read>(input: &mut R, pending: &mut Vec<u8>) -> Result<bool, LiveFault>
-    requires { position (λ byte. byte == LINE_FEED) pending.old.items ≡ None → length pending.old.items ≤ MAX_LINE + 1 }
+    requires answered { position (λ byte. byte == LINE_FEED) pending.old.items ≡ None }
+    requires held { length pending.old.items ≤ MAX_LINE + 1 }
     ensures bytes { OnOk result
         ((bytes : List ℕ) × Consumes (R.remaining input.old) (R.remaining input.new) bytes × (pending.new.items ≡ pending.old.items ++ bytes)) }
     ensures more { IfOk result (λ more. more ≡ true → length pending.old.items < length pending.new.items) }

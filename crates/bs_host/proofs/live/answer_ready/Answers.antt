@@ -1,4 +1,4 @@
-use Rattle.std.proofs.Common.{ℕ, List, ◌++◌, Option, rules}
+use Rattle.std.proofs.Common.{◌≡◌, true, false, ℕ, List, ◌++◌, Option, rules}
 use Rattle.bs_board.specs.declared.plans.version.Version.{Version}
 use Rattle.bs_board.specs.plans.Plan.{GameRow}
 use Rattle.bs_host.specs.File.{pieces_of}
@@ -7,15 +7,17 @@ use Rattle.bs_host.specs.inner.LiveFaults.{LeavesLines}
 use Rattle.bs_host.proofs.live.answer_ready.Goals as goal
 
 pub lines-init : goal.lines-init
-lines-init g c = λ blocks version plan after first is. is
+lines-init g c = (λ blocks version plan after first is. is, λ (wrong : true ≡ false). absurd cc)
 
 pub lines-preserved : goal.lines-preserved
-lines-preserved g c =
-    λ blocks version plan after first is.
-    c.in_ok-more.ensures.serving blocks version plan after first (c.lines.invariant blocks version plan after first is)
+lines-preserved g c = (
+  λ blocks version plan after first is.
+      c.in_ok-more.ensures.serving blocks version plan after first (c.lines.invariant.0 blocks version plan after first is),
+  c.in_ok-more.ensures.ready,
+)
 
 pub returns-clause-serving : goal.returns-clause-serving
-returns-clause-serving g c = c.lines.invariant
+returns-clause-serving g c = c.lines.invariant.0
 
 pub returns-in_err-more-clause-left : goal.returns-in_err-more-clause-left
 returns-in_err-more-clause-left g c =
@@ -25,5 +27,5 @@ returns-in_err-more-clause-left g c =
     → IsServing blocks version plan after c.args.flow.now.pending.items first (g.W.Write.contents c.args.output.now) c.args.flow.now.written c.args.host.now
     → (more : List ℕ) → LeavesLines blocks version plan (pieces_of (after ++ more)) first next fault
     = λ blocks version plan after first is.
-    c.in_err-more.ensures.left blocks version plan after first (c.lines.invariant blocks version plan after first is) in
+    c.in_err-more.ensures.left blocks version plan after first (c.lines.invariant.0 blocks version plan after first is) in
     search rules
