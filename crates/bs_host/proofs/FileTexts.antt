@@ -23,12 +23,17 @@ use Rattle.bs_host.specs.declared.fault.Fault.{Fault}
 use Rattle.bs_host.specs.declared.fault.Fault.TheVariants.{TooLong, Memory}
 use Rattle.bs_host.specs.declared.limits.TheConstants.{BLOCK_BYTES, MOST_FILE_BYTES}
 use Rattle.bs_host.specs.declared.route.Requests.{Requests}
-use Rattle.bs_host.specs.File.{pieces_of, first_piece, later_pieces, plan_in, plan_of, rows_of}
-use Rattle.bs_host.specs.Hosted.{Hosts, IsOpened}
+use Rattle.bs_host.specs.File.{pieces_of, first_piece, later_pieces, plan_of, rows_of}
+use Rattle.bs_host.specs.inner.File.{plan_in}
+use Rattle.bs_host.specs.Hosted.{Hosts}
+use Rattle.bs_host.specs.inner.Hosted.{IsOpened}
 use Rattle.bs_host.specs.declared.route.Route.{Route}
-use Rattle.bs_host.specs.Routing.{IsRouted, acts_in, acts_of, capacity_of, routes_from, routes_of, stays_of, strays_in}
-use Rattle.bs_host.specs.Faults.{IsFault, IsRefusal, Leaves, fault_of, fault_of_opening, fault_of_writing, refusal_of, refusal_of_plan}
-use Rattle.bs_host.specs.Transcript.{core_text_of, transcript_of}
+use Rattle.bs_host.specs.Routing.{acts_in, capacity_of, routes_from, routes_of, stays_of, strays_in}
+use Rattle.bs_host.specs.inner.Routing.{IsRouted, acts_of}
+use Rattle.bs_host.specs.Faults.{IsFault, Leaves, fault_of, fault_of_opening, fault_of_writing, refusal_of, refusal_of_plan}
+use Rattle.bs_host.specs.inner.Faults.{IsRefusal}
+use Rattle.bs_host.specs.Transcript.{transcript_of}
+use Rattle.bs_host.specs.inner.Transcript.{core_text_of}
 use Rattle.bs_host.proofs.ActsLaw.{acts_law}
 use Rattle.bs_host.proofs.HostedCore.{hosts_lines, is_fresh, no_refusal, opening_refusal, transcript_of_core}
 

@@ -7,7 +7,8 @@ use Rattle.bs_board.specs.plans.Plan.{GameRow}
 use Rattle.bs_sched.specs.Core.{CoreView}
 use Rattle.bs_host.specs.File.{pieces_of}
 use Rattle.bs_host.specs.OpenStays.{OpenStayList}
-use Rattle.bs_host.specs.Live.{HasAnswered, IsCutLast, IsSameText, IsServing, answers_from, closing_behind, held_of, live_lines_of}
+use Rattle.bs_host.specs.Live.{answers_from, closing_behind, live_lines_of}
+use Rattle.bs_host.specs.inner.Live.{HasAnswered, IsCutLast, IsSameText, IsServing, held_of}
 use Rattle.bs_host.proofs.LiveHeld.{live_same, map_both}
 use Rattle.bs_host.proofs.LiveTexts.{answers_append}
 

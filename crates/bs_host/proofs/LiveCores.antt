@@ -19,8 +19,9 @@ use Rattle.bs_workers.specs.declared.act.Act.TheVariants as act
 use Rattle.bs_workers.specs.Acts.{opened}
 use Rattle.bs_host.specs.declared.route.Route.{Route}
 use Rattle.bs_host.specs.declared.route.Route.TheVariants as route
-use Rattle.bs_host.specs.OpenStays.{OpenStayList, bears, found_in, open_stays_of, open_stays_then, refusal_by, route_by}
-use Rattle.bs_host.specs.Live.{HaveCores, finds_core, has_core, numbers_of, numbers_then}
+use Rattle.bs_host.specs.OpenStays.{OpenStayList}
+use Rattle.bs_host.specs.inner.OpenStays.{bears, found_in, open_stays_of, open_stays_then, refusal_by, route_by}
+use Rattle.bs_host.specs.inner.Live.{HaveCores, finds_core, has_core, numbers_of, numbers_then}
 use Rattle.bs_host.specs.Routing.{admit_route, hand_route, leave_route}
 use Rattle.bs_host.proofs.OpenStayRoutes.{rows_are_open}
 

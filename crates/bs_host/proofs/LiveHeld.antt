@@ -14,7 +14,8 @@ use Rattle.bs_sched.specs.Stays.{Capacity, Stay}
 use Rattle.bs_workers.specs.Acts.{opened}
 use Rattle.bs_host.specs.File.{pieces_of}
 use Rattle.bs_host.specs.OpenStays.{open_of}
-use Rattle.bs_host.specs.Live.{IsSameText, acts_behind, answer_after, answers_from, closing_behind, closing_of, held_of, live_lines_of, route_line, stays_left}
+use Rattle.bs_host.specs.Live.{acts_behind, answer_after, answers_from, closing_behind, closing_of, live_lines_of, route_line, stays_left}
+use Rattle.bs_host.specs.inner.Live.{IsSameText, held_of}
 use Rattle.bs_host.specs.Routing.{act_in, acts_in, capacity_of, next_registry, registry_behind, registry_then, route_at, route_of, routes_from}
 use Rattle.bs_host.proofs.CutPieces.{fails_everywhere, is_feed}
 

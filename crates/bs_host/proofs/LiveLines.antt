@@ -30,8 +30,10 @@ use Rattle.bs_workers.specs.Single.{IsActed}
 use Rattle.bs_workers.proofs.Compared.{row_there}
 use Rattle.bs_host.specs.declared.route.Route.{Route}
 use Rattle.bs_host.specs.Cut.{row_at}
-use Rattle.bs_host.specs.OpenStays.{OpenStayList, open_stays_of, open_stays_then, route_by}
-use Rattle.bs_host.specs.Live.{ArePlayed, HasAnswered, IsCoreOf, acts_behind, answer_after, closing_line, commands_given, next_line, route_line, stays_left}
+use Rattle.bs_host.specs.OpenStays.{OpenStayList}
+use Rattle.bs_host.specs.inner.OpenStays.{open_stays_of, open_stays_then, route_by}
+use Rattle.bs_host.specs.Live.{acts_behind, answer_after, closing_line, commands_given, next_line, route_line, stays_left}
+use Rattle.bs_host.specs.inner.Live.{ArePlayed, HasAnswered, IsCoreOf}
 use Rattle.bs_host.specs.Routing.{act_in, acts_in, capacity_of, next_registry, registry_behind, registry_then, route_at, route_of, routes_from}
 use Rattle.bs_host.proofs.OpenStayRoutes.{same_next, same_route}
 

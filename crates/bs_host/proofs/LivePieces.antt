@@ -6,7 +6,7 @@ use Rattle.std.proofs.lemmas.List.Quantifiers.{position-Some}
 use Rattle.std.proofs.lemmas.List.Splits.{slice_split_at, slice_split_none}
 use Rattle.std.specs.List.{position}
 use Rattle.bs_host.specs.File.{pieces_of}
-use Rattle.bs_host.specs.Live.{IsCutFirst, IsCutLast}
+use Rattle.bs_host.specs.inner.Live.{IsCutFirst, IsCutLast}
 use Rattle.bs_host.proofs.CutPieces.{fails_everywhere, is_feed, pieces_between}
 
 around : (text : List ℕ) (at : ℕ) → at < length text → text ≡ take at text ++ get_or text at 0 ∷ drop (suc at) text

@@ -16,7 +16,8 @@ use Rattle.bs_workers.specs.declared.act.Act.{Act}
 use Rattle.bs_workers.specs.declared.act.Act.TheVariants as act
 use Rattle.bs_workers.specs.Acts.{rows_admitted}
 use Rattle.bs_host.specs.Cut.{row_at}
-use Rattle.bs_host.specs.Live.{ArePlayed, IsAt, IsCoreOf, IsPlayed, commands_given, rows_behind}
+use Rattle.bs_host.specs.Live.{commands_given, rows_behind}
+use Rattle.bs_host.specs.inner.Live.{ArePlayed, IsAt, IsCoreOf, IsPlayed}
 use Rattle.bs_host.proofs.LiveLines.{given_append, rows_append}
 
 Game : Type 0

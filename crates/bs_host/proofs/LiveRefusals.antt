@@ -24,8 +24,10 @@ use Rattle.bs_host.specs.declared.live_fault.LiveFault.{LiveFault}
 use Rattle.bs_host.specs.declared.live_fault.LiveFault.TheVariants as live
 use Rattle.bs_host.specs.Faults.{refusal_of_plan}
 use Rattle.bs_host.specs.File.{first_piece, later_pieces, pieces_of, plan_of, rows_in, rows_of, version_in, version_of}
-use Rattle.bs_host.specs.Live.{IsCutFirst, live_lines_of, live_of}
-use Rattle.bs_host.specs.LiveFaults.{HasFirstAnswersOf, IsLiveFault, IsLiveRefusal, IsReadFault, LeavesLines, LeavesLive, live_fault_of_plan, live_fault_of_run, live_refusal_of}
+use Rattle.bs_host.specs.Live.{live_lines_of, live_of}
+use Rattle.bs_host.specs.inner.Live.{IsCutFirst}
+use Rattle.bs_host.specs.LiveFaults.{HasFirstAnswersOf, IsLiveFault, LeavesLive, live_fault_of_plan, live_fault_of_run, live_refusal_of}
+use Rattle.bs_host.specs.inner.LiveFaults.{IsLiveRefusal, IsReadFault, LeavesLines}
 use Rattle.bs_host.proofs.HostedCore.{no_refusal}
 use Rattle.bs_host.proofs.CutPieces.{fails_everywhere, is_feed}
 use Rattle.bs_host.proofs.LiveHeld.{by_length, in_front, in_front_some, pieces_in_front}

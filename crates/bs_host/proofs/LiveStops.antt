@@ -13,8 +13,10 @@ use Rattle.bs_host.specs.declared.live_fault.LiveFault.{LiveFault}
 use Rattle.bs_host.specs.declared.live_fault.LiveFault.TheVariants as live
 use Rattle.bs_host.specs.File.{pieces_of}
 use Rattle.bs_host.specs.OpenStays.{OpenStayList}
-use Rattle.bs_host.specs.Live.{IsCutLast, IsServing, answers_from, closing_behind, held_of, live_lines_of}
-use Rattle.bs_host.specs.LiveFaults.{HasFirstAnswers, IsReadFault, LeavesLines, LeavesText, live_fault_of_run}
+use Rattle.bs_host.specs.Live.{answers_from, closing_behind, live_lines_of}
+use Rattle.bs_host.specs.inner.Live.{IsCutLast, IsServing, held_of}
+use Rattle.bs_host.specs.LiveFaults.{HasFirstAnswers, live_fault_of_run}
+use Rattle.bs_host.specs.inner.LiveFaults.{IsReadFault, LeavesLines, LeavesText}
 use Rattle.bs_host.proofs.LiveBytes.{appends_both, appends_kept, appends_none}
 use Rattle.bs_host.proofs.LiveHeld.{answers_same, live_same, map_both}
 use Rattle.bs_host.proofs.LiveTexts.{answers_append}

@@ -14,8 +14,10 @@ use Rattle.bs_sched.specs.Stays.{Stay, no_stay, stay_at}
 use Rattle.bs_workers.specs.Acts.{opened, rows_admitted, rows_in_registry}
 use Rattle.bs_host.specs.declared.limits.TheConstants.{BLOCK_BYTES}
 use Rattle.bs_host.specs.Cut.{row_at}
-use Rattle.bs_host.specs.OpenStays.{OpenStayList, open_stays_of, open_from, open_of}
-use Rattle.bs_host.specs.Live.{AreAnswered, ArePlayed, HasAnswered, HasOpened, acts_behind, answer_after, answers_from, closing_behind, closing_line, closing_of, commands_given, rows_behind, stays_left}
+use Rattle.bs_host.specs.OpenStays.{OpenStayList, open_from, open_of}
+use Rattle.bs_host.specs.inner.OpenStays.{open_stays_of}
+use Rattle.bs_host.specs.Live.{acts_behind, answer_after, answers_from, closing_behind, closing_line, closing_of, commands_given, rows_behind, stays_left}
+use Rattle.bs_host.specs.inner.Live.{AreAnswered, ArePlayed, HasAnswered, HasOpened}
 use Rattle.bs_host.specs.Routing.{capacity_of}
 use Rattle.bs_host.proofs.ActsLaw.{rows_made as rows_of_stays}
 use Rattle.bs_host.proofs.PlainLines.{rows_opened}

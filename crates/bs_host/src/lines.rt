@@ -1,8 +1,9 @@
 //! The lines of a file, split off one by one.
 ghost use Rattle.std.specs.Prelude.{◌≡◌, ◌==◌, ◌+◌, ◌<◌, ◌≤◌, ◌^◌, [], ◌∷◌, ◌++◌, length, option_copied, IfSome, IsNone, None};
-ghost use Rattle.bs_host.specs.Live.{IsCutFirst, IsCutLast};
+ghost use Rattle.bs_host.specs.inner.Live.{IsCutFirst, IsCutLast};
 ghost use Rattle.std.specs.List.{position};
-ghost use Rattle.bs_host.specs.File.{pieces_of, pieces_after};
+ghost use Rattle.bs_host.specs.File.{pieces_of};
+ghost use Rattle.bs_host.specs.inner.File.{pieces_after};
 
 use memchr::{memchr, memrchr};
 

@@ -7,8 +7,10 @@ ghost use Rattle.bs_board.specs.plans.Plan.{GameRow};
 ghost use Rattle.bs_host.specs.declared.lines.TheConstants.{LINE_FEED};
 ghost use Rattle.bs_json.specs.declared.limits.TheConstants.{MAX_LINE};
 ghost use Rattle.bs_host.specs.File.{pieces_of};
-ghost use Rattle.bs_host.specs.Live.{HasAnswered, HaveCores, IsSameText, IsServing, LiveLaw, PrefixLaw, TranscriptLaw, live_lines_of, live_of};
-ghost use Rattle.bs_host.specs.LiveFaults.{IsLiveFault, IsReadFault, LeavesLines, LeavesLive, LeavesText, live_refusal_of};
+ghost use Rattle.bs_host.specs.Live.{LiveLaw, PrefixLaw, TranscriptLaw, live_lines_of, live_of};
+ghost use Rattle.bs_host.specs.inner.Live.{HasAnswered, HaveCores, IsSameText, IsServing};
+ghost use Rattle.bs_host.specs.LiveFaults.{IsLiveFault, LeavesLive, live_refusal_of};
+ghost use Rattle.bs_host.specs.inner.LiveFaults.{IsReadFault, LeavesLines, LeavesText};
 
 use crate::lines::{first_feed, split_first, split_last};
 use crate::live_fault::LiveFault;

@@ -5,8 +5,9 @@ ghost use Rattle.bs_json.specs.PlanLine.{plan_line_of};
 ghost use Rattle.bs_workers.specs.declared.act.Act.{Act};
 ghost use Rattle.bs_host.specs.Faults.{refusal_of_plan};
 ghost use Rattle.bs_host.specs.File.{pieces_of};
-ghost use Rattle.bs_host.specs.Live.{ArePlayed, HasAnswered, HasOpened, HaveCores, answer_after, answers_from, closing_behind, finds_core, numbers_of, numbers_then, route_line, rows_behind};
-ghost use Rattle.bs_host.specs.LiveFaults.{IsLiveRefusal};
+ghost use Rattle.bs_host.specs.Live.{answer_after, answers_from, closing_behind, route_line, rows_behind};
+ghost use Rattle.bs_host.specs.inner.Live.{ArePlayed, HasAnswered, HasOpened, HaveCores, finds_core, numbers_of, numbers_then};
+ghost use Rattle.bs_host.specs.inner.LiveFaults.{IsLiveRefusal};
 ghost use Rattle.bs_host.specs.Routing.{act_in};
 
 use crate::fault::PlanRefusal;

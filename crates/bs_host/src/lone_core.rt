@@ -5,7 +5,8 @@ ghost use Rattle.bs_board.specs.plans.Plan.{GameRow};
 ghost use Rattle.bs_game.specs.Game.{game_charge, last_board};
 ghost use Rattle.bs_json.specs.Replies.{final_line_of};
 ghost use Rattle.bs_sched.specs.Machine.{lane_of};
-ghost use Rattle.bs_host.specs.Live.{IsCoreOf, closing_line, next_line};
+ghost use Rattle.bs_host.specs.Live.{closing_line, next_line};
+ghost use Rattle.bs_host.specs.inner.Live.{IsCoreOf};
 
 use crate::limits::BLOCK_BYTES;
 use bs_board::{Plan, Row, Rows, Version};

@@ -1,7 +1,8 @@
 //! The open stays, while the lines of a file are routed.
 ghost use Rattle.std.specs.Prelude.{◌≡◌, true, not, nat_eq};
 ghost use Rattle.std.specs.List.{filter};
-ghost use Rattle.bs_host.specs.OpenStays.{OpenStayList, are_named_once, open_stays_in};
+ghost use Rattle.bs_host.specs.OpenStays.{OpenStayList};
+ghost use Rattle.bs_host.specs.inner.OpenStays.{are_named_once, open_stays_in};
 
 use crate::limits::BLOCK_BYTES;
 use crate::parse::ParsedLine;
@@ -46,8 +47,8 @@ impl OpenStays {
     ghost use Rattle.std.specs.List.{list_any, position};
     ghost use Rattle.bs_workers.specs.Acts.{opened};
     ghost use Rattle.bs_host.specs.declared.route.Route.TheVariants as route;
-    ghost use Rattle.bs_host.specs.OpenStays.{bears, blocks_in, found_in, is_named_at, open_stays_of, open_stays_then, refusal_by};
-    ghost use Rattle.bs_host.specs.Parsed.{route_parsed};
+    ghost use Rattle.bs_host.specs.inner.OpenStays.{bears, blocks_in, found_in, is_named_at, open_stays_of, open_stays_then, refusal_by};
+    ghost use Rattle.bs_host.specs.inner.Parsed.{route_parsed};
     ghost use Rattle.bs_host.specs.Routing.{admit_route, hand_route, capacity_of, leave_route};
 
     /// Opens the rows of a plan.

@@ -6,8 +6,9 @@ ghost use Rattle.bs_workers.specs.declared.act.Act.{Act};
 ghost use Rattle.bs_workers.specs.declared.act.Act.TheVariants as act;
 ghost use Rattle.bs_workers.specs.Acts.{opened};
 ghost use Rattle.bs_host.specs.Cut.{row_at};
-ghost use Rattle.bs_host.specs.OpenStays.{open_stays_of};
-ghost use Rattle.bs_host.specs.Live.{ArePlayed, HaveCores, IsAt, act_line, closing_line, commands_given, has_core, numbers_of, rows_behind};
+ghost use Rattle.bs_host.specs.inner.OpenStays.{open_stays_of};
+ghost use Rattle.bs_host.specs.Live.{act_line, closing_line, commands_given, rows_behind};
+ghost use Rattle.bs_host.specs.inner.Live.{ArePlayed, HaveCores, IsAt, has_core, numbers_of};
 
 use crate::limits::BLOCK_BYTES;
 use crate::lone_core::{answer_command, open_core, push_final};

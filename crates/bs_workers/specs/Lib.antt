@@ -1,5 +1,5 @@
 pub mod Acceptable
 pub mod Acts
-pub mod Faults
 pub mod Run
 pub mod Single
+pub mod inner

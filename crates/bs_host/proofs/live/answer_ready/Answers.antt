@@ -2,8 +2,10 @@ use Rattle.std.proofs.Common.{◌≡◌, ◌+◌, [], ◌++◌, List, ℕ, Optio
 use Rattle.bs_board.specs.plans.Plan.{GameRow}
 use Rattle.bs_host.specs.declared.live_fault.LiveFault.TheVariants as live
 use Rattle.bs_host.specs.File.{pieces_of}
-use Rattle.bs_host.specs.Live.{IsCutLast, IsServing, answers_from}
-use Rattle.bs_host.specs.LiveFaults.{LeavesLines, live_fault_of_run}
+use Rattle.bs_host.specs.Live.{answers_from}
+use Rattle.bs_host.specs.inner.Live.{IsCutLast, IsServing}
+use Rattle.bs_host.specs.LiveFaults.{live_fault_of_run}
+use Rattle.bs_host.specs.inner.LiveFaults.{LeavesLines}
 use Rattle.bs_host.proofs.LiveBytes.{serving_answers}
 use Rattle.bs_host.proofs.LiveStops.{run_leaves, serving_first, serving_text, text_leaves}
 use Rattle.bs_host.proofs.live.answer_ready.Goals as goal

@@ -1,8 +1,10 @@
 use Rattle.std.proofs.Common.{◌≡◌, ◌++◌, List, ℕ, Option, [], sym, ◌∙◌, append-nil, rules, inr}
 use Rattle.bs_board.specs.plans.Plan.{GameRow}
 use Rattle.bs_host.specs.File.{pieces_of}
-use Rattle.bs_host.specs.Live.{IsServing, answers_from, live_lines_of}
-use Rattle.bs_host.specs.LiveFaults.{LeavesLines, live_fault_of_run}
+use Rattle.bs_host.specs.Live.{answers_from, live_lines_of}
+use Rattle.bs_host.specs.inner.Live.{IsServing}
+use Rattle.bs_host.specs.LiveFaults.{live_fault_of_run}
+use Rattle.bs_host.specs.inner.LiveFaults.{LeavesLines}
 use Rattle.bs_host.proofs.LiveBytes.{serving_ends, serving_whole}
 use Rattle.bs_host.proofs.LiveStops.{run_leaves, serving_last, text_leaves}
 use Rattle.bs_host.proofs.live.end_live.Goals as goal

@@ -1,7 +1,7 @@
 use Rattle.std.proofs.Common.{◌≡◌, ◌+◌, ◌≤◌, None, length, sym, subst, arith}
 use Rattle.std.specs.List.{position}
 use Rattle.bs_json.specs.declared.limits.TheConstants.{MAX_LINE}
-use Rattle.bs_host.specs.Live.{IsSameText}
+use Rattle.bs_host.specs.inner.Live.{IsSameText}
 use Rattle.bs_host.proofs.CutPieces.{is_feed}
 use Rattle.bs_host.proofs.LiveHeld.{held_back}
 use Rattle.bs_host.proofs.live.hold_line.Goals as goal

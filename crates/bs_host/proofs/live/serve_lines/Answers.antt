@@ -4,8 +4,9 @@ use Rattle.std.specs.Io.KnownBytes.{Appends, IsAtEnd}
 use Rattle.bs_board.specs.plans.Plan.{GameRow}
 use Rattle.bs_host.specs.declared.live_fault.LiveFault.TheVariants as live
 use Rattle.bs_host.specs.File.{pieces_of}
-use Rattle.bs_host.specs.Live.{HasAnswered, IsServing, live_lines_of}
-use Rattle.bs_host.specs.LiveFaults.{LeavesLines}
+use Rattle.bs_host.specs.Live.{live_lines_of}
+use Rattle.bs_host.specs.inner.Live.{HasAnswered, IsServing}
+use Rattle.bs_host.specs.inner.LiveFaults.{LeavesLines}
 use Rattle.bs_host.proofs.LiveBytes.{all_consumed, consumes_both, consumes_none, if_some, serving_begins, serving_holds, serving_reads}
 use Rattle.bs_host.proofs.LiveRefusals.{of_lines}
 use Rattle.bs_host.proofs.LiveStops.{read_leaves, serving_first}

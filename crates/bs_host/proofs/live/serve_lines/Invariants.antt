@@ -2,7 +2,7 @@
 use Rattle.std.proofs.Common.{◌≡◌, ℕ, List, [], ◌++◌}
 use Rattle.std.specs.Io.KnownBytes.{Consumes}
 use Rattle.bs_board.specs.plans.Plan.{GameRow}
-use Rattle.bs_host.specs.Live.{HasAnswered, HaveCores, IsServing}
+use Rattle.bs_host.specs.inner.Live.{HasAnswered, HaveCores, IsServing}
 use Rattle.bs_host.proofs.live.serve_lines.Given as goal
 
 abbrev pub invariant-loop : goal.invariant-loop

@@ -3,8 +3,10 @@ use Rattle.std.specs.List.{position}
 use Rattle.std.specs.Prelude.{IfSome}
 use Rattle.std.specs.Io.KnownBytes.{Appends}
 use Rattle.bs_host.specs.File.{pieces_of}
-use Rattle.bs_host.specs.Live.{IsCutFirst, live_lines_of}
-use Rattle.bs_host.specs.LiveFaults.{IsLiveFault, LeavesLines, LeavesLive, live_refusal_of}
+use Rattle.bs_host.specs.Live.{live_lines_of}
+use Rattle.bs_host.specs.inner.Live.{IsCutFirst}
+use Rattle.bs_host.specs.LiveFaults.{IsLiveFault, LeavesLive, live_refusal_of}
+use Rattle.bs_host.specs.inner.LiveFaults.{LeavesLines}
 use Rattle.bs_host.proofs.CutPieces.{is_feed}
 use Rattle.bs_host.proofs.LiveRefusals.{any_known, cut_behind, cut_plans, only_behind, only_plans, opened_kind, opened_left, opened_served, opened_written, refused_kind, served_not}
 use Rattle.bs_host.proofs.live.serve_live.Goals as goal

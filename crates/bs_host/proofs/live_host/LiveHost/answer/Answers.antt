@@ -1,9 +1,10 @@
 use Rattle.std.proofs.Common.{◌≡◌, ◌+◌, length, ap, sym, subst, ◌∙◌, rules}
 use Rattle.bs_json.specs.Line.{line_of}
-use Rattle.bs_host.specs.OpenStays.{open_stays_then, route_by}
-use Rattle.bs_host.specs.Parsed.{route_parsed}
+use Rattle.bs_host.specs.inner.OpenStays.{open_stays_then, route_by}
+use Rattle.bs_host.specs.inner.Parsed.{route_parsed}
 use Rattle.bs_host.specs.Routing.{capacity_of}
-use Rattle.bs_host.specs.Live.{HaveCores, acts_behind, finds_core, numbers_of, numbers_then, rows_behind}
+use Rattle.bs_host.specs.Live.{acts_behind, rows_behind}
+use Rattle.bs_host.specs.inner.Live.{HaveCores, finds_core, numbers_of, numbers_then}
 use Rattle.bs_host.proofs.LiveCores.{cores_then, route_finds}
 use Rattle.bs_host.proofs.LiveLines.{answered_more, written_more}
 use Rattle.bs_host.proofs.LiveTexts.{as_many_made}

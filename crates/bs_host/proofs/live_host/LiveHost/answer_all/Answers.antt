@@ -1,6 +1,7 @@
 use Rattle.std.proofs.Common.{◌≡◌, ◌∷◌, ap, ◌∙◌}
 use Rattle.std.specs.Prelude.{option_copied}
-use Rattle.bs_host.specs.File.{pieces_after, pieces_of}
+use Rattle.bs_host.specs.File.{pieces_of}
+use Rattle.bs_host.specs.inner.File.{pieces_after}
 use Rattle.bs_host.proofs.LiveTexts.{one_more_answered}
 use Rattle.bs_host.proofs.live_host.LiveHost.answer_all.Goals as goal
 

@@ -2,8 +2,9 @@
 use Rattle.std.proofs.Common.{◌≡◌, ℕ, List}
 use Rattle.std.specs.Prelude.{option_copied}
 use Rattle.bs_board.specs.plans.Plan.{GameRow}
-use Rattle.bs_host.specs.File.{pieces_after, pieces_of}
-use Rattle.bs_host.specs.Live.{AreAnswered, HasAnswered, HaveCores}
+use Rattle.bs_host.specs.File.{pieces_of}
+use Rattle.bs_host.specs.inner.File.{pieces_after}
+use Rattle.bs_host.specs.inner.Live.{AreAnswered, HasAnswered, HaveCores}
 use Rattle.bs_host.proofs.CutFile.{bytes_left}
 use Rattle.bs_host.proofs.live_host.LiveHost.answer_all.Given as goal
 

@@ -1,7 +1,8 @@
 use Rattle.std.proofs.Common.{◌≡◌, ℕ, ◌++◌, ◌<◌, [], length, get_or, ap, ◌∙◌, arith}
 use Rattle.bs_board.specs.plans.Plan.{GameRow, row_of}
 use Rattle.bs_host.specs.Cut.{row_at}
-use Rattle.bs_host.specs.Live.{acts_behind, closing_behind, closing_line, commands_given, has_core, rows_behind}
+use Rattle.bs_host.specs.Live.{acts_behind, closing_behind, closing_line, commands_given, rows_behind}
+use Rattle.bs_host.specs.inner.Live.{has_core}
 use Rattle.bs_host.proofs.LiveCores.{open_stay_has_core}
 use Rattle.bs_host.proofs.LiveTexts.{closing_begins, open_stay_row, one_more_closed}
 use Rattle.bs_host.proofs.live_host.LiveHost.close.Goals as goal

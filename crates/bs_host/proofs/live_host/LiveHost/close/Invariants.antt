@@ -1,7 +1,8 @@
 -- The final lines so far, then the remaining ones.
 use Rattle.std.proofs.Common.{◌≡◌, ℕ, List, ◌++◌, drop}
 use Rattle.bs_board.specs.plans.Plan.{GameRow}
-use Rattle.bs_host.specs.Live.{HasAnswered, acts_behind, closing_behind, closing_of}
+use Rattle.bs_host.specs.Live.{acts_behind, closing_behind, closing_of}
+use Rattle.bs_host.specs.inner.Live.{HasAnswered}
 use Rattle.bs_host.proofs.live_host.LiveHost.close.Given as goal
 
 abbrev pub invariant-loop-index : goal.invariant-loop-index

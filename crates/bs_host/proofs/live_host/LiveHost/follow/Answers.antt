@@ -1,6 +1,6 @@
 use Rattle.std.proofs.Common.{◌≡◌, [], ◌∷◌, ◌++◌, subst, rules}
 use Rattle.bs_workers.specs.declared.act.Act.TheVariants as act
-use Rattle.bs_host.specs.Live.{ArePlayed}
+use Rattle.bs_host.specs.inner.Live.{ArePlayed}
 use Rattle.bs_host.proofs.live_host.LiveHost.follow.Goals as goal
 
 pub returns-in_ok-hand-in-Act-Hand-clause-played : goal.returns-in_ok-hand-in-Act-Hand-clause-played

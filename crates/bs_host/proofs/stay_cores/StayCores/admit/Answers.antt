@@ -1,6 +1,6 @@
 use Rattle.std.proofs.Common.{[], ◌∷◌, ◌++◌, sym, subst}
 use Rattle.bs_workers.specs.declared.act.Act.TheVariants as act
-use Rattle.bs_host.specs.Live.{ArePlayed}
+use Rattle.bs_host.specs.inner.Live.{ArePlayed}
 use Rattle.bs_host.proofs.LiveCores.{pushed_core}
 use Rattle.bs_host.proofs.LivePlays.{plays_admitted}
 use Rattle.bs_host.proofs.stay_cores.StayCores.admit.Goals as goal

@@ -2,7 +2,8 @@ use Rattle.std.proofs.Common.{◌≡◌, ℕ, [], ◌∷◌, ◌++◌, get_or, s
 use Rattle.bs_sched.specs.Core.{CoreView}
 use Rattle.bs_workers.specs.declared.act.Act.TheVariants as act
 use Rattle.bs_host.specs.Cut.{row_at}
-use Rattle.bs_host.specs.Live.{ArePlayed, IsAt, IsCoreOf, commands_given, rows_behind}
+use Rattle.bs_host.specs.Live.{commands_given, rows_behind}
+use Rattle.bs_host.specs.inner.Live.{ArePlayed, IsAt, IsCoreOf}
 use Rattle.bs_host.proofs.LiveCores.{handed_core}
 use Rattle.bs_host.proofs.LivePlays.{fed_at, plays_handed}
 use Rattle.bs_host.proofs.stay_cores.StayCores.hand.Goals as goal

@@ -1,6 +1,6 @@
 use Rattle.std.proofs.Common.{[], ◌∷◌, ◌++◌, sym, subst}
 use Rattle.bs_workers.specs.declared.act.Act.TheVariants as act
-use Rattle.bs_host.specs.Live.{ArePlayed}
+use Rattle.bs_host.specs.inner.Live.{ArePlayed}
 use Rattle.bs_host.proofs.LiveCores.{filtered_cores}
 use Rattle.bs_host.proofs.LivePlays.{plays_left}
 use Rattle.bs_host.proofs.stay_cores.StayCores.leave.Goals as goal

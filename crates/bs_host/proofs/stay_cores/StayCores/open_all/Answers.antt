@@ -1,5 +1,5 @@
 use Rattle.std.proofs.Common.{◌≡◌, ◌+◌, ◌<◌, ◌++◌, length, ap, sym, subst, arith}
-use Rattle.bs_host.specs.Live.{numbers_of}
+use Rattle.bs_host.specs.inner.Live.{numbers_of}
 use Rattle.bs_host.proofs.LiveCores.{all_numbered, numbers_from, one_more_numbered}
 use Rattle.bs_host.proofs.LivePlays.{AreOpened, none_opened, one_more_opened}
 use Rattle.bs_host.proofs.stay_cores.StayCores.open_all.Goals as goal

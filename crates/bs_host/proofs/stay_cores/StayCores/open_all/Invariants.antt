@@ -1,6 +1,6 @@
 -- The games so far are those of the first rows, and have their numbers.
 use Rattle.std.proofs.Common.{◌≡◌, ◌++◌}
-use Rattle.bs_host.specs.Live.{numbers_of}
+use Rattle.bs_host.specs.inner.Live.{numbers_of}
 use Rattle.bs_host.proofs.LiveCores.{numbers_from}
 use Rattle.bs_host.proofs.LivePlays.{AreOpened}
 use Rattle.bs_host.proofs.stay_cores.StayCores.open_all.Given as goal

@@ -1,7 +1,7 @@
 -- The newest board of a stay.
 use Rattle.std.specs.Prelude.{Option, Some, None}
 use Rattle.bs_board.specs.declared.boards.board.Board.{Board}
-use Rattle.bs_board.specs.records.Kept.{board_in}
+use Rattle.bs_board.specs.inner.Kept.{board_in}
 use Rattle.bs_game.specs.declared.reply.Effect.{Effect}
 use Rattle.bs_game.specs.declared.reply.Effect.TheVariants as effect
 

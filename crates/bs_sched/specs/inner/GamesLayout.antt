@@ -6,11 +6,12 @@ use Rattle.bs_pool.specs.Ledger.{Ledger}
 use Rattle.bs_sched.specs.declared.games.Games.TheInside.{Inside}
 use Rattle.bs_sched.specs.declared.cores.TheConstants.{LEAST_CAPACITY}
 use Rattle.bs_sched.specs.declared.plan_blocks.TheConstants.{MOST_STAYS}
-use Rattle.bs_sched.specs.Game.{GameView, HasBlocks, no_game, opened_game}
+use Rattle.bs_sched.specs.Game.{GameView}
+use Rattle.bs_sched.specs.inner.Game.{HasBlocks, no_game, opened_game}
 use Rattle.bs_sched.specs.Games.{GamesView}
 use Rattle.bs_sched.specs.Lane.{Lane, is_quiet}
 use Rattle.bs_sched.specs.Machine.{open_blocks}
-use Rattle.bs_sched.specs.Reserved.{AreReserved}
+use Rattle.bs_sched.specs.inner.Reserved.{AreReserved}
 use Rattle.bs_sched.specs.Storage.{Storage, frame_tag, record_tag}
 
 abbrev pub lanes_in : List GameView → List Lane

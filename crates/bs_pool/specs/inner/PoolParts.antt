@@ -1,9 +1,9 @@
 -- The invariants of a pool's parts.
 use Rattle.std.specs.Prelude.{ℕ, List, Option}
 use Rattle.bs_pool.specs.declared.reservation.Account.{Account}
-use Rattle.bs_pool.specs.Accounts.{reservations_of, AreCounted}
+use Rattle.bs_pool.specs.inner.Accounts.{reservations_of, AreCounted}
 use Rattle.bs_pool.specs.Ledger.{Ledger, ledger_of, IsSound}
-use Rattle.bs_pool.specs.Marks.{MarksFree}
+use Rattle.bs_pool.specs.inner.Marks.{MarksFree}
 
 -- the ledger of the slots and the accounts
 abbrev pub ledger_in : List (Option ℕ) → List Account → Ledger

@@ -2,7 +2,8 @@
 use Rattle.std.specs.Prelude.{◌≡◌, ℕ, ◌+◌, ◌≤◌, ◌<◌, List, [], ◌∷◌, length, map, option_map}
 use Rattle.bs_block.specs.Bytes.{range}
 use Rattle.bs_heap.specs.declared.blocks.Entry.{Entry}
-use Rattle.bs_heap.specs.Blocks.{Blocks, all_blocks, block_at, use_of}
+use Rattle.bs_heap.specs.Blocks.{Blocks}
+use Rattle.bs_heap.specs.inner.Blocks.{all_blocks, block_at, use_of}
 use Rattle.bs_heap.specs.Packing.{Place, Packing, packed}
 
 -- the bytes of a record

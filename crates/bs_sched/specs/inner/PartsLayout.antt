@@ -7,7 +7,8 @@ use Rattle.bs_pool.specs.declared.owned.Owned.{Owned}
 use Rattle.bs_sched.specs.declared.parts.MoveParts.TheInside.{Inside}
 use Rattle.bs_sched.specs.declared.parts.Part.{Part}
 use Rattle.bs_sched.specs.declared.parts.Part.TheVariants as field
-use Rattle.bs_sched.specs.MoveParts.{PartView, PartsView, moved_of, number_of, state_of}
+use Rattle.bs_sched.specs.MoveParts.{PartView, PartsView}
+use Rattle.bs_sched.specs.inner.MoveParts.{moved_of, number_of, state_of}
 use Rattle.bs_sched.specs.MoveParts as part
 use Rattle.bs_sched.specs.PartState.{PartState}
 use Rattle.bs_sched.specs.Keyed.{IsKeyAt}

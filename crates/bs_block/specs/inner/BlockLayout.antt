@@ -1,7 +1,7 @@
 -- How the bytes of a block lie in its places.
 use Rattle.std.specs.Prelude.{◌≡◌, ℕ, ◌≤◌, List, map, length, take, Some}
 use Rattle.bs_block.specs.Bytes.{IsCapacity}
-use Rattle.bs_block.specs.Region.{somes}
+use Rattle.bs_block.specs.inner.Region.{somes}
 use Rattle.bs_block.specs.declared.block.Block.TheInside.{Inside}
 
 -- the bytes of the first `len` places

@@ -3,7 +3,7 @@ use Rattle.std.specs.Prelude.{◌≡◌, ℕ, ◌<◌, ◌≤◌, ◌^◌, List,
 use Rattle.std.specs.Io.KnownBytes.{Appends}
 use Rattle.bs_transcript.specs.declared.line_buffer.LineBuffer.{LineBuffer}
 use Rattle.bs_transcript.specs.declared.bounds.Bounds.{Bounds}
-use Rattle.bs_transcript.specs.Parts.{joined}
+use Rattle.bs_transcript.specs.inner.Parts.{joined}
 
 -- no line is longer than `longest`, and all together have at most `total` bytes, which `usize`
 -- holds

@@ -3,9 +3,10 @@ use Rattle.std.specs.Prelude.{◌≡◌, ℕ, ◌-◌, ◌≤◌, ◌<◌, List,
 use Rattle.bs_heap.specs.declared.blocks.Entry.{Entry}
 use Rattle.bs_heap.specs.declared.heap.TagHeap.TheInside.{Inside}
 use Rattle.bs_heap.specs.declared.heap.TheConstants.{MOST_RECORD_BYTES}
-use Rattle.bs_heap.specs.Blocks.{Blocks, all_blocks}
+use Rattle.bs_heap.specs.Blocks.{Blocks}
+use Rattle.bs_heap.specs.inner.Blocks.{all_blocks}
 use Rattle.bs_heap.specs.Charge.{charge_of, blocks_for}
-use Rattle.bs_heap.specs.Entries.{records_in, packing_in, IsWithin}
+use Rattle.bs_heap.specs.inner.Entries.{records_in, packing_in, IsWithin}
 use Rattle.bs_heap.specs.Fullness.{AreFull}
 use Rattle.bs_heap.specs.Heap.{Heap}
 use Rattle.bs_heap.specs.PackedPlaces.{AreApart}

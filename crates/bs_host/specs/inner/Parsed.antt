@@ -11,7 +11,8 @@ use Rattle.bs_host.specs.declared.parse.ParsedLine.{ParsedLine}
 use Rattle.bs_host.specs.declared.parse.ParsedLine.TheVariants as parsed
 use Rattle.bs_host.specs.declared.route.Route.{Route}
 use Rattle.bs_host.specs.declared.route.Route.TheVariants as route
-use Rattle.bs_host.specs.OpenStays.{OpenStayList, found_in, open_stays_then, refusal_by}
+use Rattle.bs_host.specs.OpenStays.{OpenStayList}
+use Rattle.bs_host.specs.inner.OpenStays.{found_in, open_stays_then, refusal_by}
 use Rattle.bs_host.specs.Routing.{admit_route, hand_route, leave_route}
 
 abbrev pub parsed_line : Line → ParsedLine

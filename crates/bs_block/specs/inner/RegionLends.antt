@@ -2,7 +2,7 @@
 use Rattle.std.specs.Prelude.{ℕ, List, take, drop, Option}
 use Rattle.std.specs.Borrow.{Fml, MutBor, Array, Lends, u8}
 use Rattle.std.specs.List.{refill}
-use Rattle.bs_block.specs.Region.{somes, spliced}
+use Rattle.bs_block.specs.inner.Region.{somes, spliced}
 use Rattle.bs_block.specs.declared.raw.Region.{Region}
 use Rattle.bs_block.specs.contracts.raw.Region.{the_row}
 
