@@ -42,8 +42,7 @@ fn remove_stay(stays: &mut Vec<(usize, Row)>, stay: usize)
 }
 
 impl OpenStays {
-    ghost use Rattle.std.specs.Prelude.{◌≡◌, ◌-◌, ◌<◌, [], ◌&&◌, not, nat_lt, length, slice_index_or, Some, None, IfOk, OnOk};
-    ghost use Rattle.bs_board.specs.plans.Plan.{row_of};
+    ghost use Rattle.std.specs.Prelude.{◌≡◌, ◌-◌, ◌&&◌, not, nat_lt, length, Some, None, IfOk, OnOk};
     ghost use Rattle.std.specs.List.{list_any, position};
     ghost use Rattle.bs_workers.specs.Acts.{opened};
     ghost use Rattle.bs_host.specs.declared.route.Route.TheVariants as route;
@@ -73,21 +72,6 @@ impl OpenStays {
         ensures { result ≡ self.now.made }
     {
         self.made
-    }
-
-    /// The number of open stays.
-    pub(crate) fn len(&self) -> usize
-        ensures { result ≡ length self.now.stays }
-    {
-        self.stays.len()
-    }
-
-    /// The row number of the open stay at that index.
-    pub(crate) fn number(&self, place: usize) -> usize
-        requires { place < length self.now.stays }
-        ensures { result ≡ (slice_index_or self.now.stays place (0, row_of [] 0)).0 }
-    {
-        self.stays[place].0
     }
 
     /// Whether an open stay of that name is at that index.
