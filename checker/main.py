@@ -63,7 +63,7 @@ def summary(found: Checked) -> list[str]:
     return [*lines, f"{blocks}; without the option there are {USUAL_BLOCKS}"]
 
 
-def first_of(found: Sequence[Refusal] | Sequence[Note], most: int) -> list[str]:
+def first_of(found: Sequence[Refusal | Note], most: int) -> list[str]:
     """The lines of the first refusals or notes, of all if `most` is 0."""
     shown = [it.text() for it in islice(found, most or len(found))]
     more = len(found) - len(shown)
@@ -111,7 +111,7 @@ def main(words: Sequence[str] | None = None) -> int:
     if given.json:
         print(as_json(given.file, found))
     else:
-        parts = [first_of(part, given.most) for part in (found.refusals, found.notes)]
-        for line in (*parts[0], *parts[1], *summary(found)):
+        refusals, notes = first_of(found.refusals, given.most), first_of(found.notes, given.most)
+        for line in (*refusals, *notes, *summary(found)):
             print(f"{given.file}: {line}")
     return REFUSED if found.refusals else 0
