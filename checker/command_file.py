@@ -11,9 +11,20 @@ from collections.abc import Iterable
 from dataclasses import dataclass, field
 from typing import Any
 
-from checker.commands import admit_faults, command_faults, plan_code, plan_faults
+from checker.commands import (
+    PLAN_SCHEMA,
+    STAY_WORDS,
+    WORDS,
+    admit_faults,
+    command_faults,
+    idle_moves,
+    plan_code,
+    plan_faults,
+    unread_in_command,
+    unread_members,
+)
 from checker.json_text import JsonFault, parse
-from checker.schemas import shown
+from checker.schemas import Fault, shown
 
 MOST_FILE = 16_777_216  # bytes
 MOST_LINE = 65_536  # bytes
@@ -58,6 +69,19 @@ class Refusal:
         return f"line {self.line}{where}: {path}{self.message} ({self.code} {self.why()})"
 
 
+@dataclass(frozen=True)
+class Note:
+    """What the host takes in a line, but has no effect."""
+
+    line: int
+    path: str
+    message: str
+
+    def text(self) -> str:
+        """The note in one line."""
+        return f"line {self.line}: note: {self.path}: {self.message}"
+
+
 def blocks_of(quota: int) -> int:
     """The blocks that a game reserves."""
     return quota // QUOTA_OF_BLOCK + MORE_BLOCKS
@@ -68,6 +92,7 @@ class Checked:
     """What was found in a file."""
 
     refusals: list[Refusal] = field(default_factory=list)
+    notes: list[Note] = field(default_factory=list)
     version: int = 1
     plan_blocks: int = 0
     most_blocks: int = 0  # at the busiest moment
@@ -87,11 +112,17 @@ class Check:
     def __init__(self) -> None:
         self.found = Checked()
         self.open: dict[str, int] = {}  # the blocks of each open stay
+        self.ids: dict[str, set[str]] = {}  # of the snakes of each open stay
         self.blocks = 0  # of all of them
 
     def refuse(self, line: int, code: str, message: str, path: str = "") -> None:
         """Notes a refusal."""
         self.found.refusals.append(Refusal(line, code, message, path))
+
+    def note(self, number: int, faults: Iterable[Fault]) -> None:
+        """Notes what has no effect."""
+        notes = self.found.notes
+        notes.extend(Note(number, fault.where(), fault.message) for fault in faults)
 
     def parsed(self, number: int, line: bytes, code: str) -> Any:
         """The value of a line; None, and a refusal, if it is no JSON."""
@@ -116,6 +147,7 @@ class Check:
         if faults:
             return False
         self.found.version = plan.get("version", 1)
+        self.note(1, unread_members(plan, PLAN_SCHEMA))
         for row in plan["games"]:
             self.admit(row["game"], row["quota"])
         self.found.plan_blocks = self.blocks
@@ -124,6 +156,7 @@ class Check:
     def admit(self, game: str, quota: int) -> None:
         """Opens a stay."""
         self.open[game] = blocks_of(quota)
+        self.ids[game] = set()
         self.blocks += self.open[game]
         found = self.found
         found.stays += 1
@@ -159,10 +192,12 @@ class Check:
         game = line.get("game")
         if isinstance(game, str) and game in self.open:
             return True
+        message = f"{shown(game)} is no open game"
         if "game" not in line:
-            self.refuse(number, code, "is missing; it has to be the name of an open game", "game")
-        else:
-            self.refuse(number, code, f"{shown(game)} is no open game", "game")
+            message = "is missing; it has to be the name of an open game"
+        elif self.found.version < 3 and line.get("do") in STAY_WORDS:
+            message += f'; {shown(line["do"])} is for a plan with "version":3 or 5'
+        self.refuse(number, code, message, "game")
         return False
 
     def admission(self, number: int, line: Any) -> None:
@@ -191,8 +226,16 @@ class Check:
         faults = command_faults(line, self.found.version)
         for fault in faults:
             self.refuse(number, "G1", fault.message, fault.where())
-        if not faults:
-            self.found.commands[line["do"]] += 1
+        word, ids = line.get("do"), self.ids[line["game"]]
+        if word in WORDS:
+            self.note(number, unread_in_command(line, self.found.version))
+        if faults:
+            return
+        self.found.commands[word] += 1
+        if word == "new":
+            ids.update(snake["id"] for snake in line["snakes"])
+        elif word == "move":
+            self.note(number, idle_moves(line["moves"], ids))
 
 
 def check(text: bytes) -> Checked:

@@ -3,6 +3,7 @@
 from __future__ import annotations
 
 from collections.abc import Iterable, Iterator, Sequence
+from dataclasses import replace
 from typing import Any
 
 from checker.schemas import Fault, schema_of, shown
@@ -14,6 +15,7 @@ WORDS = ("new", "move", "show", "turn", "free", "end")
 STAY_WORDS = ("admit", "leave")  # from version 3 on
 NEW = {1: "new_1", 2: "new_2", 3: "new_2", 5: "new_5"}
 MOVE = {1: "move_1", 2: "move_1", 3: "move_1", 5: "move_5"}
+DIRECTIONS = ("up", "down", "left", "right")
 COMMAND_SCHEMA, PLAN_SCHEMA = "command.json", "plan.json"
 
 
@@ -86,6 +88,11 @@ def off_board(line: Any, members: Iterable[str]) -> Iterator[Fault]:
 def new_faults(line: Any, version: int) -> list[Fault]:
     """What is wrong with a `new`. What the schema does not say is looked at where it holds."""
     faults = schema_of(COMMAND_SCHEMA, NEW[version]).faults(line)
+    if version == 1 and line.get("mode") == "wrapped":
+        more = '; that mode is for a plan with "version":2, 3 or 5'
+        faults = [
+            replace(it, message=it.message + more) if it.path == ("mode",) else it for it in faults
+        ]
     if faults:
         return faults
     ids = [(("snakes", at, "id"), snake["id"]) for at, snake in enumerate(line["snakes"])]
@@ -118,3 +125,28 @@ def command_faults(line: Any, version: int) -> list[Fault]:
     if word == "move":
         return schema_of(COMMAND_SCHEMA, MOVE[version]).faults(line)
     return schema_of(COMMAND_SCHEMA, word).faults(line)
+
+
+def unread_members(line: Any, file: str, name: str = "") -> Iterator[Fault]:
+    """The members of a plan or a command that the host does not read."""
+    for member in line:
+        if member not in schema_of(file, name).members and member != "game":
+            yield Fault((member,), "no such member is read here")
+
+
+def unread_in_command(line: Any, version: int) -> Iterator[Fault]:
+    """The members of a command that the host does not read."""
+    word = line["do"]
+    name = {"new": NEW[version], "move": MOVE[version]}.get(word, word)
+    yield from unread_members(line, COMMAND_SCHEMA, name)
+
+
+def idle_moves(moves: dict[str, Any], ids: set[str]) -> Iterator[Fault]:
+    """The members of `moves` that have no effect. `ids` are those of all snakes that the game has
+    had; none if they are not known."""
+    for snake, step in moves.items():
+        if ids and snake not in ids:
+            yield Fault(("moves", snake), "no snake of the game has this id")
+        elif step not in DIRECTIONS:
+            be = f"{', '.join(DIRECTIONS[:-1])} or {DIRECTIONS[-1]}"
+            yield Fault(("moves", snake), f"{shown(step)} is not {be}: the snake goes straight on")

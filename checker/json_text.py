@@ -15,6 +15,7 @@ MOST_DEPTH = 127
 LARGEST_WHOLE = 2**64 - 1
 TOKEN = re.compile(r'"(?:[^"\\]|\\.)*"|-?[0-9][0-9.eE+-]*|[\[\]{}]|[A-Za-z]+')
 ESCAPE = re.compile(r"\\(?:u([0-9a-fA-F]{4})|.)")
+SPACE = " \t\n\r"
 HALF_PAIR = re.compile(r"\\u[dD][89a-fA-F]")
 
 
@@ -106,7 +107,29 @@ def decoded(line: bytes) -> str:
         return line.decode()
     except UnicodeDecodeError as fault:
         column = len(line[: fault.start].decode()) + 1
-        raise JsonFault(column, f"byte {line[fault.start]:#04x} is no UTF-8") from None
+        looks = "; the file looks like UTF-16" if line[:2] in (b"\xff\xfe", b"\xfe\xff") else ""
+        raise JsonFault(column, f"byte {line[fault.start]:#04x} is no UTF-8{looks}") from None
+
+
+def syntax_fault(text: str, at: int, message: str) -> JsonFault:
+    """The fault that Python's `json` found at a place, in words for who wrote the text."""
+    before = text[:at].rstrip(SPACE)
+    here = text[at : at + 1]
+    if not text.strip(SPACE):
+        return JsonFault(1, "the line is empty")
+    if text.startswith("\ufeff"):
+        return JsonFault(1, "a byte order mark stands here; save the file as UTF-8 without one")
+    if here in ("}", "]") and before.endswith(","):
+        return JsonFault(len(before), f"there is a comma too much before {here}")
+    if here == "'":
+        return JsonFault(at + 1, "' is no quotation mark of JSON, which has only \"")
+    if message == "Extra data":
+        return JsonFault(
+            at + 1, "the JSON text has ended before; each object has a line of its own"
+        )
+    if len(before) == len(text.rstrip(SPACE)):
+        return JsonFault(at + 1, "the line ends too early; a line has to be a whole object")
+    return JsonFault(at + 1, f"{message[:1].lower()}{message[1:]}")
 
 
 def parse(line: bytes) -> Any:
@@ -115,8 +138,7 @@ def parse(line: bytes) -> Any:
     try:
         value = DECODER.decode(text)
     except json.JSONDecodeError as fault:
-        message = f"{fault.msg[:1].lower()}{fault.msg[1:]}"
-        raise JsonFault(fault.pos + 1, message) from None
+        raise syntax_fault(text, fault.pos, fault.msg) from None
     except NumberFault as fault:
         token = str(fault)
         message = f"{token[:40]} is no number that is read"

@@ -9,14 +9,16 @@ from collections.abc import Sequence
 from itertools import islice
 from pathlib import Path
 
-from checker.command_file import MOST_FILE, Checked, check
+from checker.command_file import MOST_FILE, Checked, Note, Refusal, check
 
 ABOUT = """Says what `arena` would refuse in a command file, and why: each fault with its line, the
-column of a JSON fault or the path of a member, and what the member may be. Then a summary, with the
-number of blocks to serve the file with. What depends on how the games go (G2 to G7) is not found.
-The status is 0 if nothing is refused, 1 if something is, and 2 if the file cannot be read."""
+column of a JSON fault or the path of a member, and what the member may be. Then notes on what is
+taken but has no effect, and a summary, with the number of blocks to serve the file with. What
+depends on how the games go (G2 to G7) is not found. The status is 0 if nothing is refused, 1 if something is, and 2 if the file cannot be read."""
 REFUSED, UNREAD = 1, 2
+USUAL_BLOCKS = 64
 MOST_LINES = 50
+PLAN_HINT = 'the first line has to be the plan, such as {"games":[{"game":"a","quota":1835007}]}'
 
 
 def parser() -> argparse.ArgumentParser:
@@ -48,7 +50,8 @@ def summary(found: Checked) -> list[str]:
     """What was found, in a few lines."""
     refused = len(found.refused_lines())
     if any(it.code.startswith("P") or it.code == "file" for it in found.refusals):
-        return ["the plan is refused, so nothing is served; the lines after it were not checked"]
+        lines = ["the plan is refused, so nothing is served; the lines after it were not checked"]
+        return [*lines, PLAN_HINT] if any(it.code == "P1" for it in found.refusals) else lines
     kinds = ", ".join(f"{count} {word}" for word, count in found.commands.most_common())
     lines = [
         f"version {found.version}, {counted(found.stays, 'game')}, "
@@ -56,7 +59,15 @@ def summary(found: Checked) -> list[str]:
         f"accepted by their form: {kinds or 'none'}",
     ]
     plan = f" ({found.plan_blocks} for its plan)" if found.plan_blocks < found.most_blocks else ""
-    return [*lines, f"serve it with --blocks {max(found.most_blocks, 1)}{plan}"]
+    blocks = f"serve it with --blocks {max(found.most_blocks, 1)} or more{plan}"
+    return [*lines, f"{blocks}; without the option there are {USUAL_BLOCKS}"]
+
+
+def first_of(found: Sequence[Refusal | Note], most: int) -> list[str]:
+    """The lines of the first refusals or notes, of all if `most` is 0."""
+    shown = [it.text() for it in islice(found, most or len(found))]
+    more = len(found) - len(shown)
+    return [*shown, f"and {more} more; --most 0 writes all"] if more else shown
 
 
 def as_json(file: str, found: Checked) -> str:
@@ -83,6 +94,7 @@ def as_json(file: str, found: Checked) -> str:
         "plan_blocks": found.plan_blocks,
         "refused_lines": len(found.refused_lines()),
         "refusals": refusals,
+        "notes": [{"line": it.line, "path": it.path, "message": it.message} for it in found.notes],
     }
     return json.dumps(whole, ensure_ascii=False, indent=1)
 
@@ -98,12 +110,8 @@ def main(words: Sequence[str] | None = None) -> int:
     found = check(text)
     if given.json:
         print(as_json(given.file, found))
-        return REFUSED if found.refusals else 0
-    most = given.most or len(found.refusals)
-    for refusal in islice(found.refusals, most):
-        print(f"{given.file}: {refusal.text()}")
-    if len(found.refusals) > most:
-        print(f"{given.file}: and {len(found.refusals) - most} more; --most 0 writes all")
-    for line in summary(found):
-        print(f"{given.file}: {line}")
+    else:
+        refusals, notes = first_of(found.refusals, given.most), first_of(found.notes, given.most)
+        for line in (*refusals, *notes, *summary(found)):
+            print(f"{given.file}: {line}")
     return REFUSED if found.refusals else 0

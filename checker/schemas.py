@@ -102,6 +102,7 @@ class Schema:
 
     def __init__(self, schema: dict[str, Any]) -> None:
         self.validator = Validator(schema)
+        self.members = frozenset(schema.get("properties", ()))
 
     def faults(self, value: Any) -> list[Fault]:
         """All faults of a value, in the order of the schema."""

@@ -1,5 +1,5 @@
 #!/usr/bin/env python3
-"""Plays one snake that sees its board: examples/live_bot.py PROGRAM > out/live.transcript"""
+"""Plays one snake that sees its board: examples/live_bot.py [PROGRAM ..] > out/live.transcript"""
 import json
 import math
 import random
@@ -8,7 +8,8 @@ import sys
 
 STEPS = {"up": (0, 1), "down": (0, -1), "left": (-1, 0), "right": (1, 0)}
 PIPE = subprocess.PIPE
-host = subprocess.Popen([sys.argv[1], "live"], stdin=PIPE, stdout=PIPE, text=True)
+PROGRAM = sys.argv[1:] or ["./arena"]
+host = subprocess.Popen([*PROGRAM, "live"], stdin=PIPE, stdout=PIPE, text=True)
 print('{"games":[{"game":"a","quota":1835007}],"version":3}', file=host.stdin)
 
 

@@ -10,7 +10,12 @@ from pathlib import Path
 
 ROOT = Path(__file__).resolve().parent.parent
 sys.path[:0] = [str(ROOT / "bindings/python"), str(ROOT / "ladder/bots")]
-from arena_rules import Games, records
+try:
+    from arena_rules import Games, records
+except (ImportError, OSError) as fault:
+    sys.exit(
+        f"search_bot: no library of the rules: {fault}\ndocs/SIMULATOR.md says how to build it"
+    )
 
 WORDS = ("up", "down", "left", "right")
 STRAIGHT_ON, OUT = 4, -1000

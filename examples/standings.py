@@ -90,6 +90,8 @@ def table(tallies):
 
 def report(lines):
     tallies, refused, empty = read_transcript(lines)
+    if not tallies and not refused and not empty:
+        raise ValueError("no game was read; of a refused plan arena writes nothing")
     parts = [table(tallies)]
     if refused:
         parts.append(f"refused: {counted(refused)}")

@@ -33,6 +33,18 @@ function endsOf(bytes) {
   return head + lineDecoder.decode(bytes.subarray(-TAIL_BYTES));
 }
 
+/** Why a line that has none of the forms is no line of a transcript, in words. */
+function strangeness(bytes) {
+  const ends = endsOf(bytes);
+  if (/^\s*\{\s*"(?:games|version)"\s*:/.test(ends)) {
+    return 'is a plan: this is a command file, of which arena serve writes the transcript';
+  }
+  if (ends.endsWith('}\r')) {
+    return 'ends with a carriage return, as no line of a transcript does';
+  }
+  return 'is no line of a transcript';
+}
+
 /**
  * The form of a line and the members at its ends: numbers as numbers, the game's name as its JSON
  * text. Null if the line has none of the forms.

@@ -133,7 +133,7 @@ class TranscriptBuilder {
     this.transcript.starts.push(line.start);
     const parsed = parseLine(line.bytes);
     if (!parsed) {
-      throw this.fault('is no line of a transcript');
+      throw this.fault(strangeness(line.bytes));
     }
     if (parsed.form === 'stray') {
       this.addStray(parsed);

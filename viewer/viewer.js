@@ -16,8 +16,8 @@ const KEYS = {
   n: (viewer) => viewer.chooseGameBeside(1),
 };
 
-function megabytes(bytes) {
-  return `${(bytes / 1e6).toFixed(1)} MB`;
+function sizeText(bytes) {
+  return bytes < 1e6 ? `${Math.ceil(bytes / 1e3)} kB` : `${(bytes / 1e6).toFixed(1)} MB`;
 }
 
 /** The message that the transcript does not contain the place that the address names. */
@@ -96,13 +96,13 @@ class Viewer {
 
   showProgress(reached, size) {
     this.page.progress.value = reached;
-    this.page.size.textContent = `${megabytes(reached)} of ${megabytes(size)}`;
+    this.page.size.textContent = `${sizeText(reached)} of ${sizeText(size)}`;
   }
 
   show(transcript, endings, size) {
     this.transcript = transcript;
     const lines = transcript.starts.length.toLocaleString('en');
-    this.page.size.textContent = `${megabytes(size)}, ${lines} lines`;
+    this.page.size.textContent = `${sizeText(size)}, ${lines} lines`;
     this.panel.open(transcript);
     this.table.show(endings);
     this.strays.show(transcript.strays);

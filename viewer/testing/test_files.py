@@ -29,7 +29,11 @@ BROKEN = {
     "picture": (b"\x89PNG\r\n\x1a\n\0\0\0\rIHDR", "Line 1 is no line of a transcript."),
     "commands": (
         (ROOT / "examples" / "four_snakes.jsonl").read_text(),
-        "Line 1 is no line of a transcript.",
+        "Line 1 is a plan: this is a command file, of which arena serve writes the transcript.",
+    ),
+    "carriage returns": (
+        GOOD.replace("\n", "\r\n"),
+        "Line 1 ends with a carriage return, as no line of a transcript does.",
     ),
     "prose": ("All snakes live.\n", "Line 1 is no line of a transcript."),
     "cut in a line": (GOOD[:-10], "Line 8 is cut off: no line feed ends it."),
