@@ -44,7 +44,7 @@ rows_step registry route.Nowhere acts = refl
 
 -- each act is acceptable in its place
 
-abbrev IsAcceptable : Capacity → List Stay → Route → Type 0
+abbrev pub IsAcceptable : Capacity → List Stay → Route → Type 0
 IsAcceptable capacity registry (route.Act a) = is_acceptable capacity registry a ≡ true
 IsAcceptable capacity registry (route.Stray kind) = Unit {0}
 IsAcceptable capacity registry route.Nowhere = Unit {0}
@@ -66,7 +66,7 @@ leave_acceptable : (capacity : Capacity) (registry : List Stay) (name : List ℕ
 leave_acceptable capacity registry name None is = tt
 leave_acceptable capacity registry name (Some stay) is = named_is_in registry name stay is
 
-route_acceptable : (capacity : Capacity) (registry : List Stay) (l : Line) → IsAcceptable capacity registry (route_of capacity registry l)
+pub route_acceptable : (capacity : Capacity) (registry : List Stay) (l : Line) → IsAcceptable capacity registry (route_of capacity registry l)
 route_acceptable capacity registry line.Blank = tt
 route_acceptable capacity registry (line.Command name command) = hand_acceptable capacity registry name command (stay_named registry name) refl
 route_acceptable capacity registry (line.Bad name) = hand_acceptable capacity registry name command.Bad (stay_named registry name) refl

@@ -1,5 +1,5 @@
 -- A file's plan and its lines, from its first line and the others, to the transcript.
-use Rattle.std.proofs.Common.{◌≡◌, ℕ, ◌<◌, ◌≤◌, true, List, [], ◌∷◌, ◌++◌, Option, Some, None, Ok, length, sym, subst, ap, ◌∙◌}
+use Rattle.std.proofs.Common.{◌≡◌, ℕ, ◌<◌, ◌≤◌, true, List, ◌∷◌, ◌++◌, Option, Some, None, Ok, length, sym, subst, ap, ◌∙◌}
 use Rattle.std.proofs.lemmas.Bool.{lt-ltb, le-ltb, cond-true, cond-false}
 use Rattle.std.proofs.lemmas.List.{length-replicate}
 use Rattle.bs_board.specs.declared.plans.plan.Plan.{Plan}
@@ -20,7 +20,7 @@ use Rattle.bs_transcript.specs.Written.{Leaves as LeavesOfText}
 use Rattle.bs_transcript.specs.declared.fault.TranscriptFault.{TranscriptFault}
 use Rattle.bs_transcript.specs.declared.fault.TranscriptFault.TheVariants as transcript
 use Rattle.bs_host.specs.declared.fault.Fault.{Fault}
-use Rattle.bs_host.specs.declared.fault.Fault.TheVariants.{TooLong, Memory}
+use Rattle.bs_host.specs.declared.fault.Fault.TheVariants.{TooLong}
 use Rattle.bs_host.specs.declared.limits.TheConstants.{BLOCK_BYTES, MOST_FILE_BYTES}
 use Rattle.bs_host.specs.declared.route.Requests.{Requests}
 use Rattle.bs_host.specs.File.{pieces_of, first_piece, later_pieces, plan_of, rows_of}

@@ -5,8 +5,6 @@ use Rattle.bs_board.specs.declared.plans.version.Version.{Version}
 use Rattle.bs_board.specs.plans.Plan.{GameRow}
 use Rattle.bs_json.specs.declared.plan.PlanFault.{PlanFault}
 use Rattle.bs_json.specs.declared.plan.PlanFault.TheVariants as plan
-use Rattle.bs_workers.specs.declared.fault.Run.{Run}
-use Rattle.bs_workers.specs.declared.fault.Run.TheVariants as run
 use Rattle.bs_host.specs.declared.fault.Fault.{Fault}
 use Rattle.bs_host.specs.declared.fault.Fault.TheVariants.{Plan as OfPlan}
 use Rattle.bs_host.specs.declared.fault.PlanRefusal.TheVariants as refusal
@@ -22,10 +20,6 @@ live_fault_of_plan plan.BadRow = live.Plan refusal.BadRow
 live_fault_of_plan plan.TooMany = live.Plan refusal.TooMany
 live_fault_of_plan plan.Memory = live.Memory
 
-abbrev pub live_fault_of_run : Run → LiveFault
-live_fault_of_run run.Memory = live.Memory
-live_fault_of_run run.Broken = live.Broken
-
 -- the first reason against serving the file live with `blocks` blocks: a live host refuses only
 -- plans
 abbrev pub live_refusal_of : ℕ → List ℕ → Option Fault
@@ -37,7 +31,6 @@ abbrev pub IsLiveFault : Option Fault → LiveFault → Type 0
 IsLiveFault refusal live.Device = Unit {0}
 IsLiveFault refusal (live.Plan reason) = refusal ≡ Some (OfPlan reason)
 IsLiveFault refusal live.Memory = Unit {0}
-IsLiveFault refusal live.Broken = refusal ≡ None
 IsLiveFault refusal (live.Write written) = refusal ≡ None
 IsLiveFault refusal live.Flush = refusal ≡ None
 
@@ -61,6 +54,5 @@ abbrev pub LeavesLive : ℕ → List ℕ → Option (List ℕ) → Option (List 
 LeavesLive blocks file old new live.Device = HasFirstAnswersOf blocks file old new
 LeavesLive blocks file old new (live.Plan reason) = Keeps old new
 LeavesLive blocks file old new live.Memory = HasFirstAnswersOf blocks file old new
-LeavesLive blocks file old new live.Broken = HasFirstAnswersOf blocks file old new
 LeavesLive blocks file old new (live.Write written) = (written < length (live_of blocks file)) × Appends old new (take written (live_of blocks file))
 LeavesLive blocks file old new live.Flush = HasFirstAnswersOf blocks file old new ⊎ Appends old new (live_of blocks file)

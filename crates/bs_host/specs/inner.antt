@@ -6,6 +6,7 @@ pub mod Hosted
 pub mod Laws
 pub mod Live
 pub mod LiveFaults
+pub mod LiveHost
 pub mod OpenStays
 pub mod Parsed
 pub mod Routing

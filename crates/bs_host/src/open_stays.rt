@@ -42,8 +42,7 @@ fn remove_stay(stays: &mut Vec<(usize, Row)>, stay: usize)
 }
 
 impl OpenStays {
-    ghost use Rattle.std.specs.Prelude.{◌≡◌, ◌-◌, ◌<◌, [], ◌&&◌, not, nat_lt, length, slice_index_or, Some, None, IfOk, OnOk};
-    ghost use Rattle.bs_board.specs.plans.Plan.{row_of};
+    ghost use Rattle.std.specs.Prelude.{◌≡◌, ◌-◌, ◌&&◌, not, nat_lt, length, Some, None, IfOk, OnOk};
     ghost use Rattle.std.specs.List.{list_any, position};
     ghost use Rattle.bs_workers.specs.Acts.{opened};
     ghost use Rattle.bs_host.specs.declared.route.Route.TheVariants as route;
@@ -73,21 +72,6 @@ impl OpenStays {
         ensures { result ≡ self.now.made }
     {
         self.made
-    }
-
-    /// The number of open stays.
-    pub(crate) fn len(&self) -> usize
-        ensures { result ≡ length self.now.stays }
-    {
-        self.stays.len()
-    }
-
-    /// The row number of the open stay at that index.
-    pub(crate) fn number(&self, place: usize) -> usize
-        requires { place < length self.now.stays }
-        ensures { result ≡ (slice_index_or self.now.stays place (0, row_of [] 0)).0 }
-    {
-        self.stays[place].0
     }
 
     /// Whether an open stay of that name is at that index.
@@ -169,12 +153,12 @@ impl OpenStays {
         }
     }
 
-    fn hand(&mut self, game: &Id, command: &SharedCommand) -> Result<Route, AllocError>
-        ensures route { IfOk result (λ route. route ≡ hand_route (found_in game.now self.old.stays) command.now) }
+    fn hand(&mut self, game: &Id, command: SharedCommand) -> Result<Route, AllocError>
+        ensures route { IfOk result (λ route. route ≡ hand_route (found_in game.now self.old.stays) command) }
         ensures after { IfOk result (λ route. self.new ≡ open_stays_then self.old route) }
     {
         match self.find(game) {
-            Some(stay) => Ok(Route::Act(Act::Hand(stay, command.share()?))),
+            Some(stay) => Ok(Route::Act(Act::Hand(stay, command))),
             None => Ok(Route::Stray(Stray::Game)),
         }
     }
@@ -211,16 +195,16 @@ impl OpenStays {
         &mut self,
         alloc: Global,
         blocks: usize,
-        line: &ParsedLine,
+        line: ParsedLine,
     ) -> Result<Route, AllocError>
-        ensures route { IfOk result (λ route. route ≡ route_parsed (capacity_of blocks) self.old line.now) }
+        ensures route { IfOk result (λ route. route ≡ route_parsed (capacity_of blocks) self.old line) }
         ensures after { IfOk result (λ route. self.new ≡ open_stays_then self.old route) }
     {
         match line {
-            ParsedLine::Command(game, command) => self.hand(game, command),
-            ParsedLine::Admit(row) => self.admit(alloc, blocks, row),
-            ParsedLine::Leave(game) => Ok(self.leave(game)),
-            ParsedLine::Stray(kind) => Ok(Route::Stray(*kind)),
+            ParsedLine::Command(game, command) => self.hand(&game, command),
+            ParsedLine::Admit(row) => self.admit(alloc, blocks, &row),
+            ParsedLine::Leave(game) => Ok(self.leave(&game)),
+            ParsedLine::Stray(kind) => Ok(Route::Stray(kind)),
             ParsedLine::Blank => Ok(Route::Nowhere),
         }
     }

@@ -2,7 +2,6 @@
 use Rattle.std.specs.Prelude.{◌≡◌, Option, Some, None}
 use Rattle.bs_host.specs.declared.fault.Fault.{Fault}
 use Rattle.bs_host.specs.declared.fault.Fault.TheVariants.{TooLong, Plan as OfPlan, Memory, Broken, Write}
-use Rattle.bs_host.specs.declared.fault.PlanRefusal.TheVariants as refusal
 
 -- the fault is that refusal; `Broken` comes only if there is no refusal; nothing is claimed of
 -- `Memory`

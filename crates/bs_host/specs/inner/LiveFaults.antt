@@ -1,24 +1,20 @@
 -- What private contracts add to specs/LiveFaults.
-use Rattle.std.specs.Prelude.{◌≡◌, ◌⊎◌, ℕ, ◌+◌, ◌<◌, List, length, take, Option, Some, None}
+use Rattle.std.specs.Prelude.{◌≡◌, ◌⊎◌, ℕ, ◌+◌, ◌<◌, List, length, take, Option, Some}
 use Rattle.std.specs.Io.KnownBytes.{Appends, Keeps}
 use Rattle.bs_board.specs.declared.plans.version.Version.{Version}
 use Rattle.bs_board.specs.plans.Plan.{GameRow}
-use Rattle.bs_json.specs.declared.plan.PlanFault.TheVariants as plan
 use Rattle.bs_host.specs.declared.fault.Fault.{Fault}
 use Rattle.bs_host.specs.declared.fault.Fault.TheVariants.{Plan as OfPlan}
-use Rattle.bs_host.specs.declared.fault.PlanRefusal.TheVariants as refusal
 use Rattle.bs_host.specs.declared.live_fault.LiveFault.{LiveFault}
 use Rattle.bs_host.specs.declared.live_fault.LiveFault.TheVariants as live
 use Rattle.bs_host.specs.Live.{live_lines_of}
 use Rattle.bs_host.specs.LiveFaults.{HasFirstAnswers}
 
--- the fault of opening: that refusal; `Broken` comes only if the plan is not refused; nothing is
--- claimed of `Memory`
+-- the fault of opening: that refusal; nothing is claimed of `Memory`
 abbrev pub IsLiveRefusal : Option Fault → LiveFault → Type 0
 IsLiveRefusal refusal live.Device = ⊥
 IsLiveRefusal refusal (live.Plan reason) = refusal ≡ Some (OfPlan reason)
 IsLiveRefusal refusal live.Memory = Unit {0}
-IsLiveRefusal refusal live.Broken = refusal ≡ None
 IsLiveRefusal refusal (live.Write written) = ⊥
 IsLiveRefusal refusal live.Flush = ⊥
 
@@ -27,7 +23,6 @@ abbrev pub IsReadFault : LiveFault → Type 0
 IsReadFault live.Device = Unit {0}
 IsReadFault (live.Plan reason) = ⊥
 IsReadFault live.Memory = Unit {0}
-IsReadFault live.Broken = ⊥
 IsReadFault (live.Write written) = ⊥
 IsReadFault live.Flush = ⊥
 
@@ -38,7 +33,6 @@ abbrev pub LeavesLines : ℕ → Version → List GameRow → List (List ℕ) �
 LeavesLines blocks version plan lines old new live.Device = HasFirstAnswers blocks version plan lines old new
 LeavesLines blocks version plan lines old new (live.Plan reason) = ⊥
 LeavesLines blocks version plan lines old new live.Memory = HasFirstAnswers blocks version plan lines old new
-LeavesLines blocks version plan lines old new live.Broken = HasFirstAnswers blocks version plan lines old new
 LeavesLines blocks version plan lines old new (live.Write written) =
     (written < length (live_lines_of blocks version plan lines)) × Appends old new (take written (live_lines_of blocks version plan lines))
 LeavesLines blocks version plan lines old new live.Flush =
@@ -49,7 +43,6 @@ abbrev pub LeavesText : List ℕ → ℕ → Option (List ℕ) → Option (List 
 LeavesText text before old new live.Device = ⊥
 LeavesText text before old new (live.Plan reason) = ⊥
 LeavesText text before old new live.Memory = Keeps old new
-LeavesText text before old new live.Broken = ⊥
 LeavesText text before old new (live.Write written) =
     (taken : ℕ) × (written ≡ before + taken) × (taken < length text) × Appends old new (take taken text)
 LeavesText text before old new live.Flush = Appends old new text
