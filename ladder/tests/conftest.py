@@ -10,7 +10,7 @@ import pytest
 from served import Served, serve_faulty, serve_small
 from testing import chromium  # of viewer/
 
-from ladder.host import PROGRAM
+from arena_client import PROGRAM
 
 
 def pytest_addoption(parser: pytest.Parser) -> None:

@@ -13,11 +13,11 @@ from pathlib import Path
 import pytest
 from served import LADDER, Served, run_ladder, write_config
 
-from ladder.bot_log import MOST_BYTES, Asked, add_lines, last_missed, log_files, read_log
-from ladder.config import ConfigFault
-from ladder.match import bots_of_words
-from ladder.store import open_store
-from ladder.view import step
+from arena_ladder.bot_log import MOST_BYTES, Asked, add_lines, last_missed, log_files, read_log
+from arena_ladder.config import ConfigFault
+from arena_ladder.match import bots_of_words
+from arena_ladder.store import open_store
+from arena_ladder.view import step
 
 TURNS = 15
 PLANNED = (4, 13)  # turns in which the faulty bots fail

@@ -1,7 +1,8 @@
-"""Runs the example of docs/LADDER.md."""
+"""Runs the examples of docs/LADDER.md and docs/LADDER_REFERENCE.md."""
 
 from __future__ import annotations
 
+import os
 import re
 import subprocess
 import sys
@@ -9,21 +10,22 @@ from pathlib import Path
 
 from served import Served, run_ladder
 
-from ladder.config import read_config
+from arena_ladder.config import read_config
 
 ROOT = Path(__file__).resolve().parent.parent.parent
 PAGE = (ROOT / "docs" / "LADDER.md").read_text()
+REFERENCE = (ROOT / "docs" / "LADDER_REFERENCE.md").read_text()
 
 
 def test_simulator_prints_what_the_page_says(program: Path) -> None:
-    (code,) = re.findall(r"```python\n(.*?)```", PAGE, re.DOTALL)
+    (code,) = re.findall(r"```python\n(.*?)```", REFERENCE, re.DOTALL)
     assert len([line for line in code.splitlines() if line]) <= 20
     code = code.replace("Host(blocks=384)", f"Host(blocks=384, program={str(program)!r})")
-    ran = subprocess.run(
-        [sys.executable, "-"], input=code, capture_output=True, text=True, cwd=ROOT
-    )
+    packages = {**os.environ, "PYTHONPATH": str(ROOT / "ladder/src")}
+    words = [sys.executable, "-"]
+    ran = subprocess.run(words, input=code, capture_output=True, text=True, env=packages)
     assert ran.stderr == ""
-    assert f"`{ran.stdout.strip()}`" in PAGE
+    assert f"`{ran.stdout.strip()}`" in REFERENCE
 
 
 def without_times(text: str) -> str:

@@ -27,14 +27,14 @@ import hostile
 import pytest
 from served import HERE, START_SECONDS, Served, free_port, serving
 
-from ladder import game
-from ladder.bots import Answer
-from ladder.config import Bot, Config, config_of
-from ladder.game_files import make_folders
-from ladder.page_link import Address, PageLink
-from ladder.pairing import Part
-from ladder.play import Job, play
-from ladder.store import Store
+from arena_ladder import game
+from arena_ladder.bots import Answer
+from arena_ladder.config import Bot, Config, config_of
+from arena_ladder.game_files import make_folders
+from arena_ladder.page_link import Address, PageLink
+from arena_ladder.pairing import Part
+from arena_ladder.play import Job, play
+from arena_ladder.store import Store
 
 TIMEOUT = 500  # milliseconds
 MARGIN = 30  # before the timeout, within which an honest answer may be late

@@ -24,12 +24,12 @@ from served import (
 )
 from test_kills import wait_for
 
-from ladder.config import config_of
-from ladder.game import map_members, opening
-from ladder.host import PLAN_WITH_HAZARDS
-from ladder.maps import Ground, HazardMap
-from ladder.pairing import Fixture
-from ladder.starts import Cell
+from arena_client import PLAN_WITH_HAZARDS
+from arena_ladder.config import config_of
+from arena_ladder.game import map_members, opening
+from arena_ladder.maps import Ground, HazardMap
+from arena_ladder.pairing import Fixture
+from arena_ladder.starts import Cell
 
 NAME = "r0001-t001"
 BOTS = [{"name": name, "url": f"http://127.0.0.1:8001/{name}"} for name in SMALL]

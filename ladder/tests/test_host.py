@@ -14,7 +14,7 @@ from typing import Any
 
 import pytest
 
-from ladder.host import PLAN, Host, HostDied, HostFault, Refused, Stay, line_of
+from arena_client import PLAN, Host, HostDied, HostFault, Refused, Stay, line_of
 
 SOLO: dict[str, Any] = {"mode": "solo", "width": 3, "height": 3, "min_food": 0, "food_chance": 0}
 SNAKE = [{"id": "s", "x": 1, "y": 1}]

@@ -29,7 +29,7 @@ from served import (
     write_config,
 )
 
-from ladder.bots import CAUSES
+from arena_ladder.bots import CAUSES
 
 SEED = 20261127
 LONGEST = 120  # seconds of a run

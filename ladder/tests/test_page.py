@@ -20,19 +20,19 @@ import pytest
 from served import Served, start_play, write_config
 from testing import chromium  # of viewer/
 
-from ladder import page as page_module
-from ladder import page_link
-from ladder.bots import Answer
-from ladder.config import Bot
-from ladder.feed import MOST_READERS, MOST_WAITING, Feed, Reader
-from ladder.host import PROGRAM
-from ladder.news import News, duration
-from ladder.outcome import Finish, Outcome
-from ladder.page import MOST_CONNECTIONS, page
-from ladder.page_calls import Calls
-from ladder.page_link import Address, PageFault, PageLink, address_of
-from ladder.pairing import Fixture
-from ladder.store import Store
+from arena_client import PROGRAM
+from arena_ladder import page as page_module
+from arena_ladder import page_link
+from arena_ladder.bots import Answer
+from arena_ladder.config import Bot
+from arena_ladder.feed import MOST_READERS, MOST_WAITING, Feed, Reader
+from arena_ladder.news import News, duration
+from arena_ladder.outcome import Finish, Outcome
+from arena_ladder.page import MOST_CONNECTIONS, page
+from arena_ladder.page_calls import Calls
+from arena_ladder.page_link import Address, PageFault, PageLink, address_of
+from arena_ladder.pairing import Fixture
+from arena_ladder.store import Store
 
 GAME = Fixture("r0001-t001", 1, ("a", "b"))
 WATCH = """

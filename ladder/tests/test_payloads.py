@@ -5,8 +5,8 @@ from __future__ import annotations
 import json
 from typing import Any
 
-from ladder.config import config_of
-from ladder.payloads import Look, Seat, bodies, game_text
+from arena_ladder.config import config_of
+from arena_ladder.payloads import Look, Seat, bodies, game_text
 
 BOARD: dict[str, Any] = {
     "food": [{"x": 5, "y": 5}],

@@ -20,16 +20,16 @@ import pytest
 from served import Served, free_port, start_play, write_config
 from testing import chromium  # of viewer/
 
-from ladder import transcripts
-from ladder.colours import COLOURS, GROUNDS, is_apart, looks_of, oklab
-from ladder.feed import Feed
-from ladder.history import games_of, record_of
-from ladder.news import News
-from ladder.page import page, results_of
-from ladder.page_calls import Calls, rows_of
-from ladder.page_link import Address
-from ladder.store import open_store
-from ladder.transcripts import NoTranscript, Transcripts
+from arena_ladder import transcripts
+from arena_ladder.colours import COLOURS, GROUNDS, is_apart, looks_of, oklab
+from arena_ladder.feed import Feed
+from arena_ladder.history import games_of, record_of
+from arena_ladder.news import News
+from arena_ladder.page import page, results_of
+from arena_ladder.page_calls import Calls, rows_of
+from arena_ladder.page_link import Address
+from arena_ladder.store import open_store
+from arena_ladder.transcripts import NoTranscript, Transcripts
 
 BOTS = ("fleer", "hungry", "lazy")
 WIDE, NARROW = (1280, 900), (390, 844)

@@ -9,14 +9,14 @@ from typing import Any
 
 import pytest
 
-from ladder import schedule
-from ladder.bots import Answer
-from ladder.config import config_of
-from ladder.outcome import Finish, Outcome
-from ladder.pairing import Fixture, fixtures_of
-from ladder.progress import Counts
-from ladder.pulse import Pulse
-from ladder.schedule import Pace, Schedule
+from arena_ladder import schedule
+from arena_ladder.bots import Answer
+from arena_ladder.config import config_of
+from arena_ladder.outcome import Finish, Outcome
+from arena_ladder.pairing import Fixture, fixtures_of
+from arena_ladder.progress import Counts
+from arena_ladder.pulse import Pulse
+from arena_ladder.schedule import Pace, Schedule
 
 
 def fixtures(bots: int, **members: Any) -> list[Fixture]:
