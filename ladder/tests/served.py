@@ -31,13 +31,13 @@ class Served:
     def url(self, name: str) -> str:
         return f"http://127.0.0.1:{self.port}/{name}"
 
-    def counts(self) -> dict[str, int]:
-        """The counts of the faulty bots."""
+    def told(self, what: str) -> dict[str, Any]:
+        """What the faulty bots tell of themselves: their `counts`, or the `ids` of requests."""
         with urllib.request.build_opener(urllib.request.ProxyHandler({})).open(
-            self.url("counts"), timeout=START_SECONDS
+            self.url(what), timeout=START_SECONDS
         ) as answer:
-            counts: dict[str, int] = json.load(answer)
-        return counts
+            told: dict[str, Any] = json.load(answer)
+        return told
 
 
 def free_port() -> int:

@@ -35,7 +35,7 @@ def test_64_games_of_four_with_every_fault(
     assert out.startswith("ladder: 64 of 64 games are done, 64 of them now; ")
     checked = run_ladder("check", folder, "--program", program)
     assert (checked.returncode, checked.stdout) == (0, "64 of 64 games agree\n")
-    assert_missed(folder, faulty_bots.counts())
+    assert_missed(folder, faulty_bots.told("counts"))
 
 
 def assert_missed(folder: Path, counts: dict[str, int]) -> None:

@@ -11,13 +11,13 @@ import subprocess
 import time
 import urllib.error
 import urllib.request
-from collections.abc import Iterator
+from collections.abc import Callable, Iterator
 from contextlib import contextmanager
 from pathlib import Path
 from typing import Any
 
 import pytest
-from served import Served, start_play, write_config
+from served import Served, run_ladder, start_play, write_config
 from testing import chromium  # of viewer/
 
 from arena_client import PROGRAM
@@ -344,6 +344,15 @@ def test_page_is_on_this_machine_alone() -> None:
     assert asyncio.run(work()) == ["0100007F"]
 
 
+SHOWN_GAMES = """
+// The bots of each board and of each finished game that is shown.
+const bots = (selector) => [...document.querySelectorAll(selector)]
+  .map((it) => [...it.querySelectorAll('.bot')].map((bot) => bot.textContent));
+return { running: bots('#games article'), finished: bots('#finished li') };
+"""
+OFFERED = "return [...document.querySelectorAll('#filter option')].map((it) => it.value)"
+
+
 @contextmanager
 def playing(program: Path, config: Path) -> Iterator[tuple[subprocess.Popen[str], str]]:
     """Plays a ladder with a page within the context, whose value has the page's address."""
@@ -406,3 +415,66 @@ def test_page_shows_hazards(
         assert shown["legend"] == "A hazard takes in each turn 0 health"
         assert f"Hazards: {len(shown['cells'])}, damage 0." in shown["words"]
         assert browser.complaints() == []
+
+
+def calm_ladder(folder: Path, bots: Served, names: tuple[str, ...], **members: Any) -> Path:
+    """A ladder of bots that take their time, without an end."""
+    words = {"folder": str(folder / "results"), "timeout": 5000, "turns": 20, **members}
+    return write_config(folder / "calm.toml", [(it, bots.url("calm")) for it in names], **words)
+
+
+def test_bot_is_added_while_the_page_is_looked_at(
+    program: Path, faulty_bots: Served, browser: chromium.Browser, tmp_path: Path
+) -> None:
+    """The page that is open offers the bot, shows a game of it, and has it in the standings."""
+    config = calm_ladder(tmp_path, faulty_bots, ("one", "two", "three"), pairing="rating")
+    with playing(program, config) as (_, address):
+        browser.complaints()
+        browser.go(address)
+        browser.run("window.isSame = true")
+        browser.wait(
+            "return document.querySelectorAll('#standings tbody tr').length === 3", seconds=60
+        )
+        assert browser.run(OFFERED) == ["", "one", "three", "two"]
+        url = faulty_bots.url("calm")
+        assert run_ladder("add", tmp_path / "results", "late", url).returncode == 0
+        browser.wait(f"{OFFERED}.includes('late')", seconds=60)
+        board = "return [...document.querySelectorAll('#games h3')].some(it => /late/.test(it.textContent))"
+        browser.wait(board, seconds=60)
+        browser.wait(
+            "return document.querySelector('#standings [data-bot=late]') !== null", seconds=60
+        )
+        assert browser.run("return window.isSame"), "the page was loaded again"
+        assert browser.complaints() == []
+
+
+def test_filter_shows_the_games_of_one_bot(
+    program: Path, faulty_bots: Served, browser: chromium.Browser, tmp_path: Path
+) -> None:
+    """Boards and finished games are those of the chosen bot; then those of all bots again."""
+    names = ("one", "two", "three", "four", "five", "six")
+    config = calm_ladder(tmp_path, faulty_bots, names, rounds=1000)
+    with playing(program, config) as (_, address):
+        browser.complaints()
+        browser.go(address)
+        wait_for_games(browser, lambda shown: len({*sum(shown, [])}) > 2)
+        browser.click("#filter option[value=two]")
+        for _ in range(2):
+            wait_for_games(browser, lambda shown: all("two" in bots for bots in shown))
+            time.sleep(1.0)  # in which other games begin and end
+        browser.click("#filter option[value='']")
+        wait_for_games(browser, lambda shown: any("two" not in bots for bots in shown))
+        assert browser.complaints() == []
+
+
+def wait_for_games(
+    browser: chromium.Browser, is_so: Callable[[list[list[str]]], bool], seconds: float = 60
+) -> None:
+    """Waits until games run and are finished, and a condition holds for the bots of each kind."""
+    ends = time.monotonic() + seconds
+    while True:
+        shown = browser.run(SHOWN_GAMES)
+        if all(shown[kind] and is_so(shown[kind]) for kind in ("running", "finished")):
+            return
+        assert time.monotonic() < ends, shown
+        time.sleep(0.1)

@@ -21,6 +21,7 @@ from arena_ladder.program import add_program, program_of
 from arena_ladder.seeds import with_seed
 from arena_ladder.store import Store, StoreFault, open_store
 from arena_ladder.view import print_all, step_through
+from arena_ladder.viewer_page import viewer_page
 from arena_ladder.watch import Watch
 
 RULES = ("mode", "map", "width", "height", "seed", "timeout", "turns")
@@ -56,7 +57,9 @@ def run_match(given: argparse.Namespace) -> int:
         shown = step_through if sys.stdin.isatty() and sys.stdout.isatty() else print_all
         shown(boards.boards)
     print("\n".join(result_lines(boards.outcome)))
-    print(f"{folder / 'game.transcript'} opens in viewer/index.html")
+    link = folder / "game.html"
+    link.write_text(viewer_page(f"match {folder.name}", text))
+    print(f"{link.resolve().as_uri()} opens in a browser")
     return 0
 
 

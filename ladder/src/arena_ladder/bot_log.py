@@ -30,24 +30,29 @@ class Asked:
     ms: int
     cause: str | None  # why the move was missed
     start: str = ""  # the first bytes of a bad answer
+    id: str = ""  # of the request
 
     def line(self) -> str:
         """The request as a line for a terminal. JSON's form of a text moves no cursor."""
         start = json.dumps(self.start) if self.start else ""
         status = str(self.status or "-")
         return (
-            f"{self.game}  {self.turn:5}  {status:>6}  {self.bytes:6}  {self.ms:5}  "
-            f"{self.cause or '-':9}  {start}"
+            f"{self.game}  {self.turn:5}  {self.id or '-':12}  {status:>6}  {self.bytes:6}  "
+            f"{self.ms:5}  {self.cause or '-':9}  {start}"
         ).rstrip()
 
 
-HEADING = f"{'game':10}  {'turn':>5}  {'status':>6}  {'bytes':>6}  {'ms':>5}  {'cause':9}  answer"
+HEADING = (
+    f"{'game':10}  {'turn':>5}  {'request':12}  {'status':>6}  {'bytes':>6}  {'ms':>5}  "
+    f"{'cause':9}  answer"
+)
 
 
 def asked_of(game: str, turn: int, answer: Answer) -> Asked:
     got = answer.received
     start = fit_text(got.excerpt.decode(errors="backslashreplace"))
-    return Asked(game, turn, got.status, got.size, answer.latency, answer.cause, start)
+    what = (game, turn, got.status, got.size, answer.latency, answer.cause)
+    return Asked(*what, start, answer.request_id)
 
 
 def log_files(folder: Path, bot: str) -> tuple[Path, Path]:

@@ -3,6 +3,7 @@
 from __future__ import annotations
 
 import json
+import os
 import re
 from collections.abc import Sequence
 from dataclasses import dataclass, replace
@@ -22,6 +23,7 @@ LONGEST_SHOUT = 256
 LOOK_SECONDS = 5.0
 LAG = 0.1  # of the timeout: if the ladder itself is late by more, it asks again
 MOST_REPEATS = 20  # of a request, while the ladder itself is late
+ID_BYTES = 6  # of a request for a move
 
 Request = tuple[str, bytes]  # the address of a bot or of one of its calls, and the body
 
@@ -46,6 +48,7 @@ class Answer:
     answered_at: float = 0.0
     is_lagged: bool = False  # whether the ladder itself was late meanwhile
     received: Received = NOTHING
+    request_id: str = ""
 
 
 class BotClient:
@@ -105,7 +108,9 @@ class BotClient:
         return Exchange(target.place, request_of(method, target, body), seconds)
 
     def _exchange_for_move(self, url: str, body: bytes) -> Exchange:
-        return self._exchange("POST", url + "/move", body, self.timeout)
+        target, id = target_of(url + "/move"), os.urandom(ID_BYTES).hex()
+        request = request_of("POST", target, body, id)
+        return Exchange(target.place, request, self.timeout, id)
 
     def _was_late(self, exchange: Exchange) -> bool:
         """Whether the ladder itself was late while a request had no answer."""
@@ -128,6 +133,7 @@ class BotClient:
             answered_at=exchange.ended_at,
             is_lagged=is_lagged,
             received=received,
+            request_id=exchange.id,
         )
 
 

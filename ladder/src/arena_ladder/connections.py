@@ -25,10 +25,11 @@ class Exchange:
     clock of the loop. `is_timed_out` says that the time was over.
     """
 
-    def __init__(self, place: Place, request: bytes, seconds: float) -> None:
+    def __init__(self, place: Place, request: bytes, seconds: float, id: str = "") -> None:
         self.place = place
         self.request = request
         self.seconds = seconds
+        self.id = id
         self.loop = asyncio.get_running_loop()
         self.began_at = self.asked_at = self.ended_at = self.loop.time()
         self.timer = self.loop.call_later(seconds, self.time_out, "refused")

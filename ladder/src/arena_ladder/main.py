@@ -30,6 +30,7 @@ from arena_ladder.pairing import Part, part_of
 from arena_ladder.play import Job, locked, play
 from arena_ladder.program import add_program, program_of
 from arena_ladder.progress import Counts, ProgressBar
+from arena_ladder.results_page import add_page_command
 from arena_ladder.roster_commands import add_roster_commands
 from arena_ladder.seeds import seed_line, seed_line_of, with_seed
 from arena_ladder.store import Store, StoreFault, open_store
@@ -177,6 +178,7 @@ def parser() -> argparse.ArgumentParser:
     one.add_argument("into", metavar="INTO", type=Path)
     one.add_argument("folders", metavar="FOLDER", type=Path, nargs="+")
     one.set_defaults(run=run_merge)
+    add_page_command(commands)
     add_author_commands(commands)
     add_contests(commands)
     add_roster_commands(commands)

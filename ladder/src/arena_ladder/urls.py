@@ -47,10 +47,11 @@ def target_of(url: str) -> Target:
     return Target(Place(parts.scheme == "https", host, port), path, fields)
 
 
-def request_of(method: str, target: Target, body: bytes) -> bytes:
-    """The bytes of a request."""
+def request_of(method: str, target: Target, body: bytes, id: str = "") -> bytes:
+    """The bytes of a request, with its id if it has one."""
+    fields = f"{target.fields}\r\nX-Request-Id: {id}" if id else target.fields
     return (
-        f"{method} {target.path} HTTP/1.1\r\n{target.fields}\r\n"
+        f"{method} {target.path} HTTP/1.1\r\n{fields}\r\n"
         "User-Agent: arena-ladder\r\nAccept: */*\r\nAccept-Encoding: identity\r\n"
         f"Content-Type: application/json\r\nContent-Length: {len(body)}\r\n\r\n"
     ).encode() + body
