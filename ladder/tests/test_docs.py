@@ -8,7 +8,7 @@ import subprocess
 import sys
 from pathlib import Path
 
-from served import Served, run_ladder
+from served import HERE, Served, free_port, run_ladder
 
 from arena_ladder.config import read_config
 
@@ -53,3 +53,18 @@ def test_five_bots_give_the_standings_of_the_page(
     for line in table[1 : len(bots) + 1]:
         numbers = " +".join(line.split()[:7])
         assert re.search(rf"^    {numbers} ", PAGE, re.MULTILINE), line
+
+
+def test_small_bots_are_served_while_a_command_runs() -> None:
+    """The command reaches them; its status is that of the whole."""
+    port = free_port()
+    ask = (
+        "import http.client, sys\n"
+        f"bots = http.client.HTTPConnection('127.0.0.1', {port})\n"
+        "bots.request('GET', '/fleer/')\n"
+        "print(bots.getresponse().status)\n"
+        "sys.exit(7)\n"
+    )
+    words: list[str | Path] = [HERE.parent / "bots" / "serve", "--port", str(port)]
+    ran = subprocess.run([*words, sys.executable, "-c", ask], capture_output=True, text=True)
+    assert (ran.returncode, ran.stdout, ran.stderr) == (7, "200\n", "")
