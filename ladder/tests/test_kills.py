@@ -1,4 +1,4 @@
-"""Kills ladders, hosts and bots at drawn moments, and plays the ladders again."""
+"""Kills and stops ladders, hosts and bots at drawn moments, and plays the ladders again."""
 
 from __future__ import annotations
 
@@ -34,6 +34,10 @@ from arena_ladder.bots import CAUSES
 SEED = 20261127
 LONGEST = 120  # seconds of a run
 GAMES = 10
+STOP_SECONDS = 4.0  # for which a process is stopped
+SHORT_TIMEOUT = 1500  # milliseconds, less than that
+CLOCK = Path("/usr/lib/x86_64-linux-gnu/faketime/libfaketime.so.1")  # of Debian's libfaketime
+JUMPS = (3600, -86_400, 30 * 86_400)  # seconds from the true time
 
 
 @dataclass(frozen=True)
@@ -129,6 +133,68 @@ def test_host_that_is_killed_is_followed_by_another(
         assert process.returncode == 0, error
         assert error == "ladder: arena live ended with status -9; its games go on in another\n"
         assert_same(folder / "results", undisturbed, program)
+
+
+def skip_unless_all(request: pytest.FixtureRequest) -> None:
+    if not request.config.getoption("--all"):
+        pytest.skip("by hand, with --all: it takes a while")
+
+
+@pytest.mark.parametrize("is_host", [False, True], ids=["ladder", "host"])
+def test_process_that_is_stopped_for_a_while_changes_nothing(
+    request: pytest.FixtureRequest,
+    program: Path,
+    small_bots: Served,
+    undisturbed: Undisturbed,
+    tmp_path: Path,
+    is_host: bool,
+) -> None:
+    """No move is missed, although the process is stopped for longer than the timeout."""
+    skip_unless_all(request)
+    for at, moment in enumerate(drawn_moments(f"stop {is_host}", 3, undisturbed.size // 2)):
+        folder = tmp_path / str(at)
+        folder.mkdir()
+        config = config_in(folder, small_bots, timeout=SHORT_TIMEOUT)
+        process = start_play(config, program)
+        wait_for(process, lambda: bytes_played(folder / "results") > moment)
+        stopped = children_of(process.pid)[0] if is_host else process.pid
+        os.kill(stopped, signal.SIGSTOP)
+        time.sleep(STOP_SECONDS)
+        os.kill(stopped, signal.SIGCONT)
+        _, error = process.communicate(timeout=LONGEST)
+        assert process.returncode == 0, error
+        assert_same(folder / "results", undisturbed, program)
+
+
+def test_clock_that_is_set_changes_nothing(
+    request: pytest.FixtureRequest,
+    program: Path,
+    small_bots: Served,
+    undisturbed: Undisturbed,
+    tmp_path: Path,
+    monkeypatch: pytest.MonkeyPatch,
+) -> None:
+    """The clock of the ladder and its host jumps an hour on, a day back and a month on."""
+    skip_unless_all(request)
+    assert CLOCK.is_file(), "Debian's package libfaketime is missing"
+    config = config_in(tmp_path, small_bots)
+    clock = tmp_path / "clock"
+    clock.write_text("+0\n")
+    monkeypatch.setenv("FAKETIME_TIMESTAMP_FILE", str(clock))
+    monkeypatch.setenv("FAKETIME_NO_CACHE", "1")
+    monkeypatch.setenv("FAKETIME_DONT_FAKE_MONOTONIC", "1")
+    monkeypatch.setenv("LD_PRELOAD", str(CLOCK))
+    process = start_play(config, program)
+    for at, jump in enumerate(JUMPS, 1):
+        moment = undisturbed.size * at // (1 + len(JUMPS))
+        wait_for(process, lambda: bytes_played(tmp_path / "results") > moment)
+        clock.write_text(f"{jump:+}\n")
+        shown = subprocess.run(["date", "+%s"], capture_output=True, check=True).stdout
+        assert abs(int(shown) - time.time() - jump) < 60
+    _, error = process.communicate(timeout=LONGEST)
+    assert process.returncode == 0, error
+    monkeypatch.delenv("LD_PRELOAD")
+    assert_same(tmp_path / "results", undisturbed, program)
 
 
 def test_ladder_that_is_interrupted_says_so(
