@@ -28,6 +28,9 @@ def test_simulator_prints_what_the_page_says(program: Path) -> None:
     assert f"`{ran.stdout.strip()}`" in REFERENCE
 
 
+IS_BUSY = re.compile("ladder: (the ladder itself was late in|[a-z]+ answers in) ")
+
+
 def without_times(text: str) -> str:
     return re.sub(r"[0-9.]+ (s|a second|ms)\b", r"TIME \1", text)
 
@@ -35,7 +38,10 @@ def without_times(text: str) -> str:
 def test_five_bots_give_the_standings_of_the_page(
     program: Path, small_bots: Served, tmp_path: Path
 ) -> None:
-    """Games, results, turns and ratings are those of LADDER.md; times are not compared."""
+    """Games, results, turns and ratings are those of LADDER.md.
+
+    Times are not compared, nor what the ladder says of a busy machine.
+    """
     example = ROOT / "ladder" / "five.toml"
     bots = read_config(example).bots
     text = example.read_text().replace(
@@ -45,7 +51,7 @@ def test_five_bots_give_the_standings_of_the_page(
     config.write_text("timeout = 5000\n" + text.replace("out/five", str(tmp_path / "five")))
     ran = run_ladder("play", config, "--program", program)
     assert ran.returncode == 0, ran.stderr
-    summary = without_times(ran.stdout).splitlines()
+    summary = [it for it in without_times(ran.stdout).splitlines() if not IS_BUSY.match(it)]
     assert len(summary) == 3, summary
     assert all(f"    {line}\n" in without_times(PAGE) for line in summary), summary
     table = run_ladder("standings", tmp_path / "five").stdout.splitlines()

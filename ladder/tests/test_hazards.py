@@ -16,6 +16,7 @@ from served import (
     Served,
     bytes_played,
     children_of,
+    complaints,
     files_of,
     run_ladder,
     standings_without_times,
@@ -107,7 +108,7 @@ def test_ladder_without_a_map_writes_what_it_wrote(
         **{"folder": str(tmp_path / "results"), "turns": 40, "timeout": 5000, "seed": 1},
     )
     ran = run_ladder("play", path, "--program", program)
-    assert (ran.returncode, ran.stderr) == (0, "")
+    assert (ran.returncode, complaints(ran.stderr)) == (0, "")
     for text in files_of(tmp_path / "results").values():
         plan, _, begin, *moves, leave = text.splitlines(keepends=True)
         assert plan == b'{"games":[],"version":3}\n'
@@ -132,7 +133,7 @@ def royale(program: Path, small_bots: Served, tmp_path_factory: pytest.TempPathF
     """The results of the games of royale."""
     folder = tmp_path_factory.mktemp("royale")
     ran = run_ladder("play", royale_in(folder, small_bots), "--program", program)
-    assert (ran.returncode, ran.stderr) == (0, "")
+    assert (ran.returncode, complaints(ran.stderr)) == (0, "")
     return folder / "results"
 
 
@@ -194,7 +195,7 @@ def test_royale_that_is_killed_goes_on(
     os.kill(process.pid if what == "ladder" else host, signal.SIGKILL)
     process.communicate()
     again = run_ladder("play", path, "--program", program)
-    assert (again.returncode, again.stderr) == (0, "")
+    assert (again.returncode, complaints(again.stderr)) == (0, "")
     assert files_of(tmp_path / "results") == files_of(royale)
     assert standings_without_times(tmp_path / "results") == standings_without_times(royale)
     checked = run_ladder("check", tmp_path / "results", "--program", program)

@@ -20,6 +20,7 @@ from served import (
     Served,
     bytes_played,
     children_of,
+    complaints,
     files_of,
     is_running,
     run_ladder,
@@ -32,7 +33,7 @@ from served import (
 from arena_ladder.bots import CAUSES
 
 SEED = 20261127
-LONGEST = 120  # seconds of a run
+LONGEST = 600  # seconds of a run
 GAMES = 10
 STOP_SECONDS = 4.0  # for which a process is stopped
 SHORT_TIMEOUT = 1500  # milliseconds, less than that
@@ -113,7 +114,7 @@ def test_ladder_that_is_killed_goes_on(
         process.kill()
         process.communicate()
         again = run_ladder("play", config, "--program", program)
-        assert (again.returncode, again.stderr) == (0, "")
+        assert (again.returncode, complaints(again.stderr)) == (0, "")
         assert again.stdout.startswith(f"ladder: {GAMES} of {GAMES} games are done, ")
         assert_same(folder / "results", undisturbed, program)
         assert len(hosts) == 1 and not is_running(hosts[0]), "a host outlived its ladder"
@@ -131,7 +132,8 @@ def test_host_that_is_killed_is_followed_by_another(
         os.kill(host, signal.SIGKILL)
         out, error = process.communicate(timeout=LONGEST)
         assert process.returncode == 0, error
-        assert error == "ladder: arena live ended with status -9; its games go on in another\n"
+        told = complaints(error)
+        assert told == "ladder: arena live ended with status -9; its games go on in another\n"
         assert_same(folder / "results", undisturbed, program)
 
 
@@ -205,7 +207,8 @@ def test_ladder_that_is_interrupted_says_so(
     wait_for(process, lambda: bytes_played(tmp_path / "results") > undisturbed.size // 3)
     process.send_signal(signal.SIGTERM)
     _, error = process.communicate(timeout=LONGEST)
-    assert (process.returncode, error) == (130, "ladder: stopped; the same command goes on\n")
+    assert process.returncode == 130
+    assert complaints(error) == "ladder: stopped; the same command goes on\n"
     assert run_ladder("play", config, "--program", program).returncode == 0
     assert_same(tmp_path / "results", undisturbed, program)
 
@@ -288,7 +291,7 @@ def test_bots_that_die_lose_and_hold_up_no_game(
         wait_for(process, lambda: bytes_played(tmp_path / "results") > 20_000)
         mortal.process.kill()
     out, error = process.communicate(timeout=LONGEST)
-    assert (process.returncode, error) == (0, "")
+    assert (process.returncode, complaints(error)) == (0, "")
     rows = {row["bot"]: row for row in standings_without_times(tmp_path / "results")}
     for name, row in rows.items():
         causes = {cause: row[cause] for cause in CAUSES if row[cause] > 0}
