@@ -39,10 +39,11 @@ from arena_ladder.store import Store
 TIMEOUT = 500  # milliseconds
 MARGIN = 30  # before the timeout, within which an honest answer may be late
 MOST_EXCESS = 50  # milliseconds of a latency above what the bot measured
-MOST_HELD = 0.1  # seconds for which the ladder computes without looking at its connections
+MOST_HELD = 0.05  # seconds for which the ladder computes without looking at its connections
 BEAT_SECONDS = 0.004
 TICKS = os.sysconf("SC_CLK_TCK")
 SERVERS = 3  # processes of hostile bots
+SILENT_SECONDS = 600  # of a name server, more than a run takes on a busy machine
 HOSTILE = sorted(hostile.KINDS)
 GROUPS = [HOSTILE[at::4] for at in range(4)]
 
@@ -72,9 +73,9 @@ class Beats:
             if at > begin and at - late - BEAT_SECONDS < end
         )
 
-    def longest(self) -> float:
-        """The most seconds that the ladder computed between two beats."""
-        return max(own for _, _, own in self.rows)
+    def longest(self, begin: float) -> float:
+        """The most seconds between two beats that the ladder computed, after a moment."""
+        return max(own for at, _, own in self.rows if at > begin)
 
 
 def stolen() -> float:
@@ -197,7 +198,10 @@ def test_honest_bots_play_as_if_alone(
 
 
 def assert_unharmed(server: Served, beats: Beats, found: dict[tuple[str, str], Answer]) -> None:
-    """Checks the moves of the honest bots, and that the ladder never computed for long."""
+    """Checks the moves of the honest bots, and that the ladder never computed for long.
+
+    What it loads before it asks for the first move makes no bot late.
+    """
     measured = measured_by(server)
     judged = Judged()
     for (turn, bot), answer in found.items():
@@ -206,7 +210,7 @@ def assert_unharmed(server: Served, beats: Beats, found: dict[tuple[str, str], A
             judged.judge(f"{turn} {bot}", answer, measured.get(f"{turn} {bot}"), starved)
     assert judged.faults == []
     assert judged.moves > 50
-    assert beats.longest() < MOST_HELD
+    assert beats.longest(min(answer.asked_at for answer in found.values())) < MOST_HELD
 
 
 @pytest.mark.parametrize("kind", HOSTILE)
@@ -232,7 +236,7 @@ def test_silent_names_and_deaf_servers_harm_no_other(
 
     def silent(host: Any, *words: Any, **more: Any) -> Any:
         if str(host).endswith(".test"):
-            ends.wait(60)
+            ends.wait(SILENT_SECONDS)
         return resolve(host, *words, **more)
 
     monkeypatch.setattr(socket, "getaddrinfo", silent)
@@ -248,7 +252,7 @@ def test_silent_names_and_deaf_servers_harm_no_other(
         config = replace(config, bots=config.bots + more, rounds=2)
         began = time.monotonic()
         assert_unharmed(servers[0], *asyncio.run(played(config, program, monkeypatch)))
-        assert time.monotonic() - began < 50, "the run waited for a name"
+        assert time.monotonic() - began < SILENT_SECONDS / 2, "the run waited for a name"
         for it in filling:
             it.close()
     ends.set()
