@@ -187,6 +187,7 @@ def measured_by(server: Served) -> dict[str, float]:
     return found
 
 
+@pytest.mark.slow
 @pytest.mark.parametrize("kinds", GROUPS, ids=["first", "second", "third", "fourth"])
 def test_honest_bots_play_as_if_alone(
     program: Path,
@@ -229,6 +230,7 @@ def faults_of(server: Served, beats: Beats, found: dict[tuple[str, str], Answer]
     return judged.faults
 
 
+@pytest.mark.slow
 @pytest.mark.parametrize("kind", HOSTILE)
 def test_honest_bots_play_as_if_alone_beside_one_kind(
     request: pytest.FixtureRequest,
