@@ -102,6 +102,11 @@ def complaints(error: str) -> str:
     return error.replace(BUSY, "")
 
 
+def board_with(**members: Any) -> Any:
+    """A board for code that needs these members alone."""
+    return members
+
+
 def children_of(pid: int) -> list[int]:
     """The running child processes of a process."""
     found = []

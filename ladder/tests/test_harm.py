@@ -183,6 +183,7 @@ def measured_by(server: Served) -> dict[str, float]:
     return found
 
 
+@pytest.mark.slow
 @pytest.mark.parametrize("kinds", GROUPS, ids=["first", "second", "third", "fourth"])
 def test_honest_bots_play_as_if_alone(
     program: Path,
@@ -213,6 +214,7 @@ def assert_unharmed(server: Served, beats: Beats, found: dict[tuple[str, str], A
     assert beats.longest(min(answer.asked_at for answer in found.values())) < MOST_HELD
 
 
+@pytest.mark.slow
 @pytest.mark.parametrize("kind", HOSTILE)
 def test_honest_bots_play_as_if_alone_beside_one_kind(
     request: pytest.FixtureRequest,

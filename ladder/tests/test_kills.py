@@ -238,6 +238,7 @@ def test_ladder_with_few_descriptors_blames_no_bot(
     assert_same(tmp_path / "results", undisturbed, program)
 
 
+@pytest.mark.root
 def test_ladder_on_a_full_disk_goes_on_later(
     program: Path, small_bots: Served, undisturbed: Undisturbed, kills: int, tmp_path: Path
 ) -> None:

@@ -17,7 +17,7 @@ from pathlib import Path
 from typing import Any
 
 import pytest
-from served import Served, run_ladder, start_play, write_config
+from served import Served, board_with, run_ladder, start_play, write_config
 from testing import chromium  # of viewer/
 
 from arena_client import PROGRAM
@@ -167,7 +167,7 @@ def test_news_has_the_last_board_of_each_game_before_its_end() -> None:
     fixtures = [Fixture(f"r0001-t{at:03}", 1, ("a", "b")) for at in range(40)]
     for turn in (0, 1):
         for it in fixtures:
-            news.show(it, {"turn": turn})
+            news.show(it, board_with(turn=turn))
     for it in fixtures[20:]:
         news.end(outcome_of(it.name, "a"))
     first, second, third = (news.message() for _ in range(3))
@@ -185,7 +185,7 @@ def test_news_without_a_reader_do_not_grow() -> None:
     news = News()
     for at in range(500):
         fixture = Fixture(f"r0001-t{at:03}", 1, ("a", "b"))
-        news.show(fixture, {"turn": 0})
+        news.show(fixture, board_with(turn=0))
         news.end(outcome_of(fixture.name))
     assert (len(news.boards), len(news.changed), len(news.ended)) == (64, 64, 64)
 
@@ -255,14 +255,14 @@ def test_page_that_ends_or_hangs_is_served_again(
     async def work() -> None:
         address = Address("127.0.0.1", 0)
         async with PageLink(folder, address, lambda: "summary", told.append) as link:
-            link.show(GAME, {"turn": 5})
+            link.show(GAME, board_with(turn=5))
             assert link.page is not None
             first = link.page.process.pid
             await events_at(link.address, 2)
             link.page.process.send_signal(number)
             async with asyncio.timeout(60):
                 while link.page is None or link.page.process.pid == first:
-                    link.show(GAME, {"turn": 6, "long": "x" * 100_000})
+                    link.show(GAME, board_with(turn=6, long="x" * 100_000))
                     link.send()
                     await asyncio.sleep(0.05)
             await asyncio.sleep(0.5)

@@ -14,6 +14,7 @@ from pathlib import Path
 from typing import Any
 
 import pytest
+from served import board_with
 
 from arena_ladder.config import Bot
 from arena_ladder.merge import merge
@@ -33,7 +34,7 @@ def snake(name: str, out: int | None, cause: str | None = None, by: str | None =
 
 
 def results(over: bool, *snakes: Any) -> list[str]:
-    board = {"snakes": list(snakes), "over": over, "turn": 30}
+    board = board_with(snakes=list(snakes), over=over, turn=30)
     return [finish.result for finish in finishes_of(board)]
 
 

@@ -11,13 +11,13 @@ from dataclasses import asdict, dataclass
 from pathlib import Path
 from typing import Any
 
-from arena_client import PLAN, PLAN_WITH_HAZARDS
+from arena_client import PLAN, PLAN_WITH_HAZARDS, Mode
 from arena_ladder.maps import HazardMap, map_again
 from arena_ladder.starts import Cell, most_snakes
 from arena_ladder.urls import shown, target_of
 
 BOT_NAME = re.compile(r"[A-Za-z0-9][A-Za-z0-9_.-]{0,31}")
-MODES = ("standard", "solo", "constrictor", "wrapped")
+MODES = tuple(Mode)
 MAPS = ("standard", "royale")
 PAIRINGS = ("round_robin", "duels", "tables", "gauntlet", "rating")
 MOST_BOTS = 200

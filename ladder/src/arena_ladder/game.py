@@ -88,7 +88,7 @@ class Game:
         self.seats = {bot: Seat(bot, context.looks.get(bot, Look())) for bot in fixture.bots}
         self.tallies: dict[str, Tally] = {}
         self.answered_at: float | None = None
-        self.stay: Stay
+        self.stay: Stay | None = None
 
     async def play(self, host: Host) -> None:
         """Plays the game to its end, from where its files end.
@@ -140,7 +140,7 @@ class Game:
             )
 
     def is_done(self, board: Board) -> bool:
-        return bool(board["over"]) or board["turn"] >= self.context.config.rules.turns
+        return board["over"] or board["turn"] >= self.context.config.rules.turns
 
     async def play_turn(self, stay: Stay, files: GameFiles) -> None:
         """Asks the living snakes' bots for their moves, and plays them."""
@@ -184,6 +184,7 @@ class Game:
     def outcome(self) -> Outcome:
         """The result of the game, after it was played."""
         stay = self.stay
+        assert stay is not None
         return Outcome(
             name=self.fixture.name,
             round=self.fixture.round,

@@ -4,6 +4,7 @@ from __future__ import annotations
 
 import asyncio
 from collections.abc import Mapping
+from contextlib import suppress
 from pathlib import Path
 
 from arena_client import PLAN, Host, HostDied
@@ -30,13 +31,11 @@ class HostKeeper(Watch):
     async def __aenter__(self) -> HostKeeper:
         return self
 
-    async def __aexit__(self, kind: type[BaseException] | None, *rest: object) -> None:
+    async def __aexit__(self, kind: type[BaseException] | None, *_: object) -> None:
         if self._host is None:
             return
-        try:
-            await self._host.__aexit__(kind, *rest)
-        except HostDied:
-            pass  # all games that were played are stored
+        with suppress(HostDied):  # all games that were played are stored
+            await (self._host.close() if kind is None else self._host.kill())
 
     def count(self, answers: Mapping[str, Answer], own_seconds: float | None) -> None:
         """Resets the count of idle deaths: a turn was requested."""
@@ -46,7 +45,9 @@ class HostKeeper(Watch):
         """The running host; starts one if there is none."""
         async with self._lock:
             if self._host is None:
-                self._host = await Host(self.blocks, self.program, self.plan).__aenter__()
+                host = Host(self.blocks, self.program, self.plan)
+                await host.start()
+                self._host = host
             return self._host
 
     async def bury(self, host: Host, death: HostDied) -> bool:
@@ -60,7 +61,7 @@ class HostKeeper(Watch):
             self._host = None
             self.deaths += 1
             self.idle_deaths += 1
-            await host.__aexit__(HostDied, death)
+            await host.kill()
             is_fault = death.status < 0 or death.status in FAULTS
             if not is_fault or self.idle_deaths > MOST_IDLE_DEATHS or self.deaths > MOST_DEATHS:
                 raise death

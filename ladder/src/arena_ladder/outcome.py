@@ -5,9 +5,8 @@ from __future__ import annotations
 from collections import Counter
 from collections.abc import Iterable
 from dataclasses import dataclass, field
-from typing import Any
 
-from arena_client import Board
+from arena_client import Board, Snake
 from arena_ladder.bots import Answer
 from arena_ladder.payloads import living_of
 
@@ -55,7 +54,7 @@ def finishes_of(board: Board) -> tuple[Finish, ...]:
     return tuple(finish_of(snake, board) for snake in board["snakes"])
 
 
-def finish_of(snake: dict[str, Any], board: Board) -> Finish:
+def finish_of(snake: Snake, board: Board) -> Finish:
     return Finish(
         bot=snake["id"],
         result=result_of(snake, board),
@@ -67,7 +66,7 @@ def finish_of(snake: dict[str, Any], board: Board) -> Finish:
     )
 
 
-def result_of(snake: dict[str, Any], board: Board) -> str:
+def result_of(snake: Snake, board: Board) -> str:
     """A snake wins if it alone lives when the game is over.
 
     It draws if it lives in a game that is not over, or if no snake lives and it was among the last

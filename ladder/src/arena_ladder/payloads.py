@@ -7,7 +7,7 @@ from collections.abc import Iterable
 from dataclasses import dataclass, field
 from typing import Any
 
-from arena_client import Board
+from arena_client import Board, Snake
 from arena_ladder.config import Config
 
 
@@ -57,7 +57,7 @@ def game_text(config: Config, name: str) -> str:
     )
 
 
-def snake_text(snake: dict[str, Any], seat: Seat) -> str:
+def snake_text(snake: Snake, seat: Seat) -> str:
     """A snake of a board in the API's form, with the members about its bot."""
     return text_of(
         {
@@ -75,7 +75,7 @@ def snake_text(snake: dict[str, Any], seat: Seat) -> str:
     )
 
 
-def is_living(snake: dict[str, Any]) -> bool:
+def is_living(snake: Snake) -> bool:
     return snake["cause"] is None
 
 

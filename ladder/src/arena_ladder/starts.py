@@ -2,7 +2,7 @@
 
 from __future__ import annotations
 
-from collections.abc import Iterable
+from collections.abc import Sequence
 from typing import NamedTuple
 
 from arena_ladder.draws import Draw
@@ -87,7 +87,7 @@ def is_outward(place: int, head: int, centre: int) -> bool:
     return place < head < centre or centre < head < place
 
 
-def drawn_food(draw: Draw, width: int, height: int, heads: Iterable[Cell]) -> list[Cell]:
+def drawn_food(draw: Draw, width: int, height: int, heads: Sequence[Cell]) -> list[Cell]:
     """One food for each snake, on cells that no head is on or can reach in one step."""
     taken = {
         Cell(head.x + x, head.y + y)
@@ -95,4 +95,4 @@ def drawn_food(draw: Draw, width: int, height: int, heads: Iterable[Cell]) -> li
         for x, y in ((0, 0), (1, 0), (-1, 0), (0, 1), (0, -1))
     }
     free = [cell for cell in cells_of(width, height) if cell not in taken]
-    return draw.shuffled(free)[: len(list(heads))]
+    return draw.shuffled(free)[: len(heads)]

@@ -9,12 +9,11 @@ import termios
 import tty
 from collections.abc import Iterator, Sequence
 from contextlib import contextmanager
-from typing import Any
 
 from rich.console import Console
 from rich.text import Text
 
-from arena_client import Board
+from arena_client import Board, Snake
 from arena_ladder.payloads import is_living
 
 COLORS = ("green", "blue", "yellow", "magenta", "cyan", "red", "bright_green", "bright_blue")
@@ -66,7 +65,7 @@ def marks_of(board: Board) -> dict[tuple[int, int], tuple[str, str]]:
     return marks
 
 
-def state_of(snake: dict[str, Any]) -> str:
+def state_of(snake: Snake) -> str:
     """The health and the length of a snake, or how it went out."""
     if is_living(snake):
         return f"health {snake['health']}, length {len(snake['body'])}"
