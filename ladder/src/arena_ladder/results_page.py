@@ -36,7 +36,8 @@ async def serve_results(folder: Path, program: Path, address: Address) -> None:
     feed = Feed(lambda: results_of(folder))
     words: dict[str, Any] = {"summary": "", "left": "", "waits": ""}
     words |= {"boards": {}, "running": [], "ended": {}, "colours": {}}
-    seen = 0
+    seen = games_in(folder)
+    await feed.refresh()
     async with page(Calls(feed, folder, program), address) as served:
         print(f"ladder: the page is {served}", flush=True)
         while True:
