@@ -8,11 +8,14 @@ PROGRAM is crates/arena/out/arena if not given. PART is one of
     memory     N stays (100,000) come, play 20 turns and leave, 64 of them open at a time. Prints
                the peak of the resident memory in each tenth of the run, from /proc; a step of all
                64 is written at once, and the next one after its answers
+    open       stays that stay open: one of a million "show", one of 300,000 refused lines, one that
+               starts, moves and ends 100,000 times, and 64 of 100,000 lines each. Prints the peak
+               after the first thousand lines and at the end
     latency    with 64 stays open one line is written and its answer read, 100 times
     lines      6,400 such stays from a file, by `live` and by `serve` with one worker, in turn
 
 and all of them if not given. The status is 1 if the peak of the last tenth is more than 1.1 times
-that of the first, and else 0.
+that of the first, or if a peak rises by more than a megabyte while stays are open; and else 0.
 """
 import argparse
 import json
@@ -33,7 +36,10 @@ MOST_GROWTH = 1.1
 ASKED = 100  # timed lines
 ROUNDS_OF_FILE = 100
 RUNS_OF_FILE = 3
-PARTS = ("memory", "latency", "lines")
+PARTS = ("memory", "open", "latency", "lines")
+FIRST = 1_000  # lines before the first peak
+MOST_RISE = 1_000  # KiB
+MOST_AHEAD = 1 << 15  # bytes that are written before answers are read; a pipe takes twice as many
 NEW: dict = {
     "do": "new",
     "mode": "standard",
@@ -46,6 +52,14 @@ NEW: dict = {
 }
 ADMIT: dict = {"do": "admit", "quota": 4096}
 MOVE: dict = {"do": "move", "moves": {"s": "up", "t": "up"}}
+SHOW, BAD, END = {"do": "show"}, {"do": "jump"}, {"do": "end"}
+# Stays that stay open: what they are called, how many, the lines that each repeats, and how often.
+OPEN_STAYS: list = [
+    ("one shows", 1, [SHOW], 1_000_000),
+    ("one is refused", 1, [BAD], 300_000),
+    ("one starts, moves and ends", 1, [END, NEW, MOVE], 100_000),
+    ("64 show, are refused and start anew", OPEN, [SHOW, BAD, END, NEW], 25_000),
+]
 # The lines of each stay of a round, step by step: one line of each step has an answer.
 STEPS = [[ADMIT, NEW], *[[MOVE]] * TURNS, [{"do": "leave"}]]
 LINES = sum(map(len, STEPS))  # of a stay
@@ -126,6 +140,42 @@ def measure_memory(program, stays):
     return peaks[-1] <= MOST_GROWTH * peaks[0]
 
 
+def repeat(live, text, count):
+    """Writes the text that many times, each time after the answers to the one before."""
+    lines = text.count(b"\n")
+    for _ in range(count):
+        live.say(text)
+        live.hear(lines)
+
+
+def measure_open(program):
+    """Whether no peak rises by more than a megabyte after the first thousand lines."""
+    is_flat = True
+    for what, stays, steps, count in OPEN_STAYS:
+        live, names = Live(program), [f"g{number}" for number in range(stays)]
+        for name in names:
+            live.say(line(ADMIT, name) + line(NEW, name))
+        live.hear(stays)
+        round_lines = b"".join(line(members, name) for members in steps for name in names)
+        rounds = max(1, MOST_AHEAD // len(round_lines))
+        text, repeats = round_lines * rounds, count // rounds
+        first = -(-FIRST // text.count(b"\n"))
+        started = time.perf_counter()
+        repeat(live, text, first)
+        before = live.memory("VmHWM")
+        repeat(live, text, repeats - first)
+        after = live.memory("VmHWM")
+        seconds, lines = time.perf_counter() - started, repeats * text.count(b"\n")
+        print(
+            f"{what}: {lines:,} lines in {seconds:.1f} s,"
+            f" peak {before:,} KiB after {first * text.count(10):,}, {after:,} KiB at the end",
+            flush=True,
+        )
+        is_flat &= after <= before + MOST_RISE
+        live.end()
+    return is_flat
+
+
 def measure_latency(program):
     live, names = Live(program), [f"g{number}" for number in range(OPEN)]
     for name in names:
@@ -181,6 +231,8 @@ def main():
     is_flat = True
     if given.part in (None, "memory"):
         is_flat = measure_memory(given.program, given.stays)
+    if given.part in (None, "open"):
+        is_flat &= measure_open(given.program)
     if given.part in (None, "latency"):
         measure_latency(given.program)
     if given.part in (None, "lines"):

@@ -3,7 +3,7 @@ use Rattle.std.proofs.Common.{◌∙◌, ◌||◌, ap, ap₂}
 use Rattle.clap.specs.Words.{AddsArg, AddsSubcommand, App, Rule, with_rule, with_subcommand}
 use Rattle.clap.specs.declared.builder.arg.Arg.{Arg}
 use Rattle.clap.specs.declared.builder.command.Command.{Command}
-use Rattle.arena.specs.Words.{IsArgOf, IsCommandOf}
+use Rattle.arena.specs.inner.Words.{IsArgOf, IsCommandOf}
 
 pub adds_arg : (old new : Command) (arg : Arg) (app : App) (rule : Rule) → IsCommandOf app old → IsArgOf rule arg → AddsArg old arg new
     → IsCommandOf (with_rule app rule) new

@@ -11,7 +11,8 @@ use Rattle.clap.specs.declared.parser.matches.ArgMatches.{ArgMatches}
 use Rattle.clap.proofs.OnLiterals.{clap_on_literals}
 use Rattle.clap.specs.declared.error.ErrorKind.TheVariants.{OutOfMemory}
 use Rattle.std.specs.Prelude.{Result, Ok, Err, IsErrAnd, IfOk}
-use Rattle.arena.specs.Words.{IsCommandOf, arena_app, asked_in, asked_of, command_in, mistakes_in, serve_asked}
+use Rattle.arena.specs.Words.{arena_app, asked_in, asked_of, command_in, mistakes_in, serve_asked}
+use Rattle.arena.specs.inner.Words.{IsCommandOf}
 
 is_arena_simple : is_simple arena_app ≡ true
 unfolding arena_app clap_on_literals

@@ -1,21 +1,17 @@
 -- The request that the words of a command line make. clap's own definitions say how a command reads
 -- words; here are the commands, and what is read from their matches.
-use Rattle.std.specs.Prelude.{◌≡◌, false, ℕ, ◌∷◌, [], List, Bool, true, Option, Some, None, codes, option_and_then, unwrap_or, length, nat_le, nat_lt, if◌then◌else◌, pos, ◌^◌, ◌&&◌}
+use Rattle.std.specs.Prelude.{ℕ, ◌∷◌, [], List, Bool, true, Option, Some, None, codes, option_and_then, unwrap_or, length, nat_le, nat_lt, if◌then◌else◌, pos, ◌^◌, ◌&&◌}
 use Rattle.std.specs.List.{list_all}
 use Rattle.std.specs.Char.{digit_value}
 use Rattle.std.specs.Str.{bytes_eq}
 use Rattle.std.specs.Str.Parse.{digits_value, without_leading_plus}
-use Rattle.clap.specs.Words.{App, app_of, rule_of, Row, Rule, first_of, Kinds, fault_of, new_app, new_rule, one_of, subcommand_of, with_rule, with_subcommand}
+use Rattle.clap.specs.Words.{App, Row, Rule, first_of, Kinds, fault_of, new_app, new_rule, one_of, subcommand_of, with_rule, with_subcommand}
 use Rattle.clap.specs.Walk.{Text}
-use Rattle.clap.specs.declared.builder.arg.Arg.{Arg}
-use Rattle.clap.specs.declared.builder.command.Command.{Command}
-use Rattle.clap.specs.declared.builder.command.Command.TheViews.{out-Command}
 use Rattle.bs_program.specs.Asked.{Asked, serve, alone, live}
 use Rattle.clap.specs.declared.builder.action.ArgAction.TheVariants.{Set}
 use Rattle.clap.specs.declared.builder.value_parser.ValueParser.TheVariants.{Signed}
 
 -- The commands.
-
 abbrev pub file_rule : Rule
 file_rule = record (new_rule (codes "FILE")) { required = true; action = Some Set }
 
@@ -56,7 +52,6 @@ unfoldable pub arena_app : App
 arena_app = with_subcommand (with_subcommand (with_subcommand top_app serve_app.top) alone_app.top) live_app.top
 
 -- The requests.
-
 abbrev pub is_number : ℕ → Text → Bool
 is_number bits text = nat_lt 0 (length text) && (list_all (λ digit. nat_lt (digit_value digit) 10) text && nat_lt (digits_value 10 text) (2 ^ bits))
 
@@ -109,13 +104,3 @@ asked_of words = if nat_le (length words) 1 then serve_asked [] else asked_in (c
 -- the kinds of error that clap may give for the words; none if it accepts them
 unfoldable pub mistakes_in : List Text → Kinds
 mistakes_in words = fault_of arena_app words
-
--- clap's argument is this one
-pub record IsArgOf (rule : Rule) (arg : Arg) : Type 0 where
-  pub made : rule_of arg ≡ rule
-  pub local : arg.global ≡ false
-
--- clap's command is this one
-pub record IsCommandOf (app : App) (command : Command) : Type 0 where
-  pub made : app_of command ≡ app
-  pub local : (out-Command command).has_globals ≡ false

@@ -2,7 +2,8 @@
 ghost use Rattle.std.specs.Prelude.{◌≡◌, ◌≤◌, ◌∷◌, [], codes, length, map, None, Some, IfOk, IsOk, option_map, false, true};
 ghost use Rattle.std.specs.Prelude.{Bool};
 ghost use Rattle.clap.specs.Words.{App, FailsBy, app_of, found_of, new_app, rows_of, rule_of, with_rule};
-ghost use Rattle.arena.specs.Words.{alone_app, alone_asked, arena_app, asked_of, blocks_at, blocks_rule, file_rule, game_rule, live_app, serve_app, serve_asked, stay_rule, workers_rule, workers_at, stay_at, text_at, top_app, IsArgOf, IsCommandOf, command_in, mistakes_in, asked_in};
+ghost use Rattle.arena.specs.Words.{alone_app, alone_asked, arena_app, asked_of, blocks_at, blocks_rule, file_rule, game_rule, live_app, serve_app, serve_asked, stay_rule, workers_rule, workers_at, stay_at, text_at, top_app, command_in, mistakes_in, asked_in};
+ghost use Rattle.arena.specs.inner.Words.{IsArgOf, IsCommandOf};
 ghost use Rattle.bs_program.specs.Asked.{asked_for};
 ghost use Rattle.clap.specs.Words.{subcommand_rows_of};
 

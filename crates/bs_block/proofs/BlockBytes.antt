@@ -2,10 +2,11 @@
 use Rattle.std.proofs.Common.{◌≡◌, ℕ, ◌+◌, ◌≤◌, List, ◌++◌, subst, map, length, take, drop, Some, refl, sym, ap, ◌∙◌, arith, length-take, length-drop}
 use Rattle.std.proofs.lemmas.List.{length-map}
 use Rattle.std.specs.List.{refill, length_refill}
-use Rattle.bs_block.specs.Bytes.{range, with_range}
-use Rattle.bs_block.specs.BlockLayout.{IsBlock, bytes_of}
-use Rattle.bs_block.specs.RegionLends.{written_over}
-use Rattle.bs_block.specs.Region.{IsRun, somes, spliced}
+use Rattle.bs_block.specs.Bytes.{range}
+use Rattle.bs_block.specs.inner.Bytes.{with_range}
+use Rattle.bs_block.specs.inner.BlockLayout.{IsBlock, bytes_of}
+use Rattle.bs_block.specs.inner.RegionLends.{written_over}
+use Rattle.bs_block.specs.inner.Region.{IsRun, somes, spliced}
 use Rattle.bs_block.specs.declared.block.Block.TheInside.{Inside}
 use Rattle.bs_block.specs.declared.raw.Region.{Region}
 use Rattle.bs_block.proofs.Runs.{somes_map, length-spliced, run_within, appended, overwritten}

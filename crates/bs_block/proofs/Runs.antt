@@ -4,8 +4,9 @@ use Rattle.std.proofs.lemmas.List.{length-map, length-replicate, map-append, tak
 use Rattle.std.proofs.lemmas.Slice.{drop-append-drop}
 use Rattle.std.proofs.Math.Seq.{drop-append-add}
 use Rattle.std.specs.List.{refill, length_refill}
-use Rattle.bs_block.specs.Bytes.{range, with_range, extended, padded}
-use Rattle.bs_block.specs.Region.{somes, spliced}
+use Rattle.bs_block.specs.Bytes.{range, padded}
+use Rattle.bs_block.specs.inner.Bytes.{with_range, extended}
+use Rattle.bs_block.specs.inner.Region.{somes, spliced}
 use Rattle.bs_block.specs.Rounding.{rounded}
 use Rattle.bs_block.proofs.Rounded.{rounded_above}
 

@@ -1,7 +1,7 @@
 -- The bytes of a block once a `&mut` into it has ended.
 use Rattle.std.specs.Prelude.{ℕ, List, Option}
 use Rattle.std.specs.Borrow.{Fml, Bor, MutBor, RattleType, Array, Lends, follows_if, name_if_some, u8}
-use Rattle.bs_block.specs.Bytes.{with_range, extended}
+use Rattle.bs_block.specs.inner.Bytes.{with_range, extended}
 use Rattle.bs_block.specs.contracts.block.Block.{the_row}
 
 module _ (CAP : RattleType) (b : MutBor (List ℕ)) where

@@ -1,6 +1,5 @@
 -- A block as the list of its bytes.
 use Rattle.std.specs.Prelude.{◌≡◌, ℕ, ◌+◌, ◌-◌, ◌%◌, ◌≤◌, ◌<◌, List, ◌++◌, length, take, drop, replicate, Option, MatchOption}
-use Rattle.std.specs.List.{refill}
 use Rattle.bs_block.specs.Rounding.{rounded}
 use Rattle.bs_block.specs.declared.block.TheConstants.{MOST_CAPACITY}
 use Rattle.bs_block.specs.declared.rounding.TheConstants.{UNIT}
@@ -24,15 +23,6 @@ padded ws = ws ++ replicate (rounded (length ws) - length ws) 0
 -- the n bytes from at on
 abbrev pub range : ℕ → ℕ → List ℕ → List ℕ
 range at n xs = take n (drop at xs)
-
--- xs, with ws in place of the n bytes from `at` on; a ws of another length is cut to n bytes, or
--- filled up with the old bytes
-abbrev pub with_range : List ℕ → ℕ → ℕ → List ℕ → List ℕ
-with_range xs at n ws = take at xs ++ (refill n (range at n xs) ws ++ drop (at + n) xs)
-
--- xs, then ws, cut or filled with zeros to n bytes, then zeros up to the rounded size
-abbrev pub extended : List ℕ → ℕ → List ℕ → List ℕ
-extended xs n ws = xs ++ padded (refill n (replicate n 0) ws)
 
 -- what `push` returns, and the bytes after it
 abbrev pub Pushes : ℕ → List ℕ → List ℕ → Option ℕ → List ℕ → Type 0

@@ -28,7 +28,7 @@ impl<const CAP: usize> Model for Block<CAP> {
 
     ghost Value = { List ℕ };
 
-    ghost use Rattle.bs_block.specs.BlockLayout.{bytes_of, IsBlock};
+    ghost use Rattle.bs_block.specs.inner.BlockLayout.{bytes_of, IsBlock};
 
     ghost view = { λ b. bytes_of b };
 

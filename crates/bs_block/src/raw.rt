@@ -3,7 +3,7 @@ ghost use Rattle.std.specs.Prelude.{◌≡◌, ℕ, ◌+◌, ◌<◌, ◌≤◌,
 ghost use Rattle.std.specs.Borrow.{sem};
 ghost use base.Fml.{ftrue};
 ghost use denote.RawPtr.{Ptr};
-ghost use Rattle.bs_block.specs.Region.{IsRun, spliced};
+ghost use Rattle.bs_block.specs.inner.Region.{IsRun, spliced};
 ghost use Rattle.bs_block.specs.Ownership.{region_own, region_lent, deed_owns};
 
 use std::alloc::{AllocError, Allocator};
@@ -100,7 +100,7 @@ pub(crate) fn deallocate<A: Allocator>(
 }
 
 impl Region {
-    ghost use Rattle.bs_block.specs.RegionLends.{lends_run};
+    ghost use Rattle.bs_block.specs.inner.RegionLends.{lends_run};
 
     pub(crate) fn write(&mut self, base: Base, at: usize, byte: u8)
         requires { (base.ptr ≡ self.old.at) × (at < length self.old.slots) }

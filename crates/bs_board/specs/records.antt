@@ -1,5 +1,4 @@
 -- The bytes of a board.
-pub mod Decoder
 pub mod FitSnake
 pub mod Kept
 pub mod Layout

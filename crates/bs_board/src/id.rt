@@ -28,7 +28,7 @@ pub struct Id {
 
 impl Model for Id {
     ghost use Rattle.std.specs.Prelude.{ℕ, List};
-    ghost use Rattle.bs_board.specs.Ids.{bytes_of};
+    ghost use Rattle.bs_board.specs.inner.Ids.{bytes_of};
 
     ghost Value = { List ℕ };
 

@@ -6,7 +6,8 @@ use Rattle.bs_calls.specs.declared.fault.Fault.{Fault}
 use Rattle.bs_calls.specs.declared.fault.Fault.TheVariants.{Room}
 use Rattle.bs_calls.specs.declared.orders.SeatOrders.{SeatOrders}
 use Rattle.bs_calls.specs.BySeat.{turn_by_seat}
-use Rattle.bs_calls.specs.Records.{Begins, HasNoTurn, IsNext, IsTurn}
+use Rattle.bs_calls.specs.Records.{Begins, HasNoTurn, IsTurn}
+use Rattle.bs_calls.specs.inner.Records.{IsNext}
 
 pub has_turn : (old : List ℕ) (orders : SeatOrders) (next : Board) → IsNext old orders next
     → (r : Result ℕ Fault) (new : List ℕ) (room : ℕ)

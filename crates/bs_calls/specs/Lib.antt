@@ -1,3 +1,4 @@
 pub mod BySeat
 pub mod Records
 pub mod Setups
+pub mod inner

@@ -1,5 +1,5 @@
 -- What the calls say of records.
-use Rattle.std.specs.Prelude.{◌≡◌, ℕ, ◌<◌, ◌≤◌, List, length, take, Option, Some, None, ⊤}
+use Rattle.std.specs.Prelude.{◌≡◌, ℕ, ◌<◌, ◌≤◌, List, length, take, Some, None, ⊤}
 use Rattle.bs_board.specs.declared.boards.board.Board.{Board}
 use Rattle.bs_board.specs.declared.limits.TheConstants.{LAST_TURN}
 use Rattle.bs_board.specs.boards.Legal.{IsLegal}
@@ -33,18 +33,6 @@ IsUnread bytes LastTurn = ⊥
 IsUnread bytes Room = ⊥
 IsUnread bytes Memory = ⊤
 
--- a turn of the record's board leads to this legal board
-abbrev pub IsNext : List ℕ → SeatOrders → Board → Type 0
-IsNext bytes orders next = (b : Board) × IsRecordOf bytes b × IsLegal next × (next ≡ turn_by_seat orders b)
-
--- why there is no next board
-abbrev pub HasNoNext : List ℕ → Fault → Type 0
-HasNoNext bytes NotARecord = IsNoRecord bytes
-HasNoNext bytes NotASetup = ⊥
-HasNoNext bytes LastTurn = (b : Board) × IsRecordOf bytes b × LAST_TURN ≤ b.turn
-HasNoNext bytes Room = ⊥
-HasNoNext bytes Memory = ⊤
-
 -- old is the record of a legal board, and the first n bytes of new are that of the board after the turn
 abbrev pub IsTurn : List ℕ → SeatOrders → List ℕ → ℕ → Type 0
 IsTurn old orders new n = (b : Board) × IsRecordOf old b × Begins new n (turn_by_seat orders b)
@@ -57,18 +45,6 @@ HasNoTurn old orders room LastTurn = (b : Board) × IsRecordOf old b × LAST_TUR
 HasNoTurn old orders room Room =
     (b : Board) × IsRecordOf old b × room < length (record_of (turn_by_seat orders b))
 HasNoTurn old orders room Memory = ⊤
-
--- the first board of the setup, which is legal
-abbrev pub IsFirst : SeatSetup → Board → Type 0
-IsFirst s b = (setup : Setup) × (setup_by_seat s ≡ Some setup) × IsLegal b × (b ≡ first_board setup)
-
--- why there is no setup
-abbrev pub HasNoSetup : SeatSetup → Fault → Type 0
-HasNoSetup s NotARecord = ⊥
-HasNoSetup s NotASetup = setup_by_seat s ≡ None
-HasNoSetup s LastTurn = ⊥
-HasNoSetup s Room = ⊥
-HasNoSetup s Memory = ⊤
 
 -- the first n bytes are the record of the setup's first board
 abbrev pub IsStart : SeatSetup → List ℕ → ℕ → Type 0

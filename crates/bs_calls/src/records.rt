@@ -7,7 +7,8 @@ ghost use Rattle.bs_board.specs.declared.boards.board.Board.{Board as AnyBoard};
 ghost use Rattle.bs_board.specs.records.Record.{record_of};
 ghost use Rattle.bs_calls.specs.declared.fault.Fault.TheVariants.{Room};
 ghost use Rattle.bs_calls.specs.Setups.{setup_by_seat};
-ghost use Rattle.bs_calls.specs.Records.{Begins, HasNoNext, HasNoSetup, HasNoStart, HasNoTurn, IsFirst, IsNext, IsRecordOf, IsStart, IsTurn, IsUnread};
+ghost use Rattle.bs_calls.specs.Records.{Begins, HasNoStart, HasNoTurn, IsRecordOf, IsStart, IsTurn, IsUnread};
+ghost use Rattle.bs_calls.specs.inner.Records.{HasNoNext, HasNoSetup, IsFirst, IsNext};
 
 use crate::fault::Fault;
 use crate::front::front;

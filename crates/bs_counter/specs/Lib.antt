@@ -2,3 +2,4 @@ pub mod Keys
 pub mod Missing
 pub mod Outcomes
 pub mod Tally
+pub mod inner

@@ -23,7 +23,8 @@ pub struct PartKey<T: Parted> {
 
 impl<T: Parted> Model for PartKey<T> {
     ghost use Rattle.std.specs.Arc.{arc_value};
-    ghost use Rattle.bs_counter.specs.Keys.{Key, key_at, IsKeyAt};
+    ghost use Rattle.bs_counter.specs.Keys.{Key};
+    ghost use Rattle.bs_counter.specs.inner.Keys.{key_at, IsKeyAt};
 
     ghost Value = { Key };
 

@@ -18,7 +18,7 @@ use Rattle.bs_board.specs.boards.Wrap.{is_wrapped, wrap_of}
 use Rattle.bs_board.specs.commands.Setup.{is_side}
 use Rattle.bs_board.specs.records.FitSnake.{IsFitSnake, IsKillerInRange, IsOutInRange}
 use Rattle.bs_game.specs.declared.view.View.{View}
-use Rattle.bs_rules.specs.Motion.{IsMovable, moved, given_to}
+use Rattle.bs_rules.specs.Motion.{moved, given_to, IsMovable}
 use Rattle.bs_rules.proofs.Movable.{legal_is_movable, near_from_on_board, near_largest}
 use Rattle.bs_rules.proofs.Sound.{moves, IsMoved, later}
 use Rattle.bs_fiber.specs.declared.input.Input.{Input}

@@ -3,7 +3,8 @@ use Rattle.std.proofs.Common.{◌≡◌, ℕ, zero, suc, ◌+◌, ◌-◌, ◌*�
 use Rattle.std.specs.List.{refill}
 use Rattle.std.proofs.lemmas.List.{append-nil, take_more, take_all}
 use Rattle.std.proofs.lemmas.List.Elements.{All-head, All-tail, All-take, All-get_or}
-use Rattle.bs_block.specs.Bytes.{padded, range, extended}
+use Rattle.bs_block.specs.Bytes.{padded, range}
+use Rattle.bs_block.specs.inner.Bytes.{extended}
 use Rattle.bs_block.specs.Rounding.{rounded}
 use Rattle.bs_block.proofs.Runs.{length-padded}
 use Rattle.bs_board.specs.declared.boards.snake.Snake.{Snake}
@@ -13,7 +14,8 @@ use Rattle.bs_board.proofs.Utf8.{short_text}
 use Rattle.bs_board.proofs.records.Lengths.{length_of_snake}
 use Rattle.bs_pool.specs.declared.owned.Owned.{Owned}
 use Rattle.bs_fiber.specs.declared.piece.Piece.{Piece}
-use Rattle.bs_fiber.specs.Frames.{IsPieceOf, frame_of, pieces_from}
+use Rattle.bs_fiber.specs.Frames.{frame_of, pieces_from}
+use Rattle.bs_fiber.specs.inner.Frames.{IsPieceOf}
 
 -- ---- sizes
 

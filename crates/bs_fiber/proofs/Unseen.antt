@@ -22,7 +22,8 @@ use Rattle.bs_fiber.specs.declared.input.Input.{Input}
 use Rattle.bs_fiber.specs.declared.out.Out.{Out}
 use Rattle.bs_fiber.specs.declared.out.Out.TheVariants.{Goes, Answered}
 use Rattle.bs_fiber.specs.Seeing.{IsBoardOf, IsSeen}
-use Rattle.bs_fiber.specs.Work.{begun, move_begun, shown}
+use Rattle.bs_fiber.specs.Work.{begun}
+use Rattle.bs_fiber.specs.inner.Work.{move_begun, shown}
 use Rattle.bs_fiber.proofs.Joined.{seen_board}
 
 -- there is a board exactly if there is a record

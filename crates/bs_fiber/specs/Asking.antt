@@ -1,10 +1,7 @@
 -- The data of a command that its Begin needs.
-use Rattle.std.specs.Prelude.{◌≡◌, ℕ, true, false, Option, Some, None}
+use Rattle.std.specs.Prelude.{ℕ, Option, Some, None}
 use Rattle.bs_board.specs.declared.commands.command.Command.{Command}
 use Rattle.bs_board.specs.declared.commands.command.Command.TheVariants as command
-use Rattle.bs_game.specs.Reasons.{is_move}
-use Rattle.bs_fiber.specs.declared.queued.BeginData.{BeginData}
-use Rattle.bs_fiber.specs.declared.queued.BeginData.TheVariants as begin
 
 -- the turn whose board a command names
 abbrev pub asked_turn : Command → Option ℕ
@@ -15,11 +12,3 @@ asked_turn (command.Turn at) = Some at
 asked_turn command.Free = None
 asked_turn command.End = None
 asked_turn command.Bad = None
-
--- a handle is one to the command; a turn is the one that the command names; moves are marked
-abbrev pub IsBeginDataOf : Command → BeginData → Type 0
-IsBeginDataOf c begin.Nothing = (asked_turn c ≡ None) × (is_move c ≡ false)
-IsBeginDataOf c (begin.Setup handle) = (handle ≡ c) × (asked_turn c ≡ None) × (is_move c ≡ false)
-IsBeginDataOf c (begin.Orders handle) = (handle ≡ c) × (asked_turn c ≡ None) × (is_move c ≡ true)
-IsBeginDataOf c begin.MoveTaken = (asked_turn c ≡ None) × (is_move c ≡ true)
-IsBeginDataOf c (begin.Turn at) = (asked_turn c ≡ Some at) × (is_move c ≡ false)

@@ -7,3 +7,4 @@ pub mod PartOf
 pub mod Seeing
 pub mod Tickets
 pub mod Work
+pub mod inner

@@ -4,9 +4,6 @@ use Rattle.bs_board.specs.declared.boards.board.Board.{Board}
 use Rattle.bs_board.specs.boards.Wrap.{wrap_of}
 use Rattle.bs_board.specs.declared.commands.command.Command.{Command}
 use Rattle.bs_board.specs.declared.commands.command.Command.TheVariants as command
-use Rattle.bs_board.specs.declared.commands.reply.Refusal.{Refusal}
-use Rattle.bs_board.specs.declared.commands.command.Word.{Word}
-use Rattle.bs_board.specs.declared.commands.reply.Reply.TheVariants.{Refused, Shown}
 use Rattle.bs_board.specs.declared.boards.point.Direction.{Direction}
 use Rattle.bs_board.specs.declared.boards.snake.Snake.{Snake}
 use Rattle.bs_rules.specs.Motion.{moved, given_to}
@@ -14,7 +11,7 @@ use Rattle.bs_game.specs.declared.reply.Effect.{Effect}
 use Rattle.bs_game.specs.declared.reply.Effect.TheVariants as effect
 use Rattle.bs_game.specs.declared.view.View.{View}
 use Rattle.bs_game.specs.Reasons.{is_move, first_reason}
-use Rattle.bs_game.specs.View.{answer_of, answer_with}
+use Rattle.bs_game.specs.View.{answer_of}
 use Rattle.bs_fiber.specs.declared.input.Input.{Input}
 use Rattle.bs_fiber.specs.declared.job.JobKind.{JobKind}
 use Rattle.bs_fiber.specs.declared.job.JobKind.TheVariants.{Begin, Part, Join}
@@ -30,15 +27,6 @@ goes view command = is_move command && is_none (first_reason view command)
 
 abbrev pub begun : View → Command → Out
 begun view command = if goes view command then Goes else Answered (answer_of view command)
-
--- `begun` of a move, by the reason that refuses it
-abbrev pub move_begun : Option Refusal → Out
-move_begun None = Goes
-move_begun (Some reason) = Answered (answer_with (Refused reason))
-
--- a board that is shown
-abbrev pub shown : Word → Board → ℕ → Out
-shown word board charge = Answered (record { reply = Shown word board charge; effect = effect.Keep })
 
 -- the number of parts: each has two seats, the last one has one if the number of seats is odd
 abbrev pub parts_of : ℕ → ℕ

@@ -10,7 +10,8 @@ ghost use Rattle.bs_game.specs.declared.view.View.{View as AnyView};
 ghost use Rattle.bs_game.specs.View.{IsFitView};
 ghost use Rattle.bs_fiber.specs.Fit.{IsFitGame};
 ghost use Rattle.bs_fiber.specs.Seeing.{IsSeen};
-ghost use Rattle.bs_fiber.specs.Work.{goes, begun, move_begun, shown};
+ghost use Rattle.bs_fiber.specs.Work.{goes, begun};
+ghost use Rattle.bs_fiber.specs.inner.Work.{move_begun, shown};
 
 use crate::input::Input;
 use crate::out::Out;

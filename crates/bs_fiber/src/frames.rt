@@ -5,7 +5,8 @@ ghost use Rattle.bs_block.specs.Bytes.{HasRoom, padded, range};
 ghost use Rattle.bs_board.specs.declared.boards.snake.Snake.{Snake as AnySnake};
 ghost use Rattle.bs_board.specs.records.FitSnake.{IsFitSnake};
 ghost use Rattle.bs_board.specs.records.Record.{snake_record};
-ghost use Rattle.bs_fiber.specs.Frames.{IsPieceOf, frame_of};
+ghost use Rattle.bs_fiber.specs.Frames.{frame_of};
+ghost use Rattle.bs_fiber.specs.inner.Frames.{IsPieceOf};
 ghost use Rattle.bs_fiber.specs.Tickets.{bytes_of, frames_in};
 
 use crate::contents::LEAST_CAPACITY;

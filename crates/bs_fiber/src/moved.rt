@@ -20,7 +20,7 @@ pub struct Moved {
 impl Model for Moved {
     ghost use Rattle.std.specs.Prelude.{List};
     ghost use Rattle.bs_board.specs.declared.boards.snake.Snake.{Snake};
-    ghost use Rattle.bs_fiber.specs.Frames.{AreFramed};
+    ghost use Rattle.bs_fiber.specs.inner.Frames.{AreFramed};
 
     ghost Value = { List Snake };
 

@@ -1,7 +1,8 @@
 //! A queued command, with the data that its Begin job needs.
 ghost use Rattle.std.specs.Prelude.{◌≡◌, IfOk, IfSome};
 ghost use Rattle.bs_board.specs.declared.commands.command.Command.{Command};
-ghost use Rattle.bs_fiber.specs.Asking.{IsBeginDataOf, asked_turn};
+ghost use Rattle.bs_fiber.specs.Asking.{asked_turn};
+ghost use Rattle.bs_fiber.specs.inner.Asking.{IsBeginDataOf};
 ghost use Rattle.bs_game.specs.Reasons.{is_move};
 
 use crate::shared::SharedCommand;
@@ -63,7 +64,7 @@ pub struct QueuedCommand {
 
 impl Model for QueuedCommand {
     ghost use Rattle.bs_board.specs.declared.commands.command.Command.{Command};
-    ghost use Rattle.bs_fiber.specs.Asking.{IsBeginDataOf};
+    ghost use Rattle.bs_fiber.specs.inner.Asking.{IsBeginDataOf};
 
     ghost Value = { Command };
 

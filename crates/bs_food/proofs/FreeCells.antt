@@ -5,7 +5,8 @@ use Rattle.bs_board.specs.declared.boards.point.Point.{Point}
 use Rattle.bs_board.specs.declared.boards.board.Board.{Board}
 use Rattle.bs_board.specs.boards.Cell.{is_same_cell, cell_index}
 use Rattle.bs_food.specs.Free.{point_at, row_of_cells, free_cells, is_free_cell, stands_on}
-use Rattle.bs_food.specs.Marks.{MarksCells, MarksSnakes, is_marked, unmarked}
+use Rattle.bs_food.specs.Marks.{MarksCells, MarksSnakes, is_marked}
+use Rattle.bs_food.specs.inner.Marks.{unmarked}
 use Rattle.std.proofs.lemmas.List.Elements.{filter-append}
 use Rattle.bs_food.proofs.Rows.{row_more, flat_range_more}
 

@@ -11,7 +11,8 @@ use Rattle.bs_board.specs.boards.Cell.{is_same_cell, is_on_board, cell_index}
 use Rattle.bs_board.proofs.Chains.{and_both}
 use Rattle.bs_board.proofs.boards.CellsOnBoard.{StandsAt, stands_at, same_int, int_is}
 use Rattle.bs_food.specs.Free.{point_at}
-use Rattle.bs_food.specs.Marks.{MarksCell, is_marked}
+use Rattle.bs_food.specs.Marks.{is_marked}
+use Rattle.bs_food.specs.inner.Marks.{MarksCell}
 
 pub place_fits : (width height : ℕ) (p : Point) → is_on_board width height p ≡ true → cell_index width p < width * height
 place_fits width height p on =

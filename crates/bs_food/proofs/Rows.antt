@@ -6,7 +6,8 @@ use Rattle.std.proofs.lemmas.List.FromFn.{filter_of_map_range_with_len_more}
 use Rattle.std.proofs.lemmas.Grind.{flat_map-append}
 use Rattle.bs_board.specs.declared.boards.point.Point.{Point}
 use Rattle.bs_food.specs.Free.{point_at, row_of_cells}
-use Rattle.bs_food.specs.Marks.{is_marked, unmarked, unmarked_cell, unmarked_row}
+use Rattle.bs_food.specs.Marks.{is_marked}
+use Rattle.bs_food.specs.inner.Marks.{unmarked, unmarked_cell, unmarked_row}
 
 -- one more column
 pub row_more : (p : Point → Bool) (x y : ℕ)

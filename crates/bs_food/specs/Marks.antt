@@ -1,10 +1,10 @@
--- Marks of a board's cells by their index. Only the contracts of private functions cite them.
-use Rattle.std.specs.Prelude.{◌≡◌, ℕ, ◌<◌, Bool, false, not, ◌||◌, if◌then◌else◌, List, [], ◌∷◌, slice_index_or, filter, flat_map}
-use Rattle.std.specs.List.{list_any, range_with_len}
+-- Marks of a board's cells by their index.
+use Rattle.std.specs.Prelude.{◌≡◌, ℕ, ◌<◌, Bool, false, ◌||◌, List, slice_index_or}
+use Rattle.std.specs.List.{list_any}
 use Rattle.bs_board.specs.declared.boards.point.Point.{Point}
 use Rattle.bs_board.specs.declared.boards.snake.Snake.{Snake}
 use Rattle.bs_board.specs.boards.Cell.{is_same_cell, cell_index}
-use Rattle.bs_food.specs.Free.{point_at, row_of_cells, stands_on}
+use Rattle.bs_food.specs.Free.{point_at, stands_on}
 
 abbrev pub is_marked : ℕ → List Bool → Point → Bool
 is_marked width marks p = slice_index_or marks (cell_index width p) false
@@ -14,22 +14,8 @@ abbrev pub AddMarks : ℕ → ℕ → (Point → Bool) → List Bool → List Bo
 AddMarks width height test old new =
     (x y : ℕ) → x < width → y < height → is_marked width new (point_at x y) ≡ (is_marked width old (point_at x y) || test (point_at x y))
 
-pub record MarksCell (width height : ℕ) (cell : Point) (old new : List Bool) : Type 0 where
-  pub adds : AddMarks width height (λ p. is_same_cell p cell) old new
-
 pub record MarksCells (width height : ℕ) (cells : List Point) (old new : List Bool) : Type 0 where
   pub adds : AddMarks width height (λ p. list_any (is_same_cell p) cells) old new
 
 pub record MarksSnakes (width height : ℕ) (snakes : List Snake) (old new : List Bool) : Type 0 where
   pub adds : AddMarks width height (λ p. list_any (stands_on p) snakes) old new
-
--- the cell itself, if it has no mark
-abbrev pub unmarked_cell : ℕ → ℕ → ℕ → List Bool → List Point
-unmarked_cell width x y marks = if not (is_marked width marks (point_at x y)) then point_at x y ∷ [] else []
-
--- the cells of a row that have no mark
-abbrev pub unmarked_row : ℕ → ℕ → List Bool → List Point
-unmarked_row width y marks = filter (λ p. not (is_marked width marks p)) (row_of_cells width y)
-
-abbrev pub unmarked : ℕ → ℕ → List Bool → List Point
-unmarked width height marks = flat_map (λ y. unmarked_row width y marks) (range_with_len 0 height)

@@ -2,7 +2,7 @@
 
 ghost use Rattle.std.specs.Prelude.{◌≡◌, ◌≤◌, ◌+◌, ◌*◌, ◌<◌, ◌++◌, IfOk, OnOk, length, replicate, false};
 ghost use Rattle.bs_food.specs.Free.{free_cells};
-ghost use Rattle.bs_food.specs.Marks.{unmarked, unmarked_cell, unmarked_row};
+ghost use Rattle.bs_food.specs.inner.Marks.{unmarked, unmarked_cell, unmarked_row};
 
 use crate::marks::{mark_all, mark_snakes};
 use bs_board::{Board, Point};

@@ -2,7 +2,8 @@
 
 ghost use Rattle.std.specs.Prelude.{◌≡◌, ◌<◌, ◌*◌, true, length};
 ghost use Rattle.bs_board.specs.boards.Cell.{is_on_board, cell_index};
-ghost use Rattle.bs_food.specs.Marks.{MarksCell, MarksCells, MarksSnakes};
+ghost use Rattle.bs_food.specs.Marks.{MarksCells, MarksSnakes};
+ghost use Rattle.bs_food.specs.inner.Marks.{MarksCell};
 
 use bs_board::{Point, Snake};
 

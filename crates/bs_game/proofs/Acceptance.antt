@@ -24,7 +24,8 @@ use Rattle.bs_rules.specs.Turn.{finished, turn_of}
 use Rattle.bs_rules.proofs.TurnLegal.{turn_is_legal}
 use Rattle.bs_game.specs.declared.view.View.{View}
 use Rattle.bs_game.specs.Reasons.{early_refusals, first_reason, is_over_quota, new_board, reason_against, speaks_against}
-use Rattle.bs_game.specs.View.{IsFitView, answer_of, answer_with, accepted_reply, reply_to, shown_as_new, shown_within_quota, reply_or_refusal, unless_refused}
+use Rattle.bs_game.specs.View.{IsFitView, answer_of, answer_with, accepted_reply, reply_to, shown_as_new, reply_or_refusal, unless_refused}
+use Rattle.bs_game.specs.inner.View.{shown_within_quota}
 
 -- the quota is judged after all other reasons
 

@@ -7,9 +7,11 @@ use Rattle.bs_board.specs.declared.commands.command.Word.{Word}
 use Rattle.bs_board.specs.commands.Orders.{Orders}
 use Rattle.bs_rules.specs.Motion.{moved_board}
 use Rattle.bs_game.specs.declared.view.View.{View}
-use Rattle.bs_game.specs.Joining.{IsMovedFrom, view_within}
+use Rattle.bs_game.specs.Joining.{IsMovedFrom}
+use Rattle.bs_game.specs.inner.Joining.{view_within}
 use Rattle.bs_game.specs.Reasons.{first_reason}
-use Rattle.bs_game.specs.View.{IsFitView, shown_within_quota}
+use Rattle.bs_game.specs.View.{IsFitView}
+use Rattle.bs_game.specs.inner.View.{shown_within_quota}
 
 -- a view that accepts the move has its own quota and charge
 pub moved_from : (view : View) (orders : Orders) (moved : Board) → IsFitView view → first_reason view (command.Move orders) ≡ None

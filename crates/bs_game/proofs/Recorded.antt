@@ -14,7 +14,7 @@ use Rattle.bs_game.specs.declared.reply.Answer.{Answer}
 use Rattle.bs_game.specs.Answer.{Outcome}
 use Rattle.bs_game.specs.Game.{Game, IsGame, last_board, board_of_turn, game_charge, board_charge}
 use Rattle.bs_game.specs.Law.{IsAnswerTo, effected}
-use Rattle.bs_game.specs.Recorded.{IsRecorded}
+use Rattle.bs_game.specs.inner.Recorded.{IsRecorded}
 use Rattle.bs_game.specs.Turns.{is_kept, place_of_turn, at_place}
 use Rattle.bs_game.proofs.Games.{nothing_is_a_game}
 use Rattle.bs_game.proofs.KeptTurns.{places, few_turns}

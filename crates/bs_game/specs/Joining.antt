@@ -9,10 +9,6 @@ use Rattle.bs_game.specs.declared.view.View.{View}
 use Rattle.bs_game.specs.Reasons.{first_reason}
 use Rattle.bs_game.specs.View.{IsFitView}
 
--- a view without boards
-abbrev pub view_within : ℕ → ℕ → View
-view_within quota charge = record { quota = quota; charge = charge; kept = 0; last = None; asked = None }
-
 -- a view with that quota and that charge that allows the move, and whose last board with all seats
 -- moved is `board`
 pub record IsMovedFrom (most charged : ℕ) (orders : Orders) (board : Board) (view : View) : Type 0 where

@@ -4,6 +4,6 @@ pub mod Game
 pub mod Joining
 pub mod Law
 pub mod Reasons
-pub mod Recorded
 pub mod Turns
 pub mod View
+pub mod inner

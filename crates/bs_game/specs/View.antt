@@ -1,5 +1,5 @@
 -- The reply to a command, and its effect on the records, from a view of the game.
-use Rattle.std.specs.Prelude.{◌+◌, ◌≤◌, Option, Some, None, if◌then◌else◌, IfSome}
+use Rattle.std.specs.Prelude.{◌+◌, ◌≤◌, Option, Some, None, IfSome}
 use Rattle.bs_board.specs.declared.boards.board.Board.{Board}
 use Rattle.bs_board.specs.declared.commands.command.Command.{Command}
 use Rattle.bs_board.specs.declared.commands.command.Command.TheVariants as command
@@ -17,7 +17,7 @@ use Rattle.bs_game.specs.declared.reply.Effect.{Effect}
 use Rattle.bs_game.specs.declared.reply.Effect.TheVariants as effect
 use Rattle.bs_game.specs.declared.view.View.{View}
 use Rattle.bs_game.specs.Game.{board_charge}
-use Rattle.bs_game.specs.Reasons.{new_board, is_over_quota, reason_against}
+use Rattle.bs_game.specs.Reasons.{new_board, reason_against}
 
 -- the reply for a board, if there is one; else the refusal
 abbrev pub reply_or_refusal : Refusal → Option Board → (Board → Reply) → Reply
@@ -73,11 +73,6 @@ answer_with reply = record { reply = reply; effect = effect_of reply }
 
 unfoldable pub answer_of : View → Command → Answer
 answer_of view command = answer_with (reply_to view command)
-
--- the reply with a new board, or the refusal if the quota has no room for its record
-abbrev pub shown_within_quota : View → Word → Board → Reply
-shown_within_quota view word board =
-    if is_over_quota view (Some board) then Refused refusal.Quota else shown_as_new view word board
 
 -- the view of a game within its quota; no quota is above 16,777,216
 pub record IsFitView (view : View) : Type 0 where

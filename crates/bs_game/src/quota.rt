@@ -7,8 +7,9 @@ ghost use Rattle.bs_game.specs.declared.reply.Effect.TheVariants as Effect;
 ghost use Rattle.bs_game.specs.Game.{board_charge};
 ghost use Rattle.bs_game.specs.Law.{IsFitEffect};
 ghost use Rattle.bs_board.specs.declared.limits.TheConstants.{MOST_QUOTA};
-ghost use Rattle.bs_game.specs.Joining.{view_within};
-ghost use Rattle.bs_game.specs.View.{answer_with, effect_of_shown, shown_within_quota};
+ghost use Rattle.bs_game.specs.inner.Joining.{view_within};
+ghost use Rattle.bs_game.specs.View.{answer_with, effect_of_shown};
+ghost use Rattle.bs_game.specs.inner.View.{shown_within_quota};
 
 use crate::answering::refuse;
 use crate::reply::{Answer, Effect};

@@ -10,11 +10,12 @@ use Rattle.bs_heap.specs.declared.blocks.Entry.{Entry}
 use Rattle.bs_heap.specs.declared.heap.TagHeap.TheInside.{Inside}
 use Rattle.bs_heap.specs.declared.heap.TheConstants.{MOST_RECORD_BYTES}
 use Rattle.bs_heap.specs.AddAnswer.{heap_with, pool_with}
-use Rattle.bs_heap.specs.Blocks.{Blocks, use_of}
+use Rattle.bs_heap.specs.Blocks.{Blocks}
+use Rattle.bs_heap.specs.inner.Blocks.{use_of}
 use Rattle.bs_heap.specs.Charge.{charge_of, blocks_for}
-use Rattle.bs_heap.specs.Entries.{entry_bytes, entry_place, records_in, packing_in, IsWithin, PutsRecord}
+use Rattle.bs_heap.specs.inner.Entries.{entry_bytes, entry_place, records_in, packing_in, IsWithin, PutsRecord}
 use Rattle.bs_heap.specs.Fullness.{AreFull}
-use Rattle.bs_heap.specs.HeapLayout.{heap_in, IsHeap, IsIndexed}
+use Rattle.bs_heap.specs.inner.HeapLayout.{heap_in, IsHeap, IsIndexed}
 use Rattle.bs_heap.specs.HeldBlocks.{Holds, IsKeptIn, LeavesOthers, next_number}
 use Rattle.bs_heap.specs.PackedPlaces.{AreApart}
 use Rattle.bs_heap.specs.Packing.{Use, Packing, uses, numbers_of, fits, packed}

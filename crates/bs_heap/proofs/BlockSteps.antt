@@ -2,7 +2,8 @@
 use Rattle.std.specs.Prelude.{ℕ, List, [], ◌++◌, length, Some, option_map, unwrap_or}
 use Rattle.bs_block.specs.Bytes.{padded}
 use Rattle.bs_heap.specs.declared.blocks.Entry.{Entry}
-use Rattle.bs_heap.specs.Blocks.{NumberedBlock, Blocks, all_blocks}
+use Rattle.bs_heap.specs.Blocks.{NumberedBlock, Blocks}
+use Rattle.bs_heap.specs.inner.Blocks.{all_blocks}
 
 -- the current block is closed, and an empty one of that number opened
 abbrev pub with_empty : ℕ → Blocks → Blocks

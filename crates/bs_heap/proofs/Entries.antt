@@ -9,8 +9,9 @@ use Rattle.bs_block.specs.Rounding.{rounded}
 use Rattle.bs_block.proofs.Rounded.{rounded_above}
 use Rattle.bs_block.proofs.Runs.{length-padded}
 use Rattle.bs_heap.specs.declared.blocks.Entry.{Entry}
-use Rattle.bs_heap.specs.Blocks.{NumberedBlock, Blocks, all_blocks, block_at, use_of}
-use Rattle.bs_heap.specs.Entries.{entry_bytes, packing_in, IsWithin, ReadsTheSame}
+use Rattle.bs_heap.specs.Blocks.{NumberedBlock, Blocks}
+use Rattle.bs_heap.specs.inner.Blocks.{all_blocks, block_at, use_of}
+use Rattle.bs_heap.specs.inner.Entries.{entry_bytes, packing_in, IsWithin, ReadsTheSame}
 use Rattle.bs_heap.specs.Packing.{with_block, with_place}
 use Rattle.bs_heap.proofs.BlockSteps.{with_empty, with_bytes, next_entry}
 

@@ -3,9 +3,9 @@ use Rattle.std.proofs.Common.{ℕ, List, [], ◌++◌, sym, subst, append-nil}
 use Rattle.std.specs.Prelude.{option_to_list}
 use Rattle.bs_pool.specs.Ledger.{Ledger}
 use Rattle.bs_heap.specs.declared.heap.TagHeap.TheInside.{Inside}
-use Rattle.bs_heap.specs.Blocks.{all_blocks, block_numbers}
+use Rattle.bs_heap.specs.inner.Blocks.{all_blocks, block_numbers}
 use Rattle.bs_heap.specs.HeldBlocks.{AreOwned, Holds, IsKeptIn, LeavesOthers, all_given}
-use Rattle.bs_heap.specs.HeapLayout.{heap_in}
+use Rattle.bs_heap.specs.inner.HeapLayout.{heap_in}
 use Rattle.bs_heap.proofs.GivenBlocks.{all_numbers}
 use Rattle.bs_heap.proofs.HeldBlocks.{owned_front, holds_rest, leaves_rest}
 use Rattle.bs_heap.proofs.PutRecord.{numbers_are}

@@ -6,10 +6,11 @@ use Rattle.std.proofs.lemmas.List.{set_comm, map-append, map_push, length-map, g
 use Rattle.bs_pool.specs.Ledger.{Ledger, Owns, given}
 use Rattle.bs_pool.specs.declared.owned.Owned.{Owned}
 use Rattle.bs_pool.proofs.Owners.{still_owns_given}
-use Rattle.bs_heap.specs.Blocks.{NumberedBlock, block_numbers}
+use Rattle.bs_heap.specs.Blocks.{NumberedBlock}
+use Rattle.bs_heap.specs.inner.Blocks.{block_numbers}
 use Rattle.bs_heap.specs.HeldBlocks.{AreOwned, all_given}
-use Rattle.bs_heap.specs.Lent.{AreLent, owned_numbers}
-use Rattle.bs_heap.specs.OwnedBlocks.{numbered_block}
+use Rattle.bs_heap.specs.inner.Lent.{AreLent, owned_numbers}
+use Rattle.bs_heap.specs.inner.OwnedBlocks.{numbered_block}
 
 -- two numbers may be given in either order
 pub given_comm : (m n : ℕ) (pool : Ledger) → given m (given n pool) ≡ given n (given m pool)

@@ -8,12 +8,13 @@ use Rattle.bs_block.specs.Rounding.{rounded}
 use Rattle.bs_block.proofs.Runs.{length-range}
 use Rattle.bs_heap.specs.declared.blocks.Entry.{Entry}
 use Rattle.bs_heap.specs.declared.heap.TagHeap.TheInside.{Inside}
-use Rattle.bs_heap.specs.Blocks.{NumberedBlock, Blocks, block_at, use_of}
+use Rattle.bs_heap.specs.Blocks.{NumberedBlock, Blocks}
+use Rattle.bs_heap.specs.inner.Blocks.{block_at, use_of}
 use Rattle.bs_heap.specs.Charge.{charge_of, blocks_for}
 use Rattle.bs_heap.specs.Heap.{with_last}
-use Rattle.bs_heap.specs.Entries.{entry_bytes, entry_place, records_in, packing_in, IsWithin}
+use Rattle.bs_heap.specs.inner.Entries.{entry_bytes, entry_place, records_in, packing_in, IsWithin}
 use Rattle.bs_heap.specs.Fullness.{AreFull}
-use Rattle.bs_heap.specs.HeapLayout.{heap_in, IsIndexed, IsHeap}
+use Rattle.bs_heap.specs.inner.HeapLayout.{heap_in, IsIndexed, IsHeap}
 use Rattle.bs_heap.specs.PackedPlaces.{AreApart}
 use Rattle.bs_heap.specs.Packing.{last_alone, packing_of_last}
 use Rattle.bs_heap.proofs.Fullness.{full_last}

@@ -4,8 +4,9 @@ use Rattle.std.specs.Prelude.{option_map, option_to_list}
 use Rattle.std.proofs.lemmas.List.{map-append}
 use Rattle.bs_block.specs.Rounding.{rounded}
 use Rattle.bs_heap.specs.declared.blocks.Entry.{Entry}
-use Rattle.bs_heap.specs.Blocks.{NumberedBlock, Blocks, all_blocks, block_numbers, use_of, fits_current}
-use Rattle.bs_heap.specs.Entries.{packing_in, IsWithin, ReadsTheSame, PutsRecord}
+use Rattle.bs_heap.specs.Blocks.{NumberedBlock, Blocks}
+use Rattle.bs_heap.specs.inner.Blocks.{all_blocks, block_numbers, use_of, fits_current}
+use Rattle.bs_heap.specs.inner.Entries.{packing_in, IsWithin, ReadsTheSame, PutsRecord}
 use Rattle.bs_heap.specs.Packing.{Use, Place, Packing, fits, with_block, with_place, packed, numbers_of, closed_numbers}
 use Rattle.bs_heap.proofs.BlockSteps.{with_empty, written, next_entry}
 use Rattle.bs_heap.proofs.Entries.{reads_opened, packing_opened, reads_written, within_written, bytes_written, packing_written}

@@ -1,12 +1,9 @@
 pub mod AddAnswer
 pub mod Blocks
 pub mod Charge
-pub mod Entries
 pub mod Fullness
 pub mod Heap
-pub mod HeapLayout
 pub mod HeldBlocks
-pub mod Lent
-pub mod OwnedBlocks
 pub mod PackedPlaces
 pub mod Packing
+pub mod inner

@@ -4,7 +4,7 @@ ghost use Rattle.bs_block.specs.Bytes.{HasRoom, padded, range};
 ghost use Rattle.bs_block.specs.Rounding.{rounded};
 ghost use Rattle.bs_pool.specs.Ledger.{held, reserved, least_free, drawn};
 ghost use Rattle.bs_heap.specs.HeldBlocks.{AreOwned, all_given, next_number};
-ghost use Rattle.bs_heap.specs.Lent.{AreLent, owned_numbers};
+ghost use Rattle.bs_heap.specs.inner.Lent.{AreLent, owned_numbers};
 
 use bs_block::{Block, round_up};
 use bs_pool::{Owned, Pool};
@@ -33,7 +33,7 @@ impl<const CAP: usize> Model for TagBlocks<CAP> {
 
     ghost Value = { Blocks };
 
-    ghost use Rattle.bs_heap.specs.OwnedBlocks.{blocks_in, AreTagged};
+    ghost use Rattle.bs_heap.specs.inner.OwnedBlocks.{blocks_in, AreTagged};
 
     ghost view = { λ b. blocks_in b };
 
@@ -62,8 +62,9 @@ fn give_back<const CAP: usize>(blocks: &mut Vec<Owned<CAP>>, pool: &mut Pool<CAP
 }
 
 impl<const CAP: usize> TagBlocks<CAP> {
-    ghost use Rattle.bs_heap.specs.Blocks.{NumberedBlock, no_blocks, all_blocks, block_at, block_numbers, fits_current};
-    ghost use Rattle.bs_heap.specs.Entries.{PutsRecord};
+    ghost use Rattle.bs_heap.specs.Blocks.{NumberedBlock};
+    ghost use Rattle.bs_heap.specs.inner.Blocks.{no_blocks, all_blocks, block_at, block_numbers, fits_current};
+    ghost use Rattle.bs_heap.specs.inner.Entries.{PutsRecord};
 
     /// Makes an empty list of blocks, with memory for `room` closed ones.
     pub(crate) fn new(alloc: Global, tag: u32, room: usize) -> Result<Self, AllocError>

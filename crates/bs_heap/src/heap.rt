@@ -51,7 +51,7 @@ impl<const CAP: usize> Model for TagHeap<CAP> {
 
     ghost Value = { Heap };
 
-    ghost use Rattle.bs_heap.specs.HeapLayout.{heap_in, IsHeap};
+    ghost use Rattle.bs_heap.specs.inner.HeapLayout.{heap_in, IsHeap};
 
     ghost view = { λ h. heap_in h };
 

@@ -20,8 +20,9 @@ use Rattle.bs_workers.specs.Acts.{are_acceptable, is_acceptable, opened, rows_ad
 use Rattle.bs_workers.specs.declared.act.Act.TheVariants as act
 use Rattle.bs_host.specs.File.{pieces_of, later_pieces, rows_of, version_of}
 use Rattle.bs_host.specs.declared.route.Route.{Route}
-use Rattle.bs_host.specs.OpenStays.{OpenStayList, open_stays_of, open_stays_then, route_by, routes_by_open_stays, rows_by_open_stays, rows_in_route}
-use Rattle.bs_host.specs.Laws.{ActsLaw}
+use Rattle.bs_host.specs.OpenStays.{OpenStayList}
+use Rattle.bs_host.specs.inner.OpenStays.{open_stays_of, open_stays_then, route_by, routes_by_open_stays, rows_by_open_stays, rows_in_route}
+use Rattle.bs_host.specs.inner.Laws.{ActsLaw}
 use Rattle.bs_host.specs.Routing.{act_in, acts_in, admit_refusal, admit_route, registry_behind, registry_then, command_to, commands_to, hand_route, capacity_of, leave_route, next_registry, route_at, route_of, routes_from, stays_behind}
 use Rattle.bs_host.specs.declared.route.Route.TheVariants as route
 use Rattle.bs_host.proofs.FitStays.{may_come}
@@ -43,7 +44,7 @@ rows_step registry route.Nowhere acts = refl
 
 -- each act is acceptable in its place
 
-abbrev IsAcceptable : Capacity → List Stay → Route → Type 0
+abbrev pub IsAcceptable : Capacity → List Stay → Route → Type 0
 IsAcceptable capacity registry (route.Act a) = is_acceptable capacity registry a ≡ true
 IsAcceptable capacity registry (route.Stray kind) = Unit {0}
 IsAcceptable capacity registry route.Nowhere = Unit {0}
@@ -65,7 +66,7 @@ leave_acceptable : (capacity : Capacity) (registry : List Stay) (name : List ℕ
 leave_acceptable capacity registry name None is = tt
 leave_acceptable capacity registry name (Some stay) is = named_is_in registry name stay is
 
-route_acceptable : (capacity : Capacity) (registry : List Stay) (l : Line) → IsAcceptable capacity registry (route_of capacity registry l)
+pub route_acceptable : (capacity : Capacity) (registry : List Stay) (l : Line) → IsAcceptable capacity registry (route_of capacity registry l)
 route_acceptable capacity registry line.Blank = tt
 route_acceptable capacity registry (line.Command name command) = hand_acceptable capacity registry name command (stay_named registry name) refl
 route_acceptable capacity registry (line.Bad name) = hand_acceptable capacity registry name command.Bad (stay_named registry name) refl

@@ -1,5 +1,5 @@
 -- The cut of a file, from its first line and the other lines, one after the other.
-use Rattle.std.proofs.Common.{◌≡◌, ℕ, suc, ◌<◌, ◌≤◌, true, false, List, [], ◌∷◌, ◌++◌, Option, Some, None, Ok, is_some, length, refl, sym, ap, ◌∙◌, arith, append-nil, append_assoc}
+use Rattle.std.proofs.Common.{◌≡◌, ℕ, suc, ◌<◌, ◌≤◌, true, false, List, ◌∷◌, ◌++◌, Option, Some, None, Ok, is_some, length, refl, sym, ap, ◌∙◌, arith, append-nil, append_assoc}
 use Rattle.std.proofs.lemmas.Bool.{lt-ltb, le-ltb, cond-true, cond-false}
 use Rattle.std.proofs.lemmas.List.Concat.{flat_map-cons}
 use Rattle.std.specs.Borrow.{Bor}
@@ -15,9 +15,12 @@ use Rattle.bs_host.specs.declared.cut_fault.Cut.TheVariants.{TooLong}
 use Rattle.bs_host.specs.declared.limits.TheConstants.{MOST_FILE_BYTES}
 use Rattle.bs_host.specs.declared.lines.TheConstants.{LINE_FEED}
 use Rattle.bs_host.specs.declared.route.Route.{Route}
-use Rattle.bs_host.specs.Cut.{behind_feeds, cut_of, cut_refusal_of, cut_refusal_of_plan, lone_plan_of, nth_from, nth_stay, own_lines_in, own_lines_of, row_at}
-use Rattle.bs_host.specs.File.{pieces_after, pieces_of, first_piece, later_pieces, plan_of, rows_in, version_in, version_of}
-use Rattle.bs_host.specs.OpenStays.{OpenStayList, open_stays_of, open_stays_then, own_by_open_stays, route_by}
+use Rattle.bs_host.specs.Cut.{cut_of, cut_refusal_of, cut_refusal_of_plan, lone_plan_of, nth_from, nth_stay, own_lines_in, own_lines_of, row_at}
+use Rattle.bs_host.specs.inner.Cut.{behind_feeds}
+use Rattle.bs_host.specs.File.{pieces_of, first_piece, later_pieces, plan_of, rows_in, version_in, version_of}
+use Rattle.bs_host.specs.inner.File.{pieces_after}
+use Rattle.bs_host.specs.OpenStays.{OpenStayList}
+use Rattle.bs_host.specs.inner.OpenStays.{open_stays_of, open_stays_then, own_by_open_stays, route_by}
 use Rattle.bs_host.specs.Routing.{command_to, capacity_of, stays_behind, stays_of}
 use Rattle.bs_host.proofs.CutLines.{joined_behind}
 use Rattle.bs_host.proofs.FoundStays.{found_row}

@@ -10,7 +10,8 @@ use Rattle.std.specs.Prelude.{not}
 use Rattle.bs_board.specs.declared.plans.version.Version.{Version}
 use Rattle.bs_sched.specs.Stays.{Capacity, Stay}
 use Rattle.bs_host.specs.declared.lines.TheConstants.{LINE_FEED}
-use Rattle.bs_host.specs.Cut.{behind_feeds, is_own_line, own_lines_in}
+use Rattle.bs_host.specs.Cut.{is_own_line, own_lines_in}
+use Rattle.bs_host.specs.inner.Cut.{behind_feeds}
 use Rattle.bs_host.specs.File.{pieces_of, later_pieces}
 use Rattle.bs_host.specs.Routing.{next_registry}
 use Rattle.bs_host.proofs.CutPlan.{is_no_feed}

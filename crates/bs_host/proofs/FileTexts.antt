@@ -1,5 +1,5 @@
 -- A file's plan and its lines, from its first line and the others, to the transcript.
-use Rattle.std.proofs.Common.{◌≡◌, ℕ, ◌<◌, ◌≤◌, true, List, [], ◌∷◌, ◌++◌, Option, Some, None, Ok, length, sym, subst, ap, ◌∙◌}
+use Rattle.std.proofs.Common.{◌≡◌, ℕ, ◌<◌, ◌≤◌, true, List, ◌∷◌, ◌++◌, Option, Some, None, Ok, length, sym, subst, ap, ◌∙◌}
 use Rattle.std.proofs.lemmas.Bool.{lt-ltb, le-ltb, cond-true, cond-false}
 use Rattle.std.proofs.lemmas.List.{length-replicate}
 use Rattle.bs_board.specs.declared.plans.plan.Plan.{Plan}
@@ -20,15 +20,20 @@ use Rattle.bs_transcript.specs.Written.{Leaves as LeavesOfText}
 use Rattle.bs_transcript.specs.declared.fault.TranscriptFault.{TranscriptFault}
 use Rattle.bs_transcript.specs.declared.fault.TranscriptFault.TheVariants as transcript
 use Rattle.bs_host.specs.declared.fault.Fault.{Fault}
-use Rattle.bs_host.specs.declared.fault.Fault.TheVariants.{TooLong, Memory}
+use Rattle.bs_host.specs.declared.fault.Fault.TheVariants.{TooLong}
 use Rattle.bs_host.specs.declared.limits.TheConstants.{BLOCK_BYTES, MOST_FILE_BYTES}
 use Rattle.bs_host.specs.declared.route.Requests.{Requests}
-use Rattle.bs_host.specs.File.{pieces_of, first_piece, later_pieces, plan_in, plan_of, rows_of}
-use Rattle.bs_host.specs.Hosted.{Hosts, IsOpened}
+use Rattle.bs_host.specs.File.{pieces_of, first_piece, later_pieces, plan_of, rows_of}
+use Rattle.bs_host.specs.inner.File.{plan_in}
+use Rattle.bs_host.specs.Hosted.{Hosts}
+use Rattle.bs_host.specs.inner.Hosted.{IsOpened}
 use Rattle.bs_host.specs.declared.route.Route.{Route}
-use Rattle.bs_host.specs.Routing.{IsRouted, acts_in, acts_of, capacity_of, routes_from, routes_of, stays_of, strays_in}
-use Rattle.bs_host.specs.Faults.{IsFault, IsRefusal, Leaves, fault_of, fault_of_opening, fault_of_writing, refusal_of, refusal_of_plan}
-use Rattle.bs_host.specs.Transcript.{core_text_of, transcript_of}
+use Rattle.bs_host.specs.Routing.{acts_in, capacity_of, routes_from, routes_of, stays_of, strays_in}
+use Rattle.bs_host.specs.inner.Routing.{IsRouted, acts_of}
+use Rattle.bs_host.specs.Faults.{IsFault, Leaves, fault_of, fault_of_opening, fault_of_writing, refusal_of, refusal_of_plan}
+use Rattle.bs_host.specs.inner.Faults.{IsRefusal}
+use Rattle.bs_host.specs.Transcript.{transcript_of}
+use Rattle.bs_host.specs.inner.Transcript.{core_text_of}
 use Rattle.bs_host.proofs.ActsLaw.{acts_law}
 use Rattle.bs_host.proofs.HostedCore.{hosts_lines, is_fresh, no_refusal, opening_refusal, transcript_of_core}
 

@@ -30,8 +30,10 @@ use Rattle.bs_host.specs.declared.limits.TheConstants.{BLOCK_BYTES}
 use Rattle.bs_host.specs.declared.route.Route.{Route}
 use Rattle.bs_host.specs.Hosted.{Hosts, HostsLines}
 use Rattle.bs_host.specs.Routing.{acts_in, commands_to, routes_of, stays_of, strays_of}
-use Rattle.bs_host.specs.Faults.{IsRefusal, fault_of_opening, refusal_of_plan}
-use Rattle.bs_host.specs.Transcript.{section_of, transcript_of, core_text_of, lane_lines_of}
+use Rattle.bs_host.specs.Faults.{fault_of_opening, refusal_of_plan}
+use Rattle.bs_host.specs.inner.Faults.{IsRefusal}
+use Rattle.bs_host.specs.Transcript.{section_of, transcript_of}
+use Rattle.bs_host.specs.inner.Transcript.{core_text_of, lane_lines_of}
 use Rattle.bs_transcript.specs.Lines.{last_line_of, reply_lines_of, section_lines_of, stray_lines_of}
 use Rattle.bs_transcript.specs.declared.section.Section.{Section}
 

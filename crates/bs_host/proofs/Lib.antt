@@ -15,12 +15,12 @@ pub mod FullStays
 pub mod OpenStayRoutes
 pub mod HostedCore
 pub mod LiveBytes
-pub mod LiveCores
 pub mod LiveHeld
 pub mod LiveLaw
 pub mod LiveLines
 pub mod LivePieces
-pub mod LivePlays
+pub mod LiveStates
+pub mod LiveStays
 pub mod LiveRefusals
 pub mod LiveStops
 pub mod LiveTexts

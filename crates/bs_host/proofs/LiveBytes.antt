@@ -4,10 +4,10 @@ use Rattle.std.specs.Io.KnownBytes.{Appends, Consumes, IsAtEnd, Keeps}
 use Rattle.std.specs.Prelude.{IfSome}
 use Rattle.bs_board.specs.declared.plans.version.Version.{Version}
 use Rattle.bs_board.specs.plans.Plan.{GameRow}
-use Rattle.bs_sched.specs.Core.{CoreView}
+use Rattle.bs_host.specs.declared.live_host.LiveHost.{LiveHost}
 use Rattle.bs_host.specs.File.{pieces_of}
-use Rattle.bs_host.specs.OpenStays.{OpenStayList}
-use Rattle.bs_host.specs.Live.{HasAnswered, IsCutLast, IsSameText, IsServing, answers_from, closing_behind, held_of, live_lines_of}
+use Rattle.bs_host.specs.Live.{answers_from, closing_behind, live_lines_of}
+use Rattle.bs_host.specs.inner.Live.{HasAnswered, IsCutLast, IsSameText, IsServing, held_of}
 use Rattle.bs_host.proofs.LiveHeld.{live_same, map_both}
 use Rattle.bs_host.proofs.LiveTexts.{answers_append}
 
@@ -48,14 +48,14 @@ if_some None f p = tt
 if_some (Some xs) f p = f xs refl p
 
 module _ (blocks : ℕ) (version : Version) (plan : List GameRow) where
-  pub serving_begins : (after : List ℕ) (old : Option (List ℕ)) (games : List (ℕ × CoreView)) (open_stays : OpenStayList) (number : ℕ)
-      → HasAnswered blocks version plan [] games open_stays number → IsServing blocks version plan after after old old 0 games open_stays number
-  serving_begins after old games open_stays number is = record { done = []; parts = λ more. refl; answered = is; written = appends_none old; counted = refl }
+  pub serving_begins : (after : List ℕ) (old : Option (List ℕ)) (host : LiveHost)
+      → HasAnswered blocks version plan [] host → IsServing blocks version plan after after old old 0 host
+  serving_begins after old host is = record { done = []; parts = λ more. refl; answered = is; written = appends_none old; counted = refl }
 
-  pub serving_reads : (after pending new bytes : List ℕ) (old now : Option (List ℕ)) (count : ℕ) (games : List (ℕ × CoreView)) (open_stays : OpenStayList) (number : ℕ)
-      → IsServing blocks version plan after pending old now count games open_stays number → new ≡ pending ++ bytes
-      → IsServing blocks version plan (after ++ bytes) new old now count games open_stays number
-  serving_reads after pending new bytes old now count games open_stays number is read =
+  pub serving_reads : (after pending new bytes : List ℕ) (old now : Option (List ℕ)) (count : ℕ) (host : LiveHost)
+      → IsServing blocks version plan after pending old now count host → new ≡ pending ++ bytes
+      → IsServing blocks version plan (after ++ bytes) new old now count host
+  serving_reads after pending new bytes old now count host is read =
       record {
         done = is.done;
         parts =
@@ -68,10 +68,10 @@ module _ (blocks : ℕ) (version : Version) (plan : List GameRow) where
       }
 
   -- the part of the pending line that does not matter is dropped
-  pub serving_holds : (after pending new : List ℕ) (old now : Option (List ℕ)) (count : ℕ) (games : List (ℕ × CoreView)) (open_stays : OpenStayList) (number : ℕ)
-      → IsServing blocks version plan after pending old now count games open_stays number → IsSameText pending new
-      → IsServing blocks version plan after new old now count games open_stays number
-  serving_holds after pending new old now count games open_stays number is same =
+  pub serving_holds : (after pending new : List ℕ) (old now : Option (List ℕ)) (count : ℕ) (host : LiveHost)
+      → IsServing blocks version plan after pending old now count host → IsSameText pending new
+      → IsServing blocks version plan after new old now count host
+  serving_holds after pending new old now count host is same =
       record {
         done = is.done;
         parts = λ more. is.parts more ∙ ap (λ pieces. map held_of is.done ++ pieces) (same more);
@@ -80,12 +80,12 @@ module _ (blocks : ℕ) (version : Version) (plan : List GameRow) where
         counted = is.counted;
       }
 
-  pub serving_answers : (after pending front back text : List ℕ) (old now next : Option (List ℕ)) (count total : ℕ) (games behind : List (ℕ × CoreView)) (open_stays left : OpenStayList) (number last : ℕ)
-      → IsServing blocks version plan after pending old now count games open_stays number → IsCutLast pending front back
-      → ((before : List (List ℕ)) → HasAnswered blocks version plan before games open_stays number → HasAnswered blocks version plan (before ++ pieces_of front) behind left last)
-      → ((before : List (List ℕ)) → HasAnswered blocks version plan before games open_stays number → text ≡ [] ++ answers_from blocks version plan before (pieces_of front))
-      → Appends now next text → total ≡ count + length text → IsServing blocks version plan after back old next total behind left last
-  serving_answers after pending front back text old now next count total games behind open_stays left number last is cut answers told wrote adds =
+  pub serving_answers : (after pending front back text : List ℕ) (old now next : Option (List ℕ)) (count total : ℕ) (host behind : LiveHost)
+      → IsServing blocks version plan after pending old now count host → IsCutLast pending front back
+      → ((before : List (List ℕ)) → HasAnswered blocks version plan before host → HasAnswered blocks version plan (before ++ pieces_of front) behind)
+      → ((before : List (List ℕ)) → HasAnswered blocks version plan before host → text ≡ [] ++ answers_from blocks version plan before (pieces_of front))
+      → Appends now next text → total ≡ count + length text → IsServing blocks version plan after back old next total behind
+  serving_answers after pending front back text old now next count total host behind is cut answers told wrote adds =
       let new : text ≡ answers_from blocks version plan is.done (pieces_of front) = told is.done is.answered in
       let before = answers_from blocks version plan [] is.done in
       let whole : answers_from blocks version plan [] (is.done ++ pieces_of front) ≡ before ++ text
@@ -106,13 +106,13 @@ module _ (blocks : ℕ) (version : Version) (plan : List GameRow) where
       }
 
   -- the output once all is read
-  pub serving_whole : (after pending text both : List ℕ) (old now : Option (List ℕ)) (count : ℕ) (games behind : List (ℕ × CoreView)) (open_stays left : OpenStayList) (number last : ℕ)
-      → (is : IsServing blocks version plan after pending old now count games open_stays number)
-      → ((before : List (List ℕ)) → HasAnswered blocks version plan before games open_stays number → HasAnswered blocks version plan (before ++ pieces_of pending) behind left last)
-      → ((before : List (List ℕ)) → HasAnswered blocks version plan before games open_stays number → text ≡ [] ++ answers_from blocks version plan before (pieces_of pending))
-      → ((lines : List (List ℕ)) → HasAnswered blocks version plan lines behind left last → both ≡ text ++ closing_behind blocks version plan lines)
+  pub serving_whole : (after pending text both : List ℕ) (old now : Option (List ℕ)) (count : ℕ) (host behind : LiveHost)
+      → (is : IsServing blocks version plan after pending old now count host)
+      → ((before : List (List ℕ)) → HasAnswered blocks version plan before host → HasAnswered blocks version plan (before ++ pieces_of pending) behind)
+      → ((before : List (List ℕ)) → HasAnswered blocks version plan before host → text ≡ [] ++ answers_from blocks version plan before (pieces_of pending))
+      → ((lines : List (List ℕ)) → HasAnswered blocks version plan lines behind → both ≡ text ++ closing_behind blocks version plan lines)
       → live_lines_of blocks version plan (pieces_of after) ≡ answers_from blocks version plan [] is.done ++ both
-  serving_whole after pending text both old now count games behind open_stays left number last is answers told closes =
+  serving_whole after pending text both old now count host behind is answers told closes =
       let lines = is.done ++ pieces_of pending in
       let all : map held_of (pieces_of after) ≡ map held_of lines
       = ap (λ text. map held_of (pieces_of text)) (sym (append-nil after)) ∙ is.parts []
@@ -127,11 +127,11 @@ module _ (blocks : ℕ) (version : Version) (plan : List GameRow) where
       ∙ ap (λ t. t ++ end) (sym (answers_append blocks version plan [] is.done (pieces_of pending))) in
       live_same blocks version plan (pieces_of after) lines all ∙ sym whole
 
-  pub serving_ends : (after both : List ℕ) (old now next : Option (List ℕ)) (count : ℕ) (pending : List ℕ) (games : List (ℕ × CoreView)) (open_stays : OpenStayList) (number : ℕ)
-      → (is : IsServing blocks version plan after pending old now count games open_stays number)
+  pub serving_ends : (after both : List ℕ) (old now next : Option (List ℕ)) (count : ℕ) (pending : List ℕ) (host : LiveHost)
+      → (is : IsServing blocks version plan after pending old now count host)
       → live_lines_of blocks version plan (pieces_of after) ≡ answers_from blocks version plan [] is.done ++ both
       → Appends now next both → Appends old next (live_lines_of blocks version plan (pieces_of after))
-  serving_ends after both old now next count pending games open_stays number is whole wrote =
+  serving_ends after both old now next count pending host is whole wrote =
       subst (λ t. Appends old next t) (sym whole) (appends_both old now next (answers_from blocks version plan [] is.done) both is.written wrote)
 
 -- some more bytes

@@ -1,10 +1,11 @@
 -- The kept bytes of a line that is too long.
-use Rattle.std.proofs.Common.{◌≡◌, ℕ, zero, suc, ◌+◌, ◌<◌, ◌≤◌, false, List, [], ◌∷◌, ◌++◌, None, All, length, map, take, refl, sym, ap, ◌∙◌, arith, length-take}
+use Rattle.std.proofs.Common.{◌≡◌, ℕ, zero, suc, ◌+◌, ◌<◌, ◌≤◌, true, false, List, [], ◌∷◌, ◌++◌, Option, Some, None, All, length, map, take, refl, sym, ap, ◌∙◌, arith, length-take}
 use Rattle.std.specs.Prelude.{nat_lt}
 use Rattle.std.specs.List.{cons_option, onto_first, position}
 use Rattle.std.proofs.lemmas.Bool.{cond-true, lt-ltb}
 use Rattle.std.proofs.lemmas.List.{length-map, take_all, take-append-le}
 use Rattle.std.proofs.lemmas.List.Elements.{All-head, All-tail, All-take}
+use Rattle.std.proofs.lemmas.List.Quantifiers.{position-Some}
 use Rattle.std.proofs.lemmas.List.Splits.{slice_split-cons_no, length-slice_split}
 use Rattle.bs_board.specs.declared.plans.version.Version.{Version}
 use Rattle.bs_board.specs.plans.Plan.{GameRow}
@@ -14,7 +15,8 @@ use Rattle.bs_sched.specs.Stays.{Capacity, Stay}
 use Rattle.bs_workers.specs.Acts.{opened}
 use Rattle.bs_host.specs.File.{pieces_of}
 use Rattle.bs_host.specs.OpenStays.{open_of}
-use Rattle.bs_host.specs.Live.{IsSameText, acts_behind, answer_after, answers_from, closing_behind, closing_of, held_of, live_lines_of, route_line, stays_left}
+use Rattle.bs_host.specs.Live.{acts_behind, answer_after, answers_from, closing_behind, closing_of, live_lines_of, route_line, stays_left}
+use Rattle.bs_host.specs.inner.Live.{IsSameText, held_of}
 use Rattle.bs_host.specs.Routing.{act_in, acts_in, capacity_of, next_registry, registry_behind, registry_then, route_at, route_of, routes_from}
 use Rattle.bs_host.proofs.CutPieces.{fails_everywhere, is_feed}
 
@@ -60,6 +62,17 @@ held_at n text more none few =
 pub held_back : (text : List ℕ) → position is_feed text ≡ None → MAX_LINE + 1 ≤ length text → IsSameText text (take (MAX_LINE + 1) text)
 unfolding held_of
 held_back text none few = λ more. held_at (MAX_LINE + 1) text more none few
+
+none_found : (xs : List ℕ) (found : Option ℕ) → position is_feed xs ≡ found → All (λ byte. is_feed byte ≡ false) xs → found ≡ None
+none_found xs None is fails = refl
+none_found xs (Some at) is fails =
+    let (inside, hit, before) = position-Some is_feed xs at 0 is in
+    let wrong : true ≡ false = sym hit ∙ fails at 0 inside in
+    absurd cc
+
+pub still_none : (n : ℕ) (text : List ℕ) → position is_feed text ≡ None → position is_feed (take n text) ≡ None
+still_none n text none =
+    none_found (take n text) (position is_feed (take n text)) refl (All-take (λ byte. is_feed byte ≡ false) n text (fails_everywhere is_feed text none))
 
 -- how a line is read does not depend on the bytes after the kept ones
 

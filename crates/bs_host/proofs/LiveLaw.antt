@@ -24,7 +24,8 @@ use Rattle.bs_host.specs.Cut.{row_at}
 use Rattle.bs_host.specs.File.{later_pieces, pieces_of, rows_of, version_of}
 use Rattle.bs_host.specs.OpenStays.{open_from, open_of}
 use Rattle.bs_host.specs.Live.{LiveLaw, TranscriptLaw, own_live_of, act_line, acts_behind, answer_after, closing_line, closing_of, commands_given, is_of_act, is_of_stay, is_stray, next_line, own_closing, route_behind, route_line, rows_behind, some_answers, stays_left}
-use Rattle.bs_host.specs.Routing.{act_in, acts_in, acts_of, capacity_of, commands_of, next_registry, registry_behind, registry_then, route_at, routes_from, routes_of, stays_of, strays_in}
+use Rattle.bs_host.specs.Routing.{act_in, acts_in, capacity_of, commands_of, next_registry, registry_behind, registry_then, route_at, routes_from, routes_of, stays_of, strays_in}
+use Rattle.bs_host.specs.inner.Routing.{acts_of}
 use Rattle.bs_host.specs.Transcript.{section_of, transcript_of}
 use Rattle.bs_host.proofs.ActsLaw.{acts_law}
 use Rattle.bs_host.proofs.LiveLines.{acts_more, given_append, registry_more, replies_with, rows_append}

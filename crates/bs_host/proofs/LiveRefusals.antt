@@ -1,5 +1,5 @@
 -- When a live host refuses a file, and what each fault leaves of the output.
-use Rattle.std.proofs.Common.{◌≡◌, ◌≢◌, ℕ, ◌+◌, ◌<◌, ◌≤◌, List, [], ◌∷◌, ◌++◌, Option, Some, None, Ok, Err, length, refl, sym, ap, subst, ◌∙◌, arith, append-nil, append_assoc, length-append}
+use Rattle.std.proofs.Common.{◌≡◌, ◌≢◌, ℕ, ◌<◌, ◌≤◌, List, [], ◌∷◌, ◌++◌, Option, Some, None, Ok, Err, length, refl, sym, ap, subst, ◌∙◌, arith, append-nil, append_assoc, length-append}
 use Rattle.std.specs.Io.KnownBytes.{Appends, Consumes, IsAtEnd, Keeps}
 use Rattle.std.specs.List.{position}
 use Rattle.std.specs.Prelude.{IfSome}
@@ -14,8 +14,6 @@ use Rattle.bs_json.specs.declared.plan.PlanFault.{PlanFault}
 use Rattle.bs_json.specs.declared.plan.PlanFault.TheVariants as plan_fault
 use Rattle.bs_json.specs.PlanLine.{IsPlanFault, plan_line_of}
 use Rattle.bs_sched.specs.PlanBlocks.{blocks_of_all}
-use Rattle.bs_workers.specs.declared.fault.Run.{Run}
-use Rattle.bs_workers.specs.declared.fault.Run.TheVariants as run
 use Rattle.bs_host.specs.declared.fault.Fault.{Fault}
 use Rattle.bs_host.specs.declared.fault.Fault.TheVariants.{Plan as OfPlan}
 use Rattle.bs_host.specs.declared.fault.PlanRefusal.TheVariants as refusal
@@ -24,8 +22,10 @@ use Rattle.bs_host.specs.declared.live_fault.LiveFault.{LiveFault}
 use Rattle.bs_host.specs.declared.live_fault.LiveFault.TheVariants as live
 use Rattle.bs_host.specs.Faults.{refusal_of_plan}
 use Rattle.bs_host.specs.File.{first_piece, later_pieces, pieces_of, plan_of, rows_in, rows_of, version_in, version_of}
-use Rattle.bs_host.specs.Live.{IsCutFirst, live_lines_of, live_of}
-use Rattle.bs_host.specs.LiveFaults.{HasFirstAnswersOf, IsLiveFault, IsLiveRefusal, IsReadFault, LeavesLines, LeavesLive, live_fault_of_plan, live_fault_of_run, live_refusal_of}
+use Rattle.bs_host.specs.Live.{live_lines_of, live_of}
+use Rattle.bs_host.specs.inner.Live.{IsCutFirst}
+use Rattle.bs_host.specs.LiveFaults.{HasFirstAnswersOf, IsLiveFault, LeavesLive, live_fault_of_plan, live_refusal_of}
+use Rattle.bs_host.specs.inner.LiveFaults.{IsLiveRefusal, IsReadFault, LeavesLines}
 use Rattle.bs_host.proofs.HostedCore.{no_refusal}
 use Rattle.bs_host.proofs.CutPieces.{fails_everywhere, is_feed}
 use Rattle.bs_host.proofs.LiveHeld.{by_length, in_front, in_front_some, pieces_in_front}
@@ -40,10 +40,6 @@ plan_refused blocks first plan_fault.Malformed is = ap (refusal_of_plan blocks) 
 plan_refused blocks first plan_fault.BadRow is = ap (refusal_of_plan blocks) is
 plan_refused blocks first plan_fault.TooMany is = ap (refusal_of_plan blocks) is
 plan_refused blocks first plan_fault.Memory is = tt
-
-pub run_refused : (refusal : Option Fault) (error : Run) → refusal ≡ None → IsLiveRefusal refusal (live_fault_of_run error)
-run_refused refusal run.Memory none = tt
-run_refused refusal run.Broken none = none
 
 pub none_refused : (blocks : ℕ) (first : List ℕ) (plan : Plan) → plan_line_of first ≡ Ok plan → blocks_of_all BLOCK_BYTES plan.rows ≤ blocks
     → refusal_of_plan blocks (plan_line_of first) ≡ None
@@ -60,7 +56,6 @@ kind_of_refusal : (refusal : Option Fault) (fault : LiveFault) → IsLiveRefusal
 kind_of_refusal refusal live.Device is = absurd is
 kind_of_refusal refusal (live.Plan reason) is = is
 kind_of_refusal refusal live.Memory is = tt
-kind_of_refusal refusal live.Broken is = is
 kind_of_refusal refusal (live.Write written) is = absurd is
 kind_of_refusal refusal live.Flush is = absurd is
 
@@ -68,7 +63,6 @@ pub kind_of_read : (refusal : Option Fault) (fault : LiveFault) → IsReadFault 
 kind_of_read refusal live.Device is = tt
 kind_of_read refusal (live.Plan reason) is = absurd is
 kind_of_read refusal live.Memory is = tt
-kind_of_read refusal live.Broken is = absurd is
 kind_of_read refusal (live.Write written) is = absurd is
 kind_of_read refusal live.Flush is = absurd is
 
@@ -77,7 +71,6 @@ kind_of_left : (blocks : ℕ) (version : Version) (plan : List GameRow) (lines :
 kind_of_left blocks version plan lines old new refusal live.Device left none = tt
 kind_of_left blocks version plan lines old new refusal (live.Plan reason) left none = absurd left
 kind_of_left blocks version plan lines old new refusal live.Memory left none = tt
-kind_of_left blocks version plan lines old new refusal live.Broken left none = none
 kind_of_left blocks version plan lines old new refusal (live.Write written) left none = none
 kind_of_left blocks version plan lines old new refusal live.Flush left none = none
 
@@ -93,7 +86,6 @@ left_by_refusal : (blocks : ℕ) (file : List ℕ) (refusal : Option Fault) (a :
 left_by_refusal blocks file refusal a live.Device is = absurd is
 left_by_refusal blocks file refusal a (live.Plan reason) is = keeps_itself a
 left_by_refusal blocks file refusal a live.Memory is = none_of_file blocks file a
-left_by_refusal blocks file refusal a live.Broken is = none_of_file blocks file a
 left_by_refusal blocks file refusal a (live.Write written) is = absurd is
 left_by_refusal blocks file refusal a live.Flush is = absurd is
 
@@ -101,7 +93,6 @@ pub left_by_read : (blocks : ℕ) (file : List ℕ) (a : Option (List ℕ)) (fau
 left_by_read blocks file a live.Device is = none_of_file blocks file a
 left_by_read blocks file a (live.Plan reason) is = absurd is
 left_by_read blocks file a live.Memory is = none_of_file blocks file a
-left_by_read blocks file a live.Broken is = absurd is
 left_by_read blocks file a (live.Write written) is = absurd is
 left_by_read blocks file a live.Flush is = absurd is
 
@@ -111,7 +102,6 @@ unfolding live_of
 left_of_lines blocks file old new live.Device left = left
 left_of_lines blocks file old new (live.Plan reason) left = absurd left
 left_of_lines blocks file old new live.Memory left = left
-left_of_lines blocks file old new live.Broken left = left
 left_of_lines blocks file old new (live.Write written) left = left
 left_of_lines blocks file old new live.Flush left = left
 

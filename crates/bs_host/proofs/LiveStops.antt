@@ -6,15 +6,14 @@ use Rattle.std.proofs.lemmas.List.{length-map, take-append-le, take-map}
 use Rattle.std.proofs.Math.Seq.{take-append_seam, take-append-add}
 use Rattle.bs_board.specs.declared.plans.version.Version.{Version}
 use Rattle.bs_board.specs.plans.Plan.{GameRow}
-use Rattle.bs_sched.specs.Core.{CoreView}
-use Rattle.bs_workers.specs.declared.fault.Run.{Run}
-use Rattle.bs_workers.specs.declared.fault.Run.TheVariants as run
+use Rattle.bs_host.specs.declared.live_host.LiveHost.{LiveHost}
 use Rattle.bs_host.specs.declared.live_fault.LiveFault.{LiveFault}
 use Rattle.bs_host.specs.declared.live_fault.LiveFault.TheVariants as live
 use Rattle.bs_host.specs.File.{pieces_of}
-use Rattle.bs_host.specs.OpenStays.{OpenStayList}
-use Rattle.bs_host.specs.Live.{IsCutLast, IsServing, answers_from, closing_behind, held_of, live_lines_of}
-use Rattle.bs_host.specs.LiveFaults.{HasFirstAnswers, IsReadFault, LeavesLines, LeavesText, live_fault_of_run}
+use Rattle.bs_host.specs.Live.{answers_from, closing_behind, live_lines_of}
+use Rattle.bs_host.specs.inner.Live.{IsCutLast, IsServing, held_of}
+use Rattle.bs_host.specs.LiveFaults.{HasFirstAnswers}
+use Rattle.bs_host.specs.inner.LiveFaults.{IsReadFault, LeavesLines, LeavesText}
 use Rattle.bs_host.proofs.LiveBytes.{appends_both, appends_kept, appends_none}
 use Rattle.bs_host.proofs.LiveHeld.{answers_same, live_same, map_both}
 use Rattle.bs_host.proofs.LiveTexts.{answers_append}
@@ -43,15 +42,15 @@ module _ (blocks : ℕ) (version : Version) (plan : List GameRow) where
         written = subst (λ text. Appends old new text) (sym (answers_held (take (length done) lines) done held)) wrote;
       }
 
-  pub serving_first : (after pending more : List ℕ) (old now : Option (List ℕ)) (count : ℕ) (games : List (ℕ × CoreView)) (open_stays : OpenStayList) (number : ℕ)
-      → IsServing blocks version plan after pending old now count games open_stays number → HasFirstAnswers blocks version plan (pieces_of (after ++ more)) old now
-  serving_first after pending more old now count games open_stays number is =
+  pub serving_first : (after pending more : List ℕ) (old now : Option (List ℕ)) (count : ℕ) (host : LiveHost)
+      → IsServing blocks version plan after pending old now count host → HasFirstAnswers blocks version plan (pieces_of (after ++ more)) old now
+  serving_first after pending more old now count host is =
       first_of (pieces_of (after ++ more)) is.done (map held_of (pieces_of (pending ++ more))) old now (is.parts more) is.written
 
-  pub serving_last : (after pending : List ℕ) (old now : Option (List ℕ)) (count : ℕ) (games : List (ℕ × CoreView)) (open_stays : OpenStayList) (number : ℕ)
-      → IsServing blocks version plan after pending old now count games open_stays number → HasFirstAnswers blocks version plan (pieces_of after) old now
-  serving_last after pending old now count games open_stays number is =
-      subst (λ text. HasFirstAnswers blocks version plan (pieces_of text) old now) (append-nil after) (serving_first after pending [] old now count games open_stays number is)
+  pub serving_last : (after pending : List ℕ) (old now : Option (List ℕ)) (count : ℕ) (host : LiveHost)
+      → IsServing blocks version plan after pending old now count host → HasFirstAnswers blocks version plan (pieces_of after) old now
+  serving_last after pending old now count host is =
+      subst (λ text. HasFirstAnswers blocks version plan (pieces_of text) old now) (append-nil after) (serving_first after pending [] old now count host is)
 
   pub none_first : (lines : List (List ℕ)) (a : Option (List ℕ)) → HasFirstAnswers blocks version plan lines a a
   none_first lines a = record { count = 0; few = omega arith; written = appends_none a }
@@ -62,11 +61,11 @@ module _ (blocks : ℕ) (version : Version) (plan : List GameRow) where
       record { count = has.count; few = has.few; written = appends_kept old now next (answers_from blocks version plan [] (take has.count lines)) has.written keeps }
 
   -- the answers so far, followed by this text, are a prefix of all that is written
-  pub serving_text : (after pending front back text more : List ℕ) (old now : Option (List ℕ)) (count : ℕ) (games : List (ℕ × CoreView)) (open_stays : OpenStayList) (number : ℕ)
-      → (is : IsServing blocks version plan after pending old now count games open_stays number) → IsCutLast pending front back
+  pub serving_text : (after pending front back text more : List ℕ) (old now : Option (List ℕ)) (count : ℕ) (host : LiveHost)
+      → (is : IsServing blocks version plan after pending old now count host) → IsCutLast pending front back
       → text ≡ [] ++ answers_from blocks version plan is.done (pieces_of front)
       → (rest : List ℕ) × (live_lines_of blocks version plan (pieces_of (after ++ more)) ≡ (answers_from blocks version plan [] is.done ++ text) ++ rest)
-  serving_text after pending front back text more old now count games open_stays number is cut new =
+  serving_text after pending front back text more old now count host is cut new =
       let lines = pieces_of (after ++ more) in
       let done = is.done ++ pieces_of front in
       let behind = pieces_of (back ++ more) in
@@ -94,7 +93,6 @@ module _ (blocks : ℕ) (version : Version) (plan : List GameRow) where
   text_leaves lines first text rest old now next count live.Device whole many wrote has flushed left = absurd left
   text_leaves lines first text rest old now next count (live.Plan reason) whole many wrote has flushed left = absurd left
   text_leaves lines first text rest old now next count live.Memory whole many wrote has flushed left = first_kept lines old now next has left
-  text_leaves lines first text rest old now next count live.Broken whole many wrote has flushed left = absurd left
   text_leaves lines first text rest old now next count (live.Write written) whole many wrote has flushed left =
       let (taken, at, few, part) = left in
       let all = ap length whole in
@@ -106,16 +104,10 @@ module _ (blocks : ℕ) (version : Version) (plan : List GameRow) where
       )
   text_leaves lines first text rest old now next count live.Flush whole many wrote has flushed left = flushed left
 
-  pub run_leaves : (lines : List (List ℕ)) (old new : Option (List ℕ)) (error : Run) → HasFirstAnswers blocks version plan lines old new
-      → LeavesLines blocks version plan lines old new (live_fault_of_run error)
-  run_leaves lines old new run.Memory has = has
-  run_leaves lines old new run.Broken has = has
-
   pub read_leaves : (lines : List (List ℕ)) (old new : Option (List ℕ)) (fault : LiveFault) → IsReadFault fault → HasFirstAnswers blocks version plan lines old new
       → LeavesLines blocks version plan lines old new fault
   read_leaves lines old new live.Device is has = has
   read_leaves lines old new (live.Plan reason) is has = absurd is
   read_leaves lines old new live.Memory is has = has
-  read_leaves lines old new live.Broken is has = absurd is
   read_leaves lines old new (live.Write written) is has = absurd is
   read_leaves lines old new live.Flush is has = absurd is

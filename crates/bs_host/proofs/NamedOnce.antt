@@ -11,7 +11,8 @@ use Rattle.bs_board.proofs.Chains.{and_both, or_both}
 use Rattle.bs_board.proofs.Distinct.{are_distinct_map, distinct_of_filter}
 use Rattle.bs_json.specs.declared.line.Stray.TheVariants as stray
 use Rattle.bs_sched.specs.Stays.{Capacity}
-use Rattle.bs_host.specs.OpenStays.{OpenStayList, are_named_once, bears, is_named_at, refusal_by}
+use Rattle.bs_host.specs.OpenStays.{OpenStayList}
+use Rattle.bs_host.specs.inner.OpenStays.{are_named_once, bears, is_named_at, refusal_by}
 use Rattle.bs_host.proofs.RowNames.{only_first}
 
 abbrev have_one_name : ℕ × GameRow → ℕ × GameRow → Bool

@@ -17,9 +17,10 @@ use Rattle.bs_sched.specs.Stays.{Capacity, Stay, closed_stay, open_stay, stay_at
 use Rattle.bs_workers.specs.Acts.{opened}
 use Rattle.bs_workers.specs.declared.act.Act.TheVariants as act
 use Rattle.bs_host.specs.declared.route.Route.{Route}
-use Rattle.bs_host.specs.OpenStays.{bears, blocks_in, found_in, open_from, open_of, OpenStayList, own_by_open_stays, open_stays_of, open_stays_then, refusal_by, route_by, routes_by_open_stays}
+use Rattle.bs_host.specs.OpenStays.{open_from, open_of, OpenStayList}
+use Rattle.bs_host.specs.inner.OpenStays.{bears, blocks_in, found_in, own_by_open_stays, open_stays_of, open_stays_then, refusal_by, route_by, routes_by_open_stays}
 use Rattle.bs_host.specs.Cut.{is_own_line, own_lines_in}
-use Rattle.bs_host.specs.Laws.{OpenStayLinesLaw, OpenStaysLaw}
+use Rattle.bs_host.specs.inner.Laws.{OpenStayLinesLaw, OpenStaysLaw}
 use Rattle.bs_host.specs.Routing.{command_to, admit_refusal, admit_route, registry_then, hand_route, leave_route, next_registry, route_at, route_of, routes_from}
 use Rattle.bs_host.specs.declared.route.Route.TheVariants as route
 use Rattle.bs_host.proofs.OpenStays.{open_law, position_behind}

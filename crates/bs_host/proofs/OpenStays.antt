@@ -9,7 +9,8 @@ use Rattle.bs_board.specs.Texts.{is_same_text}
 use Rattle.bs_sched.specs.PlanBlocks.{blocks_of}
 use Rattle.bs_sched.specs.Stays.{Stay, blocks_in_registry, closed_stay, has_name, open_stay, stay_at}
 use Rattle.bs_workers.specs.Acts.{stay_named}
-use Rattle.bs_host.specs.OpenStays.{OpenLaw, bears, found_in, open_from, open_of}
+use Rattle.bs_host.specs.OpenStays.{open_from, open_of}
+use Rattle.bs_host.specs.inner.OpenStays.{OpenLaw, bears, found_in}
 
 pushed : (first : ℕ) (registry : List Stay) (row : GameRow) → open_from first (registry ++ open_stay row ∷ []) ≡ open_from first registry ++ (first + length registry, row) ∷ []
 pushed first [] row = ap (λ n. (n, row) ∷ []) (omega arith)

@@ -15,9 +15,11 @@ use Rattle.bs_workers.specs.Acts.{opened}
 use Rattle.bs_host.specs.declared.parse.ParsedLine.{ParsedLine}
 use Rattle.bs_host.specs.declared.route.Requests.{Requests}
 use Rattle.bs_host.specs.declared.route.Route.{Route}
-use Rattle.bs_host.specs.OpenStays.{OpenStayList, open_stays_of, open_stays_then, route_by, routes_by_open_stays}
-use Rattle.bs_host.specs.Parsed.{parsed_line, parsed_lines, route_parsed, routes_parsed}
-use Rattle.bs_host.specs.Routing.{IsRouted, act_in, acts_in, numbered_stray, routes_from, strays_in}
+use Rattle.bs_host.specs.OpenStays.{OpenStayList}
+use Rattle.bs_host.specs.inner.OpenStays.{open_stays_of, open_stays_then, route_by, routes_by_open_stays}
+use Rattle.bs_host.specs.inner.Parsed.{parsed_line, parsed_lines, route_parsed, routes_parsed}
+use Rattle.bs_host.specs.Routing.{act_in, acts_in, numbered_stray, routes_from, strays_in}
+use Rattle.bs_host.specs.inner.Routing.{IsRouted}
 use Rattle.bs_host.proofs.OpenStayRoutes.{open_stays_law}
 
 -- parsing

@@ -1,7 +1,7 @@
 -- One stay's own lines as a command file, and the law that the stay is answered there as it is
 -- among the others.
 use Rattle.std.specs.Prelude.{◌≡◌, ℕ, ◌+◌, ◌-◌, ◌≤◌, ◌<◌, codes, List, [], ◌∷◌, length, nat_eq, nat_lt, slice_index_or, Bool, ◌&&◌, Option, Some, None, is_some, option_map, Result, Ok, Err, if◌then◌else◌}
-use Rattle.std.specs.List.{flat_map, join_with_byte}
+use Rattle.std.specs.List.{join_with_byte}
 use Rattle.serde_json.specs.Data.{Data, string, array}
 use Rattle.serde_json.specs.View.{items_of}
 use Rattle.serde_json.specs.Written.{compact_text}
@@ -66,10 +66,6 @@ unfoldable pub cut_of : ℕ → List ℕ → ℕ → List ℕ
 cut_of blocks file stay =
     join_with_byte LINE_FEED (lone_plan_of (version_of file) (row_at (stays_of blocks file) stay) ∷ own_lines_of blocks file stay)
 
--- each line with a line feed before it
-abbrev pub behind_feeds : List (List ℕ) → List ℕ
-behind_feeds = flat_map (λ line. LINE_FEED ∷ line)
-
 -- The transcript of that file with as many blocks, and the size of the file.
 pub record IsWrittenAlone (blocks : ℕ) (file : List ℕ) (stay : ℕ) (row : GameRow) : Type 0 where
   -- its plan is that stay's row, in the file's version
@@ -87,7 +83,6 @@ SectionLaw =
     → IsWrittenAlone blocks file stay (row_at (stays_of blocks file) stay)
 
 -- Which stay a cut is of, and when there is none.
-
 -- the n-th row of that name, from 1 on, and its number; the first of the rows has the given number
 abbrev pub nth_from : ℕ → List GameRow → List ℕ → ℕ → Option (ℕ × GameRow)
 nth_from first [] name n = None

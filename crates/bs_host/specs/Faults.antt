@@ -43,15 +43,6 @@ refusal_of_plan blocks (Ok plan) = if nat_lt blocks (blocks_of_all BLOCK_BYTES p
 unfoldable pub refusal_of : ℕ → List ℕ → Option Fault
 refusal_of blocks file = if nat_lt MOST_FILE_BYTES (length file) then Some TooLong else refusal_of_plan blocks (plan_of file)
 
--- the fault is that refusal; `Broken` comes only if there is no refusal; nothing is claimed of
--- `Memory`
-abbrev pub IsRefusal : Option Fault → Fault → Type 0
-IsRefusal refusal TooLong = refusal ≡ Some TooLong
-IsRefusal refusal (OfPlan reason) = refusal ≡ Some (OfPlan reason)
-IsRefusal refusal Memory = Unit {0}
-IsRefusal refusal Broken = refusal ≡ None
-IsRefusal refusal (Write written) = ⊥
-
 -- like `IsRefusal`; a writer fails only if there is no refusal
 abbrev pub IsFault : Option Fault → Fault → Type 0
 IsFault refusal TooLong = refusal ≡ Some TooLong

@@ -1,5 +1,5 @@
 -- A command file: the pieces between its line feeds, and the plan in the first one.
-use Rattle.std.specs.Prelude.{ℕ, ◌==◌, List, [], ◌∷◌, Option, Some, None, Result, Ok, Err}
+use Rattle.std.specs.Prelude.{ℕ, ◌==◌, List, [], ◌∷◌, Result, Ok, Err}
 use Rattle.std.specs.List.{slice_split}
 use Rattle.bs_board.specs.declared.plans.plan.Plan.{Plan}
 use Rattle.bs_board.specs.declared.plans.version.Version.{Version}
@@ -13,11 +13,6 @@ use Rattle.bs_host.specs.declared.lines.TheConstants.{LINE_FEED}
 -- as a blank line, without a special rule.
 abbrev pub pieces_of : List ℕ → List (List ℕ)
 pieces_of file = slice_split (λ byte. byte == LINE_FEED) file
-
--- the pieces after a line feed, if there was one
-abbrev pub pieces_after : Option (List ℕ) → List (List ℕ)
-pieces_after None = []
-pieces_after (Some text) = pieces_of text
 
 abbrev pub first_piece : List (List ℕ) → List ℕ
 first_piece [] = []
@@ -38,10 +33,6 @@ rows_in (Err fault) = []
 abbrev pub version_in : Result Plan PlanFault → Version
 version_in (Ok plan) = plan.version
 version_in (Err fault) = One
-
--- a file without a plan is read as one of version 1 without games
-abbrev pub plan_in : Result Plan PlanFault → Plan
-plan_in found = record { rows = rows_in found; version = version_in found }
 
 -- the games of the file; none if it has no plan
 abbrev pub rows_of : List ℕ → List GameRow

@@ -1,19 +1,16 @@
 -- A core that has answered a file.
-use Rattle.std.specs.Prelude.{◌≡◌, ℕ, ◌<◌, true, false, None, List, length}
+use Rattle.std.specs.Prelude.{◌≡◌, ℕ, ◌<◌, true, false, List, length}
 use Rattle.std.specs.List.{list_all}
-use Rattle.bs_board.specs.declared.plans.plan.Plan.{Plan}
 use Rattle.bs_board.specs.plans.Plan.{GameRow}
 use Rattle.bs_pool.specs.Ledger.{size}
-use Rattle.bs_sched.specs.Core.{CoreView, opened_core}
+use Rattle.bs_sched.specs.Core.{CoreView}
 use Rattle.bs_sched.specs.Games.{row_at}
 use Rattle.bs_sched.specs.Registry.{IsServedAlone}
 use Rattle.bs_sched.specs.Lane.{is_quiet}
 use Rattle.bs_sched.specs.Machine.{lane_of}
 use Rattle.bs_workers.specs.Run.{acts_of, rows_made}
 use Rattle.bs_host.specs.declared.route.Route.{Route}
-use Rattle.bs_host.specs.declared.limits.TheConstants.{BLOCK_BYTES}
-use Rattle.bs_host.specs.Faults.{refusal_of}
-use Rattle.bs_host.specs.File.{later_pieces, pieces_of, plan_in, plan_of, rows_of}
+use Rattle.bs_host.specs.File.{rows_of}
 use Rattle.bs_host.specs.Routing.{acts_in, commands_to, routes_of, stays_of}
 
 -- The core has the file's plan and `blocks` blocks, `fail` was not called, and it is idle. Its
@@ -31,11 +28,3 @@ pub record HostsLines (blocks : ℕ) (plan stays : List GameRow) (routes : List 
 -- a core that has answered a file: its plan, its stays and its lines
 abbrev pub Hosts : ℕ → List ℕ → CoreView → Type 0
 Hosts blocks file = HostsLines blocks (rows_of file) (stays_of blocks file) (routes_of blocks file)
-
--- the file is not refused; the core is opened with its plan and `blocks` blocks; the lines are
--- those after the plan
-pub record IsOpened (blocks : ℕ) (file : List ℕ) (core : CoreView) (plan : Plan) (lines : List (List ℕ)) : Type 0 where
-  pub served : refusal_of blocks file ≡ None
-  pub opened : core ≡ opened_core BLOCK_BYTES blocks core.games.workers plan.rows
-  pub is_plan : plan ≡ plan_in (plan_of file)
-  pub are_lines : lines ≡ later_pieces (pieces_of file)

@@ -1,9 +1,8 @@
 -- Laws of the stays of a file, and of their lines.
 use Rattle.std.specs.Prelude.{◌≡◌, ℕ, ◌<◌, ◌≤◌, true, false, List, ◌∷◌, ◌++◌, length, count_by, Some, None}
-use Rattle.std.specs.List.{filter, filter_map}
+use Rattle.std.specs.List.{filter}
 use Rattle.bs_board.specs.declared.commands.command.Command.{Command}
 use Rattle.bs_board.specs.declared.limits.TheConstants.{MOST_ROWS}
-use Rattle.bs_board.specs.declared.plans.version.Version.{Version}
 use Rattle.bs_board.specs.plans.Plan.{GameRow}
 use Rattle.bs_board.specs.plans.Version.{has_stays}
 use Rattle.bs_board.specs.Texts.{is_same_text}
@@ -17,14 +16,12 @@ use Rattle.bs_sched.specs.Coming.{RefusesAdmit, RefusesLeave}
 use Rattle.bs_sched.specs.Lane.{Lane, is_quiet}
 use Rattle.bs_sched.specs.Machine.{Setting, is_enabled, lane_of}
 use Rattle.bs_sched.specs.Registry.{capacity_of as capacity_in, registry_of}
-use Rattle.bs_sched.specs.Stays.{Capacity, Stay}
-use Rattle.bs_workers.specs.Acts.{are_acceptable, command_in, opened, rows_admitted, stay_named}
-use Rattle.bs_host.specs.Cut.{nth_stay, own_lines_in, own_lines_of, row_at}
+use Rattle.bs_workers.specs.Acts.{opened, stay_named}
+use Rattle.bs_host.specs.Cut.{nth_stay, own_lines_of, row_at}
 use Rattle.bs_host.specs.File.{pieces_of, later_pieces, rows_of, version_of}
-use Rattle.bs_host.specs.OpenStays.{open_stays_of, own_by_open_stays, routes_by_open_stays}
 use Rattle.bs_host.specs.declared.limits.TheConstants.{MOST_FILE_BYTES}
 use Rattle.bs_host.specs.declared.route.Route.TheVariants as route
-use Rattle.bs_host.specs.Routing.{acts_of, admit_refusal, behind_admit, commands_of, capacity_of, is_command_for, registry_behind, route_at, routes_from, stays_of, stray_for, until_leave}
+use Rattle.bs_host.specs.Routing.{admit_refusal, behind_admit, capacity_of, is_command_for, registry_behind, route_at, stays_of, stray_for, until_leave}
 use Rattle.bs_host.specs.Transcript.{transcript_of}
 
 -- A stay's own lines are those that name its game, between its `admit` and its `leave`.
@@ -35,16 +32,6 @@ OwnLinesLaw =
     ≡ filter (λ text. is_command_for (row_at (stays_of blocks file) stay).game (line_of (version_of file) text))
     (until_leave (version_of file) (row_at (stays_of blocks file) stay).game
     (behind_admit (capacity_of blocks) (version_of file) (opened (rows_of file)) stay (later_pieces (pieces_of file))))
-
--- The stays are the plan's rows, then the admitted ones; the acts of a file are acceptable in their
--- order, whatever the state of the games.
-pub record IsActedOn (blocks : ℕ) (file : List ℕ) : Type 0 where
-  pub stays : stays_of blocks file ≡ rows_of file ++ rows_admitted (acts_of blocks file)
-  pub acceptable : are_acceptable (capacity_of blocks) (opened (rows_of file)) (acts_of blocks file) ≡ true
-  pub commands : (stay : ℕ) → commands_of blocks file stay ≡ filter_map (command_in stay) (acts_of blocks file)
-
-abbrev pub ActsLaw : Type 0
-ActsLaw = (blocks : ℕ) (file : List ℕ) → IsActedOn blocks file
 
 -- In versions 1 and 2 the stays are the plan's rows, and the transcript does not depend on the
 -- number of blocks.
@@ -62,18 +49,6 @@ pub record IsFound (blocks : ℕ) (file name : List ℕ) (n stay : ℕ) : Type 0
 
 abbrev pub FoundLaw : Type 0
 FoundLaw = (blocks : ℕ) (file name : List ℕ) (n stay : ℕ) → nth_stay blocks file name n ≡ Some stay → IsFound blocks file name n stay
-
--- The open stays alone decide the routing, and which stay a line belongs to.
-
-abbrev pub OpenStaysLaw : Type 0
-OpenStaysLaw =
-    (capacity : Capacity) (version : Version) (number : ℕ) (registry : List Stay) (lines : List (List ℕ))
-    → routes_from capacity version registry number lines ≡ routes_by_open_stays capacity version (open_stays_of registry) number lines
-
-abbrev pub OpenStayLinesLaw : Type 0
-OpenStayLinesLaw =
-    (capacity : Capacity) (version : Version) (stay : ℕ) (registry : List Stay) (lines : List (List ℕ))
-    → own_lines_in capacity version registry stay lines ≡ own_by_open_stays capacity version (open_stays_of registry) stay lines
 
 -- Whatever stays a core has, the host refuses an admission if and only if the core does, and for
 -- the same reason. A command or a leave is routed to the open stay of its name, where it is

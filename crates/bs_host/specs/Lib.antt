@@ -6,6 +6,6 @@ pub mod Hosted
 pub mod Laws
 pub mod Live
 pub mod LiveFaults
-pub mod Parsed
 pub mod Routing
 pub mod Transcript
+pub mod inner

@@ -1,12 +1,10 @@
 -- Why a live host stops, and what each fault leaves.
-use Rattle.std.specs.Prelude.{◌≡◌, ◌⊎◌, ℕ, ◌+◌, ◌<◌, ◌≤◌, List, [], length, take, Option, Some, None}
+use Rattle.std.specs.Prelude.{◌≡◌, ◌⊎◌, ℕ, ◌<◌, ◌≤◌, List, [], length, take, Option, Some, None}
 use Rattle.std.specs.Io.KnownBytes.{Appends, Keeps}
 use Rattle.bs_board.specs.declared.plans.version.Version.{Version}
 use Rattle.bs_board.specs.plans.Plan.{GameRow}
 use Rattle.bs_json.specs.declared.plan.PlanFault.{PlanFault}
 use Rattle.bs_json.specs.declared.plan.PlanFault.TheVariants as plan
-use Rattle.bs_workers.specs.declared.fault.Run.{Run}
-use Rattle.bs_workers.specs.declared.fault.Run.TheVariants as run
 use Rattle.bs_host.specs.declared.fault.Fault.{Fault}
 use Rattle.bs_host.specs.declared.fault.Fault.TheVariants.{Plan as OfPlan}
 use Rattle.bs_host.specs.declared.fault.PlanRefusal.TheVariants as refusal
@@ -14,7 +12,7 @@ use Rattle.bs_host.specs.declared.live_fault.LiveFault.{LiveFault}
 use Rattle.bs_host.specs.declared.live_fault.LiveFault.TheVariants as live
 use Rattle.bs_host.specs.Faults.{refusal_of_plan}
 use Rattle.bs_host.specs.File.{later_pieces, pieces_of, plan_of, rows_of, version_of}
-use Rattle.bs_host.specs.Live.{answers_from, live_lines_of, live_of}
+use Rattle.bs_host.specs.Live.{answers_from, live_of}
 
 abbrev pub live_fault_of_plan : PlanFault → LiveFault
 live_fault_of_plan plan.Malformed = live.Plan refusal.Malformed
@@ -22,24 +20,10 @@ live_fault_of_plan plan.BadRow = live.Plan refusal.BadRow
 live_fault_of_plan plan.TooMany = live.Plan refusal.TooMany
 live_fault_of_plan plan.Memory = live.Memory
 
-abbrev pub live_fault_of_run : Run → LiveFault
-live_fault_of_run run.Memory = live.Memory
-live_fault_of_run run.Broken = live.Broken
-
 -- the first reason against serving the file live with `blocks` blocks: a live host refuses only
 -- plans
 abbrev pub live_refusal_of : ℕ → List ℕ → Option Fault
 live_refusal_of blocks file = refusal_of_plan blocks (plan_of file)
-
--- the fault of opening: that refusal; `Broken` comes only if the plan is not refused; nothing is
--- claimed of `Memory`
-abbrev pub IsLiveRefusal : Option Fault → LiveFault → Type 0
-IsLiveRefusal refusal live.Device = ⊥
-IsLiveRefusal refusal (live.Plan reason) = refusal ≡ Some (OfPlan reason)
-IsLiveRefusal refusal live.Memory = Unit {0}
-IsLiveRefusal refusal live.Broken = refusal ≡ None
-IsLiveRefusal refusal (live.Write written) = ⊥
-IsLiveRefusal refusal live.Flush = ⊥
 
 -- like `IsLiveRefusal`; a writer fails only if the plan is not refused, and nothing is claimed of
 -- the reader's faults
@@ -47,21 +31,10 @@ abbrev pub IsLiveFault : Option Fault → LiveFault → Type 0
 IsLiveFault refusal live.Device = Unit {0}
 IsLiveFault refusal (live.Plan reason) = refusal ≡ Some (OfPlan reason)
 IsLiveFault refusal live.Memory = Unit {0}
-IsLiveFault refusal live.Broken = refusal ≡ None
 IsLiveFault refusal (live.Write written) = refusal ≡ None
 IsLiveFault refusal live.Flush = refusal ≡ None
 
--- the fault of a read
-abbrev pub IsReadFault : LiveFault → Type 0
-IsReadFault live.Device = Unit {0}
-IsReadFault (live.Plan reason) = ⊥
-IsReadFault live.Memory = Unit {0}
-IsReadFault live.Broken = ⊥
-IsReadFault (live.Write written) = ⊥
-IsReadFault live.Flush = ⊥
-
 -- What the writer has after a fault.
-
 -- the answers to the first `count` lines after the plan
 abbrev pub first_answers : ℕ → Version → List GameRow → List (List ℕ) → ℕ → List ℕ
 first_answers blocks version plan lines count = answers_from blocks version plan [] (take count lines)
@@ -72,19 +45,6 @@ pub record HasFirstAnswers (blocks : ℕ) (version : Version) (plan : List GameR
   pub few : count ≤ length lines
   pub written : Appends old new (first_answers blocks version plan lines count)
 
--- After a fault that comes after the plan's line, whole answers are written. If the writer failed,
--- it has a proper prefix of the answers, of the length that the fault gives. If the last flush
--- failed, it has all answers.
-abbrev pub LeavesLines : ℕ → Version → List GameRow → List (List ℕ) → Option (List ℕ) → Option (List ℕ) → LiveFault → Type 0
-LeavesLines blocks version plan lines old new live.Device = HasFirstAnswers blocks version plan lines old new
-LeavesLines blocks version plan lines old new (live.Plan reason) = ⊥
-LeavesLines blocks version plan lines old new live.Memory = HasFirstAnswers blocks version plan lines old new
-LeavesLines blocks version plan lines old new live.Broken = HasFirstAnswers blocks version plan lines old new
-LeavesLines blocks version plan lines old new (live.Write written) =
-    (written < length (live_lines_of blocks version plan lines)) × Appends old new (take written (live_lines_of blocks version plan lines))
-LeavesLines blocks version plan lines old new live.Flush =
-    HasFirstAnswers blocks version plan lines old new ⊎ Appends old new (live_lines_of blocks version plan lines)
-
 -- whole answers to the first lines of a file
 abbrev pub HasFirstAnswersOf : ℕ → List ℕ → Option (List ℕ) → Option (List ℕ) → Type 0
 HasFirstAnswersOf blocks file = HasFirstAnswers blocks (version_of file) (rows_of file) (later_pieces (pieces_of file))
@@ -94,16 +54,5 @@ abbrev pub LeavesLive : ℕ → List ℕ → Option (List ℕ) → Option (List 
 LeavesLive blocks file old new live.Device = HasFirstAnswersOf blocks file old new
 LeavesLive blocks file old new (live.Plan reason) = Keeps old new
 LeavesLive blocks file old new live.Memory = HasFirstAnswersOf blocks file old new
-LeavesLive blocks file old new live.Broken = HasFirstAnswersOf blocks file old new
 LeavesLive blocks file old new (live.Write written) = (written < length (live_of blocks file)) × Appends old new (take written (live_of blocks file))
 LeavesLive blocks file old new live.Flush = HasFirstAnswersOf blocks file old new ⊎ Appends old new (live_of blocks file)
-
--- After a failed write of that text, when `before` bytes were written earlier.
-abbrev pub LeavesText : List ℕ → ℕ → Option (List ℕ) → Option (List ℕ) → LiveFault → Type 0
-LeavesText text before old new live.Device = ⊥
-LeavesText text before old new (live.Plan reason) = ⊥
-LeavesText text before old new live.Memory = Keeps old new
-LeavesText text before old new live.Broken = ⊥
-LeavesText text before old new (live.Write written) =
-    (taken : ℕ) × (written ≡ before + taken) × (taken < length text) × Appends old new (take taken text)
-LeavesText text before old new live.Flush = Appends old new text

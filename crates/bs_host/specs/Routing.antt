@@ -1,6 +1,6 @@
 -- The route of each line of a command file: to the core as an act, to the strays, or nowhere. It
 -- depends on the registry of stays at that line.
-use Rattle.std.specs.Prelude.{◌≡◌, ℕ, ◌+◌, nat_lt, Bool, List, [], ◌∷◌, length, fold, Option, Some, None, option_map, if◌then◌else◌}
+use Rattle.std.specs.Prelude.{ℕ, ◌+◌, nat_lt, Bool, List, [], ◌∷◌, length, fold, Option, Some, None, option_map, if◌then◌else◌}
 use Rattle.std.specs.List.{filter_map}
 use Rattle.bs_board.specs.declared.commands.command.Command.{Command}
 use Rattle.bs_board.specs.declared.commands.command.Command.TheVariants as command
@@ -19,13 +19,11 @@ use Rattle.bs_sched.specs.declared.stays.Admit.TheVariants as admit
 use Rattle.bs_sched.specs.Stays.{Capacity, Stay, first_refusal}
 use Rattle.bs_workers.specs.Acts.{stay_named, registry_after, command_in, opened, rows_in_registry}
 use Rattle.bs_host.specs.declared.limits.TheConstants.{BLOCK_BYTES}
-use Rattle.bs_host.specs.declared.route.Requests.{Requests}
 use Rattle.bs_host.specs.declared.route.Route.{Route}
 use Rattle.bs_host.specs.declared.route.Route.TheVariants as route
 use Rattle.bs_host.specs.File.{pieces_of, later_pieces, rows_of, version_of}
 
 -- One line.
-
 -- The stray line for a core's refusal of an admission. The host never refuses one because memory
 -- ran out.
 abbrev pub stray_for : Option Admit → Option Stray
@@ -67,7 +65,6 @@ registry_then registry (route.Stray kind) = registry
 registry_then registry route.Nowhere = registry
 
 -- All lines, in the order of the file.
-
 abbrev pub route_at : Capacity → Version → List Stay → List ℕ → Route
 route_at capacity version registry text = route_of capacity registry (line_of version text)
 
@@ -99,7 +96,6 @@ abbrev pub stays_of : ℕ → List ℕ → List GameRow
 stays_of blocks file = stays_behind (capacity_of blocks) (version_of file) (rows_of file) (later_pieces (pieces_of file))
 
 -- The parts of a list of routes.
-
 abbrev pub act_in : Route → Option Act
 act_in (route.Act a) = Some a
 act_in (route.Stray kind) = None
@@ -128,9 +124,6 @@ numbered_stray line = option_map (λ kind. (line.0, kind)) (stray_kind line.1)
 abbrev pub strays_in : List (ℕ × Route) → List (ℕ × Stray)
 strays_in = filter_map numbered_stray
 
-abbrev pub acts_of : ℕ → List ℕ → List Act
-acts_of blocks file = acts_in (routes_of blocks file)
-
 abbrev pub commands_of : ℕ → List ℕ → ℕ → List Command
 commands_of blocks file stay = commands_to stay (routes_of blocks file)
 
@@ -138,7 +131,6 @@ abbrev pub strays_of : ℕ → List ℕ → List (ℕ × Stray)
 strays_of blocks file = strays_in (routes_of blocks file)
 
 -- The lines of a stay, by its name and without the registry.
-
 abbrev pub is_leave_of : List ℕ → Line → Bool
 is_leave_of name line.Blank = Bool.false
 is_leave_of name (line.Command game command) = Bool.false
@@ -168,8 +160,3 @@ abbrev pub behind_admit : Capacity → Version → List Stay → ℕ → List (L
 behind_admit capacity version registry stay [] = []
 behind_admit capacity version registry stay (text ∷ lines) =
     if nat_lt stay (length registry) then text ∷ lines else behind_admit capacity version (next_registry capacity version registry text) stay lines
-
--- the requests are the acts and the strays of these routes
-pub record IsRouted (routes : List (ℕ × Route)) (requests : Requests) : Type 0 where
-  pub acts : requests.acts.items ≡ acts_in routes
-  pub strays : requests.strays.items ≡ strays_in routes

@@ -3,10 +3,7 @@ use Rattle.std.specs.Prelude.{ℕ, List, ◌++◌}
 use Rattle.std.specs.List.{enumerate_from, flat_map}
 use Rattle.bs_board.specs.declared.commands.command.Command.{Command}
 use Rattle.bs_board.specs.plans.Plan.{GameRow}
-use Rattle.bs_json.specs.declared.line.Stray.{Stray}
 use Rattle.bs_game.specs.Alone.{Course, alone}
-use Rattle.bs_sched.specs.Core.{CoreView}
-use Rattle.bs_sched.specs.Lane.{Lane}
 use Rattle.bs_transcript.specs.Lines.{reply_lines_of, last_line_of, stray_lines_of}
 use Rattle.bs_host.specs.Routing.{commands_of, stays_of, strays_of}
 
@@ -23,12 +20,3 @@ unfoldable pub transcript_of : ℕ → List ℕ → List ℕ
 transcript_of blocks file =
     flat_map (λ stay. section_of stay.1 (commands_of blocks file stay.0)) (enumerate_from 0 (stays_of blocks file))
     ++ stray_lines_of (strays_of blocks file)
-
--- The transcript from a core.
-
-abbrev pub lane_lines_of : Lane → List ℕ
-lane_lines_of x = reply_lines_of x.row.game x.replies ++ last_line_of x.row.game x.game
-
--- the section of each stay, then the strays
-abbrev pub core_text_of : CoreView → List (ℕ × Stray) → List ℕ
-core_text_of core strays = flat_map lane_lines_of core.games.lanes ++ stray_lines_of strays

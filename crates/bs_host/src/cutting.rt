@@ -7,9 +7,10 @@ ghost use Rattle.bs_host.specs.declared.lines.TheConstants.{LINE_FEED};
 ghost use Rattle.bs_board.specs.Texts.{is_same_text};
 ghost use Rattle.bs_json.specs.Line.{line_of};
 ghost use Rattle.bs_workers.specs.Acts.{opened};
-ghost use Rattle.bs_host.specs.Cut.{row_data, lone_plan_data, lone_plan_of, is_too_small, nth_from, nth_stay, own_lines_in, behind_feeds, cut_of, cut_refusal_of, IsCutRefusal, SectionLaw};
-ghost use Rattle.bs_host.specs.File.{pieces_after};
-ghost use Rattle.bs_host.specs.OpenStays.{open_stays_of, open_stays_then, route_by, rows_by_open_stays, rows_in_route};
+ghost use Rattle.bs_host.specs.Cut.{row_data, lone_plan_data, lone_plan_of, is_too_small, nth_from, nth_stay, own_lines_in, cut_of, cut_refusal_of, IsCutRefusal, SectionLaw};
+ghost use Rattle.bs_host.specs.inner.Cut.{behind_feeds};
+ghost use Rattle.bs_host.specs.inner.File.{pieces_after};
+ghost use Rattle.bs_host.specs.inner.OpenStays.{open_stays_of, open_stays_then, route_by, rows_by_open_stays, rows_in_route};
 ghost use Rattle.bs_host.specs.Laws.{CoreLaw, EarlyLaw, FoundLaw, FullLaw, OwnLinesLaw};
 ghost use Rattle.bs_host.specs.Routing.{command_to, capacity_of, stays_behind};
 

@@ -11,14 +11,13 @@ mod lines;
 mod live;
 mod live_fault;
 mod live_host;
-mod lone_core;
+mod live_stays;
 mod open_stays;
 mod parse;
 mod read;
 mod render;
 mod route;
 mod serving;
-mod stay_cores;
 
 pub use cut_fault::Cut;
 pub use cutting::{cut, section_law};

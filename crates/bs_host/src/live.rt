@@ -3,23 +3,30 @@
 ghost use Rattle.std.specs.Prelude.{◌≡◌, ◌≢◌, ◌↔◌, ◌==◌, ◌+◌, ◌<◌, ◌≤◌, None, IsTrue, ℕ, true, false, List, [], ◌++◌, length, Option, IfOk, IfErr, IfSome, OnOk};
 ghost use Rattle.std.specs.Io.KnownBytes.{Appends, Consumes, IsAtEnd};
 ghost use Rattle.std.specs.List.{position};
+ghost use Rattle.bs_board.specs.declared.plans.version.Version.{Version};
 ghost use Rattle.bs_board.specs.plans.Plan.{GameRow};
 ghost use Rattle.bs_host.specs.declared.lines.TheConstants.{LINE_FEED};
 ghost use Rattle.bs_json.specs.declared.limits.TheConstants.{MAX_LINE};
 ghost use Rattle.bs_host.specs.File.{pieces_of};
-ghost use Rattle.bs_host.specs.Live.{HasAnswered, HaveCores, IsSameText, IsServing, LiveLaw, PrefixLaw, TranscriptLaw, live_lines_of, live_of};
-ghost use Rattle.bs_host.specs.LiveFaults.{IsLiveFault, IsReadFault, LeavesLines, LeavesLive, LeavesText, live_refusal_of};
+ghost use Rattle.bs_host.specs.Live.{LiveLaw, PrefixLaw, TranscriptLaw, live_lines_of, live_of};
+ghost use Rattle.bs_host.specs.inner.Live.{HasAnswered, IsSameText, IsServing};
+ghost use Rattle.bs_host.specs.LiveFaults.{IsLiveFault, LeavesLive, live_refusal_of};
+ghost use Rattle.bs_host.specs.inner.LiveFaults.{IsReadFault, LeavesLines, LeavesText};
 
-use crate::lines::{first_feed, split_first, split_last};
+use crate::lines::{first_feed, split_first, split_some};
 use crate::live_fault::LiveFault;
 use crate::live_host::LiveHost;
-use bs_json::MAX_LINE;
+use bs_json::{MAX_LINE, TextBuffer};
 use bs_transcript::write_all_of;
 use std::alloc::{AllocError, Global};
 use std::io::{Read, Write};
 
 /// The largest number of bytes of one read.
-const BLOCK: usize = 65_536;
+const BLOCK: usize = 8_192;
+
+/// The lines within this number of bytes are answered before their answers are written. A short
+/// line can ask for a long answer, and the answers to these lines are held together.
+const SOME_LINES: usize = 1_024;
 
 /// Writes the text and flushes the writer. Counts in `written` the bytes that it took.
 fn write_out<W: Write>(text: &[u8], written: &mut usize, output: &mut W) -> Result<(), LiveFault>
@@ -38,35 +45,66 @@ fn write_out<W: Write>(text: &[u8], written: &mut usize, output: &mut W) -> Resu
     Ok(())
 }
 
+/// What is between the reader and the writer.
+#[derive(Drop)]
+struct Flow {
+    /// Bytes that were read: the begin of the next line.
+    pending: Vec<u8>,
+    /// The memory of the answers to the lines of one read.
+    text: TextBuffer,
+    /// The number of bytes that the writer took.
+    written: usize,
+}
+
+/// Answers the first complete lines of the pending bytes, and writes their answers. The rest stays
+/// pending. Returns false if no line is complete.
+fn answer_some<W: Write>(
+    alloc: Global,
+    host: &mut LiveHost,
+    flow: &mut Flow,
+    output: &mut W,
+) -> Result<bool, LiveFault>
+    ensures serving { (blocks : ℕ) (version : Version) (plan : List GameRow) (after : List ℕ) (first : Option (List ℕ))
+        → IsServing blocks version plan after flow.old.pending.items first (W.contents output.old) flow.old.written host.old
+        → OnOk result (IsServing blocks version plan after flow.new.pending.items first (W.contents output.new) flow.new.written host.new) }
+    ensures fewer { IfOk result (λ more. more ≡ true → length flow.new.pending.items < length flow.old.pending.items) }
+    ensures ready { IfOk result (λ more. more ≡ false → position (λ byte. byte == LINE_FEED) flow.new.pending.items ≡ None) }
+    ensures left { IfErr result (λ fault. (blocks : ℕ) (version : Version) (plan : List GameRow) (after : List ℕ) (first : Option (List ℕ))
+        → IsServing blocks version plan after flow.old.pending.items first (W.contents output.old) flow.old.written host.old
+        → (more : List ℕ) → LeavesLines blocks version plan (pieces_of (after ++ more)) first (W.contents output.new) fault) }
+{
+    let Some((front, back)) = split_some(&flow.pending, SOME_LINES) else {
+        return Ok(false);
+    };
+    let mut rest = Vec::new(alloc);
+    rest.extend_from_slice(back)?;
+    flow.text.clear();
+    host.answer_all(alloc, front, &mut flow.text)?;
+    write_out(flow.text.as_slice(), &mut flow.written, output)?;
+    flow.pending = rest;
+    Ok(true)
+}
+
 /// Answers the complete lines of the pending bytes, and writes their answers. The rest stays
 /// pending.
 fn answer_ready<W: Write>(
     alloc: Global,
     host: &mut LiveHost,
-    pending: &mut Vec<u8>,
-    written: &mut usize,
+    flow: &mut Flow,
     output: &mut W,
 ) -> Result<(), LiveFault>
-    requires { HaveCores host.old.open_stays host.old.cores.open.items }
-    ensures cores { OnOk result (HaveCores host.new.open_stays host.new.cores.open.items) }
-    ensures blocks { OnOk result (host.new.blocks ≡ host.old.blocks) }
-    ensures version { OnOk result (host.new.version ≡ host.old.version) }
-    ensures serving { (plan : List GameRow) (after : List ℕ) (first : Option (List ℕ))
-        → IsServing host.old.blocks host.old.version plan after pending.old.items first (W.contents output.old) written.old host.old.cores.open.items host.old.open_stays host.old.number
-        → OnOk result (IsServing host.old.blocks host.old.version plan after pending.new.items first (W.contents output.new) written.new host.new.cores.open.items host.new.open_stays host.new.number) }
-    ensures left { IfErr result (λ fault. (plan : List GameRow) (after : List ℕ) (first : Option (List ℕ))
-        → IsServing host.old.blocks host.old.version plan after pending.old.items first (W.contents output.old) written.old host.old.cores.open.items host.old.open_stays host.old.number
-        → (more : List ℕ) → LeavesLines host.old.blocks host.old.version plan (pieces_of (after ++ more)) first (W.contents output.new) fault) }
+    ensures serving { (blocks : ℕ) (version : Version) (plan : List GameRow) (after : List ℕ) (first : Option (List ℕ))
+        → IsServing blocks version plan after flow.old.pending.items first (W.contents output.old) flow.old.written host.old
+        → OnOk result (IsServing blocks version plan after flow.new.pending.items first (W.contents output.new) flow.new.written host.new) }
+    ensures ready { OnOk result (position (λ byte. byte == LINE_FEED) flow.new.pending.items ≡ None) }
+    ensures left { IfErr result (λ fault. (blocks : ℕ) (version : Version) (plan : List GameRow) (after : List ℕ) (first : Option (List ℕ))
+        → IsServing blocks version plan after flow.old.pending.items first (W.contents output.old) flow.old.written host.old
+        → (more : List ℕ) → LeavesLines blocks version plan (pieces_of (after ++ more)) first (W.contents output.new) fault) }
 {
-    let Some((front, back)) = split_last(pending) else {
-        return Ok(());
-    };
-    let mut rest = Vec::new(alloc);
-    rest.extend_from_slice(back)?;
-    let mut text = Vec::new(alloc);
-    host.answer_all(alloc, front, &mut text)?;
-    write_out(&text, written, output)?;
-    *pending = rest;
+    let mut more = true;
+    'lines: while more {
+        more = answer_some(alloc, host, flow, output)?;
+    }
     Ok(())
 }
 
@@ -82,6 +120,7 @@ fn lacks_feed(text: &[u8]) -> bool
 #[tactic(auto, using(crate::proofs::LiveHeld::same_text))]
 fn hold_line(pending: &mut Vec<u8>)
     ensures text { IsSameText pending.old.items pending.new.items }
+    ensures ready { position (λ byte. byte == LINE_FEED) pending.old.items ≡ None → position (λ byte. byte == LINE_FEED) pending.new.items ≡ None }
     ensures held { position (λ byte. byte == LINE_FEED) pending.new.items ≡ None → length pending.new.items ≤ MAX_LINE + 1 }
 {
     if pending.len() > MAX_LINE && lacks_feed(pending) {
@@ -90,9 +129,11 @@ fn hold_line(pending: &mut Vec<u8>)
 }
 
 /// Waits until a byte can be read, reads once, and appends the bytes. Returns false at the end of
-/// the input. Of a line that is not complete at most 65,537 bytes may be held before the read.
+/// the input. Before the read all complete lines are answered, and of one that is not complete at
+/// most 65,537 bytes are held.
 fn read_more<R: Read>(input: &mut R, pending: &mut Vec<u8>) -> Result<bool, LiveFault>
-    requires { position (λ byte. byte == LINE_FEED) pending.old.items ≡ None → length pending.old.items ≤ MAX_LINE + 1 }
+    requires answered { position (λ byte. byte == LINE_FEED) pending.old.items ≡ None }
+    requires held { length pending.old.items ≤ MAX_LINE + 1 }
     ensures bytes { OnOk result
         ((bytes : List ℕ) × Consumes (R.remaining input.old) (R.remaining input.new) bytes × (pending.new.items ≡ pending.old.items ++ bytes)) }
     ensures more { IfOk result (λ more. more ≡ true → length pending.old.items < length pending.new.items) }
@@ -129,45 +170,46 @@ fn read_first<R: Read>(alloc: Global, input: &mut R) -> Result<Vec<u8>, LiveFaul
 fn end_live<W: Write>(
     alloc: Global,
     host: &mut LiveHost,
-    pending: &[u8],
-    written: &mut usize,
+    flow: &mut Flow,
     output: &mut W,
 ) -> Result<(), LiveFault>
-    requires { HaveCores host.old.open_stays host.old.cores.open.items }
-    ensures written { (plan : List GameRow) (after : List ℕ) (first : Option (List ℕ))
-        → IsServing host.old.blocks host.old.version plan after pending.now first (W.contents output.old) written.old host.old.cores.open.items host.old.open_stays host.old.number
-        → OnOk result (Appends first (W.contents output.new) (live_lines_of host.old.blocks host.old.version plan (pieces_of after))) }
-    ensures left { IfErr result (λ fault. (plan : List GameRow) (after : List ℕ) (first : Option (List ℕ))
-        → IsServing host.old.blocks host.old.version plan after pending.now first (W.contents output.old) written.old host.old.cores.open.items host.old.open_stays host.old.number
-        → LeavesLines host.old.blocks host.old.version plan (pieces_of after) first (W.contents output.new) fault) }
+    ensures written { (blocks : ℕ) (version : Version) (plan : List GameRow) (after : List ℕ) (first : Option (List ℕ))
+        → IsServing blocks version plan after flow.old.pending.items first (W.contents output.old) flow.old.written host.old
+        → OnOk result (Appends first (W.contents output.new) (live_lines_of blocks version plan (pieces_of after))) }
+    ensures left { IfErr result (λ fault. (blocks : ℕ) (version : Version) (plan : List GameRow) (after : List ℕ) (first : Option (List ℕ))
+        → IsServing blocks version plan after flow.old.pending.items first (W.contents output.old) flow.old.written host.old
+        → LeavesLines blocks version plan (pieces_of after) first (W.contents output.new) fault) }
 {
-    let mut text = Vec::new(alloc);
-    host.answer_all(alloc, pending, &mut text)?;
-    host.close(alloc, &mut text)?;
-    write_out(&text, written, output)?;
+    flow.text.clear();
+    host.answer_all(alloc, &flow.pending, &mut flow.text)?;
+    host.close(alloc, &mut flow.text)?;
+    write_out(flow.text.as_slice(), &mut flow.written, output)?;
     Ok(())
 }
 
-/// Answers the lines after the plan as they are read.
+/// Answers the lines after the plan as they are read. The bytes `rest` were read already.
 fn serve_lines<R: Read, W: Write>(
     alloc: Global,
     host: &mut LiveHost,
-    pending: &mut Vec<u8>,
+    rest: &[u8],
     input: &mut R,
     output: &mut W,
 ) -> Result<(), LiveFault>
-    requires { HaveCores host.old.open_stays host.old.cores.open.items }
-    ensures written { (plan : List GameRow) → HasAnswered host.old.blocks host.old.version plan [] host.old.cores.open.items host.old.open_stays host.old.number
-        → OnOk result (IfSome (R.remaining input.old) (λ left. Appends (W.contents output.old) (W.contents output.new) (live_lines_of host.old.blocks host.old.version plan (pieces_of (pending.old.items ++ left))))) }
-    ensures left { IfErr result (λ fault. (plan : List GameRow) → HasAnswered host.old.blocks host.old.version plan [] host.old.cores.open.items host.old.open_stays host.old.number
-        → IfSome (R.remaining input.old) (λ left. LeavesLines host.old.blocks host.old.version plan (pieces_of (pending.old.items ++ left)) (W.contents output.old) (W.contents output.new) fault)) }
+    ensures written { (blocks : ℕ) (version : Version) (plan : List GameRow) → HasAnswered blocks version plan [] host.old
+        → OnOk result (IfSome (R.remaining input.old) (λ left. Appends (W.contents output.old) (W.contents output.new) (live_lines_of blocks version plan (pieces_of (rest.now ++ left))))) }
+    ensures left { IfErr result (λ fault. (blocks : ℕ) (version : Version) (plan : List GameRow) → HasAnswered blocks version plan [] host.old
+        → IfSome (R.remaining input.old) (λ left. LeavesLines blocks version plan (pieces_of (rest.now ++ left)) (W.contents output.old) (W.contents output.new) fault)) }
 {
-    let mut written = 0;
+    let mut flow = Flow {
+        pending: Vec::from_slice(alloc, rest)?,
+        text: TextBuffer::new(alloc),
+        written: 0,
+    };
     for _ in 0..u64::MAX {
-        answer_ready(alloc, host, pending, &mut written, output)?;
-        hold_line(pending);
-        if !read_more(input, pending)? {
-            end_live(alloc, host, pending, &mut written, output)?;
+        answer_ready(alloc, host, &mut flow, output)?;
+        hold_line(&mut flow.pending);
+        if !read_more(input, &mut flow.pending)? {
+            end_live(alloc, host, &mut flow, output)?;
             return Ok(());
         }
     }
@@ -176,16 +218,15 @@ fn serve_lines<R: Read, W: Write>(
 
 /// Writes the final lines of the stays of a file without lines after its plan.
 fn end_plan<W: Write>(alloc: Global, host: &LiveHost, output: &mut W) -> Result<(), LiveFault>
-    requires { HaveCores host.now.open_stays host.now.cores.open.items }
-    ensures written { (plan : List GameRow) → HasAnswered host.now.blocks host.now.version plan [] host.now.cores.open.items host.now.open_stays host.now.number
-        → OnOk result (Appends (W.contents output.old) (W.contents output.new) (live_lines_of host.now.blocks host.now.version plan [])) }
-    ensures left { IfErr result (λ fault. (plan : List GameRow) → HasAnswered host.now.blocks host.now.version plan [] host.now.cores.open.items host.now.open_stays host.now.number
-        → LeavesLines host.now.blocks host.now.version plan [] (W.contents output.old) (W.contents output.new) fault) }
+    ensures written { (blocks : ℕ) (version : Version) (plan : List GameRow) → HasAnswered blocks version plan [] host.now
+        → OnOk result (Appends (W.contents output.old) (W.contents output.new) (live_lines_of blocks version plan [])) }
+    ensures left { IfErr result (λ fault. (blocks : ℕ) (version : Version) (plan : List GameRow) → HasAnswered blocks version plan [] host.now
+        → LeavesLines blocks version plan [] (W.contents output.old) (W.contents output.new) fault) }
 {
-    let mut text = Vec::new(alloc);
+    let mut text = TextBuffer::new(alloc);
     host.close(alloc, &mut text)?;
     let mut written = 0;
-    write_out(&text, &mut written, output)?;
+    write_out(text.as_slice(), &mut written, output)?;
     Ok(())
 }
 
@@ -213,9 +254,7 @@ pub fn serve_live<R: Read, W: Write>(
     match split_first(&bytes) {
         Some((first, rest)) => {
             let mut host = LiveHost::open(alloc, first, blocks)?;
-            let mut pending = Vec::new(alloc);
-            pending.extend_from_slice(rest)?;
-            serve_lines(alloc, &mut host, &mut pending, input, output)?;
+            serve_lines(alloc, &mut host, rest, input, output)?;
             Ok(())
         }
         None => {

@@ -1,11 +1,10 @@
 //! Why a live host stops.
 ghost use Rattle.std.specs.Prelude.{◌≡◌};
 ghost use Rattle.bs_host.specs.declared.live_fault.LiveFault.TheVariants.{Memory};
-ghost use Rattle.bs_host.specs.LiveFaults.{live_fault_of_plan, live_fault_of_run};
+ghost use Rattle.bs_host.specs.LiveFaults.{live_fault_of_plan};
 
 use crate::fault::PlanRefusal;
 use bs_json::PlanFault;
-use bs_workers::Run;
 use std::alloc::AllocError;
 use thiserror::Error;
 
@@ -19,9 +18,6 @@ pub enum LiveFault {
     Plan(PlanRefusal),
     #[error("out of memory")]
     Memory,
-    /// A core did not answer a command correctly (`bs_workers::Run::Broken`).
-    #[error("broken")]
-    Broken,
     /// The writer failed after it took this many bytes since the start.
     #[error("write failed after {0} bytes")]
     Write(usize),
@@ -46,17 +42,6 @@ impl From<PlanFault> for LiveFault {
             PlanFault::BadRow => LiveFault::Plan(PlanRefusal::BadRow),
             PlanFault::TooMany => LiveFault::Plan(PlanRefusal::TooMany),
             PlanFault::Memory => LiveFault::Memory,
-        }
-    }
-}
-
-impl From<Run> for LiveFault {
-    ghost from_gives = { λ error fault. fault ≡ live_fault_of_run error };
-
-    fn from(error: Run) -> LiveFault {
-        match error {
-            Run::Memory => LiveFault::Memory,
-            Run::Broken => LiveFault::Broken,
         }
     }
 }

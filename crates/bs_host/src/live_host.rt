@@ -1,26 +1,26 @@
-//! The state of a live host between two lines.
-ghost use Rattle.std.specs.Prelude.{◌≡◌, true, ℕ, List, [], ◌∷◌, ◌++◌, length, IfOk, IfErr, OnOk, option_to_list};
-ghost use Rattle.bs_board.specs.plans.Plan.{GameRow};
+//! A live host between two lines: an automaton over the lines.
+ghost use Rattle.std.specs.Prelude.{◌≡◌, ◌++◌, fold, IfOk, IfErr, OnOk};
+ghost use Rattle.bs_json.specs.Replies.{stray_line_of};
 ghost use Rattle.bs_json.specs.PlanLine.{plan_line_of};
-ghost use Rattle.bs_workers.specs.declared.act.Act.{Act};
 ghost use Rattle.bs_host.specs.Faults.{refusal_of_plan};
 ghost use Rattle.bs_host.specs.File.{pieces_of};
-ghost use Rattle.bs_host.specs.Live.{ArePlayed, HasAnswered, HasOpened, HaveCores, answer_after, answers_from, closing_behind, finds_core, numbers_of, numbers_then, route_line, rows_behind};
-ghost use Rattle.bs_host.specs.LiveFaults.{IsLiveRefusal};
-ghost use Rattle.bs_host.specs.Routing.{act_in};
+ghost use Rattle.bs_host.specs.inner.Live.{HasOpened};
+ghost use Rattle.bs_host.specs.inner.LiveFaults.{IsLiveRefusal};
+ghost use Rattle.bs_host.specs.inner.LiveHost.{live_after, live_end, live_text, live_texts, stays_then, text_then};
 
 use crate::fault::PlanRefusal;
 use crate::limits::BLOCK_BYTES;
 use crate::lines::split_line;
 use crate::live_fault::LiveFault;
+use crate::live_stays::LiveStays;
 use crate::open_stays::OpenStays;
 use crate::parse::parse_line;
 use crate::route::Route;
-use crate::stay_cores::StayCores;
 use bs_board::Version;
-use bs_json::{read_plan, stray_line};
+use bs_json::{Stray, TextBuffer, push_stray_line, read_plan, stray_line_bound};
+use bs_live::make_room;
 use bs_sched::blocks_of_all;
-use bs_workers::{Act, Run};
+use bs_workers::Act;
 use std::alloc::{AllocError, Global};
 
 /// The number of the first line after the plan.
@@ -31,13 +31,48 @@ const FIRST_NUMBER: u64 = 2;
 pub(crate) struct LiveHost {
     pub(crate) blocks: usize,
     pub(crate) version: Version,
-    pub(crate) cores: StayCores,
     pub(crate) open_stays: OpenStays,
+    pub(crate) stays: LiveStays,
     /// The number of the next line.
     pub(crate) number: u64,
 }
 
+/// Appends the line of a stray.
+#[tactic(auto, using(bs_live::proofs::Lines::put_within))]
+fn push_stray(
+    alloc: Global,
+    number: u64,
+    kind: Stray,
+    text: &mut TextBuffer,
+) -> Result<(), AllocError>
+    ensures { OnOk result (text.new.bytes ≡ text.old.bytes ++ stray_line_of number kind) }
+{
+    make_room(alloc, text, stray_line_bound(number, kind))?;
+    push_stray_line(number, kind, text);
+    Ok(())
+}
+
 impl LiveHost {
+    /// Opens the plan in the first line of a file. Checks the plan and the number of blocks, and
+    /// returns the first fault.
+    pub(crate) fn open(alloc: Global, first: &[u8], blocks: usize) -> Result<LiveHost, LiveFault>
+        ensures opened { IfOk result (HasOpened blocks first.now) }
+        ensures fault { IfErr result (IsLiveRefusal (refusal_of_plan blocks (plan_line_of first.now))) }
+    {
+        let plan = read_plan(alloc, first)?;
+        let rows = plan.rows.as_slice();
+        if blocks_of_all(BLOCK_BYTES, rows) > blocks {
+            return Err(LiveFault::Plan(PlanRefusal::Short));
+        }
+        Ok(LiveHost {
+            blocks,
+            version: plan.version,
+            open_stays: OpenStays::of_plan(alloc, &plan.rows)?,
+            stays: LiveStays::open_all(alloc, rows)?,
+            number: FIRST_NUMBER,
+        })
+    }
+
     /// Executes a routed line, and appends its answer. A stay that is admitted gets the number
     /// `made`.
     fn follow(
@@ -45,78 +80,38 @@ impl LiveHost {
         alloc: Global,
         made: usize,
         route: &Route,
-        text: &mut Vec<u8>,
-    ) -> Result<(), Run>
-        requires { finds_core route.now self.old.cores.open.items ≡ true }
-        ensures blocks { OnOk result (self.new.blocks ≡ self.old.blocks) }
-        ensures version { OnOk result (self.new.version ≡ self.old.version) }
-        ensures cores { OnOk result (numbers_of self.new.cores.open.items ≡ numbers_then made (numbers_of self.old.cores.open.items) route.now) }
-        ensures open_stays { OnOk result (self.new.open_stays ≡ self.old.open_stays) }
-        ensures number { OnOk result (self.new.number ≡ self.old.number) }
-        ensures played { (plan : List GameRow) (acts : List Act) → made ≡ length (rows_behind plan acts) → ArePlayed plan acts self.old.cores.open.items
-            → OnOk result (ArePlayed plan (acts ++ option_to_list (act_in route.now)) self.new.cores.open.items) }
-        ensures text { (plan : List GameRow) (acts : List Act) → ArePlayed plan acts self.old.cores.open.items
-            → OnOk result (text.new.items ≡ text.old.items ++ route_line plan acts self.old.number route.now) }
+        text: &mut TextBuffer,
+    ) -> Result<(), AllocError>
+        ensures host { OnOk result (self.new ≡ record self.old { stays = stays_then made route.now self.old.stays }) }
+        ensures text { OnOk result (text.new.bytes ≡ text.old.bytes ++ text_then self.old.number route.now self.old.stays) }
     {
         match route {
             Route::Act(Act::Hand(stay, command)) => {
-                self.cores.hand(alloc, *stay, command, text)?;
+                self.stays.answer(alloc, *stay, command.get(), text)
             }
-            Route::Act(Act::Admit(row)) => {
-                self.cores.admit(alloc, self.version, made, row)?;
-            }
-            Route::Act(Act::Leave(stay)) => {
-                self.cores.leave(alloc, *stay, text)?;
-            }
-            Route::Stray(kind) => {
-                let line = stray_line(alloc, self.number, *kind)?;
-                text.extend_from_slice(&line)?;
-            }
-            Route::Nowhere => {}
+            Route::Act(Act::Admit(row)) => self.stays.admit(alloc, made, row),
+            Route::Act(Act::Leave(stay)) => self.stays.leave(alloc, *stay, text),
+            Route::Stray(kind) => push_stray(alloc, self.number, *kind, text),
+            Route::Nowhere => Ok(()),
         }
-        Ok(())
-    }
-
-    /// Opens the plan in the first line of a file. Checks the plan and the number of blocks, and
-    /// returns the first fault.
-    pub(crate) fn open(alloc: Global, first: &[u8], blocks: usize) -> Result<LiveHost, LiveFault>
-        ensures opened { IfOk result (λ live. HasOpened blocks first.now live.blocks live.version live.cores.open.items live.open_stays live.number) }
-        ensures cores { IfOk result (λ live. HaveCores live.open_stays live.cores.open.items) }
-        ensures fault { IfErr result (IsLiveRefusal (refusal_of_plan blocks (plan_line_of first.now))) }
-    {
-        let plan = read_plan(alloc, first)?;
-        let version = plan.version;
-        let rows = plan.rows.as_slice();
-        if blocks_of_all(BLOCK_BYTES, rows) > blocks {
-            return Err(LiveFault::Plan(PlanRefusal::Short));
-        }
-        let open_stays = OpenStays::of_plan(alloc, &plan.rows)?;
-        let cores = StayCores::open_all(alloc, version, rows)?;
-        Ok(LiveHost {
-            blocks,
-            version,
-            cores,
-            open_stays,
-            number: FIRST_NUMBER,
-        })
     }
 
     /// Routes and executes the next line, and appends its answer.
-    fn answer(&mut self, alloc: Global, line: &[u8], text: &mut Vec<u8>) -> Result<(), Run>
-        requires { HaveCores self.old.open_stays self.old.cores.open.items }
-        ensures cores { OnOk result (HaveCores self.new.open_stays self.new.cores.open.items) }
-        ensures blocks { OnOk result (self.new.blocks ≡ self.old.blocks) }
-        ensures version { OnOk result (self.new.version ≡ self.old.version) }
-        ensures answered { (plan : List GameRow) (lines : List (List ℕ)) → HasAnswered self.old.blocks self.old.version plan lines self.old.cores.open.items self.old.open_stays self.old.number
-            → OnOk result (HasAnswered self.old.blocks self.old.version plan (lines ++ line.now ∷ []) self.new.cores.open.items self.new.open_stays self.new.number) }
-        ensures text { (plan : List GameRow) (lines : List (List ℕ)) → HasAnswered self.old.blocks self.old.version plan lines self.old.cores.open.items self.old.open_stays self.old.number
-            → OnOk result (text.new.items ≡ text.old.items ++ answer_after self.old.blocks self.old.version plan lines line.now) }
+    fn answer(
+        &mut self,
+        alloc: Global,
+        line: &[u8],
+        text: &mut TextBuffer,
+    ) -> Result<(), AllocError>
+        ensures host { OnOk result (self.new ≡ live_after self.old line.now) }
+        ensures text { OnOk result (text.new.bytes ≡ text.old.bytes ++ live_text self.old line.now) }
     {
+        let number = self.number.checked_add(1).ok_or(AllocError)?;
         let parsed = parse_line(alloc, self.version, line, None)?;
         let made = self.open_stays.made();
         let route = self.open_stays.route(alloc, self.blocks, &parsed)?;
         self.follow(alloc, made, &route, text)?;
-        self.number = self.number.checked_add(1).ok_or(AllocError)?;
+        self.number = number;
         Ok(())
     }
 
@@ -125,16 +120,10 @@ impl LiveHost {
         &mut self,
         alloc: Global,
         lines: &[u8],
-        text: &mut Vec<u8>,
-    ) -> Result<(), Run>
-        requires { HaveCores self.old.open_stays self.old.cores.open.items }
-        ensures cores { OnOk result (HaveCores self.new.open_stays self.new.cores.open.items) }
-        ensures blocks { OnOk result (self.new.blocks ≡ self.old.blocks) }
-        ensures version { OnOk result (self.new.version ≡ self.old.version) }
-        ensures answered { (plan : List GameRow) (before : List (List ℕ)) → HasAnswered self.old.blocks self.old.version plan before self.old.cores.open.items self.old.open_stays self.old.number
-            → OnOk result (HasAnswered self.old.blocks self.old.version plan (before ++ pieces_of lines.now) self.new.cores.open.items self.new.open_stays self.new.number) }
-        ensures text { (plan : List GameRow) (before : List (List ℕ)) → HasAnswered self.old.blocks self.old.version plan before self.old.cores.open.items self.old.open_stays self.old.number
-            → OnOk result (text.new.items ≡ text.old.items ++ answers_from self.old.blocks self.old.version plan before (pieces_of lines.now)) }
+        text: &mut TextBuffer,
+    ) -> Result<(), AllocError>
+        ensures host { OnOk result (self.new ≡ fold live_after self.old (pieces_of lines.now)) }
+        ensures text { OnOk result (text.new.bytes ≡ text.old.bytes ++ live_texts self.old (pieces_of lines.now)) }
     {
         let mut left = Some(lines);
         'lines: while let Some(lines) = left {
@@ -146,15 +135,9 @@ impl LiveHost {
     }
 
     /// Appends the final lines of the open stays, in the order of their rows.
-    pub(crate) fn close(&self, alloc: Global, text: &mut Vec<u8>) -> Result<(), Run>
-        requires { HaveCores self.now.open_stays self.now.cores.open.items }
-        ensures { (plan : List GameRow) (lines : List (List ℕ)) → HasAnswered self.now.blocks self.now.version plan lines self.now.cores.open.items self.now.open_stays self.now.number
-            → OnOk result (text.new.items ≡ text.old.items ++ closing_behind self.now.blocks self.now.version plan lines) }
+    pub(crate) fn close(&self, alloc: Global, text: &mut TextBuffer) -> Result<(), AllocError>
+        ensures { OnOk result (text.new.bytes ≡ text.old.bytes ++ live_end self.now) }
     {
-        for index in 0..self.open_stays.len() {
-            self.cores
-                .show_final(alloc, self.open_stays.number(index), text)?;
-        }
-        Ok(())
+        self.stays.close(alloc, text)
     }
 }

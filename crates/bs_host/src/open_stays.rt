@@ -1,7 +1,8 @@
 //! The open stays, while the lines of a file are routed.
 ghost use Rattle.std.specs.Prelude.{◌≡◌, true, not, nat_eq};
 ghost use Rattle.std.specs.List.{filter};
-ghost use Rattle.bs_host.specs.OpenStays.{OpenStayList, are_named_once, open_stays_in};
+ghost use Rattle.bs_host.specs.OpenStays.{OpenStayList};
+ghost use Rattle.bs_host.specs.inner.OpenStays.{are_named_once, open_stays_in};
 
 use crate::limits::BLOCK_BYTES;
 use crate::parse::ParsedLine;
@@ -41,13 +42,12 @@ fn remove_stay(stays: &mut Vec<(usize, Row)>, stay: usize)
 }
 
 impl OpenStays {
-    ghost use Rattle.std.specs.Prelude.{◌≡◌, ◌-◌, ◌<◌, [], ◌&&◌, not, nat_lt, length, slice_index_or, Some, None, IfOk, OnOk};
-    ghost use Rattle.bs_board.specs.plans.Plan.{row_of};
+    ghost use Rattle.std.specs.Prelude.{◌≡◌, ◌-◌, ◌&&◌, not, nat_lt, length, Some, None, IfOk, OnOk};
     ghost use Rattle.std.specs.List.{list_any, position};
     ghost use Rattle.bs_workers.specs.Acts.{opened};
     ghost use Rattle.bs_host.specs.declared.route.Route.TheVariants as route;
-    ghost use Rattle.bs_host.specs.OpenStays.{bears, blocks_in, found_in, is_named_at, open_stays_of, open_stays_then, refusal_by};
-    ghost use Rattle.bs_host.specs.Parsed.{route_parsed};
+    ghost use Rattle.bs_host.specs.inner.OpenStays.{bears, blocks_in, found_in, is_named_at, open_stays_of, open_stays_then, refusal_by};
+    ghost use Rattle.bs_host.specs.inner.Parsed.{route_parsed};
     ghost use Rattle.bs_host.specs.Routing.{admit_route, hand_route, capacity_of, leave_route};
 
     /// Opens the rows of a plan.
@@ -72,21 +72,6 @@ impl OpenStays {
         ensures { result ≡ self.now.made }
     {
         self.made
-    }
-
-    /// The number of open stays.
-    pub(crate) fn len(&self) -> usize
-        ensures { result ≡ length self.now.stays }
-    {
-        self.stays.len()
-    }
-
-    /// The row number of the open stay at that index.
-    pub(crate) fn number(&self, place: usize) -> usize
-        requires { place < length self.now.stays }
-        ensures { result ≡ (slice_index_or self.now.stays place (0, row_of [] 0)).0 }
-    {
-        self.stays[place].0
     }
 
     /// Whether an open stay of that name is at that index.

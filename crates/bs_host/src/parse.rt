@@ -2,8 +2,9 @@
 ghost use Rattle.std.specs.Prelude.{◌≡◌, ◌++◌, ◌+◌, ◌<◌, ◌≤◌, ℕ, length, IfOk, IfSome, option_copied};
 ghost use Rattle.std.specs.Thread.{IsSync};
 ghost use Rattle.bs_json.specs.Line.{line_of};
-ghost use Rattle.bs_host.specs.File.{pieces_of, pieces_after};
-ghost use Rattle.bs_host.specs.Parsed.{parsed_line, parsed_lines};
+ghost use Rattle.bs_host.specs.File.{pieces_of};
+ghost use Rattle.bs_host.specs.inner.File.{pieces_after};
+ghost use Rattle.bs_host.specs.inner.Parsed.{parsed_line, parsed_lines};
 
 use crate::lines::{split_from, split_line};
 use bs_board::{Command, Id, Row, Version};

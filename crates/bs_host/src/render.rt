@@ -5,7 +5,7 @@ ghost use Rattle.std.specs.List.{flat_map};
 ghost use Rattle.bs_sched.specs.Machine.{lane_of};
 ghost use Rattle.bs_transcript.specs.Lines.{section_lines_of};
 ghost use Rattle.bs_transcript.specs.Written.{Leaves};
-ghost use Rattle.bs_host.specs.Transcript.{lane_lines_of, core_text_of};
+ghost use Rattle.bs_host.specs.inner.Transcript.{lane_lines_of, core_text_of};
 
 use crate::limits::BLOCK_BYTES;
 use bs_json::Stray;

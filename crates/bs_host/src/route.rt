@@ -1,9 +1,10 @@
 //! Routes the parsed lines of a file: to the core as acts, to the stray lines, or nowhere.
 ghost use Rattle.std.specs.Prelude.{◌≡◌, ◌++◌, IfOk, OnOk, option_to_list};
 ghost use Rattle.bs_workers.specs.Acts.{opened};
-ghost use Rattle.bs_host.specs.OpenStays.{open_stays_of};
-ghost use Rattle.bs_host.specs.Parsed.{routes_parsed};
-ghost use Rattle.bs_host.specs.Routing.{IsRouted, act_in, capacity_of, numbered_stray};
+ghost use Rattle.bs_host.specs.inner.OpenStays.{open_stays_of};
+ghost use Rattle.bs_host.specs.inner.Parsed.{routes_parsed};
+ghost use Rattle.bs_host.specs.Routing.{act_in, capacity_of, numbered_stray};
+ghost use Rattle.bs_host.specs.inner.Routing.{IsRouted};
 
 use crate::open_stays::OpenStays;
 use crate::parse::ParsedLine;

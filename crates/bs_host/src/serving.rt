@@ -2,11 +2,14 @@
 //! the core, and writes the transcript.
 ghost use Rattle.std.specs.Prelude.{◌≡◌, ◌≤◌, None, IfOk, IfErr, OnOk, option_copied};
 ghost use Rattle.std.specs.Io.KnownBytes.{Appends};
-ghost use Rattle.bs_host.specs.File.{pieces_after};
-ghost use Rattle.bs_host.specs.Hosted.{Hosts, IsOpened};
+ghost use Rattle.bs_host.specs.inner.File.{pieces_after};
+ghost use Rattle.bs_host.specs.Hosted.{Hosts};
+ghost use Rattle.bs_host.specs.inner.Hosted.{IsOpened};
 ghost use Rattle.bs_workers.specs.Acts.{opened};
-ghost use Rattle.bs_host.specs.Routing.{IsRouted, capacity_of, routes_from};
-ghost use Rattle.bs_host.specs.Faults.{refusal_of, IsRefusal, IsFault, Leaves};
+ghost use Rattle.bs_host.specs.Routing.{capacity_of, routes_from};
+ghost use Rattle.bs_host.specs.inner.Routing.{IsRouted};
+ghost use Rattle.bs_host.specs.Faults.{refusal_of, IsFault, Leaves};
+ghost use Rattle.bs_host.specs.inner.Faults.{IsRefusal};
 ghost use Rattle.bs_host.specs.Transcript.{transcript_of};
 
 use crate::fault::Fault;

@@ -12,7 +12,7 @@ use Rattle.bs_board.specs.declared.commands.command.Command.TheVariants as comma
 use Rattle.bs_board.specs.declared.limits.TheConstants.{LAST_TURN}
 use Rattle.bs_board.specs.commands.Orders.{AreFitWords}
 use Rattle.bs_board.proofs.Chains.{and_both}
-use Rattle.bs_json.specs.Compact.{IsCompact, are_plain, are_plain_moves, compact_text, direction_name, is_plain, move_text, moves_text, order_text, tail_text, words_text}
+use Rattle.bs_json.specs.inner.Compact.{IsCompact, are_plain, are_plain_moves, compact_text, direction_name, is_plain, move_text, moves_text, order_text, tail_text, words_text}
 
 -- what holds of each word holds of the first and of each of the others
 pub all_parts : (limit word : ℕ) (words : List ℕ) → All (λ w. w < limit) (word ∷ words) → (word < limit) × All (λ w. w < limit) words

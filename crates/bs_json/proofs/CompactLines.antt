@@ -35,7 +35,7 @@ use Rattle.bs_json.specs.declared.line.Line.TheVariants as line
 use Rattle.bs_board.specs.declared.plans.version.Version.{Version}
 use Rattle.bs_board.specs.declared.plans.version.Version.TheVariants.{One, Two, Three, Five}
 use Rattle.bs_json.specs.Commands.{command_of}
-use Rattle.bs_json.specs.Compact.{IsCompact, are_plain, compact_text, direction_name, is_plain, moves_text, words_text}
+use Rattle.bs_json.specs.inner.Compact.{IsCompact, are_plain, compact_text, direction_name, is_plain, moves_text, words_text}
 use Rattle.bs_json.specs.Line.{is_space, line_from, line_of}
 use Rattle.bs_json.specs.Moves.{direction_named, directions_of, map_from, orders_from}
 use Rattle.bs_json.specs.Values.{each, value_of, whole_to}

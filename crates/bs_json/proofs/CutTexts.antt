@@ -13,7 +13,7 @@ use Rattle.serde_json.specs.Written.{comma_if}
 use Rattle.bs_board.specs.declared.boards.point.Direction.{Direction}
 use Rattle.bs_board.specs.declared.boards.point.Direction.TheVariants.{Up, Down, Left, Right}
 use Rattle.bs_board.specs.Texts.{is_same_text}
-use Rattle.bs_json.specs.Compact.{is_plain, are_plain, are_plain_moves, direction_name, move_text, moves_text, words_text}
+use Rattle.bs_json.specs.inner.Compact.{is_plain, are_plain, are_plain_moves, direction_name, move_text, moves_text, words_text}
 use Rattle.bs_json.specs.Moves.{direction_named}
 
 pub behind_prefix : (line text rest : List ℕ) → bytes_eq (take (length text) line) text ≡ true → rest ≡ drop (length text) line → line ≡ text ++ rest

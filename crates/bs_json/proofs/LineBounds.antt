@@ -23,7 +23,8 @@ use Rattle.bs_board.specs.boards.Legal.{IsLegal, IsLegalLiving, IsLegalOut, IsLe
 use Rattle.bs_board.specs.boards.Hazards.{are_fit_hazards}
 use Rattle.bs_board.specs.boards.Over.{is_over}
 use Rattle.bs_board.specs.records.Record.{hazard_bytes, record_of, snake_record}
-use Rattle.bs_board.specs.records.Writing.{AreWritableHazards, IsByte, IsByteCell, IsWritable}
+use Rattle.bs_board.specs.records.Writing.{IsByte, IsByteCell, IsWritable}
+use Rattle.bs_board.specs.inner.Writing.{AreWritableHazards}
 use Rattle.bs_board.proofs.records.Lengths.{length_of_hazards, length_of_record, length_of_snake}
 use Rattle.bs_board.proofs.Chains.{and_both}
 use Rattle.bs_board.proofs.records.Longest.{side_fits}
@@ -37,8 +38,9 @@ use Rattle.bs_board.specs.declared.commands.reply.Reply.TheVariants.{Shown, Plai
 use Rattle.bs_json.specs.declared.line.Stray.{Stray}
 use Rattle.bs_json.specs.declared.line.Stray.TheVariants as stray
 use Rattle.bs_json.specs.Boards.{board_data, cause_data, cell_data, cells_data, id_data, killer_data, mode_text, out_data, snake_data, snakes_data}
-use Rattle.bs_json.specs.BoardText.{coordinate_text, hazard_pieces}
-use Rattle.bs_json.specs.Replies.{final_line_of, last_data, refusal_code, refusal_text, reply_line_of, stray_code, stray_line_of, stray_text, tail_pieces, text_line, word_text}
+use Rattle.bs_json.specs.inner.BoardText.{coordinate_text, hazard_pieces}
+use Rattle.bs_json.specs.Replies.{final_line_of, last_data, refusal_code, refusal_text, reply_line_of, stray_code, stray_line_of, stray_text, text_line, word_text}
+use Rattle.bs_json.specs.inner.Replies.{tail_pieces}
 use Rattle.bs_json.proofs.ReplyText.{final_is, plain_is, refused_is, shown_is, stray_is}
 use Rattle.bs_json.proofs.ShownSnakes.{board_is, found_at, nobody, snake_is}
 

@@ -5,7 +5,8 @@ use Rattle.serde_json.specs.Events.{SendsValue}
 use Rattle.serde_json.specs.Written.{has_float}
 use Rattle.serde_json.proofs.FreeTexts.{text_of_value}
 use Rattle.bs_board.specs.declared.boards.board.Board.{Board}
-use Rattle.bs_json.specs.Replies.{IsLineOf, final_data, final_line_of, text_line}
+use Rattle.bs_json.specs.Replies.{final_data, final_line_of, text_line}
+use Rattle.bs_json.specs.inner.Replies.{IsLineOf}
 use Rattle.bs_json.proofs.Floats.{final_has_no_float}
 
 text_of_line : (d : Data) (line : List ℕ) → has_float d ≡ false → IsLineOf (SendsValue d) line → line ≡ text_line d

@@ -10,7 +10,8 @@ use Rattle.bs_board.specs.declared.commands.reply.Refusal.{Refusal}
 use Rattle.bs_board.specs.declared.commands.reply.Reply.TheVariants.{Shown, Plain, Refused}
 use Rattle.bs_json.specs.declared.line.Stray.{Stray}
 use Rattle.bs_json.specs.Boards.{board_data}
-use Rattle.bs_json.specs.Replies.{final_data, last_data, refusal_code, refusal_text, reply_data, stray_code, stray_data, stray_text, tail_pieces}
+use Rattle.bs_json.specs.Replies.{final_data, last_data, refusal_code, refusal_text, reply_data, stray_code, stray_data, stray_text}
+use Rattle.bs_json.specs.inner.Replies.{tail_pieces}
 
 pub shown_is : (game : List ℕ) (seq : ℕ) (word : Word) (board : Board) (charge : ℕ)
     → codes "{\"board\":" ++ (compact_text (board_data board) ++ (codes ",\"charge\":" ++ tail_pieces game seq word charge)) ≡ compact_text (reply_data game seq (Shown word board charge))

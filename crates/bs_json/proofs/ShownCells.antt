@@ -14,7 +14,7 @@ use Rattle.bs_board.specs.declared.boards.point.Point.{Point}
 use Rattle.bs_board.specs.records.Record.{cell_bytes}
 use Rattle.bs_board.specs.records.Writing.{IsByteCell}
 use Rattle.bs_json.specs.Boards.{cell_data}
-use Rattle.bs_json.specs.BoardText.{cell_of, cells_of, coordinate_text}
+use Rattle.bs_json.specs.inner.BoardText.{cell_of, cells_of, coordinate_text}
 use Rattle.bs_json.specs.Text.{Text, put}
 use Rattle.bs_json.proofs.Puts.{next, put_item}
 

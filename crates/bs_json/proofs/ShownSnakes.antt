@@ -14,9 +14,10 @@ use Rattle.bs_board.specs.declared.records.layout.SnakeBytes.{SnakeBytes}
 use Rattle.bs_board.specs.boards.Over.{is_over}
 use Rattle.bs_board.specs.records.Layout.{IsBoardBytes, IsSnakeBytes, cells_of, damage_of}
 use Rattle.bs_board.specs.records.Record.{cell_bytes, snake_record}
-use Rattle.bs_board.specs.records.Writing.{AreWritableHazards, IsWritable, IsWritableBoard}
+use Rattle.bs_board.specs.records.Writing.{IsWritable}
+use Rattle.bs_board.specs.inner.Writing.{AreWritableHazards, IsWritableBoard}
 use Rattle.bs_json.specs.Boards.{board_data, cells_data, killer_data, mode_text, snake_data, snakes_data}
-use Rattle.bs_json.specs.BoardText.{back_pieces, board_of, front_pieces, hazard_pieces, hazards_of, snake_of, snake_pieces}
+use Rattle.bs_json.specs.inner.BoardText.{back_pieces, board_of, front_pieces, hazard_pieces, hazards_of, snake_of, snake_pieces}
 use Rattle.bs_json.specs.Text.{Text, put}
 use Rattle.bs_json.proofs.Puts.{put_put}
 use Rattle.bs_json.proofs.ShownCells.{cells_again}

@@ -1,7 +1,5 @@
-pub mod BoardText
 pub mod Boards
 pub mod Commands
-pub mod Compact
 pub mod Line
 pub mod Moves
 pub mod PlanLine
@@ -9,3 +7,4 @@ pub mod Replies
 pub mod Setups
 pub mod Text
 pub mod Values
+pub mod inner

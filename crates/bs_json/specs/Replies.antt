@@ -1,9 +1,7 @@
 -- The lines of a transcript: compact JSON, each ended by a line feed.
-use Rattle.std.specs.Prelude.{◌≡◌, ℕ, codes, decimal, List, [], ◌∷◌, ◌++◌, Option, Some, None, true}
+use Rattle.std.specs.Prelude.{ℕ, codes, List, [], ◌∷◌, ◌++◌, Option, Some, None, true}
 use Rattle.serde_json.specs.Data.{Data, null, boolean, string}
-use Rattle.serde_json.specs.Sent.{IsTextOf}
 use Rattle.serde_json.specs.Written.{compact_text}
-use Rattle.serde.specs.Event.{Log}
 use Rattle.bs_board.specs.declared.boards.board.Board.{Board}
 use Rattle.bs_board.specs.declared.commands.command.Word.{Word}
 use Rattle.bs_board.specs.declared.commands.command.Word.TheVariants as word
@@ -102,12 +100,6 @@ stray_data line stray = object_of (
     ∷ (codes "why", string (stray_text stray))
     ∷ [])
 
--- The members of a reply from the charge's number on, as a JSON text.
-abbrev pub tail_pieces : List ℕ → ℕ → Word → ℕ → List ℕ
-tail_pieces game seq word charge =
-    decimal charge ++ (codes ",\"do\":" ++ (compact_text (string (word_text word)) ++ (codes ",\"game\":" ++ (compact_text (string game)
-    ++ (codes ",\"seq\":" ++ (decimal seq ++ codes "}"))))))
-
 abbrev pub text_line : Data → List ℕ
 text_line d = compact_text d ++ 10 ∷ []
 
@@ -119,7 +111,3 @@ final_line_of game board charge = text_line (final_data game board charge)
 
 abbrev pub stray_line_of : ℕ → Stray → List ℕ
 stray_line_of line stray = text_line (stray_data line stray)
-
--- the text that is sent to an empty log, then a line feed
-abbrev pub IsLineOf : (Log → Log → Type 0) → List ℕ → Type 0
-IsLineOf Sends line = (text : List ℕ) × (log : Log) × Sends (Some []) log × IsTextOf log text × (line ≡ text ++ 10 ∷ [])

@@ -5,7 +5,7 @@ ghost use Rattle.std.specs.Char.{is_ascii_digit};
 ghost use Rattle.std.specs.List.{list_all, position};
 ghost use Rattle.serde_json.specs.Written.{comma_if};
 ghost use Rattle.bs_board.specs.commands.Orders.{AreFitWords};
-ghost use Rattle.bs_json.specs.Compact.{is_plain, are_plain, are_plain_moves, move_text, moves_text, words_text, tail_text, order_text, IsCompact, IsCompactMove, MayLeaveOut};
+ghost use Rattle.bs_json.specs.inner.Compact.{is_plain, are_plain, are_plain_moves, move_text, moves_text, words_text, tail_text, order_text, IsCompact, IsCompactMove, MayLeaveOut};
 ghost use Rattle.bs_board.specs.declared.plans.version.Version.{Version as AnyVersion};
 ghost use Rattle.bs_json.specs.Line.{line_of};
 ghost use Rattle.bs_json.specs.declared.limits.TheConstants.{MAX_LINE};

@@ -5,8 +5,8 @@ ghost use Rattle.std.specs.Char.{digit_char};
 ghost use Rattle.json.specs.Print.{escape, escape_byte, escape_letter};
 ghost use Rattle.serde_json.specs.Data.{string};
 ghost use Rattle.serde_json.specs.Written.{compact_text};
-ghost use Rattle.bs_json.specs.BoardText.{text_data};
-ghost use Rattle.bs_json.specs.Compact.{are_plain};
+ghost use Rattle.bs_json.specs.inner.BoardText.{text_data};
+ghost use Rattle.bs_json.specs.inner.Compact.{are_plain};
 ghost use Rattle.bs_json.specs.Text.{put};
 
 use crate::compact::is_plain;

@@ -7,7 +7,8 @@ ghost use Rattle.serde_json.specs.Events.{SendsValue};
 ghost use Rattle.serde_json.specs.View.{view};
 ghost use Rattle.serde_json.specs.Written.{compact_text};
 ghost use Rattle.bs_board.specs.declared.commands.reply.Reply.TheVariants.{Refused};
-ghost use Rattle.bs_json.specs.Replies.{word_text, refusal_code, refusal_text, stray_code, stray_text, reply_data, last_data, final_data, stray_data, IsLineOf, tail_pieces, reply_line_of, final_line_of, stray_line_of};
+ghost use Rattle.bs_json.specs.Replies.{word_text, refusal_code, refusal_text, stray_code, stray_text, reply_data, last_data, final_data, stray_data, reply_line_of, final_line_of, stray_line_of};
+ghost use Rattle.bs_json.specs.inner.Replies.{IsLineOf, tail_pieces};
 ghost use Rattle.bs_json.specs.Text.{put};
 
 use crate::boards::board_value;

@@ -7,9 +7,10 @@ ghost use Rattle.bs_board.specs.declared.boards.board.Board.{Board as AnyBoard};
 ghost use Rattle.bs_board.specs.declared.boards.snake.Snake.{Snake as AnySnake};
 ghost use Rattle.bs_board.specs.records.Layout.{IsBoardBytes, IsSnakeBytes};
 ghost use Rattle.bs_board.specs.records.Record.{snake_record};
-ghost use Rattle.bs_board.specs.records.Writing.{IsWritable, IsWritableBoard};
+ghost use Rattle.bs_board.specs.records.Writing.{IsWritable};
+ghost use Rattle.bs_board.specs.inner.Writing.{IsWritableBoard};
 ghost use Rattle.bs_json.specs.Boards.{board_data, cause_data, cell_data, cells_data, killer_data, mode_text, out_data, snake_data, snakes_data};
-ghost use Rattle.bs_json.specs.BoardText.{back_pieces, board_of, cell_of, cells_of, coordinate_text, front_pieces, hazard_pieces, hazards_of, snake_of, snake_pieces, text_data};
+ghost use Rattle.bs_json.specs.inner.BoardText.{back_pieces, board_of, cell_of, cells_of, coordinate_text, front_pieces, hazard_pieces, hazards_of, snake_of, snake_pieces, text_data};
 ghost use Rattle.bs_json.specs.Text.{put};
 
 use crate::boards::{cause_text, mode_text};

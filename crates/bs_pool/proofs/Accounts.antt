@@ -11,8 +11,9 @@ use Rattle.std.proofs.lemmas.List.Folds.{find_at}
 use Rattle.std.proofs.lemmas.List.Sums.{position_or_len_is}
 use Rattle.bs_pool.proofs.Positions.{none_passes}
 use Rattle.bs_pool.specs.declared.reservation.Account.{Account}
-use Rattle.bs_pool.specs.Accounts.{reservations_of, is_account_of, has_account, granted, without_account, counted, AreCounted, AreDistinct, Recounts}
-use Rattle.bs_pool.specs.Reservations.{is_of, is_reserved, reserved_by, without}
+use Rattle.bs_pool.specs.inner.Accounts.{reservations_of, is_account_of, has_account, granted, without_account, counted, AreCounted, AreDistinct, Recounts}
+use Rattle.bs_pool.specs.Reservations.{is_of, reserved_by, without}
+use Rattle.bs_pool.specs.inner.Reservations.{is_reserved}
 use Rattle.bs_pool.specs.Ledger.{is_owned_by}
 use Rattle.bs_pool.proofs.Reservations.{none_since, some_since}
 

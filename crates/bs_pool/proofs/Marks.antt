@@ -11,7 +11,7 @@ use Rattle.std.proofs.lemmas.List.{length-set, get_or-set_same, get_or-set_other
 use Rattle.std.proofs.lemmas.Nat.Bits.{bit_at-zero, bit_at-trailing_zeros, bit_at_set_same, bit_at_set_other, bit_at_clear_same, bit_at_clear_other}
 use lib.Bits.{bit_and}
 use Rattle.bs_pool.proofs.Positions.{none_passes}
-use Rattle.bs_pool.specs.Marks.{mark_of, IsFirstMark, SetsMark, is_free_at, MarksFree}
+use Rattle.bs_pool.specs.inner.Marks.{mark_of, IsFirstMark, SetsMark, is_free_at, MarksFree}
 
 -- a word is written: the bit of the number is b, and each other bit is unchanged
 set_word : (words : List ℕ) (number b word : ℕ) → number / 64 < length words → bit_at word (number % 64) ≡ b

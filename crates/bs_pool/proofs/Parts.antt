@@ -9,11 +9,12 @@ use Rattle.std.proofs.lemmas.List.Sums.{position_or_len_is, passes_at_first}
 use Rattle.std.proofs.lemmas.Option.{slice_get_within}
 use Rattle.bs_pool.specs.declared.reservation.Account.{Account}
 use Rattle.bs_pool.specs.declared.reservation.Reservation.{Reservation}
-use Rattle.bs_pool.specs.Accounts.{reservations_of, is_account_of, has_account, granted, without_account, counted, Recounts}
+use Rattle.bs_pool.specs.inner.Accounts.{reservations_of, is_account_of, has_account, granted, without_account, counted, Recounts}
 use Rattle.bs_pool.specs.Ledger.{Ledger, Owns, is_unowned, is_owned_by, held, reserved, least_free}
-use Rattle.bs_pool.specs.Marks.{mark_of, IsFirstMark, FindsMark, SetsMark, MarksFree, is_free_at}
-use Rattle.bs_pool.specs.PoolParts.{ledger_in, AreParts}
-use Rattle.bs_pool.specs.Reservations.{is_reserved, all_reserved}
+use Rattle.bs_pool.specs.inner.Marks.{mark_of, IsFirstMark, FindsMark, SetsMark, MarksFree, is_free_at}
+use Rattle.bs_pool.specs.inner.PoolParts.{ledger_in, AreParts}
+use Rattle.bs_pool.specs.Reservations.{all_reserved}
+use Rattle.bs_pool.specs.inner.Reservations.{is_reserved}
 use Rattle.bs_pool.proofs.Accounts.{counted_is, counts_again, recounted, reserved_in, is_reserved_in, without_in}
 use Rattle.bs_pool.proofs.Owners.{free_at, held_drawn, held_drawn_other, held_given, held_given_other}
 use Rattle.bs_pool.proofs.Reservations.{none_since, reserved_none}

@@ -4,7 +4,8 @@ use Rattle.std.specs.Prelude.{nat_eq, find, AllPairs}
 use Rattle.std.proofs.lemmas.Bool.{cases_Bool, cases_eq, eq-eqb, ne_eqb, eqb-false}
 use Rattle.std.proofs.lemmas.List.Sums.{sum_by-cons, sum_by_push}
 use Rattle.bs_pool.specs.declared.reservation.Reservation.{Reservation}
-use Rattle.bs_pool.specs.Reservations.{is_of, is_reserved, reserved_by, all_reserved, without}
+use Rattle.bs_pool.specs.Reservations.{is_of, reserved_by, all_reserved, without}
+use Rattle.bs_pool.specs.inner.Reservations.{is_reserved}
 use Rattle.bs_pool.specs.Ledger.{Ledger, unreserved, with_reservation}
 
 -- the test for a reservation, as the contracts state it

@@ -7,7 +7,8 @@ use Rattle.std.proofs.lemmas.Bool.{cases_Bool, cases_eq, lt-ltb}
 use Rattle.std.proofs.lemmas.List.Quantifiers.{all_pairs_push}
 use Rattle.std.proofs.lemmas.List.Kept.{AllPairs-filter}
 use Rattle.bs_pool.specs.declared.reservation.Reservation.{Reservation}
-use Rattle.bs_pool.specs.Reservations.{is_of, is_reserved, reserved_by, all_reserved, without}
+use Rattle.bs_pool.specs.Reservations.{is_of, reserved_by, all_reserved, without}
+use Rattle.bs_pool.specs.inner.Reservations.{is_reserved}
 use Rattle.bs_pool.specs.Ledger.{Ledger, IsSound, Owns, given, is_unowned, is_owned_by, free, held, reserved, least_free, opened, ledger_of}
 use Rattle.bs_pool.proofs.Counts.{count_cons, count_when}
 use Rattle.bs_pool.proofs.Owners.{all_numbers, held_drawn, held_drawn_other, size_drawn, held_given, held_given_other, size_given}

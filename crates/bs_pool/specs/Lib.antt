@@ -1,9 +1,6 @@
-pub mod Accounts
 pub mod DrawAnswer
 pub mod Ledger
 pub mod OwnedLends
 pub mod Reservations
-pub mod PoolParts
 pub mod ReserveAnswer
-pub mod Whereabouts
-pub mod Marks
+pub mod inner

@@ -1,15 +1,10 @@
 -- The reservation of a tag in a list of reservations.
 use Rattle.std.specs.Prelude.{ℕ, Bool, List, nat_eq, find, filter, not, sum_by, option_map, unwrap_or}
-use Rattle.std.specs.List.{list_any}
 use Rattle.bs_pool.specs.declared.reservation.Reservation.{Reservation}
 
 -- the reservation is the tag's
 abbrev pub is_of : ℕ → Reservation → Bool
 is_of tag r = nat_eq r.tag tag
-
--- the tag has a reservation
-abbrev pub is_reserved : ℕ → List Reservation → Bool
-is_reserved tag rs = list_any (is_of tag) rs
 
 -- 0 if the tag has no reservation
 abbrev pub reserved_by : ℕ → List Reservation → ℕ

@@ -28,7 +28,7 @@ pub struct Pool<const CAP: usize> {
 
 impl<const CAP: usize> Model for Pool<CAP> {
     ghost use Rattle.bs_pool.specs.Ledger.{Ledger};
-    ghost use Rattle.bs_pool.specs.PoolParts.{ledger_in, AreParts};
+    ghost use Rattle.bs_pool.specs.inner.PoolParts.{ledger_in, AreParts};
 
     ghost Value = { Ledger };
 

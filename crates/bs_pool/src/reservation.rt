@@ -1,6 +1,6 @@
 //! Reservations, and why one is refused.
 ghost use Rattle.std.specs.Prelude.{◌≡◌, ◌+◌, ◌-◌, ◌<◌, ◌^◌, true, false, nat_lt, position};
-ghost use Rattle.bs_pool.specs.Accounts.{is_account_of, has_account, granted, all_granted, without_account, counted, AreDistinct, Recounts};
+ghost use Rattle.bs_pool.specs.inner.Accounts.{is_account_of, has_account, granted, all_granted, without_account, counted, AreDistinct, Recounts};
 
 use thiserror::Error;
 

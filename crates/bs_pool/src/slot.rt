@@ -29,7 +29,7 @@ impl<const CAP: usize> Model for Slot<CAP> {
 
     ghost Value = { Option ℕ };
 
-    ghost use Rattle.bs_pool.specs.Whereabouts.{owner_in, IsEmptyAtHome};
+    ghost use Rattle.bs_pool.specs.inner.Whereabouts.{owner_in, IsEmptyAtHome};
 
     ghost view = { λ s. owner_in s.whereabouts };
 

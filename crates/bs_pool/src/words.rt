@@ -1,6 +1,6 @@
 //! The free numbers of a pool as words: a bit for each number, 64 to a word, set where it is free.
 ghost use Rattle.std.specs.Prelude.{◌≡◌, ◌*◌, ◌/◌, ◌<◌, ◌≤◌, ◌^◌, length, None, replicate, not, nat_eq, position, IfOk};
-ghost use Rattle.bs_pool.specs.Marks.{FindsMark, SetsMark, MarksFree};
+ghost use Rattle.bs_pool.specs.inner.Marks.{FindsMark, SetsMark, MarksFree};
 
 use std::alloc::{AllocError, Global};
 

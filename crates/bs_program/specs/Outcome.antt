@@ -1,6 +1,6 @@
 -- The answer of the program to a request, and what its output then has.
 use Rattle.std.specs.Prelude.{◌≡◌, ◌≢◌, ℕ, ◌<◌, ◌≤◌, List, length, codes, true, false, Option, Some, None, Result, Ok, Err, IfSome}
-use Rattle.std.specs.Io.KnownBytes.{Appends, Keeps}
+use Rattle.std.specs.Io.KnownBytes.{Appends}
 use Rattle.bs_host.specs.declared.limits.TheConstants.{MOST_FILE_BYTES}
 use Rattle.bs_host.specs.declared.read.ReadFault.{ReadFault}
 use Rattle.bs_host.specs.declared.read.ReadFault.TheVariants as read
@@ -42,15 +42,6 @@ abbrev pub IsReadFault : Option (List ℕ) → Named → List ℕ → ReadFault 
 IsReadFault left named name read.Device = Unit {0}
 IsReadFault left named name read.TooLong = IsTooLong left named name
 IsReadFault left named name read.Memory = Unit {0}
-
--- a flush changes no byte, and the output notes that it succeeded
-abbrev pub Finishes : {W : Type 0} → (W → Option (List ℕ)) → Output W → Output W → Answer → Type 0
-Finishes contents old new (Ok done) = Keeps (held_by contents old) (held_by contents new) × (new.is_flushed ≡ true)
-Finishes contents old new (Err (Read fault)) = ⊥
-Finishes contents old new (Err (Cut fault)) = ⊥
-Finishes contents old new (Err (Serve fault)) = ⊥
-Finishes contents old new (Err (Live fault)) = ⊥
-Finishes contents old new (Err Flush) = Keeps (held_by contents old) (held_by contents new) × (new.has_failed ≡ true)
 
 -- These bytes were appended to the output.
 abbrev pub Gains : {W : Type 0} → (W → Option (List ℕ)) → Output W → Output W → List ℕ → Type 0
@@ -124,7 +115,6 @@ Does contents left named (alone name game nth blocks) = PlaysAlone contents left
 Does contents left named (live blocks) = ServesLive contents left blocks
 
 -- The status and the line.
-
 -- The text was written, unless the writer failed at some call.
 pub record Puts {W : Type 0} (contents : W → Option (List ℕ)) (text : List ℕ) (old new : Output W) : Type 0 where
   pub written : new.has_failed ≡ false → Gains contents old new text

@@ -73,7 +73,6 @@ abbrev pub reason_of_live : LiveFault → Reason
 reason_of_live live.Device = CannotRead
 reason_of_live (live.Plan refusal) = Plan refusal
 reason_of_live live.Memory = OutOfMemory
-reason_of_live live.Broken = Broken
 reason_of_live (live.Write written) = WriteFailed written
 reason_of_live live.Flush = FlushFailed
 

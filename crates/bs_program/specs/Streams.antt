@@ -23,7 +23,3 @@ is_flushed output = output.is_flushed
 -- the writer took a byte at some call
 abbrev pub has_bytes : {W : Type 0} → Output W → Bool
 has_bytes output = output.has_bytes
-
--- a call of the writer failed
-abbrev pub has_failed : {W : Type 0} → Output W → Bool
-has_failed output = output.has_failed

@@ -36,7 +36,6 @@ impl Failure {
             Failure::Live(LiveFault::Device) => Reason::CannotRead,
             Failure::Live(LiveFault::Plan(refusal)) => Reason::Plan(*refusal),
             Failure::Live(LiveFault::Memory) => Reason::OutOfMemory,
-            Failure::Live(LiveFault::Broken) => Reason::Broken,
             Failure::Live(LiveFault::Write(written)) => Reason::WriteFailed(*written),
             Failure::Live(LiveFault::Flush) => Reason::FlushFailed,
             Failure::Flush => Reason::FlushFailed,

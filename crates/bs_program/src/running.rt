@@ -1,7 +1,8 @@
 //! A request, done over any reader and any writer.
 ghost use Rattle.std.specs.Prelude.{◌≡◌, IfOk, IfErr};
 ghost use Rattle.bs_program.specs.Asked.{asked_for};
-ghost use Rattle.bs_program.specs.Outcome.{Does, Finishes, IsInput, IsReadFault, PlaysAlone, Serves, ServesFile, ServesLive};
+ghost use Rattle.bs_program.specs.Outcome.{Does, IsInput, IsReadFault, PlaysAlone, Serves, ServesFile, ServesLive};
+ghost use Rattle.bs_program.specs.inner.Outcome.{Finishes};
 
 use crate::failure::Failure;
 use crate::request::{Request, STANDARD_INPUT, Serving, Solo};

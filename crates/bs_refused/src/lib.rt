@@ -16,6 +16,8 @@ mod games;
 #[cfg(test)]
 mod jobs;
 #[cfg(test)]
+mod live;
+#[cfg(test)]
 mod page;
 #[cfg(test)]
 mod play;

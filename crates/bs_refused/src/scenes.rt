@@ -7,7 +7,9 @@ use crate::boards::{
 use crate::cores::{OpenCore, OpenTally, play_core, play_stays};
 use crate::games::{Answered, Joined, first_new, first_turn, new_while_running, of_running};
 use crate::jobs::{play_failed, worked};
+use crate::live::PlayStay;
 use crate::page::Page;
+use crate::play::commands;
 use crate::scene::ask;
 use crate::texts::{
     Cutting, FILE, FinalLine, PushReply, ReadLines, ReadPlan, ReplyLine, ShowBoard, StrayLine,
@@ -285,6 +287,12 @@ fn stays(rt: HostRuntime) -> Result<(), Fail> {
     let mut page = page_of(&rt);
     play_stays(&mut page)?;
     page.close()
+}
+
+#[test]
+fn live_stay(rt: HostRuntime) -> Result<(), Fail> {
+    let alloc = rt.alloc();
+    ask::<PlayStay>(page_of(&rt), commands(alloc)?)
 }
 
 #[test]

@@ -16,14 +16,14 @@ use Rattle.bs_game.specs.Law.{IsAnswerTo, IsFitEffect, effected}
 use Rattle.bs_game.specs.View.{answer_of, effect_of}
 use Rattle.bs_game.proofs.AnswerLaw.{answers_the_game}
 use Rattle.bs_game.proofs.Games.{last_of_more, legal_last, newest_is_last, nothing_runs}
-use Rattle.bs_game.specs.Recorded.{IsRecorded}
+use Rattle.bs_game.specs.inner.Recorded.{IsRecorded}
 use Rattle.bs_game.proofs.Recorded.{same_charge}
 use Rattle.bs_heap.specs.Charge.{charge_of}
 use Rattle.bs_heap.specs.Heap.{Heap}
-use Rattle.bs_sched.specs.Game.{KeepsBoards}
+use Rattle.bs_sched.specs.inner.Game.{KeepsBoards}
 use Rattle.bs_sched.specs.Courses.{IsRight}
-use Rattle.bs_sched.specs.Insides.{may_answer}
-use Rattle.bs_sched.specs.LastBoards.{last_after}
+use Rattle.bs_sched.specs.inner.Insides.{may_answer}
+use Rattle.bs_sched.specs.inner.LastBoards.{last_after}
 use Rattle.bs_sched.specs.Lane.{Lane, lane_view, lane_command, lane_outcome, answered, is_idle, occupies, has_begin, has_join}
 use Rattle.bs_sched.specs.declared.stage.Stage.{Stage}
 use Rattle.bs_sched.specs.declared.stage.Stage.TheVariants as stage

@@ -19,7 +19,7 @@ use Rattle.bs_sched.specs.declared.stage.Stage.TheVariants as stage
 use Rattle.bs_sched.specs.PartState.{PartState}
 use Rattle.bs_sched.specs.PartState as part
 use Rattle.bs_sched.specs.Courses.{IsRight}
-use Rattle.bs_sched.specs.FrameEffects.{Keeps, Forks, begun_parts, brought_effect, frame_effect, is_begun, numbers_after, taken_effect}
+use Rattle.bs_sched.specs.inner.FrameEffects.{Keeps, Forks, begun_parts, brought_effect, frame_effect, is_begun, numbers_after, taken_effect}
 use Rattle.bs_sched.specs.Frames.{flattened}
 use Rattle.bs_sched.specs.Lane.{Lane, answered, forked, goes_on, has_begin, has_part, is_idle, is_in_parts, is_out, is_part_done, is_part_ready, is_playing, is_quiet, is_ready, is_to_join, part_at, with_put, with_taken}
 use Rattle.bs_sched.specs.Machine.{is_allowed, lane_after}

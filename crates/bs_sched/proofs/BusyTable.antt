@@ -14,7 +14,7 @@ use Rattle.bs_fiber.specs.declared.job.JobName.{JobName}
 use Rattle.bs_sched.specs.declared.event.Event.TheVariants as event
 use Rattle.bs_sched.specs.declared.stage.Stage.{Stage}
 use Rattle.bs_sched.specs.declared.stage.Stage.TheVariants as stage
-use Rattle.bs_sched.specs.Busy.{IsBusyTable, held_by, lanes_held, marked, one_if}
+use Rattle.bs_sched.specs.inner.Busy.{IsBusyTable, held_by, lanes_held, marked, one_if}
 use Rattle.bs_sched.specs.Lane.{Lane, empty_lane, closed_lane, no_lane, goes_on, is_idle, is_in_parts, is_to_join, is_part_done, has_begin, has_join, is_ready, is_out, occupies, forked, answered, with_waiting, with_taken, with_put}
 use Rattle.bs_sched.specs.Machine.{lane_of, lane_effect, is_busy, is_enabled_there}
 

@@ -25,11 +25,14 @@ use Rattle.bs_sched.specs.PartState as state
 use Rattle.bs_sched.specs.declared.stage.Stage.{Stage}
 use Rattle.bs_sched.specs.declared.stage.Stage.TheVariants as stage
 use Rattle.bs_sched.specs.Courses.{IsRight}
-use Rattle.bs_sched.specs.Frames.{FramesView, LeavesBut, flattened, forked_frames, with_moved}
-use Rattle.bs_sched.specs.Game.{GameView, HasBlocks, IsGame, KeepsBoards, forked_game, game_in, game_with_part, lane_at, taken_game}
-use Rattle.bs_sched.specs.Insides.{HasParts, IsRightWithParts, may_answer}
+use Rattle.bs_sched.specs.Frames.{FramesView, flattened}
+use Rattle.bs_sched.specs.inner.Frames.{LeavesBut, forked_frames, with_moved}
+use Rattle.bs_sched.specs.Game.{GameView}
+use Rattle.bs_sched.specs.inner.Game.{HasBlocks, IsGame, KeepsBoards, forked_game, game_in, game_with_part, lane_at, taken_game}
+use Rattle.bs_sched.specs.inner.Insides.{HasParts, IsRightWithParts, may_answer}
 use Rattle.bs_sched.specs.Lane.{Lane, answered, goes_on, is_idle, is_out, is_playing, is_ready, kept_of, lane_command, lane_view, records_of, with_part_done, with_taken, with_waiting}
-use Rattle.bs_sched.specs.MoveParts.{ArePartsIn, FitParts, PartsView, frames_of, number_of, part_completed, part_taken, parts_forked, parts_idle, parts_joined, ready_part, states_of}
+use Rattle.bs_sched.specs.MoveParts.{PartsView}
+use Rattle.bs_sched.specs.inner.MoveParts.{ArePartsIn, FitParts, frames_of, number_of, part_completed, part_taken, parts_forked, parts_idle, parts_joined, ready_part, states_of}
 use Rattle.bs_sched.proofs.JoinFrames.{seen_joined, states_joined, to_join}
 use Rattle.bs_sched.proofs.PartFrames.{seen_completed, seen_forked, seen_taken, states_completed, states_forked, states_taken, to_fork}
 use Rattle.bs_sched.proofs.RightRuns.{busy_out, busy_ready, not_quiet, open_busy}

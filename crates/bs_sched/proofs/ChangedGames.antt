@@ -15,16 +15,18 @@ use Rattle.bs_heap.specs.HeldBlocks.{next_number}
 use Rattle.bs_pool.specs.declared.reservation.Reservation.{Reservation}
 use Rattle.bs_pool.specs.Ledger.{Ledger}
 use Rattle.bs_sched.specs.declared.games.Games.TheInside.{Inside}
-use Rattle.bs_sched.specs.Frames.{LeavesBut, pool_taken}
-use Rattle.bs_sched.specs.Game.{GameView, HasBlocks, answered_game, completed_game, forked_game, IsOwnTicket, handed_game, no_game, own_names, pool_completed, taken_game}
+use Rattle.bs_sched.specs.inner.Frames.{LeavesBut, pool_taken}
+use Rattle.bs_sched.specs.Game.{GameView}
+use Rattle.bs_sched.specs.inner.Game.{HasBlocks, answered_game, completed_game, forked_game, IsOwnTicket, handed_game, no_game, own_names, pool_completed, taken_game}
 use Rattle.bs_sched.specs.declared.event.Event.TheVariants as event
-use Rattle.bs_sched.specs.Games.{GamesView, after, answer_effect, games_completed, games_taken, storage_put, storage_taken}
-use Rattle.bs_sched.specs.GamesLayout.{AreAtRows, AreGone, IsAtRow, IsSound, game_at, games_in, lanes_in, storage_in, tallies_in}
+use Rattle.bs_sched.specs.Games.{GamesView, after, answer_effect, games_taken, storage_put, storage_taken}
+use Rattle.bs_sched.specs.inner.Games.{games_completed}
+use Rattle.bs_sched.specs.inner.GamesLayout.{AreAtRows, AreGone, IsAtRow, IsSound, game_at, games_in, lanes_in, storage_in, tallies_in}
 use Rattle.bs_sched.specs.Inputs.{input_of, job_numbers, names_for}
 use Rattle.bs_sched.specs.Lane.{Lane, forked, goes_on, is_out, is_ready, with_put, with_waiting}
 use Rattle.bs_sched.specs.Machine.{lane_of, open_blocks}
 use Rattle.bs_sched.specs.Putting.{IsOwn}
-use Rattle.bs_sched.specs.Reserved.{AreReserved}
+use Rattle.bs_sched.specs.inner.Reserved.{AreReserved}
 use Rattle.bs_sched.specs.Storage.{frame_tag, frames_of, record_tag, stored, without_frames}
 use Rattle.bs_sched.proofs.Brought.{answered_storage}
 use Rattle.bs_sched.proofs.ChangedGame.{left_blocks, taken_boards}

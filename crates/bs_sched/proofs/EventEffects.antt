@@ -17,7 +17,7 @@ use Rattle.bs_sched.specs.declared.event.Event.{Event}
 use Rattle.bs_sched.specs.declared.event.Event.TheVariants as event
 use Rattle.bs_sched.specs.declared.stage.Stage.{Stage}
 use Rattle.bs_sched.specs.declared.stage.Stage.TheVariants as stage
-use Rattle.bs_sched.specs.FrameEffects.{Keeps, Forks, Draws, brought_effect, frame_effect, framed_by, taken_effect}
+use Rattle.bs_sched.specs.inner.FrameEffects.{Keeps, Forks, Draws, brought_effect, frame_effect, framed_by, taken_effect}
 use Rattle.bs_sched.specs.Games.{answer_effect, put_effect, storage_after, storage_answered, storage_put, storage_taken, unreserved_storage, with_stay}
 use Rattle.bs_sched.specs.Courses.{IsRight}
 use Rattle.bs_sched.specs.Isolation.{HandsFit, IsWell}

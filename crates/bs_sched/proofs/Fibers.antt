@@ -9,7 +9,7 @@ use Rattle.bs_game.specs.Game.{game_charge}
 use Rattle.bs_fiber.specs.declared.job.JobKind.TheVariants as kind
 use Rattle.bs_sched.specs.declared.fiber.Fiber.TheInside.{Inside}
 use Rattle.bs_sched.specs.declared.stage.Stage.TheVariants as stage
-use Rattle.bs_sched.specs.Insides.{lane_in, IsFiber}
+use Rattle.bs_sched.specs.inner.Insides.{lane_in, IsFiber}
 use Rattle.bs_sched.specs.Lane.{Lane, goes_on, is_idle, is_quiet, is_ready, with_taken}
 use Rattle.bs_sched.proofs.Lanes.{ready_join, joined_lane}
 

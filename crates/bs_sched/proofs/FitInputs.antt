@@ -22,7 +22,8 @@ use Rattle.bs_board.specs.records.Kept.{IsLegalRecord}
 use Rattle.bs_fiber.specs.Seeing.{IsBoardOf, IsSeen}
 use Rattle.bs_fiber.proofs.Seen.{seen_once}
 use Rattle.bs_sched.specs.Courses.{IsRight}
-use Rattle.bs_sched.specs.Inputs.{current_input, input_of, moved_parts_for}
+use Rattle.bs_sched.specs.Inputs.{input_of, moved_parts_for}
+use Rattle.bs_sched.specs.inner.Inputs.{current_input}
 use Rattle.std.specs.Prelude.{nat_lt, slice_set}
 use Rattle.std.proofs.Common.{get_or}
 use Rattle.std.proofs.lemmas.Bool.{ltb-true, ltb-false, eq-eqb}

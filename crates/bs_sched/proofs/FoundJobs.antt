@@ -3,10 +3,11 @@ use Rattle.std.proofs.Common.{◌≡◌, ℕ, ◌<◌, List, length, inl, inr, s
 use Rattle.std.specs.Prelude.{slice_index_or, Option, None, Some, MatchOption}
 use Rattle.bs_fiber.specs.declared.job.JobName.{JobName}
 use Rattle.std.proofs.lemmas.Bool.{cases_lt}
-use Rattle.bs_sched.specs.GamesLayout.{open_rows}
-use Rattle.bs_sched.specs.Lane.{HasNoneReady, Lane}
+use Rattle.bs_sched.specs.inner.GamesLayout.{open_rows}
+use Rattle.bs_sched.specs.Lane.{Lane}
+use Rattle.bs_sched.specs.inner.Lane.{HasNoneReady}
 use Rattle.bs_sched.specs.Machine.{lane_of}
-use Rattle.bs_sched.specs.Taking.{AreNoneOpenReady, AreNoneReadyBetween, IsReadyJob}
+use Rattle.bs_sched.specs.inner.Taking.{AreNoneOpenReady, AreNoneReadyBetween, IsReadyJob}
 use Rattle.bs_sched.proofs.OpenRows.{open_listed}
 
 -- what holds from a place on and before it holds of all places

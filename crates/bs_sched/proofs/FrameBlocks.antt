@@ -9,12 +9,14 @@ use Rattle.bs_sched.specs.declared.parts.Part.{Part}
 use Rattle.bs_sched.specs.declared.parts.Part.TheVariants as field
 use Rattle.bs_sched.specs.PartState.{PartState}
 use Rattle.bs_sched.specs.PartState as state
-use Rattle.bs_sched.specs.MoveParts.{PartView, number_of, state_of}
+use Rattle.bs_sched.specs.MoveParts.{PartView}
+use Rattle.bs_sched.specs.inner.MoveParts.{number_of, state_of}
 use Rattle.bs_sched.specs.MoveParts as part
-use Rattle.bs_sched.specs.PartsLayout.{number_in, part_in, state_in, view_of, AreReadyAt, IsReadyAt, IsPartOf}
+use Rattle.bs_sched.specs.inner.PartsLayout.{number_in, part_in, state_in, view_of, AreReadyAt, IsReadyAt, IsPartOf}
 use Rattle.bs_sched.specs.Lane.{is_part_done, is_part_ready}
 use Rattle.bs_sched.specs.Frames.{flattened}
-use Rattle.bs_sched.specs.Keyed.{AreKeysOf, IsKeyAt}
+use Rattle.bs_sched.specs.Keyed.{IsKeyAt}
+use Rattle.bs_sched.specs.inner.Keyed.{AreKeysOf}
 
 -- the state of a part, read from the list
 pub state_read : {most : ℕ} (parts : List (Part most)) (p : ℕ) → slice_index_or (map state_of (map view_of parts)) p state.Done ≡ state_in (part_in parts p)

@@ -10,13 +10,14 @@ use Rattle.bs_pool.specs.declared.owned.Owned.{Owned}
 use Rattle.bs_pool.specs.Ledger.{Ledger}
 use Rattle.bs_fiber.specs.Tickets.{bytes_of, frames_in, names_of}
 use Rattle.bs_heap.specs.HeldBlocks.{AreOwned, Holds, LeavesOthers, all_given}
-use Rattle.bs_heap.specs.Lent.{AreLent, owned_numbers}
+use Rattle.bs_heap.specs.inner.Lent.{AreLent, owned_numbers}
 use Rattle.bs_heap.proofs.GivenBlocks.{lent_from_owned}
 use Rattle.bs_heap.proofs.HeldBlocks.{holds_rest, leaves_rest}
 use Rattle.bs_sched.specs.declared.parts.Part.{Part}
 use Rattle.bs_sched.specs.declared.parts.Part.TheVariants as field
-use Rattle.bs_sched.specs.PartsLayout.{block_in, joined, moved_in, view_of, AreReadyAt, IsReadyAt, IsPartOf}
-use Rattle.bs_sched.specs.MoveParts.{PartView, joined_of, moved_of, number_of}
+use Rattle.bs_sched.specs.inner.PartsLayout.{block_in, joined, moved_in, view_of, AreReadyAt, IsReadyAt, IsPartOf}
+use Rattle.bs_sched.specs.MoveParts.{PartView}
+use Rattle.bs_sched.specs.inner.MoveParts.{joined_of, moved_of, number_of}
 use Rattle.bs_sched.specs.MoveParts as part
 use Rattle.bs_sched.specs.Frames.{flattened}
 

@@ -19,7 +19,7 @@ use Rattle.bs_sched.specs.declared.stage.Stage.{Stage}
 use Rattle.bs_sched.specs.declared.stage.Stage.TheVariants as stage
 use Rattle.bs_sched.specs.PartState.{PartState}
 use Rattle.bs_sched.specs.PartState as part
-use Rattle.bs_sched.specs.Journal.{out_of_part, out_of_stage, out_of_lane, jobs_out}
+use Rattle.bs_sched.specs.inner.Journal.{out_of_part, out_of_stage, out_of_lane, jobs_out}
 use Rattle.bs_sched.specs.Lane.{Lane, empty_lane, closed_lane, no_lane, goes_on, is_idle, is_in_parts, is_to_join, has_begin, has_join, has_part, is_part_ready, is_part_done, is_ready, is_out, forked, answered, stage_with, with_waiting, with_taken, with_put}
 use Rattle.bs_sched.specs.Machine.{lane_of, lane_effect, is_enabled_there}
 

@@ -12,10 +12,12 @@ use Rattle.bs_fiber.specs.declared.job.JobKind.{JobKind}
 use Rattle.bs_fiber.specs.Work.{moved_part}
 use Rattle.bs_sched.specs.declared.stage.Stage.{Stage}
 use Rattle.bs_sched.specs.declared.stage.Stage.TheVariants as stage
-use Rattle.bs_sched.specs.Frames.{FramesView, flattened, joining_frames}
+use Rattle.bs_sched.specs.Frames.{FramesView, flattened}
+use Rattle.bs_sched.specs.inner.Frames.{joining_frames}
 use Rattle.bs_sched.specs.Inputs.{job_numbers, moved_parts_for}
 use Rattle.bs_sched.specs.Lane.{Lane, is_part_done, is_ready, is_to_join, with_taken, lane_view, lane_command}
-use Rattle.bs_sched.specs.MoveParts.{AreDoneAt, ArePartsIn, FitParts, IsPartAt, PartView, PartsView, frames_of, joined_of, moved_of, number_of, parts_joined, state_of, states_of}
+use Rattle.bs_sched.specs.MoveParts.{PartView, PartsView}
+use Rattle.bs_sched.specs.inner.MoveParts.{AreDoneAt, ArePartsIn, FitParts, IsPartAt, frames_of, joined_of, moved_of, number_of, parts_joined, state_of, states_of}
 use Rattle.bs_sched.specs.MoveParts as part
 use Rattle.bs_sched.specs.PartState.{PartState}
 use Rattle.bs_sched.proofs.Lanes.{ready_join}

@@ -11,16 +11,18 @@ use Rattle.bs_pool.specs.Ledger.{size}
 use Rattle.bs_sched.specs.declared.cores.Core.TheInside.{Inside}
 use Rattle.bs_sched.specs.declared.event.Event.{Event}
 use Rattle.bs_sched.specs.Registry.{AreKnownApart, rows_in}
-use Rattle.bs_sched.specs.Busy.{IsBusyTable}
+use Rattle.bs_sched.specs.inner.Busy.{IsBusyTable}
 use Rattle.bs_sched.specs.Core.{CoreView, opened_core, core_after}
 use Rattle.bs_sched.specs.Games.{GamesView, after, setting_of, opened}
 use Rattle.bs_sched.specs.Isolation.{AreHosted, HandsFit, are_enabled, opened_lanes, shared_run}
-use Rattle.bs_sched.specs.Journal.{IsItsJournal, IsJournaled, KeepsApart, core_in, setting_in, jobs_out}
-use Rattle.bs_sched.specs.Lane.{HasNoneReady, Lane, is_quiet, is_ready}
+use Rattle.bs_sched.specs.Journal.{IsItsJournal, KeepsApart, setting_in}
+use Rattle.bs_sched.specs.inner.Journal.{IsJournaled, core_in, jobs_out}
+use Rattle.bs_sched.specs.Lane.{Lane, is_quiet, is_ready}
+use Rattle.bs_sched.specs.inner.Lane.{HasNoneReady}
 use Rattle.bs_sched.specs.Machine.{Setting, is_enabled, lane_effect, lane_of, step, run_of}
 use Rattle.bs_sched.specs.Memory.{games_run, games_step}
 use Rattle.bs_sched.specs.SharedMemory.{IsHosted, SharesMemory}
-use Rattle.bs_sched.specs.Taking.{AreNoneOpenReady, AreNoneReady}
+use Rattle.bs_sched.specs.inner.Taking.{AreNoneOpenReady, AreNoneReady}
 use Rattle.bs_sched.proofs.Registry.{journal_law}
 use Rattle.bs_sched.proofs.Isolation.{isolation_law}
 use Rattle.bs_sched.proofs.MemoryLaw.{memory_law}

@@ -9,11 +9,11 @@ use Rattle.bs_board.specs.declared.commands.command.Command.{Command}
 use Rattle.bs_board.specs.declared.commands.command.Command.TheVariants as command
 use Rattle.bs_fiber.specs.Asking.{asked_turn}
 use Rattle.bs_game.specs.Answer.{asked_board}
-use Rattle.bs_sched.specs.Inputs.{board_asked}
-use Rattle.bs_sched.specs.Turns.{FindsTurn}
+use Rattle.bs_sched.specs.inner.Inputs.{board_asked}
+use Rattle.bs_sched.specs.inner.Turns.{FindsTurn}
 use Rattle.bs_sched.proofs.NewestRecords.{Newest}
 use Rattle.bs_game.specs.Game.{Game, last_board}
-use Rattle.bs_game.specs.Recorded.{IsRecorded}
+use Rattle.bs_game.specs.inner.Recorded.{IsRecorded}
 use Rattle.bs_game.proofs.Recorded.{as_many}
 use Rattle.bs_block.specs.Rounding.{rounded}
 use Rattle.bs_game.specs.Law.{IsFitRecord}

@@ -13,8 +13,9 @@ use Rattle.bs_sched.specs.declared.stage.Stage.{Stage}
 use Rattle.bs_sched.specs.declared.stage.Stage.TheVariants as stage
 use Rattle.bs_sched.specs.PartState.{PartState}
 use Rattle.bs_sched.specs.PartState as part
-use Rattle.bs_sched.specs.Insides.{lane_in}
-use Rattle.bs_sched.specs.Lane.{Lane, HasNoneReady, part_at, is_part_ready, is_idle, is_in_parts, is_to_join, is_part_done, is_ready, is_out, with_taken, with_part_done}
+use Rattle.bs_sched.specs.inner.Insides.{lane_in}
+use Rattle.bs_sched.specs.Lane.{Lane, part_at, is_part_ready, is_idle, is_in_parts, is_to_join, is_part_done, is_ready, is_out, with_taken, with_part_done}
+use Rattle.bs_sched.specs.inner.Lane.{HasNoneReady}
 
 pub drop_more : {X : Type 0} (n : ℕ) (xs : List X) → drop (n + 1) xs ≡ drop 1 (drop n xs)
 drop_more zero xs = refl

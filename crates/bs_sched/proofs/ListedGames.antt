@@ -6,8 +6,9 @@ use Rattle.std.proofs.Math.Seq.{map-set_same}
 use Rattle.std.proofs.Math.ListN.{get_or-map}
 use Rattle.std.proofs.lemmas.Option.{slice_get_read, get_or_from_slice_get}
 use Rattle.bs_pool.specs.Ledger.{Ledger}
-use Rattle.bs_sched.specs.Game.{GameView, no_game}
-use Rattle.bs_sched.specs.GamesLayout.{game_at, lanes_in, open_rows, storage_in}
+use Rattle.bs_sched.specs.Game.{GameView}
+use Rattle.bs_sched.specs.inner.Game.{no_game}
+use Rattle.bs_sched.specs.inner.GamesLayout.{game_at, lanes_in, open_rows, storage_in}
 use Rattle.bs_sched.specs.Machine.{lane_of}
 use Rattle.bs_sched.specs.Storage.{frames_of, packing_of}
 use Rattle.bs_sched.proofs.OpenRows.{listed_within}

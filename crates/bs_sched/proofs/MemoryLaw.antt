@@ -30,7 +30,7 @@ use Rattle.bs_sched.specs.Lane.{Lane, forked, goes_on, has_begin, is_out, is_rea
 use Rattle.bs_sched.specs.Machine.{Setting, lane_of, is_allowed, game_of, row_in, is_admit, is_named, is_enabled, has_name, is_full, step, run_of, open_blocks}
 use Rattle.bs_sched.specs.Memory.{World, effect_at, world_after, world_step, world_run, opened_world, games_step, games_run}
 use Rattle.bs_sched.specs.Games.{GamesView, opened, pool_left, with_stay}
-use Rattle.bs_sched.specs.FrameEffects.{FrameEffect, Forks, Keeps, brought_effect, frame_effect, numbers_after, pool_framed, taken_effect}
+use Rattle.bs_sched.specs.inner.FrameEffects.{FrameEffect, Forks, Keeps, brought_effect, frame_effect, numbers_after, pool_framed, taken_effect}
 use Rattle.bs_sched.specs.Frames.{flattened}
 use Rattle.bs_fiber.specs.declared.job.JobKind.{JobKind}
 use Rattle.bs_fiber.specs.declared.job.JobKind.TheVariants as kind
@@ -42,7 +42,7 @@ use Rattle.bs_sched.proofs.LoneLanes.{comer, effect_admit, effect_there, changed
 use Rattle.bs_sched.proofs.BegunParts.{AreBegun, few_numbers, free_to_draw, none_drawn, none_idle, none_quiet, shape_after}
 use Rattle.bs_sched.proofs.PartFrames.{length_known}
 use Rattle.bs_sched.proofs.Reframed.{AreFramed, IsReframed, MayFrame, framed_beside, framed_changed, framed_comes, framed_reserved, numbers_at, reframed}
-use Rattle.bs_sched.specs.Reserved.{AreReserved, IsReserved}
+use Rattle.bs_sched.specs.inner.Reserved.{AreReserved, IsReserved}
 use Rattle.bs_sched.proofs.Reserved.{reserved_changed, reserved_left, reserved_comes, reserved_opened, enough, more_of, rest_of}
 use Rattle.bs_sched.proofs.RightRuns.{AreWell, fit_comer, well_step, well_opened, open_when, open_taken, open_put, opened_lane}
 use Rattle.bs_sched.proofs.SharedMemory.{KeepsLane, AreStored, few_of, can_draw, frame_there, kept_nothing, stored_changed, stored_reserved, stored_comes, stored_framed}

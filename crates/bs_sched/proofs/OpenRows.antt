@@ -8,7 +8,7 @@ use Rattle.std.proofs.lemmas.List.Folds.{list_any_at}
 use Rattle.std.proofs.lemmas.List.Sums.{sum_by-cons}
 use Rattle.bs_board.specs.plans.Plan.{GameRow}
 use Rattle.bs_board.specs.Texts.{is_same_text}
-use Rattle.bs_sched.specs.GamesLayout.{open_rows, open_rows_from}
+use Rattle.bs_sched.specs.inner.GamesLayout.{open_rows, open_rows_from}
 use Rattle.bs_sched.specs.Lane.{Lane, empty_lane, is_quiet}
 use Rattle.bs_sched.specs.Machine.{has_name, lane_of}
 

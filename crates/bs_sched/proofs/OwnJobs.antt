@@ -19,7 +19,8 @@ use Rattle.bs_sched.specs.Inputs.{input_for, input_of, names_for}
 use Rattle.bs_sched.specs.Lane.{Lane, lane_command, lane_view, is_out}
 use Rattle.bs_sched.specs.Games.{GamesView}
 use Rattle.bs_sched.specs.Machine.{lane_of}
-use Rattle.bs_sched.specs.Putting.{IsOwn, IsOwnOf}
+use Rattle.bs_sched.specs.Putting.{IsOwn}
+use Rattle.bs_sched.specs.inner.Putting.{IsOwnOf}
 use Rattle.bs_sched.proofs.FitInputs.{lane_input, lane_seen}
 
 -- what the lane expects does not depend on the parts

@@ -16,11 +16,13 @@ use Rattle.bs_sched.specs.declared.stage.Stage.TheVariants as stage
 use Rattle.bs_sched.specs.PartState.{PartState}
 use Rattle.bs_sched.specs.PartState as state
 use Rattle.bs_counter.specs.Keys.{Key, TallyId}
-use Rattle.bs_sched.specs.Frames.{flattened, forked_frames, with_moved, with_number}
+use Rattle.bs_sched.specs.Frames.{flattened}
+use Rattle.bs_sched.specs.inner.Frames.{forked_frames, with_moved, with_number}
 use Rattle.bs_sched.specs.Inputs.{job_numbers}
-use Rattle.bs_sched.specs.Keyed.{AreKeysOf, HasKeys}
+use Rattle.bs_sched.specs.inner.Keyed.{AreKeysOf, HasKeys}
 use Rattle.bs_sched.specs.Lane.{Lane, goes_on, has_begin, has_part, is_idle, is_in_parts, is_out, is_part_done, is_part_ready, is_ready, lane_command, lane_view, with_taken}
-use Rattle.bs_sched.specs.MoveParts.{ArePartsAt, ArePartsIn, AreBegunAt, FitParts, IsPartAt, PartView, PartsView, frames_of, moved_of, number_of, part_completed, part_taken, parts_begun, parts_forked, state_of, states_of}
+use Rattle.bs_sched.specs.MoveParts.{PartView, PartsView}
+use Rattle.bs_sched.specs.inner.MoveParts.{ArePartsAt, ArePartsIn, AreBegunAt, FitParts, IsPartAt, frames_of, moved_of, number_of, part_completed, part_taken, parts_begun, parts_forked, state_of, states_of}
 use Rattle.bs_sched.specs.MoveParts as part
 
 pub length_known : (numbers : List (Option ℕ)) → length (flattened numbers) ≤ length numbers

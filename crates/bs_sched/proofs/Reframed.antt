@@ -11,7 +11,7 @@ use Rattle.bs_heap.proofs.HeldBlocks.{owned_tail, holds_rest, leaves_rest, leave
 use Rattle.bs_pool.specs.Ledger.{Ledger, ledger_of, Owns, size, free, least_free, drawn, given}
 use Rattle.bs_pool.specs.declared.reservation.Reservation.{Reservation}
 use Rattle.bs_pool.proofs.Owners.{free_at, free_drawn, size_drawn, free_given, size_given, owns_drawn}
-use Rattle.bs_sched.specs.FrameEffects.{FrameEffect, Keeps, Forks, Draws, Returns, numbers_after, pool_framed}
+use Rattle.bs_sched.specs.inner.FrameEffects.{FrameEffect, Keeps, Forks, Draws, Returns, numbers_after, pool_framed}
 use Rattle.bs_sched.specs.Frames.{flattened}
 use Rattle.bs_sched.specs.Lane.{Lane, no_lane}
 use Rattle.bs_sched.specs.Machine.{lane_of}

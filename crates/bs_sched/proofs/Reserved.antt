@@ -16,7 +16,7 @@ use Rattle.bs_pool.proofs.Reservations.{all_removed, reserved_pushed, reserved_p
 use Rattle.bs_sched.specs.declared.plan_blocks.TheConstants.{FRAME_BLOCKS}
 use Rattle.bs_sched.specs.PlanBlocks.{record_blocks, blocks_of, blocks_of_all, reservations_from, reservations_of}
 use Rattle.bs_sched.specs.Storage.{record_tag, frame_tag}
-use Rattle.bs_sched.specs.Reserved.{AreReserved, IsReserved}
+use Rattle.bs_sched.specs.inner.Reserved.{AreReserved, IsReserved}
 use Rattle.bs_sched.proofs.PlanBlocks.{none_from, none_beside, reserved_for_frames, reserved_for_row}
 use Rattle.bs_sched.specs.Isolation.{opened_lanes}
 use Rattle.bs_sched.specs.Lane.{Lane, empty_lane, no_lane}

@@ -8,7 +8,7 @@ use Rattle.bs_game.specs.Answer.{Fits}
 use Rattle.bs_game.proofs.Courses.{course_is_game}
 use Rattle.bs_sched.specs.declared.fiber.Fiber.TheInside.{Inside}
 use Rattle.bs_sched.specs.Courses.{answered_commands}
-use Rattle.bs_sched.specs.Insides.{lane_in, answered_count, IsFiber, IsRightWithParts}
+use Rattle.bs_sched.specs.inner.Insides.{lane_in, answered_count, IsFiber, IsRightWithParts}
 use Rattle.bs_sched.specs.Lane.{is_idle, is_quiet}
 
 take_less : {X : Type 0} (n m : ℕ) (xs : List X) → n ≤ m → take n (take m xs) ≡ take n xs

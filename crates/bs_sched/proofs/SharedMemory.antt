@@ -34,7 +34,7 @@ use Rattle.bs_sched.specs.Machine.{lane_of}
 use Rattle.bs_sched.proofs.BegunParts.{few_numbers, none_quiet, one_left}
 use Rattle.bs_sched.proofs.PartFrames.{length_known}
 use Rattle.bs_sched.proofs.Reframed.{AreFramed, IsReframed, numbers_at}
-use Rattle.bs_sched.specs.Reserved.{AreReserved, IsReserved}
+use Rattle.bs_sched.specs.inner.Reserved.{AreReserved, IsReserved}
 use Rattle.bs_sched.proofs.Reserved.{enough}
 use Rattle.bs_sched.proofs.RightRuns.{AreWell}
 

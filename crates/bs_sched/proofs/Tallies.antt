@@ -9,9 +9,10 @@ use Rattle.bs_counter.specs.Keys.{Key, TallyId}
 use Rattle.bs_fiber.specs.declared.job.JobKind.{JobKind}
 use Rattle.bs_fiber.specs.declared.job.JobKind.TheVariants as kind
 use Rattle.bs_board.specs.plans.Plan.{GameRow}
-use Rattle.bs_sched.specs.Game.{GameView, no_game, opened_game, taken_game}
+use Rattle.bs_sched.specs.Game.{GameView}
+use Rattle.bs_sched.specs.inner.Game.{no_game, opened_game, taken_game}
 use Rattle.bs_sched.specs.Games.{tally_of}
-use Rattle.bs_sched.specs.GamesLayout.{game_at, opened_games, opened_games_from, tallies_in, tally_before, trimmed}
+use Rattle.bs_sched.specs.inner.GamesLayout.{game_at, opened_games, opened_games_from, tallies_in, tally_before, trimmed}
 
 abbrev tally_in : GameView → Option TallyId
 tally_in v = v.frames.tally

@@ -1,5 +1,5 @@
 -- All stays of a core, with the blocks in which their records lie.
-use Rattle.std.specs.Prelude.{◌≡◌, ◌≢◌, ℕ, Bool, false, if◌then◌else◌, List, length, map, replicate, [], ◌∷◌, ◌++◌, slice_index_or, slice_set, Option, None}
+use Rattle.std.specs.Prelude.{◌≡◌, ◌≢◌, ℕ, Bool, false, if◌then◌else◌, List, length, map, replicate, [], ◌∷◌, ◌++◌, slice_index_or, Option, None}
 use Rattle.bs_counter.specs.Keys.{TallyId}
 use Rattle.bs_board.specs.plans.Plan.{GameRow, row_of}
 use Rattle.bs_pool.specs.Ledger.{Ledger, ledger_of, size, without_reservation}
@@ -12,7 +12,7 @@ use Rattle.bs_fiber.specs.declared.job.JobKind.TheVariants as kind
 use Rattle.bs_fiber.specs.declared.job.JobName.{JobName}
 use Rattle.bs_sched.specs.declared.event.Event.{Event}
 use Rattle.bs_sched.specs.declared.event.Event.TheVariants as event
-use Rattle.bs_sched.specs.Lane.{Lane, empty_lane, lane_view, lane_command, forked, goes_on, with_put}
+use Rattle.bs_sched.specs.Lane.{Lane, empty_lane, lane_view, lane_command, forked, goes_on}
 use Rattle.bs_sched.specs.Machine.{Setting, lane_of, lane_effect}
 use Rattle.bs_sched.specs.PlanBlocks.{reservations_of, with_row}
 use Rattle.bs_sched.specs.Storage.{Storage, frame_tag, record_tag, stored, with_parts, with_frame, without_frames}
@@ -128,11 +128,3 @@ games_taken cap games worker job tallies = record (after cap games (event.Take w
 -- taking a Begin may change the tally of its own stay; no other tally changes
 abbrev pub KeepsTallies : JobName → List (Option TallyId) → List (Option TallyId) → Type 0
 KeepsTallies job old new = (game : ℕ) → (job.kind ≡ kind.Begin → game ≢ job.game) → tally_of new game ≡ tally_of old game
-
--- the games after a job was completed, by whatever worker
-abbrev pub games_completed : ℕ → GamesView → JobName → GamesView
-games_completed cap games job =
-    record games {
-      lanes = slice_set games.lanes job.game (with_put job.kind job.part (lane_of games.lanes job.game));
-      storage = put_storage cap job (lane_of games.lanes job.game) games.storage;
-    }

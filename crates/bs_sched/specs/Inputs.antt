@@ -1,11 +1,10 @@
 -- The input of a job, which its lane determines.
-use Rattle.std.specs.Prelude.{ℕ, List, [], ◌∷◌, length, map, slice_index_or, option_map, Option, Some, None}
+use Rattle.std.specs.Prelude.{ℕ, List, [], ◌∷◌, length, map, slice_index_or, option_map, Option, None}
 use Rattle.std.specs.List.{range_with_len}
 use Rattle.bs_board.specs.declared.boards.snake.Snake.{Snake}
 use Rattle.bs_board.specs.declared.commands.command.Command.{Command}
 use Rattle.bs_board.specs.records.Record.{record_of}
-use Rattle.bs_board.specs.declared.boards.board.Board.{Board}
-use Rattle.bs_game.specs.Game.{Game, board_of_turn, game_charge, last_board}
+use Rattle.bs_game.specs.Game.{game_charge, last_board}
 use Rattle.bs_game.specs.Answer.{asked_board}
 use Rattle.bs_fiber.specs.declared.input.Input.{Input}
 use Rattle.bs_fiber.specs.declared.job.JobKind.{JobKind}
@@ -22,11 +21,6 @@ moved_parts_for kind.Begin x = []
 moved_parts_for kind.Part x = []
 moved_parts_for kind.Join x = map (λ p. moved_part p (lane_view x) (lane_command x)) (range_with_len 0 (length x.parts))
 
--- the board of the turn that the command names, if it names one
-abbrev pub board_asked : Option ℕ → Game → Option Board
-board_asked None game = None
-board_asked (Some at) game = board_of_turn at game
-
 -- the input of a job for that command, without the moved parts
 abbrev pub input_for : Lane → Command → ℕ → ℕ → JobName → Input
 input_for x command seq worker job =
@@ -42,10 +36,6 @@ input_for x command seq worker job =
       command = command;
       parts = [];
     }
-
--- for the command in progress
-abbrev pub current_input : Lane → ℕ → JobName → Input
-current_input x worker job = input_for x (lane_command x) (length x.taken) worker job
 
 -- the input of a job that is out
 abbrev pub input_of : Lane → ℕ → JobName → Input

@@ -1,5 +1,5 @@
 -- One stay of the machine: its lane, and the lane after a job is taken or completed.
-use Rattle.std.specs.Prelude.{◌≡◌, ℕ, ◌-◌, Bool, true, false, ◌&&◌, ◌||◌, if◌then◌else◌, List, [], ◌∷◌, ◌++◌, length, take, drop, replicate, nat_eq, nat_lt, slice_index_or, slice_set, map, Some, None}
+use Rattle.std.specs.Prelude.{ℕ, ◌-◌, Bool, true, false, ◌&&◌, ◌||◌, if◌then◌else◌, List, [], ◌∷◌, ◌++◌, length, take, drop, replicate, nat_eq, nat_lt, slice_index_or, slice_set, map, Some, None}
 use Rattle.std.specs.List.{list_all}
 use Rattle.bs_board.specs.declared.commands.command.Command.{Command}
 use Rattle.bs_board.specs.declared.commands.command.Command.TheVariants as command
@@ -54,7 +54,6 @@ abbrev pub goes_on : Lane → Bool
 goes_on x = goes (lane_view x) (lane_command x)
 
 -- Which worker has which job.
-
 abbrev pub is_idle : Stage → Bool
 is_idle stage.Idle = true
 is_idle (stage.Begin worker) = false
@@ -129,7 +128,6 @@ is_out w x kind.Part p = is_in_parts x.stage && has_part w (part_at x p)
 is_out w x kind.Join p = nat_eq p 0 && has_join w x.stage
 
 -- A lane after each event.
-
 abbrev pub with_waiting : Command → Lane → Lane
 with_waiting command x = record x { waiting = x.waiting ++ command ∷ [] }
 
@@ -160,15 +158,10 @@ with_put kind.Part p x = with_part_done p x
 with_put kind.Join p x = answered x
 
 -- What a lane still has to do.
-
 abbrev pub is_quiet : Lane → Bool
 is_quiet x = is_idle x.stage && nat_eq (length x.waiting) 0
 
-abbrev pub HasNoneReady : Lane → Type 0
-HasNoneReady x = (job : JobKind) (p : ℕ) → is_ready x job p ≡ false
-
 -- Admissions and leaves.
-
 -- nothing is left to do, and the stay is open
 abbrev pub may_leave : Lane → Bool
 may_leave x = x.is_open && is_quiet x

@@ -5,13 +5,7 @@ use Rattle.bs_fiber.specs.declared.job.JobKind.TheVariants as kind
 use Rattle.bs_sched.specs.declared.event.Event.TheVariants as event
 use Rattle.bs_sched.specs.Games.{GamesView}
 use Rattle.bs_sched.specs.Inputs.{input_of, names_for}
-use Rattle.bs_sched.specs.Lane.{Lane, is_out}
 use Rattle.bs_sched.specs.Machine.{lane_of, is_enabled_there}
-
--- the worker has the job, and its input is the lane's
-pub record IsOwnOf (x : Lane) (worker : ℕ) (ticket : TicketView) : Type 0 where
-  pub out : is_out worker x ticket.input.job.kind ticket.input.job.part ≡ true
-  pub input : ticket.input ≡ input_of x worker ticket.input.job
 
 -- the worker has the job, and its input and its frame blocks are the core's own
 pub record IsOwn (games : GamesView) (worker : ℕ) (ticket : TicketView) : Type 0 where

@@ -1,6 +1,6 @@
 //! For each worker, whether it has a Begin or a Join out: a table beside the games.
 ghost use Rattle.std.specs.Prelude.{◌≡◌, ◌≤◌, ◌+◌, false, replicate, slice_index_or, slice_set, IfOk};
-ghost use Rattle.bs_sched.specs.Busy.{marked};
+ghost use Rattle.bs_sched.specs.inner.Busy.{marked};
 
 use crate::cores::MOST_WORKERS;
 use bs_fiber::JobKind;

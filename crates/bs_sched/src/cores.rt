@@ -60,7 +60,7 @@ pub struct Core<const CAP: usize> {
 
 impl<const CAP: usize> Model for Core<CAP> {
     ghost use Rattle.bs_sched.specs.Core.{CoreView};
-    ghost use Rattle.bs_sched.specs.Journal.{core_in, IsJournaled};
+    ghost use Rattle.bs_sched.specs.inner.Journal.{core_in, IsJournaled};
 
     ghost Value = { CoreView };
 

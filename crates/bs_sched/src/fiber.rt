@@ -6,7 +6,7 @@ ghost use Rattle.bs_board.specs.declared.boards.board.Board.{Board as AnyBoard};
 ghost use Rattle.bs_board.specs.records.Record.{record_of};
 ghost use Rattle.bs_fiber.specs.Work.{parts_of};
 ghost use Rattle.bs_game.specs.Answer.{Fits};
-ghost use Rattle.bs_sched.specs.LastBoards.{last_after};
+ghost use Rattle.bs_sched.specs.inner.LastBoards.{last_after};
 
 use crate::stage::Stage;
 use bs_board::limits::MOST_QUOTA;
@@ -32,7 +32,7 @@ pub(crate) struct Fiber {
 
 impl Model for Fiber {
     ghost use Rattle.bs_sched.specs.Lane.{Lane};
-    ghost use Rattle.bs_sched.specs.Insides.{lane_in, IsFiber};
+    ghost use Rattle.bs_sched.specs.inner.Insides.{lane_in, IsFiber};
 
     ghost Value = { Lane };
 
@@ -93,8 +93,9 @@ impl Fiber {
     ghost use Rattle.bs_fiber.specs.declared.job.JobKind.TheVariants as kind;
     ghost use Rattle.bs_fiber.specs.Work.{parts_of, snakes_in};
     ghost use Rattle.bs_game.specs.Game.{game_charge, last_board};
-    ghost use Rattle.bs_sched.specs.Lane.{empty_lane, closed_lane, no_lane, with_waiting, with_taken, with_put, answered, is_ready, is_out, occupies, lane_command, lane_outcome, goes_on, is_idle, is_in_parts, is_quiet, HasNoneReady};
-    ghost use Rattle.bs_sched.specs.Insides.{IsRightWithParts};
+    ghost use Rattle.bs_sched.specs.Lane.{empty_lane, closed_lane, no_lane, with_waiting, with_taken, with_put, answered, is_ready, is_out, occupies, lane_command, lane_outcome, goes_on, is_idle, is_in_parts, is_quiet};
+    ghost use Rattle.bs_sched.specs.inner.Lane.{HasNoneReady};
+    ghost use Rattle.bs_sched.specs.inner.Insides.{IsRightWithParts};
     ghost use Rattle.bs_sched.specs.declared.stage.Stage.TheVariants as stage;
 
     /// The fiber of a game with no command.

@@ -17,13 +17,16 @@ ghost use Rattle.bs_heap.specs.HeldBlocks.{IsKeptIn, LeavesOthers, all_given, ne
 ghost use Rattle.bs_heap.specs.Packing.{numbers_of};
 ghost use Rattle.bs_pool.specs.Ledger.{Ledger, drawn, reserved};
 ghost use Rattle.bs_sched.specs.Courses.{IsRight};
-ghost use Rattle.bs_sched.specs.Frames.{LeavesBut, pool_taken};
-ghost use Rattle.bs_sched.specs.Game.{HasBlocks, IsAnswering, IsOwnTicket, IsTicketOf, answered_game, closed_game, completed_game, forked_game, game_with_part, handed_game, opened_game, own_names, pool_answered, pool_completed, taken_game};
-ghost use Rattle.bs_sched.specs.Inputs.{board_asked, current_input, input_for};
-ghost use Rattle.bs_sched.specs.Keyed.{HasKeys, IsKeyAt, IsKeyOf};
-ghost use Rattle.bs_sched.specs.Lane.{HasNoneReady, goes_on, is_idle, is_in_parts, is_out, is_quiet, is_ready, kept_of, lane_command, lane_view, may_leave, with_taken};
+ghost use Rattle.bs_sched.specs.inner.Frames.{LeavesBut, pool_taken};
+ghost use Rattle.bs_sched.specs.inner.Game.{HasBlocks, IsAnswering, IsOwnTicket, IsTicketOf, answered_game, closed_game, completed_game, forked_game, game_with_part, handed_game, opened_game, own_names, pool_answered, pool_completed, taken_game};
+ghost use Rattle.bs_sched.specs.Inputs.{input_for};
+ghost use Rattle.bs_sched.specs.inner.Inputs.{board_asked, current_input};
+ghost use Rattle.bs_sched.specs.Keyed.{IsKeyAt, IsKeyOf};
+ghost use Rattle.bs_sched.specs.inner.Keyed.{HasKeys};
+ghost use Rattle.bs_sched.specs.Lane.{goes_on, is_idle, is_in_parts, is_out, is_quiet, is_ready, kept_of, lane_command, lane_view, may_leave, with_taken};
+ghost use Rattle.bs_sched.specs.inner.Lane.{HasNoneReady};
 ghost use Rattle.bs_sched.specs.Storage.{packing_after, pool_after};
-ghost use Rattle.bs_sched.specs.Turns.{FindsTurn};
+ghost use Rattle.bs_sched.specs.inner.Turns.{FindsTurn};
 
 use crate::cores::LEAST_CAPACITY;
 use crate::fiber::Fiber;
@@ -51,7 +54,8 @@ pub(crate) struct Game<const CAP: usize> {
 }
 
 impl<const CAP: usize> Model for Game<CAP> {
-    ghost use Rattle.bs_sched.specs.Game.{GameView, IsGame, game_in};
+    ghost use Rattle.bs_sched.specs.Game.{GameView};
+    ghost use Rattle.bs_sched.specs.inner.Game.{IsGame, game_in};
 
     ghost Value = { GameView };
 

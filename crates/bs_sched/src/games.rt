@@ -4,9 +4,11 @@ ghost use Rattle.std.specs.Prelude.{◌≡◌, ◌+◌, ◌≤◌, ◌<◌, true
 ghost use Rattle.std.specs.List.{list_all, range_with_len, list_any};
 ghost use Rattle.bs_board.specs.plans.Plan.{IsFitPlan, is_fit_row};
 ghost use Rattle.bs_pool.specs.Ledger.{free, size};
-ghost use Rattle.bs_sched.specs.Games.{after, opened, KeepsTallies, games_taken, tally_of, games_completed};
-ghost use Rattle.bs_sched.specs.GamesLayout.{lanes_in, opened_games};
-ghost use Rattle.bs_sched.specs.Lane.{is_quiet, HasNoneReady, is_ready, is_out, lane_view, lane_command, may_leave};
+ghost use Rattle.bs_sched.specs.Games.{after, opened, KeepsTallies, games_taken, tally_of};
+ghost use Rattle.bs_sched.specs.inner.Games.{games_completed};
+ghost use Rattle.bs_sched.specs.inner.GamesLayout.{lanes_in, opened_games};
+ghost use Rattle.bs_sched.specs.Lane.{is_quiet, is_ready, is_out, lane_view, lane_command, may_leave};
+ghost use Rattle.bs_sched.specs.inner.Lane.{HasNoneReady};
 ghost use Rattle.bs_sched.specs.Machine.{lane_of, has_name, is_full, open_blocks};
 ghost use Rattle.bs_sched.specs.declared.event.Event.TheVariants as event;
 ghost use Rattle.bs_block.specs.Bytes.{IsCapacity};
@@ -15,7 +17,7 @@ ghost use Rattle.bs_sched.specs.declared.opening.Open.TheVariants as cause;
 ghost use Rattle.bs_fiber.specs.Tickets.{IsFresh, names_of, HoldsWork, frames_in};
 ghost use Rattle.bs_sched.specs.Inputs.{input_of, names_for};
 ghost use Rattle.bs_sched.specs.Keyed.{IsKeyOf};
-ghost use Rattle.bs_sched.specs.Taking.{AreNoneOpenReady, AreNoneReadyBetween, IsReadyJob};
+ghost use Rattle.bs_sched.specs.inner.Taking.{AreNoneOpenReady, AreNoneReadyBetween, IsReadyJob};
 ghost use Rattle.bs_fiber.specs.declared.input.Input.{Input as AnyInput};
 ghost use Rattle.bs_fiber.specs.Work.{out_seen};
 ghost use Rattle.bs_sched.specs.Putting.{IsOwn, IsOwnJob};
@@ -52,7 +54,7 @@ pub(crate) struct Games<const CAP: usize> {
 
 impl<const CAP: usize> Model for Games<CAP> {
     ghost use Rattle.bs_sched.specs.Games.{GamesView};
-    ghost use Rattle.bs_sched.specs.GamesLayout.{games_in, IsSound};
+    ghost use Rattle.bs_sched.specs.inner.GamesLayout.{games_in, IsSound};
 
     ghost Value = { GamesView };
 

@@ -8,14 +8,15 @@ ghost use Rattle.bs_fiber.specs.Frames.{frame_of};
 ghost use Rattle.bs_fiber.specs.Tickets.{bytes_of, frames_in, names_of};
 ghost use Rattle.bs_sched.specs.Inputs.{job_numbers};
 ghost use Rattle.bs_heap.specs.HeldBlocks.{Holds, LeavesOthers, next_number, all_given};
-ghost use Rattle.bs_heap.specs.Lent.{AreLent, owned_numbers};
+ghost use Rattle.bs_heap.specs.inner.Lent.{AreLent, owned_numbers};
 ghost use Rattle.bs_pool.specs.Ledger.{held, reserved, drawn};
 ghost use Rattle.bs_sched.specs.declared.parts.Part.TheVariants as field;
-ghost use Rattle.bs_sched.specs.MoveParts.{frames_of, no_parts, part_completed, part_taken, parts_begun, parts_forked, parts_idle, parts_joined, ready_part, states_of};
+ghost use Rattle.bs_sched.specs.inner.MoveParts.{frames_of, no_parts, part_completed, part_taken, parts_begun, parts_forked, parts_idle, parts_joined, ready_part, states_of};
 ghost use Rattle.bs_sched.specs.PartState as state;
-ghost use Rattle.bs_sched.specs.PartsLayout.{block_in, is_ready_part, joined, moved_in, number_in, part_in, state_in};
+ghost use Rattle.bs_sched.specs.inner.PartsLayout.{block_in, is_ready_part, joined, moved_in, number_in, part_in, state_in};
 ghost use Rattle.bs_sched.specs.Frames.{flattened};
-ghost use Rattle.bs_sched.specs.Keyed.{AreKeysOf, IsKeyAt};
+ghost use Rattle.bs_sched.specs.Keyed.{IsKeyAt};
+ghost use Rattle.bs_sched.specs.inner.Keyed.{AreKeysOf};
 ghost use Rattle.bs_sched.specs.Lane.{has_part, is_part_done, is_part_ready};
 
 use crate::stage::MOST_PARTS;
@@ -56,7 +57,7 @@ impl<const CAP: usize> Model for MoveParts<CAP> {
 
     ghost Value = { PartsView };
 
-    ghost use Rattle.bs_sched.specs.PartsLayout.{view_in, AreParts};
+    ghost use Rattle.bs_sched.specs.inner.PartsLayout.{view_in, AreParts};
 
     ghost view = { λ f. view_in f };
 

@@ -5,7 +5,8 @@ ghost use Rattle.bs_sched.specs.Core.{core_taken};
 ghost use Rattle.bs_sched.specs.Games.{KeepsTallies};
 ghost use Rattle.bs_sched.specs.Inputs.{input_of, names_for};
 ghost use Rattle.bs_sched.specs.Machine.{is_busy, is_enabled_there, lane_of};
-ghost use Rattle.bs_sched.specs.Taking.{AreNoneOpenReady, AreNoneReady, FindsJob, HasKeyOf, TakesAs};
+ghost use Rattle.bs_sched.specs.Taking.{HasKeyOf, TakesAs};
+ghost use Rattle.bs_sched.specs.inner.Taking.{AreNoneOpenReady, AreNoneReady, FindsJob};
 ghost use Rattle.bs_sched.specs.declared.event.Event.TheVariants as event;
 
 use crate::busy::{is_marked, mark};

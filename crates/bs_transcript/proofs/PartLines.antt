@@ -10,7 +10,7 @@ use Rattle.bs_json.specs.declared.line.Stray.{Stray}
 use Rattle.bs_json.specs.Replies.{reply_line_of, final_line_of, stray_line_of}
 use Rattle.bs_transcript.specs.declared.section.Section.{Section}
 use Rattle.bs_transcript.specs.Lines.{section_lines_of, text_of}
-use Rattle.bs_transcript.specs.Parts.{lines_of_section, lines_of_strays, all_lines_of, joined}
+use Rattle.bs_transcript.specs.inner.Parts.{lines_of_section, lines_of_strays, all_lines_of, joined}
 
 -- how many lines there are
 

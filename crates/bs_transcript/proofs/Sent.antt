@@ -7,8 +7,8 @@ use Rattle.std.proofs.Math.Seq.{take-append-add}
 use Rattle.std.proofs.lemmas.List.{take-append-le, take_more, drop_more}
 use Rattle.bs_json.specs.Text.{Text, blank, put}
 use Rattle.bs_json.proofs.Puts.{put_whole}
-use Rattle.bs_transcript.specs.Buffer.{AreBounded, IsOnItsWay}
-use Rattle.bs_transcript.specs.Parts.{joined}
+use Rattle.bs_transcript.specs.inner.Buffer.{AreBounded, IsOnItsWay}
+use Rattle.bs_transcript.specs.inner.Parts.{joined}
 use Rattle.bs_transcript.specs.Written.{IsCutOff}
 use Rattle.bs_transcript.specs.declared.line_buffer.LineBuffer.{LineBuffer}
 use Rattle.bs_transcript.specs.declared.bounds.Bounds.{Bounds}

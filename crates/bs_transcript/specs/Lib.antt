@@ -1,4 +1,3 @@
-pub mod Buffer
 pub mod Lines
-pub mod Parts
 pub mod Written
+pub mod inner

@@ -1,7 +1,7 @@
 //! Bounds of the lines of a transcript. Allocates nothing and renders no line.
 ghost use Rattle.std.specs.Prelude.{◌≤◌, ◌++◌, ◌∷◌, [], List, ℕ, length, IfOk, OnOk};
-ghost use Rattle.bs_transcript.specs.Buffer.{AreBounded};
-ghost use Rattle.bs_transcript.specs.Parts.{all_lines_of, lines_of_part};
+ghost use Rattle.bs_transcript.specs.inner.Buffer.{AreBounded};
+ghost use Rattle.bs_transcript.specs.inner.Parts.{all_lines_of, lines_of_part};
 
 use crate::section::{Part, Section};
 use bs_json::Stray;

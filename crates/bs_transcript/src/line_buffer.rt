@@ -1,8 +1,8 @@
 //! A buffer between the lines of a transcript and a writer.
 ghost use Rattle.std.specs.Prelude.{◌≡◌, ◌+◌, ◌<◌, ◌≤◌, ◌++◌, ◌∷◌, [], List, ℕ, Option, length, slice_index_or, IfOk, MatchResult, OnOk};
 ghost use Rattle.bs_json.specs.Text.{blank};
-ghost use Rattle.bs_transcript.specs.Buffer.{IsOnItsWay};
-ghost use Rattle.bs_transcript.specs.Parts.{all_lines_of, lines_of_part};
+ghost use Rattle.bs_transcript.specs.inner.Buffer.{IsOnItsWay};
+ghost use Rattle.bs_transcript.specs.inner.Parts.{all_lines_of, lines_of_part};
 ghost use Rattle.bs_transcript.specs.Written.{IsCutOff};
 
 use crate::section::{Part, Section};

@@ -1,7 +1,7 @@
 //! The parts of a transcript: the sections of the games, and the stray lines.
 ghost use Rattle.std.specs.Prelude.{◌≡◌, ◌<◌, ◌≤◌, ◌+◌, IfSome, length, slice_index_or, []};
 ghost use Rattle.bs_json.specs.Text.{put};
-ghost use Rattle.bs_transcript.specs.Parts.{lines_of_part, lines_of_section, lines_of_strays};
+ghost use Rattle.bs_transcript.specs.inner.Parts.{lines_of_part, lines_of_section, lines_of_strays};
 
 use bs_board::{Id, KeptBoard, Reply};
 use bs_json::{

@@ -6,7 +6,8 @@ use Rattle.std.proofs.lemmas.List.{append-nil, append_assoc, append_cancel_left,
 use Rattle.std.proofs.lemmas.List.Elements.{filter_map-append}
 use Rattle.bs_sched.specs.declared.event.Event.{Event}
 use Rattle.bs_workers.specs.declared.act.Act.{Act}
-use Rattle.bs_workers.specs.Run.{CannotMake, act_of, acts_of}
+use Rattle.bs_workers.specs.Run.{act_of, acts_of}
+use Rattle.bs_workers.specs.inner.Run.{CannotMake}
 
 -- the acts of one event are split off
 

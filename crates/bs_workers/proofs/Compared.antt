@@ -23,8 +23,10 @@ use Rattle.bs_sched.specs.Machine.{lane_of}
 use Rattle.bs_sched.proofs.HandedCommands.{served}
 use Rattle.bs_workers.specs.declared.act.Act.{Act}
 use Rattle.bs_workers.specs.declared.act.Act.TheVariants as act
-use Rattle.bs_workers.specs.Acts.{command_in, is_admission, rows_admitted}
-use Rattle.bs_workers.specs.Run.{HasEnded, HasRows, IsRunOf, acts_of, rows_made}
+use Rattle.bs_workers.specs.Acts.{command_in, rows_admitted}
+use Rattle.bs_workers.specs.inner.Acts.{is_admission}
+use Rattle.bs_workers.specs.Run.{IsRunOf, acts_of, rows_made}
+use Rattle.bs_workers.specs.inner.Run.{HasEnded, HasRows}
 
 -- the rows of the stays
 

@@ -1,4 +1,3 @@
 pub mod AcceptableActs
 pub mod Acted
 pub mod Compared
-pub mod ActsMade

@@ -1,6 +1,6 @@
 -- Which acts are acceptable, in their order. The registry alone decides: the row of each stay, and
 -- whether it is open. The state of the games does not matter.
-use Rattle.std.specs.Prelude.{ℕ, nat_eq, Bool, true, false, ◌&&◌, if◌then◌else◌, List, [], ◌∷◌, map, Option, Some, None}
+use Rattle.std.specs.Prelude.{ℕ, nat_eq, Bool, true, ◌&&◌, if◌then◌else◌, List, [], ◌∷◌, map, Option, Some, None}
 use Rattle.std.specs.List.{position}
 use Rattle.bs_board.specs.declared.commands.command.Command.{Command}
 use Rattle.bs_board.specs.plans.Plan.{GameRow}
@@ -43,11 +43,6 @@ rows_admitted [] = []
 rows_admitted (act.Hand stay command ∷ acts) = rows_admitted acts
 rows_admitted (act.Admit row ∷ acts) = row ∷ rows_admitted acts
 rows_admitted (act.Leave stay ∷ acts) = rows_admitted acts
-
-abbrev pub is_admission : Act → Bool
-is_admission (act.Hand stay command) = false
-is_admission (act.Admit row) = true
-is_admission (act.Leave stay) = false
 
 abbrev pub rows_in_registry : List Stay → List GameRow
 rows_in_registry = map (λ entry. entry.row)

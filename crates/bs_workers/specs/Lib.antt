@@ -1,5 +1,4 @@
 pub mod Acceptable
 pub mod Acts
-pub mod Faults
 pub mod Run
-pub mod Single
+pub mod inner

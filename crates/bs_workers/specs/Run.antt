@@ -1,6 +1,6 @@
 -- The result of a run: every act was made in order, and every command was answered, in each stay as
 -- if the stay were alone.
-use Rattle.std.specs.Prelude.{◌≡◌, ℕ, ◌+◌, ◌<◌, true, false, List, ◌∷◌, ◌++◌, length, map, take, Option, Some, None}
+use Rattle.std.specs.Prelude.{◌≡◌, ℕ, ◌+◌, ◌<◌, true, false, List, ◌++◌, length, map, Option, Some, None}
 use Rattle.std.specs.List.{filter_map, list_all}
 use Rattle.bs_board.specs.plans.Plan.{GameRow}
 use Rattle.bs_pool.specs.Ledger.{size}
@@ -43,21 +43,3 @@ pub record IsRunOf (old : CoreView) (acts : List Act) (new : CoreView) : Type 0 
   pub acted : acts_of new.journal ≡ acts
   pub served : (stay : ℕ) → stay < length (old.games.rows ++ rows_admitted acts)
       → IsServedAlone (row_at (old.games.rows ++ rows_admitted acts) stay) (filter_map (command_in stay) acts) (lane_of new.games.lanes stay)
-
--- what the comparison of a core with a run checks
-
--- the first stays have these rows, and `admitted` more stays follow
-pub record HasRows (rows : List GameRow) (admitted : ℕ) (lanes : List Lane) : Type 0 where
-  pub first : take (length rows) (rows_made lanes) ≡ rows
-  pub made : length lanes ≡ length rows + admitted
-
--- the core has these stays and that many blocks, `fail` was not called, and it is idle
-pub record HasEnded (rows : List GameRow) (admitted blocks : ℕ) (new : CoreView) : Type 0 where
-  pub stays : HasRows rows admitted new.games.lanes
-  pub as_many : size new.games.storage.pool ≡ blocks
-  pub failed : new.games.failed ≡ false
-  pub quiet : list_all is_quiet new.games.lanes ≡ true
-
--- the acts do not begin with those that these events make
-abbrev pub CannotMake : List Event → List Act → Type 0
-CannotMake events acts = (rest : List Act) → acts ≡ acts_of events ++ rest → ⊥

@@ -2,8 +2,9 @@
 ghost use Rattle.std.specs.Prelude.{◌≡◌, ◌↔◌, ◌≤◌, [], ◌∷◌, ◌++◌, Some, None, IsTrue, IfOk, MatchOption, length, take, count_by};
 ghost use Rattle.bs_pool.specs.Ledger.{size};
 ghost use Rattle.bs_sched.specs.Core.{CoreView};
-ghost use Rattle.bs_workers.specs.Acts.{is_admission};
-ghost use Rattle.bs_workers.specs.Run.{CannotMake, HasEnded, HasRows, IsRunOf, act_of, acts_of, rows_made};
+ghost use Rattle.bs_workers.specs.inner.Acts.{is_admission};
+ghost use Rattle.bs_workers.specs.Run.{IsRunOf, act_of, acts_of, rows_made};
+ghost use Rattle.bs_workers.specs.inner.Run.{CannotMake, HasEnded, HasRows};
 
 use crate::act::Act;
 use bs_board::Row;

@@ -1,6 +1,6 @@
 //! Why a run was stopped.
 ghost use Rattle.std.specs.Prelude.{◌≡◌};
-ghost use Rattle.bs_workers.specs.Faults.{kept_fault};
+ghost use Rattle.bs_workers.specs.inner.Faults.{kept_fault};
 ghost use Rattle.bs_workers.specs.declared.fault.Run.TheVariants as cause;
 
 use std::alloc::AllocError;

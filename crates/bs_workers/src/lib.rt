@@ -9,7 +9,6 @@ mod fault;
 mod gate;
 mod law;
 mod runs;
-mod single;
 mod state;
 mod worker;
 
@@ -18,4 +17,3 @@ pub use fault::Run;
 pub use gate::{Gate, OpenGate};
 pub use law::acts_law;
 pub use runs::{run, run_any};
-pub use single::{is_settled, run_command};

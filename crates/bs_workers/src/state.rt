@@ -1,6 +1,6 @@
 //! The state that the threads of a run share: the core, and the progress of the run.
 ghost use Rattle.std.specs.Prelude.{◌≡◌, Some, None, IfErr, OnOk};
-ghost use Rattle.bs_workers.specs.Faults.{kept_fault};
+ghost use Rattle.bs_workers.specs.inner.Faults.{kept_fault};
 
 use crate::act::HeldAct;
 use crate::fault::Run;

@@ -11,3 +11,5 @@ mod files;
 mod limits;
 #[cfg(test)]
 mod prompt;
+#[cfg(test)]
+mod stays;

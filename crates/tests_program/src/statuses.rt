@@ -116,7 +116,6 @@ fn each_failure_of_live(rt: HostRuntime) -> Result<(), Fail> {
         5,
         "arena: out of memory\n",
     )?;
-    check_failure(alloc, failed(LiveFault::Broken), 7, "arena: broken\n")?;
     check_failure(alloc, failed(LiveFault::Flush), 6, "arena: flush failed\n")?;
     check_failure(
         alloc,

@@ -7,7 +7,8 @@ use Rattle.std.specs.declared.cmp.Ordering.{Ordering}
 use Rattle.std.proofs.lemmas.Cmp.{nat_list_cmp_total}
 use Rattle.bs_board.specs.declared.boards.point.Direction.{Direction}
 use Rattle.bs_board.specs.Texts.{is_same_text, is_text_below}
-use Rattle.bs_board.specs.commands.Orders.{Orders, IsAscendingOrders, IsFitOrders, are_distinct_moves, is_ascending}
+use Rattle.bs_board.specs.commands.Orders.{Orders, IsFitOrders, are_distinct_moves, is_ascending}
+use Rattle.bs_board.specs.inner.Orders.{IsAscendingOrders}
 use Rattle.bs_board.proofs.Chains.{and_both}
 
 -- nothing is left to compare at the last entry

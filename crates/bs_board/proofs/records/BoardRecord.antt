@@ -17,9 +17,10 @@ use Rattle.bs_board.specs.declared.boards.point.Point.{Point}
 use Rattle.bs_board.specs.declared.boards.hazards.Hazards.{Hazards}
 use Rattle.bs_board.specs.declared.boards.snake.Snake.{Snake}
 use Rattle.bs_board.specs.boards.Legal.{IsLegal, EachSeat}
-use Rattle.bs_board.specs.records.Decoder.{◌>>=◌, Fails, kind_from_bytes, from_two_bytes, read_cell, read_many, read_snake, read_hazards, read_head, read_board}
+use Rattle.bs_board.specs.inner.Decoder.{◌>>=◌, Fails, kind_from_bytes, from_two_bytes, read_cell, read_many, read_snake, read_hazards, read_head, read_board}
 use Rattle.bs_board.specs.records.Record.{two_bytes, mode_byte, version_byte, cell_bytes, snake_record, head_bytes, hazard_bytes, record_of}
-use Rattle.bs_board.specs.records.Writing.{IsByteCell, IsWritable, IsWritableBoard}
+use Rattle.bs_board.specs.records.Writing.{IsByteCell, IsWritable}
+use Rattle.bs_board.specs.inner.Writing.{IsWritableBoard}
 use Rattle.bs_board.proofs.Chains.{and_both}
 use Rattle.bs_board.proofs.records.Fields.{AreBytes, bind_some, some_is, along, carried, Takes, takes_both, high_back, low_back, number_again, kind_back, kind_again, cell_takes, cell_again}
 use Rattle.bs_board.proofs.records.SnakeRecord.{snake_takes, snake_again}

@@ -10,7 +10,7 @@ use Rattle.bs_board.specs.declared.boards.board.Mode.TheVariants.{Standard, Solo
 use Rattle.bs_board.specs.declared.boards.point.Point.{Point}
 use Rattle.bs_board.specs.declared.boards.snake.Cause.{Cause}
 use Rattle.bs_board.specs.declared.boards.snake.Cause.TheVariants.{OutOfHealth, WallCollision, SelfCollision, BodyCollision, HeadCollision, Hazard}
-use Rattle.bs_board.specs.records.Decoder.{◌>>=◌, all_kinds, kind_from_bytes, cause_from_byte, killer_from_byte, out_from_number, from_two_bytes, read_cell}
+use Rattle.bs_board.specs.inner.Decoder.{◌>>=◌, all_kinds, kind_from_bytes, cause_from_byte, killer_from_byte, out_from_number, from_two_bytes, read_cell}
 use Rattle.bs_board.specs.records.Record.{mode_byte, version_byte, cause_byte, killer_byte, cell_bytes}
 use Rattle.bs_board.specs.records.Writing.{IsByteCell}
 use Rattle.bs_board.proofs.Chains.{and_both}

@@ -11,10 +11,11 @@ use Rattle.bs_board.specs.declared.limits.TheConstants.{LONGEST_SIDE}
 use Rattle.bs_board.specs.declared.records.decode_error.Decode.{Decode}
 use Rattle.bs_board.specs.declared.records.decode_error.Decode.TheVariants.{NotARecord, Memory}
 use Rattle.bs_board.specs.boards.Legal.{is_near}
-use Rattle.bs_board.specs.records.Decoder.{Fails, read_snake, read_only_snake}
+use Rattle.bs_board.specs.inner.Decoder.{Fails, read_snake, read_only_snake}
 use Rattle.bs_board.specs.records.FitSnake.{IsFitSnake, IsKillerInRange, IsOutInRange}
 use Rattle.bs_board.specs.records.Record.{snake_record}
-use Rattle.bs_board.specs.records.Writing.{Puts, IsByteCell, IsWritable}
+use Rattle.bs_board.specs.records.Writing.{IsByteCell, IsWritable}
+use Rattle.bs_board.specs.inner.Writing.{Puts}
 use Rattle.bs_board.proofs.Chains.{and_both}
 use Rattle.bs_board.proofs.Utf8.{short_text}
 use Rattle.bs_board.proofs.records.Fields.{AreBytes, bind_some, some_is, along}

@@ -5,9 +5,10 @@ use Rattle.std.proofs.lemmas.List.Elements.{recursion_from_All}
 use Rattle.bs_board.specs.declared.boards.board.Board.{Board}
 use Rattle.bs_board.specs.declared.boards.hazards.Hazards.{Hazards}
 use Rattle.bs_board.specs.declared.boards.point.Point.{Point}
-use Rattle.bs_board.specs.records.Decoder.{from_two_bytes, read_cell, read_many, read_hazards}
+use Rattle.bs_board.specs.inner.Decoder.{from_two_bytes, read_cell, read_many, read_hazards}
 use Rattle.bs_board.specs.records.Record.{cell_bytes, head_bytes, hazard_bytes, snake_record, record_of}
-use Rattle.bs_board.specs.records.Writing.{AreWritableHazards, IsByteCell}
+use Rattle.bs_board.specs.records.Writing.{IsByteCell}
+use Rattle.bs_board.specs.inner.Writing.{AreWritableHazards}
 use Rattle.bs_board.proofs.records.Fields.{AreBytes, bind_some, carried, Takes, high_back, low_back, number_again, cell_takes, cell_again}
 use Rattle.bs_board.proofs.records.Repeats.{many_takes, many_again}
 

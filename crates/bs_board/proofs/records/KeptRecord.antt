@@ -12,11 +12,13 @@ use Rattle.bs_board.specs.declared.boards.snake.Snake.{Snake}
 use Rattle.bs_board.specs.declared.records.decode_error.Decode.{Decode}
 use Rattle.bs_board.specs.declared.records.decode_error.Decode.TheVariants.{NotARecord, Memory}
 use Rattle.bs_board.specs.boards.Legal.{IsLegal}
-use Rattle.bs_board.specs.records.Decoder.{Fails, Gives, read_cell, read_many, read_snake, read_board, read_ground}
+use Rattle.bs_board.specs.inner.Decoder.{Fails, Gives, read_cell, read_many, read_snake, read_board, read_ground}
 use Rattle.bs_board.specs.records.Layout.{IsBoardBytes}
-use Rattle.bs_board.specs.records.Kept.{IsLegalRecord, board_in}
+use Rattle.bs_board.specs.records.Kept.{IsLegalRecord}
+use Rattle.bs_board.specs.inner.Kept.{board_in}
 use Rattle.bs_board.specs.records.Record.{cell_bytes, snake_record, hazard_bytes, record_of}
-use Rattle.bs_board.specs.records.Writing.{IsByteCell, IsWritable, IsWritableBoard}
+use Rattle.bs_board.specs.records.Writing.{IsByteCell, IsWritable}
+use Rattle.bs_board.specs.inner.Writing.{IsWritableBoard}
 use Rattle.bs_board.proofs.records.BoardRecord.{head_again, legal_texts, both_by_recursion, record_is_read}
 use Rattle.bs_board.proofs.records.Fields.{cell_again}
 use Rattle.bs_board.proofs.records.HazardRecord.{hazards_again, regrouped}

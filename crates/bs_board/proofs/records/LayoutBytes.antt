@@ -6,7 +6,7 @@ use Rattle.bs_board.specs.declared.boards.board.Board.{Board}
 use Rattle.bs_board.specs.declared.boards.hazards.Hazards.{Hazards}
 use Rattle.bs_board.specs.declared.boards.point.Point.{Point}
 use Rattle.bs_board.specs.declared.boards.snake.Snake.{Snake}
-use Rattle.bs_board.specs.records.Decoder.{from_two_bytes}
+use Rattle.bs_board.specs.inner.Decoder.{from_two_bytes}
 use Rattle.bs_board.specs.records.Layout.{cells_of, damage_of}
 use Rattle.bs_board.specs.records.Record.{cause_byte, killer_byte, mode_byte, version_byte, cell_bytes, head_bytes, hazard_bytes, record_of, snake_record, state_bytes}
 use Rattle.bs_board.proofs.records.Fields.{number_again}

@@ -9,7 +9,7 @@ use Rattle.bs_board.specs.declared.boards.board.Board.{Board}
 use Rattle.bs_board.specs.boards.Cell.{origin}
 use Rattle.bs_board.specs.declared.boards.snake.Snake.{Snake}
 use Rattle.bs_board.specs.records.Record.{cell_bytes, state_bytes, snake_record, head_bytes, hazard_bytes, record_of}
-use Rattle.bs_board.specs.records.Writing.{Puts}
+use Rattle.bs_board.specs.inner.Writing.{Puts}
 use Rattle.bs_board.proofs.records.Lengths.{length_of_pairs}
 
 -- nothing is written yet

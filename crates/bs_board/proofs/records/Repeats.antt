@@ -5,7 +5,7 @@ use Rattle.std.proofs.lemmas.List.{append-nil}
 use Rattle.std.proofs.Math.Nat.{zero-min, min-zero}
 use Rattle.bs_board.specs.declared.records.decode_error.Decode.{Decode}
 use Rattle.bs_board.specs.declared.records.decode_error.Decode.TheVariants.{NotARecord, Memory}
-use Rattle.bs_board.specs.records.Decoder.{◌>>=◌, Fails, read_many}
+use Rattle.bs_board.specs.inner.Decoder.{◌>>=◌, Fails, read_many}
 use Rattle.bs_board.proofs.records.Fields.{AreBytes, bind_some, carried, Takes, takes_both}
 
 -- what was read before, and what is still read

@@ -9,7 +9,7 @@ use Rattle.std.proofs.lemmas.Option.{cond_some}
 use Rattle.bs_board.specs.declared.records.decoding.State.{State}
 use Rattle.bs_board.specs.declared.boards.point.Point.{Point}
 use Rattle.bs_board.specs.declared.boards.snake.Snake.{Snake}
-use Rattle.bs_board.specs.records.Decoder.{◌>>=◌, cause_from_byte, killer_from_byte, out_from_number, from_two_bytes, read_cell, read_many, read_piece, read_id, read_state, read_snake}
+use Rattle.bs_board.specs.inner.Decoder.{◌>>=◌, cause_from_byte, killer_from_byte, out_from_number, from_two_bytes, read_cell, read_many, read_piece, read_id, read_state, read_snake}
 use Rattle.bs_board.specs.records.Record.{two_bytes, cause_byte, killer_byte, cell_bytes, state_bytes, snake_record}
 use Rattle.bs_board.specs.records.Writing.{IsByteCell, IsWritable}
 use Rattle.bs_board.proofs.records.Fields.{AreBytes, AreBytes-rest, AreBytes-drop, bind_some, carried, Takes, takes_both, high_back, low_back, number_again, cause_back, cause_again, killer_back, killer_again, out_back, out_again, cell_takes, cell_again}

@@ -15,7 +15,8 @@ use Rattle.bs_board.specs.boards.Cell.{head_of, is_on_board}
 use Rattle.bs_board.specs.boards.Legal.{IsLegal, IsLegalSnake, IsLegalLiving, IsLegalOut, IsKillerOf, IsTurnBy, is_near, is_head_of}
 use Rattle.bs_board.specs.boards.Hazards.{are_fit_hazards}
 use Rattle.bs_board.specs.boards.Wrap.{is_wrapped}
-use Rattle.bs_board.specs.records.Writing.{AreWritableHazards, IsByte, IsByteCell, IsWritable, IsWritableBoard}
+use Rattle.bs_board.specs.records.Writing.{IsByte, IsByteCell, IsWritable}
+use Rattle.bs_board.specs.inner.Writing.{AreWritableHazards, IsWritableBoard}
 use Rattle.bs_board.proofs.Utf8.{short_text}
 use Rattle.bs_board.proofs.Chains.{and_both}
 use Rattle.bs_board.proofs.boards.CellsOnBoard.{cells_on_board}

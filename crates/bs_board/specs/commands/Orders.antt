@@ -2,7 +2,6 @@
 use Rattle.std.specs.Prelude.{◌≡◌, ℕ, ◌≤◌, ◌<◌, ◌^◌, Bool, true, ◌&&◌, List, [], ◌∷◌, length, All, Option, None}
 use Rattle.bs_board.specs.declared.boards.point.Direction.{Direction}
 use Rattle.bs_board.specs.declared.boards.point.Point.{Point}
-use Rattle.bs_board.specs.declared.commands.orders.Move.TheInside.{Inside}
 use Rattle.bs_board.specs.declared.limits.TheConstants.{MOST_WORDS}
 use Rattle.bs_board.specs.Distinct.{are_distinct}
 use Rattle.bs_board.specs.Texts.{IdsAreTexts, is_same_text, is_text_below}
@@ -18,9 +17,6 @@ pub record Orders : Type 0 where
 -- a move that gives no hazards and no food
 abbrev pub orders_of : List (List ℕ × Direction) → List ℕ → Orders
 orders_of moves words = record { moves = moves; words = words; hazards = None; food = None }
-
-abbrev pub orders_in : Inside → Orders
-orders_in m = record { moves = m.moves; words = m.words; hazards = m.hazards; food = m.food }
 
 abbrev pub are_distinct_moves : List (List ℕ × Direction) → Bool
 are_distinct_moves = are_distinct (λ a b. is_same_text a.0 b.0)
@@ -41,9 +37,3 @@ abbrev pub is_ascending : List (List ℕ × Direction) → Bool
 is_ascending [] = true
 is_ascending (_ ∷ []) = true
 is_ascending (first ∷ second ∷ rest) = is_text_below first.0 second.0 && is_ascending (second ∷ rest)
-
--- the invariant of the type `Move`: its ids ascend, so they are distinct
-pub record IsAscendingOrders (orders : Orders) : Type 0 where
-  pub texts : IdsAreTexts orders.moves
-  pub ascending : is_ascending orders.moves ≡ true
-  pub words : AreFitWords orders.words

@@ -4,7 +4,6 @@ use Rattle.std.specs.List.{list_all}
 use Rattle.bs_board.specs.declared.boards.point.Point.{Point}
 use Rattle.bs_board.specs.declared.boards.board.Mode.{Mode}
 use Rattle.bs_board.specs.declared.boards.hazards.Hazards.{Hazards}
-use Rattle.bs_board.specs.declared.commands.setup.New.TheInside.{Inside}
 use Rattle.bs_board.specs.declared.limits.TheConstants.{LONGEST_SIDE, MOST_CHANCE, MOST_MIN_FOOD, MOST_SNAKES, SHORTEST_SIDE}
 use Rattle.bs_board.specs.boards.Hazards.{are_fit_hazards}
 use Rattle.bs_board.specs.boards.Cell.{is_same_cell, is_on_board, are_distinct_cells}
@@ -20,18 +19,6 @@ pub record Setup : Type 0 where
   pub hazards : Option Hazards
   pub min_food : ℕ
   pub chance : ℕ
-
-abbrev pub setup_in : Inside → Setup
-setup_in n = record {
-  mode = n.mode;
-  width = n.width;
-  height = n.height;
-  snakes = n.snakes;
-  food = n.food;
-  hazards = n.hazards;
-  min_food = n.min_food;
-  chance = n.chance;
-}
 
 -- a game without hazards
 abbrev pub setup_of : Mode → ℕ → ℕ → List (List ℕ × Point) → List Point → ℕ → ℕ → Setup

@@ -1,7 +1,6 @@
 -- The games of a plan, and when it is within its limits.
 use Rattle.std.specs.Prelude.{◌≡◌, ℕ, ◌≤◌, Bool, true, ◌&&◌, List, length, nat_le, All}
 use Rattle.bs_board.specs.declared.limits.TheConstants.{LEAST_QUOTA, MOST_QUOTA, MOST_ROWS}
-use Rattle.bs_board.specs.declared.plans.row.Row.TheInside.{Inside}
 use Rattle.bs_board.specs.Distinct.{are_distinct}
 use Rattle.bs_board.specs.Texts.{is_same_text, is_short_text}
 
@@ -11,9 +10,6 @@ pub record GameRow : Type 0 where
 
 abbrev pub row_of : List ℕ → ℕ → GameRow
 row_of game quota = record { game = game; quota = quota }
-
-abbrev pub row_in : Inside → GameRow
-row_in r = row_of r.game r.quota
 
 abbrev pub is_fit_row : GameRow → Bool
 is_fit_row row = is_short_text row.game && nat_le LEAST_QUOTA row.quota && nat_le row.quota MOST_QUOTA

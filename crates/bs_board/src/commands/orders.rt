@@ -25,7 +25,8 @@ pub struct Move {
 }
 
 impl Model for Move {
-    ghost use Rattle.bs_board.specs.commands.Orders.{Orders, orders_in, IsAscendingOrders};
+    ghost use Rattle.bs_board.specs.commands.Orders.{Orders};
+    ghost use Rattle.bs_board.specs.inner.Orders.{orders_in, IsAscendingOrders};
 
     ghost Value = { Orders };
 

@@ -33,7 +33,8 @@ pub struct New {
 
 impl Model for New {
     ghost use Rattle.std.specs.Prelude.{◌≡◌, true};
-    ghost use Rattle.bs_board.specs.commands.Setup.{Setup, is_fit_setup, setup_in};
+    ghost use Rattle.bs_board.specs.commands.Setup.{Setup, is_fit_setup};
+    ghost use Rattle.bs_board.specs.inner.Setup.{setup_in};
 
     ghost Value = { Setup };
 

@@ -17,7 +17,8 @@ pub struct Row {
 
 impl Model for Row {
     ghost use Rattle.std.specs.Prelude.{◌≡◌, true};
-    ghost use Rattle.bs_board.specs.plans.Plan.{GameRow, row_in, is_fit_row};
+    ghost use Rattle.bs_board.specs.plans.Plan.{GameRow, is_fit_row};
+    ghost use Rattle.bs_board.specs.inner.Plan.{row_in};
 
     ghost Value = { GameRow };
 

@@ -5,23 +5,7 @@ ghost use Rattle.std.specs.Str.{is_utf8};
 ghost use Rattle.bs_board.specs.declared.boards.board.Board.{Board as AnyBoard};
 ghost use Rattle.bs_board.specs.declared.records.decode_error.Decode.TheVariants.{NotARecord, Memory};
 ghost use Rattle.bs_board.specs.boards.Legal.{IsLegal};
-ghost use Rattle.bs_board.specs.records.Decoder.{
-  Gives,
-  kind_from_bytes,
-  cause_from_byte,
-  killer_from_byte,
-  out_from_number,
-  from_two_bytes,
-  read_cell,
-  read_many,
-  read_piece,
-  read_id,
-  read_state,
-  read_snake,
-  read_head,
-  read_hazards,
-  read_board,
-};
+ghost use Rattle.bs_board.specs.inner.Decoder.{Gives, kind_from_bytes, cause_from_byte, killer_from_byte, out_from_number, from_two_bytes, read_cell, read_many, read_piece, read_id, read_state, read_snake, read_head, read_hazards, read_board};
 ghost use Rattle.bs_board.specs.records.Record.{record_of};
 
 use crate::boards::board::{Board, Mode};
@@ -139,7 +123,7 @@ pub(crate) fn from_two_bytes(high: u8, low: u8) -> u16
     u16::from_be_bytes([high, low])
 }
 
-#[tactic(auto, unfolding(crate::specs::records::Decoder::read_cell))]
+#[tactic(auto, unfolding(crate::specs::inner::Decoder::read_cell))]
 #[inline(always)]
 fn read_cell(raised: u8, bytes: &[u8]) -> Result<(Point, &[u8]), Decode>
     ensures { Gives (λ x. (x.0, x.1.now)) result (read_cell raised bytes.now) }
@@ -156,7 +140,7 @@ fn read_cell(raised: u8, bytes: &[u8]) -> Result<(Point, &[u8]), Decode>
     }
 }
 
-#[tactic(auto, unfolding(crate::specs::records::Decoder::read_state))]
+#[tactic(auto, unfolding(crate::specs::inner::Decoder::read_state))]
 #[inline(always)]
 fn read_state(bytes: &[u8]) -> Result<(State, &[u8]), Decode>
     ensures { Gives (λ x. (x.0, x.1.now)) result (read_state bytes.now) }
@@ -206,7 +190,7 @@ pub(crate) fn read_cells(
 }
 
 /// Reads a length, then that many bytes.
-#[tactic(auto, unfolding(crate::specs::records::Decoder::read_piece))]
+#[tactic(auto, unfolding(crate::specs::inner::Decoder::read_piece))]
 #[inline(always)]
 pub(crate) fn read_piece(bytes: &[u8]) -> Result<(&[u8], &[u8]), Decode>
     ensures { Gives (λ x. (x.0.now, x.1.now)) result (read_piece bytes.now) }
@@ -231,7 +215,7 @@ fn utf8_text(bytes: &[u8]) -> Option<&str>
     str::from_utf8(bytes).ok()
 }
 
-#[tactic(auto, unfolding(crate::specs::records::Decoder::read_id))]
+#[tactic(auto, unfolding(crate::specs::inner::Decoder::read_id))]
 #[inline(always)]
 fn read_id(alloc: Global, bytes: &[u8]) -> Result<(Id, &[u8]), Decode>
     ensures { Gives (λ x. (x.0, x.1.now)) result (read_id is_utf8 bytes.now) }
@@ -243,7 +227,7 @@ fn read_id(alloc: Global, bytes: &[u8]) -> Result<(Id, &[u8]), Decode>
     }
 }
 
-#[tactic(auto, unfolding(crate::specs::records::Decoder::read_snake))]
+#[tactic(auto, unfolding(crate::specs::inner::Decoder::read_snake))]
 #[inline(always)]
 pub(crate) fn read_snake(alloc: Global, bytes: &[u8]) -> Result<(Snake, &[u8]), Decode>
     ensures { Gives (λ x. (x.0, x.1.now)) result (read_snake is_utf8 bytes.now) }
@@ -280,7 +264,7 @@ pub(crate) fn read_snakes(
     Ok((Snakes::from_vec(snakes), rest))
 }
 
-#[tactic(auto, unfolding(crate::specs::records::Decoder::read_head))]
+#[tactic(auto, unfolding(crate::specs::inner::Decoder::read_head))]
 #[inline(always)]
 pub(crate) fn read_head(bytes: &[u8]) -> Result<(Head, &[u8]), Decode>
     ensures { Gives (λ x. (x.0, x.1.now)) result (read_head bytes.now) }
@@ -319,7 +303,7 @@ pub(crate) fn read_head(bytes: &[u8]) -> Result<(Head, &[u8]), Decode>
 }
 
 /// Reads the damage, the number of the cells and the cells; nothing where there are no hazards.
-#[tactic(auto, unfolding(crate::specs::records::Decoder::read_hazards))]
+#[tactic(auto, unfolding(crate::specs::inner::Decoder::read_hazards))]
 pub(crate) fn read_hazards(
     alloc: Global,
     hazardous: bool,
@@ -344,7 +328,7 @@ pub(crate) fn read_hazards(
 }
 
 /// Reads a board, legal or not, that takes all of the bytes.
-#[tactic(auto, unfolding(crate::specs::records::Decoder::read_board))]
+#[tactic(auto, unfolding(crate::specs::inner::Decoder::read_board))]
 pub(crate) fn read_board(alloc: Global, bytes: &[u8]) -> Result<Board, Decode>
     ensures { Gives (λ b. b) result (read_board is_utf8 bytes.now) }
 {

@@ -16,7 +16,8 @@ ghost use Rattle.bs_board.specs.records.Record.{
   hazard_bytes,
   record_of,
 };
-ghost use Rattle.bs_board.specs.records.Writing.{AreWritableCells, AreWritableHazards, Puts, IsByte, IsByteCell, IsWritable};
+ghost use Rattle.bs_board.specs.records.Writing.{IsByte, IsByteCell, IsWritable};
+ghost use Rattle.bs_board.specs.inner.Writing.{AreWritableCells, AreWritableHazards, Puts};
 
 use crate::boards::board::{Board, Mode};
 use crate::boards::hazards::Hazards;

@@ -14,7 +14,8 @@ pub struct KeptBoard {
 
 impl Model for KeptBoard {
     ghost use Rattle.bs_board.specs.declared.boards.board.Board.{Board};
-    ghost use Rattle.bs_board.specs.records.Kept.{IsLegalRecord, board_in};
+    ghost use Rattle.bs_board.specs.records.Kept.{IsLegalRecord};
+    ghost use Rattle.bs_board.specs.inner.Kept.{board_in};
 
     ghost Value = { Board };
 

@@ -7,7 +7,7 @@ ghost use Rattle.bs_board.specs.declared.boards.hazards.Hazards.{Hazards as AnyH
 ghost use Rattle.bs_board.specs.declared.boards.snake.Snake.{Snake as AnySnake};
 ghost use Rattle.bs_board.specs.boards.Over.{is_living};
 ghost use Rattle.bs_board.specs.records.Layout.{IsSnakeBytes, IsBoardBytes, cells_of, damage_of};
-ghost use Rattle.bs_board.specs.records.Decoder.{cause_from_byte, kind_from_bytes};
+ghost use Rattle.bs_board.specs.inner.Decoder.{cause_from_byte, kind_from_bytes};
 ghost use Rattle.bs_board.specs.records.Record.{cell_bytes, hazard_bytes, record_of, snake_record, state_bytes};
 
 use crate::boards::board::Mode;

@@ -5,7 +5,7 @@ ghost use Rattle.std.specs.Str.{is_utf8};
 ghost use Rattle.bs_board.specs.declared.boards.snake.Snake.{Snake as AnySnake};
 ghost use Rattle.bs_board.specs.declared.records.decode_error.Decode.TheVariants.{NotARecord, Memory};
 ghost use Rattle.bs_board.specs.boards.Legal.{is_near};
-ghost use Rattle.bs_board.specs.records.Decoder.{Gives, read_only_snake};
+ghost use Rattle.bs_board.specs.inner.Decoder.{Gives, read_only_snake};
 ghost use Rattle.bs_board.specs.records.FitSnake.{IsFitSnake, IsKillerInRange, IsOutInRange};
 ghost use Rattle.bs_board.specs.records.Record.{snake_record};
 
@@ -52,7 +52,7 @@ pub fn decode_snake(alloc: Global, bytes: &[u8]) -> Result<Snake, Decode>
 }
 
 /// Reads a snake, fit or not, from all of the bytes.
-#[tactic(auto, unfolding(crate::specs::records::Decoder::read_only_snake))]
+#[tactic(auto, unfolding(crate::specs::inner::Decoder::read_only_snake))]
 fn read_only_snake(alloc: Global, bytes: &[u8]) -> Result<Snake, Decode>
     ensures { Gives (λ s. s) result (read_only_snake is_utf8 bytes.now) }
 {

@@ -1,5 +1,5 @@
 use Rattle.std.proofs.Common.{◌≡◌}
-use Rattle.bs_food.specs.Marks.{unmarked}
+use Rattle.bs_food.specs.inner.Marks.{unmarked}
 use Rattle.bs_food.proofs.free.unmarked.Given as goal
 
 -- the rows done so far

@@ -1,7 +1,7 @@
 use Rattle.std.proofs.Common.{◌≡◌, [], ◌∷◌, ◌++◌, List, subst, sym, ap, ◌∙◌}
 use Rattle.bs_pool.specs.declared.owned.Owned.{Owned}
 use Rattle.bs_heap.specs.HeldBlocks.{all_given}
-use Rattle.bs_heap.specs.Lent.{AreLent, owned_numbers}
+use Rattle.bs_heap.specs.inner.Lent.{AreLent, owned_numbers}
 use Rattle.bs_heap.proofs.GivenBlocks.{rest_lent, last_given}
 use Rattle.bs_heap.proofs.blocks.give_back.Goals as goal
 

@@ -1,6 +1,6 @@
 use Rattle.std.proofs.Common.{◌≡◌, vec_capacity}
 use Rattle.bs_heap.specs.HeldBlocks.{all_given}
-use Rattle.bs_heap.specs.Lent.{AreLent, owned_numbers}
+use Rattle.bs_heap.specs.inner.Lent.{AreLent, owned_numbers}
 use Rattle.bs_heap.proofs.blocks.give_back.Given as goal
 
 -- the remaining blocks are still lent, and giving them too gives all

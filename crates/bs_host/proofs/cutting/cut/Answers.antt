@@ -1,6 +1,6 @@
 use Rattle.std.proofs.Common.{rules}
 use Rattle.std.specs.Prelude.{option_copied}
-use Rattle.bs_host.specs.File.{pieces_after}
+use Rattle.bs_host.specs.inner.File.{pieces_after}
 use Rattle.bs_host.proofs.CutFile.{cut_of_found}
 use Rattle.bs_host.proofs.cutting.cut.Goals as goal
 

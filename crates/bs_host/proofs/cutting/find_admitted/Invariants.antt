@@ -2,8 +2,8 @@ use Rattle.std.proofs.Common.{◌≡◌, length}
 use Rattle.std.specs.Prelude.{option_copied}
 use Rattle.bs_workers.specs.Acts.{opened}
 use Rattle.bs_host.specs.Cut.{nth_from}
-use Rattle.bs_host.specs.File.{pieces_after}
-use Rattle.bs_host.specs.OpenStays.{open_stays_of, rows_by_open_stays}
+use Rattle.bs_host.specs.inner.File.{pieces_after}
+use Rattle.bs_host.specs.inner.OpenStays.{open_stays_of, rows_by_open_stays}
 use Rattle.bs_host.specs.Routing.{capacity_of}
 use Rattle.bs_host.proofs.CutFile.{bytes_left}
 use Rattle.bs_host.proofs.cutting.find_admitted.Given as goal

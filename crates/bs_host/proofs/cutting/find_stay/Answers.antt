@@ -5,7 +5,7 @@ use Rattle.bs_board.specs.plans.Plan.{GameRow, row_of}
 use Rattle.bs_board.specs.plans.Version.{has_stays}
 use Rattle.bs_board.specs.Texts.{is_same_text}
 use Rattle.bs_host.specs.Cut.{row_at}
-use Rattle.bs_host.specs.File.{pieces_after}
+use Rattle.bs_host.specs.inner.File.{pieces_after}
 use Rattle.bs_host.specs.Routing.{capacity_of}
 use Rattle.bs_host.proofs.FoundLines.{found_early, found_if_ok, found_planned}
 use Rattle.bs_host.proofs.cutting.find_stay.Goals as goal

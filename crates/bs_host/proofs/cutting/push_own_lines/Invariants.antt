@@ -1,9 +1,9 @@
 use Rattle.std.proofs.Common.{◌≡◌, ◌++◌}
 use Rattle.std.specs.Prelude.{option_copied}
 use Rattle.bs_workers.specs.Acts.{opened}
-use Rattle.bs_host.specs.Cut.{behind_feeds}
-use Rattle.bs_host.specs.File.{pieces_after}
-use Rattle.bs_host.specs.OpenStays.{open_stays_of, own_by_open_stays}
+use Rattle.bs_host.specs.inner.Cut.{behind_feeds}
+use Rattle.bs_host.specs.inner.File.{pieces_after}
+use Rattle.bs_host.specs.inner.OpenStays.{open_stays_of, own_by_open_stays}
 use Rattle.bs_host.specs.Routing.{capacity_of}
 use Rattle.bs_host.proofs.CutFile.{bytes_left}
 use Rattle.bs_host.proofs.cutting.push_own_lines.Given as goal

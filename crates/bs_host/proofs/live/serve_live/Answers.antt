@@ -3,8 +3,10 @@ use Rattle.std.specs.List.{position}
 use Rattle.std.specs.Prelude.{IfSome}
 use Rattle.std.specs.Io.KnownBytes.{Appends}
 use Rattle.bs_host.specs.File.{pieces_of}
-use Rattle.bs_host.specs.Live.{IsCutFirst, live_lines_of}
-use Rattle.bs_host.specs.LiveFaults.{IsLiveFault, LeavesLines, LeavesLive, live_refusal_of}
+use Rattle.bs_host.specs.Live.{live_lines_of}
+use Rattle.bs_host.specs.inner.Live.{IsCutFirst}
+use Rattle.bs_host.specs.LiveFaults.{IsLiveFault, LeavesLive, live_refusal_of}
+use Rattle.bs_host.specs.inner.LiveFaults.{LeavesLines}
 use Rattle.bs_host.proofs.CutPieces.{is_feed}
 use Rattle.bs_host.proofs.LiveRefusals.{any_known, cut_behind, cut_plans, only_behind, only_plans, opened_kind, opened_left, opened_served, opened_written, refused_kind, served_not}
 use Rattle.bs_host.proofs.live.serve_live.Goals as goal
@@ -18,12 +20,11 @@ returns-in-Some-clause-written g c =
     let bytes = c.in_ok-bytes.bytes.items in
     let first = c.in-Some.first.now in
     let rest = c.in-Some.rest.now in
-    let same : c.extend_from_slice.new.self.items ≡ rest = search rules in
     let cut : IsCutFirst bytes first rest = rw c.deref.ensures.value at c.in-Some.ensures.some in
-    let serves = rw (opened.are_blocks, opened.is_version, same) at c.in_ok-serve_lines-in-Some.ensures.written in
+    let serves = c.in_ok-serve_lines-in-Some.ensures.written in
     opened_written c.args.blocks file left bytes first c.in_ok-bytes.ensures.bytes (cut_plans left bytes first rest cut) plan opened.is_plan opened.room
     (λ more. pieces_of (rest ++ more)) (cut_behind left bytes first rest cut) (g.W.Write.contents c.args.output.now) (g.W.Write.contents c.serve_lines.new.output)
-    (serves plan.rows opened.answered)
+    (serves c.args.blocks plan.version plan.rows opened.is)
 
 pub returns-in_err-serve_lines-in-Some-clause-left : goal.returns-in_err-serve_lines-in-Some-clause-left
 returns-in_err-serve_lines-in-Some-clause-left g c =
@@ -37,12 +38,30 @@ returns-in_err-serve_lines-in-Some-clause-left g c =
     let old = g.W.Write.contents c.args.output.now in
     let new = g.W.Write.contents c.serve_lines.new.output in
     let fault = c.in_err-serve_lines-in-Some.field-0.0 in
-    let same : c.extend_from_slice.new.self.items ≡ rest = search rules in
     let cut : IsCutFirst bytes first rest = rw c.deref.ensures.value at c.in-Some.ensures.some in
-    let stops = rw (opened.are_blocks, opened.is_version, same) at c.in_err-serve_lines-in-Some.ensures.left in
+    let stops = c.in_err-serve_lines-in-Some.ensures.left in
     let leaves : IfSome file (λ file. LeavesLive c.args.blocks file old new fault)
     = opened_left c.args.blocks file left bytes first c.in_ok-bytes.ensures.bytes (cut_plans left bytes first rest cut) plan opened.is_plan opened.room
-    (λ more. pieces_of (rest ++ more)) (cut_behind left bytes first rest cut) old new fault (stops plan.rows opened.answered) in
+    (λ more. pieces_of (rest ++ more)) (cut_behind left bytes first rest cut) old new fault (stops c.args.blocks plan.version plan.rows opened.is) in
+    search rules
+
+pub returns-in_err-serve_lines-in-Some-clause-fault : goal.returns-in_err-serve_lines-in-Some-clause-fault
+returns-in_err-serve_lines-in-Some-clause-fault g c =
+    let opened = c.in_ok-host-in-Some.ensures.opened in
+    let plan = opened.plan in
+    let file = g.R.Read.remaining c.args.input.now in
+    let left = g.R.Read.remaining c.read_first.new.input in
+    let bytes = c.in_ok-bytes.bytes.items in
+    let first = c.in-Some.first.now in
+    let rest = c.in-Some.rest.now in
+    let old = g.W.Write.contents c.args.output.now in
+    let new = g.W.Write.contents c.serve_lines.new.output in
+    let fault = c.in_err-serve_lines-in-Some.field-0.0 in
+    let cut : IsCutFirst bytes first rest = rw c.deref.ensures.value at c.in-Some.ensures.some in
+    let stops = c.in_err-serve_lines-in-Some.ensures.left in
+    let kind : IfSome file (λ file. IsLiveFault (live_refusal_of c.args.blocks file) fault)
+    = opened_kind c.args.blocks file left bytes first c.in_ok-bytes.ensures.bytes (cut_plans left bytes first rest cut) plan opened.is_plan opened.room
+    (λ more. pieces_of (rest ++ more)) (cut_behind left bytes first rest cut) old new fault (stops c.args.blocks plan.version plan.rows opened.is) in
     search rules
 
 pub returns-in_err-host-in-None-clause-fault : goal.returns-in_err-host-in-None-clause-fault
@@ -74,9 +93,9 @@ returns-in_err-end_plan-in-None-clause-fault g c =
     let old = g.W.Write.contents c.args.output.now in
     let new = g.W.Write.contents c.end_plan.new.output in
     let fault = c.in_err-end_plan-in-None.field-0.0 in
-    let stops = rw (opened.are_blocks, opened.is_version) at c.in_err-end_plan-in-None.ensures.left in
+    let stops = c.in_err-end_plan-in-None.ensures.left in
     let given : IfSome left (λ more. LeavesLines c.args.blocks plan.version plan.rows [] old new fault)
-    = any_known (λ more. LeavesLines c.args.blocks plan.version plan.rows [] old new fault) left (λ more. stops plan.rows opened.answered) in
+    = any_known (λ more. LeavesLines c.args.blocks plan.version plan.rows [] old new fault) left (λ more. stops c.args.blocks plan.version plan.rows opened.is) in
     let kind : IfSome file (λ file. IsLiveFault (live_refusal_of c.args.blocks file) fault)
     = opened_kind c.args.blocks file left bytes bytes c.in_ok-bytes.ensures.bytes plans plan opened.is_plan opened.room (λ more. [])
     (only_behind left bytes plan feed end opened.is_plan) old new fault given in
@@ -96,9 +115,9 @@ returns-in_err-end_plan-in-None-clause-left g c =
     let old = g.W.Write.contents c.args.output.now in
     let new = g.W.Write.contents c.end_plan.new.output in
     let fault = c.in_err-end_plan-in-None.field-0.0 in
-    let stops = rw (opened.are_blocks, opened.is_version) at c.in_err-end_plan-in-None.ensures.left in
+    let stops = c.in_err-end_plan-in-None.ensures.left in
     let given : IfSome left (λ more. LeavesLines c.args.blocks plan.version plan.rows [] old new fault)
-    = any_known (λ more. LeavesLines c.args.blocks plan.version plan.rows [] old new fault) left (λ more. stops plan.rows opened.answered) in
+    = any_known (λ more. LeavesLines c.args.blocks plan.version plan.rows [] old new fault) left (λ more. stops c.args.blocks plan.version plan.rows opened.is) in
     let leaves : IfSome file (λ file. LeavesLive c.args.blocks file old new fault)
     = opened_left c.args.blocks file left bytes bytes c.in_ok-bytes.ensures.bytes plans plan opened.is_plan opened.room (λ more. [])
     (only_behind left bytes plan feed end opened.is_plan) old new fault given in
@@ -158,7 +177,7 @@ returns-clause-written g c =
     let plan = opened.plan in
     let old = g.W.Write.contents c.args.output.now in
     let new = g.W.Write.contents c.end_plan.new.output in
-    let ends = rw (opened.are_blocks, opened.is_version) at c.in_ok-end_plan-in-None.ensures.written in
+    let ends = c.in_ok-end_plan-in-None.ensures.written in
     opened_written c.args.blocks file left bytes bytes c.in_ok-bytes.ensures.bytes plans plan opened.is_plan opened.room (λ more. [])
     (only_behind left bytes plan feed end opened.is_plan) old new
-    (any_known (λ more. Appends old new (live_lines_of c.args.blocks plan.version plan.rows [])) left (λ more. ends plan.rows opened.answered))
+    (any_known (λ more. Appends old new (live_lines_of c.args.blocks plan.version plan.rows [])) left (λ more. ends c.args.blocks plan.version plan.rows opened.is))

@@ -1,7 +1,8 @@
 use Rattle.std.proofs.Common.{◌≡◌, ◌++◌}
 use Rattle.std.specs.Prelude.{option_copied}
-use Rattle.bs_host.specs.File.{pieces_of, pieces_after}
-use Rattle.bs_host.specs.Parsed.{parsed_lines}
+use Rattle.bs_host.specs.File.{pieces_of}
+use Rattle.bs_host.specs.inner.File.{pieces_after}
+use Rattle.bs_host.specs.inner.Parsed.{parsed_lines}
 use Rattle.bs_host.proofs.ParsedLines.{bytes_left}
 use Rattle.bs_host.proofs.parse.parse_share.Given as goal
 

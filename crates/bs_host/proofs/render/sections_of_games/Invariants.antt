@@ -1,7 +1,7 @@
 use Rattle.std.proofs.Common.{◌≡◌, ◌++◌, drop}
 use Rattle.std.specs.List.{flat_map}
 use Rattle.bs_transcript.specs.Lines.{section_lines_of}
-use Rattle.bs_host.specs.Transcript.{lane_lines_of}
+use Rattle.bs_host.specs.inner.Transcript.{lane_lines_of}
 use Rattle.bs_host.proofs.render.sections_of_games.Given as goal
 
 -- the sections so far, then the remaining ones

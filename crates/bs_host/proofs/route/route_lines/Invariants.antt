@@ -1,7 +1,7 @@
 use Rattle.std.proofs.Common.{◌+◌, drop}
 use Rattle.bs_workers.specs.Acts.{opened}
-use Rattle.bs_host.specs.OpenStays.{open_stays_of}
-use Rattle.bs_host.specs.Parsed.{routes_parsed}
+use Rattle.bs_host.specs.inner.OpenStays.{open_stays_of}
+use Rattle.bs_host.specs.inner.Parsed.{routes_parsed}
 use Rattle.bs_host.specs.Routing.{capacity_of}
 use Rattle.bs_host.proofs.ParsedLines.{AreLeft}
 use Rattle.bs_host.proofs.route.route_lines.Given as goal

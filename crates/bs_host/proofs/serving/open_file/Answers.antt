@@ -1,6 +1,6 @@
 use Rattle.std.proofs.Common.{arith, rules}
 use Rattle.std.specs.Prelude.{option_copied}
-use Rattle.bs_host.specs.File.{pieces_after}
+use Rattle.bs_host.specs.inner.File.{pieces_after}
 use Rattle.bs_host.proofs.FileTexts.{opened, opening_refused, plan_refused, refusal_of_long}
 use Rattle.bs_host.proofs.serving.open_file.Goals as goal
 

@@ -1,7 +1,7 @@
 use Rattle.std.proofs.Common.{◌≡◌, rules}
 use Rattle.std.specs.Prelude.{option_copied}
-use Rattle.bs_host.specs.File.{pieces_after}
-use Rattle.bs_host.specs.Parsed.{parsed_lines}
+use Rattle.bs_host.specs.inner.File.{pieces_after}
+use Rattle.bs_host.specs.inner.Parsed.{parsed_lines}
 use Rattle.bs_host.specs.Routing.{capacity_of}
 use Rattle.bs_host.proofs.ParsedLines.{routed_if_ok}
 use Rattle.bs_host.proofs.serving.read_requests.Goals as goal

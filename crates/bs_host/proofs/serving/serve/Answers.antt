@@ -1,9 +1,10 @@
 use Rattle.std.proofs.Common.{◌≡◌, None, arith, rules}
 use Rattle.std.specs.Prelude.{option_copied}
 use Rattle.bs_host.specs.Faults.{IsFault, Leaves, fault_of_writing, refusal_of}
-use Rattle.bs_host.specs.File.{pieces_after}
+use Rattle.bs_host.specs.inner.File.{pieces_after}
 use Rattle.bs_host.specs.Hosted.{Hosts}
-use Rattle.bs_host.specs.Transcript.{core_text_of, transcript_of}
+use Rattle.bs_host.specs.Transcript.{transcript_of}
+use Rattle.bs_host.specs.inner.Transcript.{core_text_of}
 use Rattle.bs_host.proofs.FileTexts.{acts_accepted, fresh_core, hosts_of_run, text_of_run, writing_is_fault, writing_leaves}
 use Rattle.bs_host.proofs.serving.serve.Goals as goal
 use Rattle.bs_host.proofs.serving.serve.Goals.{After-write_core}

@@ -1,7 +1,7 @@
 use Rattle.std.proofs.Common.{◌≡◌, ◌∷◌, ◌++◌, [], ℕ, List, rules, subst}
 use Rattle.serde_json.specs.Written.{comma_if}
 use Rattle.bs_board.specs.declared.boards.point.Direction.{Direction}
-use Rattle.bs_json.specs.Compact.{move_text}
+use Rattle.bs_json.specs.inner.Compact.{move_text}
 use Rattle.bs_json.proofs.CutTexts.{one_move_more, plain_with_one, some_with_one}
 use Rattle.bs_json.proofs.compact.split_moves.Goals as goal
 

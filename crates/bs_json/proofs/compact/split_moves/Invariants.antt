@@ -1,5 +1,5 @@
 use Rattle.std.proofs.Common.{◌≡◌, false, true, ◌++◌}
-use Rattle.bs_json.specs.Compact.{are_plain_moves, moves_text}
+use Rattle.bs_json.specs.inner.Compact.{are_plain_moves, moves_text}
 use Rattle.bs_json.proofs.CutTexts.{are_some}
 use Rattle.bs_json.proofs.compact.split_moves.Given as goal
 

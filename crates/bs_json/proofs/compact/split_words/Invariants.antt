@@ -1,5 +1,5 @@
 use Rattle.std.proofs.Common.{◌≡◌, false, ◌++◌}
-use Rattle.bs_json.specs.Compact.{words_text}
+use Rattle.bs_json.specs.inner.Compact.{words_text}
 use Rattle.bs_json.proofs.CutTexts.{are_some}
 use Rattle.bs_json.proofs.compact.split_words.Given as goal
 

@@ -2,7 +2,7 @@ use Rattle.std.proofs.Common.{◌≡◌, length, map}
 use Rattle.serde_json.specs.View.{items_of}
 use Rattle.serde_json.specs.Written.{compact_text, items_text}
 use Rattle.bs_json.specs.Boards.{cell_data, cells_data}
-use Rattle.bs_json.specs.BoardText.{cells_of}
+use Rattle.bs_json.specs.inner.BoardText.{cells_of}
 use Rattle.bs_json.specs.Text.{put}
 use Rattle.bs_json.proofs.shown_bytes.push_cells.Given as goal
 

@@ -5,7 +5,7 @@ use Rattle.serde_json.specs.Written.{compact_text, items_text}
 use Rattle.bs_board.specs.declared.boards.board.Board.{Board}
 use Rattle.bs_board.specs.records.Layout.{IsBoardBytes}
 use Rattle.bs_board.specs.records.Record.{snake_record}
-use Rattle.bs_board.specs.records.Writing.{IsWritableBoard}
+use Rattle.bs_board.specs.inner.Writing.{IsWritableBoard}
 use Rattle.bs_json.specs.Boards.{snake_data, snakes_data}
 use Rattle.bs_json.specs.Text.{put}
 use Rattle.bs_json.proofs.shown_bytes.push_snakes.Given as goal

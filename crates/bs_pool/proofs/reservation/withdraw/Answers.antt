@@ -1,6 +1,6 @@
 use Rattle.std.proofs.Common.{rules, not}
 use Rattle.std.proofs.lemmas.Fn.{filter_same}
-use Rattle.bs_pool.specs.Accounts.{is_account_of}
+use Rattle.bs_pool.specs.inner.Accounts.{is_account_of}
 use Rattle.bs_pool.proofs.reservation.withdraw.Goals as goal
 
 pub returns : goal.returns

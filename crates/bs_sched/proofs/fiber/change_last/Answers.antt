@@ -3,7 +3,7 @@ use Rattle.std.specs.Prelude.{Some}
 use Rattle.bs_board.specs.records.Kept.{IsLegalRecord}
 use Rattle.bs_board.proofs.records.KeptRecord.{only_board_in}
 use Rattle.bs_game.specs.declared.reply.Effect.{Effect}
-use Rattle.bs_sched.specs.LastBoards.{last_after}
+use Rattle.bs_sched.specs.inner.LastBoards.{last_after}
 use Rattle.bs_sched.proofs.fiber.change_last.Goals as goal
 
 pub returns-in-Add : goal.returns-in-Add

@@ -1,5 +1,5 @@
 use Rattle.std.proofs.Common.{◌≡◌, ℕ, ◌<◌, true, slice_index_or}
-use Rattle.bs_sched.specs.GamesLayout.{lanes_in}
+use Rattle.bs_sched.specs.inner.GamesLayout.{lanes_in}
 use Rattle.bs_sched.specs.Lane.{is_quiet}
 use Rattle.bs_sched.specs.Machine.{lane_of}
 use Rattle.bs_sched.proofs.games.are_quiet.Given as goal

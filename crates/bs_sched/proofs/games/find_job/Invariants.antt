@@ -1,5 +1,5 @@
-use Rattle.bs_sched.specs.GamesLayout.{lanes_in}
-use Rattle.bs_sched.specs.Taking.{AreNoneReadyBetween}
+use Rattle.bs_sched.specs.inner.GamesLayout.{lanes_in}
+use Rattle.bs_sched.specs.inner.Taking.{AreNoneReadyBetween}
 use Rattle.bs_sched.proofs.games.find_job.Given as goal
 
 -- no lane so far has a ready job

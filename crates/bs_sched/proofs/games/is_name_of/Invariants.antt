@@ -1,6 +1,6 @@
 use Rattle.std.proofs.Common.{◌≡◌, ℕ, ◌<◌, false, slice_index_or}
 use Rattle.bs_board.specs.Texts.{is_same_text}
-use Rattle.bs_sched.specs.GamesLayout.{lanes_in}
+use Rattle.bs_sched.specs.inner.GamesLayout.{lanes_in}
 use Rattle.bs_sched.specs.Machine.{lane_of}
 use Rattle.bs_sched.proofs.games.is_name_of.Given as goal
 

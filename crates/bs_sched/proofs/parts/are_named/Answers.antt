@@ -1,6 +1,6 @@
 use Rattle.std.proofs.Common.{◌≡◌, ◌+◌, ℕ, List, map, drop, ap, sym, ◌∙◌}
 use Rattle.bs_sched.specs.declared.parts.Part.{Part}
-use Rattle.bs_sched.specs.PartsLayout.{number_in}
+use Rattle.bs_sched.specs.inner.PartsLayout.{number_in}
 use Rattle.bs_sched.specs.Frames.{flattened}
 use Rattle.bs_sched.proofs.FrameBlocks.{known_passed}
 use Rattle.bs_sched.proofs.parts.are_named.Goals as goal

@@ -1,6 +1,6 @@
 use Rattle.std.proofs.Common.{◌≡◌, ◌↔◌, map, drop}
 use Rattle.bs_fiber.specs.Tickets.{frames_in, names_of}
-use Rattle.bs_sched.specs.PartsLayout.{number_in}
+use Rattle.bs_sched.specs.inner.PartsLayout.{number_in}
 use Rattle.bs_sched.specs.Frames.{flattened}
 use Rattle.bs_sched.proofs.parts.are_named.Given as goal
 

@@ -1,5 +1,5 @@
 use Rattle.std.proofs.Common.{◌≡◌, ℕ, ◌<◌, false}
-use Rattle.bs_sched.specs.PartsLayout.{part_in, state_in}
+use Rattle.bs_sched.specs.inner.PartsLayout.{part_in, state_in}
 use Rattle.bs_sched.specs.Lane.{is_part_ready}
 use Rattle.bs_sched.proofs.parts.first_ready.Given as goal
 

@@ -1,6 +1,6 @@
 use Rattle.std.proofs.Common.{◌≡◌}
 use Rattle.bs_heap.specs.HeldBlocks.{all_given}
-use Rattle.bs_heap.specs.Lent.{AreLent, owned_numbers}
+use Rattle.bs_heap.specs.inner.Lent.{AreLent, owned_numbers}
 use Rattle.bs_sched.proofs.parts.give_all.Given as goal
 
 -- the remaining blocks are still lent, and giving them too gives all

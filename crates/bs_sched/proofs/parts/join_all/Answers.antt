@@ -1,7 +1,7 @@
 use Rattle.std.specs.Prelude.{option_to_list}
 use Rattle.std.proofs.Common.{rules, ◌≡◌, ◌<◌, refl, ap, ◌∙◌, arith, length, length-take, take}
 use Rattle.bs_sched.specs.declared.parts.Part.{Part}
-use Rattle.bs_sched.specs.PartsLayout.{joined, block_in, moved_in}
+use Rattle.bs_sched.specs.inner.PartsLayout.{joined, block_in, moved_in}
 use Rattle.bs_sched.proofs.FramesCollected.{same_length, emptied_next, collected_next, few_collected, one_block, one_moved}
 use Rattle.bs_sched.proofs.parts.join_all.Goals as goal
 

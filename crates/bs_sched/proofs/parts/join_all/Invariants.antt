@@ -1,6 +1,6 @@
 use Rattle.std.proofs.Common.{◌≡◌, ◌++◌, map, take, drop, vec_capacity}
 use Rattle.std.specs.Prelude.{flat_map, option_to_list}
-use Rattle.bs_sched.specs.PartsLayout.{joined, block_in, moved_in}
+use Rattle.bs_sched.specs.inner.PartsLayout.{joined, block_in, moved_in}
 use Rattle.bs_sched.proofs.parts.join_all.Given as goal
 
 -- the parts before this one are empty, and their contents are collected

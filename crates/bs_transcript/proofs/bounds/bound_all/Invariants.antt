@@ -1,7 +1,7 @@
 use Rattle.std.proofs.Common.{take}
 use Rattle.std.specs.List.{flat_map}
-use Rattle.bs_transcript.specs.Buffer.{AreBounded}
-use Rattle.bs_transcript.specs.Parts.{lines_of_section}
+use Rattle.bs_transcript.specs.inner.Buffer.{AreBounded}
+use Rattle.bs_transcript.specs.inner.Parts.{lines_of_section}
 use Rattle.bs_transcript.proofs.bounds.bound_all.Given as goal
 
 -- the lines of the sections so far are bounded

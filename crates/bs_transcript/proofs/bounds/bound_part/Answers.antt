@@ -1,6 +1,6 @@
 use Rattle.std.proofs.Common.{[], ◌<◌, ◌++◌, length, take, get_or, subst, arith}
-use Rattle.bs_transcript.specs.Buffer.{AreBounded}
-use Rattle.bs_transcript.specs.Parts.{lines_of_part}
+use Rattle.bs_transcript.specs.inner.Buffer.{AreBounded}
+use Rattle.bs_transcript.specs.inner.Parts.{lines_of_part}
 use Rattle.bs_transcript.proofs.Sent.{one_more_line}
 use Rattle.bs_transcript.proofs.PartLines.{bound_found}
 use Rattle.bs_transcript.proofs.bounds.bound_part.Goals as goal

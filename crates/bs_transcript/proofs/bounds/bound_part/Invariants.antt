@@ -1,6 +1,6 @@
 use Rattle.std.proofs.Common.{List, ℕ, ◌++◌, take}
-use Rattle.bs_transcript.specs.Buffer.{AreBounded}
-use Rattle.bs_transcript.specs.Parts.{lines_of_part}
+use Rattle.bs_transcript.specs.inner.Buffer.{AreBounded}
+use Rattle.bs_transcript.specs.inner.Parts.{lines_of_part}
 use Rattle.bs_transcript.proofs.bounds.bound_part.Given as goal
 
 -- the lines so far are bounded

@@ -1,7 +1,7 @@
 use Rattle.std.proofs.Common.{[], rules}
-use Rattle.bs_transcript.specs.Buffer.{IsOnItsWay}
+use Rattle.bs_transcript.specs.inner.Buffer.{IsOnItsWay}
 use Rattle.bs_transcript.specs.Lines.{text_of}
-use Rattle.bs_transcript.specs.Parts.{all_lines_of}
+use Rattle.bs_transcript.specs.inner.Parts.{all_lines_of}
 use Rattle.bs_transcript.specs.Written.{IsCutOff}
 use Rattle.bs_transcript.proofs.PartLines.{all_lines_text}
 use Rattle.bs_transcript.proofs.Sent.{arrived, sets_out}

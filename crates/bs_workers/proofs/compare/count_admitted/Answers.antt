@@ -3,7 +3,7 @@ use Rattle.std.proofs.Common.{◌∙◌, rules, tests}
 use Rattle.std.proofs.lemmas.Iterator.{YieldsList-from_slice}
 use Rattle.std.proofs.lemmas.Iterator.Consumers.{YieldsList-from_filter, count_from_yields_List}
 use Rattle.std.proofs.lemmas.List.Sums.{length-filter}
-use Rattle.bs_workers.specs.Acts.{is_admission}
+use Rattle.bs_workers.specs.inner.Acts.{is_admission}
 use Rattle.bs_workers.proofs.compare.count_admitted.Goals as goal
 
 pub returns : goal.returns

@@ -1,5 +1,6 @@
 use Rattle.std.proofs.Common.{◌+◌, ◌≤◌, refl, ap, take, ◌∙◌, arith, length}
-use Rattle.bs_block.specs.Bytes.{range, with_range}
+use Rattle.bs_block.specs.Bytes.{range}
+use Rattle.bs_block.specs.inner.Bytes.{with_range}
 use Rattle.bs_block.proofs.BlockBytes.{run_at, run_is, lent}
 use Rattle.bs_block.proofs.Runs.{length-range}
 use Rattle.bs_block.proofs.block.Block.lend.Goals as goal

@@ -57,7 +57,8 @@ use Rattle.std_alloc.proofs.Flags.{T_true}
 use Rattle.std_alloc.proofs.VecSteps.Element.{Some-of, none_of}
 use Rattle.std_alloc.proofs.VecSteps.Shapes.{after}
 use Rattle.bs_block.specs.Rounding.{rounded}
-use Rattle.bs_block.specs.Bytes.{HasRoom, Overflows, extended}
+use Rattle.bs_block.specs.Bytes.{HasRoom, Overflows}
+use Rattle.bs_block.specs.inner.Bytes.{extended}
 use Rattle.bs_block.specs.contracts.block.Block as R
 use Rattle.bs_block.specs.contracts.block.Block.overflows as t
 use Rattle.bs_block.specs.contracts.block.Block.fill as g

@@ -32,7 +32,7 @@ use Rattle.std.specs.Prelude.{Some}
 use Rattle.std_alloc.proofs.RcSteps.{word, word-Good}
 use Rattle.std_alloc.proofs.VecSteps.Shapes.{after}
 use Rattle.bs_block.specs.Ownership.{region_lent}
-use Rattle.bs_block.specs.Region.{IsRun}
+use Rattle.bs_block.specs.inner.Region.{IsRun}
 use Rattle.bs_block.specs.contracts.raw.Base as B
 use Rattle.bs_block.specs.contracts.raw.Region as P
 use Rattle.bs_block.specs.contracts.raw.Region.slice as f

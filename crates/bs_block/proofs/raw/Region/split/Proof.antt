@@ -45,9 +45,9 @@ use Rattle.std.specs.Prelude.{Option, Some}
 use Rattle.std_alloc.proofs.Pairs.{pair_val, pair_of}
 use Rattle.std_alloc.proofs.RcSteps.{word, word-Good}
 use Rattle.std_alloc.proofs.VecSteps.Shapes.{after}
-use Rattle.bs_block.specs.RegionLends.{written_over}
+use Rattle.bs_block.specs.inner.RegionLends.{written_over}
 use Rattle.bs_block.specs.Ownership.{row, row_lent, region_own}
-use Rattle.bs_block.specs.Region.{IsRun, HoldsBytes, somes, spliced}
+use Rattle.bs_block.specs.inner.Region.{IsRun, HoldsBytes, somes, spliced}
 use Rattle.bs_block.specs.contracts.raw.Base as B
 use Rattle.bs_block.specs.contracts.raw.Region as P
 use Rattle.bs_block.specs.contracts.raw.Region.split as f

@@ -29,9 +29,9 @@ use Rattle.std.proofs.raw_atomic.Walks.{proved}
 use Rattle.std.specs.Prelude.{Some}
 use Rattle.std_alloc.proofs.RcSteps.{word, word-Good}
 use Rattle.std_alloc.proofs.VecSteps.Shapes.{after}
-use Rattle.bs_block.specs.RegionLends.{with_slots}
+use Rattle.bs_block.specs.inner.RegionLends.{with_slots}
 use Rattle.bs_block.specs.Ownership.{row, region_own}
-use Rattle.bs_block.specs.Region.{spliced}
+use Rattle.bs_block.specs.inner.Region.{spliced}
 use Rattle.bs_block.specs.contracts.raw.Base as B
 use Rattle.bs_block.specs.contracts.raw.Region as P
 use Rattle.bs_block.specs.contracts.raw.Region.write as f

@@ -1,5 +1,5 @@
 use Rattle.std.proofs.Common.{◌≡◌, ◌+◌, ap, ◌∙◌, take, ◌++◌, ◌∷◌, [], get_or, sym, arith, length-take, take-suc, add-one}
-use Rattle.bs_block.specs.Region.{spliced}
+use Rattle.bs_block.specs.inner.Region.{spliced}
 use Rattle.bs_block.proofs.Runs.{spliced_at, spliced_more}
 use Rattle.bs_block.proofs.raw.Region.write_slice.Goals as goal
 

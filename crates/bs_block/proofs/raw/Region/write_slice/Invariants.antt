@@ -1,5 +1,5 @@
 use Rattle.std.proofs.Common.{◌≡◌, take}
-use Rattle.bs_block.specs.Region.{spliced}
+use Rattle.bs_block.specs.inner.Region.{spliced}
 use Rattle.bs_block.proofs.raw.Region.write_slice.Given as goal
 
 abbrev pub invariant-loop-i : goal.invariant-loop-i

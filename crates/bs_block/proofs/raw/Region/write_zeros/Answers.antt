@@ -1,6 +1,6 @@
 use Rattle.std.proofs.Common.{◌+◌, ap, ◌∙◌, replicate, ◌∷◌, [], arith}
 use Rattle.std.proofs.lemmas.List.{length-replicate, replicate-append-replicate}
-use Rattle.bs_block.specs.Region.{spliced}
+use Rattle.bs_block.specs.inner.Region.{spliced}
 use Rattle.bs_block.proofs.Runs.{spliced_more}
 use Rattle.bs_block.proofs.raw.Region.write_zeros.Goals as goal
 

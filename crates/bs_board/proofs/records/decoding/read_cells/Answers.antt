@@ -1,6 +1,6 @@
 use Rattle.std.proofs.Common.{arith}
 use Rattle.std.proofs.lemmas.Result.{err_from_is_err_and}
-use Rattle.bs_board.specs.records.Decoder.{read_cell, read_many}
+use Rattle.bs_board.specs.inner.Decoder.{read_cell, read_many}
 use Rattle.bs_board.proofs.records.Repeats.{goes_on, ends, is_done}
 use Rattle.bs_board.proofs.records.decoding.read_cells.Goals as goal
 

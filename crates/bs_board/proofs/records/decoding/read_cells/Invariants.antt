@@ -1,5 +1,5 @@
 use Rattle.std.proofs.Common.{◌≡◌, ◌≤◌, ◌+◌, ◌-◌, length, vec_capacity}
-use Rattle.bs_board.specs.records.Decoder.{read_cell, read_many}
+use Rattle.bs_board.specs.inner.Decoder.{read_cell, read_many}
 use Rattle.bs_board.proofs.records.Repeats.{with_front}
 use Rattle.bs_board.proofs.records.decoding.read_cells.Given as goal
 

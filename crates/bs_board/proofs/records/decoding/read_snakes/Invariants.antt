@@ -1,6 +1,6 @@
 use Rattle.std.proofs.Common.{◌≡◌, ◌≤◌, ◌+◌, ◌-◌, length, vec_capacity}
 use Rattle.std.specs.Str.{is_utf8}
-use Rattle.bs_board.specs.records.Decoder.{read_snake, read_many}
+use Rattle.bs_board.specs.inner.Decoder.{read_snake, read_many}
 use Rattle.bs_board.proofs.records.Repeats.{with_front}
 use Rattle.bs_board.proofs.records.decoding.read_snakes.Given as goal
 

@@ -1,7 +1,7 @@
 use Rattle.std.proofs.Common.{take}
 use Rattle.std.specs.List.{flat_map}
 use Rattle.bs_board.specs.records.Record.{cell_bytes}
-use Rattle.bs_board.specs.records.Writing.{Puts}
+use Rattle.bs_board.specs.inner.Writing.{Puts}
 use Rattle.bs_board.proofs.records.encoding.put_cells.Given as goal
 
 -- the cells written so far

@@ -1,7 +1,7 @@
 use Rattle.std.proofs.Common.{take}
 use Rattle.std.specs.List.{flat_map}
 use Rattle.bs_board.specs.records.Record.{snake_record}
-use Rattle.bs_board.specs.records.Writing.{Puts}
+use Rattle.bs_board.specs.inner.Writing.{Puts}
 use Rattle.bs_board.proofs.records.encoding.put_snakes.Given as goal
 
 -- the seats written so far

@@ -1,7 +1,7 @@
 use Rattle.std.proofs.Common.{ap, ap₂, false, is_some, ◌∙◌, arith}
 use Rattle.std.specs.Prelude.{unwrap_or}
 use Rattle.bs_board.specs.declared.boards.board.Mode.TheVariants.{Standard}
-use Rattle.bs_board.specs.records.Decoder.{kind_from_bytes}
+use Rattle.bs_board.specs.inner.Decoder.{kind_from_bytes}
 use Rattle.bs_board.proofs.records.Fields.{kind_again}
 use Rattle.bs_board.proofs.records.LayoutBytes.{cut_cells, head_fits, head_parts}
 use Rattle.bs_board.proofs.records.layout.split_board.Goals as goal

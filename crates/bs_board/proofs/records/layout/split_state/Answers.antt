@@ -1,6 +1,6 @@
 use Rattle.std.proofs.Common.{ap, ◌∙◌, None}
 use Rattle.std.specs.Prelude.{unwrap_or}
-use Rattle.bs_board.specs.records.Decoder.{cause_from_byte, killer_from_byte, out_from_number}
+use Rattle.bs_board.specs.inner.Decoder.{cause_from_byte, killer_from_byte, out_from_number}
 use Rattle.bs_board.proofs.records.Fields.{cause_again, killer_again, out_again}
 use Rattle.bs_board.proofs.records.LayoutBytes.{cut_cells, state_parts}
 use Rattle.bs_board.proofs.records.layout.split_state.Goals as goal

@@ -1,9 +1,10 @@
 use Rattle.std.proofs.Common.{◌≡◌, List, [], ℕ, Some, None, Option, IfSome, sym, ap, ◌∙◌, subst, arith}
 use Rattle.std.specs.Prelude.{option_to_list, option_map}
 use Rattle.bs_pool.specs.declared.owned.Owned.{Owned}
-use Rattle.bs_heap.specs.Blocks.{Blocks, NumberedBlock, block_numbers}
+use Rattle.bs_heap.specs.Blocks.{Blocks, NumberedBlock}
+use Rattle.bs_heap.specs.inner.Blocks.{block_numbers}
 use Rattle.bs_heap.specs.HeldBlocks.{AreOwned, all_given}
-use Rattle.bs_heap.specs.OwnedBlocks.{numbered_block, blocks_in}
+use Rattle.bs_heap.specs.inner.OwnedBlocks.{numbered_block, blocks_in}
 use Rattle.bs_heap.proofs.GivenBlocks.{all_numbers, all_given_in_turn, current_owned}
 use Rattle.bs_heap.proofs.HeldBlocks.{owned_front, owned_rest}
 use Rattle.bs_heap.proofs.blocks.TagBlocks.give_all.Goals.{in-Some, in_default}

@@ -1,5 +1,6 @@
 use Rattle.std.proofs.Common.{sym, ap, ◌∙◌, subst, arith}
-use Rattle.bs_heap.specs.Blocks.{Blocks, block_numbers}
+use Rattle.bs_heap.specs.Blocks.{Blocks}
+use Rattle.bs_heap.specs.inner.Blocks.{block_numbers}
 use Rattle.bs_heap.specs.HeldBlocks.{AreOwned, all_given}
 use Rattle.bs_heap.proofs.GivenBlocks.{numbers_filled, lent_from_owned}
 use Rattle.bs_heap.proofs.blocks.TagBlocks.give_closed.Goals as goal

@@ -1,7 +1,7 @@
 use Rattle.std.proofs.Common.{◌≡◌, length, sym, ap, subst₂, ◌∙◌}
 use Rattle.bs_heap.specs.declared.blocks.Entry.{Entry}
 use Rattle.bs_heap.specs.Blocks.{Blocks}
-use Rattle.bs_heap.specs.Entries.{PutsRecord}
+use Rattle.bs_heap.specs.inner.Entries.{PutsRecord}
 use Rattle.bs_heap.specs.HeldBlocks.{next_number}
 use Rattle.bs_heap.proofs.BlockSteps.{with_empty, written, next_entry}
 use Rattle.bs_heap.proofs.PutRecord.{puts_here, puts_opened}

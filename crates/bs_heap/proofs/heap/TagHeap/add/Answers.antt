@@ -6,7 +6,7 @@ use Rattle.bs_heap.specs.Charge.{blocks_for}
 use Rattle.bs_heap.specs.Heap.{Heap}
 use Rattle.bs_heap.specs.declared.heap.TagHeap.TheInside.{Inside}
 use Rattle.bs_heap.specs.HeldBlocks.{IsKeptIn, LeavesOthers, next_number}
-use Rattle.bs_heap.specs.HeapLayout.{heap_in}
+use Rattle.bs_heap.specs.inner.HeapLayout.{heap_in}
 use Rattle.bs_heap.specs.Packing.{fits}
 use Rattle.bs_heap.proofs.AddedRecord.{few_held, has_room, drawable, still_heap, heap_is, kept_after, few_after, others_after}
 use Rattle.bs_heap.proofs.heap.TagHeap.add.Given.{Over}

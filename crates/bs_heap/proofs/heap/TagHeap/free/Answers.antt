@@ -3,7 +3,7 @@ use Rattle.bs_pool.specs.Ledger.{Ledger}
 use Rattle.bs_heap.specs.Blocks.{Blocks}
 use Rattle.bs_heap.specs.Heap.{Heap}
 use Rattle.bs_heap.specs.HeldBlocks.{Holds, IsKeptIn, LeavesOthers, all_given}
-use Rattle.bs_heap.specs.Entries.{packing_in}
+use Rattle.bs_heap.specs.inner.Entries.{packing_in}
 use Rattle.bs_heap.specs.Packing.{numbers_of}
 use Rattle.bs_heap.proofs.FreedBlocks.{owned_all, holds_none, others_of_all}
 use Rattle.bs_heap.proofs.PutRecord.{numbers_are}

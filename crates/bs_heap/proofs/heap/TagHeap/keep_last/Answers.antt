@@ -4,10 +4,11 @@ use Rattle.bs_block.proofs.Rounded.{rounded_above}
 use Rattle.bs_pool.specs.Ledger.{Ledger}
 use Rattle.bs_heap.specs.declared.blocks.Entry.{Entry}
 use Rattle.bs_heap.specs.declared.heap.TagHeap.TheInside.{Inside}
-use Rattle.bs_heap.specs.Blocks.{Blocks, block_numbers}
+use Rattle.bs_heap.specs.Blocks.{Blocks}
+use Rattle.bs_heap.specs.inner.Blocks.{block_numbers}
 use Rattle.bs_heap.specs.Heap.{Heap, with_last}
 use Rattle.bs_heap.specs.HeldBlocks.{Holds, IsKeptIn, LeavesOthers, all_given}
-use Rattle.bs_heap.specs.Entries.{packing_in}
+use Rattle.bs_heap.specs.inner.Entries.{packing_in}
 use Rattle.bs_heap.specs.Packing.{numbers_of, closed_numbers}
 use Rattle.bs_heap.proofs.FreedBlocks.{owned_closed, holds_current, others_of_closed}
 use Rattle.bs_heap.proofs.LastRecord.{current_alone, moved, charged_less, last_is_heap, last_heap_is}

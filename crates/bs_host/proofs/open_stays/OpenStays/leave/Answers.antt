@@ -1,5 +1,5 @@
 use Rattle.std.proofs.Common.{◌∙◌, ap}
-use Rattle.bs_host.specs.OpenStays.{are_named_once}
+use Rattle.bs_host.specs.inner.OpenStays.{are_named_once}
 use Rattle.bs_host.proofs.NamedOnce.{rest_named_once}
 use Rattle.bs_host.proofs.open_stays.OpenStays.leave.Goals as goal
 

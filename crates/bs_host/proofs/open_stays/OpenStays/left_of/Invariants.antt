@@ -1,6 +1,6 @@
 use Rattle.std.proofs.Common.{◌≡◌, ◌-◌, drop}
 use Rattle.bs_host.specs.declared.limits.TheConstants.{BLOCK_BYTES}
-use Rattle.bs_host.specs.OpenStays.{blocks_in}
+use Rattle.bs_host.specs.inner.OpenStays.{blocks_in}
 use Rattle.bs_host.proofs.open_stays.OpenStays.left_of.Given as goal
 
 -- the stays so far, then the remaining ones

@@ -2,10 +2,10 @@ use Rattle.std.proofs.Common.{◌≡◌, ℕ, Option, ◌+◌, ◌<◌, ◌≤�
 use Rattle.std.specs.Prelude.{nat_lt}
 use Rattle.std.proofs.lemmas.Bool.{ltb-true, ltb-false}
 use Rattle.bs_pool.specs.declared.reservation.Account.{Account}
-use Rattle.bs_pool.specs.Accounts.{AreDistinct, Recounts, counted, granted}
+use Rattle.bs_pool.specs.inner.Accounts.{AreDistinct, Recounts, counted, granted}
 use Rattle.bs_pool.specs.Ledger.{held, reserved, least_free, drawn, ledger_of}
-use Rattle.bs_pool.specs.Marks.{IsFirstMark, FindsMark, SetsMark}
-use Rattle.bs_pool.specs.PoolParts.{ledger_in, AreParts}
+use Rattle.bs_pool.specs.inner.Marks.{IsFirstMark, FindsMark, SetsMark}
+use Rattle.bs_pool.specs.inner.PoolParts.{ledger_in, AreParts}
 use Rattle.bs_pool.proofs.Owners.{first_is_free}
 use Rattle.bs_pool.proofs.Parts.{drawn_lent, finds_some, least_marked, lent_unchanged, room_left}
 use Rattle.bs_pool.proofs.pool.Pool.draw.Goals as goal

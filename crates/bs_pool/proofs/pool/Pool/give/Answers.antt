@@ -1,8 +1,8 @@
 use Rattle.std.proofs.Common.{◌≡◌, [], ◌-◌, None, Some, slice_set, ap, sym, subst, arith, ◌∙◌}
 use Rattle.std.proofs.lemmas.Option.{slice_get_within}
-use Rattle.bs_pool.specs.Accounts.{AreDistinct, Recounts, counted}
+use Rattle.bs_pool.specs.inner.Accounts.{AreDistinct, Recounts, counted}
 use Rattle.bs_pool.specs.Ledger.{Owns, given, ledger_of}
-use Rattle.bs_pool.specs.Marks.{SetsMark}
+use Rattle.bs_pool.specs.inner.Marks.{SetsMark}
 use Rattle.bs_pool.proofs.Parts.{given_lent, owner_counts}
 use Rattle.bs_pool.proofs.pool.Pool.give.Goals as goal
 

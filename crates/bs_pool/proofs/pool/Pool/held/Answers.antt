@@ -1,5 +1,5 @@
 use Rattle.std.proofs.Common.{◌∙◌, ap, sym, subst}
-use Rattle.bs_pool.specs.Accounts.{counted, AreDistinct}
+use Rattle.bs_pool.specs.inner.Accounts.{counted, AreDistinct}
 use Rattle.bs_pool.specs.Ledger.{held}
 use Rattle.bs_pool.proofs.Parts.{held_counted}
 use Rattle.bs_pool.proofs.pool.Pool.held.Goals as goal

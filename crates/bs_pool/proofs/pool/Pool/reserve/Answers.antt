@@ -1,6 +1,6 @@
 use Rattle.std.proofs.Common.{◌≤◌, rules, ap, subst, arith}
 use Rattle.bs_pool.specs.Ledger.{unreserved}
-use Rattle.bs_pool.specs.PoolParts.{ledger_in, AreParts}
+use Rattle.bs_pool.specs.inner.PoolParts.{ledger_in, AreParts}
 use Rattle.bs_pool.proofs.Parts.{pushed_parts}
 use Rattle.bs_pool.proofs.pool.Pool.reserve.Goals as goal
 

@@ -1,5 +1,5 @@
 use Rattle.std.proofs.Common.{◌∙◌, ap}
-use Rattle.bs_pool.specs.Accounts.{granted}
+use Rattle.bs_pool.specs.inner.Accounts.{granted}
 use Rattle.bs_pool.specs.Ledger.{reserved}
 use Rattle.bs_pool.proofs.Accounts.{reserved_in}
 use Rattle.bs_pool.proofs.pool.Pool.reserved.Goals as goal

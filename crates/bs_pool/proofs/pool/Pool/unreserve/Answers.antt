@@ -1,8 +1,8 @@
 use Rattle.std.proofs.Common.{ap, sym, subst, ◌∙◌}
 use Rattle.bs_pool.specs.Ledger.{held, ledger_of, without_reservation}
-use Rattle.bs_pool.specs.PoolParts.{AreParts}
+use Rattle.bs_pool.specs.inner.PoolParts.{AreParts}
 use Rattle.bs_pool.proofs.Accounts.{without_in}
-use Rattle.bs_pool.specs.Accounts.{reservations_of}
+use Rattle.bs_pool.specs.inner.Accounts.{reservations_of}
 use Rattle.bs_pool.proofs.Parts.{withdrawn_parts}
 use Rattle.bs_pool.proofs.pool.Pool.unreserve.Goals as goal
 

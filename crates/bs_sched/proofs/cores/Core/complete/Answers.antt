@@ -4,8 +4,8 @@ use Rattle.bs_fiber.specs.Tickets.{TicketView}
 use Rattle.bs_sched.specs.declared.event.Event.TheVariants as event
 use Rattle.bs_sched.specs.Core.{CoreView}
 use Rattle.bs_sched.specs.Machine.{is_enabled_there, lane_effect}
-use Rattle.bs_sched.specs.Journal.{jobs_out}
-use Rattle.bs_sched.specs.Busy.{IsBusyTable, marked}
+use Rattle.bs_sched.specs.inner.Journal.{jobs_out}
+use Rattle.bs_sched.specs.inner.Busy.{IsBusyTable, marked}
 use Rattle.bs_sched.proofs.BusyTable.{put_marks}
 use Rattle.bs_sched.proofs.JobsOut.{one_less_out}
 use Rattle.bs_sched.proofs.Journal.{journaled_after}

@@ -1,5 +1,6 @@
 use Rattle.std.proofs.Common.{subst}
-use Rattle.bs_sched.specs.Journal.{KeepsApart, core_in}
+use Rattle.bs_sched.specs.Journal.{KeepsApart}
+use Rattle.bs_sched.specs.inner.Journal.{core_in}
 use Rattle.bs_sched.proofs.Journal.{keeps_apart}
 use Rattle.bs_sched.proofs.cores.Core.journal.Goals as goal
 

@@ -5,9 +5,10 @@ use Rattle.std.proofs.lemmas.List.{length-replicate}
 use Rattle.bs_sched.specs.declared.event.Event.{Event}
 use Rattle.bs_sched.specs.Core.{opened_core}
 use Rattle.bs_sched.specs.Games.{GamesView, opened}
-use Rattle.bs_sched.specs.Journal.{IsItsJournal, jobs_out}
+use Rattle.bs_sched.specs.Journal.{IsItsJournal}
+use Rattle.bs_sched.specs.inner.Journal.{jobs_out}
 use Rattle.bs_sched.specs.SharedMemory.{IsHosted}
-use Rattle.bs_sched.specs.Busy.{IsBusyTable}
+use Rattle.bs_sched.specs.inner.Busy.{IsBusyTable}
 use Rattle.bs_sched.proofs.BusyTable.{none_marked}
 use Rattle.bs_sched.proofs.JobsOut.{none_out}
 use Rattle.bs_sched.proofs.Journal.{opened_journal}

@@ -1,7 +1,7 @@
 use Rattle.std.proofs.Common.{◌≡◌, ◌++◌, map, subst}
 use Rattle.bs_sched.specs.Registry.{rows_in}
 use Rattle.bs_sched.specs.Core.{CoreView}
-use Rattle.bs_sched.specs.Journal.{core_in}
+use Rattle.bs_sched.specs.inner.Journal.{core_in}
 use Rattle.bs_sched.specs.Lane.{Lane}
 use Rattle.bs_sched.proofs.Journal.{rows_made}
 use Rattle.bs_sched.proofs.cores.Core.rows.Goals as goal

@@ -2,7 +2,7 @@ use Rattle.std.proofs.Common.{◌≡◌, ◌+◌, true, ◌∷◌, ◌++◌, [],
 use Rattle.bs_sched.specs.declared.event.Event.TheVariants as event
 use Rattle.bs_sched.specs.Core.{CoreView}
 use Rattle.bs_sched.specs.Machine.{is_enabled_there, lane_effect}
-use Rattle.bs_sched.specs.Busy.{IsBusyTable}
+use Rattle.bs_sched.specs.inner.Busy.{IsBusyTable}
 use Rattle.bs_sched.proofs.BusyTable.{take_marks}
 use Rattle.bs_sched.proofs.JobsOut.{one_more_out}
 use Rattle.bs_sched.proofs.Journal.{journaled_told}

@@ -1,5 +1,5 @@
 use Rattle.std.proofs.Common.{subst}
-use Rattle.bs_sched.specs.Insides.{IsRightWithParts}
+use Rattle.bs_sched.specs.inner.Insides.{IsRightWithParts}
 use Rattle.bs_sched.proofs.RightLanes.{right_lane}
 use Rattle.bs_sched.proofs.fiber.Fiber.keeps.Goals as goal
 

@@ -2,13 +2,16 @@ use Rattle.std.proofs.Common.{◌≡◌, ℕ, true, List, [], map, sym, ap, subs
 use Rattle.bs_fiber.specs.Tickets.{frames_in, names_of}
 use Rattle.bs_game.specs.View.{answer_of}
 use Rattle.bs_heap.specs.Packing.{numbers_of}
-use Rattle.bs_sched.specs.Frames.{LeavesBut, flattened}
-use Rattle.bs_sched.specs.MoveParts.{PartView, PartsView, frames_of, number_of}
+use Rattle.bs_sched.specs.Frames.{flattened}
+use Rattle.bs_sched.specs.inner.Frames.{LeavesBut}
+use Rattle.bs_sched.specs.MoveParts.{PartView, PartsView}
+use Rattle.bs_sched.specs.inner.MoveParts.{frames_of, number_of}
 use Rattle.bs_fiber.specs.declared.job.JobKind.{JobKind}
 use Rattle.bs_fiber.specs.declared.job.JobKind.TheVariants as kind
 use Rattle.bs_sched.proofs.PartFrames.{begun_parts}
 use Rattle.bs_sched.specs.Lane.{is_out}
-use Rattle.bs_sched.specs.Game.{GameView, HasBlocks, IsAnswering, lane_at}
+use Rattle.bs_sched.specs.Game.{GameView}
+use Rattle.bs_sched.specs.inner.Game.{HasBlocks, IsAnswering, lane_at}
 use Rattle.bs_sched.specs.Lane.{Lane, lane_command, lane_view}
 use Rattle.bs_sched.proofs.Answered.{answered_boards, fit_effect, is_at_command, told_last, told_reply}
 use Rattle.bs_sched.proofs.Brought.{all_of_job, occupied}

@@ -1,7 +1,8 @@
 use Rattle.std.proofs.Common.{◌≡◌, true, false, sym, ap, subst, ◌∙◌}
 use Rattle.bs_fiber.specs.declared.job.JobKind.{JobKind}
 use Rattle.bs_fiber.specs.declared.job.JobKind.TheVariants as kind
-use Rattle.bs_sched.specs.Game.{GameView, lane_at}
+use Rattle.bs_sched.specs.Game.{GameView}
+use Rattle.bs_sched.specs.inner.Game.{lane_at}
 use Rattle.bs_sched.specs.Lane.{Lane, is_playing, is_ready, with_taken}
 use Rattle.bs_sched.proofs.ChangedGame.{kept_game, open_ready, taken_boards}
 use Rattle.bs_sched.proofs.PartFrames.{begun_fit}

@@ -1,6 +1,7 @@
 use Rattle.std.proofs.Common.{ap, ◌∙◌}
 use Rattle.bs_game.specs.Game.{game_charge}
-use Rattle.bs_sched.specs.Game.{GameView, lane_at}
+use Rattle.bs_sched.specs.Game.{GameView}
+use Rattle.bs_sched.specs.inner.Game.{lane_at}
 use Rattle.bs_sched.proofs.ChangedGame.{charge_of_boards, keeps_boards, right_game}
 use Rattle.bs_sched.proofs.game.Game.charge.Goals as goal
 

@@ -3,8 +3,10 @@ use Rattle.std.specs.Prelude.{nat_eq}
 use Rattle.bs_board.proofs.Chains.{and_both}
 use Rattle.bs_heap.specs.Heap.{Heap}
 use Rattle.bs_sched.specs.Frames.{flattened}
-use Rattle.bs_sched.specs.Game.{GameView, HasBlocks}
-use Rattle.bs_sched.specs.MoveParts.{PartView, frames_of, number_of}
+use Rattle.bs_sched.specs.Game.{GameView}
+use Rattle.bs_sched.specs.inner.Game.{HasBlocks}
+use Rattle.bs_sched.specs.MoveParts.{PartView}
+use Rattle.bs_sched.specs.inner.MoveParts.{frames_of, number_of}
 use Rattle.bs_sched.specs.Lane.{Lane, is_idle, is_quiet, may_leave}
 use Rattle.bs_sched.proofs.PartFrames.{at_rest}
 use Rattle.bs_sched.proofs.game.Game.close.Goals as goal

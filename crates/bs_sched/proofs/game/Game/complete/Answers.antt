@@ -4,7 +4,7 @@ use Rattle.bs_fiber.specs.declared.out.Out.{Out}
 use Rattle.bs_fiber.specs.Tickets.{Frame, HoldsWork, bytes_of, frame_in, frames_in, names_of}
 use Rattle.bs_fiber.specs.declared.out.Out.TheVariants.{Moved}
 use Rattle.std.proofs.lemmas.List.{length-map}
-use Rattle.bs_sched.specs.Game.{IsAnswering}
+use Rattle.bs_sched.specs.inner.Game.{IsAnswering}
 use Rattle.bs_sched.specs.Lane.{is_out, lane_command, lane_view}
 use Rattle.bs_sched.proofs.Brought.{answer_of_out, part_block, part_of_moved}
 use Rattle.bs_sched.proofs.game.Game.complete.Goals as goal

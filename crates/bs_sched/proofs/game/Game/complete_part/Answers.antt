@@ -3,10 +3,12 @@ use Rattle.std.specs.List.{list_all}
 use Rattle.bs_fiber.specs.declared.job.JobKind.TheVariants as kind
 use Rattle.bs_fiber.specs.Work.{moved_part}
 use Rattle.bs_sched.specs.declared.stage.Stage.TheVariants as stage
-use Rattle.bs_sched.specs.Game.{GameView, lane_at}
-use Rattle.bs_sched.specs.Insides.{may_answer}
+use Rattle.bs_sched.specs.Game.{GameView}
+use Rattle.bs_sched.specs.inner.Game.{lane_at}
+use Rattle.bs_sched.specs.inner.Insides.{may_answer}
 use Rattle.bs_sched.specs.Lane.{is_out, is_part_done, lane_command, lane_view, with_part_done}
-use Rattle.bs_sched.specs.MoveParts.{PartsView, part_completed, states_of}
+use Rattle.bs_sched.specs.MoveParts.{PartsView}
+use Rattle.bs_sched.specs.inner.MoveParts.{part_completed, states_of}
 use Rattle.bs_sched.proofs.ChangedGame.{done_game, game_completed, open_out}
 use Rattle.bs_sched.proofs.Lanes.{done_lane, out_part, undone_lane}
 use Rattle.bs_sched.proofs.PartFrames.{all_completed_fit, completed_fit, part_out, states_completed}

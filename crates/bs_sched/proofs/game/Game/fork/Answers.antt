@@ -3,10 +3,12 @@ use Rattle.std.proofs.lemmas.List.{length-replicate}
 use Rattle.bs_fiber.specs.declared.job.JobKind.TheVariants as kind
 use Rattle.bs_heap.specs.HeldBlocks.{Holds}
 use Rattle.bs_sched.specs.Frames.{FramesView, flattened}
-use Rattle.bs_sched.specs.Game.{GameView, HasBlocks}
-use Rattle.bs_sched.specs.Insides.{may_answer}
+use Rattle.bs_sched.specs.Game.{GameView}
+use Rattle.bs_sched.specs.inner.Game.{HasBlocks}
+use Rattle.bs_sched.specs.inner.Insides.{may_answer}
 use Rattle.bs_sched.specs.Lane.{Lane, goes_on, is_out}
-use Rattle.bs_sched.specs.MoveParts.{PartView, PartsView, frames_of, number_of, states_of}
+use Rattle.bs_sched.specs.MoveParts.{PartView, PartsView}
+use Rattle.bs_sched.specs.inner.MoveParts.{frames_of, number_of, states_of}
 use Rattle.bs_sched.specs.PartState as state
 use Rattle.bs_sched.proofs.ChangedGame.{framed_blocks, game_forked, kept_game, leaves_none, open_out}
 use Rattle.bs_sched.proofs.PartFrames.{forked_fit, none_known, seen_forked, states_forked, to_fork}

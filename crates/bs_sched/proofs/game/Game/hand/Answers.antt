@@ -1,7 +1,7 @@
 use Rattle.std.proofs.Common.{◌≡◌, true, refl, sym, ap, subst, ◌∙◌}
 use Rattle.bs_sched.specs.Game.{GameView}
-use Rattle.bs_sched.specs.MoveParts.{states_of}
-use Rattle.bs_sched.specs.Insides.{may_answer}
+use Rattle.bs_sched.specs.inner.MoveParts.{states_of}
+use Rattle.bs_sched.specs.inner.Insides.{may_answer}
 use Rattle.bs_sched.proofs.ChangedGame.{handed_fit, handed_parts, kept_game, same_stage}
 use Rattle.bs_sched.proofs.game.Game.hand.Goals as goal
 

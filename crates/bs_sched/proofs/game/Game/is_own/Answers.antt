@@ -3,7 +3,8 @@ use Rattle.std.specs.Prelude.{◌↔◌, IsTrue}
 use Rattle.bs_fiber.specs.Expected.{IsOf}
 use Rattle.bs_fiber.specs.declared.job.JobName.{JobName}
 use Rattle.bs_fiber.specs.Tickets.{names_of}
-use Rattle.bs_sched.specs.Game.{GameView, IsOwnTicket, game_in, lane_at, own_names}
+use Rattle.bs_sched.specs.Game.{GameView}
+use Rattle.bs_sched.specs.inner.Game.{IsOwnTicket, game_in, lane_at, own_names}
 use Rattle.bs_sched.specs.Inputs.{input_for}
 use Rattle.bs_sched.specs.Lane.{is_out}
 use Rattle.bs_sched.proofs.ChangedGame.{right_game}

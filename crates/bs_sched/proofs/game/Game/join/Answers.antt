@@ -7,11 +7,13 @@ use Rattle.bs_fiber.specs.declared.job.JobKind.TheVariants as kind
 use Rattle.bs_fiber.specs.Frames.{frame_of}
 use Rattle.bs_fiber.specs.Tickets.{IsFresh, TicketView, bytes_of, frames_in, fresh_bytes, names_of}
 use Rattle.bs_pool.specs.declared.owned.Owned.{Owned}
-use Rattle.bs_sched.specs.Game.{GameView, lane_at}
-use Rattle.bs_sched.specs.Insides.{HasParts}
-use Rattle.bs_sched.specs.MoveParts.{PartsView, frames_of, parts_joined, states_of}
+use Rattle.bs_sched.specs.Game.{GameView}
+use Rattle.bs_sched.specs.inner.Game.{lane_at}
+use Rattle.bs_sched.specs.inner.Insides.{HasParts}
+use Rattle.bs_sched.specs.MoveParts.{PartsView}
+use Rattle.bs_sched.specs.inner.MoveParts.{frames_of, parts_joined, states_of}
 use Rattle.bs_sched.specs.PartState.{PartState}
-use Rattle.bs_sched.specs.Inputs.{current_input}
+use Rattle.bs_sched.specs.inner.Inputs.{current_input}
 use Rattle.bs_sched.specs.Lane.{Lane, is_out, is_ready, with_taken}
 use Rattle.bs_sched.proofs.ChangedGame.{game_joined, joined_parts, kept_game, open_ready, taken_boards}
 use Rattle.bs_sched.proofs.FitInputs.{join_input, lane_input, out_taken}

@@ -1,12 +1,12 @@
 use Rattle.std.proofs.Common.{◌≡◌, ℕ, List, true, subst, sym, arith}
 use Rattle.std.specs.Prelude.{None}
 use Rattle.bs_game.specs.Game.{board_of_turn, last_board}
-use Rattle.bs_game.specs.Recorded.{IsRecorded}
+use Rattle.bs_game.specs.inner.Recorded.{IsRecorded}
 use Rattle.bs_game.proofs.Recorded.{kept_turns, nothing_of_turn}
 use Rattle.bs_sched.specs.Game.{GameView}
-use Rattle.bs_sched.specs.MoveParts.{states_of}
+use Rattle.bs_sched.specs.inner.MoveParts.{states_of}
 use Rattle.bs_sched.specs.Lane.{kept_of}
-use Rattle.bs_sched.specs.Turns.{FindsTurn}
+use Rattle.bs_sched.specs.inner.Turns.{FindsTurn}
 use Rattle.bs_sched.proofs.ChangedGame.{keeps_boards}
 use Rattle.bs_sched.proofs.KeptRecords.{finds_turn}
 use Rattle.bs_sched.proofs.NewestRecords.{newest, no_newest}

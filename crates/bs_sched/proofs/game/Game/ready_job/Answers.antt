@@ -1,7 +1,8 @@
 use Rattle.std.proofs.Common.{◌≡◌, false, true, sym, subst}
 use Rattle.bs_sched.specs.Game.{GameView}
-use Rattle.bs_sched.specs.MoveParts.{states_of}
-use Rattle.bs_sched.specs.Lane.{HasNoneReady, is_in_parts, is_ready}
+use Rattle.bs_sched.specs.inner.MoveParts.{states_of}
+use Rattle.bs_sched.specs.Lane.{is_in_parts, is_ready}
+use Rattle.bs_sched.specs.inner.Lane.{HasNoneReady}
 use Rattle.bs_sched.proofs.Lanes.{none_with_parts, ready_with_parts}
 use Rattle.bs_sched.proofs.game.Game.ready_job.Goals as goal
 

@@ -6,11 +6,13 @@ use Rattle.bs_fiber.specs.declared.job.JobKind.TheVariants as kind
 use Rattle.bs_fiber.specs.Tickets.{IsFresh, TicketView, bytes_of, frames_in, fresh_bytes, names_of}
 use Rattle.bs_pool.specs.declared.owned.Owned.{Owned}
 use Rattle.bs_heap.specs.HeldBlocks.{next_number}
-use Rattle.bs_sched.specs.Game.{GameView, HasBlocks, game_in, lane_at, own_names}
+use Rattle.bs_sched.specs.Game.{GameView}
+use Rattle.bs_sched.specs.inner.Game.{HasBlocks, game_in, lane_at, own_names}
 use Rattle.bs_sched.specs.PartState.{PartState}
-use Rattle.bs_sched.specs.MoveParts.{PartsView, part_taken, states_of}
-use Rattle.bs_sched.specs.Insides.{HasParts}
-use Rattle.bs_sched.specs.Inputs.{current_input}
+use Rattle.bs_sched.specs.MoveParts.{PartsView}
+use Rattle.bs_sched.specs.inner.MoveParts.{part_taken, states_of}
+use Rattle.bs_sched.specs.inner.Insides.{HasParts}
+use Rattle.bs_sched.specs.inner.Inputs.{current_input}
 use Rattle.bs_sched.specs.Lane.{Lane, is_out, is_ready, with_taken}
 use Rattle.bs_sched.proofs.ChangedGame.{framed_blocks, game_taken, kept_game, open_ready, taken_parts}
 use Rattle.bs_sched.proofs.Lanes.{ready_part}

@@ -4,7 +4,7 @@ use Rattle.bs_sched.specs.declared.games.Games.TheInside.{Inside}
 use Rattle.bs_sched.specs.declared.plan_blocks.TheConstants.{MOST_STAYS}
 use Rattle.bs_sched.specs.Game.{GameView}
 use Rattle.bs_sched.specs.Games.{GamesView}
-use Rattle.bs_sched.specs.GamesLayout.{lanes_in, tallies_in}
+use Rattle.bs_sched.specs.inner.GamesLayout.{lanes_in, tallies_in}
 use Rattle.bs_sched.specs.Machine.{open_blocks}
 use Rattle.bs_sched.specs.PlanBlocks.{blocks_of}
 use Rattle.bs_sched.proofs.ChangedStays.{Comes, can_reserve, lanes_come, sound_comes, storage_comes}

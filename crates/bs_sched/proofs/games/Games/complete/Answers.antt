@@ -3,7 +3,7 @@ use Rattle.bs_fiber.specs.declared.job.JobName.{JobName}
 use Rattle.bs_fiber.specs.declared.contents.Contents.{Contents}
 use Rattle.bs_fiber.specs.Tickets.{Frame, TicketView, HoldsWork, frames_in, names_of, ticket_in}
 use Rattle.bs_sched.specs.Courses.{IsRight}
-use Rattle.bs_sched.specs.Games.{games_completed}
+use Rattle.bs_sched.specs.inner.Games.{games_completed}
 use Rattle.bs_sched.specs.Lane.{Lane}
 use Rattle.bs_sched.proofs.OwnJobs.{brings, own_there}
 use Rattle.bs_sched.proofs.games.Games.complete.Goals as goal

@@ -3,8 +3,10 @@ use Rattle.bs_fiber.specs.declared.job.JobKind.{JobKind}
 use Rattle.bs_fiber.specs.declared.job.JobKind.TheVariants as kind
 use Rattle.bs_fiber.specs.Work.{out_seen}
 use Rattle.bs_heap.specs.HeldBlocks.{next_number}
-use Rattle.bs_sched.specs.Game.{GameView, no_game}
-use Rattle.bs_sched.specs.Games.{GamesView, games_completed}
+use Rattle.bs_sched.specs.Game.{GameView}
+use Rattle.bs_sched.specs.inner.Game.{no_game}
+use Rattle.bs_sched.specs.Games.{GamesView}
+use Rattle.bs_sched.specs.inner.Games.{games_completed}
 use Rattle.bs_sched.specs.Lane.{Lane, is_out, lane_command, lane_view}
 use Rattle.bs_sched.proofs.ChangedGames.{completed_stay, completed_view, names_there, open_with_out, row_there, sound_game, stay_there}
 use Rattle.bs_sched.proofs.ListedGames.{read_at}

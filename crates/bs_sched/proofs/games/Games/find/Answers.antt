@@ -2,8 +2,8 @@ use Rattle.std.proofs.Common.{List, length, subst, ◌∙◌}
 use Rattle.std.specs.Prelude.{MatchOption}
 use Rattle.bs_sched.specs.Game.{GameView}
 use Rattle.bs_sched.specs.Games.{GamesView}
-use Rattle.bs_sched.specs.GamesLayout.{lanes_in}
-use Rattle.bs_sched.specs.Taking.{AreNoneOpenReady, AreNoneReadyBetween, IsReadyJob}
+use Rattle.bs_sched.specs.inner.GamesLayout.{lanes_in}
+use Rattle.bs_sched.specs.inner.Taking.{AreNoneOpenReady, AreNoneReadyBetween, IsReadyJob}
 use Rattle.bs_sched.proofs.FoundJobs.{found_before}
 use Rattle.bs_sched.proofs.games.Games.find.Goals as goal
 

@@ -2,7 +2,7 @@ use Rattle.std.proofs.Common.{◌≡◌, true, sym, ap, ◌∙◌}
 use Rattle.bs_sched.specs.Games.{GamesView, after}
 use Rattle.bs_sched.specs.Lane.{Lane}
 use Rattle.bs_sched.specs.declared.event.Event.TheVariants as event
-use Rattle.bs_sched.specs.Game.{handed_game}
+use Rattle.bs_sched.specs.inner.Game.{handed_game}
 use Rattle.bs_sched.proofs.ChangedGame.{leaves_all}
 use Rattle.bs_sched.proofs.ChangedGames.{handed_blocks, handed_stay, handed_view, row_there, sound_game, stay_there}
 use Rattle.bs_sched.proofs.Results.{on_ok}

@@ -4,7 +4,7 @@ use Rattle.bs_board.specs.plans.Plan.{GameRow}
 use Rattle.bs_board.specs.Texts.{is_same_text}
 use Rattle.bs_sched.specs.Game.{GameView}
 use Rattle.bs_sched.specs.Games.{GamesView}
-use Rattle.bs_sched.specs.GamesLayout.{lanes_in}
+use Rattle.bs_sched.specs.inner.GamesLayout.{lanes_in}
 use Rattle.bs_sched.specs.Machine.{has_name, lane_of}
 use Rattle.bs_sched.proofs.OpenRows.{named_among}
 use Rattle.bs_sched.proofs.games.Games.has_open_name.Goals as goal

@@ -2,7 +2,8 @@ use Rattle.std.proofs.Common.{◌≡◌, ℕ, ◌<◌, length, ap, subst, ◌∙
 use Rattle.std.specs.Prelude.{◌↔◌, IsTrue}
 use Rattle.bs_fiber.specs.declared.job.JobName.{JobName}
 use Rattle.bs_fiber.specs.Tickets.{TicketView}
-use Rattle.bs_sched.specs.Game.{GameView, IsOwnTicket}
+use Rattle.bs_sched.specs.Game.{GameView}
+use Rattle.bs_sched.specs.inner.Game.{IsOwnTicket}
 use Rattle.bs_sched.specs.Games.{GamesView}
 use Rattle.bs_sched.proofs.ChangedGames.{own_at_stay, stay_there}
 use Rattle.bs_sched.proofs.ListedGames.{many_lanes}

@@ -2,7 +2,7 @@ use Rattle.std.proofs.Common.{ℕ, List, ap, arith, sym, ◌∙◌}
 use Rattle.std.specs.List.{list_all}
 use Rattle.bs_sched.specs.Game.{GameView}
 use Rattle.bs_sched.specs.Games.{GamesView}
-use Rattle.bs_sched.specs.GamesLayout.{lanes_in}
+use Rattle.bs_sched.specs.inner.GamesLayout.{lanes_in}
 use Rattle.bs_sched.specs.Lane.{Lane, is_quiet}
 use Rattle.bs_sched.specs.Machine.{lane_of}
 use Rattle.bs_sched.proofs.ListedGames.{lane_at, many_lanes}

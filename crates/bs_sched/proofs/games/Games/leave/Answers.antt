@@ -4,7 +4,8 @@ use Rattle.bs_heap.specs.HeldBlocks.{LeavesOthers, all_given}
 use Rattle.bs_heap.specs.Packing.{numbers_of}
 use Rattle.bs_sched.specs.declared.games.Games.TheInside.{Inside}
 use Rattle.bs_sched.specs.Frames.{flattened}
-use Rattle.bs_sched.specs.Game.{GameView, closed_game}
+use Rattle.bs_sched.specs.Game.{GameView}
+use Rattle.bs_sched.specs.inner.Game.{closed_game}
 use Rattle.bs_sched.specs.Lane.{Lane, may_leave}
 use Rattle.bs_sched.proofs.ChangedGames.{row_there, stay_there}
 use Rattle.bs_sched.proofs.ChangedStays.{Leaves, can_release, lanes_left, open_quiet, sound_left, storage_left, tallies_left}

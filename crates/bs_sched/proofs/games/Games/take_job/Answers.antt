@@ -3,10 +3,10 @@ use Rattle.std.specs.Prelude.{slice_set}
 use Rattle.std.proofs.lemmas.Result.{IfOk-weaker}
 use Rattle.bs_counter.specs.Keys.{TallyId}
 use Rattle.bs_heap.specs.HeldBlocks.{next_number}
-use Rattle.bs_sched.specs.Frames.{pool_taken}
-use Rattle.bs_sched.specs.Game.{taken_game}
+use Rattle.bs_sched.specs.inner.Frames.{pool_taken}
+use Rattle.bs_sched.specs.inner.Game.{taken_game}
 use Rattle.bs_sched.specs.Games.{GamesView, games_taken, tally_of}
-use Rattle.bs_sched.specs.GamesLayout.{lanes_in, tallies_in}
+use Rattle.bs_sched.specs.inner.GamesLayout.{lanes_in, tallies_in}
 use Rattle.bs_sched.specs.Inputs.{input_of}
 use Rattle.bs_sched.specs.Keyed.{IsKeyOf}
 use Rattle.bs_sched.specs.Lane.{Lane, is_ready}

@@ -1,8 +1,9 @@
 use Rattle.std.proofs.Common.{ap, ◌∙◌}
 use Rattle.std.specs.List.{list_all}
 use Rattle.bs_sched.specs.declared.parts.Part.{Part}
-use Rattle.bs_sched.specs.PartsLayout.{state_in}
-use Rattle.bs_sched.specs.MoveParts.{PartsView, states_of}
+use Rattle.bs_sched.specs.inner.PartsLayout.{state_in}
+use Rattle.bs_sched.specs.MoveParts.{PartsView}
+use Rattle.bs_sched.specs.inner.MoveParts.{states_of}
 use Rattle.bs_sched.specs.Lane.{is_part_done}
 use Rattle.bs_sched.proofs.FrameBlocks.{all_done}
 use Rattle.bs_sched.proofs.parts.MoveParts.are_done.Goals as goal

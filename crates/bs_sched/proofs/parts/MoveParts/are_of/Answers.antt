@@ -3,9 +3,10 @@ use Rattle.std.specs.Prelude.{IsTrue}
 use Rattle.bs_fiber.specs.declared.job.JobKind.{JobKind}
 use Rattle.bs_fiber.specs.Tickets.{frames_in, names_of}
 use Rattle.bs_sched.specs.declared.parts.Part.{Part}
-use Rattle.bs_sched.specs.PartsLayout.{number_in}
+use Rattle.bs_sched.specs.inner.PartsLayout.{number_in}
 use Rattle.bs_sched.specs.Frames.{flattened}
-use Rattle.bs_sched.specs.MoveParts.{PartsView, frames_of}
+use Rattle.bs_sched.specs.MoveParts.{PartsView}
+use Rattle.bs_sched.specs.inner.MoveParts.{frames_of}
 use Rattle.bs_sched.proofs.FrameBlocks.{numbers_read}
 use Rattle.std.specs.Prelude.{Option}
 use Rattle.bs_sched.specs.Inputs.{job_numbers}

@@ -1,8 +1,9 @@
 use Rattle.std.proofs.Common.{List, ap, ◌∙◌}
 use Rattle.std.proofs.lemmas.List.{map-set}
 use Rattle.bs_sched.specs.declared.parts.Part.TheVariants as field
-use Rattle.bs_sched.specs.MoveParts.{PartView, part_completed}
-use Rattle.bs_sched.specs.PartsLayout.{view_of}
+use Rattle.bs_sched.specs.MoveParts.{PartView}
+use Rattle.bs_sched.specs.inner.MoveParts.{part_completed}
+use Rattle.bs_sched.specs.inner.PartsLayout.{view_of}
 use Rattle.bs_sched.proofs.parts.MoveParts.complete.Goals as goal
 
 pub returns : goal.returns

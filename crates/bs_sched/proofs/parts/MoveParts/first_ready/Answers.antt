@@ -1,7 +1,8 @@
 use Rattle.std.proofs.Common.{List, ap, ◌∙◌, map}
 use Rattle.bs_sched.specs.declared.parts.Part.{Part}
-use Rattle.bs_sched.specs.PartsLayout.{view_of}
-use Rattle.bs_sched.specs.MoveParts.{PartsView, state_of, states_of}
+use Rattle.bs_sched.specs.inner.PartsLayout.{view_of}
+use Rattle.bs_sched.specs.MoveParts.{PartsView}
+use Rattle.bs_sched.specs.inner.MoveParts.{state_of, states_of}
 use Rattle.bs_sched.proofs.FrameBlocks.{found_state}
 use Rattle.bs_sched.proofs.parts.MoveParts.first_ready.Goals as goal
 

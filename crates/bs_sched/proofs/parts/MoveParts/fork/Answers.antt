@@ -1,8 +1,9 @@
 use Rattle.std.proofs.Common.{[], List, length, map, ap, sym, subst, ◌∙◌, All, arith}
-use Rattle.bs_sched.specs.Keyed.{AreKeysOf}
+use Rattle.bs_sched.specs.inner.Keyed.{AreKeysOf}
 use Rattle.bs_sched.specs.declared.parts.Part.{Part}
-use Rattle.bs_sched.specs.MoveParts.{PartView, PartsView, parts_forked}
-use Rattle.bs_sched.specs.PartsLayout.{view_of, AreReadyAt, IsPartOf}
+use Rattle.bs_sched.specs.MoveParts.{PartView, PartsView}
+use Rattle.bs_sched.specs.inner.MoveParts.{parts_forked}
+use Rattle.bs_sched.specs.inner.PartsLayout.{view_of, AreReadyAt, IsPartOf}
 use Rattle.bs_sched.proofs.FrameBlocks.{ready_views, no_block_stands, ready_with_keys}
 use Rattle.bs_sched.proofs.parts.MoveParts.fork.Goals as goal
 

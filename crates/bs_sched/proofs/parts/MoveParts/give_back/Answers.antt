@@ -2,7 +2,7 @@ use Rattle.std.proofs.Common.{◌∙◌, [], sym, subst, arith}
 use Rattle.bs_pool.specs.Ledger.{Ledger}
 use Rattle.bs_heap.specs.HeldBlocks.{Holds, LeavesOthers}
 use Rattle.bs_sched.specs.Frames.{flattened}
-use Rattle.bs_sched.specs.MoveParts.{frames_of}
+use Rattle.bs_sched.specs.inner.MoveParts.{frames_of}
 use Rattle.bs_sched.proofs.FramesJoined.{lent, all_numbers, holds_none, others}
 use Rattle.bs_sched.proofs.parts.MoveParts.give_back.Goals as goal
 

@@ -2,8 +2,9 @@ use Rattle.std.proofs.Common.{List, ap, sym, ◌∙◌}
 use Rattle.std.specs.Prelude.{slice_index_or}
 use Rattle.bs_sched.specs.declared.parts.Part.{Part}
 use Rattle.bs_sched.specs.PartState as state
-use Rattle.bs_sched.specs.PartsLayout.{part_in, state_in}
-use Rattle.bs_sched.specs.MoveParts.{PartsView, states_of}
+use Rattle.bs_sched.specs.inner.PartsLayout.{part_in, state_in}
+use Rattle.bs_sched.specs.MoveParts.{PartsView}
+use Rattle.bs_sched.specs.inner.MoveParts.{states_of}
 use Rattle.bs_sched.specs.Lane.{has_part}
 use Rattle.bs_sched.proofs.FrameBlocks.{state_read}
 use Rattle.bs_sched.proofs.parts.MoveParts.has_out.Goals as goal

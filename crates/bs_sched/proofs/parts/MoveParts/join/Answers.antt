@@ -3,9 +3,10 @@ use Rattle.bs_pool.specs.declared.owned.Owned.{Owned}
 use Rattle.bs_fiber.specs.Frames.{frame_of}
 use Rattle.bs_fiber.specs.Tickets.{bytes_of, frames_in, names_of}
 use Rattle.bs_sched.specs.declared.parts.Part.{Part}
-use Rattle.bs_sched.specs.PartsLayout.{view_of, AreReadyAt, IsPartOf}
+use Rattle.bs_sched.specs.inner.PartsLayout.{view_of, AreReadyAt, IsPartOf}
 use Rattle.bs_sched.specs.Frames.{flattened}
-use Rattle.bs_sched.specs.MoveParts.{PartView, PartsView, frames_of, moved_of, parts_joined}
+use Rattle.bs_sched.specs.MoveParts.{PartView, PartsView}
+use Rattle.bs_sched.specs.inner.MoveParts.{frames_of, moved_of, parts_joined}
 use Rattle.bs_sched.proofs.FramesJoined.{all_bytes, all_moved, all_names, views_joined, all_sent_fit, all_sent_ready}
 use Rattle.bs_sched.proofs.parts.MoveParts.join.Goals as goal
 

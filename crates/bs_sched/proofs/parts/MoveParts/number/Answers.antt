@@ -1,8 +1,9 @@
 use Rattle.std.proofs.Common.{List, None, ap, map, sym, ◌∙◌}
 use Rattle.std.specs.Prelude.{slice_index_or}
 use Rattle.bs_sched.specs.declared.parts.Part.{Part}
-use Rattle.bs_sched.specs.MoveParts.{PartsView, frames_of, number_of}
-use Rattle.bs_sched.specs.PartsLayout.{view_of}
+use Rattle.bs_sched.specs.MoveParts.{PartsView}
+use Rattle.bs_sched.specs.inner.MoveParts.{frames_of, number_of}
+use Rattle.bs_sched.specs.inner.PartsLayout.{view_of}
 use Rattle.bs_sched.proofs.FrameBlocks.{number_got}
 use Rattle.bs_sched.proofs.parts.MoveParts.number.Goals as goal
 

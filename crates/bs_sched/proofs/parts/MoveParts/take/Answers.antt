@@ -6,8 +6,9 @@ use Rattle.bs_sched.specs.declared.parts.Part.{Part}
 use Rattle.bs_sched.specs.declared.parts.Part.TheVariants as field
 use Rattle.bs_sched.specs.Frames.{flattened}
 use Rattle.bs_sched.specs.Keyed.{IsKeyAt}
-use Rattle.bs_sched.specs.MoveParts.{PartView, PartsView, frames_of, part_taken, ready_part}
-use Rattle.bs_sched.specs.PartsLayout.{view_of}
+use Rattle.bs_sched.specs.MoveParts.{PartView, PartsView}
+use Rattle.bs_sched.specs.inner.MoveParts.{frames_of, part_taken, ready_part}
+use Rattle.bs_sched.specs.inner.PartsLayout.{view_of}
 use Rattle.bs_sched.proofs.FrameBlocks.{key_in, there}
 use Rattle.bs_sched.proofs.FrameNumbers.{parted}
 use Rattle.bs_sched.proofs.ListedGames.{read_at}

@@ -1,6 +1,6 @@
 use Rattle.std.proofs.Common.{[], ◌+◌, drop, subst, rules}
-use Rattle.bs_transcript.specs.Buffer.{IsOnItsWay}
-use Rattle.bs_transcript.specs.Parts.{all_lines_of}
+use Rattle.bs_transcript.specs.inner.Buffer.{IsOnItsWay}
+use Rattle.bs_transcript.specs.inner.Parts.{all_lines_of}
 use Rattle.bs_transcript.specs.Written.{IsCutOff}
 use Rattle.bs_transcript.proofs.PartLines.{section_first, strays_alone}
 use Rattle.bs_transcript.proofs.line_buffer.LineBuffer.push_all.Goals as goal

@@ -1,6 +1,6 @@
 use Rattle.std.proofs.Common.{List, ℕ, Option, drop}
-use Rattle.bs_transcript.specs.Buffer.{IsOnItsWay}
-use Rattle.bs_transcript.specs.Parts.{all_lines_of}
+use Rattle.bs_transcript.specs.inner.Buffer.{IsOnItsWay}
+use Rattle.bs_transcript.specs.inner.Parts.{all_lines_of}
 use Rattle.bs_transcript.proofs.line_buffer.LineBuffer.push_all.Given as goal
 
 -- the lines of the sections so far are on their way

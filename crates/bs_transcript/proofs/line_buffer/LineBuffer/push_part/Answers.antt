@@ -1,5 +1,5 @@
 use Rattle.std.proofs.Common.{◌+◌, ◌<◌, ◌++◌, length, drop, arith, rules}
-use Rattle.bs_transcript.specs.Parts.{lines_of_part}
+use Rattle.bs_transcript.specs.inner.Parts.{lines_of_part}
 use Rattle.bs_transcript.specs.Written.{IsCutOff}
 use Rattle.bs_transcript.proofs.Sent.{next_line}
 use Rattle.bs_transcript.proofs.line_buffer.LineBuffer.push_part.Goals as goal

@@ -1,6 +1,6 @@
 use Rattle.std.proofs.Common.{List, ℕ, Option, ◌++◌, drop}
-use Rattle.bs_transcript.specs.Buffer.{IsOnItsWay}
-use Rattle.bs_transcript.specs.Parts.{lines_of_part}
+use Rattle.bs_transcript.specs.inner.Buffer.{IsOnItsWay}
+use Rattle.bs_transcript.specs.inner.Parts.{lines_of_part}
 use Rattle.bs_transcript.proofs.line_buffer.LineBuffer.push_part.Given as goal
 
 -- the lines so far are on their way

@@ -1,0 +1,5 @@
+-- What private contracts cite, and no public one.
+pub mod BlockLayout
+pub mod Bytes
+pub mod Region
+pub mod RegionLends

@@ -1,0 +1,43 @@
+-- The lines of a file, each parsed by itself, and then their routes.
+use Rattle.std.specs.Prelude.{ℕ, ◌+◌, List, [], ◌∷◌, Some, None, map}
+use Rattle.bs_board.specs.declared.commands.command.Command.TheVariants as command
+use Rattle.bs_board.specs.declared.plans.version.Version.{Version}
+use Rattle.bs_json.specs.declared.line.Line.{Line}
+use Rattle.bs_json.specs.declared.line.Line.TheVariants as line
+use Rattle.bs_json.specs.declared.line.Stray.TheVariants as stray
+use Rattle.bs_json.specs.Line.{line_of}
+use Rattle.bs_sched.specs.Stays.{Capacity}
+use Rattle.bs_host.specs.declared.parse.ParsedLine.{ParsedLine}
+use Rattle.bs_host.specs.declared.parse.ParsedLine.TheVariants as parsed
+use Rattle.bs_host.specs.declared.route.Route.{Route}
+use Rattle.bs_host.specs.declared.route.Route.TheVariants as route
+use Rattle.bs_host.specs.OpenStays.{OpenStayList}
+use Rattle.bs_host.specs.inner.OpenStays.{found_in, open_stays_then, refusal_by}
+use Rattle.bs_host.specs.Routing.{admit_route, hand_route, leave_route}
+
+abbrev pub parsed_line : Line → ParsedLine
+parsed_line line.Blank = parsed.Blank
+parsed_line (line.Command game command) = parsed.Command game command
+parsed_line (line.Bad game) = parsed.Command game command.Bad
+parsed_line (line.Stray kind) = parsed.Stray kind
+parsed_line (line.Admit row) = parsed.Admit row
+parsed_line line.BadAdmit = parsed.Stray stray.BadRow
+parsed_line (line.Leave None) = parsed.Stray stray.NoStay
+parsed_line (line.Leave (Some game)) = parsed.Leave game
+
+abbrev pub parsed_lines : Version → List (List ℕ) → List ParsedLine
+parsed_lines version = map (λ piece. parsed_line (line_of version piece))
+
+abbrev pub route_parsed : Capacity → OpenStayList → ParsedLine → Route
+route_parsed capacity open_stays (parsed.Command game command) = hand_route (found_in game open_stays.stays) command
+route_parsed capacity open_stays (parsed.Stray kind) = route.Stray kind
+route_parsed capacity open_stays parsed.Blank = route.Nowhere
+route_parsed capacity open_stays (parsed.Admit row) = admit_route (refusal_by capacity open_stays row) row
+route_parsed capacity open_stays (parsed.Leave game) = leave_route (found_in game open_stays.stays)
+
+-- the lines are numbered from `number` on
+abbrev pub routes_parsed : Capacity → OpenStayList → ℕ → List ParsedLine → List (ℕ × Route)
+routes_parsed capacity open_stays number [] = []
+routes_parsed capacity open_stays number (line ∷ lines) =
+    (number, route_parsed capacity open_stays line)
+    ∷ routes_parsed capacity (open_stays_then open_stays (route_parsed capacity open_stays line)) (number + 1) lines

@@ -1,0 +1,4 @@
+-- What private contracts cite, and no public one.
+pub mod BoardText
+pub mod Compact
+pub mod Replies

@@ -1,0 +1,6 @@
+-- What private contracts cite, and no public one.
+pub mod Accounts
+pub mod Marks
+pub mod PoolParts
+pub mod Reservations
+pub mod Whereabouts

@@ -1,0 +1,19 @@
+-- What private contracts cite, and no public one.
+pub mod Busy
+pub mod FrameEffects
+pub mod Frames
+pub mod Game
+pub mod Games
+pub mod GamesLayout
+pub mod Inputs
+pub mod Insides
+pub mod Journal
+pub mod Keyed
+pub mod Lane
+pub mod LastBoards
+pub mod MoveParts
+pub mod PartsLayout
+pub mod Putting
+pub mod Reserved
+pub mod Taking
+pub mod Turns

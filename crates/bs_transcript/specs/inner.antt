@@ -1,0 +1,3 @@
+-- What private contracts cite, and no public one.
+pub mod Buffer
+pub mod Parts

@@ -1,0 +1,4 @@
+-- What private contracts cite, and no public one.
+pub mod Acts
+pub mod Faults
+pub mod Run
