@@ -87,57 +87,49 @@ pub record AreLeft (all : List (ℕ × Route)) (left : List (ℕ × Route)) (req
   pub strays : requests.strays.items ++ strays_in left ≡ strays_in all
 
 module _ (capacity : Capacity) where
-  next_routes : (open_stays : OpenStayList) (lines : List ParsedLine) (index : ℕ) (line : ParsedLine) → index < length lines → line ≡ get_or lines index line
-      → routes_parsed capacity open_stays (2 + index) (drop index lines)
-      ≡ (2 + index, route_parsed capacity open_stays line) ∷ routes_parsed capacity (open_stays_then open_stays (route_parsed capacity open_stays line)) (2 + (index + 1)) (drop (index + 1) lines)
-  next_routes open_stays lines index line within is =
-      let e : 2 + index + 1 ≡ 2 + (index + 1) = omega arith in
-      ap (routes_parsed capacity open_stays (2 + index)) (drop_more lines index line within ∙ ap (λ l. l ∷ drop (index + 1) lines) (sym is))
-      ∙ ap (λ n. (2 + index, route_parsed capacity open_stays line) ∷ routes_parsed capacity (open_stays_then open_stays (route_parsed capacity open_stays line)) n (drop (index + 1) lines)) e
-
-  pub goes_on : (all : List (ℕ × Route)) (before after : OpenStayList) (lines : List ParsedLine) (index number : ℕ) (line : ParsedLine) (goes : Route) (old new : Requests)
-      → index < length lines → line ≡ get_or lines index line → goes ≡ route_parsed capacity before line → after ≡ open_stays_then before goes → number ≡ 2 + index
+  pub goes_on : (all : List (ℕ × Route)) (before after : OpenStayList) (number next : ℕ) (line : ParsedLine) (left rest : List ParsedLine) (goes : Route) (old new : Requests)
+      → left ≡ line ∷ rest → goes ≡ route_parsed capacity before line → after ≡ open_stays_then before goes → next ≡ number + 1
       → new.acts.items ≡ old.acts.items ++ option_to_list (act_in goes)
       → new.strays.items ≡ old.strays.items ++ option_to_list (numbered_stray (number, goes))
-      → AreLeft all (routes_parsed capacity before (2 + index) (drop index lines)) old
-      → AreLeft all (routes_parsed capacity after (2 + (index + 1)) (drop (index + 1) lines)) new
-  goes_on all before after lines index number line goes old new within is to moved at acts strays left =
+      → AreLeft all (routes_parsed capacity before number left) old → AreLeft all (routes_parsed capacity after next rest) new
+  goes_on all before after number next line left rest goes old new is to moved more acts strays so_far =
       let to_route = route_parsed capacity before line in
-      let rest = routes_parsed capacity (open_stays_then before to_route) (2 + (index + 1)) (drop (index + 1) lines) in
-      let next = next_routes before lines index line within is in
+      let behind = routes_parsed capacity (open_stays_then before to_route) (number + 1) rest in
+      let routes : routes_parsed capacity before number left ≡ (number, to_route) ∷ behind = ap (routes_parsed capacity before number) is in
       let state : after ≡ open_stays_then before to_route = moved ∙ ap (open_stays_then before) to in
+      let now : routes_parsed capacity after next rest ≡ behind
+      = ap (λ g. routes_parsed capacity g next rest) state ∙ ap (λ n. routes_parsed capacity (open_stays_then before to_route) n rest) more in
       let asked = rw to at acts in
-      let told = rw (to, at) at strays in
+      let told = rw to at strays in
       record {
         acts =
-            ap (λ g. new.acts.items ++ acts_in (routes_parsed capacity g (2 + (index + 1)) (drop (index + 1) lines))) state
-            ∙ moves_on old.acts.items new.acts.items (act_in to_route) (acts_in rest) asked
-            ∙ ap (λ routes. old.acts.items ++ acts_in routes) (sym next) ∙ left.acts;
+            ap (λ routes. new.acts.items ++ acts_in routes) now
+            ∙ moves_on old.acts.items new.acts.items (act_in to_route) (acts_in behind) asked
+            ∙ ap (λ routes. old.acts.items ++ acts_in routes) (sym routes) ∙ so_far.acts;
         strays =
-            ap (λ g. new.strays.items ++ strays_in (routes_parsed capacity g (2 + (index + 1)) (drop (index + 1) lines))) state
-            ∙ moves_on old.strays.items new.strays.items (numbered_stray (2 + index, to_route)) (strays_in rest) told
-            ∙ ap (λ routes. old.strays.items ++ strays_in routes) (sym next) ∙ left.strays;
+            ap (λ routes. new.strays.items ++ strays_in routes) now
+            ∙ moves_on old.strays.items new.strays.items (numbered_stray (number, to_route)) (strays_in behind) told
+            ∙ ap (λ routes. old.strays.items ++ strays_in routes) (sym routes) ∙ so_far.strays;
       }
 
-  pub none_read : (open_stays : OpenStayList) (rows : List GameRow) (lines : List ParsedLine) (requests : Requests) → open_stays ≡ open_stays_of (opened rows) → requests.acts.items ≡ []
-      → requests.strays.items ≡ []
-      → AreLeft (routes_parsed capacity (open_stays_of (opened rows)) 2 lines) (routes_parsed capacity open_stays (2 + 0) (drop 0 lines)) requests
-  none_read open_stays rows lines requests is no_act no_stray =
-      let same : routes_parsed capacity open_stays (2 + 0) (drop 0 lines) ≡ routes_parsed capacity (open_stays_of (opened rows)) 2 lines
-      = ap (λ (g : OpenStayList). routes_parsed capacity g 2 lines) is in
+  pub none_read : (open_stays : OpenStayList) (rows : List GameRow) (lines left : List ParsedLine) (requests : Requests) → open_stays ≡ open_stays_of (opened rows)
+      → left ≡ lines → requests.acts.items ≡ [] → requests.strays.items ≡ []
+      → AreLeft (routes_parsed capacity (open_stays_of (opened rows)) 2 lines) (routes_parsed capacity open_stays 2 left) requests
+  none_read open_stays rows lines left requests is all no_act no_stray =
+      let same : routes_parsed capacity open_stays 2 left ≡ routes_parsed capacity (open_stays_of (opened rows)) 2 lines
+      = ap (λ (g : OpenStayList). routes_parsed capacity g 2 left) is ∙ ap (routes_parsed capacity (open_stays_of (opened rows)) 2) all in
       record {
-        acts = ap (λ acts. acts ++ acts_in (routes_parsed capacity open_stays (2 + 0) (drop 0 lines))) no_act ∙ ap acts_in same;
-        strays = ap (λ strays. strays ++ strays_in (routes_parsed capacity open_stays (2 + 0) (drop 0 lines))) no_stray ∙ ap strays_in same;
+        acts = ap (λ acts. acts ++ acts_in (routes_parsed capacity open_stays 2 left)) no_act ∙ ap acts_in same;
+        strays = ap (λ strays. strays ++ strays_in (routes_parsed capacity open_stays 2 left)) no_stray ∙ ap strays_in same;
       }
 
-  pub all_read : (open_stays : OpenStayList) (number : ℕ) (lines : List ParsedLine) (all : List (ℕ × Route)) (requests : Requests)
-      → AreLeft all (routes_parsed capacity open_stays number (drop (length lines) lines)) requests → IsRouted all requests
-  all_read open_stays number lines all requests left =
-      let none : [] ≡ routes_parsed capacity open_stays number (drop (length lines) lines)
-      = sym (ap (routes_parsed capacity open_stays number) (drop_all (length lines) lines (omega arith))) in
+  pub all_read : (open_stays : OpenStayList) (number : ℕ) (left : List ParsedLine) (all : List (ℕ × Route)) (requests : Requests) → left ≡ []
+      → AreLeft all (routes_parsed capacity open_stays number left) requests → IsRouted all requests
+  all_read open_stays number left all requests none so_far =
+      let routes : routes_parsed capacity open_stays number left ≡ [] = ap (routes_parsed capacity open_stays number) none in
       record {
-        acts = sym (append-nil requests.acts.items) ∙ ap (λ rest. requests.acts.items ++ acts_in rest) none ∙ left.acts;
-        strays = sym (append-nil requests.strays.items) ∙ ap (λ rest. requests.strays.items ++ strays_in rest) none ∙ left.strays;
+        acts = sym (append-nil requests.acts.items) ∙ ap (λ routes. requests.acts.items ++ acts_in routes) (sym routes) ∙ so_far.acts;
+        strays = sym (append-nil requests.strays.items) ∙ ap (λ routes. requests.strays.items ++ strays_in routes) (sym routes) ∙ so_far.strays;
       }
 
 -- the bytes and line feeds that remain of the text

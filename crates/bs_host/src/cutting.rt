@@ -82,7 +82,7 @@ fn route_text(
     ensures after { IfOk result (λ route. open_stays.new ≡ open_stays_then open_stays.old route) }
 {
     let parsed = parse_line(alloc, file.plan.version, line, None)?;
-    open_stays.route(alloc, file.blocks, &parsed)
+    open_stays.route(alloc, file.blocks, parsed)
 }
 
 fn push_line(line: &[u8], text: &mut Vec<u8>) -> Result<(), AllocError>

@@ -109,7 +109,7 @@ impl LiveHost {
         let number = self.number.checked_add(1).ok_or(AllocError)?;
         let parsed = parse_line(alloc, self.version, line, None)?;
         let made = self.open_stays.made();
-        let route = self.open_stays.route(alloc, self.blocks, &parsed)?;
+        let route = self.open_stays.route(alloc, self.blocks, parsed)?;
         self.follow(alloc, made, &route, text)?;
         self.number = number;
         Ok(())

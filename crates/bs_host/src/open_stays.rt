@@ -153,12 +153,12 @@ impl OpenStays {
         }
     }
 
-    fn hand(&mut self, game: &Id, command: &SharedCommand) -> Result<Route, AllocError>
-        ensures route { IfOk result (λ route. route ≡ hand_route (found_in game.now self.old.stays) command.now) }
+    fn hand(&mut self, game: &Id, command: SharedCommand) -> Result<Route, AllocError>
+        ensures route { IfOk result (λ route. route ≡ hand_route (found_in game.now self.old.stays) command) }
         ensures after { IfOk result (λ route. self.new ≡ open_stays_then self.old route) }
     {
         match self.find(game) {
-            Some(stay) => Ok(Route::Act(Act::Hand(stay, command.share()?))),
+            Some(stay) => Ok(Route::Act(Act::Hand(stay, command))),
             None => Ok(Route::Stray(Stray::Game)),
         }
     }
@@ -195,16 +195,16 @@ impl OpenStays {
         &mut self,
         alloc: Global,
         blocks: usize,
-        line: &ParsedLine,
+        line: ParsedLine,
     ) -> Result<Route, AllocError>
-        ensures route { IfOk result (λ route. route ≡ route_parsed (capacity_of blocks) self.old line.now) }
+        ensures route { IfOk result (λ route. route ≡ route_parsed (capacity_of blocks) self.old line) }
         ensures after { IfOk result (λ route. self.new ≡ open_stays_then self.old route) }
     {
         match line {
-            ParsedLine::Command(game, command) => self.hand(game, command),
-            ParsedLine::Admit(row) => self.admit(alloc, blocks, row),
-            ParsedLine::Leave(game) => Ok(self.leave(game)),
-            ParsedLine::Stray(kind) => Ok(Route::Stray(*kind)),
+            ParsedLine::Command(game, command) => self.hand(&game, command),
+            ParsedLine::Admit(row) => self.admit(alloc, blocks, &row),
+            ParsedLine::Leave(game) => Ok(self.leave(&game)),
+            ParsedLine::Stray(kind) => Ok(Route::Stray(kind)),
             ParsedLine::Blank => Ok(Route::Nowhere),
         }
     }

@@ -57,18 +57,20 @@ pub(crate) fn route_lines(
     alloc: Global,
     blocks: usize,
     rows: &Rows,
-    lines: &[ParsedLine],
+    lines: Vec<ParsedLine>,
 ) -> Result<Requests, AllocError>
-    ensures { IfOk result (IsRouted (routes_parsed (capacity_of blocks) (open_stays_of (opened rows.now)) 2 lines.now)) }
+    ensures { IfOk result (IsRouted (routes_parsed (capacity_of blocks) (open_stays_of (opened rows.now)) 2 lines.items)) }
 {
     let mut open_stays = OpenStays::of_plan(alloc, rows)?;
     let mut requests = Requests {
         acts: Vec::with_capacity(alloc, lines.len())?,
         strays: Vec::new(alloc),
     };
-    for index in 0..lines.len() {
-        let route = open_stays.route(alloc, blocks, &lines[index])?;
-        push_route(&mut requests, FIRST_NUMBER + index as u64, route)?;
+    let mut number = FIRST_NUMBER;
+    for line in lines {
+        let route = open_stays.route(alloc, blocks, line)?;
+        push_route(&mut requests, number, route)?;
+        number = number.checked_add(1).ok_or(AllocError)?;
     }
     Ok(requests)
 }

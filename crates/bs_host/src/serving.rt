@@ -89,7 +89,7 @@ fn read_requests<R: Threads + Sync>(
         (IsRouted (routes_from (capacity_of file.entry.blocks) file.entry.plan.now.version (opened file.entry.plan.now.rows) 2 (pieces_after (option_copied file.entry.rest)))) }
 {
     let lines = parse_lines(rt, alloc, file.plan.version, file.rest, threads)?;
-    route_lines(alloc, file.blocks, &file.plan.rows, lines.as_slice())
+    route_lines(alloc, file.blocks, &file.plan.rows, lines)
 }
 
 /// Serves a command file with `blocks` blocks of memory and `workers` threads, the caller's

@@ -1,4 +1,3 @@
-use Rattle.std.proofs.Common.{◌+◌, drop}
 use Rattle.bs_workers.specs.Acts.{opened}
 use Rattle.bs_host.specs.inner.OpenStays.{open_stays_of}
 use Rattle.bs_host.specs.inner.Parsed.{routes_parsed}
@@ -7,6 +6,7 @@ use Rattle.bs_host.proofs.ParsedLines.{AreLeft}
 use Rattle.bs_host.proofs.route.route_lines.Given as goal
 
 -- the lines so far, then the remaining ones
-abbrev pub invariant-loop-index : goal.invariant-loop-index
-invariant-loop-index l =
-    AreLeft (routes_parsed (capacity_of l.blocks) (open_stays_of (opened l.rows)) 2 l.lines) (routes_parsed (capacity_of l.blocks) l.open_stays (2 + l.index) (drop l.index l.lines)) l.requests
+abbrev pub invariant-loop-line : goal.invariant-loop-line
+invariant-loop-line l =
+    AreLeft (routes_parsed (capacity_of l.blocks) (open_stays_of (opened l.rows)) 2 l.fn.lines.items)
+    (routes_parsed (capacity_of l.blocks) l.open_stays l.number l.line-iterator.rest.items) l.requests

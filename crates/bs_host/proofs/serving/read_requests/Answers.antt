@@ -9,5 +9,5 @@ use Rattle.bs_host.proofs.serving.read_requests.Goals as goal
 pub returns : goal.returns
 returns g c =
     let pieces = pieces_after (option_copied c.args.file.rest) in
-    let is : c.as_slice.result.now ≡ parsed_lines c.args.file.plan.now.version pieces = search rules in
-    routed_if_ok (capacity_of c.args.file.blocks) c.args.file.plan.now pieces c.as_slice.result.now c.route_lines.result is c.route_lines.ensures
+    let is : c.in_ok-lines.lines.items ≡ parsed_lines c.args.file.plan.now.version pieces = search rules in
+    routed_if_ok (capacity_of c.args.file.blocks) c.args.file.plan.now pieces c.in_ok-lines.lines.items c.route_lines.result is c.route_lines.ensures
