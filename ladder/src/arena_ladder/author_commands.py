@@ -14,9 +14,10 @@ from arena_ladder.bot_log import HEADING, BotLog, read_log
 from arena_ladder.config import MAPS, MODES
 from arena_ladder.export import frames, game_rows, transcript_of
 from arena_ladder.game_files import command_file, make_folders
+from arena_ladder.lock import locked
 from arena_ladder.match import Boards, match_config, new_folder, result_lines
 from arena_ladder.pairing import Part
-from arena_ladder.play import Job, locked, play
+from arena_ladder.play import Job, play
 from arena_ladder.program import add_program, program_of
 from arena_ladder.seeds import with_seed
 from arena_ladder.store import Store, StoreFault, open_store

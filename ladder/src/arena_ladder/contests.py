@@ -14,9 +14,10 @@ from rich.console import Console
 from arena_ladder.bot_log import BotLog
 from arena_ladder.config import MAPS, MODES, Config, config_of
 from arena_ladder.game_files import make_folders
+from arena_ladder.lock import locked
 from arena_ladder.match import bots_of_words
 from arena_ladder.pairing import Part
-from arena_ladder.play import Job, locked, play
+from arena_ladder.play import Job, play
 from arena_ladder.program import add_program, program_of
 from arena_ladder.progress import Counts, ProgressBar
 from arena_ladder.seeds import with_seed

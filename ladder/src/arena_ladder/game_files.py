@@ -49,19 +49,16 @@ class GameFiles:
     """
 
     def __init__(self, folder: Path, name: str, plan: bytes = PLAN) -> None:
-        self.folder = folder
-        self.name = name
         self.path = command_file(folder, name)
-        self.plan = plan
-
-    def __enter__(self) -> GameFiles:
         self.commands = LineFile(self.path)
-        self.answers = LineFile(answers_file(self.folder, self.name))
+        self.answers = LineFile(answers_file(folder, name))
         if not self.commands.lines:
-            self.commands.write(self.plan)
+            self.commands.write(plan)
         self.old_lines = self.commands.lines[1:]
         self.moves = sum(b'"do":"move"' in line for line in self.old_lines)
         self.answers.cut(self.moves)
+
+    def __enter__(self) -> GameFiles:
         return self
 
     def __exit__(self, *_: object) -> None:

@@ -24,11 +24,12 @@ from arena_ladder.config import MOST_ROUNDS, ConfigFault, read_config
 from arena_ladder.contests import add_contests
 from arena_ladder.game import GameFault
 from arena_ladder.game_files import make_folders
+from arena_ladder.lock import LockFault, locked
 from arena_ladder.merge import merge
 from arena_ladder.page_link import Address, PageFault, PageLink, address_of
 from arena_ladder.pairing import Part, part_of
-from arena_ladder.play import Job, locked, play
-from arena_ladder.program import add_program, program_of
+from arena_ladder.play import Job, play
+from arena_ladder.program import ProgramFault, add_program, program_of
 from arena_ladder.progress import Counts, ProgressBar
 from arena_ladder.results_page import add_page_command
 from arena_ladder.roster_commands import add_roster_commands
@@ -43,7 +44,9 @@ FAULTS = (
     GameFault,
     HostDied,
     HostFault,
+    LockFault,
     PageFault,
+    ProgramFault,
     StoreFault,
     OSError,
     sqlite3.Error,

@@ -9,8 +9,8 @@ from contextlib import closing
 from pathlib import Path
 
 from arena_ladder.game_files import command_file, make_folders
+from arena_ladder.lock import locked
 from arena_ladder.outcome import Outcome, Tally
-from arena_ladder.play import locked
 from arena_ladder.store import Store, StoreFault, open_store
 
 

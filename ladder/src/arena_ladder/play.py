@@ -3,11 +3,10 @@
 from __future__ import annotations
 
 import asyncio
-import fcntl
 import math
-from collections.abc import Iterator, Sequence
+from collections.abc import Sequence
 from concurrent.futures import ThreadPoolExecutor
-from contextlib import contextmanager, suppress
+from contextlib import suppress
 from dataclasses import dataclass
 from pathlib import Path
 
@@ -23,7 +22,7 @@ from arena_ladder.payloads import Look
 from arena_ladder.rated import Change
 from arena_ladder.roster import add_config_bots, urls_of
 from arena_ladder.schedule import CALM_SECONDS, Pace, Schedule
-from arena_ladder.store import Store, StoreFault
+from arena_ladder.store import Store
 from arena_ladder.urls import shown
 from arena_ladder.watch import Watch, Watches
 
@@ -41,17 +40,6 @@ class Job:
     part: Part
     program: Path
     ends_at: float = math.inf  # of the monotonic clock: no game begins later
-
-
-@contextmanager
-def locked(folder: Path) -> Iterator[None]:
-    """Locks a folder, so that no other ladder plays in it meanwhile."""
-    with open(folder / "lock", "w") as file:
-        try:
-            fcntl.flock(file, fcntl.LOCK_EX | fcntl.LOCK_NB)
-        except OSError:
-            raise StoreFault(f"another ladder is playing in {folder}") from None
-        yield
 
 
 async def play(job: Job, store: Store, watches: Sequence[Watch]) -> None:

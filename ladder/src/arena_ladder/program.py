@@ -6,7 +6,10 @@ import argparse
 from pathlib import Path
 
 from arena_client import PROGRAM
-from arena_ladder.store import StoreFault
+
+
+class ProgramFault(Exception):
+    """An arena program that is missing."""
 
 
 def add_program(words: argparse.ArgumentParser) -> None:
@@ -18,5 +21,5 @@ def program_of(given: argparse.Namespace) -> Path:
     """The path of the arena program, which has to exist."""
     program = Path(given.program)
     if not program.is_file():
-        raise StoreFault(f"there is no program {program}: ./arena --help proves and builds it")
+        raise ProgramFault(f"there is no program {program}: ./arena --help proves and builds it")
     return program.resolve()
