@@ -32,7 +32,8 @@ class Block:
 
 def blocks_of(text: str) -> Iterator[Block]:
     """The blocks of a page or of a part of it."""
-    item, lines, before = 0, [], ""
+    item, before = 0, ""
+    lines: list[str] = []
     for line in [*text.splitlines(), "."]:
         columns = 7 if item else 4
         if line.startswith(" " * columns) and (lines or before == ""):
@@ -82,8 +83,14 @@ def run_page(text: str, tree: Path, way: int) -> str:
 def run_block(commands: str, tree: Path) -> str:
     """Runs commands by bash; returns what they wrote to both outputs."""
     words = ["bash", "-euo", "pipefail", "-c", commands]
-    together = {"stdout": subprocess.PIPE, "stderr": subprocess.STDOUT, "text": True}
-    ran = subprocess.run(words, cwd=tree, timeout=LONGEST_BLOCK, **together)
+    ran = subprocess.run(
+        words,
+        cwd=tree,
+        timeout=LONGEST_BLOCK,
+        stdout=subprocess.PIPE,
+        stderr=subprocess.STDOUT,
+        text=True,
+    )
     if ran.returncode != 0:
         raise WrongPage(f"status {ran.returncode} of\n{commands}\n{ran.stdout}")
     return ran.stdout
