@@ -16,7 +16,7 @@ from typing import Any
 
 HERE = Path(__file__).resolve().parent
 LADDER = HERE.parent / "ladder"
-START_SECONDS = 30
+START_SECONDS = 120  # a busy machine may need half a minute
 BUSY = "ladder: this machine is too busy: it plays fewer games at once\n"
 SMALL = ("seeker", "fleer", "hungry", "careful", "lazy")
 
