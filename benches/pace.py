@@ -19,15 +19,15 @@ from multiprocessing import Pipe, Process
 from pathlib import Path
 
 sys.dont_write_bytecode = True
-sys.path[0] = str(Path(__file__).resolve().parent.parent)
+sys.path[0] = str(Path(__file__).resolve().parent.parent / "ladder/src")
 
-from ladder.config import config_of  # noqa: E402
-from ladder.game_files import make_folders  # noqa: E402
-from ladder.host import PROGRAM  # noqa: E402
-from ladder.pairing import Part  # noqa: E402
-from ladder.play import Job, play  # noqa: E402
-from ladder.progress import Counts  # noqa: E402
-from ladder.store import Store  # noqa: E402
+from arena_client import PROGRAM  # noqa: E402
+from arena_ladder.config import config_of  # noqa: E402
+from arena_ladder.game_files import make_folders  # noqa: E402
+from arena_ladder.pairing import Part  # noqa: E402
+from arena_ladder.play import Job, play  # noqa: E402
+from arena_ladder.progress import Counts  # noqa: E402
+from arena_ladder.store import Store  # noqa: E402
 
 BOTS = 4
 SERVERS = 2

@@ -51,8 +51,13 @@ def argument_parser(about):
     """A parser of a test's command line that reads --program."""
     raw = argparse.RawDescriptionHelpFormatter
     parser = argparse.ArgumentParser(description=about, formatter_class=raw)
-    parser.add_argument("--program", metavar="PATH", type=Path, default=BUILT)
+    add_program(parser)
     return parser
+
+
+def add_program(parser):
+    """Lets a parser read --program."""
+    parser.add_argument("--program", metavar="PATH", type=Path, default=BUILT)
 
 
 def parse_args(parser):

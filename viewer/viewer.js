@@ -192,6 +192,11 @@ function listenToFiles(viewer, page) {
   });
 }
 
+/** The transcript that is in the page itself, as a file; the ladder writes such pages. */
+function heldFile(element) {
+  return Promise.resolve(new Blob([element.textContent]));
+}
+
 /** Fetches a transcript, after the looks of its snakes if a file with them is named and there. */
 async function fetchWithLooks(name, looks) {
   if (looks) {
@@ -212,7 +217,9 @@ function beginViewer() {
   });
   window.addEventListener('hashchange', () => viewer.goToAddress());
   const name = fileInAddress(location.search);
-  if (name) {
+  if (page.transcript) {
+    viewer.open(page.transcript.title, heldFile(page.transcript));
+  } else if (name) {
     viewer.open(name, fetchWithLooks(name, looksInAddress(location.search)));
   }
 }

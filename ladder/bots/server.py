@@ -2,15 +2,19 @@
 
 from __future__ import annotations
 
+import signal
 import socket
+import subprocess
 import sys
-from collections.abc import Callable, Mapping
+from collections.abc import Callable, Mapping, Sequence
+from threading import Thread
 from typing import Any
 
 from aiohttp import web
 
 BACKLOG = 128
 Choose = Callable[[dict[str, Any]], str]
+Bots = Mapping[str, tuple[str, Choose]]  # the colour and the function of each, by name
 STEPS = {"up": (0, 1), "down": (0, -1), "left": (-1, 0), "right": (1, 0)}
 
 
@@ -51,13 +55,39 @@ def application(name: str, color: str, choose: Choose) -> web.Application:
     return app
 
 
-def serve(bots: Mapping[str, tuple[str, Choose]], port: int) -> None:
-    """Serves each bot below its name, on 127.0.0.1, until the process is stopped."""
+def listener_of(port: int) -> socket.socket:
+    """A socket that listens on 127.0.0.1; ends the program if there can be none."""
+    try:
+        return socket.create_server(("127.0.0.1", port), backlog=BACKLOG)
+    except OSError as fault:
+        sys.exit(f"serve: port {port} can't be used: {fault.strerror}; choose one by --port")
+
+
+def serve_on(listener: socket.socket, bots: Bots, has_signals: bool) -> None:
+    """Serves each bot below its name, until the process is stopped."""
     app = web.Application()
     for name, (color, choose) in bots.items():
         app.add_subapp(f"/{name}/", application(name, color, choose))
+    quiet: dict[str, Any] = {"print": lambda *_: None, "access_log": None}
+    web.run_app(app, sock=listener, handle_signals=has_signals, **quiet)
+
+
+def serve(bots: Bots, port: int) -> None:
+    """Serves bots on 127.0.0.1 until the process is stopped."""
+    serve_on(listener_of(port), bots, has_signals=True)
+
+
+def serve_during(command: Sequence[str], bots: Bots, port: int) -> int:
+    """Serves bots while a command runs; returns its status.
+
+    Ctrl-C is for the command, which gets it from the terminal; SIGTERM is handed on to it.
+    """
+    listener = listener_of(port)
+    Thread(target=serve_on, args=(listener, bots, False), daemon=True).start()
+    signal.signal(signal.SIGINT, lambda *_: None)  # unlike SIG_IGN, not inherited
     try:
-        listener = socket.create_server(("127.0.0.1", port), backlog=BACKLOG)
+        running = subprocess.Popen(command)
     except OSError as fault:
-        sys.exit(f"serve: port {port} can't be used: {fault.strerror}; choose one by --port")
-    web.run_app(app, sock=listener, print=lambda *_: None, access_log=None)
+        sys.exit(f"serve: {command[0]} can't be run: {fault.strerror}")
+    signal.signal(signal.SIGTERM, lambda *_: running.terminate())
+    return running.wait()

@@ -6,7 +6,8 @@ The path of a bot is its name: good, slow, error, cut, garbage, text, huge, redi
 The bots of CAUSES fail in the turns of `is_planned`; otherwise they all answer as the bot seeker
 does. `gone` answers only its first moves, and then closes each connection without an answer.
 Another bot, calm, delays each answer and never fails. GET /counts returns how often each bot
-answered, and how often a redirect was followed.
+answered, and how often a redirect was followed; GET /ids the id of each request for a move, by
+game, turn and bot.
 """
 
 from __future__ import annotations
@@ -14,6 +15,7 @@ from __future__ import annotations
 import argparse
 import asyncio
 import json
+import re
 import sys
 from collections import Counter
 from collections.abc import Awaitable, Callable
@@ -42,6 +44,7 @@ CALM_SECONDS = 0.1
 HANGING_SECONDS = 600.0
 MOVES_OF_GONE = 100
 COUNTS: Counter[str] = Counter()
+IDS: dict[str, str] = {}
 
 
 def is_planned(turn: int) -> bool:
@@ -110,8 +113,9 @@ FAULTS: dict[str, Callable[..., Awaitable[bytes]]] = {
 async def answer(path: str, body: bytes, writer: asyncio.StreamWriter) -> bytes:
     """The answer of the bot of a path; raises ConnectionError if the bot closes the connection."""
     _, name, *rest = path.split("/")
-    if name == "counts":
-        return response("200 OK", json.dumps(COUNTS).encode())
+    if name in ("counts", "ids"):
+        told = COUNTS if name == "counts" else IDS
+        return response("200 OK", json.dumps(told).encode())
     if name == "gone" and COUNTS["gone"] >= MOVES_OF_GONE:
         raise ConnectionError
     if name == "trap":
@@ -127,6 +131,15 @@ async def answer(path: str, body: bytes, writer: asyncio.StreamWriter) -> bytes:
     return moved(state)
 
 
+def keep_id(head: str, body: bytes) -> None:
+    """Keeps the id of a request, if it has one."""
+    found = re.search(r"\r\nX-Request-Id: (.*)\r\n", head)
+    if found is not None:
+        state = json.loads(body)
+        game = state["game"]["id"].partition("-")[2]
+        IDS[f"{game} {state['turn']} {state['you']['name']}"] = found[1]
+
+
 async def serve(reader: asyncio.StreamReader, writer: asyncio.StreamWriter) -> None:
     """Answers the requests of a connection, one after the other."""
     try:
@@ -140,6 +153,7 @@ async def serve(reader: asyncio.StreamReader, writer: asyncio.StreamWriter) -> N
                 0,
             )
             body = await reader.readexactly(length)
+            keep_id(head, body)
             writer.write(await answer(head.split(" ")[1], body, writer))
             await writer.drain()
     except (ConnectionError, asyncio.IncompleteReadError):

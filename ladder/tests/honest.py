@@ -4,8 +4,9 @@
 
 A bot is a path of its kind and a number, such as /quick-keep/0: KINDS has the kinds. They walk
 round a square. GET /measured returns for each game, turn and bot the milliseconds from the request
-to the answer. A request counts from the last moment at which this process was seen to wait for
-requests, so that a time in which the machine ran other programs is in the figure.
+to the answer. A request counts from the last moment but one at which this process was seen to wait
+for requests, so that a time in which the machine ran other programs is in the figure. (The last one
+may be after that time: a new connection is accepted some steps of the loop before it is read.)
 """
 
 from __future__ import annotations
@@ -34,12 +35,12 @@ class Bots:
     def __init__(self) -> None:
         self.measured: dict[str, float] = {}
         self.turns: dict[str, asyncio.Lock] = {}
-        self.waited_at = time.perf_counter()
+        self.waited_at = self.waits_at = time.perf_counter()
 
     async def beat(self) -> None:
         while True:
             await asyncio.sleep(BEAT_SECONDS)
-            self.waited_at = time.perf_counter()
+            self.waited_at, self.waits_at = self.waits_at, time.perf_counter()
 
     async def serve(self, reader: asyncio.StreamReader, writer: asyncio.StreamWriter) -> None:
         """Answers the requests of a connection, one after the other."""

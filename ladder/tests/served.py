@@ -16,7 +16,7 @@ from typing import Any
 
 HERE = Path(__file__).resolve().parent
 LADDER = HERE.parent / "ladder"
-START_SECONDS = 30
+START_SECONDS = 120  # a busy machine may need half a minute
 BUSY = "ladder: this machine is too busy: it plays fewer games at once\n"
 SMALL = ("seeker", "fleer", "hungry", "careful", "lazy")
 
@@ -31,13 +31,13 @@ class Served:
     def url(self, name: str) -> str:
         return f"http://127.0.0.1:{self.port}/{name}"
 
-    def counts(self) -> dict[str, int]:
-        """The counts of the faulty bots."""
+    def told(self, what: str) -> dict[str, Any]:
+        """What the faulty bots tell of themselves: their `counts`, or the `ids` of requests."""
         with urllib.request.build_opener(urllib.request.ProxyHandler({})).open(
-            self.url("counts"), timeout=START_SECONDS
+            self.url(what), timeout=START_SECONDS
         ) as answer:
-            counts: dict[str, int] = json.load(answer)
-        return counts
+            told: dict[str, Any] = json.load(answer)
+        return told
 
 
 def free_port() -> int:
@@ -100,6 +100,11 @@ def run_ladder(*words: str | Path) -> subprocess.CompletedProcess[str]:
 def complaints(error: str) -> str:
     """What a ladder wrote to its standard error, but that the machine is busy."""
     return error.replace(BUSY, "")
+
+
+def board_with(**members: Any) -> Any:
+    """A board for code that needs these members alone."""
+    return members
 
 
 def children_of(pid: int) -> list[int]:

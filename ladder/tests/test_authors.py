@@ -12,15 +12,18 @@ from pathlib import Path
 
 import pytest
 from served import LADDER, Served, run_ladder, write_config
+from testing import chromium  # of viewer/
 
-from ladder.bot_log import MOST_BYTES, Asked, add_lines, last_missed, log_files, read_log
-from ladder.config import ConfigFault
-from ladder.match import bots_of_words
-from ladder.store import open_store
-from ladder.view import step
+from arena_ladder.bot_log import MOST_BYTES, Asked, add_lines, last_missed, log_files, read_log
+from arena_ladder.config import ConfigFault
+from arena_ladder.match import bots_of_words
+from arena_ladder.store import open_store
+from arena_ladder.view import step
+from arena_ladder.viewer_page import viewer_page
 
 TURNS = 15
 PLANNED = (4, 13)  # turns in which the faulty bots fail
+IS_ID = re.compile("[0-9a-f]{12}")
 
 
 @pytest.fixture(scope="module")
@@ -43,9 +46,36 @@ def test_match_prints_its_boards_and_keeps_a_transcript(
     assert heads == {"A": TURNS + 1, "B": TURNS + 1}
     *_, result, link = ran.stdout.splitlines()
     assert re.fullmatch(rf"(fleer|second): draw, length [0-9]+, {TURNS} turns", result)
-    assert link == "out/matches/0001/game.transcript opens in viewer/index.html"
-    transcript = (tmp_path / link.split()[0]).read_text().splitlines()
+    folder = tmp_path / "out/matches/0001"
+    assert link == f"{(folder / 'game.html').as_uri()} opens in a browser"
+    transcript = (folder / "game.transcript").read_text().splitlines()
     assert json.loads(transcript[-1])["board"]["turn"] == TURNS
+
+
+def test_link_of_a_match_opens_its_game(
+    match_words: list[str | Path], browser: chromium.Browser, tmp_path: Path
+) -> None:
+    """The link names a file, which shows the game without a server, to its last turn."""
+    folder = tmp_path / "<b>&#65; %41"
+    folder.mkdir()
+    ran = subprocess.run(match_words, cwd=folder, capture_output=True, text=True)
+    assert ran.returncode == 0, ran.stderr
+    link, *_ = ran.stdout.splitlines()[-1].split()
+    browser.complaints()
+    browser.go(link)
+    browser.wait("return document.body.dataset.state === 'open'", seconds=60)
+    assert browser.run("return document.getElementById('file').textContent") == "match 0001"
+    browser.click("#last")
+    turn = f"return document.getElementById('turn').textContent === 'Turn {TURNS} of {TURNS}'"
+    browser.wait(turn, seconds=60)
+    assert browser.run("return document.querySelectorAll('#board .body').length") == 2
+    assert browser.complaints() == []
+
+
+def test_page_of_the_viewer_keeps_any_transcript_as_text() -> None:
+    page = viewer_page("match", b'{"id":"</script><b>"}\n')
+    assert r'{"id":"\u003c/script>\u003cb>"}' in page
+    assert page.count("</script>") == page.count("<script")
 
 
 def test_match_is_stepped_through_on_a_terminal(
@@ -98,6 +128,7 @@ def test_log_says_why_moves_were_missed(program: Path, faulty_bots: Served, tmp_
     missed = store.missed()
     (outcome,) = store.outcomes()
     store.close()
+    ids = faulty_bots.told("ids")
     starts = {"error": '{"move":"up"}', "text": "[" * 200, "garbage": "\\xff\\xfe this is"}
     for finish in outcome.finishes:
         asked = list(read_log(folder, finish.bot))
@@ -110,8 +141,13 @@ def test_log_says_why_moves_were_missed(program: Path, faulty_bots: Served, tmp_
         assert last_missed(folder, finish.bot, 1) == bad[-1:]
         assert all(it.start.startswith(starts[finish.bot]) for it in bad)
         assert all(it.status == 200 and it.bytes > 0 for it in asked if it.cause is None)
+        assert [it.id for it in asked] == [
+            ids[f"{outcome.name} {it.turn} {finish.bot}"] for it in asked
+        ]
+    assert len(set(ids.values())) == len(ids) and all(map(IS_ID.fullmatch, ids.values()))
     printed = run_ladder("log", folder, "error", "--missed").stdout.splitlines()
-    assert printed[1].split()[:4] == ["r0001-t001", "4", "500", str(bad_bytes(folder))]
+    first = [outcome.name, "4", ids[f"{outcome.name} 4 error"], "500", str(bad_bytes(folder))]
+    assert printed[1].split()[:5] == first
     assert run_ladder("log", folder, "error", "--game", "r0009-t001").stdout.count("\n") == 1
     assert "has no bot 'nobody'" in run_ladder("log", folder, "nobody").stderr
 

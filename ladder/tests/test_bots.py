@@ -12,8 +12,8 @@ from typing import Any
 
 import pytest
 
-from ladder.bots import Answer, BotClient, NoAnswer
-from ladder.payloads import Look
+from arena_ladder.bots import Answer, BotClient, NoAnswer
+from arena_ladder.payloads import Look
 
 TIMEOUT = 2.0
 Serve = Callable[[asyncio.StreamReader, asyncio.StreamWriter], Awaitable[None]]

@@ -18,6 +18,7 @@ from served import (
     LADDER,
     SMALL,
     Served,
+    complaints,
     files_of,
     run_ladder,
     standings_without_times,
@@ -48,7 +49,7 @@ def config(small_bots: Served, tmp_path_factory: pytest.TempPathFactory) -> Path
 def played(program: Path, config: Path) -> Path:
     """The results of the ten games of the ladder."""
     ran = run_ladder("play", config, "--program", program)
-    assert (ran.returncode, ran.stderr) == (0, "")
+    assert (ran.returncode, complaints(ran.stderr)) == (0, "")
     return config.parent / "results"
 
 
@@ -246,7 +247,8 @@ def test_hosts_that_die_at_once_are_given_up(config: Path, tmp_path: Path) -> No
     ran = run_ladder("play", mine, "--program", program)
     assert ran.returncode == 1
     death = "ladder: arena live ended with status 7"
-    assert ran.stderr.splitlines() == [f"{death}; its games go on in another"] * 5 + [death]
+    told = complaints(ran.stderr).splitlines()
+    assert told == [f"{death}; its games go on in another"] * 5 + [death]
     assert len(starts.read_text().splitlines()) == 6
 
 

@@ -8,10 +8,10 @@ from typing import Any
 
 import pytest
 
-from ladder.config import ConfigFault, Rules, config_again, config_of, read_config
-from ladder.host import PLAN, PLAN_WITH_HAZARDS
-from ladder.maps import HazardMap
-from ladder.starts import Cell
+from arena_client import PLAN, PLAN_WITH_HAZARDS
+from arena_ladder.config import ConfigFault, Rules, config_again, config_of, read_config
+from arena_ladder.maps import HazardMap
+from arena_ladder.starts import Cell
 
 BOTS = [{"name": f"bot{at}", "url": f"http://127.0.0.1:80{at:02}/"} for at in range(8)]
 

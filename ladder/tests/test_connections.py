@@ -16,9 +16,9 @@ from typing import Any, AsyncIterator
 
 import pytest
 
-from ladder.addresses import AddressBook
-from ladder.connections import Connections, Exchange
-from ladder.urls import request_of, shown, target_of
+from arena_ladder.addresses import AddressBook
+from arena_ladder.connections import Connections, Exchange
+from arena_ladder.urls import request_of, shown, target_of
 
 SECONDS = 2.0
 GOOD = b"HTTP/1.1 200 OK\r\nContent-Length: 2\r\n\r\n{}"
@@ -99,17 +99,21 @@ def test_connection_is_closed_after_some_answers(answer: bytes) -> None:
 def test_bytes_that_come_while_it_is_idle_close_a_connection() -> None:
     """An answer that was sent before its request is not taken for that of the next one."""
 
+    sent = asyncio.Event()
+
     async def early(reader: asyncio.StreamReader, writer: asyncio.StreamWriter) -> None:
         await reader.readuntil(b"\r\n\r\n")
         writer.write(GOOD)
         await asyncio.sleep(0.05)
         writer.write(GOOD.replace(b"{}", b"[]"))
+        sent.set()
         await reader.read()
         writer.close()
 
     async def work() -> None:
         async with served(early) as place, Connections(AddressBook()) as pool:
             assert (await ask(pool, f"http://{place}/")).body == b"{}"
+            await sent.wait()
             await asyncio.sleep(0.2)
             assert (await ask(pool, f"http://{place}/")).body == b"{}"
 

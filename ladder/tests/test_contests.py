@@ -10,8 +10,8 @@ from pathlib import Path
 import pytest
 from served import Served, complaints, run_ladder
 
-from ladder.outcome import Finish, Outcome
-from ladder.sprt import BOUND, Sprt, expected, log_ratio
+from arena_ladder.outcome import Finish, Outcome
+from arena_ladder.sprt import BOUND, Sprt, expected, log_ratio
 
 RUNS = 40
 

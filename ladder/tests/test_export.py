@@ -11,8 +11,8 @@ from typing import Any
 import pytest
 from served import HERE, LADDER, Served, run_ladder, write_config
 
-from ladder.bots import DIRECTIONS
-from ladder.store import open_store
+from arena_ladder.bots import DIRECTIONS
+from arena_ladder.store import open_store
 
 BOARD = {"height", "width", "food", "hazards", "snakes"}
 SNAKE = {

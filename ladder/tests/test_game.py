@@ -15,15 +15,15 @@ from typing import Any
 import pytest
 from aiohttp import web
 
-from ladder import game
-from ladder.config import Config, config_of
-from ladder.game_files import GameFiles, LineFile, answers_file, make_folders
-from ladder.host import Board
-from ladder.outcome import Outcome
-from ladder.pairing import Fixture, Part
-from ladder.play import Job, play
-from ladder.store import Store
-from ladder.watch import Watch
+from arena_client import Board
+from arena_ladder import game
+from arena_ladder.config import Config, config_of
+from arena_ladder.game_files import GameFiles, LineFile, answers_file, make_folders
+from arena_ladder.outcome import Outcome
+from arena_ladder.pairing import Fixture, Part
+from arena_ladder.play import Job, play
+from arena_ladder.store import Store
+from arena_ladder.watch import Watch
 
 NAMES = ("left", "right")
 NAME = "r0001-t001"
@@ -202,7 +202,7 @@ def test_lost_answers_are_said(program: Path, tmp_path: Path, harm: str) -> None
 def test_bot_that_was_down_is_asked_for_its_look_again(
     program: Path, tmp_path: Path, monkeypatch: pytest.MonkeyPatch
 ) -> None:
-    monkeypatch.setattr("ladder.play.LOOK_AGAIN_SECONDS", 0.05)
+    monkeypatch.setattr("arena_ladder.play.LOOK_AGAIN_SECONDS", 0.05)
 
     class Down(Bots):
         """Bots that say how they look from the tenth request for a move on."""
@@ -241,7 +241,7 @@ def test_line_files_have_whole_lines_alone(tmp_path: Path) -> None:
 def test_line_that_was_written_in_part_is_a_fault(tmp_path: Path) -> None:
     """If the disk is full, the line is not sent; the written part is removed later."""
     code = (
-        "import resource, sys; from pathlib import Path; from ladder.game_files import LineFile\n"
+        "import resource, sys; from pathlib import Path; from arena_ladder.game_files import LineFile\n"
         "resource.setrlimit(resource.RLIMIT_FSIZE, (10, 10))\n"
         "file = LineFile(Path(sys.argv[1])); file.write(b'12345\\n'); file.write(b'12345\\n')\n"
     )

@@ -17,7 +17,7 @@ import sys
 import threading
 import time
 import urllib.request
-from collections.abc import Callable, Coroutine, Iterator
+from collections.abc import Iterator
 from dataclasses import dataclass, field, replace
 from pathlib import Path
 from typing import Any
@@ -27,23 +27,23 @@ import hostile
 import pytest
 from served import HERE, START_SECONDS, Served, free_port, serving
 
-from ladder import game
-from ladder.bots import Answer
-from ladder.config import Bot, Config, config_of
-from ladder.game_files import make_folders
-from ladder.page_link import Address, PageLink
-from ladder.pairing import Part
-from ladder.play import Job, play
-from ladder.store import Store
+from arena_ladder import game
+from arena_ladder.bots import Answer
+from arena_ladder.config import Bot, Config, config_of
+from arena_ladder.game_files import make_folders
+from arena_ladder.page_link import Address, PageLink
+from arena_ladder.pairing import Part
+from arena_ladder.play import Job, play
+from arena_ladder.store import Store
 
 TIMEOUT = 500  # milliseconds
 MARGIN = 30  # before the timeout, within which an honest answer may be late
 MOST_EXCESS = 50  # milliseconds of a latency above what the bot measured
-MOST_HELD = 0.1  # seconds for which the ladder computes without looking at its connections
+MOST_HELD = 0.05  # seconds for which the ladder computes without looking at its connections
 BEAT_SECONDS = 0.004
 TICKS = os.sysconf("SC_CLK_TCK")
 SERVERS = 3  # processes of hostile bots
-TRIES = 3  # of a run
+SILENT_SECONDS = 600  # of a name server, more than a run takes on a busy machine
 HOSTILE = sorted(hostile.KINDS)
 GROUPS = [HOSTILE[at::4] for at in range(4)]
 
@@ -73,9 +73,9 @@ class Beats:
             if at > begin and at - late - BEAT_SECONDS < end
         )
 
-    def longest(self) -> float:
-        """The most seconds that the ladder computed between two beats."""
-        return max(own for _, _, own in self.rows)
+    def longest(self, begin: float) -> float:
+        """The most seconds between two beats that the ladder computed, after a moment."""
+        return max(own for at, _, own in self.rows if at > begin)
 
 
 def stolen() -> float:
@@ -131,13 +131,9 @@ def config_for(folder: Path, servers: list[Served], kinds: list[str], **members:
     return config_of({"folder": str(folder), "bot": bots, **words, **members}, "here")
 
 
-Played = tuple[Beats, dict[tuple[str, str], Answer]]
-Playing = Coroutine[Any, Any, Played]
-
-
 async def played(
     config: Config, program: Path, monkeypatch: pytest.MonkeyPatch, is_flooded: bool = False
-) -> Played:
+) -> tuple[Beats, dict[tuple[str, str], Answer]]:
     """Plays a ladder; the answers by the game with its turn, and the bot.
 
     With `is_flooded` it has a page, which is flooded, and whose process hangs after a while.
@@ -187,6 +183,7 @@ def measured_by(server: Served) -> dict[str, float]:
     return found
 
 
+@pytest.mark.slow
 @pytest.mark.parametrize("kinds", GROUPS, ids=["first", "second", "third", "fourth"])
 def test_honest_bots_play_as_if_alone(
     program: Path,
@@ -197,38 +194,27 @@ def test_honest_bots_play_as_if_alone(
 ) -> None:
     assert_unharmed(
         servers[0],
-        lambda at: played(config_for(tmp_path / f"x{at}", servers, kinds), program, monkeypatch),
+        *asyncio.run(played(config_for(tmp_path / "x", servers, kinds), program, monkeypatch)),
     )
 
 
-def assert_unharmed(server: Served, play_again: Callable[[int], Playing]) -> None:
-    """Checks that the honest bots are not harmed.
+def assert_unharmed(server: Served, beats: Beats, found: dict[tuple[str, str], Answer]) -> None:
+    """Checks the moves of the honest bots, and that the ladder never computed for long.
 
-    Harm by another bot comes each time. Other work of the machine can also make a bot late, so a
-    run with a fault is played again.
+    What it loads before it asks for the first move makes no bot late.
     """
-    faults = []
-    for at in range(TRIES):
-        faults = faults_of(server, *asyncio.run(play_again(at)))
-        if not faults:
-            return
-    assert faults == []
-
-
-def faults_of(server: Served, beats: Beats, found: dict[tuple[str, str], Answer]) -> list[str]:
-    """What is wrong with the moves of the honest bots, or with how long the ladder computed."""
     measured = measured_by(server)
     judged = Judged()
     for (turn, bot), answer in found.items():
         if bot in honest.KINDS:
             starved = beats.starved(answer.asked_at, answer.answered_at)
             judged.judge(f"{turn} {bot}", answer, measured.get(f"{turn} {bot}"), starved)
+    assert judged.faults == []
     assert judged.moves > 50
-    if beats.longest() >= MOST_HELD:
-        judged.faults.append(f"the ladder computed for {beats.longest():.3f} s")
-    return judged.faults
+    assert beats.longest(min(answer.asked_at for answer in found.values())) < MOST_HELD
 
 
+@pytest.mark.slow
 @pytest.mark.parametrize("kind", HOSTILE)
 def test_honest_bots_play_as_if_alone_beside_one_kind(
     request: pytest.FixtureRequest,
@@ -240,12 +226,8 @@ def test_honest_bots_play_as_if_alone_beside_one_kind(
 ) -> None:
     if not request.config.getoption("--all"):
         pytest.skip("by hand, with --all: some seconds for each kind")
-    assert_unharmed(
-        servers[0],
-        lambda at: played(
-            config_for(tmp_path / f"x{at}", servers, [kind] * 3), program, monkeypatch
-        ),
-    )
+    config = config_for(tmp_path / "x", servers, [kind] * 3)
+    assert_unharmed(servers[0], *asyncio.run(played(config, program, monkeypatch)))
 
 
 def test_silent_names_and_deaf_servers_harm_no_other(
@@ -256,7 +238,7 @@ def test_silent_names_and_deaf_servers_harm_no_other(
 
     def silent(host: Any, *words: Any, **more: Any) -> Any:
         if str(host).endswith(".test"):
-            ends.wait(60)
+            ends.wait(SILENT_SECONDS)
         return resolve(host, *words, **more)
 
     monkeypatch.setattr(socket, "getaddrinfo", silent)
@@ -266,18 +248,13 @@ def test_silent_names_and_deaf_servers_harm_no_other(
         for it in filling:
             it.setblocking(False)
             it.connect_ex(place)
+        config = config_for(tmp_path / "x", servers, [])
         urls = [f"http://silent{at}.test/" for at in range(12)] + [f"http://127.0.0.1:{place[1]}"]
         more = tuple(Bot(f"hostile{at}", url) for at, url in enumerate(urls))
-
-        async def play_again(at: int) -> Played:
-            config = config_for(tmp_path / f"x{at}", servers, [])
-            config = replace(config, bots=config.bots + more, rounds=2)
-            began = time.monotonic()
-            result = await played(config, program, monkeypatch)
-            assert time.monotonic() - began < 50, "the run waited for a name"
-            return result
-
-        assert_unharmed(servers[0], play_again)
+        config = replace(config, bots=config.bots + more, rounds=2)
+        began = time.monotonic()
+        assert_unharmed(servers[0], *asyncio.run(played(config, program, monkeypatch)))
+        assert time.monotonic() - began < SILENT_SECONDS / 2, "the run waited for a name"
         for it in filling:
             it.close()
     ends.set()
@@ -286,12 +263,5 @@ def test_silent_names_and_deaf_servers_harm_no_other(
 def test_flooded_and_hanging_page_makes_no_move_late(
     program: Path, servers: list[Served], tmp_path: Path, monkeypatch: pytest.MonkeyPatch
 ) -> None:
-    assert_unharmed(
-        servers[0],
-        lambda at: played(
-            config_for(tmp_path / f"x{at}", servers, [], rounds=6),
-            program,
-            monkeypatch,
-            is_flooded=True,
-        ),
-    )
+    config = config_for(tmp_path / "x", servers, [], rounds=6)
+    assert_unharmed(servers[0], *asyncio.run(played(config, program, monkeypatch, is_flooded=True)))

@@ -16,6 +16,7 @@ from served import (
     Served,
     bytes_played,
     children_of,
+    complaints,
     files_of,
     run_ladder,
     standings_without_times,
@@ -24,12 +25,12 @@ from served import (
 )
 from test_kills import wait_for
 
-from ladder.config import config_of
-from ladder.game import map_members, opening
-from ladder.host import PLAN_WITH_HAZARDS
-from ladder.maps import Ground, HazardMap
-from ladder.pairing import Fixture
-from ladder.starts import Cell
+from arena_client import PLAN_WITH_HAZARDS
+from arena_ladder.config import config_of
+from arena_ladder.game import map_members, opening
+from arena_ladder.maps import Ground, HazardMap
+from arena_ladder.pairing import Fixture
+from arena_ladder.starts import Cell
 
 NAME = "r0001-t001"
 BOTS = [{"name": name, "url": f"http://127.0.0.1:8001/{name}"} for name in SMALL]
@@ -107,7 +108,7 @@ def test_ladder_without_a_map_writes_what_it_wrote(
         **{"folder": str(tmp_path / "results"), "turns": 40, "timeout": 5000, "seed": 1},
     )
     ran = run_ladder("play", path, "--program", program)
-    assert (ran.returncode, ran.stderr) == (0, "")
+    assert (ran.returncode, complaints(ran.stderr)) == (0, "")
     for text in files_of(tmp_path / "results").values():
         plan, _, begin, *moves, leave = text.splitlines(keepends=True)
         assert plan == b'{"games":[],"version":3}\n'
@@ -132,7 +133,7 @@ def royale(program: Path, small_bots: Served, tmp_path_factory: pytest.TempPathF
     """The results of the games of royale."""
     folder = tmp_path_factory.mktemp("royale")
     ran = run_ladder("play", royale_in(folder, small_bots), "--program", program)
-    assert (ran.returncode, ran.stderr) == (0, "")
+    assert (ran.returncode, complaints(ran.stderr)) == (0, "")
     return folder / "results"
 
 
@@ -194,7 +195,7 @@ def test_royale_that_is_killed_goes_on(
     os.kill(process.pid if what == "ladder" else host, signal.SIGKILL)
     process.communicate()
     again = run_ladder("play", path, "--program", program)
-    assert (again.returncode, again.stderr) == (0, "")
+    assert (again.returncode, complaints(again.stderr)) == (0, "")
     assert files_of(tmp_path / "results") == files_of(royale)
     assert standings_without_times(tmp_path / "results") == standings_without_times(royale)
     checked = run_ladder("check", tmp_path / "results", "--program", program)

@@ -14,10 +14,11 @@ from typing import Any
 
 import pytest
 
-from ladder.host import PLAN, Host, HostDied, HostFault, Refused, Stay, line_of
+from arena_client import PLAN, Host, HostDied, HostFault, Refused, Start, Stay, line_of
 
 SOLO: dict[str, Any] = {"mode": "solo", "width": 3, "height": 3, "min_food": 0, "food_chance": 0}
-SNAKE = [{"id": "s", "x": 1, "y": 1}]
+LARGE: dict[str, Any] = {**SOLO, "width": 25, "height": 25}
+SNAKE: list[Start] = [{"id": "s", "x": 1, "y": 1}]
 
 
 def run(work: Coroutine[Any, Any, Any]) -> Any:
@@ -88,7 +89,7 @@ def test_tasks_share_a_host(program: Path) -> None:
 
     async def play(host: Host, number: int) -> None:
         stay = await host.admit(f"game {number}")
-        await stay.new(**{**SOLO, "width": 25, "height": 25}, snakes=[{"id": "s", "x": 0, "y": 0}])
+        await stay.new(**LARGE, snakes=[{"id": "s", "x": 0, "y": 0}])
         for turn in range(1, 20):
             board = await stay.move({"s": "up" if turn % 20 <= number % 20 else "right"})
             ups = min(turn, number % 20)
@@ -109,7 +110,7 @@ def test_neither_pipe_fills_up(program: Path) -> None:
     async def work() -> Stay:
         async with Host(program=program) as host:
             stay = await host.admit("a")
-            await stay.new(**{**SOLO, "width": 25, "height": 25}, snakes=SNAKE)
+            await stay.new(**LARGE, snakes=SNAKE)
             await stay.replay([line_of(game="a", do="show")] * 10_000)
             return stay
 

@@ -1,4 +1,4 @@
-"""Kills ladders, hosts and bots at drawn moments, and plays the ladders again."""
+"""Kills and stops ladders, hosts and bots at drawn moments, and plays the ladders again."""
 
 from __future__ import annotations
 
@@ -20,6 +20,7 @@ from served import (
     Served,
     bytes_played,
     children_of,
+    complaints,
     files_of,
     is_running,
     run_ladder,
@@ -29,11 +30,15 @@ from served import (
     write_config,
 )
 
-from ladder.bots import CAUSES
+from arena_ladder.bots import CAUSES
 
 SEED = 20261127
-LONGEST = 120  # seconds of a run
+LONGEST = 600  # seconds of a run
 GAMES = 10
+STOP_SECONDS = 4.0  # for which a process is stopped
+SHORT_TIMEOUT = 1500  # milliseconds, less than that
+CLOCK = Path("/usr/lib/x86_64-linux-gnu/faketime/libfaketime.so.1")  # of Debian's libfaketime
+JUMPS = (3600, -86_400, 30 * 86_400)  # seconds from the true time
 
 
 @dataclass(frozen=True)
@@ -109,7 +114,7 @@ def test_ladder_that_is_killed_goes_on(
         process.kill()
         process.communicate()
         again = run_ladder("play", config, "--program", program)
-        assert (again.returncode, again.stderr) == (0, "")
+        assert (again.returncode, complaints(again.stderr)) == (0, "")
         assert again.stdout.startswith(f"ladder: {GAMES} of {GAMES} games are done, ")
         assert_same(folder / "results", undisturbed, program)
         assert len(hosts) == 1 and not is_running(hosts[0]), "a host outlived its ladder"
@@ -127,8 +132,71 @@ def test_host_that_is_killed_is_followed_by_another(
         os.kill(host, signal.SIGKILL)
         out, error = process.communicate(timeout=LONGEST)
         assert process.returncode == 0, error
-        assert error == "ladder: arena live ended with status -9; its games go on in another\n"
+        told = complaints(error)
+        assert told == "ladder: arena live ended with status -9; its games go on in another\n"
         assert_same(folder / "results", undisturbed, program)
+
+
+def skip_unless_all(request: pytest.FixtureRequest) -> None:
+    if not request.config.getoption("--all"):
+        pytest.skip("by hand, with --all: it takes a while")
+
+
+@pytest.mark.parametrize("is_host", [False, True], ids=["ladder", "host"])
+def test_process_that_is_stopped_for_a_while_changes_nothing(
+    request: pytest.FixtureRequest,
+    program: Path,
+    small_bots: Served,
+    undisturbed: Undisturbed,
+    tmp_path: Path,
+    is_host: bool,
+) -> None:
+    """No move is missed, although the process is stopped for longer than the timeout."""
+    skip_unless_all(request)
+    for at, moment in enumerate(drawn_moments(f"stop {is_host}", 3, undisturbed.size // 2)):
+        folder = tmp_path / str(at)
+        folder.mkdir()
+        config = config_in(folder, small_bots, timeout=SHORT_TIMEOUT)
+        process = start_play(config, program)
+        wait_for(process, lambda: bytes_played(folder / "results") > moment)
+        stopped = children_of(process.pid)[0] if is_host else process.pid
+        os.kill(stopped, signal.SIGSTOP)
+        time.sleep(STOP_SECONDS)
+        os.kill(stopped, signal.SIGCONT)
+        _, error = process.communicate(timeout=LONGEST)
+        assert process.returncode == 0, error
+        assert_same(folder / "results", undisturbed, program)
+
+
+def test_clock_that_is_set_changes_nothing(
+    request: pytest.FixtureRequest,
+    program: Path,
+    small_bots: Served,
+    undisturbed: Undisturbed,
+    tmp_path: Path,
+    monkeypatch: pytest.MonkeyPatch,
+) -> None:
+    """The clock of the ladder and its host jumps an hour on, a day back and a month on."""
+    skip_unless_all(request)
+    assert CLOCK.is_file(), "Debian's package libfaketime is missing"
+    config = config_in(tmp_path, small_bots)
+    clock = tmp_path / "clock"
+    clock.write_text("+0\n")
+    monkeypatch.setenv("FAKETIME_TIMESTAMP_FILE", str(clock))
+    monkeypatch.setenv("FAKETIME_NO_CACHE", "1")
+    monkeypatch.setenv("FAKETIME_DONT_FAKE_MONOTONIC", "1")
+    monkeypatch.setenv("LD_PRELOAD", str(CLOCK))
+    process = start_play(config, program)
+    for at, jump in enumerate(JUMPS, 1):
+        moment = undisturbed.size * at // (1 + len(JUMPS))
+        wait_for(process, lambda: bytes_played(tmp_path / "results") > moment)
+        clock.write_text(f"{jump:+}\n")
+        shown = subprocess.run(["date", "+%s"], capture_output=True, check=True).stdout
+        assert abs(int(shown) - time.time() - jump) < 60
+    _, error = process.communicate(timeout=LONGEST)
+    assert process.returncode == 0, error
+    monkeypatch.delenv("LD_PRELOAD")
+    assert_same(tmp_path / "results", undisturbed, program)
 
 
 def test_ladder_that_is_interrupted_says_so(
@@ -139,7 +207,8 @@ def test_ladder_that_is_interrupted_says_so(
     wait_for(process, lambda: bytes_played(tmp_path / "results") > undisturbed.size // 3)
     process.send_signal(signal.SIGTERM)
     _, error = process.communicate(timeout=LONGEST)
-    assert (process.returncode, error) == (130, "ladder: stopped; the same command goes on\n")
+    assert process.returncode == 130
+    assert complaints(error) == "ladder: stopped; the same command goes on\n"
     assert run_ladder("play", config, "--program", program).returncode == 0
     assert_same(tmp_path / "results", undisturbed, program)
 
@@ -169,6 +238,7 @@ def test_ladder_with_few_descriptors_blames_no_bot(
     assert_same(tmp_path / "results", undisturbed, program)
 
 
+@pytest.mark.root
 def test_ladder_on_a_full_disk_goes_on_later(
     program: Path, small_bots: Served, undisturbed: Undisturbed, kills: int, tmp_path: Path
 ) -> None:
@@ -222,7 +292,7 @@ def test_bots_that_die_lose_and_hold_up_no_game(
         wait_for(process, lambda: bytes_played(tmp_path / "results") > 20_000)
         mortal.process.kill()
     out, error = process.communicate(timeout=LONGEST)
-    assert (process.returncode, error) == (0, "")
+    assert (process.returncode, complaints(error)) == (0, "")
     rows = {row["bot"]: row for row in standings_without_times(tmp_path / "results")}
     for name, row in rows.items():
         causes = {cause: row[cause] for cause in CAUSES if row[cause] > 0}

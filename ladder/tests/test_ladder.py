@@ -5,9 +5,9 @@ from __future__ import annotations
 from pathlib import Path
 
 import faulty
-from served import Served, run_ladder, start_play, write_config
+from served import Served, complaints, run_ladder, start_play, write_config
 
-from ladder.store import open_store
+from arena_ladder.store import open_store
 
 GAMES = 64
 TIMEOUT = 4000  # milliseconds: long, since the bots' process may wait for a processor
@@ -30,12 +30,12 @@ def test_64_games_of_four_with_every_fault(
         games_a_bot=GAMES,
     )
     played = start_play(config, program)
-    out, error = played.communicate(timeout=150)
-    assert (played.returncode, error) == (0, "")
+    out, error = played.communicate(timeout=600)
+    assert (played.returncode, complaints(error)) == (0, "")
     assert out.startswith("ladder: 64 of 64 games are done, 64 of them now; ")
     checked = run_ladder("check", folder, "--program", program)
     assert (checked.returncode, checked.stdout) == (0, "64 of 64 games agree\n")
-    assert_missed(folder, faulty_bots.counts())
+    assert_missed(folder, faulty_bots.told("counts"))
 
 
 def assert_missed(folder: Path, counts: dict[str, int]) -> None:

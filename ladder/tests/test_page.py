@@ -11,28 +11,28 @@ import subprocess
 import time
 import urllib.error
 import urllib.request
-from collections.abc import Iterator
+from collections.abc import Callable, Iterator
 from contextlib import contextmanager
 from pathlib import Path
 from typing import Any
 
 import pytest
-from served import Served, start_play, write_config
+from served import Served, board_with, run_ladder, start_play, write_config
 from testing import chromium  # of viewer/
 
-from ladder import page as page_module
-from ladder import page_link
-from ladder.bots import Answer
-from ladder.config import Bot
-from ladder.feed import MOST_READERS, MOST_WAITING, Feed, Reader
-from ladder.host import PROGRAM
-from ladder.news import News, duration
-from ladder.outcome import Finish, Outcome
-from ladder.page import MOST_CONNECTIONS, page
-from ladder.page_calls import Calls
-from ladder.page_link import Address, PageFault, PageLink, address_of
-from ladder.pairing import Fixture
-from ladder.store import Store
+from arena_client import PROGRAM
+from arena_ladder import page as page_module
+from arena_ladder import page_link
+from arena_ladder.bots import Answer
+from arena_ladder.config import Bot
+from arena_ladder.feed import MOST_READERS, MOST_WAITING, Feed, Reader
+from arena_ladder.news import News, duration
+from arena_ladder.outcome import Finish, Outcome
+from arena_ladder.page import MOST_CONNECTIONS, page
+from arena_ladder.page_calls import Calls
+from arena_ladder.page_link import Address, PageFault, PageLink, address_of
+from arena_ladder.pairing import Fixture
+from arena_ladder.store import Store
 
 GAME = Fixture("r0001-t001", 1, ("a", "b"))
 WATCH = """
@@ -167,7 +167,7 @@ def test_news_has_the_last_board_of_each_game_before_its_end() -> None:
     fixtures = [Fixture(f"r0001-t{at:03}", 1, ("a", "b")) for at in range(40)]
     for turn in (0, 1):
         for it in fixtures:
-            news.show(it, {"turn": turn})
+            news.show(it, board_with(turn=turn))
     for it in fixtures[20:]:
         news.end(outcome_of(it.name, "a"))
     first, second, third = (news.message() for _ in range(3))
@@ -185,7 +185,7 @@ def test_news_without_a_reader_do_not_grow() -> None:
     news = News()
     for at in range(500):
         fixture = Fixture(f"r0001-t{at:03}", 1, ("a", "b"))
-        news.show(fixture, {"turn": 0})
+        news.show(fixture, board_with(turn=0))
         news.end(outcome_of(fixture.name))
     assert (len(news.boards), len(news.changed), len(news.ended)) == (64, 64, 64)
 
@@ -255,14 +255,14 @@ def test_page_that_ends_or_hangs_is_served_again(
     async def work() -> None:
         address = Address("127.0.0.1", 0)
         async with PageLink(folder, address, lambda: "summary", told.append) as link:
-            link.show(GAME, {"turn": 5})
+            link.show(GAME, board_with(turn=5))
             assert link.page is not None
             first = link.page.process.pid
             await events_at(link.address, 2)
             link.page.process.send_signal(number)
             async with asyncio.timeout(60):
                 while link.page is None or link.page.process.pid == first:
-                    link.show(GAME, {"turn": 6, "long": "x" * 100_000})
+                    link.show(GAME, board_with(turn=6, long="x" * 100_000))
                     link.send()
                     await asyncio.sleep(0.05)
             await asyncio.sleep(0.5)
@@ -344,6 +344,15 @@ def test_page_is_on_this_machine_alone() -> None:
     assert asyncio.run(work()) == ["0100007F"]
 
 
+SHOWN_GAMES = """
+// The bots of each board and of each finished game that is shown.
+const bots = (selector) => [...document.querySelectorAll(selector)]
+  .map((it) => [...it.querySelectorAll('.bot')].map((bot) => bot.textContent));
+return { running: bots('#games article'), finished: bots('#finished li') };
+"""
+OFFERED = "return [...document.querySelectorAll('#filter option')].map((it) => it.value)"
+
+
 @contextmanager
 def playing(program: Path, config: Path) -> Iterator[tuple[subprocess.Popen[str], str]]:
     """Plays a ladder with a page within the context, whose value has the page's address."""
@@ -406,3 +415,66 @@ def test_page_shows_hazards(
         assert shown["legend"] == "A hazard takes in each turn 0 health"
         assert f"Hazards: {len(shown['cells'])}, damage 0." in shown["words"]
         assert browser.complaints() == []
+
+
+def calm_ladder(folder: Path, bots: Served, names: tuple[str, ...], **members: Any) -> Path:
+    """A ladder of bots that take their time, without an end."""
+    words = {"folder": str(folder / "results"), "timeout": 5000, "turns": 20, **members}
+    return write_config(folder / "calm.toml", [(it, bots.url("calm")) for it in names], **words)
+
+
+def test_bot_is_added_while_the_page_is_looked_at(
+    program: Path, faulty_bots: Served, browser: chromium.Browser, tmp_path: Path
+) -> None:
+    """The page that is open offers the bot, shows a game of it, and has it in the standings."""
+    config = calm_ladder(tmp_path, faulty_bots, ("one", "two", "three"), pairing="rating")
+    with playing(program, config) as (_, address):
+        browser.complaints()
+        browser.go(address)
+        browser.run("window.isSame = true")
+        browser.wait(
+            "return document.querySelectorAll('#standings tbody tr').length === 3", seconds=60
+        )
+        assert browser.run(OFFERED) == ["", "one", "three", "two"]
+        url = faulty_bots.url("calm")
+        assert run_ladder("add", tmp_path / "results", "late", url).returncode == 0
+        browser.wait(f"{OFFERED}.includes('late')", seconds=60)
+        board = "return [...document.querySelectorAll('#games h3')].some(it => /late/.test(it.textContent))"
+        browser.wait(board, seconds=60)
+        browser.wait(
+            "return document.querySelector('#standings [data-bot=late]') !== null", seconds=60
+        )
+        assert browser.run("return window.isSame"), "the page was loaded again"
+        assert browser.complaints() == []
+
+
+def test_filter_shows_the_games_of_one_bot(
+    program: Path, faulty_bots: Served, browser: chromium.Browser, tmp_path: Path
+) -> None:
+    """Boards and finished games are those of the chosen bot; then those of all bots again."""
+    names = ("one", "two", "three", "four", "five", "six")
+    config = calm_ladder(tmp_path, faulty_bots, names, rounds=1000)
+    with playing(program, config) as (_, address):
+        browser.complaints()
+        browser.go(address)
+        wait_for_games(browser, lambda shown: len({*sum(shown, [])}) > 2)
+        browser.click("#filter option[value=two]")
+        for _ in range(2):
+            wait_for_games(browser, lambda shown: all("two" in bots for bots in shown))
+            time.sleep(1.0)  # in which other games begin and end
+        browser.click("#filter option[value='']")
+        wait_for_games(browser, lambda shown: any("two" not in bots for bots in shown))
+        assert browser.complaints() == []
+
+
+def wait_for_games(
+    browser: chromium.Browser, is_so: Callable[[list[list[str]]], bool], seconds: float = 60
+) -> None:
+    """Waits until games run and are finished, and a condition holds for the bots of each kind."""
+    ends = time.monotonic() + seconds
+    while True:
+        shown = browser.run(SHOWN_GAMES)
+        if all(shown[kind] and is_so(shown[kind]) for kind in ("running", "finished")):
+            return
+        assert time.monotonic() < ends, shown
+        time.sleep(0.1)

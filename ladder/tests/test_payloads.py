@@ -5,10 +5,10 @@ from __future__ import annotations
 import json
 from typing import Any
 
-from ladder.config import config_of
-from ladder.payloads import Look, Seat, bodies, game_text
+from arena_ladder.config import config_of
+from arena_ladder.payloads import Look, Seat, bodies, game_text
 
-BOARD: dict[str, Any] = {
+BOARD: Any = {
     "food": [{"x": 5, "y": 5}],
     "food_chance": 15,
     "height": 11,
@@ -107,6 +107,6 @@ def test_hazards_are_those_of_the_official_api() -> None:
     assert fixed["ruleset"]["settings"] == {**food, "hazardDamagePerTurn": 3}
     cells = [{"x": 1, "y": 1}, {"x": 1, "y": 1}, {"x": 0, "y": 4}]
     seats = {"one": Seat("one"), "two": Seat("two")}
-    board = {**BOARD, "hazard_damage": 3, "hazards": cells}
+    board: Any = {**BOARD, "hazard_damage": 3, "hazards": cells}
     (body,) = bodies(json.dumps(fixed), board, seats, ["one"])
     assert json.loads(body)["board"]["hazards"] == cells

@@ -7,32 +7,34 @@ import json
 import re
 import stat
 import subprocess
-import threading
 import urllib.error
 import urllib.request
 from collections.abc import Iterator
-from contextlib import closing
+from contextlib import closing, contextmanager
 from dataclasses import dataclass
 from pathlib import Path
 from typing import Any
 
 import pytest
-from served import Served, free_port, start_play, write_config
+from served import LADDER, Served, free_port, run_ladder, start_play, write_config
 from testing import chromium  # of viewer/
 
-from ladder import transcripts
-from ladder.colours import COLOURS, GROUNDS, is_apart, looks_of, oklab
-from ladder.feed import Feed
-from ladder.history import games_of, record_of
-from ladder.news import News
-from ladder.page import page, results_of
-from ladder.page_calls import Calls, rows_of
-from ladder.page_link import Address
-from ladder.store import open_store
-from ladder.transcripts import NoTranscript, Transcripts
+from arena_ladder import transcripts
+from arena_ladder.colours import COLOURS, GROUNDS, is_apart, looks_of, oklab
+from arena_ladder.history import games_of, record_of
+from arena_ladder.page_calls import rows_of
+from arena_ladder.store import open_store
+from arena_ladder.transcripts import NoTranscript, Transcripts
 
 BOTS = ("fleer", "hungry", "lazy")
 WIDE, NARROW = (1280, 900), (390, 844)
+SHOWN = """
+const [games] = arguments;
+const seats = [...document.querySelectorAll('#standings tbody tr')]
+  .map((row) => Number(row.querySelector('td').textContent));
+return document.querySelectorAll('#finished li').length === games
+  && seats.reduce((sum, it) => sum + it, 0) === 2 * games;
+"""
 
 
 @dataclass(frozen=True)
@@ -61,7 +63,7 @@ class Site:
 def site(
     program: Path, small_bots: Served, tmp_path_factory: pytest.TempPathFactory
 ) -> Iterator[Site]:
-    """A ladder of three small bots and one that is gone, whose page is served."""
+    """A ladder of three small bots and one that is gone, whose folder alone is served."""
     folder = tmp_path_factory.mktemp("ladder") / "results"
     urls = [(name, small_bots.url(name)) for name in BOTS]
     bots = [*urls, ("gone", f"http://127.0.0.1:{free_port()}")]
@@ -70,24 +72,50 @@ def site(
     playing = start_play(config, program)
     playing.communicate(timeout=240)
     assert playing.returncode == 0
-    ready, done = threading.Event(), threading.Event()
-    found: list[str] = []
+    with page_of(folder, program) as (_, address):
+        yield Site(folder, address)
 
-    async def serve() -> None:
-        feed = Feed(lambda: results_of(folder))
-        await feed.take({"summary": "", **News().message(), "games": "24 of 24 games"})
-        await feed.refresh()
-        async with page(Calls(feed, folder, program), Address("127.0.0.1", 0)) as address:
-            found.append(str(address))
-            ready.set()
-            await asyncio.to_thread(done.wait)
 
-    thread = threading.Thread(target=asyncio.run, args=(serve(),))
-    thread.start()
-    assert ready.wait(60)
-    yield Site(folder, found[0])
-    done.set()
-    thread.join()
+@contextmanager
+def page_of(folder: Path, program: Path) -> Iterator[tuple[subprocess.Popen[str], str]]:
+    """Serves the page of a folder within the context, whose value has the page's address."""
+    words: list[str | Path] = [LADDER, "page", folder, "0", "--program", program]
+    serving = subprocess.Popen(words, stdout=subprocess.PIPE, stderr=subprocess.PIPE, text=True)
+    try:
+        assert serving.stdout is not None
+        line = serving.stdout.readline()
+        (address,) = re.findall(r"\Aladder: the page is (http://127\.0\.0\.1:\d+/)\n\Z", line)
+        yield serving, address
+    finally:
+        serving.kill()
+        serving.communicate()
+
+
+def test_page_of_a_folder_follows_it_and_is_stopped(
+    program: Path, small_bots: Served, browser: chromium.Browser, tmp_path: Path
+) -> None:
+    """Games that are played after it was opened appear on it. SIGTERM ends it."""
+    urls = [(name, small_bots.url(name)) for name in BOTS]
+    words = {"folder": str(tmp_path / "results"), "turns": 10, "timeout": 5000, "seed": 1}
+
+    def play(rounds: int) -> None:
+        config = write_config(tmp_path / "three.toml", urls, rounds=rounds, **words)
+        assert run_ladder("play", config, "--program", program).returncode == 0
+
+    play(1)
+    with page_of(tmp_path / "results", program) as (serving, address):
+        browser.go(address)
+        browser.wait(SHOWN, 3, seconds=60)
+        play(2)
+        browser.wait(SHOWN, 6, seconds=60)
+        serving.terminate()
+        assert serving.wait(60) == 130
+
+
+def test_page_of_a_folder_without_results_is_refused(program: Path, tmp_path: Path) -> None:
+    ran = run_ladder("page", tmp_path, "0", "--program", program)
+    assert (ran.returncode, ran.stdout) == (1, "")
+    assert str(tmp_path) in ran.stderr
 
 
 def test_results_are_json(site: Site) -> None:

@@ -8,15 +8,16 @@ from collections import Counter
 from typing import Any
 
 import pytest
+from served import board_with
 
-from ladder import schedule
-from ladder.bots import Answer
-from ladder.config import config_of
-from ladder.outcome import Finish, Outcome
-from ladder.pairing import Fixture, fixtures_of
-from ladder.progress import Counts
-from ladder.pulse import Pulse
-from ladder.schedule import Pace, Schedule
+from arena_ladder import schedule
+from arena_ladder.bots import Answer
+from arena_ladder.config import config_of
+from arena_ladder.outcome import Finish, Outcome
+from arena_ladder.pairing import Fixture, fixtures_of
+from arena_ladder.progress import Counts
+from arena_ladder.pulse import Pulse
+from arena_ladder.schedule import Pace, Schedule
 
 
 def fixtures(bots: int, **members: Any) -> list[Fixture]:
@@ -86,7 +87,7 @@ def finished(name: str, *bots: str) -> Outcome:
 def test_bot_that_answers_slower_with_more_games_is_named() -> None:
     counts = Counts()
     for games in (1, 2):
-        counts.show(Fixture(f"r0001-t00{games}", 1, ("slow", f"other{games}")), {})
+        counts.show(Fixture(f"r0001-t00{games}", 1, ("slow", f"other{games}")), board_with())
         for _ in range(40):
             counts.count(
                 {"slow": Answer("up", None, 15 * games), "other1": Answer("up", None, 9)}, None
@@ -95,7 +96,7 @@ def test_bot_that_answers_slower_with_more_games_is_named() -> None:
     assert counts.strain.playing["slow"] == 1
     assert counts.summary()[2:] == []
     for _ in range(60):
-        counts.show(Fixture("r0001-t003", 1, ("slow", "other2")), {})
+        counts.show(Fixture("r0001-t003", 1, ("slow", "other2")), board_with())
         counts.count({"slow": Answer("up", None, 80, is_lagged=True)}, None)
     assert counts.summary()[2:] == [
         "the ladder itself was late in 60 turns: play fewer games at once",

@@ -11,9 +11,9 @@ from pathlib import Path
 import pytest
 from served import SMALL, Served, run_ladder, write_config
 
-from ladder.config import config_of
-from ladder.seeds import draw_seed, with_seed
-from ladder.store import StoreFault
+from arena_ladder.config import config_of
+from arena_ladder.seeds import draw_seed, with_seed
+from arena_ladder.store import StoreFault
 
 BOTS = [{"name": name, "url": "http://127.0.0.1:1"} for name in SMALL]
 

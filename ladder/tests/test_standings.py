@@ -14,14 +14,15 @@ from pathlib import Path
 from typing import Any
 
 import pytest
+from served import board_with
 
-from ladder.config import Bot
-from ladder.merge import merge
-from ladder.outcome import Finish, Outcome, Tally, finishes_of
-from ladder.quantiles import quantile
-from ladder.rating import ratings
-from ladder.standings import as_csv, as_json, cells_of, standings_of
-from ladder.store import Store, StoreFault, open_store
+from arena_ladder.config import Bot
+from arena_ladder.merge import merge
+from arena_ladder.outcome import Finish, Outcome, Tally, finishes_of
+from arena_ladder.quantiles import quantile
+from arena_ladder.rating import ratings
+from arena_ladder.standings import as_csv, as_json, cells_of, standings_of
+from arena_ladder.store import Store, StoreFault, open_store
 
 IDENTITY = {"seed": 1, "bots": ["a", "b", "c"]}
 BOTS = [Bot(name, f"http://127.0.0.1:1/{name}") for name in "abc"]
@@ -33,7 +34,7 @@ def snake(name: str, out: int | None, cause: str | None = None, by: str | None =
 
 
 def results(over: bool, *snakes: Any) -> list[str]:
-    board = {"snakes": list(snakes), "over": over, "turn": 30}
+    board = board_with(snakes=list(snakes), over=over, turn=30)
     return [finish.result for finish in finishes_of(board)]
 
 

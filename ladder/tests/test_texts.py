@@ -9,8 +9,8 @@ import json
 import pytest
 from rich.console import Console
 
-from ladder.standings import Standing, as_csv, as_table
-from ladder.texts import cell_text, fit_text
+from arena_ladder.standings import Standing, as_csv, as_table
+from arena_ladder.texts import cell_text, fit_text
 
 HARMFUL = "a\x1b[2J\x9b1m\r\n\x00\ud800b[red]\u2028c"
 

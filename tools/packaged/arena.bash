@@ -10,10 +10,10 @@ _arena_words() {
         "arena-check "*) echo "--json --most --help" ;;
         "arena-ladder play") echo "--part --page --rounds --hours --program --help" ;;
         "arena-ladder standings") echo "--csv --json --help" ;;
-        "arena-ladder check") echo "--program --help" ;;
+        "arena-ladder check" | "arena-ladder page") echo "--program --help" ;;
         "arena-ladder close" | "arena-ladder merge") echo "--help" ;;
-        "arena-ladder "*) echo "play standings check close merge match log games export sprt gauntlet \
-            add replace pause resume remove --help" ;;
+        "arena-ladder "*) echo "play standings check close merge page match log games export sprt \
+            gauntlet add replace pause resume remove --help" ;;
     esac
 }
 

@@ -2,7 +2,7 @@
 import json
 from collections import Counter
 
-from testing.case import PageCase, setUpModule  # noqa: F401
+import pytest
 from testing.made import points, text
 from testing.page import CASES, TOURNAMENT
 from testing.reading import read
@@ -140,158 +140,156 @@ def expected(board, last, with_earlier=False):
     }
 
 
-class BoardsTest(PageCase):
-    maxDiff = None
+def open(page, path):
+    page.open_empty()
+    page.choose(path)
+    return read(path)[0]
 
-    def open(self, path):
-        self.page.open_empty()
-        self.page.choose(path)
-        return read(path)[0]
 
-    def step_through(self, boards):
-        last = len(boards) - 1
-        self.page.wait_for_turn(0, last)
-        for board in boards:
-            if board["turn"] > 0:
-                self.browser.click("#forward")
-                self.page.wait_for_turn(board["turn"], last)
-            self.assertEqual(self.page.board(), expected(board, last))
+def step_through(page, browser, boards):
+    last = len(boards) - 1
+    page.wait_for_turn(0, last)
+    for board in boards:
+        if board["turn"] > 0:
+            browser.click("#forward")
+            page.wait_for_turn(board["turn"], last)
+        assert page.board() == expected(board, last)
 
-    def test_each_turn_of_each_game_is_drawn(self):
-        for path in CASES:
-            games = self.open(path)
-            for game in games:
-                for number, boards in enumerate(game.rounds, 1):
-                    with self.subTest(f"{path.name}, {game.name}, round {number}"):
-                        self.page.choose_game(game.name, game.stay)
-                        if number > 1:
-                            self.page.choose_round(number)
-                        self.step_through(boards)
 
-    def test_the_cases_hold_every_cause_and_eight_snakes(self):
-        boards = [
-            board
-            for path in CASES
-            for game in read(path)[0]
-            for boards in game.rounds
-            for board in boards
-        ]
-        self.assertEqual(
-            {snake["cause"] for board in boards for snake in board["snakes"]}, {None, *FATES}
+@pytest.mark.parametrize("path", CASES, ids=lambda path: path.stem)
+def test_each_turn_of_each_game_is_drawn(page, browser, path):
+    for game in open(page, path):
+        for number, boards in enumerate(game.rounds, 1):
+            page.choose_game(game.name, game.stay)
+            if number > 1:
+                page.choose_round(number)
+            step_through(page, browser, boards)
+
+
+def test_the_cases_hold_every_cause_and_eight_snakes():
+    boards = [
+        board
+        for path in CASES
+        for game in read(path)[0]
+        for boards in game.rounds
+        for board in boards
+    ]
+    assert {snake["cause"] for board in boards for snake in board["snakes"]} == {None, *FATES}
+    assert max(len(board["snakes"]) for board in boards) == 8
+
+
+def test_the_cases_hold_bodies_that_cross_each_edge():
+    boards = [
+        board
+        for path in CASES
+        for game in read(path)[0]
+        for boards in game.rounds
+        for board in boards
+    ]
+    bodies = [
+        (snake["body"], board)
+        for board in boards
+        if board["mode"] == "wrapped"
+        for snake in board["snakes"]
+    ]
+    crossed = {
+        step(before, cell, board)
+        for body, board in bodies
+        for before, cell in zip(body, body[1:])
+        if abs(cell["x"] - before["x"]) + abs(cell["y"] - before["y"]) > 1
+    }
+    assert crossed == set(LOOKS)
+
+
+def test_bodies_that_went_out_earlier_are_drawn_where_they_are_wished_for(page, browser):
+    boards = open(page, TOURNAMENT)[0].rounds[0]
+    last = len(boards) - 1
+    browser.press("\ue010")
+    page.wait_for_turn(last, last)
+    browser.click("#earlier")
+    assert page.board() == expected(boards[-1], last, with_earlier=True)
+    assert expected(boards[-1], last, with_earlier=True) != expected(boards[-1], last)
+
+
+def with_hazards(make_file, **members):
+    """A file of a solo game that shows one board, in which members are replaced."""
+    lines = (ROOT / "examples" / "hazards.transcript").read_text().splitlines()
+    first, last = json.loads(lines[0]), json.loads(lines[6])
+    board = {**first["board"], **members}
+    content = "".join(text({**line, "board": board}) + "\n" for line in (first, last))
+    return make_file("hazards.transcript", content), board
+
+
+def test_a_cell_that_is_a_hazard_more_often_is_darker(page, browser, make_file):
+    cells = [(x, 6) for x in range(6) for _ in range(x + 1)]
+    path, board = with_hazards(make_file, hazards=points(cells))
+    open(page, path)
+    page.wait_for_turn(0, 0)
+    assert page.board() == expected(board, 0)
+    assert [it["shade"] for it in drawn_hazards(board)] == [1, 2, 3, 4]
+    for part, property in ((".squares", "fillOpacity"), (".hatch", "strokeOpacity")):
+        found = browser.run(
+            "return [...document.querySelectorAll('#board ' + arguments[0])].map("
+            "(path) => Number(getComputedStyle(path)[arguments[1]]));",
+            part,
+            property,
         )
-        self.assertEqual(max(len(board["snakes"]) for board in boards), 8)
+        assert found == sorted(set(found)), part
 
-    def test_the_cases_hold_bodies_that_cross_each_edge(self):
-        boards = [
-            board
-            for path in CASES
-            for game in read(path)[0]
-            for boards in game.rounds
+
+BAD_HAZARDS = [
+    {"hazards": points([(7, 0)])},
+    {"hazards": points([(0, -1)])},
+    {"hazards": points([(0, 0)] * 2_501)},
+    {"hazards": {"x": 0, "y": 0}},
+    {"hazards": None},
+    {"hazard_damage": 101},
+    {"hazard_damage": "14"},
+]
+
+
+@pytest.mark.parametrize("members", BAD_HAZARDS, ids=lambda members: str(members)[:40])
+def test_bad_hazards_are_reported(page, make_file, members):
+    path, _ = with_hazards(make_file, **members)
+    page.open_empty()
+    page.choose(path)
+    fault = "its hazards are no list of cells with a damage from 0 to 100"
+    assert fault in page.text("#notice")
+
+
+def test_a_game_without_a_board_says_so(page):
+    games = open(page, TOURNAMENT)
+    silent = next(game for game in games if not game.rounds)
+    page.choose_game(silent.name)
+    assert "no board of it" in page.text("#facts")
+    assert page.board()["snakes"] == []
+    page.choose_game(games[0].name)
+    page.wait_for_turn(0, len(games[0].rounds[0]) - 1)
+    assert page.board() == expected(games[0].rounds[0][0], len(games[0].rounds[0]) - 1)
+
+
+def test_a_plot_has_a_point_for_each_turn_until_its_snake_is_out(page):
+    page.open_empty()
+    page.choose(TOURNAMENT)
+    boards = read(TOURNAMENT)[0][0].rounds[0]
+    last = len(boards) - 1
+    longest = max(len(snake["body"]) for board in boards for snake in board["snakes"])
+    shown = [
+        [
+            board["snakes"][seat]
             for board in boards
+            if board["turn"] <= (boards[-1]["snakes"][seat]["out"] or last)
         ]
-        bodies = [
-            (snake["body"], board)
-            for board in boards
-            if board["mode"] == "wrapped"
-            for snake in board["snakes"]
-        ]
-        crossed = {
-            step(before, cell, board)
-            for body, board in bodies
-            for before, cell in zip(body, body[1:])
-            if abs(cell["x"] - before["x"]) + abs(cell["y"] - before["y"]) > 1
-        }
-        self.assertEqual(crossed, set(LOOKS))
-
-    def test_bodies_that_went_out_earlier_are_drawn_where_they_are_wished_for(self):
-        boards = self.open(TOURNAMENT)[0].rounds[0]
-        last = len(boards) - 1
-        self.browser.press("\ue010")
-        self.page.wait_for_turn(last, last)
-        self.browser.click("#earlier")
-        self.assertEqual(self.page.board(), expected(boards[-1], last, with_earlier=True))
-        self.assertNotEqual(
-            expected(boards[-1], last, with_earlier=True), expected(boards[-1], last)
-        )
-
-    def with_hazards(self, **members):
-        """A file of a solo game that shows one board, in which members are replaced."""
-        lines = (ROOT / "examples" / "hazards.transcript").read_text().splitlines()
-        first, last = json.loads(lines[0]), json.loads(lines[6])
-        board = {**first["board"], **members}
-        content = "".join(text({**line, "board": board}) + "\n" for line in (first, last))
-        return self.file("hazards.transcript", content), board
-
-    def test_a_cell_that_is_a_hazard_more_often_is_darker(self):
-        cells = [(x, 6) for x in range(6) for _ in range(x + 1)]
-        path, board = self.with_hazards(hazards=points(cells))
-        self.open(path)
-        self.page.wait_for_turn(0, 0)
-        self.assertEqual(self.page.board(), expected(board, 0))
-        self.assertEqual([it["shade"] for it in drawn_hazards(board)], [1, 2, 3, 4])
-        for part, property in ((".squares", "fillOpacity"), (".hatch", "strokeOpacity")):
-            found = self.browser.run(
-                "return [...document.querySelectorAll('#board ' + arguments[0])].map("
-                "(path) => Number(getComputedStyle(path)[arguments[1]]));",
-                part,
-                property,
-            )
-            self.assertEqual(found, sorted(set(found)), part)
-
-    def test_bad_hazards_are_reported(self):
-        for members in (
-            {"hazards": points([(7, 0)])},
-            {"hazards": points([(0, -1)])},
-            {"hazards": points([(0, 0)] * 2_501)},
-            {"hazards": {"x": 0, "y": 0}},
-            {"hazards": None},
-            {"hazard_damage": 101},
-            {"hazard_damage": "14"},
-        ):
-            with self.subTest(str(members)[:60]):
-                path, _ = self.with_hazards(**members)
-                self.page.open_empty()
-                self.page.choose(path)
-                self.assertIn(
-                    "its hazards are no list of cells with a damage from 0 to 100",
-                    self.page.text("#notice"),
-                )
-
-    def test_a_game_without_a_board_says_so(self):
-        games = self.open(TOURNAMENT)
-        silent = next(game for game in games if not game.rounds)
-        self.page.choose_game(silent.name)
-        self.assertIn("no board of it", self.page.text("#facts"))
-        self.assertEqual(self.page.board()["snakes"], [])
-        self.page.choose_game(games[0].name)
-        self.page.wait_for_turn(0, len(games[0].rounds[0]) - 1)
-        self.assertEqual(
-            self.page.board(), expected(games[0].rounds[0][0], len(games[0].rounds[0]) - 1)
-        )
+        for seat in range(8)
+    ]
+    page.wait_for_plots()
+    for plot, snakes in zip(page.plots(), shown):
+        compare(plot["health"], [snake["health"] for snake in snakes], 100, last)
+        compare(plot["length"], [len(snake["body"]) for snake in snakes], longest, last)
 
 
-class PlotsTest(PageCase):
-    def test_a_plot_has_a_point_for_each_turn_until_its_snake_is_out(self):
-        self.page.open_empty()
-        self.page.choose(TOURNAMENT)
-        boards = read(TOURNAMENT)[0][0].rounds[0]
-        last = len(boards) - 1
-        longest = max(len(snake["body"]) for board in boards for snake in board["snakes"])
-        shown = [
-            [
-                board["snakes"][seat]
-                for board in boards
-                if board["turn"] <= (boards[-1]["snakes"][seat]["out"] or last)
-            ]
-            for seat in range(8)
-        ]
-        self.page.wait_for_plots()
-        for plot, snakes in zip(self.page.plots(), shown):
-            self.compare(plot["health"], [snake["health"] for snake in snakes], 100, last)
-            self.compare(plot["length"], [len(snake["body"]) for snake in snakes], longest, last)
-
-    def compare(self, points, values, greatest, last):
-        self.assertEqual(len(points), len(values))
-        for turn, ((x, y), value) in enumerate(zip(points, values)):
-            self.assertAlmostEqual(x, turn / last * 240, delta=0.051)
-            self.assertAlmostEqual(y, 48 * (1 - value / greatest), delta=0.051)
+def compare(points, values, greatest, last):
+    assert len(points) == len(values)
+    for turn, ((x, y), value) in enumerate(zip(points, values)):
+        assert x == pytest.approx(turn / last * 240, abs=0.051)
+        assert y == pytest.approx(48 * (1 - value / greatest), abs=0.051)

@@ -1,7 +1,7 @@
 # Drops files that are no transcripts on the page: it shows a clear message, and stays usable.
 import json
 
-from testing.case import PageCase, setUpModule  # noqa: F401
+import pytest
 from testing.made import text
 from testing.page import TOURNAMENT
 from testing.reading import read
@@ -107,39 +107,46 @@ BROKEN_LATER = [
 ]
 
 
-class FilesTest(PageCase):
-    def test_what_is_no_transcript_gets_a_clear_line(self):
-        self.page.open_empty()
-        for name, (content, message) in BROKEN.items():
-            with self.subTest(name):
-                self.page.drop(self.file(f"{name}.txt", content))
-                self.assertEqual(self.page.state(), "fault")
-                self.assertEqual(self.page.text("#notice"), f"{name}.txt can't be shown. {message}")
-                self.assertFalse(
-                    self.browser.run("return document.querySelector('main').checkVisibility()")
-                )
+def is_dropped(page, make_file, name):
+    """Drops a broken file, and compares what the page says of it."""
+    content, message = BROKEN[name]
+    page.drop(make_file(f"{name}.txt", content))
+    assert page.state() == "fault"
+    assert page.text("#notice") == f"{name}.txt can't be shown. {message}"
+    assert not page.browser.run("return document.querySelector('main').checkVisibility()")
 
-    def test_after_a_broken_file_a_good_one_opens(self):
-        self.page.open_empty()
-        self.page.drop(self.file("prose.txt", "All snakes live.\n"))
-        self.page.drop(TOURNAMENT)
-        self.assertEqual((self.page.state(), self.page.text("#notice")), ("open", ""))
-        boards = read(TOURNAMENT)[0][0].rounds[0]
-        self.page.wait_for_turn(0, len(boards) - 1)
-        self.assertEqual(self.page.board(), expected(boards[0], len(boards) - 1))
 
-    def test_a_board_that_cannot_be_drawn_is_reported_when_its_turn_is_shown(self):
-        for path, value, fault in BROKEN_LATER:
-            with self.subTest(fault):
-                self.page.open_empty()
-                self.page.choose(
-                    self.file("broken.transcript", changed(2, "board", *path, to=value))
-                )
-                self.assertEqual(self.page.state(), "open")
-                self.page.wait_for_turn(0, 2)
-                self.browser.click("#forward")
-                message = f"Line 2 holds no board that can be drawn: {fault}."
-                self.browser.wait(
-                    "return document.getElementById('notice').textContent === arguments[0]", message
-                )
-                self.page.wait_for_turn(0, 2)
+@pytest.mark.parametrize("name", BROKEN)
+def test_what_is_no_transcript_gets_a_clear_line(page, make_file, name):
+    page.open_empty()
+    is_dropped(page, make_file, name)
+
+
+def test_one_broken_file_after_another_gets_its_line(page, make_file):
+    page.open_empty()
+    for name in BROKEN:
+        is_dropped(page, make_file, name)
+
+
+def test_after_a_broken_file_a_good_one_opens(page, make_file):
+    page.open_empty()
+    page.drop(make_file("prose.txt", "All snakes live.\n"))
+    page.drop(TOURNAMENT)
+    assert (page.state(), page.text("#notice")) == ("open", "")
+    boards = read(TOURNAMENT)[0][0].rounds[0]
+    page.wait_for_turn(0, len(boards) - 1)
+    assert page.board() == expected(boards[0], len(boards) - 1)
+
+
+@pytest.mark.parametrize("path, value, fault", BROKEN_LATER)
+def test_a_board_that_cannot_be_drawn_is_reported_when_its_turn_is_shown(
+    page, browser, make_file, path, value, fault
+):
+    page.open_empty()
+    page.choose(make_file("broken.transcript", changed(2, "board", *path, to=value)))
+    assert page.state() == "open"
+    page.wait_for_turn(0, 2)
+    browser.click("#forward")
+    message = f"Line 2 holds no board that can be drawn: {fault}."
+    browser.wait("return document.getElementById('notice').textContent === arguments[0]", message)
+    page.wait_for_turn(0, 2)

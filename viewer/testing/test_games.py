@@ -1,7 +1,7 @@
 # Compares the table of games and the lists below it with the transcript.
 import re
 
-from testing.case import PageCase, setUpModule  # noqa: F401
+import pytest
 from testing.made import text
 from testing.page import CASES, TOURNAMENT
 from testing.reading import read
@@ -42,88 +42,85 @@ def sorted_by(games, column, is_descending):
     return sorted(games, key=keys[column], reverse=is_descending)
 
 
-class GamesTest(PageCase):
-    def test_each_game_of_each_file_has_its_row(self):
-        for path in CASES:
-            with self.subTest(path.name):
-                self.page.open_empty()
-                self.page.choose(path)
-                games, _ = read(path)
-                self.assertEqual(self.page.games(), [row_of(game) for game in games])
+@pytest.mark.parametrize("path", CASES, ids=lambda path: path.stem)
+def test_each_game_of_each_file_has_its_row(page, path):
+    page.open_empty()
+    page.choose(path)
+    games, _ = read(path)
+    assert page.games() == [row_of(game) for game in games]
 
-    def test_a_press_on_a_head_sorts_and_a_second_turns_the_order_round(self):
-        for path, columns in ((TOURNAMENT, COLUMNS), (self.numbered_games(), ["name"])):
-            self.page.open_empty()
-            self.page.choose(path)
-            games, _ = read(path)
-            for column in columns:
-                for order in ("ascending", "descending"):
-                    self.browser.click(f"th[data-column={column}] button")
-                    self.assertEqual(
-                        self.browser.run(
-                            "return document.querySelector(arguments[0]).ariaSort",
-                            f"th[data-column={column}]",
-                        ),
-                        order,
+
+def test_a_press_on_a_head_sorts_and_a_second_turns_the_order_round(page, browser, make_file):
+    for path, columns in ((TOURNAMENT, COLUMNS), (numbered_games(make_file), ["name"])):
+        page.open_empty()
+        page.choose(path)
+        games, _ = read(path)
+        for column in columns:
+            for order in ("ascending", "descending"):
+                browser.click(f"th[data-column={column}] button")
+                assert (
+                    browser.run(
+                        "return document.querySelector(arguments[0]).ariaSort",
+                        f"th[data-column={column}]",
                     )
-                    self.assertEqual(
-                        self.page.games(),
-                        [row_of(game) for game in sorted_by(games, column, order == "descending")],
-                        (column, order),
-                    )
-
-    def numbered_games(self):
-        """A transcript of games that were never begun, named by numbers in no sorted order."""
-        lines = [
-            text({"board": None, "charge": 0, "final": True, "game": f"game {number}"})
-            for number in (10, 9, 100, 1)
-        ]
-        return self.file("numbered.transcript", "\n".join(lines) + "\n")
-
-    def test_refused_commands_and_strays_are_listed(self):
-        self.page.open_empty()
-        self.page.choose(TOURNAMENT)
-        games, strays = read(TOURNAMENT)
-        self.assertEqual(len(self.page.texts("#strays li")), len(strays))
-        for shown, stray in zip(self.page.texts("#strays li"), strays):
-            self.assertIn(
-                f"line {stray['line']} of the command file: {stray['no']} {stray['why']}", shown
-            )
-        for game in games:
-            self.page.choose_game(game.name, game.stay)
-            items = self.page.texts("#refusals li")
-            self.assertEqual(len(items), len(game.refusals), game.name)
-            for shown, (line, round_number, turn) in zip(items, game.refusals):
-                self.assertIn(f"number {line['seq']}: {line['no']} {line['why']}", shown)
-                self.assertIn(
-                    "before the first new"
-                    if turn is None
-                    else f"after turn {turn} of round {round_number}",
-                    shown,
+                    == order
                 )
+                assert page.games() == [
+                    row_of(game) for game in sorted_by(games, column, order == "descending")
+                ], (column, order)
 
-    def test_a_refused_command_leads_to_its_turn(self):
-        self.page.open_empty()
-        self.page.choose(TOURNAMENT)
-        games, _ = read(TOURNAMENT)
-        game = max(games, key=lambda game: len(game.rounds))
-        self.page.choose_game(game.name)
-        self.assertGreater(len(game.refusals), 2)
-        self.page.wait_for_turn(0, len(game.rounds[0]) - 1)
-        for index, (_, round_number, turn) in enumerate(game.refusals):
-            self.browser.click(f"#refusals li:nth-child({index + 1}) .place")
-            self.page.wait_for_turn(turn, len(game.rounds[round_number - 1]) - 1)
 
-    def test_a_long_list_is_shown_in_parts(self):
-        lines = [text({"line": line, "no": "L1", "why": "json"}) for line in range(2, 502)]
-        self.page.open_empty()
-        self.page.choose(self.file("strays.transcript", "\n".join(lines) + "\n"))
-        for shown in (200, 400, 500):
-            self.assertEqual(len(self.page.texts("#strays li")), shown)
-            self.assertEqual(
-                self.browser.run("return document.querySelector('#strays .more').hidden"),
-                shown == 500,
-            )
-            if shown < 500:
-                self.browser.click("#strays .more")
-        self.assertIn("line 501 of", self.page.texts("#strays li")[-1])
+def numbered_games(make_file):
+    """A transcript of games that were never begun, named by numbers in no sorted order."""
+    lines = [
+        text({"board": None, "charge": 0, "final": True, "game": f"game {number}"})
+        for number in (10, 9, 100, 1)
+    ]
+    return make_file("numbered.transcript", "\n".join(lines) + "\n")
+
+
+def test_refused_commands_and_strays_are_listed(page):
+    page.open_empty()
+    page.choose(TOURNAMENT)
+    games, strays = read(TOURNAMENT)
+    assert len(page.texts("#strays li")) == len(strays)
+    for shown, stray in zip(page.texts("#strays li"), strays):
+        assert f"line {stray['line']} of the command file: {stray['no']} {stray['why']}" in shown
+    for game in games:
+        page.choose_game(game.name, game.stay)
+        items = page.texts("#refusals li")
+        assert len(items) == len(game.refusals), game.name
+        for shown, (line, round_number, turn) in zip(items, game.refusals):
+            assert f"number {line['seq']}: {line['no']} {line['why']}" in shown
+            assert (
+                "before the first new"
+                if turn is None
+                else f"after turn {turn} of round {round_number}"
+            ) in shown
+
+
+def test_a_refused_command_leads_to_its_turn(page, browser):
+    page.open_empty()
+    page.choose(TOURNAMENT)
+    games, _ = read(TOURNAMENT)
+    game = max(games, key=lambda game: len(game.rounds))
+    page.choose_game(game.name)
+    assert len(game.refusals) > 2
+    page.wait_for_turn(0, len(game.rounds[0]) - 1)
+    for index, (_, round_number, turn) in enumerate(game.refusals):
+        browser.click(f"#refusals li:nth-child({index + 1}) .place")
+        page.wait_for_turn(turn, len(game.rounds[round_number - 1]) - 1)
+
+
+def test_a_long_list_is_shown_in_parts(page, browser, make_file):
+    lines = [text({"line": line, "no": "L1", "why": "json"}) for line in range(2, 502)]
+    page.open_empty()
+    page.choose(make_file("strays.transcript", "\n".join(lines) + "\n"))
+    for shown in (200, 400, 500):
+        assert len(page.texts("#strays li")) == shown
+        assert browser.run("return document.querySelector('#strays .more').hidden") == (
+            shown == 500
+        )
+        if shown < 500:
+            browser.click("#strays .more")
+    assert "line 501 of" in page.texts("#strays li")[-1]

@@ -1,19 +1,14 @@
 # Takes pictures of four boards for people to look at; counts the colours, and measures their
 # distances for colour-blind eyes.
 import itertools
-import os
 import re
 from collections import Counter
-from pathlib import Path
 
-from testing.case import PageCase, setUpModule  # noqa: F401
 from testing.colours import EYES, distance, lab
 from testing.page import TOURNAMENT
 from testing.png import pixels
 from testing.reading import read
 from testing.served import ROOT
-
-FOLDER = Path(os.environ.get("VIEWER_PICTURES", ROOT / "viewer" / "out"))
 
 # The name of a picture; the file, game and turn that it shows; whether snakes that went out earlier
 # are drawn.
@@ -30,53 +25,49 @@ def rgb(painted):
     return tuple(int(part) for part in re.findall(r"\d+", painted)[:3])
 
 
-class PicturesTest(PageCase):
-    def show(self, game, turn, last):
-        self.browser.run("location.hash = arguments[0]", f"game={game}&turn={turn}")
-        self.page.wait_for_turn(turn, last)
-        self.page.wait_for_plots()
+def show(page, browser, game, turn, last):
+    browser.run("location.hash = arguments[0]", f"game={game}&turn={turn}")
+    page.wait_for_turn(turn, last)
+    page.wait_for_plots()
 
-    def test_pictures_show_each_living_snake_in_its_colour(self):
-        FOLDER.mkdir(exist_ok=True)
-        for name, path, game, turn, with_earlier in PICTURES:
-            boards = next(each for each in read(path)[0] if each.name == game).rounds[0]
-            self.page.open_empty()
-            self.page.choose(path)
-            self.show(game, turn, len(boards) - 1)
-            if with_earlier:
-                self.browser.click("#earlier")
-            (FOLDER / f"{name}.png").write_bytes(self.browser.picture("#panel"))
-            colours = [rgb(painted) for painted in self.page.seat_colours()[:-1]]
-            counts = Counter(pixels(self.browser.picture("#board")))
-            cell = (
-                self.browser.run(
-                    "return document.querySelector('#board .wall').getBoundingClientRect().width"
-                )
-                / boards[turn]["width"]
+
+def test_pictures_show_each_living_snake_in_its_colour(page, browser, pictures):
+    for name, path, game, turn, with_earlier in PICTURES:
+        boards = next(each for each in read(path)[0] if each.name == game).rounds[0]
+        page.open_empty()
+        page.choose(path)
+        show(page, browser, game, turn, len(boards) - 1)
+        if with_earlier:
+            browser.click("#earlier")
+        (pictures / f"{name}.png").write_bytes(browser.picture("#panel"))
+        colours = [rgb(painted) for painted in page.seat_colours()[:-1]]
+        counts = Counter(pixels(browser.picture("#board")))
+        cell = (
+            browser.run(
+                "return document.querySelector('#board .wall').getBoundingClientRect().width"
             )
-            shown = self.page.board()["snakes"]
-            self.assertTrue(shown)
-            for snake, colour in zip(shown, colours):
-                if not snake["out"]:
-                    self.assertGreater(
-                        counts[colour],
-                        len(snake["cells"]) * cell * cell / 4,
-                        f"{name}, seat {snake['seat']}",
-                    )
-
-    def test_colour_blind_eyes_can_tell_the_seats_apart(self):
-        self.page.open_empty()
-        self.page.choose(TOURNAMENT)
-        self.show("eight", 1, len(read(TOURNAMENT)[0][0].rounds[0]) - 1)
-        colours = [rgb(painted) for painted in self.page.seat_colours()]
-        self.assertEqual(len(set(colours)), 9)
-        apart = [
-            (distance(lab(first, eye), lab(second, eye)), eye, first, second)
-            for first, second in itertools.combinations(colours, 2)
-            for eye in EYES
-        ]
-        least = min(apart)
-        print(
-            f"\nthe nearest colours are {least[0]:.1f} apart, {least[1]}: {least[2]} and {least[3]}"
+            / boards[turn]["width"]
         )
-        self.assertGreater(least[0], LEAST_DISTANCE)
+        shown = page.board()["snakes"]
+        assert shown
+        for snake, colour in zip(shown, colours):
+            if not snake["out"]:
+                assert (
+                    counts[colour] > len(snake["cells"]) * cell * cell / 4
+                ), f"{name}, seat {snake['seat']}"
+
+
+def test_colour_blind_eyes_can_tell_the_seats_apart(page, browser):
+    page.open_empty()
+    page.choose(TOURNAMENT)
+    show(page, browser, "eight", 1, len(read(TOURNAMENT)[0][0].rounds[0]) - 1)
+    colours = [rgb(painted) for painted in page.seat_colours()]
+    assert len(set(colours)) == 9
+    apart = [
+        (distance(lab(first, eye), lab(second, eye)), eye, first, second)
+        for first, second in itertools.combinations(colours, 2)
+        for eye in EYES
+    ]
+    least = min(apart)
+    print(f"\nthe nearest colours are {least[0]:.1f} apart, {least[1]}: {least[2]} and {least[3]}")
+    assert least[0] > LEAST_DISTANCE

@@ -1,0 +1,7 @@
+"""Runs the ladder as `python3 -m arena_ladder`."""
+
+import sys
+
+from arena_ladder.main import main
+
+sys.exit(main())

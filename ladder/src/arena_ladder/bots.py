@@ -1,0 +1,173 @@
+"""A client of bots: asks for their moves, and checks and limits every answer."""
+
+from __future__ import annotations
+
+import json
+import os
+import re
+from collections.abc import Sequence
+from dataclasses import dataclass, replace
+from typing import Any
+
+from arena_ladder.addresses import AddressBook
+from arena_ladder.connections import Connections, Exchange
+from arena_ladder.payloads import Look
+from arena_ladder.pulse import Pulse
+from arena_ladder.response import EXCERPT, NOTHING, Received
+from arena_ladder.texts import fit_text
+from arena_ladder.urls import request_of, target_of
+
+DIRECTIONS = ("up", "down", "left", "right")
+CAUSES = ("late", "refused", "cut", "status", "long", "json", "direction")
+LONGEST_SHOUT = 256
+LOOK_SECONDS = 5.0
+LAG = 0.1  # of the timeout: if the ladder itself is late by more, it asks again
+MOST_REPEATS = 20  # of a request, while the ladder itself is late
+ID_BYTES = 6  # of a request for a move
+
+Request = tuple[str, bytes]  # the address of a bot or of one of its calls, and the body
+
+
+class NoAnswer(Exception):
+    """A request without a usable answer, with the cause."""
+
+    def __init__(self, cause: str) -> None:
+        super().__init__(cause)
+        self.cause = cause
+
+
+@dataclass(frozen=True, slots=True)
+class Answer:
+    """The answer of a bot to a request for its move: a direction, or why there is none."""
+
+    move: str | None
+    cause: str | None
+    latency: int  # milliseconds
+    shout: str = ""
+    asked_at: float = 0.0  # seconds of the loop's clock
+    answered_at: float = 0.0
+    is_lagged: bool = False  # whether the ladder itself was late meanwhile
+    received: Received = NOTHING
+    request_id: str = ""
+
+
+class BotClient:
+    """Calls bots over HTTP; `timeout` is in seconds and limits each request."""
+
+    def __init__(self, timeout: float) -> None:
+        self.timeout = timeout
+        self.pulse = Pulse(LAG * timeout)
+        self.addresses = AddressBook()
+        self.connections = Connections(self.addresses)
+
+    async def __aenter__(self) -> BotClient:
+        await self.pulse.__aenter__()
+        return self
+
+    async def __aexit__(self, *_: object) -> None:
+        await self.connections.__aexit__()
+        await self.pulse.__aexit__()
+
+    async def look(self, url: str) -> Look:
+        """Asks a bot for its look; raises `NoAnswer` if it sends none."""
+        exchange = self._exchange("GET", url + "/", b"", LOOK_SECONDS)
+        await self.connections.ask([exchange])
+        if exchange.cause is not None:
+            raise NoAnswer(exchange.cause)
+        return look_of(object_of(exchange.body))
+
+    async def moves(self, requests: Sequence[Request]) -> list[Answer]:
+        """Asks bots for their moves, all at once, and waits no longer than the timeout.
+
+        An answer that has arrived by the end of the timeout counts, even if this program was too
+        busy to read it earlier. If the ladder itself was late, a bot that missed the timeout is
+        asked again.
+        """
+        found: dict[int, Exchange] = {}
+        lagged: set[int] = set()
+        places = list(range(len(requests)))
+        for _ in range(1 + MOST_REPEATS):
+            asked = {at: self._exchange_for_move(*requests[at]) for at in places}
+            await self.connections.ask(list(asked.values()))
+            found.update(asked)
+            late = {at for at, it in asked.items() if self._was_late(it)}
+            lagged |= late
+            places = [at for at in late if asked[at].is_timed_out]
+            if not places:
+                break
+        return [self._answer(found[at], at in lagged) for at in sorted(found)]
+
+    async def notify(self, requests: Sequence[Request]) -> None:
+        """Sends requests whose answers are ignored, such as /end, within the timeout."""
+        await self.connections.ask(
+            [self._exchange("POST", url, body, self.timeout) for url, body in requests]
+        )
+
+    def _exchange(self, method: str, url: str, body: bytes, seconds: float) -> Exchange:
+        target = target_of(url)
+        return Exchange(target.place, request_of(method, target, body), seconds)
+
+    def _exchange_for_move(self, url: str, body: bytes) -> Exchange:
+        target, id = target_of(url + "/move"), os.urandom(ID_BYTES).hex()
+        request = request_of("POST", target, body, id)
+        return Exchange(target.place, request, self.timeout, id)
+
+    def _was_late(self, exchange: Exchange) -> bool:
+        """Whether the ladder itself was late while a request had no answer."""
+        return self.pulse.lagged_since(exchange.began_at)
+
+    def _answer(self, exchange: Exchange, is_lagged: bool) -> Answer:
+        """The answer in what came of a request."""
+        answer, received = Answer(None, exchange.cause, 0), exchange.received
+        if exchange.cause is None:
+            try:
+                answer = answer_of(object_of(exchange.body))
+            except NoAnswer as fault:
+                answer = Answer(None, fault.cause, 0)
+                received = replace(received, excerpt=exchange.body[:EXCERPT])
+        seconds = min(exchange.ended_at - exchange.asked_at, self.timeout)
+        return replace(
+            answer,
+            latency=round(1000 * seconds),
+            asked_at=exchange.asked_at,
+            answered_at=exchange.ended_at,
+            is_lagged=is_lagged,
+            received=received,
+            request_id=exchange.id,
+        )
+
+
+def object_of(text: bytes) -> dict[str, Any]:
+    """Parses a JSON object; raises `NoAnswer` for any other text."""
+    try:
+        value = json.loads(text)
+    except (ValueError, RecursionError):
+        raise NoAnswer("json") from None
+    if not isinstance(value, dict):
+        raise NoAnswer("json")
+    return value
+
+
+def answer_of(members: dict[str, Any]) -> Answer:
+    """The move in a bot's answer, and its shout, cut if it is too long."""
+    move, shout = members.get("move"), members.get("shout")
+    if move not in DIRECTIONS:
+        raise NoAnswer("direction")
+    return Answer(move, None, 0, fit_text(shout[:LONGEST_SHOUT]) if isinstance(shout, str) else "")
+
+
+def look_of(members: dict[str, Any]) -> Look:
+    """The look in a bot's answer, with defaults for bad members; its API has to be version 1."""
+    if members.get("apiversion") != "1":
+        raise NoAnswer("apiversion")
+
+    def part(name: str, pattern: str, usual: str) -> str:
+        value = members.get(name)
+        return value if isinstance(value, str) and re.fullmatch(pattern, value) else usual
+
+    usual = Look()
+    return Look(
+        color=part("color", "#[0-9A-Fa-f]{6}", usual.color),
+        head=part("head", "[a-z0-9-]{1,48}", usual.head),
+        tail=part("tail", "[a-z0-9-]{1,48}", usual.tail),
+    )

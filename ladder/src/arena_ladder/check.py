@@ -1,0 +1,138 @@
+"""Replays the games of a folder by `arena serve`, and compares them with the results."""
+
+from __future__ import annotations
+
+import hashlib
+import json
+import os
+import subprocess
+from collections.abc import Callable, Iterable
+from concurrent.futures import ThreadPoolExecutor
+from contextlib import closing
+from dataclasses import dataclass
+from pathlib import Path
+from typing import Any
+
+from arena_client import BLOCKS_OF_GAME, line_of
+from arena_ladder.config import Config, config_again
+from arena_ladder.draws import words_of
+from arena_ladder.endless import replay
+from arena_ladder.game import map_members, opening
+from arena_ladder.game_files import command_file
+from arena_ladder.outcome import Outcome, finishes_of
+from arena_ladder.pairing import Fixture, fixtures_of
+from arena_ladder.rated import Rated
+from arena_ladder.store import Store, StoreFault, open_store
+
+SERVE_SECONDS = 600
+
+
+@dataclass(frozen=True)
+class Checked:
+    """The result of a check: the number of games, and the faults of those that do not agree."""
+
+    games: int
+    faults: dict[str, str]
+
+
+def check(folder: Path, program: Path, note: Callable[[int], None]) -> Checked:
+    """Checks every game of a folder that is done; calls `note` with the number checked so far.
+
+    A game agrees if its bots, places, food, words and hazards are those drawn from the seed, if `arena
+    serve` writes for its file the same lines as the live host wrote, and if its last board is the
+    one in the results.
+    """
+    with closing(open_store(folder)) as store:
+        store.names()
+        outcomes = list(store.outcomes())
+        identity = store.identity()
+        if identity is None:
+            raise StoreFault(f"{folder} has no results of a ladder")
+        rounds = max((it.round for it in outcomes), default=1)
+        config = config_again(identity, folder, rounds)
+        drawn = {fixture.name: fixture for fixture in drawn_again(config, store)}
+
+    def fault(outcome: Outcome) -> str | None:
+        return fault_of(outcome, config, drawn.get(outcome.name), program)
+
+    faults = {}
+    with ThreadPoolExecutor(os.cpu_count()) as pool:
+        for at, (outcome, why) in enumerate(zip(outcomes, pool.map(fault, outcomes)), 1):
+            if why is not None:
+                faults[outcome.name] = why
+            note(at)
+    return Checked(len(outcomes), faults)
+
+
+def drawn_again(config: Config, store: Store) -> Iterable[Fixture]:
+    """The games of a ladder; those of an endless one are drawn from what was stored before each."""
+    if not config.is_endless:
+        return fixtures_of(config)
+    rated = Rated(config.seed, config.snakes)
+    return [Fixture(row.game, row.number, bots or ()) for row, bots in replay(store, rated)]
+
+
+def fault_of(
+    outcome: Outcome, config: Config, fixture: Fixture | None, program: Path
+) -> str | None:
+    """Why a game does not agree, or None if it does."""
+    if fixture is None:
+        return "the pairings have no such game"
+    path = command_file(config.folder, outcome.name)
+    try:
+        lines = path.read_bytes().splitlines(keepends=True)
+    except OSError as fault:
+        return f"its file can't be read: {fault.strerror}"
+    return fault_of_lines(lines, config, fixture) or fault_of_replies(path, outcome, program)
+
+
+def fault_of_lines(lines: list[bytes], config: Config, fixture: Fixture) -> str | None:
+    """Why lines are not the opening of this game, moves with the drawn words, and its leave."""
+    first = [config.rules.plan, *opening(config, fixture)]
+    if lines[: len(first)] != first or lines[-1:] != [line_of(game=fixture.name, do="leave")]:
+        return "its file does not begin as drawn from the seed, or has no end"
+    turn = 0
+    for line in lines[len(first) : -1]:
+        try:
+            command = json.loads(line)
+            do = command["do"]
+        except (ValueError, LookupError, TypeError):
+            return "a line of its file is no command"
+        if do == "move":
+            fault = fault_of_move(command, turn, config, fixture)
+            if fault is not None:
+                return fault
+            turn += 1
+        elif do != "free":
+            return f"its file has the command {do}"
+    return None
+
+
+def fault_of_move(
+    command: dict[str, Any], turn: int, config: Config, fixture: Fixture
+) -> str | None:
+    """Why the move after a turn does not have the drawn words, hazards, and nothing else."""
+    if command.get("words") != words_of(config.seed, fixture.key, turn, config.rules.words):
+        return f"the words of the move after turn {turn} are not those that are drawn"
+    given = {key: command[key] for key in ("hazards", "food") if key in command}
+    if given != map_members(config, fixture.key, turn):
+        return f"the hazards or the food of the move after turn {turn} are not as drawn"
+    return None
+
+
+def fault_of_replies(path: Path, outcome: Outcome, program: Path) -> str | None:
+    """Why the replies of `arena serve` are not those of the live host, or not this outcome."""
+    words = [str(program), "serve", str(path), "--blocks", str(BLOCKS_OF_GAME), "--workers", "1"]
+    try:
+        ran = subprocess.run(words, capture_output=True, timeout=SERVE_SECONDS)
+    except (OSError, subprocess.TimeoutExpired) as fault:
+        return f"arena serve did not run: {fault}"
+    if ran.returncode != 0:
+        return f"arena serve ended with status {ran.returncode}: {ran.stderr.decode().strip()}"
+    lines = ran.stdout.splitlines()
+    if hashlib.sha256(ran.stdout).hexdigest() != outcome.digest or len(lines) != outcome.lines:
+        return "arena serve writes other lines than the live host wrote"
+    board = json.loads(lines[-1])["board"]
+    if finishes_of(board) != outcome.finishes or board["turn"] != outcome.turns:
+        return "its last board is not the one in the results"
+    return None

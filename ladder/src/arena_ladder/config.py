@@ -1,0 +1,301 @@
+"""Reads the configuration of a ladder from a TOML file, and checks it."""
+
+from __future__ import annotations
+
+import hashlib
+import json
+import re
+import tomllib
+from collections.abc import Sequence
+from dataclasses import asdict, dataclass
+from pathlib import Path
+from typing import Any
+
+from arena_client import PLAN, PLAN_WITH_HAZARDS, Mode
+from arena_ladder.maps import HazardMap, map_again
+from arena_ladder.starts import Cell, most_snakes
+from arena_ladder.urls import shown, target_of
+
+BOT_NAME = re.compile(r"[A-Za-z0-9][A-Za-z0-9_.-]{0,31}")
+MODES = tuple(Mode)
+MAPS = ("standard", "royale")
+PAIRINGS = ("round_robin", "duels", "tables", "gauntlet", "rating")
+MOST_BOTS = 200
+MOST_AT_ONCE = 64  # games that are open in a host
+AT_ONCE = 16
+GAMES_A_BOT = 2
+ENDLESS = 999_999  # games of a ladder whose rounds are not given
+ID_LETTERS = 8
+ORDER = "circle"  # of the games of a round: a folder of another order is another ladder's
+MOST_ROUNDS = 100_000
+MOST_TURNS = 10_000
+MOST_HAZARDS = 2_500
+LONGEST_FOOD = 32  # words of a move: at most this number of foods can appear in a turn
+
+
+class ConfigFault(ValueError):
+    """A configuration that can't be played, with the reason."""
+
+
+@dataclass(frozen=True)
+class Bot:
+    """A Battlesnake server."""
+
+    name: str
+    url: str
+
+
+@dataclass(frozen=True)
+class Rules:
+    """The rules of each game."""
+
+    mode: str
+    width: int
+    height: int
+    min_food: int
+    food_chance: int
+    turns: int  # after which a game ends undecided
+    hazards: HazardMap | None = None
+
+    @property
+    def plan(self) -> bytes:
+        """The first line of the command files. Only hazards need the newest version."""
+        return PLAN if self.hazards is None else PLAN_WITH_HAZARDS
+
+    @property
+    def members(self) -> dict[str, Any]:
+        """The values of JSON from which `rules_again` makes these rules."""
+        members = asdict(self)
+        del members["hazards"]
+        return {**members, "hazards": self.hazards.members} if self.hazards else members
+
+    @property
+    def words(self) -> int:
+        """The number of words that a move can need."""
+        return max(2, self.min_food)
+
+
+@dataclass(frozen=True)
+class Config:
+    """A ladder: its bots, rules and pairings, and the folder of its results."""
+
+    folder: Path
+    bots: tuple[Bot, ...]
+    rules: Rules
+    pairing: str
+    snakes: int  # a game
+    rounds: int
+    seed: int
+    has_seed: bool  # whether the configuration gives it; otherwise it is drawn
+    timeout: int  # milliseconds
+    at_once: int  # games
+    games_a_bot: int  # at the same time
+
+    @property
+    def is_endless(self) -> bool:
+        """Whether its games are drawn one by one, between bots of a roster that changes."""
+        return self.pairing == "rating"
+
+    @property
+    def letters(self) -> str:
+        """Letters that no other ladder has, for the ids of its games."""
+        return hashlib.sha256(json.dumps(self.identity).encode()).hexdigest()[:ID_LETTERS]
+
+    @property
+    def identity(self) -> dict[str, Any]:
+        """What decides the games. A folder with results of another identity is refused.
+
+        The addresses of the bots, the number of rounds and the games at once may change.
+        """
+        return {
+            "bots": [] if self.is_endless else [bot.name for bot in self.bots],
+            "rules": self.rules.members,
+            "pairing": self.pairing,
+            "snakes": self.snakes,
+            "seed": self.seed,
+            "has_seed": self.has_seed,
+            "timeout": self.timeout,
+            "order": ORDER,
+        }
+
+
+def config_again(identity: dict[str, Any], folder: Path, rounds: int) -> Config:
+    """The configuration of an identity. Its bots have no addresses."""
+    if identity.get("order") != ORDER:
+        raise ConfigFault(f"{folder} has games that an earlier version paired in another order")
+    return Config(
+        folder=folder,
+        bots=tuple(Bot(name, "") for name in identity["bots"]),
+        rules=rules_again(identity["rules"]),
+        pairing=identity["pairing"],
+        snakes=identity["snakes"],
+        rounds=rounds,
+        seed=identity["seed"],
+        has_seed=identity["has_seed"],
+        timeout=identity["timeout"],
+        at_once=1,
+        games_a_bot=1,
+    )
+
+
+def rules_again(members: dict[str, Any]) -> Rules:
+    if "hazards" in members:
+        members = {**members, "hazards": map_again(members["hazards"])}
+    return Rules(**members)
+
+
+class Members:
+    """Takes the members of a table one by one; `finish` raises a fault if one is left over."""
+
+    def __init__(self, table: dict[str, Any], place: str) -> None:
+        self.table = dict(table)
+        self.place = place
+
+    def fault(self, why: str) -> ConfigFault:
+        return ConfigFault(f"{self.place}: {why}")
+
+    def number(self, name: str, default: int, least: int, most: int) -> int:
+        value = self.table.pop(name, default)
+        if type(value) is not int or not least <= value <= most:
+            raise self.fault(f"{name} is {value!r}, and has to be a number from {least} to {most}")
+        return value
+
+    def word(self, name: str, choices: Sequence[str]) -> str:
+        """One of the choices, the first if the member is missing."""
+        value = self.table.pop(name, choices[0])
+        if not isinstance(value, str) or value not in choices:
+            raise self.fault(f"{name} is {value!r}, and has to be one of {', '.join(choices)}")
+        return value
+
+    def text(self, name: str) -> str:
+        value = self.table.pop(name, None)
+        if not isinstance(value, str) or not value:
+            raise self.fault(f"{name} is missing or no text")
+        return value
+
+    def finish(self) -> None:
+        if self.table:
+            raise self.fault(f"nobody knows {', '.join(sorted(self.table))}")
+
+
+def read_config(path: Path) -> Config:
+    """Reads a file; raises `ConfigFault` if it can't be played."""
+    try:
+        table = tomllib.loads(path.read_text())
+    except (OSError, ValueError) as fault:
+        raise ConfigFault(f"{path}: {fault}") from None
+    return config_of(table, str(path))
+
+
+def config_of(table: dict[str, Any], place: str) -> Config:
+    """Makes a configuration from a parsed table."""
+    members = Members(table, place)
+    bots = bots_of(members)
+    folder = Path(members.text("folder"))
+    rules = rules_of(members)
+    pairing = members.word("pairing", PAIRINGS)
+    has_seed = "seed" in members.table
+    is_endless = pairing == "rating"
+    usual, most = (ENDLESS, ENDLESS) if is_endless else (1, MOST_ROUNDS)
+    config = Config(
+        folder=folder,
+        bots=bots,
+        rules=rules,
+        pairing=pairing,
+        snakes=snakes_of(members, rules, pairing),
+        rounds=members.number("rounds", usual, 1, most),
+        seed=members.number("seed", 0, 0, 2**63 - 1),
+        has_seed=has_seed,
+        timeout=members.number("timeout", 500, 10, 60_000),
+        at_once=members.number("at_once", AT_ONCE, 1, MOST_AT_ONCE),
+        games_a_bot=members.number("games_a_bot", GAMES_A_BOT, 1, MOST_AT_ONCE),
+    )
+    members.finish()
+    if len(bots) < config.snakes and not is_endless:
+        raise members.fault(f"a game of {config.snakes} snakes wants as many bots")
+    return config
+
+
+def rules_of(members: Members) -> Rules:
+    width, height = (members.number(side, 11, 3, 25) for side in ("width", "height"))
+    return Rules(
+        mode=members.word("mode", MODES),
+        width=width,
+        height=height,
+        min_food=members.number("min_food", 1, 0, LONGEST_FOOD),
+        food_chance=members.number("food_chance", 15, 0, 100),
+        turns=members.number("turns", MOST_TURNS, 1, MOST_TURNS),
+        hazards=hazards_of(members, width, height),
+    )
+
+
+def hazards_of(members: Members, width: int, height: int) -> HazardMap | None:
+    """The map of the games: royale, or one of the given cells; None if there are no hazards."""
+    is_royale = members.word("map", MAPS) == "royale"
+    cells = members.table.pop("hazards", None)
+    if is_royale and cells is not None:
+        raise members.fault("the map royale draws its hazards, so hazards can't be given")
+    if not is_royale and cells is None:
+        return None
+    return HazardMap(
+        damage=members.number("hazard_damage", 14, 0, 100),
+        shrink_every=members.number("shrink_every", 25, 1, MOST_TURNS) if is_royale else 0,
+        cells=() if is_royale else hazard_cells(members, cells, width, height),
+    )
+
+
+def hazard_cells(members: Members, cells: Any, width: int, height: int) -> tuple[Cell, ...]:
+    if not isinstance(cells, list) or not 1 <= len(cells) <= MOST_HAZARDS:
+        raise members.fault(f"hazards has to be a list of 1 to {MOST_HAZARDS} cells [x, y]")
+    for cell in cells:
+        is_pair = isinstance(cell, list) and [type(part) for part in cell] == [int, int]
+        if not is_pair or not (0 <= cell[0] < width and 0 <= cell[1] < height):
+            raise members.fault(f"{cell!r} in hazards is no cell [x, y] of the board")
+    return tuple(Cell(*cell) for cell in cells)
+
+
+def snakes_of(members: Members, rules: Rules, pairing: str) -> int:
+    """The number of snakes of a game; a game of one snake is possible in solo only."""
+    usual = {"tables": 4}.get(pairing, 1 if rules.mode == "solo" else 2)
+    most = min(8, most_snakes(rules.width, rules.height))
+    snakes = members.number("snakes", usual, 1 if rules.mode == "solo" else 2, most)
+    if pairing in ("duels", "gauntlet") and snakes != 2:
+        raise members.fault(f"{pairing}: a game has 2 snakes")
+    return snakes
+
+
+def bots_of(members: Members) -> tuple[Bot, ...]:
+    """The bots of the tables [[bot]]; their names have to be valid and different."""
+    tables = members.table.pop("bot", [])
+    if not isinstance(tables, list) or not 1 <= len(tables) <= MOST_BOTS:
+        raise members.fault(f"there have to be 1 to {MOST_BOTS} tables [[bot]]")
+    bots = tuple(bot_of(table, members.place) for table in tables)
+    names = [bot.name for bot in bots]
+    twice = sorted({name for name in names if names.count(name) > 1})
+    if twice:
+        raise members.fault(f"two bots are named {twice[0]}")
+    return bots
+
+
+def bot_of(table: Any, place: str) -> Bot:
+    if not isinstance(table, dict):
+        raise ConfigFault(f"{place}: a bot is a table")
+    members = Members(table, f"{place}: a bot")
+    name, url = members.text("name"), members.text("url")
+    members.finish()
+    if not BOT_NAME.fullmatch(name):
+        raise members.fault(f"the name {name!r} is not 1 to 32 letters, digits, _, . and -")
+    return Bot(name, checked_url(url, members))
+
+
+def checked_url(url: str, members: Members) -> str:
+    """Checks the address of a bot, and removes slashes at its end."""
+    try:
+        target_of(url)
+        is_fit = re.search(r"[\x00-\x20\x7f?#]", url) is None
+    except ValueError:
+        is_fit = False
+    if not is_fit:
+        address = shown(url)
+        raise members.fault(f"{address!r} is no address such as http://127.0.0.1:8001/name")
+    return url.rstrip("/")

@@ -1,0 +1,101 @@
+"""The games of an endless ladder, drawn one by one from the results so far."""
+
+from __future__ import annotations
+
+import asyncio
+import time
+from collections.abc import Callable, Iterator
+from concurrent.futures import Executor
+
+from arena_ladder.config import Config
+from arena_ladder.pairing import Fixture
+from arena_ladder.rated import Change, Drawn, Rated
+from arena_ladder.store import Store
+
+Bots = tuple[str, ...]
+
+
+def name_of(number: int) -> str:
+    """The name of game `number` of an endless ladder, each of which is a round of its own."""
+    return f"r{number:04}-t001"
+
+
+def replay(store: Store, rated: Rated) -> Iterator[tuple[Drawn, Bots | None]]:
+    """Goes through the games that were drawn; yields each with the bots that are drawn again."""
+    results, changes = store.results(0), store.changes(0)
+    for row in store.drawn():
+        rated.advance(results[rated.results : row.results], changes[rated.changes : row.changes])
+        yield row, rated.draw(row.game, row.number, row.room)
+        rated.begin(row.game, row.bots)
+
+
+class Endless:
+    """The source of the games of an endless ladder.
+
+    `heed` is called with the changes of the roster. All that reads the store after the beginning
+    runs in the executor, which has one thread.
+    """
+
+    def __init__(
+        self,
+        config: Config,
+        store: Store,
+        executor: Executor,
+        heed: Callable[[list[Change]], None],
+        ends_at: float,
+    ) -> None:
+        self.config = config
+        self.store = store
+        self.executor = executor
+        self.heed = heed
+        self.ends_at = ends_at
+        self.rated = Rated(config.seed, config.snakes)
+        self.running = 0
+        self.is_over = False
+        done = store.names()
+        drawn = [row for row, _ in replay(store, self.rated)]
+        self.number = drawn[-1].number if drawn else 0
+        self.waiting = [  # games that an earlier run began
+            Fixture(row.game, row.number, row.bots) for row in drawn if row.game not in done
+        ]
+        heed(store.changes(0)[: self.rated.changes])
+
+    async def begin(self) -> Fixture | None:
+        """The next game, which begins now; None if there is none at the moment."""
+        loop = asyncio.get_running_loop()
+        changes = await loop.run_in_executor(self.executor, self.take_changes)
+        if changes:
+            self.heed(changes)
+        found = await loop.run_in_executor(self.executor, self.next)
+        self.running += found is not None
+        return found
+
+    def leave(self, _: Fixture) -> None:
+        self.running -= 1
+
+    def take_changes(self) -> list[Change]:
+        """Takes the changes of the roster and the results that came since the last time."""
+        changes = self.store.changes(self.rated.changes)
+        self.rated.advance(self.store.results(self.rated.results), changes)
+        return changes
+
+    def next(self) -> Fixture | None:
+        """The next game, which is stored before it begins."""
+        if time.monotonic() >= self.ends_at:
+            self.is_over = True
+            return None
+        if self.waiting:
+            return self.waiting.pop(0)
+        if self.number >= self.config.rounds:
+            self.is_over = True
+            return None
+        number, room = self.number + 1, self.config.games_a_bot
+        game = name_of(number)
+        bots = self.rated.draw(game, number, room)
+        if bots is None:
+            return None
+        row = Drawn(number, game, self.rated.results, self.rated.changes, room, bots)
+        self.store.add_drawn(row)
+        self.rated.begin(game, bots)
+        self.number = number
+        return Fixture(game, number, bots)

@@ -1,0 +1,77 @@
+"""Finished games in the forms of other programs: the official engine's frames, and a list."""
+
+from __future__ import annotations
+
+import json
+import subprocess
+from collections.abc import Iterator
+from contextlib import closing
+from pathlib import Path
+from typing import Any
+
+from arena_client import BLOCKS_OF_GAME, Board
+from arena_ladder.config import Config, config_again
+from arena_ladder.game_files import command_file
+from arena_ladder.outcome import Outcome
+from arena_ladder.payloads import Seat, bodies, game_text, living_of, text_of
+from arena_ladder.store import StoreFault, open_store
+
+
+def frames(folder: Path, game: str, program: Path) -> Iterator[str]:
+    """The lines that the official engine's `--output` file would have for a finished game.
+
+    They are its member `game`, a request for a move with each board, and the winner. `you` is the
+    first living snake.
+    """
+    config, outcome = finished_game(folder, game)
+    text = game_text(config, game)
+    seats = {it.bot: Seat(it.bot) for it in outcome.finishes}
+    yield text
+    for board in boards_of(command_file(folder, game), program):
+        you = (living_of(board) or list(seats))[:1]
+        yield bodies(text, board, seats, you)[0].decode()
+    winner = next((it.bot for it in outcome.finishes if it.result == "win"), "")
+    yield text_of({"winnerId": winner, "winnerName": winner, "isDraw": not winner})
+
+
+def finished_game(folder: Path, game: str) -> tuple[Config, Outcome]:
+    """The configuration of a ladder and the result of one of its games."""
+    with closing(open_store(folder)) as store:
+        identity = store.identity()
+        outcome = next((it for it in store.outcomes() if it.name == game), None)
+    if identity is None or outcome is None:
+        raise StoreFault(f"{folder} has no finished game {game!r}")
+    return config_again(identity, folder, 1), outcome
+
+
+def boards_of(path: Path, program: Path) -> Iterator[Board]:
+    """The boards of a command file of one game, turn by turn."""
+    for line in transcript_of(path, program).splitlines():
+        reply = json.loads(line)
+        if reply.get("do") in ("new", "move"):
+            yield reply["board"]
+
+
+def transcript_of(path: Path, program: Path) -> bytes:
+    """What `arena serve` writes for a command file of one game."""
+    words = [str(program), "serve", str(path), "--blocks", str(BLOCKS_OF_GAME), "--workers", "1"]
+    ran = subprocess.run(words, capture_output=True)
+    if ran.returncode != 0:
+        why = ran.stderr.decode(errors="replace").strip()
+        raise StoreFault(f"arena serve ended with status {ran.returncode}: {why}")
+    return ran.stdout
+
+
+def game_rows(folder: Path) -> list[dict[str, Any]]:
+    """A row for each finished game, in the order in which they ended."""
+    with closing(open_store(folder)) as store:
+        return [row_of(outcome) for outcome in store.outcomes_by_end()]
+
+
+def row_of(outcome: Outcome) -> dict[str, Any]:
+    return {
+        "game": outcome.name,
+        "turns": outcome.turns,
+        "bots": [it.bot for it in outcome.finishes],
+        "winner": next((it.bot for it in outcome.finishes if it.result == "win"), None),
+    }

@@ -1,0 +1,195 @@
+"""Plays one game: asks its bots, sends their moves to the host, and writes both to its files."""
+
+from __future__ import annotations
+
+from collections.abc import Mapping
+from dataclasses import dataclass
+from pathlib import Path
+from typing import Any
+
+from arena_client import QUOTA, Board, Host, Stay, line_of
+from arena_ladder.bots import Answer, BotClient
+from arena_ladder.config import Config
+from arena_ladder.draws import Draw, words_of
+from arena_ladder.game_files import GameFiles
+from arena_ladder.maps import Ground
+from arena_ladder.outcome import Outcome, Tally, finishes_of, tallies_of
+from arena_ladder.pairing import Fixture
+from arena_ladder.payloads import Look, Seat, bodies, game_text, living_of
+from arena_ladder.starts import first_food, start_cells
+from arena_ladder.watch import Watch
+
+FREE_AT = 1_000_000  # bytes of records; above that all but the last are freed
+
+
+class GameFault(Exception):
+    """A game whose file is not of this ladder, or a line of which the host refused."""
+
+
+@dataclass(frozen=True)
+class RunContext:
+    """What all games of a run share."""
+
+    config: Config
+    folder: Path
+    client: BotClient
+    urls: dict[str, str]
+    looks: dict[str, Look]
+    watch: Watch
+
+
+def opening(config: Config, fixture: Fixture) -> list[bytes]:
+    """The lines that admit and begin a game; its name, bots and seed determine them."""
+    rules = config.rules
+    draw = Draw(config.seed, fixture.key, "start")
+    heads = start_cells(draw, rules.width, rules.height, len(fixture.bots))
+    food = first_food(draw, rules.width, rules.height, heads)
+    snakes = [{"id": bot, **head._asdict()} for bot, head in zip(fixture.bots, heads)]
+    begin = line_of(
+        game=fixture.name,
+        do="new",
+        mode=rules.mode,
+        width=rules.width,
+        height=rules.height,
+        snakes=snakes,
+        food=[] if rules.mode == "constrictor" else [cell._asdict() for cell in food],
+        min_food=rules.min_food,
+        food_chance=rules.food_chance,
+        **opening_hazards(config),
+    )
+    return [line_of(game=fixture.name, do="admit", quota=QUOTA), begin]
+
+
+def opening_hazards(config: Config) -> dict[str, Any]:
+    """The members of a `new` about hazards; none on a board without a map."""
+    hazards = config.rules.hazards
+    if hazards is None:
+        return {}
+    return {"hazards": [cell._asdict() for cell in hazards.cells], "hazard_damage": hazards.damage}
+
+
+def map_members(config: Config, game: str, turn: int) -> dict[str, Any]:
+    """What the move after a turn has beside directions and words: hazards, if they change."""
+    rules = config.rules
+    if rules.hazards is None:
+        return {}
+    ground = Ground(rules.width, rules.height, rules.hazards, config.seed, game)
+    hazards = ground.hazards_after(turn)
+    return {} if hazards is None else {"hazards": [cell._asdict() for cell in hazards]}
+
+
+class Game:
+    """A game between some bots, from its first request to its outcome."""
+
+    def __init__(self, context: RunContext, fixture: Fixture) -> None:
+        self.context = context
+        self.fixture = fixture
+        self.text = game_text(context.config, fixture.name)
+        self.seats = {bot: Seat(bot, context.looks.get(bot, Look())) for bot in fixture.bots}
+        self.tallies: dict[str, Tally] = {}
+        self.answered_at: float | None = None
+        self.stay: Stay | None = None
+
+    async def play(self, host: Host) -> None:
+        """Plays the game to its end, from where its files end.
+
+        Each step depends only on the last board, the charge and the lines so far. So an interrupted
+        game continues as it would have without the interruption.
+        """
+        plan = self.context.config.rules.plan
+        with GameFiles(self.context.folder, self.fixture.name, plan) as files:
+            self.stay = stay = await self.enter(host, files)
+            if stay.board["turn"] == 0:
+                await self.notify_all("start", stay.board)
+            while not self.is_done(stay.board):
+                if stay.charge > FREE_AT:
+                    await stay.free()
+                await self.play_turn(stay, files)
+            if stay.is_open:
+                await self.notify_all("end", stay.board)
+                await stay.leave()
+
+    async def enter(self, host: Host, files: GameFiles) -> Stay:
+        """Admits and begins the game, and replays the moves of its file."""
+        first = opening(self.context.config, self.fixture)
+        old = files.old_lines
+        if old[:2] != first[: len(old)]:
+            raise GameFault(
+                f"{files.path} does not begin as in this ladder: delete it, and the game begins anew"
+            )
+        turns = files.old_answers()
+        self.say_lost(files.moves - len(turns))
+        self.tallies = tallies_of(self.fixture.bots, turns)
+        for answers in turns:
+            self.hear(answers)
+        for line in first[len(old) :]:
+            files.commands.write(line)
+        stay = await host.admit(self.fixture.name, QUOTA)
+        await stay.replay([*first[1:], *old[2:]])
+        stay.log = files.commands
+        self.context.watch.enter(self.fixture, {bot: it.look for bot, it in self.seats.items()})
+        self.context.watch.show(self.fixture, stay.board)
+        return stay
+
+    def say_lost(self, turns: int) -> None:
+        """Says that answers of turns were lost, if they were."""
+        if turns > 0:
+            self.context.watch.say(
+                f"{self.fixture.name} lost the answers of {turns} turns: their times and missed "
+                "moves are not counted"
+            )
+
+    def is_done(self, board: Board) -> bool:
+        return board["over"] or board["turn"] >= self.context.config.rules.turns
+
+    async def play_turn(self, stay: Stay, files: GameFiles) -> None:
+        """Asks the living snakes' bots for their moves, and plays them."""
+        config, board = self.context.config, stay.board
+        answers = await self.ask_all(board)
+        self.hear(answers)
+        for name, answer in answers.items():
+            self.tallies[name].add(answer)
+        files.add_answers(answers)
+        moves = {name: answer.move for name, answer in answers.items() if answer.move is not None}
+        words = words_of(config.seed, self.fixture.key, board["turn"], config.rules.words)
+        more = map_members(config, self.fixture.key, board["turn"])
+        self.context.watch.show(self.fixture, await stay.move(moves, words, **more))
+
+    async def ask_all(self, board: Board) -> dict[str, Answer]:
+        """Asks the bots of all living snakes at once; an answer may be that there is none."""
+        names = living_of(board)
+        urls = [self.context.urls[name] for name in names]
+        requests = list(zip(urls, bodies(self.text, board, self.seats, names)))
+        answers = dict(zip(names, await self.context.client.moves(requests)))
+        asked_at = min(answer.asked_at for answer in answers.values())
+        own = None if self.answered_at is None else asked_at - self.answered_at
+        self.answered_at = max(answer.answered_at for answer in answers.values())
+        self.context.watch.count(answers, own)
+        self.context.watch.answered(self.fixture.name, board["turn"], answers)
+        return answers
+
+    def hear(self, answers: Mapping[str, Answer]) -> None:
+        """Keeps the latency and the shout of each bot, which the next requests contain."""
+        for name, answer in answers.items():
+            self.seats[name].latency = answer.latency
+            self.seats[name].shout = answer.shout
+
+    async def notify_all(self, what: str, board: Board) -> None:
+        """Notifies all bots of the start or the end of the game; their answers are ignored."""
+        names = self.fixture.bots
+        urls = [f"{self.context.urls[name]}/{what}" for name in names]
+        requests = list(zip(urls, bodies(self.text, board, self.seats, names)))
+        await self.context.client.notify(requests)
+
+    def outcome(self) -> Outcome:
+        """The result of the game, after it was played."""
+        stay = self.stay
+        assert stay is not None
+        return Outcome(
+            name=self.fixture.name,
+            round=self.fixture.round,
+            turns=stay.board["turn"],
+            lines=stay.replies,
+            digest=stay.digest,
+            finishes=finishes_of(stay.board),
+        )

@@ -1,0 +1,84 @@
+"""Plays one game of some bots in a folder of its own."""
+
+from __future__ import annotations
+
+import re
+from collections.abc import Sequence
+from pathlib import Path
+from typing import Any
+from urllib.parse import urlsplit
+
+from arena_client import Board
+from arena_ladder.config import BOT_NAME, Config, ConfigFault, config_of
+from arena_ladder.outcome import Outcome
+from arena_ladder.pairing import Fixture
+from arena_ladder.watch import Watch
+
+MATCHES = Path("out/matches")
+MOST_MATCHES = 100_000
+
+
+def bots_of_words(words: Sequence[str]) -> list[dict[str, str]]:
+    """Parses bots, each `NAME=URL` or a URL, which is then named by the end of its path."""
+    bots = [bot_of_word(word) for word in words]
+    names = [bot["name"] for bot in bots]
+    for at, bot in enumerate(bots):
+        if names.index(bot["name"]) < at:
+            raise ConfigFault(f"two bots are named {bot['name']}: write NAME=URL")
+    return bots
+
+
+def bot_of_word(word: str) -> dict[str, str]:
+    name, sign, url = word.partition("=")
+    if sign and BOT_NAME.fullmatch(name):
+        return {"name": name, "url": url}
+    parts = urlsplit(word)
+    last = parts.path.rstrip("/").rpartition("/")[2] or parts.hostname or ""
+    found = re.sub(r"[^A-Za-z0-9_.-]", "", last)[:32]
+    if not BOT_NAME.fullmatch(found):
+        raise ConfigFault(f"{word!r} is neither NAME=URL nor the address of a bot")
+    return {"name": found, "url": word}
+
+
+def new_folder() -> Path:
+    """Makes a folder for a match, with a number that none has yet."""
+    MATCHES.mkdir(parents=True, exist_ok=True)
+    for number in range(1, MOST_MATCHES):
+        folder = MATCHES / f"{number:04}"
+        try:
+            folder.mkdir()
+        except FileExistsError:
+            continue
+        return folder
+    raise ConfigFault(f"{MATCHES} is full")
+
+
+def match_config(folder: Path, words: Sequence[str], members: dict[str, Any]) -> Config:
+    """The ladder of one game. Members that are None have their usual values."""
+    bots = bots_of_words(words)
+    given = {key: value for key, value in members.items() if value is not None}
+    table = {"folder": str(folder), "bot": bots, "snakes": len(bots), **given}
+    return config_of(table, "match")
+
+
+class Boards(Watch):
+    """Keeps the boards of a game and its outcome."""
+
+    def __init__(self) -> None:
+        self.boards: list[Board] = []
+        self.outcome: Outcome | None = None
+
+    def show(self, fixture: Fixture, board: Board) -> None:
+        self.boards.append(board)
+
+    def end(self, outcome: Outcome) -> None:
+        self.outcome = outcome
+
+
+def result_lines(outcome: Outcome) -> list[str]:
+    """The result of a game, a line for each seat."""
+    lines = [f"{outcome.turns} turns"]
+    for it in outcome.finishes:
+        why = f" ({it.cause}{f' by {it.killer}' if it.killer else ''})" if it.cause else ""
+        lines.append(f"{it.bot}: {it.result or 'done'}, length {it.length}, {it.turns} turns{why}")
+    return lines

@@ -1,0 +1,213 @@
+"""Plays the games of a ladder that are not done yet, several at once."""
+
+from __future__ import annotations
+
+import asyncio
+import math
+from collections.abc import Sequence
+from concurrent.futures import ThreadPoolExecutor
+from contextlib import suppress
+from dataclasses import dataclass
+from pathlib import Path
+
+from arena_client import BLOCKS_OF_GAME, HostDied, Refused
+from arena_ladder.bots import BotClient, NoAnswer
+from arena_ladder.config import ENDLESS, Bot, Config
+from arena_ladder.endless import Endless
+from arena_ladder.game import Game, GameFault, RunContext
+from arena_ladder.game_files import command_file, forget_answers, running_games
+from arena_ladder.keeper import HostKeeper
+from arena_ladder.pairing import Fixture, Part, fixtures_of
+from arena_ladder.payloads import Look
+from arena_ladder.rated import Change
+from arena_ladder.roster import add_config_bots, urls_of
+from arena_ladder.schedule import CALM_SECONDS, Pace, Schedule
+from arena_ladder.store import Store
+from arena_ladder.urls import shown
+from arena_ladder.watch import Watch, Watches
+
+LOOK_AGAIN_SECONDS = 60.0
+
+Source = Schedule | Endless
+
+
+@dataclass(frozen=True)
+class Job:
+    """What to play, the folder of the results, and the arena program."""
+
+    config: Config
+    folder: Path
+    part: Part
+    program: Path
+    ends_at: float = math.inf  # of the monotonic clock: no game begins later
+
+
+async def play(job: Job, store: Store, watches: Sequence[Watch]) -> None:
+    """Plays the games of a job that are not in the store."""
+    store.begin(job.config.identity, job.config.bots)
+    config = job.config
+    fixtures = [] if config.is_endless else fixtures_of(config, job.part)
+    done = store.names()
+    if config.is_endless:
+        add_config_bots(store, config.bots)
+    else:
+        done &= {fixture.name for fixture in fixtures}
+    for name in running_games(job.folder) & done:
+        forget_answers(job.folder, name)
+    async with (
+        BotClient(config.timeout / 1000) as client,
+        HostKeeper(job.program, BLOCKS_OF_GAME * config.at_once, config.rules.plan) as keeper,
+    ):
+        watch = Watches([*watches, keeper])
+        watch.begin(len(done), planned(config, fixtures))
+        context = await run_context(job, client, watch)
+        asking = asyncio.create_task(ask_looks_again(context))
+        try:
+            run = Run(context, store, keeper, job.ends_at)
+            await run.play([fixture for fixture in fixtures if fixture.name not in done])
+        finally:
+            asking.cancel()
+
+
+def planned(config: Config, fixtures: Sequence[Fixture]) -> int:
+    """The number of games of a run; 0 if there is no end."""
+    if not config.is_endless:
+        return len(fixtures)
+    return 0 if config.rounds == ENDLESS else config.rounds
+
+
+async def run_context(job: Job, client: BotClient, watch: Watch) -> RunContext:
+    """Makes the context of a run, with the looks of the bots that say how they look."""
+    looks: dict[str, Look] = {}
+    await ask_looks(job.config.bots, client, looks, watch)
+    return RunContext(
+        config=job.config,
+        folder=job.folder,
+        client=client,
+        urls={bot.name: bot.url for bot in job.config.bots},
+        looks=looks,
+        watch=watch,
+    )
+
+
+async def ask_looks(
+    bots: Sequence[Bot], client: BotClient, looks: dict[str, Look], watch: Watch
+) -> None:
+    """Asks bots for their looks, all at once; one that sends none is grey."""
+
+    async def ask(bot: Bot) -> None:
+        try:
+            looks[bot.name] = await client.look(bot.url)
+        except NoAnswer as fault:
+            watch.say(f"{bot.name} did not say how it looks ({fault.cause}): {shown(bot.url)}")
+
+    await asyncio.gather(*map(ask, bots))
+
+
+async def ask_looks_again(context: RunContext) -> None:
+    """Asks the bots that were down for their looks, again and again, for their next games."""
+    while True:
+        await asyncio.sleep(LOOK_AGAIN_SECONDS)
+        missing = [Bot(*it) for it in context.urls.items() if it[0] not in context.looks]
+        await ask_looks(missing, context.client, context.looks, Watch())
+
+
+class Run:
+    """The games that one call of a ladder plays."""
+
+    def __init__(
+        self, context: RunContext, store: Store, keeper: HostKeeper, ends_at: float = math.inf
+    ) -> None:
+        self.ends_at = ends_at
+        self.asking: set[asyncio.Task[None]] = set()
+        self.changes: list[Change] = []  # of the roster
+        self.said: set[str] = set()
+        self.context = context
+        self.store = store
+        self.keeper = keeper
+        self.storing = ThreadPoolExecutor(1, "store")
+        self.ended = asyncio.Event()  # a game has ended
+
+    async def play(self, fixtures: Sequence[Fixture]) -> None:
+        """Plays games, as many at once as the configuration says. The first fault stops all."""
+        config = self.context.config
+        source = self.source(fixtures)
+        pace = Pace(config.at_once, self.context.client.pulse)
+        try:
+            async with asyncio.TaskGroup() as group:
+                await self.begin_games(source, pace, group)
+        except BaseExceptionGroup as faults:
+            raise faults.exceptions[0] from None
+        finally:
+            for task in self.asking:
+                task.cancel()
+            self.storing.shutdown(cancel_futures=True)
+
+    def source(self, fixtures: Sequence[Fixture]) -> Source:
+        """Where the games come from: a list, or the results so far."""
+        config = self.context.config
+        if config.is_endless:
+            return Endless(config, self.store, self.storing, self.heed, self.ends_at)
+        return Schedule(fixtures, config.games_a_bot, self.ends_at)
+
+    def heed(self, changes: list[Change]) -> None:
+        """Takes changes of the roster: new addresses, and bots whose looks are not known."""
+        self.changes += changes
+        self.context.urls.update(urls_of(self.changes, self.context.config.bots))
+        fresh = {it.bot for it in changes if it.url} - self.context.looks.keys()
+        bots = [Bot(name, self.context.urls[name]) for name in sorted(fresh)]
+        looks = ask_looks(bots, self.context.client, self.context.looks, self.context.watch)
+        task = asyncio.get_running_loop().create_task(looks)
+        self.asking.add(task)
+        task.add_done_callback(self.asking.discard)
+
+    async def begin_games(self, source: Source, pace: Pace, group: asyncio.TaskGroup) -> None:
+        """Begins each game as soon as there is room for it, and returns when all have ended."""
+        while True:
+            self.ended.clear()
+            while pace.may_begin(source.running) and (fixture := await source.begin()) is not None:
+                group.create_task(self.play_and_store(fixture, source))
+            if source.running == 0:
+                if source.is_over:
+                    return
+                self.say_once("waits for bots: too few are in and do not rest")
+            if pace.allowed < pace.most:
+                self.say_once("this machine is too busy: it plays fewer games at once")
+            with suppress(TimeoutError):
+                async with asyncio.timeout(CALM_SECONDS):
+                    await self.ended.wait()
+
+    def say_once(self, text: str) -> None:
+        if text not in self.said:
+            self.said.add(text)
+            self.context.watch.say(text)
+
+    async def play_and_store(self, fixture: Fixture, source: Source) -> None:
+        """Plays a game, makes room for the next one, and stores the result."""
+        game = await self.play_one(fixture)
+        source.leave(fixture)
+        self.ended.set()
+        outcome = game.outcome()
+        added = (self.store.add, [(outcome, game.tallies)])
+        await asyncio.get_running_loop().run_in_executor(self.storing, *added)
+        self.ended.set()  # an endless ladder draws from the results that are stored
+        forget_answers(self.context.folder, fixture.name)
+        self.context.watch.end(outcome)
+
+    async def play_one(self, fixture: Fixture) -> Game:
+        """Plays a game; if its host dies, continues it in another host."""
+        while True:
+            host = await self.keeper.host()
+            game = Game(self.context, fixture)
+            try:
+                await game.play(host)
+                return game
+            except HostDied as death:
+                if await self.keeper.bury(host, death):
+                    self.context.watch.say(f"{death}; its games go on in another")
+            except Refused as fault:
+                path = command_file(self.context.folder, fixture.name)
+                raise GameFault(
+                    f"the host refused a line of {path}: {fault}; delete the file, and the game "
+                    "begins anew"
+                ) from None

@@ -1,0 +1,123 @@
+"""The standings of a ladder, as a table, as CSV and as JSON."""
+
+from __future__ import annotations
+
+import csv
+import io
+import json
+import math
+from collections import Counter
+from collections.abc import Iterable, Mapping
+from dataclasses import dataclass, field
+from typing import Any
+
+from rich.table import Table
+from rich.text import Text
+
+from arena_ladder.bots import CAUSES
+from arena_ladder.outcome import Outcome
+from arena_ladder.quantiles import quantile
+from arena_ladder.rating import Rating, ratings
+from arena_ladder.store import Store
+from arena_ladder.texts import cell_text, fit_text
+
+
+@dataclass
+class Standing:
+    """The totals of one bot over all its games."""
+
+    bot: str
+    games: int = 0
+    results: Counter[str] = field(default_factory=Counter)
+    turns: int = 0  # in which its snakes lived
+    rating: Rating = Rating(0.0, 0.0)
+    latencies: Mapping[int, int] = field(default_factory=dict)
+    missed: Mapping[str, int] = field(default_factory=dict)
+
+    def row(self) -> dict[str, Any]:
+        """The columns of the standings by their names, with each cause of missed moves."""
+        return {
+            "bot": self.bot,
+            "games": self.games,
+            "wins": self.results["win"],
+            "draws": self.results["draw"],
+            "losses": self.results["loss"],
+            "turns": self.turns,
+            "elo": round(self.rating.elo),
+            "error": round(self.rating.error),
+            "median_ms": quantile(self.latencies, 0.5),
+            "p99_ms": quantile(self.latencies, 0.99),
+            "moves": sum(self.latencies.values()),
+            "missed": sum(self.missed.values()),
+            **{cause: self.missed.get(cause, 0) for cause in CAUSES},
+        }
+
+
+def lived_in(outcome: Outcome) -> list[tuple[str, float]]:
+    """The turns that each bot of a game lived; infinite if it lives at the end."""
+    return [(it.bot, math.inf if it.out is None else float(it.out)) for it in outcome.finishes]
+
+
+def standings_of(store: Store) -> list[Standing]:
+    """The standings of the games that are done, from the highest rating to the lowest."""
+    outcomes = list(store.outcomes())
+    missed, latencies = store.missed(), store.latencies()
+    table = {bot.name: Standing(bot.name) for bot in store.bots()}
+    for outcome in outcomes:
+        for it in outcome.finishes:
+            standing = table[it.bot]
+            standing.games += 1
+            standing.results[it.result] += 1
+            standing.turns += it.turns
+    games = (lived_in(it) for it in outcomes if len(it.finishes) > 1)
+    rated = ratings(list(table), games, store.replaced())
+    for name, standing in table.items():
+        standing.rating = rated[name]
+        standing.latencies = latencies.get(name, {})
+        standing.missed = missed.get(name, {})
+    return sorted(table.values(), key=place_of)
+
+
+def place_of(standing: Standing) -> tuple[float, int, str]:
+    """The sort key: rating, then turns lived, which decide in solo, then name."""
+    return (-round(standing.rating.elo, 6), -standing.turns, standing.bot)
+
+
+def as_table(standings: Iterable[Standing]) -> Table:
+    """A table for a terminal."""
+    table = Table(box=None, pad_edge=False)
+    for title in ("bot", "games", "won", "drawn", "lost", "turns", "Elo", "±", "median", "99 %"):
+        table.add_column(title, justify="left" if title == "bot" else "right", no_wrap=True)
+    table.add_column("missed", justify="right", no_wrap=True)
+    table.add_column("by cause")
+    for standing in standings:
+        table.add_row(*map(Text, cells_of(standing)))
+    return table
+
+
+def cells_of(standing: Standing) -> list[str]:
+    row = standing.row()
+    numbers = ("games", "wins", "draws", "losses", "turns", "elo", "error")
+    times = ["-" if row[name] is None else f"{row[name]} ms" for name in ("median_ms", "p99_ms")]
+    causes = ", ".join(f"{cause} {row[cause]}" for cause in CAUSES if row[cause]) or "-"
+    return [
+        fit_text(row["bot"]),
+        *(str(row[name]) for name in numbers),
+        *times,
+        str(row["missed"]),
+        causes,
+    ]
+
+
+def as_csv(standings: Iterable[Standing]) -> str:
+    """Lines of CSV after a line with the names of the columns."""
+    rows = [standing.row() for standing in standings]
+    text = io.StringIO()
+    writer = csv.DictWriter(text, list(rows[0]) if rows else [], lineterminator="\n")
+    writer.writeheader()
+    writer.writerows({**row, "bot": cell_text(row["bot"])} for row in rows)
+    return text.getvalue()
+
+
+def as_json(standings: Iterable[Standing]) -> str:
+    return json.dumps([standing.row() for standing in standings], indent=2) + "\n"

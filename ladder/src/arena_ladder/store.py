@@ -1,0 +1,244 @@
+"""The results of a ladder in an SQLite database, with one transaction for each game."""
+
+from __future__ import annotations
+
+import json
+import sqlite3
+from collections import Counter
+from collections.abc import Iterable, Iterator, Mapping
+from pathlib import Path
+from typing import Any
+
+from arena_ladder.config import Bot
+from arena_ladder.outcome import Finish, Outcome, Tally
+from arena_ladder.pairing import GAME_NAME
+from arena_ladder.rated import Change, Drawn, Result
+from arena_ladder.urls import shown
+
+BUSY_SECONDS = 60.0
+SCHEMA = """
+CREATE TABLE IF NOT EXISTS ladder (identity TEXT NOT NULL);
+CREATE TABLE IF NOT EXISTS closed (at TEXT NOT NULL);
+CREATE TABLE IF NOT EXISTS bot (name TEXT PRIMARY KEY, url TEXT NOT NULL);
+CREATE TABLE IF NOT EXISTS game (
+    name TEXT PRIMARY KEY, round INTEGER NOT NULL, turns INTEGER NOT NULL,
+    lines INTEGER NOT NULL, digest TEXT NOT NULL);
+CREATE TABLE IF NOT EXISTS seat (
+    game TEXT NOT NULL REFERENCES game, seat INTEGER NOT NULL, bot TEXT NOT NULL REFERENCES bot,
+    result TEXT NOT NULL, out INTEGER, cause TEXT, killer TEXT, length INTEGER NOT NULL,
+    turns INTEGER NOT NULL, PRIMARY KEY (game, seat)) WITHOUT ROWID;
+CREATE TABLE IF NOT EXISTS roster (
+    number INTEGER PRIMARY KEY, what TEXT NOT NULL, bot TEXT NOT NULL, results INTEGER NOT NULL,
+    url TEXT NOT NULL, old TEXT NOT NULL, at TEXT NOT NULL);
+CREATE TABLE IF NOT EXISTS drawn (
+    number INTEGER PRIMARY KEY, game TEXT NOT NULL, results INTEGER NOT NULL,
+    changes INTEGER NOT NULL, room INTEGER NOT NULL, bots TEXT NOT NULL);
+CREATE TABLE IF NOT EXISTS missed (
+    game TEXT NOT NULL, seat INTEGER NOT NULL, cause TEXT NOT NULL, moves INTEGER NOT NULL,
+    PRIMARY KEY (game, seat, cause)) WITHOUT ROWID;
+CREATE TABLE IF NOT EXISTS latency (
+    game TEXT NOT NULL, seat INTEGER NOT NULL, ms INTEGER NOT NULL, moves INTEGER NOT NULL,
+    PRIMARY KEY (game, seat, ms)) WITHOUT ROWID;
+"""
+
+
+class StoreFault(Exception):
+    """A folder whose results are missing, locked, or not of this ladder."""
+
+
+class Store:
+    """The database of a ladder's folder."""
+
+    def __init__(self, folder: Path) -> None:
+        self.path = folder / "results.sqlite"
+        # Another thread adds the games, one after the other.
+        self.base = sqlite3.connect(self.path, timeout=BUSY_SECONDS, check_same_thread=False)
+        try:
+            self.base.executescript(SCHEMA)
+        except sqlite3.OperationalError as fault:
+            if "readonly" not in str(fault):
+                raise
+            raise StoreFault(
+                f"{self.path} has a write that a killed ladder left unfinished, and you may not "
+                "write there: play or read it as its owner once, or read a copy of the folder"
+            ) from None
+
+    def close(self) -> None:
+        self.base.close()
+
+    def identity(self) -> dict[str, Any] | None:
+        """What decides the games of this folder (`Config.identity`); None if it is new."""
+        row = self.base.execute("SELECT identity FROM ladder").fetchone()
+        return json.loads(row[0]) if row else None
+
+    def begin(self, identity: Mapping[str, Any], bots: Iterable[Bot]) -> None:
+        """Stores the ladder's identity and bots; refuses a closed folder, and another ladder's."""
+        if self.is_closed():
+            raise StoreFault(f"{self.path} is of a closed ladder, to which no game is added")
+        known = self.identity()
+        if known is not None and known != dict(identity):
+            other = sorted(key for key in identity if known.get(key) != identity[key])
+            raise StoreFault(f"{self.path} is of another ladder: {', '.join(other)} differ")
+        with self.base:
+            if known is None:
+                self.base.execute("INSERT INTO ladder VALUES (?)", (json.dumps(dict(identity)),))
+            rows = [(bot.name, shown(bot.url)) for bot in bots]
+            self.base.executemany("INSERT OR REPLACE INTO bot VALUES (?, ?)", rows)
+
+    def is_closed(self) -> bool:
+        return self.base.execute("SELECT 1 FROM closed").fetchone() is not None
+
+    def close_ladder(self) -> None:
+        """Closes the ladder: no game is added from now on, and its seed is published."""
+        with self.base:
+            self.base.execute("INSERT INTO closed VALUES (datetime('now'))")
+
+    def add(self, played: Iterable[tuple[Outcome, Mapping[str, Tally]]]) -> None:
+        """Adds games that are done, with their seats and tallies, in one transaction."""
+        try:
+            self.add_all(played)
+        except sqlite3.IntegrityError as fault:
+            raise StoreFault(
+                f"{self.path} was changed ({fault}): restore a copy of it, or delete it, and the "
+                "results are read again from the games' files, without times and missed moves"
+            ) from None
+
+    def add_all(self, played: Iterable[tuple[Outcome, Mapping[str, Tally]]]) -> None:
+        with self.base:
+            for outcome, tallies in played:
+                name = outcome.name
+                row = (name, outcome.round, outcome.turns, outcome.lines, outcome.digest)
+                self.base.execute("INSERT INTO game VALUES (?, ?, ?, ?, ?)", row)
+                for seat, finish in enumerate(outcome.finishes):
+                    self.add_seat(name, seat, finish, tallies[finish.bot])
+
+    def add_seat(self, game: str, seat: int, it: Finish, tally: Tally) -> None:
+        row = (game, seat, it.bot, it.result, it.out, it.cause, it.killer, it.length, it.turns)
+        missed = [(game, seat, *item) for item in tally.missed.items()]
+        latencies = [(game, seat, *item) for item in tally.latencies.items()]
+        self.base.execute("INSERT INTO seat VALUES (?, ?, ?, ?, ?, ?, ?, ?, ?)", row)
+        self.base.executemany("INSERT INTO missed VALUES (?, ?, ?, ?)", missed)
+        self.base.executemany("INSERT INTO latency VALUES (?, ?, ?, ?)", latencies)
+
+    def names(self) -> set[str]:
+        """The names of the games that are done; raises `StoreFault` for an invalid name."""
+        names = {name for (name,) in self.base.execute("SELECT name FROM game")}
+        wrong = sorted(name for name in names if not GAME_NAME.fullmatch(name))
+        if wrong:
+            raise StoreFault(f"{self.path} has a game named {wrong[0]!r}")
+        return names
+
+    def bots(self) -> list[Bot]:
+        rows = self.base.execute("SELECT name, url FROM bot ORDER BY name")
+        return [Bot(*row) for row in rows]
+
+    def outcomes(self) -> Iterator[Outcome]:
+        """The games that are done, in the order of their names."""
+        return self.outcomes_by("name")
+
+    def outcomes_by_end(self) -> Iterator[Outcome]:
+        """The games that are done, in the order in which their results were stored."""
+        return self.outcomes_by("rowid")
+
+    def outcomes_by(self, order: str) -> Iterator[Outcome]:
+        finishes: dict[str, list[Finish]] = {}
+        seats = self.base.execute(
+            "SELECT game, bot, result, out, cause, killer, length, turns FROM seat"
+            " ORDER BY game, seat"
+        )
+        for game, *values in seats:
+            finishes.setdefault(game, []).append(Finish(*values))
+        games = self.base.execute(
+            f"SELECT name, round, turns, lines, digest FROM game ORDER BY {order}"
+        )
+        for name, number, turns, lines, digest in games:
+            yield Outcome(name, number, turns, lines, digest, tuple(finishes.get(name, ())))
+
+    def results(self, after: int) -> list[Result]:
+        """The results behind the first `after`, in the order in which they were stored."""
+        seats: dict[str, list[tuple[str, int | None]]] = {}
+        rows = self.base.execute(
+            "SELECT game.name, seat.bot, seat.out FROM game JOIN seat ON seat.game = game.name"
+            " WHERE game.rowid > ? ORDER BY game.rowid, seat.seat",
+            (after,),
+        )
+        for name, bot, out in rows:
+            seats.setdefault(name, []).append((bot, out))
+        return [Result(name, tuple(it)) for name, it in seats.items()]
+
+    def changes(self, after: int) -> list[Change]:
+        """The changes of the roster behind number `after`."""
+        rows = self.base.execute(
+            "SELECT number, what, bot, results, url, old FROM roster WHERE number > ?"
+            " ORDER BY number",
+            (after,),
+        )
+        return [Change(*row) for row in rows]
+
+    def add_change(self, what: str, bot: str, url: str = "", old: str = "") -> None:
+        """Adds a change of the roster, after the results that are stored now."""
+        with self.base:
+            self.base.execute(
+                "INSERT INTO roster (what, bot, results, url, old, at)"
+                " SELECT ?, ?, COUNT(*), ?, ?, datetime('now') FROM game",
+                (what, bot, url, old),
+            )
+            if url:
+                self.base.execute("INSERT OR REPLACE INTO bot VALUES (?, ?)", (bot, url))
+
+    def replaced(self) -> dict[str, str]:
+        """The bot that each new version replaced."""
+        rows = self.base.execute("SELECT bot, old FROM roster WHERE what = 'replace'")
+        return dict(rows.fetchall())
+
+    def drawn(self) -> list[Drawn]:
+        """The games of an endless ladder that were drawn, in their order."""
+        rows = self.base.execute(
+            "SELECT number, game, results, changes, room, bots FROM drawn ORDER BY number"
+        )
+        return [
+            Drawn(number, game, results, changes, room, tuple(json.loads(bots)))
+            for number, game, results, changes, room, bots in rows
+        ]
+
+    def add_drawn(self, it: Drawn) -> None:
+        row = (it.number, it.game, it.results, it.changes, it.room, json.dumps(it.bots))
+        with self.base:
+            self.base.execute("INSERT INTO drawn VALUES (?, ?, ?, ?, ?, ?)", row)
+
+    def tallies(self, game: str) -> dict[str, Tally]:
+        """The tally of each bot of a game that is done."""
+        rows = self.base.execute("SELECT seat, bot FROM seat WHERE game = ?", (game,)).fetchall()
+        tallies = {seat: Tally() for seat, _ in rows}
+        missed = "SELECT seat, cause, moves FROM missed WHERE game = ?"
+        for seat, cause, moves in self.base.execute(missed, (game,)):
+            tallies[seat].missed[cause] = moves
+        latencies = "SELECT seat, ms, moves FROM latency WHERE game = ?"
+        for seat, ms, moves in self.base.execute(latencies, (game,)):
+            tallies[seat].latencies[ms] = moves
+        return {bot: tallies[seat] for seat, bot in rows}
+
+    def counts(self, table: str, key: str) -> dict[str, Counter[Any]]:
+        """The number of moves of each bot by value of a column: of `missed` by cause, of `latency`
+        by milliseconds."""
+        found: dict[str, Counter[Any]] = {}
+        rows = self.base.execute(
+            f"SELECT bot, {table}.{key}, SUM(moves) FROM {table} JOIN seat USING (game, seat)"
+            f" GROUP BY bot, {table}.{key}"
+        )
+        for bot, value, moves in rows:
+            found.setdefault(bot, Counter())[value] = moves
+        return found
+
+    def missed(self) -> dict[str, Counter[str]]:
+        return self.counts("missed", "cause")
+
+    def latencies(self) -> dict[str, Counter[int]]:
+        return self.counts("latency", "ms")
+
+
+def open_store(folder: Path) -> Store:
+    """Opens the results of a folder, which have to exist."""
+    if not (folder / "results.sqlite").is_file():
+        raise StoreFault(f"{folder} has no results of a ladder")
+    return Store(folder)
