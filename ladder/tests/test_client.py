@@ -14,10 +14,27 @@ import pytest
 
 import arena_client
 from arena_client import Board, Cause, Host, HostFault, Mode, Snake, host
-from arena_client.lines import Accepted, Denied, Final, Stray, reply_of
+from arena_client.lines import (
+    Accepted,
+    Admit,
+    Bare,
+    Denied,
+    Final,
+    Move,
+    New,
+    Stray,
+    Turn,
+    reply_of,
+)
 
 PACKAGES = Path(arena_client.__file__).resolve().parent.parent
 EXAMPLES = PACKAGES.parent.parent / "examples"
+COMMANDS = {
+    **{"admit": Admit, "new": New, "move": Move, "turn": Turn},
+    **dict.fromkeys(("show", "free", "end", "leave"), Bare),
+}
+FILES = [path.name for path in EXAMPLES.glob("*.jsonl")]
+WITH_STRAYS = {"food_from_words.jsonl", "six_games.jsonl", "stray_lines.jsonl"}
 TRANSCRIPTS = sorted(path.name for path in EXAMPLES.glob("*.transcript"))
 
 
@@ -46,6 +63,13 @@ def test_types_have_the_members_of_each_line(name: str) -> None:
             assert is_of(board, Board) and all(is_of(it, Snake) for it in board["snakes"])
             assert type(board["mode"]) is Mode
             assert {type(it["cause"]) for it in board["snakes"]} <= {Cause, type(None)}
+
+
+@pytest.mark.parametrize("name", sorted(set(FILES) - WITH_STRAYS))
+def test_types_have_the_members_of_each_command(name: str) -> None:
+    for line in (EXAMPLES / name).read_bytes().splitlines()[1:]:
+        command = json.loads(line)
+        assert is_of(command, COMMANDS[command["do"]])
 
 
 def is_of(members: Any, kind: Any) -> bool:

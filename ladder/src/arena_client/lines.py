@@ -95,7 +95,7 @@ class Move(TypedDict):
     game: str
     do: Literal["move"]
     moves: dict[str, str]
-    words: list[int]
+    words: NotRequired[list[int]]
     hazards: NotRequired[list[Cell]]
     food: NotRequired[list[Cell]]
 
