@@ -10,7 +10,8 @@ use std::test::Fail;
 
 const CAP: usize = 524_288;
 
-const SHOWN: &str = "{\"board\":{\"food\":[],\"food_chance\":0,\"height\":5,\"min_food\":0,\"mode\":\"solo\",\"over\":false,\"snakes\":[{\"body\":[{\"x\":1,\"y\":1},{\"x\":1,\"y\":1},{\"x\":1,\"y\":1}],\"by\":null,\"cause\":null,\"health\":100,\"id\":\"s\",\"out\":null}],\"turn\":0,\"width\":5},\"charge\":32,\"do\":\"show\",\"game\":\"b\",\"seq\":2}\n";
+const SHOWN: &str =
+    "{\"board\":{\"food\":[],\"food_chance\":0,\"height\":5,\"min_food\":0,\"mode\":\"solo\",\"over\":false,\"snakes\":[{\"body\":[{\"x\":1,\"y\":1},{\"x\":1,\"y\":1},{\"x\":1,\"y\":1}],\"by\":null,\"cause\":null,\"health\":100,\"id\":\"s\",\"out\":null}],\"turn\":0,\"width\":5},\"charge\":32,\"do\":\"show\",\"game\":\"b\",\"seq\":2}\n";
 
 /// Answers the command of the line.
 fn answer(
@@ -41,13 +42,31 @@ fn a_stay_answers_and_ends(rt: HostRuntime) -> Result<(), Fail> {
     let mut stay = LiveStay::<CAP>::open(alloc, row, blocks)?;
     let mut text = TextBuffer::new(alloc);
     stay.push_final(alloc, &mut text)?;
-    told("no board", &mut text, "{\"board\":null,\"charge\":0,\"final\":true,\"game\":\"b\"}\n")?;
+    told(
+        "no board",
+        &mut text,
+        "{\"board\":null,\"charge\":0,\"final\":true,\"game\":\"b\"}\n",
+    )?;
     answer(alloc, &mut stay, STAYS[3].0, &mut text)?;
     told("new", &mut text, STAYS[3].1)?;
-    answer(alloc, &mut stay, "{\"game\":\"b\",\"do\":\"show\"}", &mut text)?;
+    answer(
+        alloc,
+        &mut stay,
+        "{\"game\":\"b\",\"do\":\"show\"}",
+        &mut text,
+    )?;
     told("show", &mut text, SHOWN)?;
-    answer(alloc, &mut stay, "{\"game\":\"b\",\"do\":\"jump\"}", &mut text)?;
-    told("jump", &mut text, "{\"game\":\"b\",\"no\":\"G1\",\"seq\":3,\"why\":\"command\"}\n")?;
+    answer(
+        alloc,
+        &mut stay,
+        "{\"game\":\"b\",\"do\":\"jump\"}",
+        &mut text,
+    )?;
+    told(
+        "jump",
+        &mut text,
+        "{\"game\":\"b\",\"no\":\"G1\",\"seq\":3,\"why\":\"command\"}\n",
+    )?;
     stay.push_final(alloc, &mut text)?;
     told("final", &mut text, STAYS[4].1)
 }
