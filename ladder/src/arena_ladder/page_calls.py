@@ -30,9 +30,9 @@ from arena_ladder.pairing import GAME_NAME
 from arena_ladder.standings import standings_of
 from arena_ladder.store import Store, StoreFault, open_store
 from arena_ladder.transcripts import NoTranscript, Transcripts
+from arena_ladder.viewer_page import VIEWER
 
 HERE = Path(__file__).resolve().parent
-VIEWER = HERE / "viewer"  # a link in the repository
 KINDS = {"html": "text/html", "js": "text/javascript", "css": "text/css"}
 FRESH_SECONDS = 2.0
 MOST_ANSWERS = 64  # that are kept

@@ -5,7 +5,9 @@ from __future__ import annotations
 import re
 from pathlib import Path
 
-VIEWER = (Path(__file__).resolve().parent / "viewer").resolve()  # a link in the repository
+HERE = Path(__file__).resolve().parent
+INSTALLED = HERE / "viewer"
+VIEWER = INSTALLED if INSTALLED.is_dir() else HERE.parents[2] / "viewer"  # of the repository
 
 
 def viewer_page(title: str, transcript: bytes) -> str:
