@@ -1,6 +1,6 @@
 //! A live stay by itself.
 use crate::files::STAYS;
-use bs_board::Version;
+use bs_board::{Command, Version};
 use bs_heap::blocks_for;
 use bs_json::{Line, TextBuffer, read_line};
 use bs_live::{LiveStay, make_room};
@@ -22,6 +22,7 @@ fn answer(
 ) -> Result<(), Fail> {
     match read_line(alloc, line.as_bytes(), Version::Three)? {
         Line::Command { game: _, command } => Ok(stay.answer(alloc, &command, text)?),
+        Line::Bad { game: _ } => Ok(stay.answer(alloc, &Command::Bad, text)?),
         _ => Err(Fail::from("a command")),
     }
 }
