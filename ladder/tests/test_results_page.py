@@ -91,6 +91,12 @@ def page_of(folder: Path, program: Path) -> Iterator[tuple[subprocess.Popen[str]
         serving.communicate()
 
 
+def games_at(address: str, at: str) -> int:
+    """The number of games in an answer that is not kept from another `at`."""
+    with urllib.request.urlopen(f"{address}games.json?at={at}") as answer:
+        return len(json.load(answer)["games"])
+
+
 def test_page_of_a_folder_follows_it_and_is_stopped(
     program: Path, small_bots: Served, browser: chromium.Browser, tmp_path: Path
 ) -> None:
@@ -106,7 +112,9 @@ def test_page_of_a_folder_follows_it_and_is_stopped(
     with page_of(tmp_path / "results", program) as (serving, address):
         browser.go(address)
         browser.wait(SHOWN, 3, seconds=60)
+        assert games_at(address, "3") == games_at(address, "") == 3
         play(2)
+        assert games_at(address, "6") == 6
         browser.wait(SHOWN, 6, seconds=60)
         serving.terminate()
         assert serving.wait(60) == 130

@@ -39,6 +39,7 @@ MOST_ANSWERS = 64  # that are kept
 MOST_GAMES = 200  # in one answer
 USUAL_GAMES = 20
 LAST = 10**17  # above each number of a game
+MOST_AT = 64  # letters
 SENDING_SECONDS = 120.0
 PIECE = 64 * 1024
 
@@ -112,7 +113,7 @@ class Calls:
         query = request.query
         bot, before = query.get("bot", ""), number_in(query, "before", LAST)
         count = max(1, min(MOST_GAMES, number_in(query, "count", USUAL_GAMES)))
-        key = ("games", bot, before, count)
+        key = ("games", bot, before, count, query.get("at", "")[:MOST_AT])
         return web.json_response(
             await self.answers.get(key, lambda store: games_of(store, bot, before, count))
         )

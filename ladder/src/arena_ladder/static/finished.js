@@ -18,6 +18,7 @@ class FinishedGames {
     this.list = list;
     this.more = more;
     this.bot = '';
+    this.at = ''; // how far the games were; an answer that was kept before it is not taken
     this.asked = 0;
     this.next = null;
     this.isOlder = false;
@@ -31,8 +32,9 @@ class FinishedGames {
     await this.read({}, (items) => this.list.replaceChildren(...items));
   }
 
-  /** Shows the newest games again, unless older ones were asked for. */
-  async refresh() {
+  /** Shows the newest games again, which are this far, unless older ones were asked for. */
+  async refresh(at) {
+    this.at = at;
     if (!this.isOlder) {
       await this.show(this.bot);
     }
@@ -48,7 +50,7 @@ class FinishedGames {
     this.asked += 1;
     const { asked } = this;
     const bot = this.bot === '' ? {} : { bot: this.bot };
-    const query = new URLSearchParams({ ...words, ...bot, count: GAMES_A_PAGE });
+    const query = new URLSearchParams({ ...words, ...bot, count: GAMES_A_PAGE, at: this.at });
     const found = await fetchJson(`games.json?${query}`);
     if (found !== null && asked === this.asked) {
       put(found.games.map(finishedItem));

@@ -51,7 +51,7 @@ class LadderPage {
   refresh() {
     if (this.games !== this.gamesShown && document.body.dataset.state === 'running') {
       this.gamesShown = this.games;
-      this.finished.refresh();
+      this.finished.refresh(this.games);
     }
   }
 
