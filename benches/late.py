@@ -48,7 +48,7 @@ async def beat():
 
 
 async def serve(reader, writer):
-    """Answers the requests of a connection; the path has the milliseconds, and `close` or `keep`."""
+    """Answers the requests of a connection; the path has milliseconds, and `close` or `keep`."""
     try:
         keeps = True
         while keeps:

@@ -29,7 +29,7 @@ class JsonFault(Exception):
 
 
 class Fraction(float):
-    """A number that is no whole number for the host, such as `1.0`; it is shown as it was written."""
+    """A number that is no whole number for the host, such as `1.0`; it is shown as written."""
 
     text: str
 

@@ -1,4 +1,4 @@
-"""What tests/library checks with numpy: the vector environment, threads, the parallel environment."""
+"""What tests/library checks with numpy: the vector and the parallel environment, and threads."""
 
 import numpy as np
 

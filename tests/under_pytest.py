@@ -1,5 +1,4 @@
-"""Runs the tests of a folder under pytest, as the commands `test` of examples/, checker/ and viewer/
-do."""
+"""Runs the tests of a folder under pytest, for the commands `test` of examples, checker, viewer."""
 import os
 import subprocess
 from argparse import ArgumentParser, RawDescriptionHelpFormatter

@@ -1,4 +1,4 @@
-"""Compares arena-check with the program on drawn files. A file that fails is kept in out/checker."""
+"""Compares arena-check with the program on drawn files. One that fails is kept in out/checker."""
 import multiprocessing
 import random
 import subprocess

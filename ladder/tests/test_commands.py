@@ -174,7 +174,7 @@ def test_file_of_another_game_is_not_gone_on_with(
 def test_database_that_was_changed_is_named_with_the_way_out(
     program: Path, config: Path, played: Path, tmp_path: Path
 ) -> None:
-    """Without a game's row its seats are in the way; without the database results are read again."""
+    """Without a game's row its seats are in the way; without the database all is read again."""
     folder = tmp_path / "results"
     shutil.copytree(played, folder)
     base = sqlite3.connect(folder / "results.sqlite")

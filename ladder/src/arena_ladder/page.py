@@ -2,9 +2,9 @@
 
     python3 -m arena_ladder.page FD HOST PORT FOLDER PROGRAM
 
-`arena_ladder.page_link` starts it. FD is a socket to the ladder, whose lines are the messages for the
-feed; when it ends, so do the events and this program. PROGRAM is arena, which replays the finished
-games that are looked at.
+`arena_ladder.page_link` starts it. FD is a socket to the ladder, whose lines are the messages for
+the feed; when it ends, so do the events and this program. PROGRAM is arena, which replays the
+finished games that are looked at.
 """
 
 from __future__ import annotations

@@ -122,7 +122,8 @@ class PageProcess:
 class PageLink(News):
     """Keeps a process with the page, and sends it the changes, tick by tick.
 
-    `tell` is called with messages for the person who runs the ladder. It is an `async with` context.
+    `tell` is called with messages for the person who runs the ladder. It is an `async with`
+    context.
     """
 
     def __init__(

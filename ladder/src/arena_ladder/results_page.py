@@ -1,4 +1,4 @@
-"""The command that serves the page of a ladder from its folder alone, after a run or without one."""
+"""The command that serves the page of a ladder from its folder alone, after a run or without."""
 
 from __future__ import annotations
 
