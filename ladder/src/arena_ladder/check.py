@@ -39,8 +39,8 @@ def check(folder: Path, program: Path, note: Callable[[int], None]) -> Checked:
     """Checks every game of a folder that is done; calls `note` with the number checked so far.
 
     A game agrees if its bots, places, food, words and hazards are those drawn from the seed, if
-    `arena serve` writes for its file the same lines as the live host wrote, and if its last board is
-    the one in the results.
+    `arena serve` writes for its file the same lines as the live host wrote, and if its last board
+    is the one in the results.
     """
     with closing(open_store(folder)) as store:
         store.names()
