@@ -3,4 +3,5 @@ pub mod FitSnake
 pub mod Kept
 pub mod Layout
 pub mod Record
+pub mod Stepped
 pub mod Writing

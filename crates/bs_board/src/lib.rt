@@ -38,3 +38,4 @@ pub use records::layout::{BoardBytes, SnakeBytes, skip_snakes, split_snake};
 pub use records::record::Record;
 pub use records::sizes::size;
 pub use records::snake::{decode_snake, encode_snake_into, snake_size};
+pub use records::stepped::encode_stepped_into;

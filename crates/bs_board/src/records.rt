@@ -9,3 +9,4 @@ pub mod layout;
 pub mod record;
 pub mod sizes;
 pub mod snake;
+pub mod stepped;

@@ -104,7 +104,7 @@ fn out_of<const CAP: usize>(
 {
     match input.job.kind {
         JobKind::Begin => begin(alloc, input),
-        JobKind::Part => Ok(Out::Moved(move_part(alloc, input, frames)?)),
+        JobKind::Part => Ok(Out::Moved(move_part(input, frames))),
         JobKind::Join => join_parts(alloc, input, frames),
     }
 }

@@ -12,33 +12,9 @@ ghost use Rattle.bs_fiber.specs.Tickets.{bytes_of, frames_in};
 use crate::contents::LEAST_CAPACITY;
 use crate::moved::Moved;
 use crate::piece::{Piece, SEATS};
-use bs_board::{Decode, Snake, Snakes, decode_snake, encode_snake_into, snake_size};
+use bs_board::{Decode, Snake, Snakes, decode_snake};
 use bs_pool::Owned;
 use std::alloc::{AllocError, Global};
-
-/// Appends the snake's record to the block.
-#[tactic(auto, using(crate::proofs::Framed::fit_size, crate::proofs::Framed::filled))]
-fn write_snake<const CAP: usize>(owned: &mut Owned<CAP>, snake: &Snake)
-    requires fit { IsFitSnake snake.now }
-    requires room { HasRoom CAP owned.old.block (length (snake_record snake.now)) }
-    ensures { owned.new ≡ record owned.old { block = owned.old.block ++ padded (snake_record snake.now) } }
-{
-    let len = snake_size(snake);
-    let (_, piece) = owned.block_mut().fill(len);
-    encode_snake_into(snake, piece);
-}
-
-/// Writes the moved snakes of a part into its empty block.
-pub(crate) fn write_moved<const CAP: usize>(owned: &mut Owned<CAP>, moved: &Moved)
-    requires wide { LEAST_CAPACITY ≤ CAP }
-    requires empty { owned.old.block ≡ [] }
-    ensures { owned.new ≡ record owned.old { block = frame_of moved.now } }
-{
-    let snakes = moved.as_slice();
-    for snake in snakes {
-        write_snake(owned, snake);
-    }
-}
 
 /// Appends a record to the block.
 #[tactic(auto, using(crate::proofs::Framed::filled))]
@@ -76,7 +52,7 @@ fn read_moved<const CAP: usize>(
     requires { owned.now.block ≡ frame_of moved.now }
     ensures { OnOk result (seats.new.items ≡ seats.old.items ++ moved.now) }
 {
-    let pieces = moved.pieces();
+    let pieces = moved.as_slice();
     for piece in pieces {
         seats.push(snake_at(alloc, owned, *piece)?)?;
     }

@@ -104,7 +104,6 @@ fn write_added<const CAP: usize>(
         Effect::Keep => None,
         Effect::Add(record) => {
             let bytes = record.as_slice();
-            parts[0].keeps();
             let at = frames[0].block().len();
             write_record(&mut frames[0], bytes);
             Some(Piece {

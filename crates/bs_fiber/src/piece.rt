@@ -4,7 +4,7 @@
 pub const SEATS: usize = 2;
 
 /// A piece of a block: its first byte and its length.
-#[derive(Clone, Copy, Debug, PartialEq, Eq)]
+#[derive(Clone, Copy, Debug, Default, PartialEq, Eq)]
 pub struct Piece {
     pub at: usize,
     pub len: usize,

@@ -1,6 +1,6 @@
 //! The motion of snakes in a turn.
 
-ghost use Rattle.std.specs.Prelude.{◌≡◌, ◌≤◌, true, IfOk, All, map, length};
+ghost use Rattle.std.specs.Prelude.{◌≡◌, ◌≤◌, [], ◌∷◌, true, IfOk, All, map, length};
 ghost use Rattle.bs_board.specs.boards.Legal.{is_near};
 ghost use Rattle.bs_board.specs.boards.Wrap.{AreSides};
 ghost use Rattle.bs_rules.specs.Motion.{
@@ -137,12 +137,30 @@ pub fn move_snake(
     Ok(next)
 }
 
-fn given_to(moves: &[(Id, Direction)], id: &Id) -> Option<Direction>
+/// The cell that the head of a living snake steps to, from the head and the part behind it.
+#[inline(always)]
+pub fn next_head(
+    wrap: Option<(u8, u8)>,
+    given: Option<Direction>,
+    head: Point,
+    second: Point,
+) -> Point
+    requires sides { AreSides wrap }
+    requires head { is_near LONGEST_SIDE LONGEST_SIDE head ≡ true }
+    requires second { is_near LONGEST_SIDE LONGEST_SIDE second ≡ true }
+    ensures { result ≡ neighbor wrap head (direction_taken wrap given (head ∷ second ∷ [])) }
+{
+    neighbor(wrap, head, direction_taken(wrap, given, &[head, second]))
+}
+
+/// The direction given to the id of these bytes.
+#[inline(always)]
+pub fn direction_for(moves: &[(Id, Direction)], id: &[u8]) -> Option<Direction>
     ensures { result ≡ given_to moves.now id.now }
 {
     moves
         .iter()
-        .find(|order| order.0.is_same(id))
+        .find(|order| order.0.as_bytes() == id)
         .map(|order| order.1)
 }
 
@@ -155,7 +173,7 @@ pub fn move_snakes(snakes: &mut Snakes, moves: &[(Id, Direction)], wrap: Option<
 {
     for seat in 0..snakes.len() {
         let snake = snakes.seat_mut(seat);
-        let given = given_to(moves, &snake.id);
+        let given = direction_for(moves, snake.id.as_bytes());
         step_snake(snake, given, wrap);
     }
 }

@@ -74,7 +74,7 @@ fn head_bytes(board: &Board) -> [u8; 11]
 }
 
 /// Writes the bytes from index `at` on, and returns the index after them.
-fn put(into: &mut [u8], at: usize, bytes: &[u8]) -> usize
+pub(crate) fn put(into: &mut [u8], at: usize, bytes: &[u8]) -> usize
     requires { at + length bytes.now ≤ length into.old }
     ensures { Puts at bytes.now into.old into.new result }
 {
@@ -83,7 +83,7 @@ fn put(into: &mut [u8], at: usize, bytes: &[u8]) -> usize
     end
 }
 
-fn two_bytes(number: u16) -> [u8; 2]
+pub(crate) fn two_bytes(number: u16) -> [u8; 2]
     ensures { result ≡ two_bytes number }
 {
     number.to_be_bytes()
@@ -133,7 +133,7 @@ fn cause_byte(cause: Option<Cause>) -> u8
     }
 }
 
-fn killer_byte(killer: Option<usize>) -> u8
+pub(crate) fn killer_byte(killer: Option<usize>) -> u8
     requires { MatchOption killer (Unit {0}) (λ seat. seat + 1 < 256) }
     ensures { result ≡ killer_byte killer }
 {
@@ -151,7 +151,7 @@ fn raised_byte(number: i16, raised: u8) -> u8
     (number + i16::from(raised)) as u8
 }
 
-fn put_cell(into: &mut [u8], at: usize, cell: Point, raised: u8) -> usize
+pub(crate) fn put_cell(into: &mut [u8], at: usize, cell: Point, raised: u8) -> usize
     requires room { at + 2 ≤ length into.old }
     requires bytes { IsByteCell raised cell }
     ensures { Puts at (cell_bytes raised cell) into.old into.new result }

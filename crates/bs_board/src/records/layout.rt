@@ -229,7 +229,7 @@ impl SnakeBytes<'_> {
     ghost use Rattle.std.specs.Prelude.{◌≡◌, is_none};
 
     /// Whether the snake is alive.
-    fn is_living(&self) -> bool
+    pub fn is_living(&self) -> bool
         ensures { result ≡ is_none self.now.cause }
     {
         self.cause.is_none()
