@@ -22,7 +22,7 @@ bytes_at (g ∷ frames) (q ∷ parts) (suc i) f p same within f_is p_is =
     bytes_at frames parts i f p tail (omega arith) f_is p_is
 
 -- inside a list the other value does not matter
-there : {X : Type 0} (xs : List X) (i : ℕ) (d e : X) → i < length xs → get_or xs i d ≡ get_or xs i e
+pub there : {X : Type 0} (xs : List X) (i : ℕ) (d e : X) → i < length xs → get_or xs i d ≡ get_or xs i e
 there [] i d e within = absurd (omega arith)
 there (x ∷ xs) zero d e within = refl
 there (x ∷ xs) (suc i) d e within = there xs i d e (omega arith)
