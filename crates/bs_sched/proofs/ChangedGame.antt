@@ -24,7 +24,7 @@ use Rattle.bs_sched.specs.PartState as state
 use Rattle.bs_sched.specs.declared.stage.Stage.{Stage}
 use Rattle.bs_sched.specs.declared.stage.Stage.TheVariants as stage
 use Rattle.bs_sched.specs.Courses.{IsRight}
-use Rattle.bs_sched.specs.Frames.{FramesView, flattened}
+use Rattle.bs_sched.specs.Frames.{FramesView, Written, flattened, written}
 use Rattle.bs_sched.specs.inner.Frames.{LeavesBut, forked_frames, with_moved}
 use Rattle.bs_sched.specs.Game.{GameView}
 use Rattle.bs_sched.specs.inner.Game.{HasBlocks, IsGame, KeepsBoards, forked_game, game_in, game_with_part, lane_at, taken_game}

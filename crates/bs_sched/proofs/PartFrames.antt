@@ -15,7 +15,7 @@ use Rattle.bs_sched.specs.declared.stage.Stage.TheVariants as stage
 use Rattle.bs_sched.specs.PartState.{PartState}
 use Rattle.bs_sched.specs.PartState as state
 use Rattle.bs_counter.specs.Keys.{Key, TallyId}
-use Rattle.bs_sched.specs.Frames.{flattened}
+use Rattle.bs_sched.specs.Frames.{Written, flattened, written}
 use Rattle.bs_sched.specs.inner.Frames.{forked_frames, with_moved, with_number}
 use Rattle.bs_sched.specs.Inputs.{job_numbers}
 use Rattle.bs_sched.specs.inner.Keyed.{AreKeysOf, HasKeys}
