@@ -11,4 +11,5 @@ pub mod Parts
 pub mod Longest
 pub mod Repeats
 pub mod SnakeRecord
+pub mod StepRecord
 pub mod Writable

@@ -144,7 +144,7 @@ not_negative : (z : ℤ) → pos 0 ≤ℤ z → pos (nat_abs z) ≡ z
 not_negative (pos n) low = refl
 not_negative (negsuc n) low = absurd (omega (arith, ints))
 
-raised_again : (z : ℤ) (raised : ℕ) → pos 0 ≤ℤ (z +ℤ pos raised) → pos (nat_abs (z +ℤ pos raised)) -ℤ pos raised ≡ z
+pub raised_again : (z : ℤ) (raised : ℕ) → pos 0 ≤ℤ (z +ℤ pos raised) → pos (nat_abs (z +ℤ pos raised)) -ℤ pos raised ≡ z
 raised_again z raised low = rw (not_negative (z +ℤ pos raised) low) (omega (arith, ints))
 
 pub cell_takes : (raised : ℕ) (bytes : List ℕ) (p : Point) (rest : List ℕ) → AreBytes bytes → read_cell raised bytes ≡ Some (p, rest) → Takes bytes (cell_bytes raised p) rest

@@ -1,6 +1,6 @@
 //! The record of a snake that moves one step, made from the record that it had.
 
-ghost use Rattle.std.specs.Prelude.{◌≡◌, ◌-◌, ◌/◌, ◌+◌, ◌<◌, ◌∷◌, ◌++◌, Unit, length, MatchOption, unwrap_or};
+ghost use Rattle.std.specs.Prelude.{◌≡◌, ◌-◌, ◌/◌, ◌+◌, ◌<◌, ◌∷◌, ◌++◌, length, MatchOption, unwrap_or};
 ghost use Rattle.bs_board.specs.declared.boards.snake.Snake.{Snake as AnySnake};
 ghost use Rattle.bs_board.specs.records.Layout.{IsSnakeBytes};
 ghost use Rattle.bs_board.specs.records.Record.{killer_byte, snake_record, two_bytes};
@@ -16,7 +16,8 @@ use crate::records::layout::SnakeBytes;
 fn stepped_state(snake: &SnakeBytes<'_>) -> [u8; 7]
     requires killer { MatchOption snake.now.killer (Unit {0}) (λ seat. seat + 1 < 256) }
     requires parts { length snake.now.body.now / 2 < 65536 }
-    ensures { result ≡ (snake.now.health - 1 ∷ 0 ∷ killer_byte snake.now.killer ∷ two_bytes (unwrap_or snake.now.out 0)) ++ two_bytes (length snake.now.body.now / 2) }
+    ensures { result ≡ ((snake.now.health - 1) ∷ 0 ∷ killer_byte snake.now.killer ∷ two_bytes (unwrap_or snake.now.out 0))
+        ++ two_bytes (length snake.now.body.now / 2) }
 {
     let [out_high, out_low] = two_bytes(snake.out.unwrap_or(0));
     let [parts_high, parts_low] = two_bytes((snake.body.len() / 2) as u16);
