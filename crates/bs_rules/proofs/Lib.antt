@@ -7,6 +7,7 @@ pub mod HazardSteps
 pub mod Ids
 pub mod Killers
 pub mod Movable
+pub mod NextHead
 pub mod Seats
 pub mod SeatsAndIds
 pub mod Sound

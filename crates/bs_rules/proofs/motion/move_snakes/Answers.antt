@@ -7,4 +7,4 @@ pub loop-seat-preserved : goal.loop-seat-preserved
 loop-seat-preserved c =
     let snake = c.seat_mut-snake.result.now in
     set_next (λ s. moved c.args.wrap (given_to c.args.moves.now s.id) s) c.args.snakes.now c.loop-seat.snakes c.loop-seat.seat snake c.step_snake.new.snake
-    c.loop-seat.invariant c.seat_mut-snake.ensures.value (c.step_snake.ensures ∙ ap (λ g. moved c.args.wrap g snake) c.given_to-given.ensures)
+    c.loop-seat.invariant c.seat_mut-snake.ensures.value (c.step_snake.ensures ∙ ap (λ g. moved c.args.wrap g snake) (c.direction_for-given.ensures ∙ ap (given_to c.args.moves.now) c.as_bytes.ensures.value))
