@@ -21,11 +21,10 @@ use Rattle.bs_fiber.specs.declared.piece.Piece.{Piece}
 use Rattle.bs_fiber.specs.Fit.{IsFitInput}
 use Rattle.bs_fiber.specs.Frames.{frame_of}
 use Rattle.bs_fiber.specs.Seeing.{IsSeen}
-use Rattle.bs_fiber.specs.Tickets.{TicketView, HoldsWork, bytes_of, frames_in, with_added}
-use Rattle.bs_fiber.specs.Work.{IsWorked, added_by, added_seen, begun, goes, moved_part, out_seen, piece_added}
-use Rattle.bs_fiber.proofs.Joined.{fit_join}
+use Rattle.bs_fiber.specs.Tickets.{TicketView, HoldsWork, bytes_of, frames_in, with_added, worked_bytes}
+use Rattle.bs_fiber.specs.Work.{IsWorked, added_by, added_seen, begun, goes, moved_part, moved_parts, out_seen, piece_added}
 use Rattle.bs_fiber.proofs.Seen.{some_view}
-use Rattle.bs_fiber.proofs.Written.{some_parts, first_of}
+use Rattle.bs_fiber.proofs.Written.{first_part, some_parts}
 
 -- ---- only a Join has this outcome
 
@@ -46,28 +45,24 @@ joined_both : (view : View) (command : Command) (answer : Answer) (piece : Optio
     → (answer ≡ answer_of view command) × (piece ≡ piece_added (answer_of view command).effect (moved_part 0 view command))
 joined_both view command answer piece is = (cc, cc)
 
--- the input of a Join with this outcome
-pub record IsJoined (input : Input) (answer : Answer) (piece : Option Piece) : Type 0 where
+-- the input of a Join with this outcome, in the view that it sees
+pub record IsJoined (input : Input) (answer : Answer) (piece : Option Piece) (view : View) : Type 0 where
   pub kind : input.job.kind ≡ Join
-  pub some : 1 ≤ length input.parts
-  pub answer_is : (view : View) → IsSeen view input → answer ≡ answer_of view input.command
-  pub piece_is : piece ≡ piece_added answer.effect (get_or input.parts 0 [])
+  pub some : 1 ≤ length (moved_parts view input.command)
+  pub answer_is : answer ≡ answer_of view input.command
+  pub piece_is : piece ≡ piece_added answer.effect (get_or (moved_parts view input.command) 0 [])
 
-pub joined_is : (input : Input) (answer : Answer) (piece : Option Piece) → IsFitInput input → IsWorked input (Joined answer piece) → IsJoined input answer piece
-joined_is input answer piece fit worked =
-    let seen = some_view input fit.game in
-    let kind = kind_of_join input.job.kind input.job.part seen.0 input.command answer piece (worked seen.0 seen.1) in
-    let both : (view : View) → IsSeen view input → (answer ≡ answer_of view input.command) × (piece ≡ piece_added (answer_of view input.command).effect (moved_part 0 view input.command)) =
-    λ view too. joined_both view input.command answer piece (rw kind at (worked view too)) in
-    let some = some_parts input fit kind in
-    let first : get_or input.parts 0 [] ≡ moved_part 0 seen.0 input.command =
-    first_of input.parts (moved_part 0 seen.0 input.command) [] ((fit_join input seen.0 fit kind seen.1).moved.each 0 (omega arith)) in
-    let b = both seen.0 seen.1 in
+pub joined_is : (input : Input) (answer : Answer) (piece : Option Piece) (view : View) → IsFitInput input → IsWorked input (Joined answer piece) → IsSeen view input
+    → IsJoined input answer piece view
+joined_is input answer piece view fit worked seen =
+    let kind = kind_of_join input.job.kind input.job.part view input.command answer piece (worked view seen) in
+    let some = some_parts input view fit kind seen in
+    let both = joined_both view input.command answer piece (rw kind at (worked view seen)) in
     record {
       kind = kind;
       some = some;
-      answer_is = λ view too. (both view too).0;
-      piece_is = b.1 ∙ ap (λ (x : Answer). piece_added x.effect (moved_part 0 seen.0 input.command)) (sym b.0) ∙ ap (piece_added answer.effect) (sym first);
+      answer_is = both.0;
+      piece_is = both.1 ∙ ap (λ (x : Answer). piece_added x.effect (moved_part 0 view input.command)) (sym both.0) ∙ ap (piece_added answer.effect) (sym (first_part view input.command some));
     }
 
 -- ---- the bytes
@@ -126,14 +121,20 @@ pub record HasAdded {most : ℕ} (t : TicketView) (frames : List (Owned most)) (
   pub seen : (view : View) → IsSeen view t.input → added_by answer.effect ≡ added_seen t.input.job.kind view t.input.command
 
 pub has_added : {most : ℕ} (t : TicketView) (frames : List (Owned most)) (out : Out) (answer : Answer) (piece : Option Piece) (p : Piece) → frames_in frames ≡ t.frames
-    → IsFitInput t.input → IsWorked t.input out → HoldsWork t out → out ≡ Joined answer piece → piece ≡ Some p → HasAdded t frames answer p
+    → IsFitInput t.input → IsWorked t.input out → HoldsWork t → out ≡ Joined answer piece → piece ≡ Some p → HasAdded t frames answer p
 has_added t frames out answer piece p frames_are fit worked holds is piece_is =
     let out_is : out ≡ Joined answer (Some p) = is ∙ ap (Joined answer) piece_is in
-    let join = joined_is t.input answer (Some p) fit (rw out_is at worked) in
-    let same : bytes_of (frames_in frames) ≡ with_added answer.effect (map frame_of t.input.parts) = ap bytes_of frames_are ∙ rw out_is at holds in
+    let joined : IsWorked t.input (Joined answer (Some p)) = rw out_is at worked in
+    let one = some_view t.input fit.game in
+    let join = joined_is t.input answer (Some p) one.0 fit joined one.1 in
+    let parts = moved_parts one.0 t.input.command in
+    let work : worked_bytes t.input.job.kind t.input.job.part one.0 t.input.command ≡ with_added answer.effect (map frame_of parts) =
+    ap (λ (k : JobKind). worked_bytes k t.input.job.part one.0 t.input.command) join.kind ∙ ap (λ (x : Answer). with_added x.effect (map frame_of parts)) (sym join.answer_is) in
+    let same : bytes_of (frames_in frames) ≡ with_added answer.effect (map frame_of parts) = ap bytes_of frames_are ∙ holds one.0 one.1 ∙ work in
     record {
-      some = some_frames frames answer.effect t.input.parts p same join.piece_is join.some;
-      first = λ f f_is. added_at frames f answer.effect t.input.parts p same join.piece_is join.some f_is;
+      some = some_frames frames answer.effect parts p same join.piece_is join.some;
+      first = λ f f_is. added_at frames f answer.effect parts p same join.piece_is join.some f_is;
       seen = λ view seen.
-          ap (λ (x : Answer). added_by x.effect) (join.answer_is view seen) ∙ ap (λ (k : JobKind). added_seen k view t.input.command) (sym join.kind);
+          ap (λ (x : Answer). added_by x.effect) (joined_is t.input answer (Some p) view fit joined seen).answer_is
+          ∙ ap (λ (k : JobKind). added_seen k view t.input.command) (sym join.kind);
     }

@@ -16,7 +16,7 @@ use Rattle.bs_fiber.specs.declared.input.Input.{Input}
 use Rattle.bs_fiber.specs.declared.job.JobKind.TheVariants.{Join}
 use Rattle.bs_fiber.specs.Fit.{IsFitInput, IsFitJoin}
 use Rattle.bs_fiber.specs.Seeing.{IsBoardOf, IsSeen}
-use Rattle.bs_fiber.specs.Work.{goes}
+use Rattle.bs_fiber.specs.Work.{goes, moved_parts}
 use Rattle.bs_fiber.proofs.Gathered.{joined_board, nothing_speaks}
 use Rattle.bs_fiber.proofs.Seen.{fit_job, seen_is_fit, some_view}
 
@@ -30,20 +30,20 @@ seen_board bytes (Some board) is = (board, refl, is.0, is.1)
 
 module _ (input : Input) (orders : Orders) (bytes : List ℕ) (fit : IsFitInput input) (kind : input.job.kind ≡ Join)
     (orders_are : input.command ≡ command.Move orders) (last_is : input.last ≡ Some bytes) (moved : Board)
-    (is : (b : Board) → IsLegal b → bytes ≡ record_of b → moved ≡ record b { snakes = flat_map (λ part. part) input.parts }) where
+    (is : (view : View) (b : Board) → IsSeen view input → IsLegal b → bytes ≡ record_of b → moved ≡ record b { snakes = flat_map (λ part. part) (moved_parts view input.command) }) where
   -- the snakes of all parts are those of the last board of each view, with all seats moved
   pub moved_from_seen : (view : View) → IsSeen view input → IsMovedFrom input.quota input.charge orders moved view
   moved_from_seen view seen =
       let join = rw orders_are at (fit_join input view fit kind seen) in
       let last : IsBoardOf (Some bytes) view.last = rw last_is at seen.last in
       let b = seen_board bytes view.last last in
-      let whole = joined_board view orders b.0 input.parts (flat_map (λ part. part) input.parts) b.1 join.moved refl in
+      let all = rw orders_are at (is view b.0 seen b.2 b.3) in
       record {
         fit = seen_is_fit input view fit.game seen;
         passes = nothing_speaks true (first_reason view (command.Move orders)) join.goes;
         quota = seen.quota;
         charge = seen.charge;
-        moved = whole ∙ ap Some (sym (is b.0 b.2 b.3));
+        moved = joined_board view orders b.0 b.1 ∙ ap Some (sym all);
       }
 
   pub moved_from_some : (view : View) × IsMovedFrom input.quota input.charge orders moved view

@@ -4,6 +4,7 @@ pub mod FitSnakes
 pub mod Framed
 pub mod Gathered
 pub mod Joined
+pub mod MovedSeats
 pub mod Seats
 pub mod Seen
 pub mod Unseen

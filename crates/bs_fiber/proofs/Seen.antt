@@ -3,7 +3,6 @@ use Rattle.std.proofs.Common.{◌≡◌, ℕ, suc, ◌<◌, List, [], ◌∷◌,
 use Rattle.std.specs.Prelude.{IfSome}
 use Rattle.bs_board.specs.declared.boards.board.Board.{Board}
 use Rattle.bs_board.specs.declared.commands.command.Command.{Command}
-use Rattle.bs_board.specs.declared.boards.snake.Snake.{Snake}
 use Rattle.bs_board.specs.boards.Legal.{IsLegal}
 use Rattle.bs_board.specs.records.Kept.{IsLegalRecord}
 use Rattle.bs_board.proofs.records.BoardRecord.{record_is_of_one_board}
@@ -14,8 +13,9 @@ use Rattle.bs_fiber.specs.declared.input.Input.{Input}
 use Rattle.bs_fiber.specs.declared.job.JobKind.{JobKind}
 use Rattle.bs_fiber.specs.declared.job.JobKind.TheVariants.{Begin, Part, Join}
 use Rattle.bs_fiber.specs.declared.out.Out.{Out}
+use Rattle.bs_fiber.specs.declared.piece.Piece.{Piece}
 use Rattle.bs_fiber.specs.Expected.{IsOf}
-use Rattle.bs_fiber.specs.Fit.{IsFitGame, IsFitInput, IsFitJob, AreMovedParts}
+use Rattle.bs_fiber.specs.Fit.{IsFitGame, IsFitInput, IsFitJob}
 use Rattle.bs_fiber.specs.Seeing.{IsBoardOf, IsSeen}
 use Rattle.bs_fiber.specs.Work.{begun}
 
@@ -74,32 +74,14 @@ fit_job input view fit seen = fit.job view seen
 
 -- the parts are determined by the other fields
 
-same_members : {X : Type 0} (xs ys : List X) → length xs ≡ length ys → ((k : ℕ) → k < length xs → slice_get xs k ≡ slice_get ys k) → xs ≡ ys
-same_members [] [] size each = refl
-same_members [] (y ∷ ys) size each = absurd (omega arith)
-same_members (x ∷ xs) [] size each = absurd (omega arith)
-same_members (x ∷ xs) (y ∷ ys) size each =
-    let first : Some x ≡ Some y = each 0 (omega arith) in
-    let head : x ≡ y = cc in
-    let rest = same_members xs ys (omega arith) (λ k within. each (suc k) (omega arith)) in
-    rw (head, rest) refl
-
-pub moved_parts_once : (view : View) (command : Command) (parts others : List (List Snake)) → AreMovedParts view command parts
-    → AreMovedParts view command others → parts ≡ others
-moved_parts_once view command parts others one two =
-    let size : length parts ≡ length others = one.all ∙ sym two.all in
-    let each : (part : ℕ) → part < length parts → slice_get parts part ≡ slice_get others part =
-    λ part within. one.each part within ∙ sym (two.each part (omega arith)) in
-    same_members parts others size each
-
-same_parts_of : (kind : JobKind) (input : Input) (others : List (List Snake)) (view : View) → IsFitJob kind input view
+same_parts_of : (kind : JobKind) (input : Input) (others : List (List Piece)) (view : View) → IsFitJob kind input view
     → IsFitJob kind (record input { parts = others }) view → input.parts ≡ others
 same_parts_of Begin input others view one two = one ∙ sym two
 same_parts_of Part input others view one two = one.0 ∙ sym two.0
-same_parts_of Join input others view one two = moved_parts_once view input.command input.parts others one.moved two.moved
+same_parts_of Join input others view one two = one.moved ∙ sym two.moved
 
 -- two fit inputs that differ only in their parts
-pub same_parts : (input : Input) (others : List (List Snake)) → IsFitInput input → IsFitInput (record input { parts = others }) → input.parts ≡ others
+pub same_parts : (input : Input) (others : List (List Piece)) → IsFitInput input → IsFitInput (record input { parts = others }) → input.parts ≡ others
 same_parts input others one two =
     let seen = some_view input one.game in
     let too : IsSeen seen.0 (record input { parts = others }) =

@@ -1,7 +1,9 @@
 -- A Join writes the outcome that is defined for it.
-use Rattle.std.proofs.Common.{◌≡◌, ℕ, ◌+◌, ◌/◌, ◌<◌, ◌≤◌, true, List, [], ◌∷◌, length, get_or, Option, Some, None, slice_get, refl, sym, ap, subst, ◌∙◌, arith, All, inl, inr}
-use Rattle.std.specs.Prelude.{is_some, Result, Ok, Err, IfOk}
-use Rattle.std.proofs.lemmas.Bool.{cases_Bool}
+use Rattle.std.proofs.Common.{◌≡◌, ℕ, ◌+◌, ◌/◌, ◌<◌, ◌≤◌, true, List, [], ◌∷◌, length, get_or, Option, Some, None, slice_get, refl, sym, ap, subst, ◌∙◌, arith, All, map}
+use Rattle.std.specs.Prelude.{is_some}
+use Rattle.std.specs.List.{range_with_len}
+use Rattle.std.proofs.lemmas.List.Elements.{All-map}
+use Rattle.std.proofs.lemmas.List.FromFn.{length-map-range_with_len, get_or-map-range_with_len}
 use Rattle.bs_block.specs.Rounding.{rounded}
 use Rattle.bs_board.specs.declared.boards.board.Board.{Board}
 use Rattle.bs_board.specs.declared.boards.snake.Snake.{Snake}
@@ -23,8 +25,9 @@ use Rattle.bs_fiber.specs.declared.piece.Piece.{Piece}
 use Rattle.bs_fiber.specs.Fit.{IsFitInput}
 use Rattle.bs_fiber.specs.Frames.{frame_of}
 use Rattle.bs_fiber.specs.Seeing.{IsBoardOf, IsSeen}
-use Rattle.bs_fiber.specs.Tickets.{worked_bytes}
-use Rattle.bs_fiber.specs.Work.{IsWorked, begun, goes, moved_part, out_seen, parts_of, piece_added, snakes_in}
+use Rattle.bs_fiber.specs.inner.Frames.{AreFewAndFit, HoldAll}
+use Rattle.bs_fiber.specs.Work.{IsWorked, moved_part, moved_parts, out_seen, parts_of, piece_added, snakes_in}
+use Rattle.bs_fiber.proofs.FitSnakes.{moved_part_few, moved_part_fits}
 use Rattle.bs_fiber.proofs.Framed.{frame_small}
 use Rattle.bs_fiber.proofs.Joined.{fit_join, join_has_a_board}
 use Rattle.bs_fiber.proofs.Seen.{some_view}
@@ -52,48 +55,54 @@ some_seats None (Some board) is some = absurd is
 some_seats (Some bytes) None is some = absurd is
 some_seats (Some bytes) (Some board) is some = is.0.limits.some
 
-pub some_parts : (input : Input) → IsFitInput input → input.job.kind ≡ Join → 1 ≤ length input.parts
-some_parts input fit kind =
-    let seen = some_view input fit.game in
-    let all = (fit_join input seen.0 fit kind seen.1).moved.all in
-    let seats = some_seats input.last seen.0.last seen.1.last (join_has_a_board input fit kind) in
+-- a Join has a part at least
+pub some_parts : (input : Input) (view : View) → IsFitInput input → input.job.kind ≡ Join → IsSeen view input → 1 ≤ length (moved_parts view input.command)
+some_parts input view fit kind seen =
+    let seats = some_seats input.last view.last seen.last (join_has_a_board input fit kind) in
+    let long = length-map-range_with_len (λ part. moved_part part view input.command) 0 (parts_of (length (snakes_in view.last))) in
     omega arith
 
-pub first_of : {X : Type 0} (xs : List X) (x d : X) → slice_get xs 0 ≡ Some x → get_or xs 0 d ≡ x
-first_of [] x d is = absurd cc
-first_of (y ∷ xs) x d is = let same : Some y ≡ Some x = is in cc
+pub first_part : (view : View) (command : Command) → 1 ≤ length (moved_parts view command) → get_or (moved_parts view command) 0 [] ≡ moved_part 0 view command
+first_part view command some =
+    let many = parts_of (length (snakes_in view.last)) in
+    let long = length-map-range_with_len (λ part. moved_part part view command) 0 many in
+    get_or-map-range_with_len (λ part. moved_part part view command) 0 many 0 0 [] (omega arith) refl
+
+-- the blocks that a Join reads
+pub parts_are_held : (input : Input) (view : View) (blocks : List (List ℕ)) → IsFitInput input → input.job.kind ≡ Join → IsSeen view input
+    → blocks ≡ map frame_of (moved_parts view input.command) → HoldAll (moved_parts view input.command) input.parts blocks
+parts_are_held input view blocks fit kind seen are =
+    let P : List Snake → Type 0 = All IsFitSnake in
+    let f : ℕ → List Snake = λ part. moved_part part view input.command in
+    record {
+      fit = All-map P f (range_with_len 0 (parts_of (length (snakes_in view.last)))) (λ i d within. moved_part_fits input view _ seen);
+      places_are = (fit_join input view fit kind seen).moved;
+      blocks_are = are;
+    }
+
+pub parts_are_few : (input : Input) (view : View) → IsFitInput input → input.job.kind ≡ Join → IsSeen view input → AreFewAndFit (moved_parts view input.command)
+parts_are_few input view fit kind seen =
+    let P : List Snake → Type 0 = All IsFitSnake in
+    let Few : List Snake → Type 0 = λ part. length part ≤ 2 in
+    let f : ℕ → List Snake = λ part. moved_part part view input.command in
+    let parts = range_with_len 0 (parts_of (length (snakes_in view.last))) in
+    record {
+      some = some_parts input view fit kind seen;
+      few = All-map Few f parts (λ i d within. moved_part_few view input.command _);
+      fit = All-map P f parts (λ i d within. moved_part_fits input view _ seen);
+    }
 
 same_out : (a b : Answer) (p q : Option Piece) → a ≡ b → p ≡ q → Joined a p ≡ Joined b q
 same_out a b p q a_is p_is = rw (a_is, p_is) refl
 
 -- the answer is that of each view, and its record is after the first part's bytes
-pub join_is_worked : (input : Input) (answer : Answer) (piece : Option Piece) (parts : List (List Snake)) → IsFitInput input → input.job.kind ≡ Join
-    → ((view : View) → IsSeen view input → answer ≡ answer_of view input.command) → parts ≡ input.parts
-    → piece ≡ piece_added answer.effect (get_or parts 0 []) → IsWorked input (Joined answer piece)
-join_is_worked input answer piece parts fit kind given parts_are piece_is view seen =
-    let join = fit_join input view fit kind seen in
-    let some = some_parts input fit kind in
-    let first : get_or parts 0 [] ≡ moved_part 0 view input.command =
-    ap (λ (ps : List (List Snake)). get_or ps 0 []) parts_are ∙ first_of input.parts (moved_part 0 view input.command) [] (join.moved.each 0 (omega arith)) in
+pub join_is_worked : (input : Input) (answer : Answer) (piece : Option Piece) → IsFitInput input → input.job.kind ≡ Join
+    → ((view : View) → IsSeen view input → answer ≡ answer_of view input.command)
+    → ((view : View) → IsSeen view input → piece ≡ piece_added answer.effect (get_or (moved_parts view input.command) 0 [])) → IsWorked input (Joined answer piece)
+join_is_worked input answer piece fit kind given piece_is view seen =
+    let first = first_part view input.command (some_parts input view fit kind seen) in
     let a = given view seen in
     let P : JobKind → Type 0 = λ k. Joined answer piece ≡ out_seen k input.job.part view input.command in
     subst P (sym kind)
     (same_out answer (answer_of view input.command) piece (piece_added (answer_of view input.command).effect (moved_part 0 view input.command)) a
-    (piece_is ∙ ap (piece_added answer.effect) first ∙ ap (λ (x : Answer). piece_added x.effect (moved_part 0 view input.command)) a))
-
--- ---- a Begin, which writes nothing
-
-begun_bytes : (view : View) (command : Command) (parts : List (List Snake)) → worked_bytes parts (begun view command) ≡ []
-begun_bytes view command parts =
-    elim (cases_Bool (goes view command)) [
-      | inl on ↦ rw on refl
-      | inr off ↦ rw off refl
-    ]
-
-pub begin_holds : {E : Type 0} (input : Input) (result : Result Out E) (parts : List (List Snake)) (blocks : List (List ℕ)) → IsFitInput input → blocks ≡ []
-    → IfOk result (λ out. (view : View) → IsSeen view input → out ≡ begun view input.command) → IfOk result (λ out. blocks ≡ worked_bytes parts out)
-begin_holds input (Err error) parts blocks fit none is = tt
-begin_holds input (Ok out) parts blocks fit none is =
-    let seen = some_view input fit.game in
-    let out_is = is seen.0 seen.1 in
-    none ∙ sym (ap (worked_bytes parts) out_is ∙ begun_bytes seen.0 input.command parts)
+    (piece_is view seen ∙ ap (piece_added answer.effect) first ∙ ap (λ (x : Answer). piece_added x.effect (moved_part 0 view input.command)) a))

@@ -1,16 +1,17 @@
 -- Inputs that a game can give to a job.
-use Rattle.std.specs.Prelude.{◌≡◌, ℕ, ◌<◌, ◌≤◌, true, List, [], length, Option, Some, None, slice_get, IfSome}
+use Rattle.std.specs.Prelude.{◌≡◌, ℕ, ◌<◌, ◌≤◌, true, List, [], length, map, Option, None, IfSome}
 use Rattle.bs_board.specs.declared.commands.command.Command.{Command}
 use Rattle.bs_board.specs.declared.commands.command.Command.TheVariants as command
-use Rattle.bs_board.specs.declared.boards.snake.Snake.{Snake}
 use Rattle.bs_board.specs.declared.limits.TheConstants.{MOST_QUOTA}
 use Rattle.bs_board.specs.records.Kept.{IsLegalRecord}
 use Rattle.bs_game.specs.declared.view.View.{View}
 use Rattle.bs_fiber.specs.declared.input.Input.{Input}
 use Rattle.bs_fiber.specs.declared.job.JobKind.{JobKind}
 use Rattle.bs_fiber.specs.declared.job.JobKind.TheVariants.{Begin, Part, Join}
+use Rattle.bs_fiber.specs.declared.piece.Piece.{Piece}
+use Rattle.bs_fiber.specs.Frames.{pieces_from}
 use Rattle.bs_fiber.specs.Seeing.{IsSeen}
-use Rattle.bs_fiber.specs.Work.{goes, parts_of, snakes_in, moved_part}
+use Rattle.bs_fiber.specs.Work.{goes, moved_parts, parts_of, snakes_in}
 
 -- only `turn` names another record
 abbrev pub IsAskedBy : Command → Option (List ℕ) → Type 0
@@ -35,14 +36,10 @@ pub record IsFitPart (part : ℕ) (view : View) (command : Command) : Type 0 whe
   pub goes : goes view command ≡ true
   pub there : part < parts_of (length (snakes_in view.last))
 
--- the snakes moved by each part of the move
-pub record AreMovedParts (view : View) (command : Command) (parts : List (List Snake)) : Type 0 where
-  pub all : length parts ≡ parts_of (length (snakes_in view.last))
-  pub each : (part : ℕ) → part < length parts → slice_get parts part ≡ Some (moved_part part view command)
-
-pub record IsFitJoin (parts : List (List Snake)) (view : View) (command : Command) : Type 0 where
+-- the places of the snakes that each part of an accepted move moved
+pub record IsFitJoin (parts : List (List Piece)) (view : View) (command : Command) : Type 0 where
   pub goes : goes view command ≡ true
-  pub moved : AreMovedParts view command parts
+  pub moved : parts ≡ map (pieces_from 0) (moved_parts view command)
 
 -- a Begin requires nothing of the view
 abbrev pub IsFitJob : JobKind → Input → View → Type 0

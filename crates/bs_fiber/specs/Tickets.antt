@@ -1,7 +1,7 @@
 -- A ticket as clauses see it: the input of its job, and its frame blocks.
 use Rattle.std.specs.Prelude.{◌≡◌, ℕ, ◌≤◌, List, [], ◌∷◌, ◌++◌, length, map, Option, Some, None, slice_index_or}
 use Rattle.bs_block.specs.Bytes.{padded}
-use Rattle.bs_board.specs.declared.boards.snake.Snake.{Snake}
+use Rattle.bs_board.specs.declared.commands.command.Command.{Command}
 use Rattle.bs_pool.specs.declared.owned.Owned.{Owned}
 use Rattle.bs_game.specs.declared.reply.Effect.{Effect}
 use Rattle.bs_game.specs.declared.reply.Effect.TheVariants as effect
@@ -10,10 +10,12 @@ use Rattle.bs_fiber.specs.declared.contents.TheConstants.{LEAST_CAPACITY}
 use Rattle.bs_fiber.specs.declared.input.Input.{Input}
 use Rattle.bs_fiber.specs.declared.job.JobKind.{JobKind}
 use Rattle.bs_fiber.specs.declared.job.JobKind.TheVariants.{Begin, Part, Join}
-use Rattle.bs_fiber.specs.declared.out.Out.{Out}
-use Rattle.bs_fiber.specs.declared.out.Out.TheVariants.{Goes, Answered, Moved, Joined}
+use Rattle.bs_game.specs.declared.view.View.{View}
+use Rattle.bs_game.specs.View.{answer_of}
 use Rattle.bs_fiber.specs.Fit.{IsFitInput}
 use Rattle.bs_fiber.specs.Frames.{frame_of}
+use Rattle.bs_fiber.specs.Seeing.{IsSeen}
+use Rattle.bs_fiber.specs.Work.{moved_part, moved_parts}
 
 -- a frame block: its owner and its number in the pool, and its bytes
 pub record Frame : Type 0 where
@@ -48,14 +50,14 @@ pub record IsTicket (cap : ℕ) (c : Contents cap) : Type 0 where
 
 -- the bytes of a job's blocks before it is run: a part has an empty one, a Join those that the
 -- parts wrote
-abbrev pub fresh_bytes : JobKind → List (List Snake) → List (List ℕ)
-fresh_bytes Begin parts = []
-fresh_bytes Part parts = [] ∷ []
-fresh_bytes Join parts = map frame_of parts
+abbrev pub fresh_bytes : JobKind → View → Command → List (List ℕ)
+fresh_bytes Begin view command = []
+fresh_bytes Part view command = [] ∷ []
+fresh_bytes Join view command = map frame_of (moved_parts view command)
 
 -- its job was not run yet
 abbrev pub IsFresh : TicketView → Type 0
-IsFresh t = bytes_of t.frames ≡ fresh_bytes t.input.job.kind t.input.parts
+IsFresh t = (view : View) → IsSeen view t.input → bytes_of t.frames ≡ fresh_bytes t.input.job.kind view t.input.command
 
 abbrev pub behind_first : List ℕ → List (List ℕ) → List (List ℕ)
 behind_first bytes [] = []
@@ -69,11 +71,10 @@ with_added effect.Trim blocks = blocks
 with_added effect.Drop blocks = blocks
 
 -- the bytes of the blocks of a job that was run
-abbrev pub worked_bytes : List (List Snake) → Out → List (List ℕ)
-worked_bytes parts Goes = []
-worked_bytes parts (Answered answer) = []
-worked_bytes parts (Moved moved) = frame_of moved ∷ []
-worked_bytes parts (Joined answer piece) = with_added answer.effect (map frame_of parts)
+abbrev pub worked_bytes : JobKind → ℕ → View → Command → List (List ℕ)
+worked_bytes Begin part view command = []
+worked_bytes Part part view command = frame_of (moved_part part view command) ∷ []
+worked_bytes Join part view command = with_added (answer_of view command).effect (map frame_of (moved_parts view command))
 
-abbrev pub HoldsWork : TicketView → Out → Type 0
-HoldsWork t out = bytes_of t.frames ≡ worked_bytes t.input.parts out
+abbrev pub HoldsWork : TicketView → Type 0
+HoldsWork t = (view : View) → IsSeen view t.input → bytes_of t.frames ≡ worked_bytes t.input.job.kind t.input.job.part view t.input.command

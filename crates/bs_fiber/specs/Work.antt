@@ -1,5 +1,6 @@
 -- The outcome of each job.
 use Rattle.std.specs.Prelude.{◌≡◌, ℕ, ◌+◌, ◌*◌, ◌/◌, Bool, ◌&&◌, List, [], length, take, drop, map, Option, Some, None, is_none, if◌then◌else◌}
+use Rattle.std.specs.List.{range_with_len}
 use Rattle.bs_board.specs.declared.boards.board.Board.{Board}
 use Rattle.bs_board.specs.boards.Wrap.{wrap_of}
 use Rattle.bs_board.specs.declared.commands.command.Command.{Command}
@@ -18,7 +19,7 @@ use Rattle.bs_fiber.specs.declared.job.JobKind.TheVariants.{Begin, Part, Join}
 use Rattle.bs_fiber.specs.declared.out.Out.{Out}
 use Rattle.bs_fiber.specs.declared.out.Out.TheVariants.{Goes, Answered, Moved, Joined}
 use Rattle.bs_fiber.specs.declared.piece.Piece.{Piece}
-use Rattle.bs_fiber.specs.Frames.{frame_of}
+use Rattle.bs_fiber.specs.Frames.{frame_of, pieces_from}
 use Rattle.bs_fiber.specs.Seeing.{IsSeen}
 
 -- a move that no reason refuses before the new board is known
@@ -53,6 +54,10 @@ moves_in _ = []
 abbrev pub moved_part : ℕ → View → Command → List Snake
 moved_part part view command = map (λ s. moved (wrap_in view.last) (given_to (moves_in command) s.id) s) (seats_of part (snakes_in view.last))
 
+-- the moved snakes of each part, from part 0
+abbrev pub moved_parts : View → Command → List (List Snake)
+moved_parts view command = map (λ part. moved_part part view command) (range_with_len 0 (parts_of (length (snakes_in view.last))))
+
 -- where an added record lies: after what part 0 wrote into its block
 abbrev pub piece_added : Effect → List Snake → Option Piece
 piece_added effect.Keep first = None
@@ -75,7 +80,7 @@ added_seen Join view command = added_by (answer_of view command).effect
 
 abbrev pub out_seen : JobKind → ℕ → View → Command → Out
 out_seen Begin part view command = begun view command
-out_seen Part part view command = Moved (moved_part part view command)
+out_seen Part part view command = Moved (pieces_from 0 (moved_part part view command))
 out_seen Join part view command = Joined (answer_of view command) (piece_added (answer_of view command).effect (moved_part 0 view command))
 
 -- the outcome of the job in the view whose boards have the records of the input

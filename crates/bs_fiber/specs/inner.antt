@@ -1,4 +1,5 @@
 -- What private contracts cite, and no public one.
 pub mod Asking
 pub mod Frames
+pub mod Moving
 pub mod Work

@@ -1,8 +1,8 @@
 //! Completed jobs, and running one.
-ghost use Rattle.std.specs.Prelude.{◌≡◌, ◌≤◌, IfOk, IfErr, map, option_map};
+ghost use Rattle.std.specs.Prelude.{◌≡◌, ◌≤◌, IfOk, IfErr, OnOk, map, option_map};
 ghost use Rattle.bs_fiber.specs.declared.input.Input.{Input as AnyInput};
 ghost use Rattle.bs_fiber.specs.Fit.{IsFitInput};
-ghost use Rattle.bs_fiber.specs.Tickets.{HoldsWork, IsFresh, bytes_of, fresh_bytes, frames_in, names_of, worked_bytes};
+ghost use Rattle.bs_fiber.specs.Tickets.{HoldsWork, IsFresh, bytes_of, fresh_bytes, frames_in, names_of, ticket_in, worked_bytes};
 ghost use Rattle.bs_game.specs.declared.view.View.{View as AnyView};
 ghost use Rattle.bs_fiber.specs.Seeing.{IsSeen};
 ghost use Rattle.bs_fiber.specs.Work.{IsWorked, added_seen};
@@ -37,7 +37,7 @@ impl<const CAP: usize> Model for Done<CAP> {
     ghost use Rattle.bs_fiber.specs.Tickets.{HoldsWork};
     ghost use Rattle.bs_fiber.specs.Work.{IsWorked};
 
-    ghost invariant = { λ d. IsWorked d.ticket.input d.out × HoldsWork d.ticket d.out };
+    ghost invariant = { λ d. IsWorked d.ticket.input d.out × HoldsWork d.ticket };
 }
 
 impl<const CAP: usize> Done<CAP> {
@@ -51,7 +51,7 @@ impl<const CAP: usize> Done<CAP> {
     /// The output of the job.
     pub fn out(&self) -> &Out
         ensures out { IsWorked self.now.input result.now }
-        ensures holds { HoldsWork self.now result.now }
+        ensures holds { HoldsWork self.now }
     {
         &self.out
     }
@@ -67,7 +67,7 @@ impl<const CAP: usize> Done<CAP> {
     pub fn into_parts(self) -> (Ticket<CAP>, Out)
         ensures ticket { result.0 ≡ self.entry }
         ensures out { IsWorked self.entry.input result.1 }
-        ensures holds { HoldsWork self.entry result.1 }
+        ensures holds { HoldsWork self.entry }
     {
         (self.ticket, self.out)
     }
@@ -75,7 +75,7 @@ impl<const CAP: usize> Done<CAP> {
 
 fn added_in<'a, const CAP: usize>(ticket: &'a Ticket<CAP>, out: &Out) -> Option<&'a [u8]>
     requires worked { IsWorked ticket.now.input out.now }
-    requires holds { HoldsWork ticket.now out.now }
+    requires holds { HoldsWork ticket.now }
     ensures { (view : AnyView) → IsSeen view ticket.now.input → option_map (λ bytes. bytes.now) result ≡ added_seen ticket.now.input.job.kind view ticket.now.input.command }
 {
     let frames = ticket.frames();
@@ -97,9 +97,9 @@ fn out_of<const CAP: usize>(
 ) -> Result<Out, AllocError>
     requires wide { LEAST_CAPACITY ≤ CAP }
     requires fit { IsFitInput input.now }
-    requires fresh { bytes_of (frames_in frames.old.items) ≡ fresh_bytes input.now.job.kind input.now.parts }
+    requires fresh { (view : AnyView) → IsSeen view input.now → bytes_of (frames_in frames.old.items) ≡ fresh_bytes input.now.job.kind view input.now.command }
     ensures worked { IfOk result (λ out. IsWorked input.now out) }
-    ensures holds { IfOk result (λ out. bytes_of (frames_in frames.new.items) ≡ worked_bytes input.now.parts out) }
+    ensures holds { OnOk result ((view : AnyView) → IsSeen view input.now → bytes_of (frames_in frames.new.items) ≡ worked_bytes input.now.job.kind input.now.job.part view input.now.command) }
     ensures names { names_of (frames_in frames.new.items) ≡ names_of (frames_in frames.old.items) }
 {
     match input.job.kind {
@@ -112,10 +112,10 @@ fn out_of<const CAP: usize>(
 fn work_in<const CAP: usize>(alloc: Global, contents: &mut Contents<CAP>) -> Result<Out, AllocError>
     requires wide { LEAST_CAPACITY ≤ CAP }
     requires fit { IsFitInput contents.old.input }
-    requires fresh { bytes_of (frames_in contents.old.frames.items) ≡ fresh_bytes contents.old.input.job.kind contents.old.input.parts }
+    requires fresh { IsFresh (ticket_in contents.old) }
     ensures input { contents.new.input ≡ contents.old.input }
     ensures worked { IfOk result (λ out. IsWorked contents.old.input out) }
-    ensures holds { IfOk result (λ out. bytes_of (frames_in contents.new.frames.items) ≡ worked_bytes contents.old.input.parts out) }
+    ensures holds { OnOk result (HoldsWork (ticket_in contents.new)) }
     ensures names { names_of (frames_in contents.new.frames.items) ≡ names_of (frames_in contents.old.frames.items) }
 {
     out_of(alloc, &contents.input, &mut contents.frames)

@@ -1,15 +1,12 @@
 //! Frame blocks: a part writes its moved snakes into its own; a Join reads those of all parts, and
 //! writes the new record after those of part 0.
-ghost use Rattle.std.specs.Prelude.{◌≡◌, ℕ, ◌+◌, ◌≤◌, [], ◌++◌, length, map, flat_map, IfOk, OnOk};
-ghost use Rattle.bs_block.specs.Bytes.{HasRoom, padded, range};
+ghost use Rattle.std.specs.Prelude.{◌≡◌, List, ◌++◌, length, flat_map, IfOk, OnOk};
+ghost use Rattle.bs_block.specs.Bytes.{HasRoom, padded};
 ghost use Rattle.bs_board.specs.declared.boards.snake.Snake.{Snake as AnySnake};
 ghost use Rattle.bs_board.specs.records.FitSnake.{IsFitSnake};
-ghost use Rattle.bs_board.specs.records.Record.{snake_record};
-ghost use Rattle.bs_fiber.specs.Frames.{frame_of};
-ghost use Rattle.bs_fiber.specs.inner.Frames.{IsPieceOf};
+ghost use Rattle.bs_fiber.specs.inner.Frames.{HoldAll, HoldsSnakes, IsPieceOf};
 ghost use Rattle.bs_fiber.specs.Tickets.{bytes_of, frames_in};
 
-use crate::contents::LEAST_CAPACITY;
 use crate::moved::Moved;
 use crate::piece::{Piece, SEATS};
 use bs_board::{Decode, Snake, Snakes, decode_snake};
@@ -49,8 +46,8 @@ fn read_moved<const CAP: usize>(
     moved: &Moved,
     seats: &mut Vec<Snake>,
 ) -> Result<(), AllocError>
-    requires { owned.now.block ≡ frame_of moved.now }
-    ensures { OnOk result (seats.new.items ≡ seats.old.items ++ moved.now) }
+    requires { (snakes : List AnySnake) × HoldsSnakes snakes moved.now owned.now.block }
+    ensures { (snakes : List AnySnake) → HoldsSnakes snakes moved.now owned.now.block → OnOk result (seats.new.items ≡ seats.old.items ++ snakes) }
 {
     let pieces = moved.as_slice();
     for piece in pieces {
@@ -65,8 +62,8 @@ pub(crate) fn read_all<const CAP: usize>(
     frames: &[Owned<CAP>],
     parts: &[Moved],
 ) -> Result<Snakes, AllocError>
-    requires { bytes_of (frames_in frames.now) ≡ map frame_of parts.now }
-    ensures { IfOk result (λ snakes. snakes ≡ flat_map (λ part. part) parts.now) }
+    requires { (all : List (List AnySnake)) × HoldAll all parts.now (bytes_of (frames_in frames.now)) }
+    ensures { (all : List (List AnySnake)) → HoldAll all parts.now (bytes_of (frames_in frames.now)) → IfOk result (λ snakes. snakes ≡ flat_map (λ part. part) all) }
 {
     let mut seats = Vec::with_capacity(alloc, SEATS.saturating_mul(parts.len()))?;
     for part in 0..parts.len() {

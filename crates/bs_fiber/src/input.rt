@@ -25,6 +25,6 @@ pub struct Input {
     pub asked: Option<Record>,
     /// The command in progress.
     pub command: SharedCommand,
-    /// The moved snakes of the parts; only a Join reads them.
+    /// The places of the parts' moved snakes; only a Join reads them.
     pub parts: Parts,
 }

@@ -1,9 +1,9 @@
 //! The job that answers a move once all parts are done.
-ghost use Rattle.std.specs.Prelude.{◌≡◌, ◌≤◌, true, [], Some, is_some, IfOk, flat_map, map, length, slice_index_or};
+ghost use Rattle.std.specs.Prelude.{◌≡◌, ◌≤◌, true, [], Some, is_some, IfOk, OnOk, List, flat_map, map, slice_index_or};
 ghost use Rattle.bs_board.specs.declared.boards.board.Board.{Board as AnyBoard};
+ghost use Rattle.bs_board.specs.declared.boards.snake.Snake.{Snake as AnySnake};
 ghost use Rattle.bs_board.specs.declared.commands.command.Command.TheVariants as command;
 ghost use Rattle.bs_board.specs.boards.Legal.{IsLegal};
-ghost use Rattle.bs_board.specs.records.Kept.{IsLegalRecord};
 ghost use Rattle.bs_board.specs.records.Record.{record_of};
 ghost use Rattle.bs_game.specs.declared.view.View.{View as AnyView};
 ghost use Rattle.bs_game.specs.Law.{IsFitEffect};
@@ -13,8 +13,9 @@ ghost use Rattle.bs_fiber.specs.declared.job.JobKind.TheVariants as kind;
 ghost use Rattle.bs_fiber.specs.Fit.{IsFitInput};
 ghost use Rattle.bs_fiber.specs.Frames.{frame_of};
 ghost use Rattle.bs_fiber.specs.Seeing.{IsSeen};
-ghost use Rattle.bs_fiber.specs.Tickets.{bytes_of, frames_in, names_of, with_added, worked_bytes};
-ghost use Rattle.bs_fiber.specs.Work.{IsWorked, piece_added};
+ghost use Rattle.bs_fiber.specs.Tickets.{bytes_of, frames_in, names_of, with_added};
+ghost use Rattle.bs_fiber.specs.Work.{IsWorked, moved_parts, piece_added};
+ghost use Rattle.bs_fiber.specs.inner.Frames.{AreFewAndFit, HoldAll};
 
 use crate::contents::LEAST_CAPACITY;
 use crate::frames::{read_all, write_record};
@@ -35,10 +36,9 @@ fn moved_board<const CAP: usize>(
     frames: &[Owned<CAP>],
     parts: &[Moved],
 ) -> Result<Board, AllocError>
-    requires last { IsLegalRecord last.now }
-    requires frames { bytes_of (frames_in frames.now) ≡ map frame_of parts.now }
-    ensures { IfOk result (λ moved. (board : AnyBoard) → IsLegal board → last.now ≡ record_of board
-        → moved ≡ record board { snakes = flat_map (λ part. part) parts.now }) }
+    requires { (all : List (List AnySnake)) × HoldAll all parts.now (bytes_of (frames_in frames.now)) }
+    ensures { (board : AnyBoard) (all : List (List AnySnake)) → IsLegal board → last.now ≡ record_of board → HoldAll all parts.now (bytes_of (frames_in frames.now))
+        → IfOk result (λ moved. moved ≡ record board { snakes = flat_map (λ part. part) all }) }
 {
     let mut board = last.without_snakes(alloc)?;
     board.snakes = read_all(alloc, frames, parts)?;
@@ -54,7 +54,7 @@ fn join_move<const CAP: usize>(
 ) -> Result<Answer, AllocError>
     requires fit { IsFitInput input.now }
     requires kind { input.now.job.kind ≡ kind.Join }
-    requires frames { bytes_of (frames_in frames.now) ≡ map frame_of input.now.parts }
+    requires fresh { (view : AnyView) → IsSeen view input.now → bytes_of (frames_in frames.now) ≡ map frame_of (moved_parts view input.now.command) }
     requires command { input.now.command ≡ command.Move orders.now }
     requires last { input.now.last ≡ Some last.now }
     ensures value { IfOk result (λ answer. (view : AnyView) → IsSeen view input.now → answer ≡ answer_of view input.now.command) }
@@ -72,7 +72,7 @@ fn join<const CAP: usize>(
 ) -> Result<Answer, AllocError>
     requires fit { IsFitInput input.now }
     requires kind { input.now.job.kind ≡ kind.Join }
-    requires frames { bytes_of (frames_in frames.now) ≡ map frame_of input.now.parts }
+    requires fresh { (view : AnyView) → IsSeen view input.now → bytes_of (frames_in frames.now) ≡ map frame_of (moved_parts view input.now.command) }
     requires goes { is_move input.now.command ≡ true }
     requires runs { is_some input.now.last ≡ true }
     ensures value { IfOk result (λ answer. (view : AnyView) → IsSeen view input.now → answer ≡ answer_of view input.now.command) }
@@ -87,17 +87,15 @@ fn join<const CAP: usize>(
 /// Appends the record that the answer adds to part 0's block, and returns its piece.
 fn write_added<const CAP: usize>(
     frames: &mut Vec<Owned<CAP>>,
-    parts: &[Moved],
     effect: &Effect,
     quota: u32,
     charge: u32,
 ) -> Option<Piece>
     requires wide { LEAST_CAPACITY ≤ CAP }
-    requires frames { bytes_of (frames_in frames.old.items) ≡ map frame_of parts.now }
-    requires some { 1 ≤ length parts.now }
+    requires parts { (all : List (List AnySnake)) × AreFewAndFit all × (bytes_of (frames_in frames.old.items) ≡ map frame_of all) }
     requires fits { IsFitEffect quota charge effect.now }
-    ensures piece { result ≡ piece_added effect.now (slice_index_or parts.now 0 []) }
-    ensures holds { bytes_of (frames_in frames.new.items) ≡ with_added effect.now (map frame_of parts.now) }
+    ensures piece { (all : List (List AnySnake)) → bytes_of (frames_in frames.old.items) ≡ map frame_of all → result ≡ piece_added effect.now (slice_index_or all 0 []) }
+    ensures holds { bytes_of (frames_in frames.new.items) ≡ with_added effect.now (bytes_of (frames_in frames.old.items)) }
     ensures names { names_of (frames_in frames.new.items) ≡ names_of (frames_in frames.old.items) }
 {
     match effect {
@@ -126,18 +124,12 @@ pub(crate) fn join_parts<const CAP: usize>(
     requires wide { LEAST_CAPACITY ≤ CAP }
     requires fit { IsFitInput input.now }
     requires kind { input.now.job.kind ≡ kind.Join }
-    requires fresh { bytes_of (frames_in frames.old.items) ≡ map frame_of input.now.parts }
+    requires fresh { (view : AnyView) → IsSeen view input.now → bytes_of (frames_in frames.old.items) ≡ map frame_of (moved_parts view input.now.command) }
     ensures worked { IfOk result (λ out. IsWorked input.now out) }
-    ensures holds { IfOk result (λ out. bytes_of (frames_in frames.new.items) ≡ worked_bytes input.now.parts out) }
+    ensures holds { OnOk result ((view : AnyView) → IsSeen view input.now → bytes_of (frames_in frames.new.items) ≡ with_added (answer_of view input.now.command).effect (map frame_of (moved_parts view input.now.command))) }
     ensures names { names_of (frames_in frames.new.items) ≡ names_of (frames_in frames.old.items) }
 {
     let answer = join(alloc, input, frames.as_slice())?;
-    let piece = write_added(
-        frames,
-        input.parts.as_slice(),
-        &answer.effect,
-        input.quota,
-        input.charge,
-    );
+    let piece = write_added(frames, &answer.effect, input.quota, input.charge);
     Ok(Out::Joined(answer, piece))
 }

@@ -10,7 +10,7 @@ pub enum Out {
     Goes,
     /// Begin: the answer, unless the command is an accepted move.
     Answered(Answer),
-    /// Part: its moved snakes, with their pieces of its block.
+    /// Part: the places of its moved snakes in its block.
     Moved(Moved),
     /// Join: the answer to the move, and the piece of part 0's block with the record that it adds.
     Joined(Answer, Option<Piece>),

@@ -1,8 +1,8 @@
-//! The moved snakes of all parts, for the Join.
+//! Where the moved snakes of all parts lie, for the Join.
 use crate::moved::Moved;
 use std::marker::Model;
 
-/// The moved snakes of each part, from part 0. Clauses see the snakes.
+/// The places of each part's moved snakes, from part 0.
 #[derive(Debug, Drop)]
 pub struct Parts {
     parts: Vec<Moved>,
@@ -10,9 +10,9 @@ pub struct Parts {
 
 impl Model for Parts {
     ghost use Rattle.std.specs.Prelude.{List};
-    ghost use Rattle.bs_board.specs.declared.boards.snake.Snake.{Snake};
+    ghost use Rattle.bs_fiber.specs.declared.piece.Piece.{Piece};
 
-    ghost Value = { List (List Snake) };
+    ghost Value = { List (List Piece) };
 
     ghost view = { λ p. p.parts.items };
 }

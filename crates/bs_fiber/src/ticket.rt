@@ -74,7 +74,7 @@ impl<const CAP: usize> Ticket<CAP> {
 
     /// Makes a ticket. Requires records of legal boards, an `asked` record only for a `turn`, a
     /// charge within the quota, and for a Part or a Join an accepted move. A Part has one empty
-    /// block; a Join has the moved snakes and the written block of each part.
+    /// block; a Join has the block that each part wrote, and the places of the snakes there.
     pub fn new(contents: Box<Contents<CAP>>) -> Ticket<CAP>
         requires wide { LEAST_CAPACITY ≤ CAP }
         requires fit { IsFitInput contents.value.input }
@@ -180,7 +180,7 @@ impl<const CAP: usize> Ticket<CAP> {
         self.contents.input.command.get()
     }
 
-    /// The moved snakes of each part, from part 0.
+    /// The places of each part's moved snakes, from part 0.
     pub fn parts(&self) -> &[Moved]
         ensures { result.now ≡ self.now.input.parts }
     {

@@ -4,17 +4,16 @@ use Rattle.std.specs.Prelude.{nat_eq, slice_index_or, slice_set}
 use Rattle.std.proofs.lemmas.Bool.{and_parts, cases_Bool}
 use Rattle.std.proofs.lemmas.List.{set-get_or}
 use Rattle.bs_board.specs.declared.commands.command.Command.{Command}
-use Rattle.bs_board.specs.declared.boards.snake.Snake.{Snake}
 use Rattle.bs_pool.specs.declared.owned.Owned.{Owned}
 use Rattle.bs_game.specs.declared.view.View.{View}
 use Rattle.bs_game.specs.View.{answer_of}
 use Rattle.bs_game.specs.declared.reply.Answer.{Answer}
-use Rattle.bs_fiber.specs.declared.input.Input.{Input}
 use Rattle.bs_fiber.specs.declared.job.JobKind.{JobKind}
 use Rattle.bs_fiber.specs.declared.job.JobKind.TheVariants as kind
 use Rattle.bs_fiber.specs.declared.out.Out.TheVariants.{Goes, Answered, Moved}
-use Rattle.bs_fiber.specs.Frames.{frame_of}
-use Rattle.bs_fiber.specs.Tickets.{HoldsWork, bytes_of, frames_in, names_of}
+use Rattle.bs_fiber.specs.declared.piece.Piece.{Piece}
+use Rattle.bs_fiber.specs.Frames.{frame_of, pieces_from}
+use Rattle.bs_fiber.specs.Tickets.{bytes_of, frames_in, names_of, worked_bytes}
 use Rattle.bs_fiber.specs.Work.{goes, moved_part, out_seen}
 use Rattle.bs_sched.specs.Frames.{flattened}
 use Rattle.bs_sched.specs.Games.{answer_effect, storage_answered}
@@ -65,35 +64,33 @@ named_one own tag n (Some m) is =
     (ap (λ (x : ℕ × ℕ). x.0) pair, ap (λ (x : ℕ × ℕ). Some x.1) (sym pair))
 
 -- its only block is the one that was drawn for it, and holds the snakes that it moved
-pub record IsPartBlock {most : ℕ} (own p : ℕ) (numbers : List (Option ℕ)) (moved : List Snake) (owned : Owned most) : Type 0 where
+pub record IsPartBlock {most : ℕ} (own p : ℕ) (numbers : List (Option ℕ)) (bytes : List ℕ) (owned : Owned most) : Type 0 where
   pub tag : owned.tag ≡ own
   pub number : slice_get numbers p ≡ Some (Some owned.number)
-  pub holds : owned.block ≡ frame_of moved
+  pub holds : owned.block ≡ bytes
 
-pub record IsPart (k : JobKind) (p : ℕ) (view : View) (command : Command) (moved : List Snake) : Type 0 where
+pub record IsPart (k : JobKind) (p : ℕ) (view : View) (command : Command) (pieces : List Piece) : Type 0 where
   pub kind : k ≡ kind.Part
-  pub moved_is : moved ≡ moved_part p view command
+  pub pieces_are : pieces ≡ pieces_from 0 (moved_part p view command)
 
-pub part_of_moved : (k : JobKind) (p : ℕ) (view : View) (command : Command) (moved : List Snake) → Moved moved ≡ out_seen k p view command → IsPart k p view command moved
-part_of_moved kind.Begin p view command moved is =
+pub part_of_moved : (k : JobKind) (p : ℕ) (view : View) (command : Command) (pieces : List Piece) → Moved pieces ≡ out_seen k p view command → IsPart k p view command pieces
+part_of_moved kind.Begin p view command pieces is =
     elim (cases_Bool (goes view command)) [
-      | inl on ↦ let wrong : Moved moved ≡ Goes = rw on at is in absurd cc
-      | inr off ↦ let wrong : Moved moved ≡ Answered (answer_of view command) = rw off at is in absurd cc
+      | inl on ↦ let wrong : Moved pieces ≡ Goes = rw on at is in absurd cc
+      | inr off ↦ let wrong : Moved pieces ≡ Answered (answer_of view command) = rw off at is in absurd cc
     ]
-part_of_moved kind.Part p view command moved is = record { kind = refl; moved_is = cc }
-part_of_moved kind.Join p view command moved is = absurd cc
+part_of_moved kind.Part p view command pieces is = record { kind = refl; pieces_are = cc }
+part_of_moved kind.Join p view command pieces is = absurd cc
 
-pub part_block : {most : ℕ} (k : JobKind) (own p : ℕ) (numbers : List (Option ℕ)) (moved : List Snake) (blocks : List (Owned most)) (owned : Owned most) (input : Input)
-    → k ≡ kind.Part → blocks ≡ owned ∷ [] → names_of (frames_in blocks) ≡ map (λ n. (own, n)) (job_numbers k p numbers)
-    → HoldsWork (record { input = input; frames = frames_in blocks }) (Moved moved) → IsPartBlock own p numbers moved owned
-part_block {most} kind.Begin own p numbers moved blocks owned input part only names holds = absurd cc
-part_block {most} kind.Part own p numbers moved blocks owned input part only names holds =
+pub part_block : {most : ℕ} (own p : ℕ) (numbers : List (Option ℕ)) (view : View) (command : Command) (blocks : List (Owned most)) (owned : Owned most)
+    → blocks ≡ owned ∷ [] → names_of (frames_in blocks) ≡ map (λ n. (own, n)) (job_numbers kind.Part p numbers)
+    → bytes_of (frames_in blocks) ≡ worked_bytes kind.Part p view command → IsPartBlock own p numbers (frame_of (moved_part p view command)) owned
+part_block {most} own p numbers view command blocks owned only names holds =
     let here : ◌≡◌ {A = List (ℕ × ℕ)} ((owned.tag, owned.number) ∷ []) (map (λ (m : ℕ). (own, m)) (flattened (slice_index_or numbers p None ∷ [])))
     = ap (λ (bs : List (Owned most)). names_of (frames_in bs)) (sym only) ∙ names in
     let named = named_one own owned.tag owned.number (slice_index_or numbers p None) here in
-    let bytes : owned.block ∷ [] ≡ frame_of moved ∷ [] = ap (λ (bs : List (Owned most)). bytes_of (frames_in bs)) (sym only) ∙ holds in
+    let bytes : owned.block ∷ [] ≡ frame_of (moved_part p view command) ∷ [] = ap (λ (bs : List (Owned most)). bytes_of (frames_in bs)) (sym only) ∙ holds in
     record { tag = named.0; number = known_one numbers p owned.number named.1; holds = cc }
-part_block {most} kind.Join own p numbers moved blocks owned input part only names holds = absurd cc
 
 -- only a Begin answers without having joined
 

@@ -4,7 +4,6 @@ use Rattle.std.specs.Prelude.{replicate, slice_get, OnOk, OnErr}
 use Rattle.std.proofs.lemmas.Bool.{cond-true}
 use Rattle.std.proofs.lemmas.List.{length-replicate, length-set}
 use Rattle.bs_board.specs.plans.Plan.{GameRow}
-use Rattle.bs_board.specs.declared.boards.snake.Snake.{Snake}
 use Rattle.bs_board.specs.declared.commands.command.Command.{Command}
 use Rattle.bs_fiber.specs.declared.job.JobKind.{JobKind}
 use Rattle.bs_fiber.specs.declared.job.JobKind.TheVariants as kind
@@ -189,13 +188,13 @@ joined_parts cap c x p worker ready is lane plays =
     let at : c.fiber.stage ≡ stage.Join None = (to_join c.fiber c.parts p ready is.parts).at in
     rw (lane, states_joined c.parts) (is.many (ap is_playing at))
 
-done_parts : (cap : ℕ) {at : ℕ} (c : Inside at) (s : Stage) (p n : ℕ) (moved : List Snake) → c.fiber.stage ≡ stage.Parts → IsGame cap c
+done_parts : (cap : ℕ) {at : ℕ} (c : Inside at) (s : Stage) (p n : ℕ) (moved : Written) → c.fiber.stage ≡ stage.Parts → IsGame cap c
     → HasParts (record c.fiber { stage = s }) (states_of (part_completed p moved n c.parts))
 done_parts cap c s p n moved at is plays =
     ap length (states_completed c.parts p n moved) ∙ length-set (states_of c.parts) p state.Done ∙ is.many (ap is_playing at)
 
 -- a part is completed, and the stage is then this one
-pub done_game : (cap : ℕ) {at : ℕ} (c : Inside at) (x : Lane) (s : Stage) (p n : ℕ) (moved : List Snake) → IsGame cap c → c.fiber.is_open ≡ true → c.fiber.stage ≡ stage.Parts
+pub done_game : (cap : ℕ) {at : ℕ} (c : Inside at) (x : Lane) (s : Stage) (p n : ℕ) (moved : Written) → IsGame cap c → c.fiber.is_open ≡ true → c.fiber.stage ≡ stage.Parts
     → x ≡ record c.fiber { stage = s } → may_answer s ≡ false → FitParts (record c.fiber { stage = s }) (part_completed p moved n c.parts)
     → IsGame cap (record c { fiber = x; parts = part_completed p moved n c.parts })
 done_game cap c x s p n moved is stands at x_is silent fit =
@@ -233,10 +232,10 @@ game_forked cap c v x ps worker kept is out goes lane parts =
     let frames = seen_forked c.parts ∙ ap (forked_frames c.parts.tag c.parts.tally) (many ∙ sym (length-replicate n state.Ready)) in
     subst (λ (u : GameView). game_in (record c { fiber = x; parts = ps }) ≡ forked_game u) is (rw (lane, parts) (same_view c.heap.tag c.heap.packing _ _ _ _ states frames))
 
-pub game_completed : {at : ℕ} (c : Inside at) (v : GameView) (x : Lane) (p n : ℕ) (moved : List Snake) → game_in c ≡ v → slice_get (map number_of c.parts.list) p ≡ Some (Some n)
-    → moved ≡ moved_part p (lane_view c.fiber) (lane_command c.fiber) → record x { parts = states_of (part_completed p moved n c.parts) } ≡ with_part_done p (lane_at c)
+pub game_completed : {at : ℕ} (c : Inside at) (v : GameView) (x : Lane) (p n : ℕ) (moved : Written) → game_in c ≡ v → slice_get (map number_of c.parts.list) p ≡ Some (Some n)
+    → moved ≡ written (moved_part p (lane_view c.fiber) (lane_command c.fiber)) → record x { parts = states_of (part_completed p moved n c.parts) } ≡ with_part_done p (lane_at c)
     → game_in (record c { fiber = x; parts = part_completed p moved n c.parts }) ≡ game_with_part p v
 game_completed c v x p n moved is number moved_is lane =
-    let frames = seen_completed c.parts p n moved number ∙ ap (λ (m : List Snake). with_moved p m (frames_of c.parts)) moved_is in
+    let frames = seen_completed c.parts p n moved number ∙ ap (λ (m : Written). with_moved p m (frames_of c.parts)) moved_is in
     subst (λ (u : GameView). game_in (record c { fiber = x; parts = part_completed p moved n c.parts }) ≡ game_with_part p u) is
     (same_view c.heap.tag c.heap.packing _ _ _ _ lane frames)

@@ -22,7 +22,8 @@ use Rattle.bs_board.specs.records.Kept.{IsLegalRecord}
 use Rattle.bs_fiber.specs.Seeing.{IsBoardOf, IsSeen}
 use Rattle.bs_fiber.proofs.Seen.{seen_once}
 use Rattle.bs_sched.specs.Courses.{IsRight}
-use Rattle.bs_sched.specs.Inputs.{input_of, moved_parts_for}
+use Rattle.bs_sched.specs.Frames.{Written, written}
+use Rattle.bs_sched.specs.Inputs.{input_of, moved_parts_for, written_by}
 use Rattle.bs_sched.specs.inner.Inputs.{current_input}
 use Rattle.std.specs.Prelude.{nat_lt, slice_set}
 use Rattle.std.proofs.Common.{get_or}
@@ -31,7 +32,10 @@ use Rattle.std.proofs.lemmas.List.{get_or_past, get_or-set_same}
 use Rattle.std.proofs.lemmas.List.FromFn.{length-map-range_with_len, get_or-map-range_with_len}
 use Rattle.std.proofs.lemmas.Option.{slice_get-get_or}
 use Rattle.bs_board.specs.declared.boards.snake.Snake.{Snake}
-use Rattle.bs_fiber.specs.Work.{moved_part}
+use Rattle.bs_fiber.specs.declared.piece.Piece.{Piece}
+use Rattle.bs_fiber.specs.Tickets.{IsFresh, TicketView, bytes_of, fresh_bytes}
+use Rattle.bs_fiber.specs.Work.{moved_part, moved_parts, parts_of, snakes_in}
+use Rattle.bs_game.specs.declared.view.View.{View}
 use Rattle.bs_sched.specs.PartState.{PartState}
 use Rattle.bs_sched.specs.PartState as state
 use Rattle.bs_sched.specs.declared.stage.Stage.{Stage}
@@ -141,11 +145,18 @@ there worker p parts has =
           absurd cc
     ]
 
-moved_each : (f : ℕ → List Snake) (many p : ℕ) → p < length (map f (range_with_len 0 many)) → slice_get (map f (range_with_len 0 many)) p ≡ Some (f p)
-moved_each f many p within =
-    let long : length (map f (range_with_len 0 many)) ≡ many = length-map-range_with_len f 0 many in
-    let here : get_or (map f (range_with_len 0 many)) p (f p) ≡ f p = get_or-map-range_with_len f 0 many p p (f p) (omega arith) (omega arith) in
-    slice_get-get_or (map f (range_with_len 0 many)) p (f p) within ∙ ap Some here
+map_map : {A B C : Type 0} (f : B → C) (g : A → B) (xs : List A) → map f (map g xs) ≡ map (λ x. f (g x)) xs
+map_map f g [] = refl
+map_map {C = C} f g (x ∷ xs) = ap (λ (ys : List C). f (g x) ∷ ys) (map_map f g xs)
+
+-- what the parts wrote, for each of its fields
+all_written : {X : Type 0} (x : Lane) (f : Written → X) → length x.parts ≡ parts_of (length (snakes_in (lane_view x).last))
+    → map f (written_by x) ≡ map (λ moved. f (written moved)) (moved_parts (lane_view x) (lane_command x))
+all_written {X} x f many =
+    let g : ℕ → List Snake = λ p. moved_part p (lane_view x) (lane_command x) in
+    let parts = range_with_len 0 (length x.parts) in
+    map_map f (λ p. written (g p)) parts ∙ sym (map_map (λ moved. f (written moved)) g parts)
+    ∙ ap (λ (n : ℕ). map (λ moved. f (written moved)) (map g (range_with_len 0 n))) many
 
 pub lane_job : (x : Lane) (worker : ℕ) (job : JobName) (k : JobKind) → job.kind ≡ k → IsRight x → is_out worker x k job.part ≡ true
     → IsFitJob k (input_of x worker job) (lane_view x)
@@ -159,10 +170,7 @@ lane_job x worker job kind.Join is right out =
     let move = right.moves (playing_join worker x.stage both.1) in
     record {
       goes = move.goes;
-      moved = record {
-        all = rw is (length-map-range_with_len (λ p. moved_part p (lane_view x) (lane_command x)) 0 (length x.parts) ∙ move.parts);
-        each = rw is (λ p within. moved_each (λ p. moved_part p (lane_view x) (lane_command x)) (length x.parts) p within);
-      };
+      moved = rw is (all_written x (λ w. w.pieces) move.parts);
     }
 
 pub lane_input : (x : Lane) (worker : ℕ) (job : JobName) → IsRight x → is_out worker x job.kind job.part ≡ true → IsFitInput (input_of x worker job)
@@ -210,12 +218,25 @@ pub part_input : (x y : Lane) (worker : ℕ) (job : JobName) (input : Input) →
 part_input x y worker job input part is held =
     let z = with_taken worker kind.Part job.part x in
     let none : moved_parts_for job.kind z ≡ [] = ap (λ (k : JobKind). moved_parts_for k z) part in
-    subst (λ (w : Lane). input ≡ input_of w worker job) (sym is) (held ∙ ap (λ (ps : List (List Snake)). record (current_input x worker job) { parts = ps }) (sym none))
+    subst (λ (w : Lane). input ≡ input_of w worker job) (sym is) (held ∙ ap (λ (ps : List (List Piece)). record (current_input x worker job) { parts = ps }) (sym none))
 
-pub join_input : (x y : Lane) (worker : ℕ) (job : JobName) (input : Input) (parts : List (List Snake)) → job.kind ≡ kind.Join → y ≡ with_taken worker kind.Join job.part x
+pub join_input : (x y : Lane) (worker : ℕ) (job : JobName) (input : Input) (parts : List (List Piece)) → job.kind ≡ kind.Join → y ≡ with_taken worker kind.Join job.part x
     → input ≡ current_input x worker job → parts ≡ moved_parts_for kind.Join x → record input { parts = parts } ≡ input_of y worker job
 join_input x y worker job input parts join is held moved =
     let z = with_taken worker kind.Join job.part x in
     let all : parts ≡ moved_parts_for job.kind z = moved ∙ ap (λ (k : JobKind). moved_parts_for k z) (sym join) in
     subst (λ (w : Lane). ◌≡◌ {A = Input} (record input { parts = parts }) (input_of w worker job)) (sym is)
-    (ap (λ (i : Input). record i { parts = parts }) held ∙ ap (λ (ps : List (List Snake)). record (current_input x worker job) { parts = ps }) all)
+    (ap (λ (i : Input). record i { parts = parts }) held ∙ ap (λ (ps : List (List Piece)). record (current_input x worker job) { parts = ps }) all)
+
+-- a ticket whose blocks hold what its job starts from in the lane's view
+pub fresh_ticket : (x : Lane) (worker : ℕ) (job : JobName) (ticket : TicketView) → IsRight x → ticket.input ≡ input_of x worker job
+    → bytes_of ticket.frames ≡ fresh_bytes job.kind (lane_view x) (lane_command x) → IsFresh ticket
+fresh_ticket x worker job ticket right is bytes view seen =
+    let there : IsSeen view (input_of x worker job) = subst (IsSeen view) is seen in
+    let same : lane_view x ≡ view = seen_once (input_of x worker job) (lane_view x) view (lane_seen x worker job right) there in
+    bytes ∙ ap (λ (v : View). fresh_bytes job.kind v (lane_command x)) same ∙ ap (λ (i : Input). fresh_bytes i.job.kind view i.command) (sym is)
+
+-- a Join starts from what the parts wrote
+pub joining_bytes : (x : Lane) (worker p : ℕ) → IsRight x → is_out worker x kind.Join p ≡ true
+    → map (λ w. w.bytes) (written_by x) ≡ fresh_bytes kind.Join (lane_view x) (lane_command x)
+joining_bytes x worker p right out = all_written x (λ w. w.bytes) (right.moves (playing_join worker x.stage (and_both _ _ out).1)).parts

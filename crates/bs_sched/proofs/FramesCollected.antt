@@ -7,7 +7,7 @@ use Rattle.std.proofs.lemmas.Option.{slice_get_read}
 use Rattle.bs_modes.proofs.InPlace.{set_next}
 use Rattle.bs_sched.specs.declared.parts.Part.{Part}
 use Rattle.bs_sched.specs.declared.parts.Part.TheVariants as field
-use Rattle.bs_sched.specs.inner.PartsLayout.{block_in, moved_in}
+use Rattle.bs_sched.specs.inner.PartsLayout.{block_in, pieces_in}
 
 seam_here : {X : Type 0} (f : X → X) (xs : List X) (i : ℕ) (d : X) → get_or (map f (take i xs) ++ drop i xs) i d ≡ get_or xs i d
 seam_here f [] zero d = refl
@@ -48,7 +48,7 @@ one_block (field.Out worker block) = omega arith
 one_block (field.Joining block) = omega arith
 one_block (field.Done moved owned) = omega arith
 
-pub one_moved : {most : ℕ} (s : Part most) → length (option_to_list (moved_in s)) ≤ 1
+pub one_moved : {most : ℕ} (s : Part most) → length (option_to_list (pieces_in s)) ≤ 1
 one_moved (field.Ready key) = omega arith
 one_moved (field.Out worker block) = omega arith
 one_moved (field.Joining block) = omega arith

@@ -3,8 +3,7 @@ use Rattle.std.proofs.Common.{◌≡◌, ℕ, ◌<◌, arith, List, [], ◌∷�
 use Rattle.std.specs.Prelude.{flat_map, option_to_list, slice_index_or}
 use Rattle.std.proofs.lemmas.List.{get_or-map, length-map}
 use Rattle.std.proofs.lemmas.List.Elements.{All-nil, All-cons, All-head, All-tail}
-use Rattle.bs_board.specs.declared.boards.snake.Snake.{Snake}
-use Rattle.bs_fiber.specs.Frames.{frame_of}
+use Rattle.bs_fiber.specs.declared.piece.Piece.{Piece}
 use Rattle.bs_counter.specs.Keys.{TallyId}
 use Rattle.bs_pool.specs.declared.owned.Owned.{Owned}
 use Rattle.bs_pool.specs.Ledger.{Ledger}
@@ -15,36 +14,32 @@ use Rattle.bs_heap.proofs.GivenBlocks.{lent_from_owned}
 use Rattle.bs_heap.proofs.HeldBlocks.{holds_rest, leaves_rest}
 use Rattle.bs_sched.specs.declared.parts.Part.{Part}
 use Rattle.bs_sched.specs.declared.parts.Part.TheVariants as field
-use Rattle.bs_sched.specs.inner.PartsLayout.{block_in, joined, moved_in, view_of, AreReadyAt, IsReadyAt, IsPartOf}
+use Rattle.bs_sched.specs.inner.PartsLayout.{block_in, joined, pieces_in, view_of, AreReadyAt, IsReadyAt, IsPartOf}
 use Rattle.bs_sched.specs.MoveParts.{PartView}
 use Rattle.bs_sched.specs.inner.MoveParts.{joined_of, moved_of, number_of}
 use Rattle.bs_sched.specs.MoveParts as part
-use Rattle.bs_sched.specs.Frames.{flattened}
+use Rattle.bs_sched.specs.Frames.{Written, flattened}
 
 -- ---- to the Join
 
 abbrev blocks_in : {most : ℕ} → List (Part most) → List (Owned most)
 blocks_in = flat_map (λ s. option_to_list (block_in s))
 
-pub all_moved : {most : ℕ} (parts : List (Part most)) → flat_map (λ s. option_to_list (moved_in s)) parts ≡ flattened (map moved_of (map view_of parts))
+pub all_moved : {most : ℕ} (parts : List (Part most)) → flat_map (λ s. option_to_list (pieces_in s)) parts ≡ map (λ w. w.pieces) (flattened (map moved_of (map view_of parts)))
 all_moved [] = refl
 all_moved (field.Ready key ∷ parts) = all_moved parts
 all_moved (field.Out worker block ∷ parts) = all_moved parts
 all_moved (field.Joining block ∷ parts) = all_moved parts
-all_moved (field.Done moved owned ∷ parts) = ap (λ (l : List (List Snake)). moved ∷ l) (all_moved parts)
+all_moved (field.Done moved owned ∷ parts) = ap (λ (l : List (List Piece)). moved ∷ l) (all_moved parts)
 
-pub all_bytes : {most : ℕ} (tag : ℕ) (parts : List (Part most)) → All (IsPartOf tag) parts
-    → bytes_of (frames_in (blocks_in parts)) ≡ map frame_of (flattened (map moved_of (map view_of parts)))
-all_bytes tag [] fit = refl
-all_bytes tag (field.Ready key ∷ parts) fit = all_bytes tag parts (All-tail (IsPartOf tag) (field.Ready key) parts fit)
-all_bytes tag (field.Out worker block ∷ parts) fit = all_bytes tag parts (All-tail (IsPartOf tag) (field.Out worker block) parts fit)
-all_bytes tag (field.Joining block ∷ parts) fit = all_bytes tag parts (All-tail (IsPartOf tag) (field.Joining block) parts fit)
-all_bytes tag (field.Done moved owned ∷ parts) fit =
-    let here = All-head (IsPartOf tag) (field.Done moved owned) parts fit in
-    let rest = all_bytes tag parts (All-tail (IsPartOf tag) (field.Done moved owned) parts fit) in
-    rw (here.1, rest) refl
+pub all_bytes : {most : ℕ} (parts : List (Part most)) → bytes_of (frames_in (blocks_in parts)) ≡ map (λ w. w.bytes) (flattened (map moved_of (map view_of parts)))
+all_bytes [] = refl
+all_bytes (field.Ready key ∷ parts) = all_bytes parts
+all_bytes (field.Out worker block ∷ parts) = all_bytes parts
+all_bytes (field.Joining block ∷ parts) = all_bytes parts
+all_bytes (field.Done moved owned ∷ parts) = ap (λ (l : List (List ℕ)). owned.block ∷ l) (all_bytes parts)
 
-pub all_names : {most : ℕ} (tag : ℕ) (parts : List (Part most)) (all : List (List Snake)) → All (IsPartOf tag) parts → map moved_of (map view_of parts) ≡ map Some all
+pub all_names : {most : ℕ} (tag : ℕ) (parts : List (Part most)) (all : List Written) → All (IsPartOf tag) parts → map moved_of (map view_of parts) ≡ map Some all
     → names_of (frames_in (blocks_in parts)) ≡ map (λ n. (tag, n)) (flattened (map number_of (map view_of parts)))
 all_names tag [] all fit back = refl
 all_names tag (field.Ready key ∷ parts) [] fit back = absurd cc
@@ -58,7 +53,7 @@ all_names tag (field.Done moved owned ∷ parts) (m ∷ all) fit back =
     let here = All-head (IsPartOf tag) (field.Done moved owned) parts fit in
     let others : map moved_of (map view_of parts) ≡ map Some all = cc in
     let rest = all_names tag parts all (All-tail (IsPartOf tag) (field.Done moved owned) parts fit) others in
-    rw (here.0, rest) refl
+    rw (here, rest) refl
 
 pub views_joined : {most : ℕ} (parts : List (Part most)) → map view_of (map joined parts) ≡ map joined_of (map view_of parts)
 views_joined [] = refl

@@ -11,7 +11,7 @@ use Rattle.bs_fiber.specs.Expected.{IsOf}
 use Rattle.bs_fiber.specs.declared.out.Out.{Out}
 use Rattle.bs_fiber.specs.Fit.{IsFitInput}
 use Rattle.bs_fiber.specs.Seeing.{IsSeen}
-use Rattle.bs_fiber.specs.Tickets.{Frame, TicketView, names_of}
+use Rattle.bs_fiber.specs.Tickets.{Frame, HoldsWork, TicketView, bytes_of, names_of, worked_bytes}
 use Rattle.bs_fiber.specs.Work.{IsWorked, out_seen}
 use Rattle.bs_fiber.proofs.Seen.{both_expected}
 use Rattle.bs_sched.specs.Courses.{IsRight}
@@ -72,20 +72,31 @@ own_worked x worker ticket out right is worked =
     let seen : IsSeen (lane_view x) ticket = subst (IsSeen (lane_view x)) (sym is) (lane_seen x worker ticket.job right) in
     worked (lane_view x) seen ∙ ap (λ (i : Input). out_seen ticket.job.kind ticket.job.part (lane_view x) i.command) is
 
+-- its blocks hold what the job writes, from the lane's view
+pub own_bytes : (x : Lane) (worker : ℕ) (ticket : TicketView) → IsRight x → ticket.input ≡ input_of x worker ticket.input.job → HoldsWork ticket
+    → bytes_of ticket.frames ≡ worked_bytes ticket.input.job.kind ticket.input.job.part (lane_view x) (lane_command x)
+own_bytes x worker ticket right is holds =
+    let job = ticket.input.job in
+    let seen : IsSeen (lane_view x) ticket.input = subst (IsSeen (lane_view x)) (sym is) (lane_seen x worker job right) in
+    holds (lane_view x) seen ∙ ap (λ (i : Input). worked_bytes job.kind job.part (lane_view x) i.command) is
+
 pub record IsBrought (core : GamesView) (job : JobName) (frames : List Frame) (value : Out) : Type 0 where
   pub there : job.game < length core.lanes
   pub out : (worker : ℕ) × (is_out worker (lane_of core.lanes job.game) job.kind job.part ≡ true)
   pub worked : value ≡ out_seen job.kind job.part (lane_view (lane_of core.lanes job.game)) (lane_command (lane_of core.lanes job.game))
   pub names : names_of frames ≡ names_for core.storage job
+  pub holds : bytes_of frames ≡ worked_bytes job.kind job.part (lane_view (lane_of core.lanes job.game)) (lane_command (lane_of core.lanes job.game))
 
 pub brings : (core : GamesView) (worker : ℕ) (ticket : TicketView) (job : JobName) (out : Out) → IsOwn core worker ticket → job ≡ ticket.input.job
-    → IsRight (lane_of core.lanes job.game) → IsWorked ticket.input out → IsBrought core job ticket.frames out
-brings core worker ticket job out own is right worked =
+    → IsRight (lane_of core.lanes job.game) → IsWorked ticket.input out → HoldsWork ticket → IsBrought core job ticket.frames out
+brings core worker ticket job out own is right worked holds =
+    let here = subst (λ (j : JobName). IsRight (lane_of core.lanes j.game)) is right in
     subst (λ (j : JobName). IsBrought core j ticket.frames out) (sym is)
     (record {
       there = own_there core worker ticket own;
       out = (worker, own_out core worker ticket own);
       worked = own_worked (lane_of core.lanes ticket.input.job.game) worker ticket.input out
-          (subst (λ (j : JobName). IsRight (lane_of core.lanes j.game)) is right) own.input worked;
+          here own.input worked;
       names = own.frames;
+      holds = own_bytes (lane_of core.lanes ticket.input.job.game) worker ticket here own.input holds;
     })

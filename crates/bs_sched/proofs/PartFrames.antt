@@ -4,7 +4,6 @@ use Rattle.std.specs.Prelude.{slice_set, slice_index_or, replicate, nat_eq, nat_
 use Rattle.std.specs.List.{list_all}
 use Rattle.std.proofs.lemmas.Bool.{and_parts, cases_eq, eqb-true}
 use Rattle.std.proofs.lemmas.List.{length-map, length-replicate, length-set, map-set}
-use Rattle.bs_board.specs.declared.boards.snake.Snake.{Snake}
 use Rattle.bs_board.specs.declared.commands.command.Command.{Command}
 use Rattle.bs_game.specs.declared.view.View.{View}
 use Rattle.bs_fiber.specs.declared.job.JobKind.{JobKind}
@@ -77,7 +76,7 @@ none_moved [] p worker n is = absurd cc
 none_moved (s ∷ list) zero worker n is =
     let same : s ≡ part.Ready = cc in
     ap (λ (t : PartView). moved_of t ∷ map moved_of list) (sym same)
-none_moved (s ∷ list) (suc p) worker n is = ap (λ (l : List (Option (List Snake))). moved_of s ∷ l) (none_moved list p worker n is)
+none_moved (s ∷ list) (suc p) worker n is = ap (λ (l : List (Option Written)). moved_of s ∷ l) (none_moved list p worker n is)
 
 pub seen_taken : (v : PartsView) (p worker n : ℕ) → slice_get v.list p ≡ Some part.Ready → frames_of (part_taken p worker n v) ≡ with_number p n (frames_of v)
 seen_taken v p worker n free = rw (numbers_taken v.list p worker n, none_moved v.list p worker n free) refl
@@ -97,18 +96,18 @@ taken_numbers v k p worker n is free = rw is (ap (λ (o : Option ℕ). flattened
 
 -- of one that is completed
 
-same_number : (list : List PartView) (p n : ℕ) (moved : List Snake) → slice_get (map number_of list) p ≡ Some (Some n) → map number_of (set list p (part.Done moved n)) ≡ map number_of list
+same_number : (list : List PartView) (p n : ℕ) (moved : Written) → slice_get (map number_of list) p ≡ Some (Some n) → map number_of (set list p (part.Done moved n)) ≡ map number_of list
 same_number [] p n moved is = absurd cc
 same_number (s ∷ list) zero n moved is =
     let same : number_of s ≡ Some n = let e : Some (number_of s) ≡ Some (Some n) = is in cc in
     ap (λ (o : Option ℕ). o ∷ map number_of list) (sym same)
 same_number (s ∷ list) (suc p) n moved is = ap (λ (l : List (Option ℕ)). number_of s ∷ l) (same_number list p n moved is)
 
-pub seen_completed : (v : PartsView) (p n : ℕ) (moved : List Snake) → slice_get (map number_of v.list) p ≡ Some (Some n)
+pub seen_completed : (v : PartsView) (p n : ℕ) (moved : Written) → slice_get (map number_of v.list) p ≡ Some (Some n)
     → frames_of (part_completed p moved n v) ≡ with_moved p moved (frames_of v)
 seen_completed v p n moved is = rw (same_number v.list p n moved is, map-set moved_of v.list p (part.Done moved n)) refl
 
-pub states_completed : (v : PartsView) (p n : ℕ) (moved : List Snake) → states_of (part_completed p moved n v) ≡ slice_set (states_of v) p state.Done
+pub states_completed : (v : PartsView) (p n : ℕ) (moved : Written) → states_of (part_completed p moved n v) ≡ slice_set (states_of v) p state.Done
 states_completed v p n moved = map-set state_of v.list p (part.Done moved n)
 
 -- of a move that begins
@@ -164,12 +163,12 @@ taken_fit x v p worker n at fit =
 
 -- a part is completed; after the last one the move can be joined
 
-completed_are : (x : Lane) (v : PartsView) (p n : ℕ) (moved : List Snake) → x.stage ≡ stage.Parts → FitParts x v → moved ≡ moved_part p (lane_view x) (lane_command x)
+completed_are : (x : Lane) (v : PartsView) (p n : ℕ) (moved : Written) → x.stage ≡ stage.Parts → FitParts x v → moved ≡ written (moved_part p (lane_view x) (lane_command x))
     → ArePartsAt (lane_view x) (lane_command x) (part_completed p moved n v).list
 completed_are x v p n moved at fit is =
     one_set (lane_view x) (lane_command x) v.list p (part.Done moved n) (subst (λ (s : Stage). ArePartsIn s x v) at fit.at) is
 
-pub completed_fit : (x : Lane) (v : PartsView) (p n : ℕ) (moved : List Snake) → x.stage ≡ stage.Parts → FitParts x v → moved ≡ moved_part p (lane_view x) (lane_command x)
+pub completed_fit : (x : Lane) (v : PartsView) (p n : ℕ) (moved : Written) → x.stage ≡ stage.Parts → FitParts x v → moved ≡ written (moved_part p (lane_view x) (lane_command x))
     → FitParts x (part_completed p moved n v)
 completed_fit x v p n moved at fit is =
     let few = fit.few in
@@ -179,7 +178,7 @@ completed_fit x v p n moved at fit is =
       at = subst (λ (s : Stage). ArePartsIn s x (part_completed p moved n v)) (sym at) (completed_are x v p n moved at fit is);
     }
 
-pub all_completed_fit : (x : Lane) (v : PartsView) (p n : ℕ) (moved : List Snake) → x.stage ≡ stage.Parts → FitParts x v → moved ≡ moved_part p (lane_view x) (lane_command x)
+pub all_completed_fit : (x : Lane) (v : PartsView) (p n : ℕ) (moved : Written) → x.stage ≡ stage.Parts → FitParts x v → moved ≡ written (moved_part p (lane_view x) (lane_command x))
     → list_all is_part_done (states_of (part_completed p moved n v)) ≡ true → FitParts (record x { stage = stage.Join None }) (part_completed p moved n v)
 all_completed_fit x v p n moved at fit is all =
     let few = fit.few in

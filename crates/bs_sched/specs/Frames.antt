@@ -1,7 +1,17 @@
--- The keys, the moved snakes and the frame blocks of one game, by part of the move in progress.
+-- The keys and the frame blocks of one game, by part of the move in progress.
 use Rattle.std.specs.Prelude.{ℕ, List, [], ◌∷◌, Option, Some, None}
 use Rattle.bs_board.specs.declared.boards.snake.Snake.{Snake}
 use Rattle.bs_counter.specs.Keys.{Key, TallyId}
+use Rattle.bs_fiber.specs.declared.piece.Piece.{Piece}
+use Rattle.bs_fiber.specs.Frames.{frame_of, pieces_from}
+
+-- what a part wrote: its block's bytes, and the places of the moved snakes there
+pub record Written : Type 0 where
+  pub pieces : List Piece
+  pub bytes : List ℕ
+
+abbrev pub written : List Snake → Written
+written snakes = record { pieces = pieces_from 0 snakes; bytes = frame_of snakes }
 
 pub record FramesView : Type 0 where
   pub tag : ℕ
@@ -11,8 +21,8 @@ pub record FramesView : Type 0 where
   pub keys : List Key
   -- the number of the block that was drawn for each part
   pub numbers : List (Option ℕ)
-  -- the snakes that each completed part moved, until the Join has them
-  pub moved : List (Option (List Snake))
+  -- what each completed part wrote, until the Join has it
+  pub moved : List (Option Written)
 
 abbrev pub flattened : {X : Type 0} → List (Option X) → List X
 flattened [] = []

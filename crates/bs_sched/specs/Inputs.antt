@@ -1,7 +1,6 @@
 -- The input of a job, which its lane determines.
 use Rattle.std.specs.Prelude.{ℕ, List, [], ◌∷◌, length, map, slice_index_or, option_map, Option, None}
 use Rattle.std.specs.List.{range_with_len}
-use Rattle.bs_board.specs.declared.boards.snake.Snake.{Snake}
 use Rattle.bs_board.specs.declared.commands.command.Command.{Command}
 use Rattle.bs_board.specs.records.Record.{record_of}
 use Rattle.bs_game.specs.Game.{game_charge, last_board}
@@ -10,16 +9,21 @@ use Rattle.bs_fiber.specs.declared.input.Input.{Input}
 use Rattle.bs_fiber.specs.declared.job.JobKind.{JobKind}
 use Rattle.bs_fiber.specs.declared.job.JobKind.TheVariants as kind
 use Rattle.bs_fiber.specs.declared.job.JobName.{JobName}
+use Rattle.bs_fiber.specs.declared.piece.Piece.{Piece}
 use Rattle.bs_fiber.specs.Work.{moved_part}
-use Rattle.bs_sched.specs.Frames.{flattened}
+use Rattle.bs_sched.specs.Frames.{Written, flattened, written}
 use Rattle.bs_sched.specs.Storage.{Storage, frame_tag, frames_of}
 use Rattle.bs_sched.specs.Lane.{Lane, lane_command, lane_view}
 
--- the snakes moved by the parts, for the Join
-abbrev pub moved_parts_for : JobKind → Lane → List (List Snake)
+-- what each part writes
+abbrev pub written_by : Lane → List Written
+written_by x = map (λ p. written (moved_part p (lane_view x) (lane_command x))) (range_with_len 0 (length x.parts))
+
+-- the places of the parts' moved snakes, for the Join
+abbrev pub moved_parts_for : JobKind → Lane → List (List Piece)
 moved_parts_for kind.Begin x = []
 moved_parts_for kind.Part x = []
-moved_parts_for kind.Join x = map (λ p. moved_part p (lane_view x) (lane_command x)) (range_with_len 0 (length x.parts))
+moved_parts_for kind.Join x = map (λ w. w.pieces) (written_by x)
 
 -- the input of a job for that command, without the moved parts
 abbrev pub input_for : Lane → Command → ℕ → ℕ → JobName → Input

@@ -1,14 +1,14 @@
--- The parts of one game's move, one value each, with the keys, snakes and blocks.
+-- The parts of one game's move, one value each, with the keys and blocks.
 use Rattle.std.specs.Prelude.{ℕ, List, Option}
-use Rattle.bs_board.specs.declared.boards.snake.Snake.{Snake}
 use Rattle.bs_counter.specs.Keys.{Key, TallyId}
+use Rattle.bs_sched.specs.Frames.{Written}
 
 -- no worker has taken it; that worker has it out, with the block of that number; it is completed,
--- with its moved snakes and the block; it is completed, and the Join has the block
+-- with what it wrote and the block; it is completed, and the Join has the block
 pub data PartView : Type 0 where
   Ready : PartView
   Out : ℕ → ℕ → PartView
-  Done : List Snake → ℕ → PartView
+  Done : Written → ℕ → PartView
   Joining : ℕ → PartView
 
 pub record PartsView : Type 0 where

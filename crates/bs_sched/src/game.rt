@@ -4,10 +4,9 @@ ghost use Rattle.std.specs.Prelude.{◌≡◌, ◌≢◌, ◌<◌, ◌≤◌, �
 ghost use Rattle.bs_board.specs.declared.limits.TheConstants.{MOST_QUOTA};
 ghost use Rattle.bs_board.specs.records.Record.{record_of};
 ghost use Rattle.bs_fiber.specs.Expected.{IsLegalAsked, IsOf};
-ghost use Rattle.bs_fiber.specs.declared.input.Input.{Input as AnyInput};
 ghost use Rattle.bs_fiber.specs.declared.job.JobKind.TheVariants as kind;
-ghost use Rattle.bs_fiber.specs.Frames.{frame_of};
-ghost use Rattle.bs_fiber.specs.Tickets.{HoldsWork, IsFresh, frames_in, names_of, ticket_in};
+ghost use Rattle.bs_fiber.specs.Frames.{frame_of, pieces_from};
+ghost use Rattle.bs_fiber.specs.Tickets.{IsFresh, bytes_of, frames_in, names_of, ticket_in, worked_bytes};
 ghost use Rattle.bs_fiber.specs.Work.{moved_part, out_seen};
 ghost use Rattle.bs_game.specs.Game.{game_charge, last_board};
 ghost use Rattle.bs_game.specs.View.{answer_of};
@@ -506,13 +505,13 @@ impl<const CAP: usize> Game<CAP> {
         self.parts.fork();
     }
 
-    /// Completes a part: keeps its moved snakes and its block.
+    /// Completes a part: keeps its block, and the places of its moved snakes there.
     fn complete_part(&mut self, part: usize, moved: Moved, owned: Owned<CAP>)
         requires out { (worker : ℕ) × (is_out worker self.old.lane kind.Part part ≡ true) }
-        requires moved { moved ≡ moved_part part (lane_view self.old.lane) (lane_command self.old.lane) }
+        requires moved { moved ≡ pieces_from 0 (moved_part part (lane_view self.old.lane) (lane_command self.old.lane)) }
         requires number { slice_get self.old.frames.numbers part ≡ Some (Some owned.number) }
         requires tag { owned.tag ≡ self.old.frames.tag }
-        requires holds { owned.block ≡ frame_of moved }
+        requires holds { owned.block ≡ frame_of (moved_part part (lane_view self.old.lane) (lane_command self.old.lane)) }
         ensures { self.new ≡ game_with_part part self.old }
     {
         self.parts.complete(part, moved, owned);
@@ -550,7 +549,7 @@ impl<const CAP: usize> Game<CAP> {
         requires worked { out ≡ out_seen job.kind job.part (lane_view self.old.lane) (lane_command self.old.lane) }
         requires blocks { HasBlocks CAP self.old pool.old }
         requires names { names_of (frames_in blocks.old.items) ≡ own_names self.old job }
-        requires holds { (input : AnyInput) × HoldsWork (record { input = input; frames = frames_in blocks.old.items }) out }
+        requires holds { bytes_of (frames_in blocks.old.items) ≡ worked_bytes job.kind job.part (lane_view self.old.lane) (lane_command self.old.lane) }
         ensures game { self.new ≡ completed_game CAP job.kind job.part (next_number pool.old) self.old }
         ensures pool { pool.new ≡ pool_completed CAP job.kind self.old pool.old }
         ensures blocks { HasBlocks CAP self.new pool.new }

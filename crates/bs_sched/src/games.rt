@@ -14,11 +14,10 @@ ghost use Rattle.bs_sched.specs.declared.event.Event.TheVariants as event;
 ghost use Rattle.bs_block.specs.Bytes.{IsCapacity};
 ghost use Rattle.bs_sched.specs.PlanBlocks.{blocks_of_all, blocks_of};
 ghost use Rattle.bs_sched.specs.declared.opening.Open.TheVariants as cause;
-ghost use Rattle.bs_fiber.specs.Tickets.{IsFresh, names_of, HoldsWork, frames_in};
+ghost use Rattle.bs_fiber.specs.Tickets.{IsFresh, bytes_of, frames_in, names_of, worked_bytes};
 ghost use Rattle.bs_sched.specs.Inputs.{input_of, names_for};
 ghost use Rattle.bs_sched.specs.Keyed.{IsKeyOf};
 ghost use Rattle.bs_sched.specs.inner.Taking.{AreNoneOpenReady, AreNoneReadyBetween, IsReadyJob};
-ghost use Rattle.bs_fiber.specs.declared.input.Input.{Input as AnyInput};
 ghost use Rattle.bs_fiber.specs.Work.{out_seen};
 ghost use Rattle.bs_sched.specs.Putting.{IsOwn, IsOwnJob};
 ghost use Rattle.bs_sched.specs.Parts.{AreOwnParts, IsOwnPart};
@@ -410,7 +409,7 @@ impl<const CAP: usize> Games<CAP> {
         requires out { (worker : ℕ) × (is_out worker (lane_of self.old.lanes job.game) job.kind job.part ≡ true) }
         requires worked { out ≡ out_seen job.kind job.part (lane_view (lane_of self.old.lanes job.game)) (lane_command (lane_of self.old.lanes job.game)) }
         requires names { names_of (frames_in blocks.old.items) ≡ names_for self.old.storage job }
-        requires holds { (input : AnyInput) × HoldsWork (record { input = input; frames = frames_in blocks.old.items }) out }
+        requires holds { bytes_of (frames_in blocks.old.items) ≡ worked_bytes job.kind job.part (lane_view (lane_of self.old.lanes job.game)) (lane_command (lane_of self.old.lanes job.game)) }
         ensures { self.new ≡ games_completed CAP self.old job }
     {
         let game = job.game as usize;

@@ -1,10 +1,8 @@
 //! The parts of a game's move. A part has its key until it is taken, then its worker and the number
-//! of its frame block; once it is completed it has its moved snakes and the block, and once the
-//! Join is taken the block's number.
+//! of its frame block; once it is completed it has the block and the places of its moved snakes
+//! there, and once the Join is taken the block's number.
 ghost use Rattle.std.specs.Prelude.{◌≡◌, ◌<◌, ◌≤◌, [], ◌∷◌, ◌++◌, List, ℕ, Some, None, IfOk, true, false, slice_get, vec_len, vec_capacity, length, map, flat_map, option_to_list, slice_index_or, MatchOption, ◌↔◌, IsTrue};
 ghost use Rattle.std.specs.List.{list_all};
-ghost use Rattle.bs_board.specs.declared.boards.snake.Snake.{Snake};
-ghost use Rattle.bs_fiber.specs.Frames.{frame_of};
 ghost use Rattle.bs_fiber.specs.Tickets.{bytes_of, frames_in, names_of};
 ghost use Rattle.bs_sched.specs.Inputs.{job_numbers};
 ghost use Rattle.bs_heap.specs.HeldBlocks.{Holds, LeavesOthers, next_number, all_given};
@@ -13,8 +11,8 @@ ghost use Rattle.bs_pool.specs.Ledger.{held, reserved, drawn};
 ghost use Rattle.bs_sched.specs.declared.parts.Part.TheVariants as field;
 ghost use Rattle.bs_sched.specs.inner.MoveParts.{frames_of, no_parts, part_completed, part_taken, parts_begun, parts_forked, parts_idle, parts_joined, ready_part, states_of};
 ghost use Rattle.bs_sched.specs.PartState as state;
-ghost use Rattle.bs_sched.specs.inner.PartsLayout.{block_in, is_ready_part, joined, moved_in, number_in, part_in, state_in};
-ghost use Rattle.bs_sched.specs.Frames.{flattened};
+ghost use Rattle.bs_sched.specs.inner.PartsLayout.{block_in, is_ready_part, joined, number_in, part_in, pieces_in, state_in};
+ghost use Rattle.bs_sched.specs.Frames.{Written, flattened};
 ghost use Rattle.bs_sched.specs.Keyed.{IsKeyAt};
 ghost use Rattle.bs_sched.specs.inner.Keyed.{AreKeysOf};
 ghost use Rattle.bs_sched.specs.Lane.{has_part, is_part_done, is_part_ready};
@@ -34,7 +32,7 @@ pub(crate) enum Part<const CAP: usize> {
     Ready(PartKey<Done<CAP>>),
     /// That worker has it out, with the frame block of that number.
     Out { worker: usize, block: usize },
-    /// It is completed, with its moved snakes and its frame block.
+    /// It is completed, with the places of its moved snakes in its frame block, and the block.
     Done(Moved, Owned<CAP>),
     /// It is completed, and the frame block of that number is in the Join's ticket.
     Joining(usize),
@@ -112,7 +110,7 @@ fn draw_block<const CAP: usize>(pool: &mut Pool<CAP>, tag: u32) -> Owned<CAP>
     owned
 }
 
-/// Moves the snakes and the block out of a completed part. The part keeps the block's number.
+/// Moves the places and the block out of a completed part. The part keeps the block's number.
 fn join_part<const CAP: usize>(
     place: &mut Part<CAP>,
     moved: &mut Vec<Moved>,
@@ -121,7 +119,7 @@ fn join_part<const CAP: usize>(
     requires moved { vec_len moved.old < vec_capacity moved.old }
     requires frames { vec_len frames.old < vec_capacity frames.old }
     ensures place { place.new ≡ joined place.old }
-    ensures moved { moved.new.items ≡ moved.old.items ++ option_to_list (moved_in place.old) }
+    ensures moved { moved.new.items ≡ moved.old.items ++ option_to_list (pieces_in place.old) }
     ensures moved_room { vec_capacity moved.new ≡ vec_capacity moved.old }
     ensures frames { frames.new.items ≡ frames.old.items ++ option_to_list (block_in place.old) }
     ensures frames_room { vec_capacity frames.new ≡ vec_capacity frames.old }
@@ -129,16 +127,16 @@ fn join_part<const CAP: usize>(
     match replace(place, Part::Joining(0)) {
         Part::Ready(key) => *place = Part::Ready(key),
         Part::Out { worker, block } => *place = Part::Out { worker, block },
-        Part::Done(snakes, owned) => {
+        Part::Done(pieces, owned) => {
             *place = Part::Joining(owned.number());
-            moved.push_reserved(snakes);
+            moved.push_reserved(pieces);
             frames.push_reserved(owned);
         }
         Part::Joining(block) => *place = Part::Joining(block),
     }
 }
 
-/// Moves the snakes and the blocks out of all completed parts, in part order.
+/// Moves the places and the blocks out of all completed parts, in part order.
 fn join_all<const CAP: usize>(
     parts: &mut Vec<Part<CAP>>,
     moved: &mut Vec<Moved>,
@@ -150,7 +148,7 @@ fn join_all<const CAP: usize>(
     requires frames { length parts.old.items ≤ vec_capacity frames.old }
     ensures parts { parts.new.items ≡ map joined parts.old.items }
     ensures room { vec_capacity parts.new ≡ vec_capacity parts.old }
-    ensures moved { moved.new.items ≡ flat_map (λ s. option_to_list (moved_in s)) parts.old.items }
+    ensures moved { moved.new.items ≡ flat_map (λ s. option_to_list (pieces_in s)) parts.old.items }
     ensures frames { frames.new.items ≡ flat_map (λ s. option_to_list (block_in s)) parts.old.items }
 {
     for part in 0..parts.len() {
@@ -333,26 +331,25 @@ impl<const CAP: usize> MoveParts<CAP> {
         (owned, key)
     }
 
-    /// Completes a part: keeps its moved snakes and its block.
+    /// Completes a part: keeps its block, and the places of its moved snakes there.
     pub(crate) fn complete(&mut self, part: usize, moved: Moved, owned: Owned<CAP>)
         requires within { part < length self.old.list }
         requires tag { owned.tag ≡ self.old.tag }
-        requires holds { owned.block ≡ frame_of moved }
-        ensures { self.new ≡ part_completed part moved owned.entry.number self.old }
+        ensures { self.new ≡ part_completed part (record { pieces = moved; bytes = owned.entry.block }) owned.entry.number self.old }
     {
         self.list[part] = Part::Done(moved, owned);
     }
 
-    /// Moves the snakes and the blocks of all parts into the Join's ticket.
+    /// Moves the places and the blocks of all parts into the Join's ticket.
     pub(crate) fn join(&mut self, moved: &mut Vec<Moved>, frames: &mut Vec<Owned<CAP>>)
-        requires back { (all : List (List Snake)) × ((frames_of self.old).moved ≡ map Some all) }
+        requires back { (all : List Written) × ((frames_of self.old).moved ≡ map Some all) }
         requires no_moved { moved.old.items ≡ [] }
         requires moved_room { length self.old.list ≤ vec_capacity moved.old }
         requires no_frames { frames.old.items ≡ [] }
         requires room { length self.old.list ≤ vec_capacity frames.old }
         ensures parts { self.new ≡ parts_joined self.old }
-        ensures moved { moved.new.items ≡ flattened (frames_of self.old).moved }
-        ensures bytes { bytes_of (frames_in frames.new.items) ≡ map frame_of (flattened (frames_of self.old).moved) }
+        ensures moved { moved.new.items ≡ map (λ w. w.pieces) (flattened (frames_of self.old).moved) }
+        ensures bytes { bytes_of (frames_in frames.new.items) ≡ map (λ w. w.bytes) (flattened (frames_of self.old).moved) }
         ensures names { names_of (frames_in frames.new.items) ≡ map (λ n. (self.old.tag, n)) (flattened (frames_of self.old).numbers) }
     {
         join_all(&mut self.list, moved, frames);

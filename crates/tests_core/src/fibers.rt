@@ -4,11 +4,11 @@ use crate::player::{
     CAP, DoneParts, core_of, finish, hand, play_one, put, put_parts, take_done, take_part,
 };
 use bs_board::{
-    Board, Command, Direction, Mode, Point, Record, Reply, Snake, TurnNumber, Word, encode,
+    Board, Command, Direction, Mode, Point, Record, Reply, TurnNumber, Word, encode,
     is_legal,
 };
 use bs_fiber::{
-    Contents, Done, Expected, Handles, Input, JobKind, JobName, Moved, Out, QueuedCommand,
+    Contents, Done, Expected, Handles, Input, JobKind, JobName, Moved, Out, Piece, QueuedCommand,
     SharedCommand, Ticket,
 };
 use bs_game::{Answer, Effect};
@@ -274,12 +274,6 @@ fn check_answered(alloc: Global, out: &Out) -> Result<(), Fail> {
     same("snakes", board.snakes.len(), 3)
 }
 
-fn check_snake(snake: &Snake, health: u8, head: Point, len: usize) -> Result<(), Fail> {
-    same("health", snake.health, health)?;
-    same("length", snake.body.len(), len)?;
-    same("head", snake.body.as_slice().first().copied(), Some(head))
-}
-
 fn moved_by(done: &Done<CAP>) -> Result<&Moved, Fail> {
     match done.out() {
         Out::Moved(moved) => Ok(moved),
@@ -295,42 +289,38 @@ fn block_of(done: &Done<CAP>) -> Result<&Owned<CAP>, Fail> {
     }
 }
 
-/// Checks that the first part moved two snakes.
-fn check_two_moved(done: &Done<CAP>) -> Result<(), Fail> {
-    let moved = moved_by(done)?;
-    same("pieces", moved.pieces().len(), 2)?;
-    let [s, t] = moved.as_slice() else {
-        return Err(Fail::from("not two snakes"));
-    };
-    check_snake(s, 99, Point { x: 1, y: 2 }, 3)?;
-    check_snake(t, 99, Point { x: 5, y: 2 }, 3)
+/// Checks where the snakes of a part lie in its block.
+fn check_pieces(done: &Done<CAP>, expected: &[Piece]) -> Result<(), Fail> {
+    same("pieces", moved_by(done)?.as_slice(), expected)
 }
 
-const MOVED: [u8; 15] = [1, 115, 99, 0, 0, 0, 0, 0, 3, 2, 3, 2, 2, 2, 2];
+const FIRST: [u8; 15] = [1, 115, 99, 0, 0, 0, 0, 0, 3, 2, 3, 2, 2, 2, 2];
+const SECOND: [u8; 15] = [1, 116, 99, 0, 0, 0, 0, 0, 3, 6, 3, 6, 2, 6, 2];
+const THIRD: [u8; 15] = [1, 117, 99, 0, 0, 0, 0, 0, 3, 4, 5, 4, 6, 4, 6];
 
 /// Checks that the first part wrote its two snakes into its block.
-fn check_written(owned: &Owned<CAP>) -> Result<(), Fail> {
-    let block = owned.block();
+fn check_first_part(done: &Done<CAP>) -> Result<(), Fail> {
+    check_pieces(done, &[Piece { at: 0, len: 15 }, Piece { at: 16, len: 15 }])?;
+    let block = block_of(done)?.block();
     holds("32 bytes", block.len() == 32)?;
-    same("the first snake", block.get(0, 15), MOVED.as_slice())
+    same("the first snake", block.get(0, 15), FIRST.as_slice())?;
+    same("the second snake", block.get(16, 15), SECOND.as_slice())
 }
 
-/// Checks that the second part moved one snake and wrote it into its block.
-fn check_second(done: &Done<CAP>) -> Result<(), Fail> {
-    let [u] = moved_by(done)?.as_slice() else {
-        return Err(Fail::from("not one snake"));
-    };
-    check_snake(u, 99, Point { x: 3, y: 4 }, 3)?;
-    same("bytes of a snake", block_of(done)?.block().len(), 16)
+/// Checks that the second part wrote its one snake.
+fn check_second_part(done: &Done<CAP>) -> Result<(), Fail> {
+    check_pieces(done, &[Piece { at: 0, len: 15 }])?;
+    let block = block_of(done)?.block();
+    holds("16 bytes", block.len() == 16)?;
+    same("the third snake", block.get(0, 15), THIRD.as_slice())
 }
 
 /// Runs both parts of the move. Returns the completed parts, and the number of part 0's block.
 fn both_parts(alloc: Global, core: &mut Core<CAP>) -> Result<(DoneParts, usize), Fail> {
     let (first, first_key) = take_part(alloc, core, 1)?;
     let (second, second_key) = take_part(alloc, core, 1)?;
-    check_two_moved(&first)?;
-    check_written(block_of(&first)?)?;
-    check_second(&second)?;
+    check_first_part(&first)?;
+    check_second_part(&second)?;
     let number = block_of(&first)?.number();
     holds("one part is missing", finish(first_key, first)?.is_none())?;
     let parts = finish(second_key, second)?.ok_or("the last part")?;

@@ -13,26 +13,27 @@ use Rattle.bs_board.specs.inner.Writing.{Puts}
 use Rattle.bs_board.specs.records.Layout.{IsSnakeBytes}
 use Rattle.bs_board.specs.records.Record.{cause_byte, cell_bytes, killer_byte, snake_record, state_bytes, two_bytes}
 use Rattle.bs_board.specs.records.Stepped.{CanStep, stepped}
-use Rattle.bs_board.specs.records.Writing.{IsByteCell}
+use Rattle.bs_board.specs.records.Writing.{IsByteCell, IsWritable}
 use Rattle.bs_board.proofs.records.Fields.{raised_again}
 use Rattle.bs_board.proofs.records.FitSnake.{puts_all}
 use Rattle.bs_board.proofs.records.Lengths.{length_of_pairs, length_of_snake}
 use Rattle.bs_board.proofs.records.Parts.{puts_both, puts_snake}
 
 -- the lengths of what is copied
-pub record StepLengths (s : Snake) (parts : SnakeBytes) : Type 0 where
-  pub body : length parts.body.now ≡ 2 * length s.body
-  pub rest : length (take (length parts.body.now - 2) parts.body.now) + 2 ≡ length parts.body.now
-  pub all : length (snake_record s) ≡ 8 + length parts.id.now + length parts.body.now
+pub record StepLengths (s : Snake) (id body : List ℕ) : Type 0 where
+  pub name : length id ≡ length s.id
+  pub parts : length body ≡ 2 * length s.body
+  pub rest : length (take (length body - 2) body) + 2 ≡ length body
+  pub all : length (snake_record s) ≡ 8 + length id + length body
 
-pub step_lengths : (s : Snake) (parts : SnakeBytes) → CanStep s → IsSnakeBytes s parts → StepLengths s parts
-step_lengths s parts can is =
-    let name = ap length is.id in
-    let pairs : length parts.body.now ≡ 2 * length s.body = ap length is.body ∙ length_of_pairs (cell_bytes 1) (λ p. refl) s.body in
-    let some = can.some in
-    let left = length-take-le (length parts.body.now - 2) parts.body.now (omega arith) in
+pub step_lengths : (s : Snake) (id body : List ℕ) → 1 ≤ length s.body → id ≡ s.id → body ≡ flat_map (cell_bytes 1) s.body → StepLengths s id body
+step_lengths s id body some is parts =
+    let name = ap length is in
+    let pairs : length body ≡ 2 * length s.body = ap length parts ∙ length_of_pairs (cell_bytes 1) (λ p. refl) s.body in
+    let left = length-take-le (length body - 2) body (omega arith) in
     record {
-      body = pairs;
+      name = name;
+      parts = pairs;
       rest = omega arith;
       all = length_of_snake s ∙ omega arith;
     }
@@ -79,8 +80,8 @@ pub puts_stepped : (head : Point) (s : Snake) (parts : SnakeBytes) (state : List
 puts_stepped head s parts state first second third fourth next old a b c d new can is made room one two numbers front rest =
     let name : Puts 0 (length parts.id.now ∷ parts.id.now) old b second = puts_both 0 first second (length parts.id.now ∷ []) parts.id.now old a b one two in
     let id : Puts 0 (length s.id ∷ s.id) old b second = rw (← is.id) name in
-    let lengths = step_lengths s parts can is in
-    let count : length parts.body.now / 2 ≡ length (stepped head s).body = let many = stepped_count head s can.some in omega (arith, lengths.body) in
+    let lengths = step_lengths s parts.id.now parts.body.now can.some is.id is.body in
+    let count : length parts.body.now / 2 ≡ length (stepped head s).body = let many = stepped_count head s can.some in omega (arith, lengths.parts) in
     let bytes = made ∙ stepped_bytes head s parts.health parts.killer parts.out (length parts.body.now / 2) can.lives is.health is.killer (is.out can.fits) count in
     let left : take (length parts.body.now - 2) parts.body.now ≡ flat_map (cell_bytes 1) (take (length s.body - 1) s.body) =
     ap (λ bytes. take (length bytes - 2) bytes) is.body ∙ front_bytes s.body in

@@ -1,12 +1,11 @@
 -- The frames of a game after each event.
 use Rattle.std.specs.Prelude.{◌≡◌, ◌≢◌, ℕ, List, [], map, replicate, slice_set, Option, Some, None}
-use Rattle.bs_board.specs.declared.boards.snake.Snake.{Snake}
 use Rattle.bs_fiber.specs.declared.job.JobKind.{JobKind}
 use Rattle.bs_fiber.specs.declared.job.JobKind.TheVariants as kind
 use Rattle.bs_pool.specs.Ledger.{Ledger, drawn}
 use Rattle.bs_heap.specs.HeldBlocks.{Holds}
 use Rattle.bs_counter.specs.Keys.{Key, TallyId}
-use Rattle.bs_sched.specs.Frames.{FramesView}
+use Rattle.bs_sched.specs.Frames.{FramesView, Written}
 
 -- no move is in progress
 abbrev pub idle_frames : ℕ → Option TallyId → FramesView
@@ -27,10 +26,10 @@ with_keys tally keys f = record f { tally = tally; keys = keys }
 abbrev pub with_number : ℕ → ℕ → FramesView → FramesView
 with_number p number f = record f { numbers = slice_set f.numbers p (Some number) }
 
-abbrev pub with_moved : ℕ → List Snake → FramesView → FramesView
+abbrev pub with_moved : ℕ → Written → FramesView → FramesView
 with_moved p moved f = record f { moved = slice_set f.moved p (Some moved) }
 
--- the Join has all snakes and blocks
+-- the Join has all blocks
 abbrev pub joining_frames : FramesView → FramesView
 joining_frames f = record f { moved = map (λ _. None) f.moved }
 

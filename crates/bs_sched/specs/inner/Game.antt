@@ -17,7 +17,7 @@ use Rattle.bs_pool.specs.Ledger.{Ledger, reserved}
 use Rattle.bs_sched.specs.declared.cores.TheConstants.{LEAST_CAPACITY}
 use Rattle.bs_sched.specs.declared.game.Game.TheInside.{Inside}
 use Rattle.bs_sched.specs.declared.plan_blocks.TheConstants.{FRAME_BLOCKS}
-use Rattle.bs_sched.specs.Frames.{flattened}
+use Rattle.bs_sched.specs.Frames.{flattened, written}
 use Rattle.bs_sched.specs.inner.Frames.{forked_frames, frames_taken, idle_frames, no_frames, with_moved}
 use Rattle.bs_sched.specs.Games.{answer_effect}
 use Rattle.bs_sched.specs.Inputs.{input_of, job_numbers}
@@ -80,7 +80,7 @@ forked_game v = record v { lane = forked v.lane; frames = forked_frames v.frames
 
 abbrev pub game_with_part : ℕ → GameView → GameView
 game_with_part p v =
-    record v { lane = with_part_done p v.lane; frames = with_moved p (moved_part p (lane_view v.lane) (lane_command v.lane)) v.frames }
+    record v { lane = with_part_done p v.lane; frames = with_moved p (written (moved_part p (lane_view v.lane) (lane_command v.lane))) v.frames }
 
 abbrev pub answered_game : ℕ → ℕ → GameView → GameView
 answered_game cap number v =

@@ -2,12 +2,11 @@
 -- event.
 use Rattle.std.specs.Prelude.{◌≡◌, ℕ, ◌≤◌, true, List, [], length, map, replicate, slice_get, slice_set, Option, Some, None}
 use Rattle.std.specs.List.{list_all}
-use Rattle.bs_board.specs.declared.boards.snake.Snake.{Snake}
 use Rattle.bs_board.specs.declared.commands.command.Command.{Command}
 use Rattle.bs_counter.specs.Keys.{Key, TallyId}
 use Rattle.bs_fiber.specs.Work.{moved_part}
 use Rattle.bs_game.specs.declared.view.View.{View}
-use Rattle.bs_sched.specs.Frames.{FramesView}
+use Rattle.bs_sched.specs.Frames.{FramesView, Written, written}
 use Rattle.bs_sched.specs.inner.Keyed.{HasKeys}
 use Rattle.bs_sched.specs.Lane.{Lane, is_part_done, lane_command, lane_view}
 use Rattle.bs_sched.specs.PartState.{PartState}
@@ -29,13 +28,13 @@ number_of (Out worker block) = Some block
 number_of (Done moved block) = Some block
 number_of (Joining block) = Some block
 
-abbrev pub moved_of : PartView → Option (List Snake)
+abbrev pub moved_of : PartView → Option Written
 moved_of Ready = None
 moved_of (Out worker block) = None
 moved_of (Done moved block) = Some moved
 moved_of (Joining block) = None
 
--- the part after its snakes and its block went into the Join's ticket
+-- the part after its block went into the Join's ticket
 abbrev pub joined_of : PartView → PartView
 joined_of Ready = Ready
 joined_of (Out worker block) = Out worker block
@@ -66,10 +65,10 @@ ready_part = Ready
 abbrev pub part_taken : ℕ → ℕ → ℕ → PartsView → PartsView
 part_taken p worker block v = record v { list = slice_set v.list p (Out worker block) }
 
-abbrev pub part_completed : ℕ → List Snake → ℕ → PartsView → PartsView
+abbrev pub part_completed : ℕ → Written → ℕ → PartsView → PartsView
 part_completed p moved block v = record v { list = slice_set v.list p (Done moved block) }
 
--- the Join has all snakes and blocks
+-- the Join has all blocks
 abbrev pub parts_joined : PartsView → PartsView
 parts_joined v = record v { list = map joined_of v.list }
 
@@ -78,11 +77,11 @@ abbrev pub parts_idle : PartsView → PartsView
 parts_idle v = record v { keys = []; list = [] }
 
 -- ---- against the lane
--- a completed part has the snakes that it moved; before the Join is taken it has its block too
+-- a completed part has what it wrote; before the Join is taken it has its block too
 abbrev pub IsPartAt : View → Command → ℕ → PartView → Type 0
 IsPartAt view command p Ready = Unit {0}
 IsPartAt view command p (Out worker block) = Unit {0}
-IsPartAt view command p (Done moved block) = moved ≡ moved_part p view command
+IsPartAt view command p (Done moved block) = moved ≡ written (moved_part p view command)
 IsPartAt view command p (Joining block) = ⊥
 
 abbrev pub ArePartsAt : View → Command → List PartView → Type 0

@@ -1,14 +1,13 @@
 -- How the parts of a move lie in their fields.
 use Rattle.std.specs.Prelude.{◌≡◌, ℕ, ◌<◌, ◌≤◌, Bool, true, false, List, length, map, All, Option, Some, None, slice_index_or, vec_capacity}
-use Rattle.bs_board.specs.declared.boards.snake.Snake.{Snake}
 use Rattle.bs_counter.specs.Keys.{TallyId}
-use Rattle.bs_fiber.specs.Frames.{frame_of}
+use Rattle.bs_fiber.specs.declared.piece.Piece.{Piece}
 use Rattle.bs_pool.specs.declared.owned.Owned.{Owned}
 use Rattle.bs_sched.specs.declared.parts.MoveParts.TheInside.{Inside}
 use Rattle.bs_sched.specs.declared.parts.Part.{Part}
 use Rattle.bs_sched.specs.declared.parts.Part.TheVariants as field
 use Rattle.bs_sched.specs.MoveParts.{PartView, PartsView}
-use Rattle.bs_sched.specs.inner.MoveParts.{moved_of, number_of, state_of}
+use Rattle.bs_sched.specs.inner.MoveParts.{number_of, state_of}
 use Rattle.bs_sched.specs.MoveParts as part
 use Rattle.bs_sched.specs.PartState.{PartState}
 use Rattle.bs_sched.specs.Keyed.{IsKeyAt}
@@ -16,7 +15,7 @@ use Rattle.bs_sched.specs.Keyed.{IsKeyAt}
 abbrev pub view_of : {most : ℕ} → Part most → PartView
 view_of (field.Ready key) = part.Ready
 view_of (field.Out worker block) = part.Out worker block
-view_of (field.Done moved owned) = part.Done moved owned.number
+view_of (field.Done moved owned) = part.Done (record { pieces = moved; bytes = owned.block }) owned.number
 view_of (field.Joining block) = part.Joining block
 
 abbrev pub state_in : {most : ℕ} → Part most → PartState
@@ -25,8 +24,11 @@ state_in s = state_of (view_of s)
 abbrev pub number_in : {most : ℕ} → Part most → Option ℕ
 number_in s = number_of (view_of s)
 
-abbrev pub moved_in : {most : ℕ} → Part most → Option (List Snake)
-moved_in s = moved_of (view_of s)
+abbrev pub pieces_in : {most : ℕ} → Part most → Option (List Piece)
+pieces_in (field.Ready key) = None
+pieces_in (field.Out worker block) = None
+pieces_in (field.Done moved owned) = Some moved
+pieces_in (field.Joining block) = None
 
 abbrev pub block_in : {most : ℕ} → Part most → Option (Owned most)
 block_in (field.Ready key) = None
@@ -40,7 +42,7 @@ is_ready_part (field.Out worker block) = false
 is_ready_part (field.Done moved owned) = false
 is_ready_part (field.Joining block) = false
 
--- the part after its snakes and its block went into the Join's ticket
+-- the part after its block went into the Join's ticket
 abbrev pub joined : {most : ℕ} → Part most → Part most
 joined (field.Ready key) = field.Ready key
 joined (field.Out worker block) = field.Out worker block
@@ -51,11 +53,11 @@ joined (field.Joining block) = field.Joining block
 abbrev pub part_in : {most : ℕ} → List (Part most) → ℕ → Part most
 part_in parts p = slice_index_or parts p (field.Joining 0)
 
--- the block of a completed part is the tag's, and holds the moved snakes
+-- the block of a completed part is the tag's
 abbrev pub IsPartOf : {most : ℕ} → ℕ → Part most → Type 0
 IsPartOf tag (field.Ready key) = Unit {0}
 IsPartOf tag (field.Out worker block) = Unit {0}
-IsPartOf tag (field.Done moved owned) = (owned.tag ≡ tag) × (owned.block ≡ frame_of moved)
+IsPartOf tag (field.Done moved owned) = owned.tag ≡ tag
 IsPartOf tag (field.Joining block) = Unit {0}
 
 abbrev pub view_in : {most : ℕ} → Inside most → PartsView

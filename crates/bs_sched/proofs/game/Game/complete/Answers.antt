@@ -1,8 +1,7 @@
 use Rattle.std.proofs.Common.{◌≡◌, ℕ, true, sym, ap, subst, ◌∙◌, arith, length}
 use Rattle.bs_fiber.specs.declared.job.JobKind.{JobKind}
-use Rattle.bs_fiber.specs.declared.out.Out.{Out}
-use Rattle.bs_fiber.specs.Tickets.{Frame, HoldsWork, bytes_of, frame_in, frames_in, names_of}
-use Rattle.bs_fiber.specs.declared.out.Out.TheVariants.{Moved}
+use Rattle.bs_fiber.specs.Tickets.{Frame, bytes_of, frame_in, frames_in, names_of, worked_bytes}
+use Rattle.bs_fiber.specs.declared.job.JobKind.TheVariants as kind
 use Rattle.std.proofs.lemmas.List.{length-map}
 use Rattle.bs_sched.specs.inner.Game.{IsAnswering}
 use Rattle.bs_sched.specs.Lane.{is_out, lane_command, lane_view}
@@ -19,9 +18,11 @@ answer-requires g c =
 
 pub only-requires : goal.only-requires
 only-requires g c =
+    let v = c.args.self.now in
+    let job = c.args.job in
     let frames = frames_in c.args.blocks.now.items in
-    let holds : HoldsWork (record { input = c.requires.holds.0; frames = frames }) (Moved c.in-Moved.moved)
-    = subst (λ (out : Out). HoldsWork (record { input = c.requires.holds.0; frames = frames }) out) c.in-Moved.is c.requires.holds.1 in
+    let part = part_of_moved job.kind job.part (lane_view v.lane) (lane_command v.lane) c.in-Moved.moved (sym c.in-Moved.is ∙ c.requires.worked) in
+    let holds : bytes_of frames ≡ worked_bytes kind.Part job.part (lane_view v.lane) (lane_command v.lane) = rw part.kind at c.requires.holds in
     let one : length (bytes_of frames) ≡ 1 = ap length holds in
     let many = length-map frames (λ (f : Frame). f.bytes) in
     let more = length-map c.args.blocks.now.items frame_in in
@@ -33,10 +34,10 @@ complete_part-requires g c =
     let job = c.args.job in
     let part = part_of_moved job.kind job.part (lane_view v.lane) (lane_command v.lane) c.in-Moved.moved (sym c.in-Moved.is ∙ c.requires.worked) in
     let out = subst (λ (k : JobKind). (w : ℕ) × (is_out w v.lane k job.part ≡ true)) part.kind c.requires.out in
-    let holds = subst (λ (out : Out). HoldsWork (record { input = c.requires.holds.0; frames = frames_in c.args.blocks.now.items }) out) c.in-Moved.is c.requires.holds.1 in
-    let block = part_block job.kind v.frames.tag job.part v.frames.numbers c.in-Moved.moved c.args.blocks.now.items c.only.result
-    c.requires.holds.0 part.kind c.only.ensures.one c.requires.names holds in
-    (omega arith, (omega arith, (out, (part.moved_is, (block.number, (block.tag, block.holds))))))
+    let holds = rw part.kind at c.requires.holds in
+    let names = rw part.kind at c.requires.names in
+    let block = part_block v.frames.tag job.part v.frames.numbers (lane_view v.lane) (lane_command v.lane) c.args.blocks.now.items c.only.result c.only.ensures.one names holds in
+    (omega arith, (omega arith, (out, (part.pieces_are, (block.number, (block.tag, block.holds))))))
 
 pub returns-in-Goes-clause-blocks : goal.returns-in-Goes-clause-blocks
 returns-in-Goes-clause-blocks g c = c.fork.ensures.blocks c.args.pool.now c.requires.blocks

@@ -3,6 +3,7 @@ use Rattle.std.specs.List.{list_all}
 use Rattle.bs_fiber.specs.declared.job.JobKind.TheVariants as kind
 use Rattle.bs_fiber.specs.Work.{moved_part}
 use Rattle.bs_sched.specs.declared.stage.Stage.TheVariants as stage
+use Rattle.bs_sched.specs.Frames.{Written, written}
 use Rattle.bs_sched.specs.Game.{GameView}
 use Rattle.bs_sched.specs.inner.Game.{lane_at}
 use Rattle.bs_sched.specs.inner.Insides.{may_answer}
@@ -20,7 +21,7 @@ complete-requires g c =
     let p = c.args.part in
     let is = subst (λ (v : GameView). (w : ℕ) × (is_out w v.lane kind.Part p ≡ true)) (sym c.self.view_is) c.requires.out in
     let tag = subst (λ (v : GameView). c.args.owned.tag ≡ v.frames.tag) (sym c.self.view_is) c.requires.tag in
-    (omega arith, (omega arith, (part_out inside.fiber p is.0 inside.parts is.1, (tag, c.requires.holds))))
+    (omega arith, (omega arith, (part_out inside.fiber p is.0 inside.parts is.1, tag)))
 
 pub invariant_of-self : goal.invariant_of-self
 invariant_of-self g c =
@@ -28,13 +29,14 @@ invariant_of-self g c =
     let p = c.args.part in
     let n = c.args.owned.number in
     let is = subst (λ (v : GameView). (w : ℕ) × (is_out w v.lane kind.Part p ≡ true)) (sym c.self.view_is) c.requires.out in
-    let moved = subst (λ (v : GameView). c.args.moved ≡ moved_part p (lane_view v.lane) (lane_command v.lane)) (sym c.self.view_is) c.requires.moved in
+    let wrote : Written = record { pieces = c.args.moved; bytes = c.args.owned.block } in
+    let moved = subst (λ (v : GameView). wrote ≡ written (moved_part p (lane_view v.lane) (lane_command v.lane))) (sym c.self.view_is) (rw (c.requires.moved, c.requires.holds) refl) in
     let at = out_part (lane_at inside) is.0 p is.1 in
     let all = ap (λ (v : PartsView). list_all is_part_done (states_of v)) (sym c.complete.ensures) ∙ sym c.are_done.ensures ∙ c.if-are_done.true in
     let stands = open_out g.row.CAP inside is.0 kind.Part p c.self.invariant is.1 in
     rw c.complete.ensures
-    (done_game g.row.CAP inside c.end_parts.new.self (stage.Join None) p n c.args.moved c.self.invariant stands at c.end_parts.ensures refl
-    (all_completed_fit inside.fiber inside.parts p n c.args.moved at c.self.invariant.parts moved all))
+    (done_game g.row.CAP inside c.end_parts.new.self (stage.Join None) p n wrote c.self.invariant stands at c.end_parts.ensures refl
+    (all_completed_fit inside.fiber inside.parts p n wrote at c.self.invariant.parts moved all))
 
 pub invariant_of-self-else-are_done : goal.invariant_of-self-else-are_done
 invariant_of-self-else-are_done g c =
@@ -42,12 +44,13 @@ invariant_of-self-else-are_done g c =
     let p = c.args.part in
     let n = c.args.owned.number in
     let is = subst (λ (v : GameView). (w : ℕ) × (is_out w v.lane kind.Part p ≡ true)) (sym c.self.view_is) c.requires.out in
-    let moved = subst (λ (v : GameView). c.args.moved ≡ moved_part p (lane_view v.lane) (lane_command v.lane)) (sym c.self.view_is) c.requires.moved in
+    let wrote : Written = record { pieces = c.args.moved; bytes = c.args.owned.block } in
+    let moved = subst (λ (v : GameView). wrote ≡ written (moved_part p (lane_view v.lane) (lane_command v.lane))) (sym c.self.view_is) (rw (c.requires.moved, c.requires.holds) refl) in
     let at = out_part (lane_at inside) is.0 p is.1 in
     let stands = open_out g.row.CAP inside is.0 kind.Part p c.self.invariant is.1 in
     rw c.complete.ensures
-    (done_game g.row.CAP inside inside.fiber inside.fiber.stage p n c.args.moved c.self.invariant stands at refl (ap may_answer at)
-    (completed_fit inside.fiber inside.parts p n c.args.moved at c.self.invariant.parts moved))
+    (done_game g.row.CAP inside inside.fiber inside.fiber.stage p n wrote c.self.invariant stands at refl (ap may_answer at)
+    (completed_fit inside.fiber inside.parts p n wrote at c.self.invariant.parts moved))
 
 pub returns-then-are_done : goal.returns-then-are_done
 returns-then-are_done g c =
@@ -55,14 +58,15 @@ returns-then-are_done g c =
     let p = c.args.part in
     let n = c.args.owned.number in
     let is = subst (λ (v : GameView). (w : ℕ) × (is_out w v.lane kind.Part p ≡ true)) (sym c.self.view_is) c.requires.out in
-    let moved = subst (λ (v : GameView). c.args.moved ≡ moved_part p (lane_view v.lane) (lane_command v.lane)) (sym c.self.view_is) c.requires.moved in
+    let wrote : Written = record { pieces = c.args.moved; bytes = c.args.owned.block } in
+    let moved = subst (λ (v : GameView). wrote ≡ written (moved_part p (lane_view v.lane) (lane_command v.lane))) (sym c.self.view_is) (rw (c.requires.moved, c.requires.holds) refl) in
     let at = out_part (lane_at inside) is.0 p is.1 in
     let all = ap (λ (v : PartsView). list_all is_part_done (states_of v)) (sym c.complete.ensures) ∙ sym c.are_done.ensures ∙ c.if-are_done.true in
     let number = subst (λ (v : GameView). slice_get v.frames.numbers p ≡ Some (Some n)) (sym c.self.view_is) c.requires.number in
-    let states = states_completed inside.parts p n c.args.moved in
-    let new = states_of (part_completed p c.args.moved n inside.parts) in
+    let states = states_completed inside.parts p n wrote in
+    let new = states_of (part_completed p wrote n inside.parts) in
     let lane : record c.end_parts.new.self { parts = new } ≡ with_part_done p (lane_at inside) = rw c.end_parts.ensures (done_lane (lane_at inside) new p states all) in
-    rw c.complete.ensures (game_completed inside c.args.self.now c.end_parts.new.self p n c.args.moved c.self.view_is number moved lane)
+    rw c.complete.ensures (game_completed inside c.args.self.now c.end_parts.new.self p n wrote c.self.view_is number moved lane)
 
 pub returns-else-are_done : goal.returns-else-are_done
 returns-else-are_done g c =
@@ -70,11 +74,12 @@ returns-else-are_done g c =
     let p = c.args.part in
     let n = c.args.owned.number in
     let is = subst (λ (v : GameView). (w : ℕ) × (is_out w v.lane kind.Part p ≡ true)) (sym c.self.view_is) c.requires.out in
-    let moved = subst (λ (v : GameView). c.args.moved ≡ moved_part p (lane_view v.lane) (lane_command v.lane)) (sym c.self.view_is) c.requires.moved in
+    let wrote : Written = record { pieces = c.args.moved; bytes = c.args.owned.block } in
+    let moved = subst (λ (v : GameView). wrote ≡ written (moved_part p (lane_view v.lane) (lane_command v.lane))) (sym c.self.view_is) (rw (c.requires.moved, c.requires.holds) refl) in
     let at = out_part (lane_at inside) is.0 p is.1 in
     let some = ap (λ (v : PartsView). list_all is_part_done (states_of v)) (sym c.complete.ensures) ∙ sym c.are_done.ensures ∙ c.if-are_done.false in
     let number = subst (λ (v : GameView). slice_get v.frames.numbers p ≡ Some (Some n)) (sym c.self.view_is) c.requires.number in
-    let states = states_completed inside.parts p n c.args.moved in
-    let new = states_of (part_completed p c.args.moved n inside.parts) in
+    let states = states_completed inside.parts p n wrote in
+    let new = states_of (part_completed p wrote n inside.parts) in
     let lane = undone_lane (lane_at inside) new p at states some in
-    rw c.complete.ensures (game_completed inside c.args.self.now inside.fiber p n c.args.moved c.self.view_is number moved lane)
+    rw c.complete.ensures (game_completed inside c.args.self.now inside.fiber p n wrote c.self.view_is number moved lane)

@@ -4,7 +4,6 @@ use Rattle.bs_fiber.specs.declared.contents.Contents.{Contents}
 use Rattle.bs_fiber.specs.declared.input.Input.{Input}
 use Rattle.bs_fiber.specs.declared.job.JobKind.{JobKind}
 use Rattle.bs_fiber.specs.declared.job.JobKind.TheVariants as kind
-use Rattle.bs_fiber.specs.Frames.{frame_of}
 use Rattle.bs_fiber.specs.Tickets.{IsFresh, TicketView, bytes_of, frames_in, fresh_bytes, names_of}
 use Rattle.bs_pool.specs.declared.owned.Owned.{Owned}
 use Rattle.bs_sched.specs.Game.{GameView}
@@ -13,10 +12,11 @@ use Rattle.bs_sched.specs.inner.Insides.{HasParts}
 use Rattle.bs_sched.specs.MoveParts.{PartsView}
 use Rattle.bs_sched.specs.inner.MoveParts.{frames_of, parts_joined, states_of}
 use Rattle.bs_sched.specs.PartState.{PartState}
+use Rattle.bs_sched.specs.Inputs.{written_by}
 use Rattle.bs_sched.specs.inner.Inputs.{current_input}
-use Rattle.bs_sched.specs.Lane.{Lane, is_out, is_ready, with_taken}
+use Rattle.bs_sched.specs.Lane.{Lane, is_out, is_ready, lane_command, lane_view, with_taken}
 use Rattle.bs_sched.proofs.ChangedGame.{game_joined, joined_parts, kept_game, open_ready, taken_boards}
-use Rattle.bs_sched.proofs.FitInputs.{join_input, lane_input, out_taken}
+use Rattle.bs_sched.proofs.FitInputs.{fresh_ticket, join_input, joining_bytes, lane_input, out_taken}
 use Rattle.bs_sched.proofs.JoinFrames.{join_names, joined_fit, joined_moved, seen_joined, states_joined, to_join}
 use Rattle.bs_sched.proofs.game.Game.join.Goals as goal
 
@@ -51,16 +51,21 @@ new-requires g c =
     ∙ ap (λ (t : Contents g.row.CAP). t.input) c.deref_mut.ensures.value ∙ c.in_ok-contents.ensures.input
     ∙ ap (λ (v : GameView). current_input v.lane c.args.worker job) (sym c.self.view_is) in
     let blocks : c.deref_mut-3.result.now.frames.items ≡ c.join-2.new.frames.items = ap (λ (t : Contents g.row.CAP). t.frames.items) c.deref_mut-3.ensures.value in
-    let moved = c.from_vec.ensures ∙ c.join-2.ensures.moved ∙ joined_moved inside.fiber inside.parts here in
+    let wrote = joined_moved inside.fiber inside.parts here in
+    let moved = c.from_vec.ensures ∙ c.join-2.ensures.moved ∙ ap (map (λ w. w.pieces)) wrote in
     let input = join_input (lane_at inside) x c.args.worker job c.deref_mut-3.result.now.input c.from_vec.result c.requires.kind lane held moved in
     let out : is_out c.args.worker x job.kind job.part ≡ true = rw (lane, c.requires.kind) (out_taken (lane_at inside) c.args.worker kind.Join job.part ready) in
-    let bytes : bytes_of (frames_in c.deref_mut-3.result.now.frames.items) ≡ map frame_of c.from_vec.result
-    = ap (λ (l : List (Owned g.row.CAP)). bytes_of (frames_in l)) blocks ∙ c.join-2.ensures.bytes ∙ ap (map frame_of) (sym (c.from_vec.ensures ∙ c.join-2.ensures.moved)) in
-    let kind_is : c.deref_mut-3.result.now.input.job.kind ≡ kind.Join = ap (λ (i : Input). i.job.kind) held ∙ c.requires.kind in
-    let fresh = subst (λ (k : JobKind). bytes_of (frames_in c.deref_mut-3.result.now.frames.items) ≡ fresh_bytes k c.from_vec.result) (sym kind_is) bytes in
     let many = subst (λ (v : PartsView). HasParts y (states_of v)) (sym c.join-2.ensures.parts)
     (joined_parts g.row.CAP inside y job.part c.args.worker ready c.self.invariant c.in_ok-join.ensures.ok) in
-    (omega arith, (omega arith, (c.self.invariant.wide, (rw input (lane_input x c.args.worker job (c.keeps.ensures (states_of ps) many) out), fresh))))
+    let right = c.keeps.ensures (states_of ps) many in
+    let joins = subst (λ (k : JobKind). is_out c.args.worker x k job.part ≡ true) c.requires.kind out in
+    let bytes : bytes_of (frames_in c.deref_mut-3.result.now.frames.items) ≡ fresh_bytes kind.Join (lane_view x) (lane_command x)
+    = ap (λ (l : List (Owned g.row.CAP)). bytes_of (frames_in l)) blocks ∙ c.join-2.ensures.bytes ∙ ap (map (λ w. w.bytes)) wrote
+    ∙ ap (λ (l : Lane). map (λ w. w.bytes) (written_by l)) (sym lane) ∙ joining_bytes x c.args.worker job.part right joins in
+    let ticket : TicketView = record { input = record c.deref_mut-3.result.now.input { parts = c.from_vec.result }; frames = frames_in c.deref_mut-3.result.now.frames.items } in
+    let fresh : IsFresh ticket = fresh_ticket x c.args.worker job ticket right input
+    (subst (λ (k : JobKind). bytes_of ticket.frames ≡ fresh_bytes k (lane_view x) (lane_command x)) (sym c.requires.kind) bytes) in
+    (omega arith, (omega arith, (c.self.invariant.wide, (rw input (lane_input x c.args.worker job right out), fresh))))
 
 pub invariant_of-self-2 : goal.invariant_of-self-2
 invariant_of-self-2 g c =
@@ -98,12 +103,20 @@ returns-clause-ticket g c =
     ∙ ap (λ (t : Contents g.row.CAP). t.input) c.deref_mut.ensures.value ∙ c.in_ok-contents.ensures.input
     ∙ ap (λ (v : GameView). current_input v.lane c.args.worker job) (sym c.self.view_is) in
     let blocks : c.deref_mut-3.result.now.frames.items ≡ c.join-2.new.frames.items = ap (λ (t : Contents g.row.CAP). t.frames.items) c.deref_mut-3.ensures.value in
-    let moved = c.from_vec.ensures ∙ c.join-2.ensures.moved ∙ joined_moved inside.fiber inside.parts here in
+    let wrote = joined_moved inside.fiber inside.parts here in
+    let moved = c.from_vec.ensures ∙ c.join-2.ensures.moved ∙ ap (map (λ w. w.pieces)) wrote in
     let input = join_input (lane_at inside) x c.args.worker job c.deref_mut-3.result.now.input c.from_vec.result c.requires.kind lane held moved in
-    let bytes : bytes_of (frames_in c.deref_mut-3.result.now.frames.items) ≡ map frame_of c.from_vec.result
-    = ap (λ (l : List (Owned g.row.CAP)). bytes_of (frames_in l)) blocks ∙ c.join-2.ensures.bytes ∙ ap (map frame_of) (sym (c.from_vec.ensures ∙ c.join-2.ensures.moved)) in
-    let kind_is : c.deref_mut-3.result.now.input.job.kind ≡ kind.Join = ap (λ (i : Input). i.job.kind) held ∙ c.requires.kind in
-    let fresh = subst (λ (k : JobKind). bytes_of (frames_in c.deref_mut-3.result.now.frames.items) ≡ fresh_bytes k c.from_vec.result) (sym kind_is) bytes in
+    let out : is_out c.args.worker x job.kind job.part ≡ true = rw (lane, c.requires.kind) (out_taken (lane_at inside) c.args.worker kind.Join job.part ready) in
+    let many = subst (λ (v : PartsView). HasParts y (states_of v)) (sym c.join-2.ensures.parts)
+    (joined_parts g.row.CAP inside y job.part c.args.worker ready c.self.invariant c.in_ok-join.ensures.ok) in
+    let right = c.keeps.ensures (states_of ps) many in
+    let joins = subst (λ (k : JobKind). is_out c.args.worker x k job.part ≡ true) c.requires.kind out in
+    let bytes : bytes_of (frames_in c.deref_mut-3.result.now.frames.items) ≡ fresh_bytes kind.Join (lane_view x) (lane_command x)
+    = ap (λ (l : List (Owned g.row.CAP)). bytes_of (frames_in l)) blocks ∙ c.join-2.ensures.bytes ∙ ap (map (λ w. w.bytes)) wrote
+    ∙ ap (λ (l : Lane). map (λ w. w.bytes) (written_by l)) (sym lane) ∙ joining_bytes x c.args.worker job.part right joins in
+    let ticket : TicketView = record { input = record c.deref_mut-3.result.now.input { parts = c.from_vec.result }; frames = frames_in c.deref_mut-3.result.now.frames.items } in
+    let fresh : IsFresh ticket = fresh_ticket x c.args.worker job ticket right input
+    (subst (λ (k : JobKind). bytes_of ticket.frames ≡ fresh_bytes k (lane_view x) (lane_command x)) (sym c.requires.kind) bytes) in
     let names = ap (λ (l : List (Owned g.row.CAP)). names_of (frames_in l)) blocks
     ∙ join_names job.kind job.part (frames_of inside.parts) (frames_of ps) _ c.requires.kind (ap frames_of c.join-2.ensures.parts ∙ seen_joined inside.parts) c.join-2.ensures.names in
     record {

@@ -13,10 +13,10 @@ use Rattle.bs_sched.specs.MoveParts.{PartsView}
 use Rattle.bs_sched.specs.inner.MoveParts.{part_taken, states_of}
 use Rattle.bs_sched.specs.inner.Insides.{HasParts}
 use Rattle.bs_sched.specs.inner.Inputs.{current_input}
-use Rattle.bs_sched.specs.Lane.{Lane, is_out, is_ready, with_taken}
+use Rattle.bs_sched.specs.Lane.{Lane, is_out, is_ready, lane_command, lane_view, with_taken}
 use Rattle.bs_sched.proofs.ChangedGame.{framed_blocks, game_taken, kept_game, open_ready, taken_parts}
 use Rattle.bs_sched.proofs.Lanes.{ready_part}
-use Rattle.bs_sched.proofs.FitInputs.{lane_input, out_taken, part_input}
+use Rattle.bs_sched.proofs.FitInputs.{fresh_ticket, lane_input, out_taken, part_input}
 use Rattle.bs_sched.proofs.PartFrames.{free_part, one_free, states_taken, taken_fit, taken_numbers}
 use Rattle.bs_sched.proofs.game.Game.take_part.Goals as goal
 
@@ -46,15 +46,17 @@ new-requires g c =
     = ap (λ (t : Contents g.row.CAP). t.input) c.deref_mut-2.ensures.value ∙ ap (λ (t : Contents g.row.CAP). t.input) c.deref_mut.ensures.value
     ∙ c.in_ok-contents.ensures.input ∙ ap (λ (v : GameView). current_input v.lane c.args.worker job) (sym c.self.view_is) in
     let one : c.push_reserved.new.self.items ≡ c.take-owned.result.0 ∷ [] = search rules in
-    let bytes : bytes_of (frames_in c.push_reserved.new.self.items) ≡ fresh_bytes kind.Part c.deref_mut-2.result.now.input.parts
+    let bytes : bytes_of (frames_in c.push_reserved.new.self.items) ≡ fresh_bytes kind.Part (lane_view x) (lane_command x)
     = ap (λ (l : List (Owned g.row.CAP)). bytes_of (frames_in l)) one ∙ ap (λ (b : List ℕ). b ∷ []) c.take-owned.ensures.block in
-    let kind_is : c.deref_mut-2.result.now.input.job.kind ≡ kind.Part = ap (λ (i : Input). i.job.kind) held ∙ c.requires.kind in
-    let fresh = subst (λ (k : JobKind). bytes_of (frames_in c.push_reserved.new.self.items) ≡ fresh_bytes k c.deref_mut-2.result.now.input.parts) (sym kind_is) bytes in
     let input = part_input (lane_at inside) x c.args.worker job c.deref_mut-2.result.now.input c.requires.kind lane held in
     let out : is_out c.args.worker x job.kind job.part ≡ true = rw (lane, c.requires.kind) (out_taken (lane_at inside) c.args.worker kind.Part job.part ready) in
     let many = subst (λ (v : PartsView). HasParts inside.fiber (states_of v)) (sym c.take-owned.ensures.parts)
     (taken_parts g.row.CAP inside job.part c.args.worker (next_number c.args.pool.now) c.self.invariant) in
-    (omega arith, (omega arith, (c.self.invariant.wide, (rw input (lane_input x c.args.worker job (c.keeps.ensures (states_of ps) many) out), fresh))))
+    let right = c.keeps.ensures (states_of ps) many in
+    let ticket : TicketView = record { input = c.deref_mut-2.result.now.input; frames = frames_in c.push_reserved.new.self.items } in
+    let fresh : IsFresh ticket = fresh_ticket x c.args.worker job ticket right input
+    (subst (λ (k : JobKind). bytes_of ticket.frames ≡ fresh_bytes k (lane_view x) (lane_command x)) (sym c.requires.kind) bytes) in
+    (omega arith, (omega arith, (c.self.invariant.wide, (rw input (lane_input x c.args.worker job right out), fresh))))
 
 pub returns-clause-ticket : goal.returns-clause-ticket
 returns-clause-ticket g c =
@@ -70,11 +72,14 @@ returns-clause-ticket g c =
     = ap (λ (t : Contents g.row.CAP). t.input) c.deref_mut-2.ensures.value ∙ ap (λ (t : Contents g.row.CAP). t.input) c.deref_mut.ensures.value
     ∙ c.in_ok-contents.ensures.input ∙ ap (λ (v : GameView). current_input v.lane c.args.worker job) (sym c.self.view_is) in
     let one : c.push_reserved.new.self.items ≡ c.take-owned.result.0 ∷ [] = search rules in
-    let bytes : bytes_of (frames_in c.push_reserved.new.self.items) ≡ fresh_bytes kind.Part c.deref_mut-2.result.now.input.parts
+    let bytes : bytes_of (frames_in c.push_reserved.new.self.items) ≡ fresh_bytes kind.Part (lane_view x) (lane_command x)
     = ap (λ (l : List (Owned g.row.CAP)). bytes_of (frames_in l)) one ∙ ap (λ (b : List ℕ). b ∷ []) c.take-owned.ensures.block in
-    let kind_is : c.deref_mut-2.result.now.input.job.kind ≡ kind.Part = ap (λ (i : Input). i.job.kind) held ∙ c.requires.kind in
-    let fresh = subst (λ (k : JobKind). bytes_of (frames_in c.push_reserved.new.self.items) ≡ fresh_bytes k c.deref_mut-2.result.now.input.parts) (sym kind_is) bytes in
     let input = part_input (lane_at inside) x c.args.worker job c.deref_mut-2.result.now.input c.requires.kind lane held in
+    let many = subst (λ (v : PartsView). HasParts inside.fiber (states_of v)) (sym c.take-owned.ensures.parts)
+    (taken_parts g.row.CAP inside job.part c.args.worker (next_number c.args.pool.now) c.self.invariant) in
+    let ticket : TicketView = record { input = c.deref_mut-2.result.now.input; frames = frames_in c.push_reserved.new.self.items } in
+    let fresh : IsFresh ticket = fresh_ticket x c.args.worker job ticket (c.keeps.ensures (states_of ps) many) input
+    (subst (λ (k : JobKind). bytes_of ticket.frames ≡ fresh_bytes k (lane_view x) (lane_command x)) (sym c.requires.kind) bytes) in
     let n = next_number c.args.pool.now in
     let free = free_part inside.fiber job.part inside.parts ready in
     let taken = c.take-owned.ensures in

@@ -1,6 +1,7 @@
 use Rattle.std.proofs.Common.{◌≡◌, ℕ, [], true, sym, ap, subst, ◌∙◌, arith}
 use Rattle.bs_fiber.specs.declared.job.JobKind.{JobKind}
 use Rattle.bs_fiber.specs.declared.job.JobKind.TheVariants as kind
+use Rattle.bs_fiber.specs.Tickets.{bytes_of, frames_in, worked_bytes}
 use Rattle.bs_fiber.specs.Work.{out_seen}
 use Rattle.bs_heap.specs.HeldBlocks.{next_number}
 use Rattle.bs_sched.specs.Game.{GameView}
@@ -22,8 +23,9 @@ complete-requires g c =
     let stands = open_with_out g.row.CAP inside c.args.self.now job.game out.0 job.kind job.part v c.self.invariant here out.1 in
     let at = row_there g.row.CAP inside c.args.self.now job.game v c.self.invariant here stands in
     let worked = subst (λ (x : Lane). c.args.out ≡ out_seen job.kind job.part (lane_view x) (lane_command x)) here.lane c.requires.worked in
+    let holds = subst (λ (x : Lane). bytes_of (frames_in c.args.blocks.now.items) ≡ worked_bytes job.kind job.part (lane_view x) (lane_command x)) here.lane c.requires.holds in
     let names = c.requires.names ∙ sym (names_there inside c.args.self.now job v c.self.view_is here at.frame_tag_is) in
-    (omega arith, (omega arith, (omega arith, (out, (worked, (at.blocks, (names, c.requires.holds)))))))
+    (omega arith, (omega arith, (omega arith, (out, (worked, (at.blocks, (names, holds)))))))
 
 pub invariant_of-self : goal.invariant_of-self
 invariant_of-self g c =

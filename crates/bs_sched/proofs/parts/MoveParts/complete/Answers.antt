@@ -11,4 +11,4 @@ returns g c =
     let inside = c.self.inside in
     ap (λ (l : List PartView). record { tag = inside.tag; tally = inside.tally; keys = inside.keys.items; list = l })
     (map-set view_of inside.list.items c.args.part (field.Done c.args.moved c.args.owned))
-    ∙ ap (part_completed c.args.part c.args.moved c.args.owned.number) c.self.view_is
+    ∙ ap (part_completed c.args.part (record { pieces = c.args.moved; bytes = c.args.owned.block }) c.args.owned.number) c.self.view_is

@@ -1,6 +1,5 @@
 use Rattle.std.proofs.Common.{◌≡◌, List, Some, map, ap, sym, ◌∙◌, subst, arith, All}
 use Rattle.bs_pool.specs.declared.owned.Owned.{Owned}
-use Rattle.bs_fiber.specs.Frames.{frame_of}
 use Rattle.bs_fiber.specs.Tickets.{bytes_of, frames_in, names_of}
 use Rattle.bs_sched.specs.declared.parts.Part.{Part}
 use Rattle.bs_sched.specs.inner.PartsLayout.{view_of, AreReadyAt, IsPartOf}
@@ -27,13 +26,13 @@ returns-clause-parts g c =
     ap (λ (l : List PartView). record { tag = inside.tag; tally = inside.tally; keys = inside.keys.items; list = l }) list ∙ ap parts_joined c.self.view_is
 
 pub returns-clause-moved : goal.returns-clause-moved
-returns-clause-moved g c = c.join_all.ensures.moved ∙ all_moved c.self.inside.list.items ∙ ap (λ (f : PartsView). flattened (frames_of f).moved) c.self.view_is
+returns-clause-moved g c = c.join_all.ensures.moved ∙ all_moved c.self.inside.list.items ∙ ap (λ (f : PartsView). map (λ w. w.pieces) (flattened (frames_of f).moved)) c.self.view_is
 
 pub returns-clause-bytes : goal.returns-clause-bytes
 returns-clause-bytes g c =
     let inside = c.self.inside in
-    ap (λ (l : List (Owned g.row.CAP)). bytes_of (frames_in l)) c.join_all.ensures.frames ∙ all_bytes inside.tag inside.list.items c.self.invariant.blocks
-    ∙ ap (λ (f : PartsView). map frame_of (flattened (frames_of f).moved)) c.self.view_is
+    ap (λ (l : List (Owned g.row.CAP)). bytes_of (frames_in l)) c.join_all.ensures.frames ∙ all_bytes inside.list.items
+    ∙ ap (λ (f : PartsView). map (λ w. w.bytes) (flattened (frames_of f).moved)) c.self.view_is
 
 pub returns-clause-names : goal.returns-clause-names
 returns-clause-names g c =
