@@ -1,7 +1,6 @@
 -- The place of the record that a Join adds.
-use Rattle.std.proofs.Common.{◌≡◌, ℕ, zero, suc, ◌+◌, ◌-◌, ◌<◌, ◌≤◌, List, [], ◌∷◌, ◌++◌, length, map, take, drop, replicate, get_or, Option, Some, None, refl, sym, ap, subst, ◌∙◌, arith, append_assoc, length-append, take_at, drop_at, inl, inr}
+use Rattle.std.proofs.Common.{◌≡◌, ℕ, ◌+◌, ◌-◌, ◌<◌, ◌≤◌, List, [], ◌∷◌, ◌++◌, length, map, take, replicate, get_or, Option, Some, refl, sym, ap, ◌∙◌, arith, length-append, take_at, drop_at, inl, inr}
 use Rattle.std.proofs.lemmas.Bool.{cases_Bool}
-use Rattle.std.proofs.lemmas.List.{append-nil}
 use Rattle.bs_block.specs.Bytes.{padded, range}
 use Rattle.bs_block.specs.Rounding.{rounded}
 use Rattle.bs_board.specs.declared.boards.snake.Snake.{Snake}
@@ -16,7 +15,7 @@ use Rattle.bs_fiber.specs.declared.input.Input.{Input}
 use Rattle.bs_fiber.specs.declared.job.JobKind.{JobKind}
 use Rattle.bs_fiber.specs.declared.job.JobKind.TheVariants.{Begin, Part, Join}
 use Rattle.bs_fiber.specs.declared.out.Out.{Out}
-use Rattle.bs_fiber.specs.declared.out.Out.TheVariants.{Goes, Answered, Moved, Joined}
+use Rattle.bs_fiber.specs.declared.out.Out.TheVariants.{Goes, Answered, Joined}
 use Rattle.bs_fiber.specs.declared.piece.Piece.{Piece}
 use Rattle.bs_fiber.specs.Fit.{IsFitInput}
 use Rattle.bs_fiber.specs.Frames.{frame_of}

@@ -1,5 +1,5 @@
 -- The snakes that a part moves are fit for a frame block.
-use Rattle.std.proofs.Common.{◌≡◌, ℕ, ◌+◌, ◌*◌, ◌<◌, ◌≤◌, Bool, true, false, List, [], ◌∷◌, length, take, drop, map, get_or, All, MatchOption, Option, Some, None, refl, arith, length-take}
+use Rattle.std.proofs.Common.{◌≡◌, ℕ, ◌*◌, ◌<◌, ◌≤◌, Bool, true, false, List, [], ◌∷◌, length, take, drop, get_or, All, Option, Some, None, arith, length-take}
 use Rattle.std.proofs.lemmas.Bool.{and_parts, leb-true}
 use Rattle.std.proofs.lemmas.List.{length-map}
 use Rattle.std.proofs.lemmas.List.Elements.{All-nil, All-cons, All-take, All-drop, All-map, All-weaker}
@@ -13,14 +13,14 @@ use Rattle.bs_board.specs.declared.boards.point.Direction.{Direction}
 use Rattle.bs_board.specs.declared.commands.command.Command.{Command}
 use Rattle.bs_board.specs.declared.limits.TheConstants.{LONGEST_SIDE}
 use Rattle.bs_board.specs.boards.Cell.{head_of, is_on_board}
-use Rattle.bs_board.specs.boards.Legal.{IsLegal, IsLegalSnake, IsLegalOut, IsHealthOf, IsKillerOf, IsOtherSeat, IsTurnBy, is_head_of, is_near}
+use Rattle.bs_board.specs.boards.Legal.{IsLegal, IsLegalSnake, IsHealthOf, IsKillerOf, IsOtherSeat, IsTurnBy, is_head_of, is_near}
 use Rattle.bs_board.specs.boards.Wrap.{is_wrapped, wrap_of}
 use Rattle.bs_board.specs.commands.Setup.{is_side}
 use Rattle.bs_board.specs.records.FitSnake.{IsFitSnake, IsKillerInRange, IsOutInRange}
 use Rattle.bs_game.specs.declared.view.View.{View}
 use Rattle.bs_rules.specs.Motion.{moved, given_to, IsMovable}
 use Rattle.bs_rules.proofs.Movable.{legal_is_movable, near_from_on_board, near_largest}
-use Rattle.bs_rules.proofs.Sound.{moves, IsMoved, later}
+use Rattle.bs_rules.proofs.Sound.{moves}
 use Rattle.bs_fiber.specs.declared.input.Input.{Input}
 use Rattle.bs_fiber.specs.Fit.{IsFitGame}
 use Rattle.bs_fiber.specs.Seeing.{IsBoardOf, IsSeen}

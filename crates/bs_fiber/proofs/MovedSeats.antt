@@ -1,5 +1,5 @@
 -- The seats that a part moves, and their records in its block.
-use Rattle.std.proofs.Common.{◌≡◌, ℕ, ◌+◌, ◌-◌, ◌*◌, ◌<◌, ◌≤◌, Bool, true, false, List, [], ◌∷◌, ◌++◌, length, take, drop, map, get_or, All, Option, Some, None, refl, sym, ap, subst, ◌∙◌, arith, min, length-append, length-take}
+use Rattle.std.proofs.Common.{◌≡◌, ℕ, ◌+◌, ◌-◌, ◌*◌, ◌<◌, ◌≤◌, Bool, true, false, List, [], ◌∷◌, ◌++◌, length, take, drop, map, get_or, All, Option, Some, None, refl, sym, ap, subst, ◌∙◌, arith, min, length-take}
 use Rattle.std.specs.Prelude.{flat_map, is_none, slice_set}
 use Rattle.std.proofs.lemmas.List.{drop_more, get_or-drop, get_or-map, get_or-take, length-drop, length-map, nil_from_length}
 use Rattle.std.proofs.lemmas.List.Elements.{All-drop, All-map, All-take}

@@ -1,5 +1,5 @@
 -- A Join writes the outcome that is defined for it.
-use Rattle.std.proofs.Common.{◌≡◌, ℕ, ◌+◌, ◌/◌, ◌<◌, ◌≤◌, true, List, [], ◌∷◌, length, get_or, Option, Some, None, slice_get, refl, sym, ap, subst, ◌∙◌, arith, All, map}
+use Rattle.std.proofs.Common.{◌≡◌, ℕ, ◌+◌, ◌≤◌, true, List, [], length, get_or, Option, Some, None, refl, sym, ap, subst, ◌∙◌, arith, All, map}
 use Rattle.std.specs.Prelude.{is_some}
 use Rattle.std.specs.List.{range_with_len}
 use Rattle.std.proofs.lemmas.List.Elements.{All-map}
@@ -19,7 +19,6 @@ use Rattle.bs_game.proofs.Games.{board_charge_small}
 use Rattle.bs_fiber.specs.declared.input.Input.{Input}
 use Rattle.bs_fiber.specs.declared.job.JobKind.{JobKind}
 use Rattle.bs_fiber.specs.declared.job.JobKind.TheVariants.{Join}
-use Rattle.bs_fiber.specs.declared.out.Out.{Out}
 use Rattle.bs_fiber.specs.declared.out.Out.TheVariants.{Joined}
 use Rattle.bs_fiber.specs.declared.piece.Piece.{Piece}
 use Rattle.bs_fiber.specs.Fit.{IsFitInput}
@@ -30,7 +29,6 @@ use Rattle.bs_fiber.specs.Work.{IsWorked, moved_part, moved_parts, out_seen, par
 use Rattle.bs_fiber.proofs.FitSnakes.{moved_part_few, moved_part_fits}
 use Rattle.bs_fiber.proofs.Framed.{frame_small}
 use Rattle.bs_fiber.proofs.Joined.{fit_join, join_has_a_board}
-use Rattle.bs_fiber.proofs.Seen.{some_view}
 
 -- ---- the room
 

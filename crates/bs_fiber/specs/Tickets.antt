@@ -1,5 +1,5 @@
 -- A ticket as clauses see it: the input of its job, and its frame blocks.
-use Rattle.std.specs.Prelude.{◌≡◌, ℕ, ◌≤◌, List, [], ◌∷◌, ◌++◌, length, map, Option, Some, None, slice_index_or}
+use Rattle.std.specs.Prelude.{◌≡◌, ℕ, ◌≤◌, List, [], ◌∷◌, ◌++◌, map}
 use Rattle.bs_block.specs.Bytes.{padded}
 use Rattle.bs_board.specs.declared.commands.command.Command.{Command}
 use Rattle.bs_pool.specs.declared.owned.Owned.{Owned}

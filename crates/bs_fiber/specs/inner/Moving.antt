@@ -1,12 +1,11 @@
 -- What private contracts say of the seats that a part moves.
-use Rattle.std.specs.Prelude.{◌≡◌, ℕ, ◌≤◌, List, ◌++◌, length, All, Option}
-use Rattle.bs_board.specs.declared.boards.point.Point.{Point}
+use Rattle.std.specs.Prelude.{◌≡◌, ℕ, ◌≤◌, List, ◌++◌, length, Option}
 use Rattle.bs_board.specs.declared.boards.point.Direction.{Direction}
 use Rattle.bs_board.specs.declared.boards.snake.Snake.{Snake}
 use Rattle.bs_board.specs.boards.Wrap.{AreSides}
 use Rattle.bs_board.specs.records.FitSnake.{IsFitSnake}
 use Rattle.bs_board.specs.records.Record.{snake_record}
-use Rattle.bs_board.specs.records.Writing.{IsByteCell, IsWritable}
+use Rattle.bs_board.specs.records.Writing.{IsWritable}
 use Rattle.bs_rules.specs.Motion.{IsMovable, given_to, moved}
 
 -- a snake that can be moved, whatever direction is given to it

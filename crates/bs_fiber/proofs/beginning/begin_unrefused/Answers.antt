@@ -1,5 +1,4 @@
-use Rattle.std.proofs.Common.{◌≡◌, sym, ap, ◌∙◌}
-use Rattle.bs_board.specs.declared.commands.command.Command.TheVariants as command
+use Rattle.std.proofs.Common.{sym, ◌∙◌}
 use Rattle.bs_fiber.proofs.Unseen.{asked_is_shown, last_is_shown, move_is_begun}
 use Rattle.bs_fiber.proofs.beginning.begin_unrefused.Goals as goal
 

@@ -1,6 +1,6 @@
-use Rattle.std.proofs.Common.{◌≡◌, ◌∙◌, ap, sym, Some, length, List, ℕ, arith}
+use Rattle.std.proofs.Common.{◌≡◌, ◌∙◌, ap, Some, length, List, ℕ, arith}
 use Rattle.bs_block.specs.Bytes as Bytes
-use Rattle.bs_fiber.proofs.Added.{HasAdded, has_added}
+use Rattle.bs_fiber.proofs.Added.{has_added}
 use Rattle.bs_fiber.proofs.done.added_in.Goals as goal
 
 pub bounds-frames-0 : goal.bounds-frames-0

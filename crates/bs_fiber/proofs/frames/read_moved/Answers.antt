@@ -1,4 +1,4 @@
-use Rattle.std.proofs.Common.{◌≡◌, sym, ◌∙◌, ap, refl, ◌++◌, ◌∷◌, [], arith}
+use Rattle.std.proofs.Common.{◌≡◌, ◌∙◌, ap, refl, ◌++◌, ◌∷◌, [], arith}
 use Rattle.bs_board.specs.declared.boards.snake.Snake.{Snake}
 use Rattle.bs_fiber.proofs.Framed.{piece_there, read_more, read_whole}
 use Rattle.bs_fiber.proofs.frames.read_moved.Goals as goal

@@ -1,7 +1,5 @@
-use Rattle.std.proofs.Common.{◌≡◌, ◌+◌, ◌≤◌, ◌∙◌, [], ap, sym, length, map, get_or, arith}
-use Rattle.std.proofs.lemmas.List.{length-map}
+use Rattle.std.proofs.Common.{◌≡◌, [], ap, length, get_or, arith}
 use Rattle.bs_block.specs.Rounding.{rounded}
-use Rattle.bs_fiber.specs.Frames.{frame_of}
 use Rattle.bs_fiber.proofs.Blocks.{bytes_at, there}
 use Rattle.bs_fiber.proofs.Written.{record_has_room}
 use Rattle.bs_fiber.proofs.joining.write_added.Goals as goal

@@ -1,4 +1,4 @@
-use Rattle.std.proofs.Common.{◌≡◌, true, [], ◌∷◌, sym, ap₂, subst, ◌∙◌, arith}
+use Rattle.std.proofs.Common.{[], ◌∷◌, sym, ap₂, subst, ◌∙◌, arith}
 use Rattle.bs_board.specs.records.Writing.{IsByteCell}
 use Rattle.bs_rules.specs.Motion.{direction_taken, neighbor}
 use Rattle.bs_fiber.proofs.MovedSeats.{lives_as_shown, next_is_byte, some_bytes}
