@@ -16,7 +16,7 @@ use crate::frames::write_moved;
 use crate::input::Input;
 use crate::moved::Moved;
 use crate::piece::SEATS;
-use bs_board::{Command, Direction, Id, Record, Snakes};
+use bs_board::{Command, Moves, Record, Snakes};
 use bs_pool::Owned;
 use bs_rules::move_snakes;
 use std::alloc::{AllocError, Global};
@@ -50,12 +50,13 @@ fn wrap_in(last: &Option<Record>) -> Option<(u8, u8)>
     }
 }
 
-fn moves_in(command: &Command) -> &[(Id, Direction)]
+fn moves_in<'c>(command: &'c Command, none: &'c Moves) -> &'c Moves
+    requires { none.now ≡ [] }
     ensures { result.now ≡ moves_in command.now }
 {
     match command {
-        Command::Move(orders) => orders.moves.as_slice(),
-        _ => &[],
+        Command::Move(orders) => &orders.moves,
+        _ => none,
     }
 }
 
@@ -65,7 +66,8 @@ fn move_seats(alloc: Global, input: &Input) -> Result<Snakes, AllocError>
     ensures { IfOk result (λ moved. (view : AnyView) → IsSeen view input.now → moved ≡ moved_part input.now.job.part view input.now.command) }
 {
     let mut seats = seats_of(alloc, &input.last, input.job.part as usize)?;
-    let moves = moves_in(input.command.get());
+    let none = Moves::new(alloc);
+    let moves = moves_in(input.command.get(), &none);
     move_snakes(&mut seats, moves, wrap_in(&input.last));
     Ok(seats)
 }

@@ -50,11 +50,11 @@ fn check_cells(what: &str, cells: &Option<Cells>, wanted: &[Point]) -> Result<()
     same(what, cells.as_slice(), wanted)
 }
 
-fn check_move(copy: &Move) -> Result<(), Fail> {
-    let moves = copy.moves.as_slice();
+fn check_move(alloc: Global, copy: &Move) -> Result<(), Fail> {
+    let moves = copy.moves.to_vec(alloc)?;
     same("directions", moves.len(), 2)?;
-    check_direction(moves, 0, "a", Direction::Up)?;
-    check_direction(moves, 1, "b", Direction::Left)?;
+    check_direction(moves.as_slice(), 0, "a", Direction::Up)?;
+    check_direction(moves.as_slice(), 1, "b", Direction::Left)?;
     same("words", copy.words.as_slice(), [5, 6].as_slice())?;
     check_cells("hazards", &copy.hazards, &[Point { x: 2, y: 3 }])?;
     check_cells("food", &copy.food, &[Point { x: 4, y: 1 }])
@@ -68,7 +68,7 @@ fn a_move_is_copied(rt: HostRuntime) -> Result<(), Fail> {
     let order = orders(alloc, &directions, &[5, 6])?.with_map(Some(hazards), Some(food));
     let command = Command::Move(order);
     match command.copy(alloc)? {
-        Command::Move(copy) => check_move(&copy),
+        Command::Move(copy) => check_move(alloc, &copy),
         _ => Err(Fail::from("another command")),
     }
 }

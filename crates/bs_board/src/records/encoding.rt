@@ -83,7 +83,7 @@ fn put(into: &mut [u8], at: usize, bytes: &[u8]) -> usize
     end
 }
 
-fn two_bytes(number: u16) -> [u8; 2]
+pub(crate) fn two_bytes(number: u16) -> [u8; 2]
     ensures { result ≡ two_bytes number }
 {
     number.to_be_bytes()
