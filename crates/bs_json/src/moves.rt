@@ -9,7 +9,7 @@ ghost use Rattle.bs_json.specs.Values.{or_default, whole_to};
 use crate::limits::{MOST_FOOD, MOST_WORD};
 use crate::values::{FromItem, each, whole_to};
 use bs_board::limits::{MOST_HAZARDS, MOST_WORDS};
-use bs_board::{Cells, Direction, Move, Moves, Version, Words};
+use bs_board::{Cells, Direction, Id, Move, Moves, Version, Words};
 use serde_json::{Map, Value};
 use std::alloc::{AllocError, Global};
 use std::mem;
@@ -41,7 +41,7 @@ fn directions_of(alloc: Global, members: Map<String, Value>) -> Result<Moves, Al
     let mut found = Moves::new(alloc);
     for (id, value) in members {
         if let Some(direction) = direction_from(&value) {
-            found.push(id.as_bytes(), direction)?;
+            found.push(Id::from_string(id).as_bytes(), direction)?;
         }
     }
     Ok(found)

@@ -1,11 +1,11 @@
 //! Copies of values with text or lists equal their sources; the versions of files.
 use crate::compare::same_board;
 use bs_board::{
-    Board, Cells, Command, Direction, Hazards, Id, KeptBoard, Mode, Move, New, Point, Reply, Rows,
-    Version, Word, is_legal,
+    Board, Cells, Command, Direction, Hazards, Id, KeptBoard, Mode, Move, Moves, New, Point, Reply,
+    Rows, Version, Word, is_legal,
 };
 use bs_samples::{cells, holds, orders, plan_of, same, solo_after, starts};
-use std::alloc::Global;
+use std::alloc::{AllocError, Global};
 use std::test::Fail;
 
 /// Makes a reply that shows the board, and copies it.
@@ -71,6 +71,43 @@ fn a_move_is_copied(rt: HostRuntime) -> Result<(), Fail> {
         Command::Move(copy) => check_move(alloc, &copy),
         _ => Err(Fail::from("another command")),
     }
+}
+
+/// Adds the direction of one snake.
+fn push_direction(
+    alloc: Global,
+    moves: &mut Moves,
+    id: &str,
+    direction: Direction,
+) -> Result<(), AllocError> {
+    moves.push(Id::from_str(alloc, id)?.as_bytes(), direction)
+}
+
+/// Makes the directions of two snakes.
+fn two_directions(alloc: Global) -> Result<Moves, AllocError> {
+    let mut moves = Moves::with_capacity(alloc, 8)?;
+    push_direction(alloc, &mut moves, "a", Direction::Up)?;
+    push_direction(alloc, &mut moves, "bc", Direction::Left)?;
+    Ok(moves)
+}
+
+#[test]
+fn directions_are_found_by_id(rt: HostRuntime) -> Result<(), Fail> {
+    let moves = two_directions(rt.alloc())?;
+    same("a direction", moves.direction_for(b"a"), Some(Direction::Up))?;
+    same("a direction", moves.direction_for(b"bc"), Some(Direction::Left))?;
+    same("no direction", moves.direction_for(b"b"), None)
+}
+
+#[test]
+fn directions_are_compared(rt: HostRuntime) -> Result<(), Fail> {
+    let alloc = rt.alloc();
+    let mut moves = two_directions(alloc)?;
+    holds("the same", moves.is_same(&two_directions(alloc)?))?;
+    holds("ascending", moves.is_ascending())?;
+    push_direction(alloc, &mut moves, "b", Direction::Left)?;
+    holds("others", !moves.is_same(&two_directions(alloc)?))?;
+    holds("not ascending", !moves.is_ascending())
 }
 
 /// Compares the start of one snake.
