@@ -45,11 +45,7 @@ fn direction_from(byte: u8) -> Option<Direction>
 }
 
 /// Appends the direction of one seat, if it has one.
-fn push_move(
-    given: &mut Moves,
-    id: &Id,
-    direction: Option<Direction>,
-) -> Result<(), AllocError>
+fn push_move(given: &mut Moves, id: &Id, direction: Option<Direction>) -> Result<(), AllocError>
     ensures { OnOk result (given.new ≡ given.old ++ in_front direction id.now []) }
 {
     match direction {
@@ -59,11 +55,7 @@ fn push_move(
 }
 
 /// The directions of the seats, as a move names them.
-pub fn moves_by_seat(
-    alloc: Global,
-    bytes: &[u8],
-    snakes: &[Snake],
-) -> Result<Moves, AllocError>
+pub fn moves_by_seat(alloc: Global, bytes: &[u8], snakes: &[Snake]) -> Result<Moves, AllocError>
     ensures { IfOk result (λ moves. moves ≡ moves_by_seat bytes.now snakes.now) }
 {
     let mut given = Moves::new(alloc);

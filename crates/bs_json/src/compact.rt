@@ -98,10 +98,7 @@ fn split_next_move<'l>(line: &'l [u8], later: bool) -> Option<(&'l [u8], Directi
 
 /// Parses all moves up to the closing brace.
 #[tactic(auto, using(crate::proofs::CutTexts::one_move_more, crate::proofs::CutTexts::some_with_one, crate::proofs::CutTexts::plain_with_one, crate::proofs::CompactBytes::plain_text))]
-fn split_moves<'l>(
-    alloc: Global,
-    line: &'l [u8],
-) -> Result<Option<(Moves, &'l [u8])>, AllocError>
+fn split_moves<'l>(alloc: Global, line: &'l [u8]) -> Result<Option<(Moves, &'l [u8])>, AllocError>
     ensures text { IfOk result
         (λ cut. IfSome cut (λ found. line.now ≡ moves_text false found.0 ++ 125 ∷ found.1.now)) }
     ensures plain { IfOk result (λ cut. IfSome cut (λ found. are_plain_moves found.0 ≡ true)) }

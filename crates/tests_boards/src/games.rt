@@ -6,7 +6,9 @@ ghost use Rattle.bs_game.specs.Reasons.{first_reason};
 ghost use Rattle.bs_game.specs.View.{IsFitView};
 ghost use Rattle.bs_rules.specs.Motion.{moved_board, IsMovable};
 
-use bs_board::{Board, Command, Mode, Move, Moves, Point, Refusal, Reply, TurnNumber, Word, is_legal};
+use bs_board::{
+    Board, Command, Mode, Move, Moves, Point, Refusal, Reply, TurnNumber, Word, is_legal,
+};
 use bs_game::{
     Answer, Effect, View, answer, check, check_move, check_unseen, joined, joined_within,
     place_of_turn, refuse,

@@ -94,8 +94,16 @@ fn two_directions(alloc: Global) -> Result<Moves, AllocError> {
 #[test]
 fn directions_are_found_by_id(rt: HostRuntime) -> Result<(), Fail> {
     let moves = two_directions(rt.alloc())?;
-    same("a direction", moves.direction_for(b"a"), Some(Direction::Up))?;
-    same("a direction", moves.direction_for(b"bc"), Some(Direction::Left))?;
+    same(
+        "a direction",
+        moves.direction_for(b"a"),
+        Some(Direction::Up),
+    )?;
+    same(
+        "a direction",
+        moves.direction_for(b"bc"),
+        Some(Direction::Left),
+    )?;
     same("no direction", moves.direction_for(b"b"), None)
 }
 

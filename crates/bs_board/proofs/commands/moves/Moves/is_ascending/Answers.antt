@@ -19,13 +19,13 @@ loop-turn-preserved c =
     let later = drop-drop 1 (c.loop-turn._turn + 1) c.args.self.now in (
       first.1 ∙ ap packed later,
       ap (λ m. is_ascending ((c.in-Some-split_entry.id.now, Up) ∷ m)) (sym later)
-      ∙ next_above c.loop-turn.before.now c.in-Some-split_entry.id.now _ left (drop 1 left) c.args.self.now first.0 (sym c.if-not-is_below.ensures) c.loop-turn.invariant.1,
+          ∙ next_above c.loop-turn.before.now c.in-Some-split_entry.id.now _ left (drop 1 left) c.args.self.now first.0 (sym c.if-not-is_below.ensures) c.loop-turn.invariant.1,
     )
 
 pub returns : goal.returns
 returns c =
     let left = drop (c.loop-turn._turn + 1) c.args.self.now in
     let none =
-        none_left c.args.self.now c.self.inside.bytes.items (c.loop-turn._turn + 1) (c.self.invariant.whole ∙ ap packed c.self.view_is)
-        (let over = c.loop-turn-test.false in omega (arith, c.len-turn-end.ensures)) in
+    none_left c.args.self.now c.self.inside.bytes.items (c.loop-turn._turn + 1) (c.self.invariant.whole ∙ ap packed c.self.view_is)
+    (let over = c.loop-turn-test.false in omega (arith, c.len-turn-end.ensures)) in
     last_above c.loop-turn.before.now left c.args.self.now none c.loop-turn.invariant.1

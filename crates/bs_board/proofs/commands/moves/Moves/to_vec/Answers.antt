@@ -14,7 +14,7 @@ loop-turn-preserved c =
     let more : c.push.new.self.items ≡ c.loop-turn.entries.items ++ (c.in-Some.id.now, c.in-Some.direction) ∷ [] = search rules in (
       first.1 ∙ ap packed later,
       ap (λ m. c.push.new.self.items ++ m) (sym later)
-      ∙ one_out c.args.self.now left c.loop-turn.entries.items c.push.new.self.items (c.in-Some.id.now, c.in-Some.direction) first.0 c.loop-turn.invariant.1 more,
+          ∙ one_out c.args.self.now left c.loop-turn.entries.items c.push.new.self.items (c.in-Some.id.now, c.in-Some.direction) first.0 c.loop-turn.invariant.1 more,
     )
 
 pub unreachable-requires : goal.unreachable-requires
@@ -28,6 +28,6 @@ unreachable-requires c =
 pub returns : goal.returns
 returns c =
     let none =
-        none_left c.args.self.now c.self.inside.bytes.items c.loop-turn._turn (c.self.invariant.whole ∙ ap packed c.self.view_is)
-        (let over = c.loop-turn-test.false in omega (arith, c.len-turn-end.ensures)) in
+    none_left c.args.self.now c.self.inside.bytes.items c.loop-turn._turn (c.self.invariant.whole ∙ ap packed c.self.view_is)
+    (let over = c.loop-turn-test.false in omega (arith, c.len-turn-end.ensures)) in
     sym (append-nil c.loop-turn.entries.items) ∙ ap (λ m. c.loop-turn.entries.items ++ m) (sym none) ∙ c.loop-turn.invariant.1
