@@ -1,4 +1,5 @@
 -- Lemmas on the contents of commands.
 pub mod Ascending
 pub mod FitSetup
+pub mod PackedMoves
 pub mod SameValues

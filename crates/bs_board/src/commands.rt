@@ -4,6 +4,7 @@ pub mod command;
 pub mod equality;
 pub mod moves;
 pub mod orders;
+mod packed;
 pub mod reply;
 pub mod setup;
 pub mod starts;

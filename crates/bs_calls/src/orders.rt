@@ -45,33 +45,24 @@ fn direction_from(byte: u8) -> Option<Direction>
 }
 
 /// Appends the direction of one seat, if it has one.
-fn push_move(
-    alloc: Global,
-    given: &mut Vec<(Id, Direction)>,
-    id: &Id,
-    direction: Option<Direction>,
-) -> Result<(), AllocError>
-    ensures { OnOk result (given.new.items ≡ given.old.items ++ in_front direction id.now []) }
+fn push_move(given: &mut Moves, id: &Id, direction: Option<Direction>) -> Result<(), AllocError>
+    ensures { OnOk result (given.new ≡ given.old ++ in_front direction id.now []) }
 {
-    if let Some(direction) = direction {
-        given.push((id.copy(alloc)?, direction))?;
+    match direction {
+        Some(direction) => given.push(id.as_bytes(), direction),
+        None => Ok(()),
     }
-    Ok(())
 }
 
 /// The directions of the seats, as a move names them.
-pub fn moves_by_seat(
-    alloc: Global,
-    bytes: &[u8],
-    snakes: &[Snake],
-) -> Result<Vec<(Id, Direction)>, AllocError>
-    ensures { IfOk result (λ moves. moves.items ≡ moves_by_seat bytes.now snakes.now) }
+pub fn moves_by_seat(alloc: Global, bytes: &[u8], snakes: &[Snake]) -> Result<Moves, AllocError>
+    ensures { IfOk result (λ moves. moves ≡ moves_by_seat bytes.now snakes.now) }
 {
-    let mut given = Vec::with_capacity(alloc, snakes.len())?;
+    let mut given = Moves::new(alloc);
     let count = bytes.len().min(snakes.len());
     for seat in 0..count {
         let direction = direction_from(bytes[seat]);
-        push_move(alloc, &mut given, &snakes[seat].id, direction)?;
+        push_move(&mut given, &snakes[seat].id, direction)?;
     }
     Ok(given)
 }
@@ -90,6 +81,5 @@ pub fn rest_of(alloc: Global, orders: &SeatOrders<'_>) -> Result<Move, AllocErro
     let words = words_of(alloc, orders.words)?;
     let hazards = points_if(alloc, orders.has_hazards, orders.hazards)?;
     let food = points_if(alloc, orders.has_food, orders.food)?;
-    let none = Moves::from_vec(Vec::new(alloc));
-    Ok(Move::new(none, words).with_map(hazards, food))
+    Ok(Move::new(Moves::new(alloc), words).with_map(hazards, food))
 }

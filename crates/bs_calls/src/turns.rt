@@ -8,11 +8,11 @@ ghost use Rattle.bs_calls.specs.BySeat.{turn_by_seat, turn_with};
 ghost use Rattle.bs_rules.specs.Motion.{moved_board, IsMovable};
 
 use crate::orders::{SeatOrders, moves_by_seat, rest_of};
-use bs_board::{Board, Direction, Id, Move};
+use bs_board::{Board, Move, Moves};
 use bs_rules::{finish_turn, move_snakes};
 use std::alloc::{AllocError, Global};
 
-fn move_board(board: Board, moves: &[(Id, Direction)]) -> Board
+fn move_board(board: Board, moves: &Moves) -> Board
     requires bodies { All IsMovable board.snakes }
     requires sides { AreSides (wrap_of board) }
     ensures { result ≡ moved_board moves.now board }
@@ -32,7 +32,7 @@ fn turn_with(alloc: Global, board: Board, bytes: &[u8], rest: &Move) -> Result<B
     ensures legal { IfOk result IsLegal }
 {
     let moves = moves_by_seat(alloc, bytes, board.snakes.as_slice())?;
-    let moved = move_board(board, moves.as_slice());
+    let moved = move_board(board, &moves);
     finish_turn(alloc, moved, rest)
 }
 

@@ -25,7 +25,7 @@ use bs_board::{
     Command, Direction, Record, SnakeBytes, encode_stepped_into, skip_snakes, split_snake,
 };
 use bs_pool::Owned;
-use bs_rules::{direction_for, next_head};
+use bs_rules::next_head;
 
 /// The direction that the command gives to the id of these bytes.
 #[inline(always)]
@@ -33,7 +33,7 @@ fn given_in(command: &Command, id: &[u8]) -> Option<Direction>
     ensures { result ≡ given_to (moves_in command.now) id.now }
 {
     match command {
-        Command::Move(orders) => direction_for(orders.moves.as_slice(), id),
+        Command::Move(orders) => orders.moves.direction_for(id),
         _ => None,
     }
 }

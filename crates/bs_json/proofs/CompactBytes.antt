@@ -2,7 +2,8 @@
 use Rattle.std.proofs.Common.{◌≡◌, ◌<◌, ◌≤◌, ◌^◌, ◌==◌, ℕ, suc, List, [], ◌∷◌, ◌++◌, All, Bool, true, false, not, nat_le, nat_lt, IsUtf8, codes, decimal, refl, arith}
 use Rattle.std.proofs.lemmas.Bool.{and_from, lt-ltb, ltb-true}
 use Rattle.std.proofs.lemmas.Fmt.{IsAscii-decimal}
-use Rattle.std.proofs.lemmas.Str.{IsUtf8-append, IsUtf8-from_ascii}
+use Rattle.std.proofs.lemmas.Str.{IsUtf8-append, IsUtf8-from_ascii, is_utf8-from_IsUtf8}
+use Rattle.std.specs.Str.{is_utf8}
 use Rattle.json.proofs.Printed.Utf8.{are_ascii, IsUtf8-are_ascii}
 use Rattle.serde_json.specs.Written.{comma_if}
 use Rattle.bs_board.specs.declared.boards.point.Direction.{Direction}
@@ -33,6 +34,9 @@ plain_is_ascii (byte ∷ text) plain =
 -- ASCII followed by UTF-8
 ascii_then : (front rest : List ℕ) → are_ascii front ≡ true → IsUtf8 rest → IsUtf8 (front ++ rest)
 ascii_then front rest ascii utf8 = IsUtf8-append front rest (IsUtf8-are_ascii front ascii) utf8
+
+pub plain_text : (text : List ℕ) → are_plain text ≡ true → is_utf8 text ≡ true
+plain_text text plain = is_utf8-from_IsUtf8 text (IsUtf8-are_ascii text (plain_is_ascii text plain))
 
 plain_then : (front rest : List ℕ) → are_plain front ≡ true → IsUtf8 rest → IsUtf8 (front ++ rest)
 plain_then front rest plain utf8 = ascii_then front rest (plain_is_ascii front plain) utf8

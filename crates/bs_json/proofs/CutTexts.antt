@@ -40,34 +40,10 @@ place_found false place end is = absurd (cc)
 pub plain_front : (line : List ℕ) (end : ℕ) → position (λ byte. not (is_plain byte)) line ≡ Some end → are_plain (take end line) ≡ true
 plain_front line end is = subst (λ n. are_plain (take n line) ≡ true) (place_found _ _ end is) (plain_prefix line)
 
--- a name is chosen by itself or by the later ones
-chosen : (b : Bool) (here there : Direction) (rest : Option Direction) → cond b (Some here) rest ≡ Some there → ((b ≡ true) × (here ≡ there)) ⊎ (rest ≡ Some there)
-chosen true here there rest is = inl (refl, cc)
-chosen false here there rest is = inr is
-
-same_name : (name wanted : List ℕ) → is_same_text name wanted ≡ true → name ≡ wanted
-same_name name wanted = (bytes_eq-Decides name wanted).0
-
-pub named_direction : (name : List ℕ) (d : Direction) → direction_named name ≡ Some d → name ≡ direction_name d
-named_direction name d is = elim (chosen (is_same_text name (codes "up")) Up d _ is) [
-  | inl e ↦ subst (λ x. name ≡ direction_name x) e.1 (same_name name (codes "up") e.0)
-  | inr up ↦ elim (chosen (is_same_text name (codes "down")) Down d _ up) [
-    | inl e ↦ subst (λ x. name ≡ direction_name x) e.1 (same_name name (codes "down") e.0)
-    | inr down ↦ elim (chosen (is_same_text name (codes "left")) Left d _ down) [
-      | inl e ↦ subst (λ x. name ≡ direction_name x) e.1 (same_name name (codes "left") e.0)
-      | inr left ↦ elim (chosen (is_same_text name (codes "right")) Right d _ left) [
-        | inl e ↦ subst (λ x. name ≡ direction_name x) e.1 (same_name name (codes "right") e.0)
-        | inr none ↦ absurd (cc)
-      ]
-    ]
-  ]
-]
-
 -- a move by its parts, in order
-pub move_parts : (line first id second name rest : List ℕ) (d : Direction) → line ≡ 34 ∷ first → first ≡ id ++ 34 ∷ second → second ≡ 58 ∷ 34 ∷ (name ++ 34 ∷ rest)
-    → direction_named name ≡ Some d → line ≡ move_text (id, d) ++ rest
-move_parts line first id second name rest d opens closes next named =
-    rw (opens, closes, next, named_direction name d named) (simp append_assoc)
+pub move_parts : (line first id second rest : List ℕ) (d : Direction) → line ≡ 34 ∷ first → first ≡ id ++ 34 ∷ second → second ≡ 58 ∷ 34 ∷ (direction_name d ++ 34 ∷ rest)
+    → line ≡ move_text (id, d) ++ rest
+move_parts line first id second rest d opens closes next = rw (opens, closes, next) (simp append_assoc)
 
 -- whether there are any
 abbrev pub are_some : {A : Type 0} → List A → Bool

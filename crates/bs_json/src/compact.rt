@@ -5,14 +5,12 @@ ghost use Rattle.std.specs.Char.{is_ascii_digit};
 ghost use Rattle.std.specs.List.{list_all, position};
 ghost use Rattle.serde_json.specs.Written.{comma_if};
 ghost use Rattle.bs_board.specs.commands.Orders.{AreFitWords};
-ghost use Rattle.bs_json.specs.inner.Compact.{is_plain, are_plain, are_plain_moves, move_text, moves_text, words_text, tail_text, order_text, IsCompact, IsCompactMove, MayLeaveOut};
+ghost use Rattle.bs_json.specs.inner.Compact.{is_plain, are_plain, are_plain_moves, direction_name, move_text, moves_text, words_text, tail_text, order_text, IsCompact, IsCompactMove, MayLeaveOut};
 ghost use Rattle.bs_board.specs.declared.plans.version.Version.{Version as AnyVersion};
 ghost use Rattle.bs_json.specs.Line.{line_of};
 ghost use Rattle.bs_json.specs.declared.limits.TheConstants.{MAX_LINE};
 
 use crate::line::Line;
-use crate::moves::direction_named;
-use bs_board::commands::orders::is_ascending;
 use bs_board::limits::{LAST_TURN, MOST_WORDS};
 use bs_board::{Command, Direction, Id, Move, Moves, TurnNumber, Words};
 use std::alloc::{AllocError, Global};
@@ -62,6 +60,19 @@ fn as_text(bytes: &[u8]) -> Option<&str>
     }
 }
 
+/// Parses the name of a direction, and the quotation mark after it.
+fn split_direction(line: &[u8]) -> Option<(Direction, &[u8])>
+    ensures { IfSome result (λ found. line.now ≡ direction_name found.0 ++ 34 ∷ found.1.now) }
+{
+    match line {
+        [b'u', b'p', b'"', rest @ ..] => Some((Direction::Up, rest)),
+        [b'd', b'o', b'w', b'n', b'"', rest @ ..] => Some((Direction::Down, rest)),
+        [b'l', b'e', b'f', b't', b'"', rest @ ..] => Some((Direction::Left, rest)),
+        [b'r', b'i', b'g', b'h', b't', b'"', rest @ ..] => Some((Direction::Right, rest)),
+        _ => None,
+    }
+}
+
 /// Parses a snake's id and its direction.
 #[tactic(auto, using(crate::proofs::CutTexts::move_parts))]
 fn split_move<'l>(line: &'l [u8]) -> Option<(&'l [u8], Direction, &'l [u8])>
@@ -69,8 +80,8 @@ fn split_move<'l>(line: &'l [u8]) -> Option<(&'l [u8], Direction, &'l [u8])>
     ensures plain { IfSome result (λ found. are_plain found.0.now ≡ true) }
 {
     let (id, rest) = split_text(strip_prefix(line, b"\"")?)?;
-    let (name, rest) = split_text(strip_prefix(rest, b":\"")?)?;
-    Some((id, direction_named(as_text(name)?)?, rest))
+    let (direction, rest) = split_direction(strip_prefix(rest, b":\"")?)?;
+    Some((id, direction, rest))
 }
 
 /// Parses a move, after a comma unless it is the first.
@@ -86,16 +97,13 @@ fn split_next_move<'l>(line: &'l [u8], later: bool) -> Option<(&'l [u8], Directi
 }
 
 /// Parses all moves up to the closing brace.
-#[tactic(auto, using(crate::proofs::CutTexts::one_move_more, crate::proofs::CutTexts::some_with_one, crate::proofs::CutTexts::plain_with_one))]
-fn split_moves<'l>(
-    alloc: Global,
-    line: &'l [u8],
-) -> Result<Option<(Vec<(Id, Direction)>, &'l [u8])>, AllocError>
+#[tactic(auto, using(crate::proofs::CutTexts::one_move_more, crate::proofs::CutTexts::some_with_one, crate::proofs::CutTexts::plain_with_one, crate::proofs::CompactBytes::plain_text))]
+fn split_moves<'l>(alloc: Global, line: &'l [u8]) -> Result<Option<(Moves, &'l [u8])>, AllocError>
     ensures text { IfOk result
-        (λ cut. IfSome cut (λ found. line.now ≡ moves_text false found.0.items ++ 125 ∷ found.1.now)) }
-    ensures plain { IfOk result (λ cut. IfSome cut (λ found. are_plain_moves found.0.items ≡ true)) }
+        (λ cut. IfSome cut (λ found. line.now ≡ moves_text false found.0 ++ 125 ∷ found.1.now)) }
+    ensures plain { IfOk result (λ cut. IfSome cut (λ found. are_plain_moves found.0 ≡ true)) }
 {
-    let mut moves = Vec::new(alloc);
+    let mut moves = Moves::with_capacity(alloc, line.len())?;
     let mut left = line;
     let mut later = false;
     for _turn in 0..line.len() {
@@ -105,10 +113,7 @@ fn split_moves<'l>(
         let Some((id, direction, rest)) = split_next_move(left, later) else {
             return Ok(None);
         };
-        let Some(id) = as_text(id) else {
-            return Ok(None);
-        };
-        moves.push((Id::from_str(alloc, id)?, direction))?;
+        moves.push(id, direction)?;
         left = rest;
         later = true;
     }
@@ -237,13 +242,13 @@ fn parse_move(alloc: Global, line: &[u8]) -> Result<Option<(Move, bool)>, AllocE
     let Some((moves, rest)) = split_moves(alloc, line)? else {
         return Ok(None);
     };
-    if !is_ascending(moves.as_slice()) {
+    if !moves.is_ascending() {
         return Ok(None);
     }
     let Some((words, written)) = parse_tail(alloc, rest)? else {
         return Ok(None);
     };
-    Ok(Some((Move::new(Moves::from_vec(moves), words), written)))
+    Ok(Some((Move::new(moves, words), written)))
 }
 
 /// Parses a command that has no members.

@@ -32,20 +32,16 @@ fn direction_from(value: &Value) -> Option<Direction>
     direction_named(value.as_str()?)
 }
 
-/// Turns the members of the object into directions. Their names become the ids, so no text is
-/// copied.
-fn directions_of(
-    alloc: Global,
-    members: Map<String, Value>,
-) -> Result<Vec<(Id, Direction)>, AllocError>
-    ensures value { IfOk result
-        (λ found. found.items ≡ directions_of (members_view members.entries)) }
-    ensures ascending { IfOk result (λ found. is_ascending found.items ≡ true) }
+/// Turns the members of the object into directions. Their names become the ids.
+fn directions_of(alloc: Global, members: Map<String, Value>) -> Result<Moves, AllocError>
+    ensures value { IfOk result (λ found. found ≡ directions_of (members_view members.entries)) }
+    ensures ascending { IfOk result (λ found. is_ascending found ≡ true) }
 {
-    let mut found = Vec::with_capacity(alloc, members.len())?;
+    let _count = members.len();
+    let mut found = Moves::new(alloc);
     for (id, value) in members {
         if let Some(direction) = direction_from(&value) {
-            found.push((Id::from_string(id), direction))?;
+            found.push(Id::from_string(id).as_bytes(), direction)?;
         }
     }
     Ok(found)
@@ -163,6 +159,6 @@ pub fn orders_from(
     let Some(members) = take_moves(alloc, line) else {
         return Ok(None);
     };
-    let moves = Moves::from_vec(directions_of(alloc, members)?);
+    let moves = directions_of(alloc, members)?;
     Ok(Some(Move::new(moves, words).with_map(hazards, food)))
 }

@@ -5,8 +5,8 @@ use crate::values::{
     LONG_NAME, TWO_HEADS, bytes_of, hazardous_solo, kept_of, map_orders, plan_of, two_heads,
 };
 use bs_board::{
-    Board, Cells, Command, Id, KeptBoard, Plan, Point, Record, Reply, Snake, decode, decode_snake,
-    encode, is_legal,
+    Board, Cells, Command, Id, KeptBoard, Move, Moves, Plan, Point, Record, Reply, Snake, decode,
+    decode_snake, encode, is_legal,
 };
 use std::alloc::Global;
 
@@ -189,6 +189,24 @@ impl Question for CopyCommand {
 
     fn call(alloc: Global, on: &Command) -> Result<Command, Fault> {
         Ok(on.copy(alloc)?)
+    }
+}
+
+/// `Moves::to_vec`, and `Moves::with_capacity` and `Moves::push`, which make the same list again.
+pub struct PushMoves;
+
+impl Question for PushMoves {
+    type On = Move;
+
+    type Answer = Moves;
+
+    fn call(alloc: Global, on: &Move) -> Result<Moves, Fault> {
+        let mut moves = Moves::with_capacity(alloc, 1)?;
+        let entries = on.moves.to_vec(alloc)?;
+        for (id, direction) in entries.as_slice() {
+            moves.push(id.as_bytes(), *direction)?;
+        }
+        Ok(moves)
     }
 }
 

@@ -81,10 +81,7 @@ pub fn first_turn(alloc: Global) -> Result<Asked, Fault> {
 fn no_orders(alloc: Global) -> Move
     ensures { result ≡ orders_of [] [] }
 {
-    Move::new(
-        Moves::from_vec(Vec::new(alloc)),
-        Words::from_vec(Vec::new(alloc)),
-    )
+    Move::new(Moves::new(alloc), Words::from_vec(Vec::new(alloc)))
 }
 
 /// Moves all snakes of the board straight on.
@@ -94,7 +91,7 @@ fn gone_on(alloc: Global, board: &Board) -> Result<Board, Fault>
     ensures { IfOk result (λ moved. moved ≡ moved_board [] board.now) }
 {
     let mut moved = board.copy(alloc)?;
-    move_snakes(&mut moved.snakes, &[], board.wrap());
+    move_snakes(&mut moved.snakes, &Moves::new(alloc), board.wrap());
     Ok(moved)
 }
 

@@ -2,7 +2,7 @@
 use crate::blocks::{NewBlock, NewHeap, OpenPool, play_grow_index, play_reserve};
 use crate::boards::{
     CopyBoard, CopyCommand, CopyId, CopyPlan, CopyReply, DecodeSnake, Decoding, Encoding, Keep,
-    KeepBytes, MakeId, PushCells, Unkeep, id_of, new_of, orders_of,
+    KeepBytes, MakeId, PushCells, PushMoves, Unkeep, id_of, new_of, orders_of,
 };
 use crate::cores::{OpenCore, OpenTally, play_core, play_stays};
 use crate::games::{Answered, Joined, first_new, first_turn, new_while_running, of_running};
@@ -20,7 +20,7 @@ use crate::turns::{
 };
 use crate::values::{
     LONG_NAME, ON_HAZARDS, TWO_HEADS, bytes_of, kept_of, new_solo, on_hazards, plan_of,
-    shown_reply, solo, two_heads,
+    shown_reply, solo, two_heads, two_orders,
 };
 use bs_board::{Command, Mode, Refusal, Reply, Word};
 use bs_json::Stray;
@@ -143,6 +143,12 @@ fn copy_new(rt: HostRuntime) -> Result<(), Fail> {
 fn copy_move(rt: HostRuntime) -> Result<(), Fail> {
     let alloc = rt.alloc();
     ask::<CopyCommand>(page_of(&rt), orders_of(alloc)?)
+}
+
+#[test]
+fn push_moves(rt: HostRuntime) -> Result<(), Fail> {
+    let alloc = rt.alloc();
+    ask::<PushMoves>(page_of(&rt), two_orders(alloc)?)
 }
 
 #[test]

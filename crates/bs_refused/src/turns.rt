@@ -3,7 +3,7 @@ use crate::fault::Fault;
 use crate::scene::Question;
 use crate::values::{map_orders, new_solo, solo, two_heads};
 use bs_board::limits::{LAST_TURN, MOST_SNAKES};
-use bs_board::{Board, Direction, Mode, New, Point, Snake, is_legal};
+use bs_board::{Board, Direction, Mode, Moves, New, Point, Snake, is_legal};
 use bs_food::{free_cells, spawn};
 use bs_modes::{grow, start};
 use bs_rules::{feed, finish_turn, move_snake, move_snakes, turn};
@@ -92,18 +92,18 @@ impl Question for MoveSnake {
 }
 
 #[tactic(auto, using(bs_rules::proofs::Movable::legal_is_movable))]
-fn all_moved(board: Board) -> Result<Board, Fault> {
+fn all_moved(alloc: Global, board: Board) -> Result<Board, Fault> {
     if !is_legal(&board) {
         return Err(Fault::NotLegal);
     }
     let mut next = board;
-    move_snakes(&mut next.snakes, &[], None);
+    move_snakes(&mut next.snakes, &Moves::new(alloc), None);
     Ok(next)
 }
 
 /// Makes the two snakes with their heads on the food.
 pub fn meeting(alloc: Global) -> Result<Board, Fault> {
-    all_moved(two_heads(alloc)?)
+    all_moved(alloc, two_heads(alloc)?)
 }
 
 /// `feed`, of a copy. After an error the copy is dropped.

@@ -1,6 +1,5 @@
 //! The boards, commands and plans of the scenes.
 use crate::fault::Fault;
-use bs_board::commands::orders::is_ascending;
 use bs_board::limits::{MOST_ROWS, MOST_WORDS};
 use bs_board::plans::plan::have_distinct_names;
 use bs_board::{
@@ -91,18 +90,19 @@ pub fn hazardous_solo(alloc: Global) -> Result<New, Fault> {
 }
 
 /// Makes a move with these directions, in the order of their names, and these words.
-pub fn move_of(moves: Vec<(Id, Direction)>, words: Vec<u32>) -> Result<Move, Fault> {
-    if !is_ascending(moves.as_slice()) || words.len() > MOST_WORDS {
+pub fn move_of(moves: Moves, words: Vec<u32>) -> Result<Move, Fault> {
+    if !moves.is_ascending() || words.len() > MOST_WORDS {
         return Err(Fault::NoSetup);
     }
-    Ok(Move::new(Moves::from_vec(moves), Words::from_vec(words)))
+    Ok(Move::new(moves, Words::from_vec(words)))
 }
 
 /// Makes a move of two directions and two words.
 pub fn two_orders(alloc: Global) -> Result<Move, Fault> {
-    let first = (Id::from_str(alloc, "A")?, Direction::Up);
-    let second = (Id::from_str(alloc, "B")?, Direction::Left);
-    move_of(vec![in alloc; first, second]?, vec![in alloc; 5, 7]?)
+    let mut moves = Moves::new(alloc);
+    moves.push(Id::from_str(alloc, "A")?.as_bytes(), Direction::Up)?;
+    moves.push(Id::from_str(alloc, "B")?.as_bytes(), Direction::Left)?;
+    move_of(moves, vec![in alloc; 5, 7]?)
 }
 
 /// Makes that move, which gives a hazard and a food too.

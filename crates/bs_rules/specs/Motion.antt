@@ -1,5 +1,5 @@
 -- The motion of a snake in a turn.
-use Rattle.std.specs.Prelude.{◌≡◌, ℕ, ◌-◌, ◌≤◌, true, if◌then◌else◌, List, [], ◌∷◌, length, take, map, find, All, Option, Some, None, unwrap_or, option_map, slice_index_or, pos, ◌+ℤ◌, ◌-ℤ◌}
+use Rattle.std.specs.Prelude.{◌≡◌, ℕ, ◌-◌, ◌≤◌, true, if◌then◌else◌, List, [], ◌∷◌, length, take, map, find, All, Option, Some, None, unwrap_or, slice_index_or, pos, ◌+ℤ◌, ◌-ℤ◌}
 use Rattle.std.specs.Int.{int_rem_euclid}
 use Rattle.bs_board.specs.declared.boards.point.Point.{Point}
 use Rattle.bs_board.specs.declared.boards.point.Direction.{Direction}
@@ -11,7 +11,7 @@ use Rattle.bs_board.specs.boards.Cell.{origin, head_of, is_same_cell}
 use Rattle.bs_board.specs.boards.Legal.{is_near}
 use Rattle.bs_board.specs.boards.Over.{is_living}
 use Rattle.bs_board.specs.boards.Wrap.{wrap_of}
-use Rattle.bs_board.specs.Texts.{is_same_text}
+pub use Rattle.bs_board.specs.commands.Orders.{given_to}
 
 -- one cell further
 abbrev pub one_step : Point → Direction → Point
@@ -48,10 +48,6 @@ moved_body wrap given body = neighbor wrap (head_of body) (direction_taken wrap 
 -- a living snake moved one step, with one health less; one that is out is unchanged
 abbrev pub moved : Option (ℕ × ℕ) → Option Direction → Snake → Snake
 moved wrap given s = if is_living s then record s { body = moved_body wrap given s.body; health = s.health - 1 } else s
-
--- the direction of the first entry for this id
-abbrev pub given_to : List (List ℕ × Direction) → List ℕ → Option Direction
-given_to moves id = option_map (λ m. m.1) (find (λ m. is_same_text m.0 id) moves)
 
 -- any number of seats, each moved in the direction given for its id
 abbrev pub moved_seats : Option (ℕ × ℕ) → List (List ℕ × Direction) → List Snake → List Snake

@@ -16,6 +16,6 @@ pub use collision::collide;
 pub use feeding::feed;
 pub use hurting::{hazards_after, hurt};
 pub use law::collision_law;
-pub use motion::{direction_for, move_snake, move_snakes, next_head};
+pub use motion::{move_snake, move_snakes, next_head};
 pub use starved_or_outside::first_out;
 pub use turns::{finish_turn, turn};

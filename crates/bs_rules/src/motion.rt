@@ -13,13 +13,12 @@ ghost use Rattle.bs_rules.specs.Motion.{
   moved_body,
   moved,
   moved_seats,
-  given_to,
   IsMovable,
 };
 
 use crate::parts::second_of;
 use bs_board::limits::LONGEST_SIDE;
-use bs_board::{Cells, Direction, Id, Point, Snake, Snakes, head_of};
+use bs_board::{Cells, Direction, Moves, Point, Snake, Snakes, head_of};
 use std::alloc::{AllocError, Global};
 
 fn one_step(cell: Point, direction: Direction) -> Point
@@ -153,27 +152,16 @@ pub fn next_head(
     neighbor(wrap, head, direction_taken(wrap, given, &[head, second]))
 }
 
-/// The direction given to the id of these bytes.
-#[inline(always)]
-pub fn direction_for(moves: &[(Id, Direction)], id: &[u8]) -> Option<Direction>
-    ensures { result ≡ given_to moves.now id.now }
-{
-    moves
-        .iter()
-        .find(|order| order.0.as_bytes() == id)
-        .map(|order| order.1)
-}
-
 /// Moves any number of seats in place, each in the direction given for its id. A whole turn moves
 /// all seats by this call; a part of a move moves some of them.
-pub fn move_snakes(snakes: &mut Snakes, moves: &[(Id, Direction)], wrap: Option<(u8, u8)>)
+pub fn move_snakes(snakes: &mut Snakes, moves: &Moves, wrap: Option<(u8, u8)>)
     requires bodies { All IsMovable snakes.old }
     requires sides { AreSides wrap }
     ensures { snakes.new ≡ moved_seats wrap moves.now snakes.old }
 {
     for seat in 0..snakes.len() {
         let snake = snakes.seat_mut(seat);
-        let given = direction_for(moves, snake.id.as_bytes());
+        let given = moves.direction_for(snake.id.as_bytes());
         step_snake(snake, given, wrap);
     }
 }

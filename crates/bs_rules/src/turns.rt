@@ -12,12 +12,12 @@ use crate::hurting::{hazards_after, hurt};
 use crate::motion::move_snakes;
 use crate::starved_or_outside::first_out;
 use bs_board::limits::{LAST_TURN, MOST_SNAKES};
-use bs_board::{Board, Direction, Id, Mode, Move};
+use bs_board::{Board, Mode, Move, Moves};
 use bs_food::{give, spawn};
 use bs_modes::grow;
 use std::alloc::{AllocError, Global};
 
-fn move_board(alloc: Global, board: &Board, moves: &[(Id, Direction)]) -> Result<Board, AllocError>
+fn move_board(alloc: Global, board: &Board, moves: &Moves) -> Result<Board, AllocError>
     requires bodies { All IsMovable board.now.snakes }
     requires sides { AreSides (wrap_of board.now) }
     ensures { IfOk result (λ next. next ≡ moved_board moves.now board.now) }
@@ -89,6 +89,6 @@ pub fn turn(alloc: Global, board: &Board, order: &Move) -> Result<Board, AllocEr
     ensures value { IfOk result (λ next. next ≡ turn_of board.now order.now) }
     ensures legal { IfOk result IsLegal }
 {
-    let moved = move_board(alloc, board, order.moves.as_slice())?;
+    let moved = move_board(alloc, board, &order.moves)?;
     finish_turn(alloc, moved, order)
 }

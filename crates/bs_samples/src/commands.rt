@@ -4,7 +4,6 @@ ghost use Rattle.bs_board.specs.commands.Orders.{orders_of};
 
 use crate::boards::{Parts, cells};
 use crate::check::holds;
-use bs_board::commands::orders::is_ascending;
 use bs_board::limits::MOST_WORDS;
 use bs_board::{Cells, Command, Direction, Id, Mode, Move, Moves, New, Point, Starts, Words};
 use std::alloc::{AllocError, Global};
@@ -52,10 +51,7 @@ pub fn new_of_three(alloc: Global) -> Result<Command, Fail> {
 pub fn no_orders(alloc: Global) -> Move
     ensures { result ≡ orders_of [] [] }
 {
-    Move::new(
-        Moves::from_vec(Vec::new(alloc)),
-        Words::from_vec(Vec::new(alloc)),
-    )
+    Move::new(Moves::new(alloc), Words::from_vec(Vec::new(alloc)))
 }
 
 /// Makes a `move` in which each snake goes straight on.
@@ -69,14 +65,14 @@ pub fn orders(
     directions: &[(&str, Direction)],
     words: &[u32],
 ) -> Result<Move, Fail> {
-    let mut moves = Vec::new(alloc);
+    let mut moves = Moves::new(alloc);
     for &(name, direction) in directions {
-        moves.push((Id::from_str(alloc, name)?, direction))?;
+        moves.push(Id::from_str(alloc, name)?.as_bytes(), direction)?;
     }
-    holds("names in their order", is_ascending(moves.as_slice()))?;
+    holds("names in their order", moves.is_ascending())?;
     holds("few words", words.len() <= MOST_WORDS)?;
     let words = Vec::from_slice(alloc, words)?;
-    Ok(Move::new(Moves::from_vec(moves), Words::from_vec(words)))
+    Ok(Move::new(moves, Words::from_vec(words)))
 }
 
 /// Makes a `move` of the third snake of `new_of_three`; the others go straight on.

@@ -6,7 +6,9 @@ ghost use Rattle.bs_game.specs.Reasons.{first_reason};
 ghost use Rattle.bs_game.specs.View.{IsFitView};
 ghost use Rattle.bs_rules.specs.Motion.{moved_board, IsMovable};
 
-use bs_board::{Board, Command, Mode, Move, Point, Refusal, Reply, TurnNumber, Word, is_legal};
+use bs_board::{
+    Board, Command, Mode, Move, Moves, Point, Refusal, Reply, TurnNumber, Word, is_legal,
+};
 use bs_game::{
     Answer, Effect, View, answer, check, check_move, check_unseen, joined, joined_within,
     place_of_turn, refuse,
@@ -277,14 +279,14 @@ fn reasons_of_a_game_that_runs(rt: HostRuntime) -> Result<(), Fail> {
 }
 
 /// Moves each snake of the board straight on.
-fn gone_on(board: Board) -> Board
+fn gone_on(alloc: Global, board: Board) -> Board
     requires bodies { All IsMovable board.snakes }
     requires sides { AreSides (wrap_of board) }
     ensures { result ≡ moved_board [] board }
 {
     let mut moved = board;
     let wrap = moved.wrap();
-    move_snakes(&mut moved.snakes, &[], wrap);
+    move_snakes(&mut moved.snakes, &Moves::new(alloc), wrap);
     moved
 }
 
@@ -324,7 +326,7 @@ fn joined_turn(rt: HostRuntime) -> Result<(), Fail> {
     let before = solo_after(alloc, 5, 0)?;
     holds("a legal board", is_legal(&before))?;
     let last = before.copy(alloc)?;
-    let moved = gone_on(before);
+    let moved = gone_on(alloc, before);
     let view = view(64, 32, 1, Some(last));
     holds("it goes", is_accepted(alloc, &view, &orders)?)?;
     check_joined_within(alloc, &view, &orders, moved.copy(alloc)?)?;

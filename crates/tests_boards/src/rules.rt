@@ -2,7 +2,7 @@
 use crate::compare::same_board;
 use crate::texts::{board, board_after, order};
 use bs_board::limits::{LAST_TURN, MOST_SNAKES};
-use bs_board::{Board, Move, Snake, is_legal};
+use bs_board::{Board, Move, Moves, Snake, is_legal};
 use bs_rules::{collide, feed, finish_turn, first_out, move_snake, move_snakes, turn};
 use bs_samples::{holds, no_orders, same};
 use std::alloc::Global;
@@ -152,10 +152,10 @@ fn first_moved(alloc: Global, before: &Board) -> Result<Snake, Fail> {
 
 /// Moves each snake straight on.
 #[tactic(auto, using(bs_rules::proofs::Movable::legal_is_movable))]
-fn all_moved(before: Board) -> Result<Board, Fail> {
+fn all_moved(alloc: Global, before: Board) -> Result<Board, Fail> {
     holds("a legal board", is_legal(&before))?;
     let mut next = before;
-    move_snakes(&mut next.snakes, &[], None);
+    move_snakes(&mut next.snakes, &Moves::new(alloc), None);
     Ok(next)
 }
 
@@ -163,7 +163,7 @@ fn all_moved(before: Board) -> Result<Board, Fail> {
 fn meeting(alloc: Global) -> Result<Board, Fail> {
     let before = board(alloc, MEETING)?;
     let alone = first_moved(alloc, &before)?;
-    let next = all_moved(before)?;
+    let next = all_moved(alloc, before)?;
     let moved = next.snakes.as_slice().first().ok_or("a snake")?;
     same(
         "the first, by itself",

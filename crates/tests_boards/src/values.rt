@@ -1,11 +1,11 @@
 //! Copies of values with text or lists equal their sources; the versions of files.
 use crate::compare::same_board;
 use bs_board::{
-    Board, Cells, Command, Direction, Hazards, Id, KeptBoard, Mode, Move, New, Point, Reply, Rows,
-    Version, Word, is_legal,
+    Board, Cells, Command, Direction, Hazards, Id, KeptBoard, Mode, Move, Moves, New, Point, Reply,
+    Rows, Version, Word, is_legal,
 };
 use bs_samples::{cells, holds, orders, plan_of, same, solo_after, starts};
-use std::alloc::Global;
+use std::alloc::{AllocError, Global};
 use std::test::Fail;
 
 /// Makes a reply that shows the board, and copies it.
@@ -50,11 +50,11 @@ fn check_cells(what: &str, cells: &Option<Cells>, wanted: &[Point]) -> Result<()
     same(what, cells.as_slice(), wanted)
 }
 
-fn check_move(copy: &Move) -> Result<(), Fail> {
-    let moves = copy.moves.as_slice();
+fn check_move(alloc: Global, copy: &Move) -> Result<(), Fail> {
+    let moves = copy.moves.to_vec(alloc)?;
     same("directions", moves.len(), 2)?;
-    check_direction(moves, 0, "a", Direction::Up)?;
-    check_direction(moves, 1, "b", Direction::Left)?;
+    check_direction(moves.as_slice(), 0, "a", Direction::Up)?;
+    check_direction(moves.as_slice(), 1, "b", Direction::Left)?;
     same("words", copy.words.as_slice(), [5, 6].as_slice())?;
     check_cells("hazards", &copy.hazards, &[Point { x: 2, y: 3 }])?;
     check_cells("food", &copy.food, &[Point { x: 4, y: 1 }])
@@ -68,9 +68,54 @@ fn a_move_is_copied(rt: HostRuntime) -> Result<(), Fail> {
     let order = orders(alloc, &directions, &[5, 6])?.with_map(Some(hazards), Some(food));
     let command = Command::Move(order);
     match command.copy(alloc)? {
-        Command::Move(copy) => check_move(&copy),
+        Command::Move(copy) => check_move(alloc, &copy),
         _ => Err(Fail::from("another command")),
     }
+}
+
+/// Adds the direction of one snake.
+fn push_direction(
+    alloc: Global,
+    moves: &mut Moves,
+    id: &str,
+    direction: Direction,
+) -> Result<(), AllocError> {
+    moves.push(Id::from_str(alloc, id)?.as_bytes(), direction)
+}
+
+/// Makes the directions of two snakes.
+fn two_directions(alloc: Global) -> Result<Moves, AllocError> {
+    let mut moves = Moves::with_capacity(alloc, 8)?;
+    push_direction(alloc, &mut moves, "a", Direction::Up)?;
+    push_direction(alloc, &mut moves, "bc", Direction::Left)?;
+    Ok(moves)
+}
+
+#[test]
+fn directions_are_found_by_id(rt: HostRuntime) -> Result<(), Fail> {
+    let moves = two_directions(rt.alloc())?;
+    same(
+        "a direction",
+        moves.direction_for(b"a"),
+        Some(Direction::Up),
+    )?;
+    same(
+        "a direction",
+        moves.direction_for(b"bc"),
+        Some(Direction::Left),
+    )?;
+    same("no direction", moves.direction_for(b"b"), None)
+}
+
+#[test]
+fn directions_are_compared(rt: HostRuntime) -> Result<(), Fail> {
+    let alloc = rt.alloc();
+    let mut moves = two_directions(alloc)?;
+    holds("the same", moves.is_same(&two_directions(alloc)?))?;
+    holds("ascending", moves.is_ascending())?;
+    push_direction(alloc, &mut moves, "b", Direction::Left)?;
+    holds("others", !moves.is_same(&two_directions(alloc)?))?;
+    holds("not ascending", !moves.is_ascending())
 }
 
 /// Compares the start of one snake.

@@ -43,7 +43,8 @@ fn push_food(alloc: Global, text: &mut String, food: &Cells) -> Result<(), Alloc
 
 fn push_move(alloc: Global, text: &mut String, order: &Move) -> Result<(), AllocError> {
     text.push_str("move")?;
-    for (id, direction) in order.moves.as_slice() {
+    let moves = order.moves.to_vec(alloc)?;
+    for (id, direction) in moves.as_slice() {
         text.push(' ')?;
         text.push_str(id.as_str())?;
         push_value(alloc, text, " ", *direction)?;

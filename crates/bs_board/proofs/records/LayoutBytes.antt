@@ -14,7 +14,7 @@ use Rattle.bs_board.proofs.records.HazardRecord.{regrouped}
 use Rattle.bs_board.proofs.records.Lengths.{length_of_pairs}
 
 -- a pattern's rest is all that follows
-rest_is : (n : ℕ) (bytes : List ℕ) → take (length bytes - n) (drop n bytes) ≡ drop n bytes
+pub rest_is : (n : ℕ) (bytes : List ℕ) → take (length bytes - n) (drop n bytes) ≡ drop n bytes
 rest_is n bytes = take_all (length bytes - n) (drop n bytes) (omega (arith, length-drop n bytes))
 
 -- what is cut off a text that the bytes begin with, and what follows it

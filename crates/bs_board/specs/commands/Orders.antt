@@ -1,5 +1,5 @@
 -- The contents of a `move` command, and their limits.
-use Rattle.std.specs.Prelude.{◌≡◌, ℕ, ◌≤◌, ◌<◌, ◌^◌, Bool, true, ◌&&◌, List, [], ◌∷◌, length, All, Option, None}
+use Rattle.std.specs.Prelude.{◌≡◌, ℕ, ◌≤◌, ◌<◌, ◌^◌, Bool, true, ◌&&◌, List, [], ◌∷◌, length, All, Option, None, option_map, find}
 use Rattle.bs_board.specs.declared.boards.point.Direction.{Direction}
 use Rattle.bs_board.specs.declared.boards.point.Point.{Point}
 use Rattle.bs_board.specs.declared.limits.TheConstants.{MOST_WORDS}
@@ -31,6 +31,10 @@ pub record IsFitOrders (orders : Orders) : Type 0 where
   pub texts : IdsAreTexts orders.moves
   pub distinct : are_distinct_moves orders.moves ≡ true
   pub words : AreFitWords orders.words
+
+-- the direction of the first entry with that id
+abbrev pub given_to : List (List ℕ × Direction) → List ℕ → Option Direction
+given_to moves id = option_map (λ m. m.1) (find (λ m. is_same_text m.0 id) moves)
 
 -- each id is above the one before it
 abbrev pub is_ascending : List (List ℕ × Direction) → Bool

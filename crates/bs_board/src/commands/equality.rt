@@ -4,7 +4,7 @@ ghost use Rattle.std.specs.Prelude.{◌≡◌, ◌↔◌, IsTrue};
 
 use crate::boards::cells::Cells;
 use crate::boards::hazards::Hazards;
-use crate::boards::point::{Direction, Point};
+use crate::boards::point::Point;
 use crate::commands::command::Command;
 use crate::commands::orders::Move;
 use crate::commands::setup::New;
@@ -29,12 +29,6 @@ fn are_same_cells(cells: &[Point], others: &[Point]) -> bool
     ensures { IsTrue result ↔ cells.now ≡ others.now }
 {
     cells == others
-}
-
-fn are_same_moves(moves: &[(Id, Direction)], others: &[(Id, Direction)]) -> bool
-    ensures { IsTrue result ↔ moves.now ≡ others.now }
-{
-    moves == others
 }
 
 fn are_same_starts(starts: &[(Id, Point)], others: &[(Id, Point)]) -> bool
@@ -70,7 +64,7 @@ impl Move {
     fn is_same(&self, other: &Move) -> bool
         ensures { IsTrue result ↔ self.now ≡ other.now }
     {
-        are_same_moves(self.moves.as_slice(), other.moves.as_slice())
+        self.moves.is_same(&other.moves)
             && self.words.as_slice() == other.words.as_slice()
             && are_same_given(&self.hazards, &other.hazards)
             && are_same_given(&self.food, &other.food)

@@ -4,10 +4,8 @@ ghost use Rattle.std.specs.Prelude.{◌≡◌};
 ghost use Rattle.bs_board.specs.commands.Orders.{is_ascending};
 
 use crate::boards::cells::{Cells, copy_given};
-use crate::boards::point::Direction;
 use crate::commands::moves::Moves;
 use crate::commands::words::Words;
-use crate::id::Id;
 use crate::limits::MOST_WORDS;
 use std::alloc::{AllocError, Global};
 use std::marker::Model;
@@ -35,19 +33,6 @@ impl Model for Move {
     ghost invariant = { λ m. IsAscendingOrders (orders_in m) };
 }
 
-/// Whether each id is above the one before it, by bytes, so that no id occurs twice.
-#[tactic(auto, using(crate::proofs::commands::Ascending::ascending_at_end))]
-pub fn is_ascending(moves: &[(Id, Direction)]) -> bool
-    ensures { result ≡ is_ascending moves.now }
-{
-    for index in 1..moves.len() {
-        if !moves[index - 1].0.is_below(&moves[index].0) {
-            return false;
-        }
-    }
-    true
-}
-
 impl Move {
     ghost use Rattle.std.specs.Prelude.{true, ◌≤◌, length, IfOk};
     ghost use Rattle.bs_board.specs.commands.Orders.{Orders, orders_of, IsFitOrders};
@@ -58,7 +43,8 @@ impl Move {
         requires few { length words ≤ MOST_WORDS }
         ensures { result ≡ orders_of moves words }
     {
-        let (_moves, _words) = (moves.as_slice(), words.as_slice());
+        moves.are_texts();
+        let _words = words.as_slice();
         Move {
             moves,
             words,

@@ -54,7 +54,7 @@ pub struct BoardBytes<'r> {
 
 /// Splits the bytes at `count`, or at their end if there are fewer.
 #[inline(always)]
-fn cut(count: usize, bytes: &[u8]) -> (&[u8], &[u8])
+pub(crate) fn cut(count: usize, bytes: &[u8]) -> (&[u8], &[u8])
     ensures front { result.0.now ≡ take count bytes.now }
     ensures rest { result.1.now ≡ drop count bytes.now }
 {

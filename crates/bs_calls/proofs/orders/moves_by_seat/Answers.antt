@@ -13,4 +13,4 @@ returns c =
     let n = c.loop-seat.seat in
     let none : moves_by_seat (drop n c.args.bytes.now) (drop n c.args.snakes.now) ≡ [] =
     none_left (drop n c.args.bytes.now) (drop n c.args.snakes.now) (omega (arith, length-drop n c.args.bytes.now, length-drop n c.args.snakes.now)) in
-    sym (append-nil c.loop-seat.given.items) ∙ ap (λ rest. c.loop-seat.given.items ++ rest) (sym none) ∙ c.loop-seat.invariant
+    sym (append-nil c.loop-seat.given) ∙ ap (λ rest. c.loop-seat.given ++ rest) (sym none) ∙ c.loop-seat.invariant

@@ -7,5 +7,5 @@ use Rattle.bs_json.proofs.moves.directions_of.Goals as goal
 
 pub returns-clause-ascending : goal.returns-clause-ascending
 returns-clause-ascending c =
-    let whole : c.loop-id.found.items ≡ directions_of (members_view c.args.members.entries) = search rules in
-    rw whole (directions_ascend c.args.members.entries c.len.ensures.ordered)
+    let whole : c.loop-id.found ≡ directions_of (members_view c.args.members.entries) = search rules in
+    rw whole (directions_ascend c.args.members.entries c.len-count.ensures.ordered)

@@ -5,4 +5,4 @@ use Rattle.bs_json.proofs.moves.directions_of.Given as goal
 
 abbrev pub invariant-loop-id : goal.invariant-loop-id
 invariant-loop-id l =
-    l.found.items ++ directions_of (members_view l.id-iterator) ≡ directions_of (members_view l.fn.members.entries)
+    l.found ++ directions_of (members_view l.id-iterator) ≡ directions_of (members_view l.fn.members.entries)
