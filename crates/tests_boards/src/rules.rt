@@ -1,9 +1,15 @@
 //! Whole turns written as texts, and each step once by itself.
+ghost use Rattle.std.specs.Prelude.{◌≡◌, true};
+ghost use Rattle.bs_board.specs.boards.Legal.{is_near};
+ghost use Rattle.bs_board.specs.boards.Wrap.{AreSides};
+
 use crate::compare::same_board;
 use crate::texts::{board, board_after, order};
-use bs_board::limits::{LAST_TURN, MOST_SNAKES};
-use bs_board::{Board, Move, Moves, Snake, is_legal};
-use bs_rules::{collide, feed, finish_turn, first_out, move_snake, move_snakes, turn};
+use bs_board::limits::{LAST_TURN, LONGEST_SIDE, MOST_SNAKES};
+use bs_board::{Board, Direction, Move, Moves, Point, Snake, is_legal};
+use bs_rules::{
+    collide, feed, finish_turn, first_out, move_snake, move_snakes, next_head, turn,
+};
 use bs_samples::{holds, no_orders, same};
 use std::alloc::Global;
 use std::test::Fail;
@@ -214,4 +220,51 @@ fn the_rest_of_a_turn(rt: HostRuntime) -> Result<(), Fail> {
     holds("few snakes", moved.snakes.len() <= MOST_SNAKES)?;
     let finished = finish_turn(alloc, moved, &no_orders(alloc))?;
     check_after(alloc, "at the end", &finished, FINISHED)
+}
+
+/// Checks the cell that the head steps to.
+fn check_next(
+    wrap: Option<(u8, u8)>,
+    given: Option<Direction>,
+    head: Point,
+    second: Point,
+    wanted: Point,
+) -> Result<(), Fail>
+    requires sides { AreSides wrap }
+    requires head { is_near LONGEST_SIDE LONGEST_SIDE head ≡ true }
+    requires second { is_near LONGEST_SIDE LONGEST_SIDE second ≡ true }
+{
+    same("the head", next_head(wrap, given, head, second), wanted)
+}
+
+/// In the given direction; else straight on, also off the board, and up if the parts are on one
+/// cell.
+#[test]
+fn next_heads(_rt: HostRuntime) -> Result<(), Fail> {
+    let (at, left, below) = (
+        Point { x: 6, y: 1 },
+        Point { x: 5, y: 1 },
+        Point { x: 6, y: 0 },
+    );
+    let up = Some(Direction::Up);
+    check_next(None, up, at, left, Point { x: 6, y: 2 })?;
+    check_next(None, None, at, left, Point { x: 7, y: 1 })?;
+    check_next(None, None, at, below, Point { x: 6, y: 2 })?;
+    check_next(None, None, left, at, Point { x: 4, y: 1 })?;
+    check_next(None, None, at, at, Point { x: 6, y: 2 })
+}
+
+/// On a wrapped board of 7 columns and 5 rows: straight on over the right edge and on from there,
+/// the same at the lower edge, and over the left edge in a given direction.
+#[test]
+fn next_heads_over_an_edge(_rt: HostRuntime) -> Result<(), Fail> {
+    let sides = Some((7, 5));
+    let (right, left) = (Point { x: 6, y: 1 }, Point { x: 0, y: 1 });
+    check_next(sides, None, right, Point { x: 5, y: 1 }, left)?;
+    check_next(sides, None, left, right, Point { x: 1, y: 1 })?;
+    let (below, above) = (Point { x: 2, y: 0 }, Point { x: 2, y: 4 });
+    check_next(sides, None, below, Point { x: 2, y: 1 }, above)?;
+    check_next(sides, None, above, below, Point { x: 2, y: 3 })?;
+    let to_left = Some(Direction::Left);
+    check_next(sides, to_left, left, Point { x: 0, y: 0 }, right)
 }

@@ -1,6 +1,12 @@
-//! The record of one snake: each of its bytes changed, and bytes that are no snake's record.
+//! The record of one snake: each of its bytes changed, and bytes that are no snake's record; and
+//! the record of a snake that moves one step.
+ghost use Rattle.bs_board.specs.records.Writing.{IsByteCell};
+
 use crate::compare::same_snake;
-use bs_board::{Cause, Decode, Snake, decode_snake, encode_snake_into, snake_size};
+use bs_board::{
+    Cause, Decode, Point, Snake, decode_snake, encode_snake_into, encode_stepped_into, snake_size,
+    split_snake,
+};
 use bs_samples::{holds, same, snake};
 use std::alloc::{AllocError, Global};
 use std::test::Fail;
@@ -131,4 +137,43 @@ fn a_snake_that_is_out_last(rt: HostRuntime) -> Result<(), Fail> {
         alloc,
         &[1, 115, 0, 1, 0, 0x27, 0x11, 0, 3, 2, 2, 2, 2, 2, 2],
     )
+}
+
+// A living snake: health 100, seat 2 as its killer, turn 258, parts on (1, 1), (1, 0) and (0, 0).
+const LIVING: [u8; 15] = [1, 115, 100, 0, 3, 1, 2, 0, 3, 2, 2, 2, 1, 1, 1];
+
+/// Writes the record of the living snake one step further, with its head on that cell.
+fn stepped(alloc: Global, bytes: &[u8; 15], head: Point) -> Result<[u8; 15], Fail>
+    requires { IsByteCell 1 head }
+{
+    let before = decode_snake(alloc, bytes)?;
+    holds("a living snake", before.is_living())?;
+    let (parts, _) = split_snake(bytes);
+    let mut after = [0; 15];
+    encode_stepped_into(&parts, head, &mut after);
+    Ok(after)
+}
+
+/// The cell of a part of the body.
+fn part_of(bytes: &[u8; 15], index: usize) -> Result<Point, Fail> {
+    let (snake, _) = split_snake(bytes);
+    holds("a part", index < snake.body.len() / 2)?;
+    Ok(snake.part(index))
+}
+
+/// Each part comes after the one before it, the last is lost, and health goes down to 0 at most.
+#[test]
+fn a_snake_that_moves_one_step(rt: HostRuntime) -> Result<(), Fail> {
+    let alloc = rt.alloc();
+    let up = stepped(alloc, &LIVING, Point { x: 1, y: 2 })?;
+    let wanted = [1, 115, 99, 0, 3, 1, 2, 0, 3, 2, 3, 2, 2, 2, 1];
+    same("up", up.as_slice(), wanted.as_slice())?;
+    same("the head", part_of(&up, 0)?, Point { x: 1, y: 2 })?;
+    same("the second", part_of(&up, 1)?, Point { x: 1, y: 1 })?;
+    same("the last", part_of(&up, 2)?, Point { x: 1, y: 0 })?;
+    let starved = [1, 115, 0, 0, 0, 0, 0, 0, 3, 1, 2, 2, 2, 3, 2];
+    let beside = stepped(alloc, &starved, Point { x: -1, y: 1 })?;
+    let wanted = [1, 115, 0, 0, 0, 0, 0, 0, 3, 0, 2, 1, 2, 2, 2];
+    same("off the board", beside.as_slice(), wanted.as_slice())?;
+    same("the head", part_of(&beside, 0)?, Point { x: -1, y: 1 })
 }
