@@ -14,9 +14,8 @@ import sys
 import tempfile
 import time
 
-import paths  # noqa: F401
+from paths import ROOT  # first: it lets the next be found
 import library_games
-from paths import ROOT
 from simulators import plain
 
 SIMULATORS = ROOT / "benches/simulators"
