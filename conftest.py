@@ -16,11 +16,12 @@ BUILT = ROOT / "crates/arena/out/arena"
 
 def pytest_addoption(parser: pytest.Parser) -> None:
     parser.addoption("--program", metavar="PATH", default=BUILT, help="arena, if not the built one")
+    parser.addoption("--seed", metavar="S", type=int, default=1, help="of what is drawn")
 
 
 def pytest_configure() -> None:
-    """Lets the programs that tests start find the packages of the ladder."""
-    os.environ["PYTHONPATH"] = str(ROOT / "ladder/src")
+    """Lets the programs that tests start find the packages and the bots of the ladder."""
+    os.environ["PYTHONPATH"] = f"{ROOT}/ladder/src{os.pathsep}{ROOT}/ladder/bots"
     os.environ["PYTHONDONTWRITEBYTECODE"] = "1"
 
 

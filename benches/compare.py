@@ -2,7 +2,7 @@
 """Compares the peer with the program, byte by byte: output, status and standard error.
 
     benches/compare.py [FILE..]            these command files, by default the cases
-    benches/compare.py --shapes            the shapes of measure.py, without that of stays
+    benches/compare.py --shapes            the shapes of tests/shapes.py, without that of stays
     benches/compare.py --limits            files and command lines at the ends of limits
     benches/compare.py --drawn N           N random files, from --seed S on
     benches/compare.py --time RUNS FILE..  times both in turns as well
@@ -24,33 +24,26 @@ import time
 from pathlib import Path
 from statistics import median
 
-HERE = Path(__file__).resolve().parent
-ROOT = HERE.parent
-sys.dont_write_bytecode = True
-sys.path[:0] = [str(HERE), str(ROOT / "tests")]
+import paths  # noqa: F401
 import cases
 import drawn
 import limits
-import measure
 import program
+import shapes
+from program import describe
 
+HERE = Path(__file__).resolve().parent
 PEER = HERE / "peer/out/release/peer"
 DISAGREEMENTS = HERE / "peer/out/disagreements"
 BLOCKS = ["--blocks", "512"]  # enough for each shape
 NO_SUCH_GAME = "\U0001f40d"
-NEWER = [measure.stays.__name__]  # shapes of version 3, which the peer does not read
+NEWER = [shapes.stays.__name__]  # shapes of version 3, which the peer does not read
 
 
 def run(file, words, text=None):
     """Status, output and standard error; of a refused command line only the status."""
     done = subprocess.run([file, *words], input=text, capture_output=True)
     return (2, b"", b"") if done.returncode == 2 else (done.returncode, done.stdout, done.stderr)
-
-
-def describe(answer):
-    """A result in a few words."""
-    status, output, errors = answer
-    return f"status {status}, {len(output)} bytes, {errors.decode(errors='replace').strip()!r}"
 
 
 def first_difference(one, other):
@@ -133,11 +126,11 @@ def seconds(program, path, workers):
         return time.perf_counter() - began, usage.ru_utime + usage.ru_stime, usage.ru_maxrss / 1024
 
 
-def time_both(program, paths, runs):
+def time_both(program, files, runs):
     """Times both in turns on each file, so that other load on the machine affects both."""
     heads = f"{'least s':>10}{'median s':>10}{'cpu s':>8}{'MB':>8}"
     print(f"{'file':24}{'workers':>8}{'':>9}{heads}")
-    for path in paths:
+    for path in files:
         for workers in "1234":
             both = {"peer": PEER, "program": program}
             found = {name: [] for name in both}
@@ -183,7 +176,7 @@ def main():
     else:
         with tempfile.TemporaryDirectory() as folder:
             if given.shapes:
-                measure.write_all(Path(folder))
+                shapes.write_all(Path(folder))
                 files += sorted(
                     path for path in Path(folder).glob("*.jsonl") if path.stem not in NEWER
                 )

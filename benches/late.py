@@ -12,22 +12,19 @@ crates/arena/out/arena if not given.
 """
 import argparse
 import asyncio
-import sys
 import tempfile
 import time
 from multiprocessing import Pipe, Process, Value
 from pathlib import Path
 
-sys.dont_write_bytecode = True
-sys.path[0] = str(Path(__file__).resolve().parent.parent / "ladder/src")
-
-from arena_client import PROGRAM  # noqa: E402
-from arena_ladder.config import config_of  # noqa: E402
-from arena_ladder.game_files import make_folders  # noqa: E402
-from arena_ladder.pairing import Part  # noqa: E402
-from arena_ladder.play import Job, play  # noqa: E402
-from arena_ladder.progress import Counts  # noqa: E402
-from arena_ladder.store import Store  # noqa: E402
+import paths  # noqa: F401
+from arena_client import PROGRAM
+from arena_ladder.config import config_of
+from arena_ladder.game_files import make_folders
+from arena_ladder.pairing import Part
+from arena_ladder.play import Job, play
+from arena_ladder.progress import Counts
+from arena_ladder.store import Store
 
 SERVERS = 2
 STEPS = (b"up", b"left", b"down", b"right")

@@ -2,7 +2,7 @@
 import itertools
 import json
 
-import measure
+import shapes
 
 MAX_FILE, MAX_LINE = 16_777_216, 65_536
 SNAKE: dict = {"id": "s", "x": 1, "y": 1}
@@ -143,7 +143,7 @@ def other_members(version):
 
 
 def to_the_last_turn(version):
-    first, new, *moves = measure.long_game(10_003)
+    first, new, *moves = shapes.long_game(10_003)
     yield "to the last turn", SERVE, "\n".join([first, new, *moves]).encode()
     if version > 1:
         first = first.replace("]}", '],"version":2}')

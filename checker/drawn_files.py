@@ -1,6 +1,6 @@
 """Random command files for the test of the checker: short files with many faults, of each version.
 
-The games are those of benches/drawn.py, with admissions, leaves, hazards and given food added.
+The games are those of tests/drawn.py, with admissions, leaves, hazards and given food added.
 """
 
 from __future__ import annotations

@@ -316,17 +316,17 @@ def fields(struct_):
     return [getattr(struct_, name) for name, *_ in struct_._fields_]
 
 
-def check_layout(test):
+def check_layout():
     """Compares the sizes of the structs, and where the fields of the games lie."""
     small, large, sizes = SmallGame(), LargeGame(), (ctypes.c_size_t * len(STRUCTS))()
     library.arena_layout(ctypes.byref(small), ctypes.byref(large), sizes, len(STRUCTS))
-    test.assertEqual(list(sizes), [ctypes.sizeof(struct_) for struct_ in STRUCTS])
+    assert list(sizes) == [ctypes.sizeof(struct_) for struct_ in STRUCTS]
     for game in (small, large):
         head = game.head
-        test.assertEqual(fields(head.settings), [1, 2, 3, 4, 5, 6])
-        test.assertEqual(fields(head)[1:-1], [1793, 2050, 9, 10])
+        assert fields(head.settings) == [1, 2, 3, 4, 5, 6]
+        assert fields(head)[1:-1] == [1793, 2050, 9, 10]
         for seat in range(8):
-            test.assertEqual(fields(head.seats[seat]), numbered_seat(seat))
-        test.assertEqual(list(game.food), [10_000 + at for at in range(len(game.food))])
-        test.assertEqual(list(game.plane), [at % 251 for at in range(len(game.plane))])
-        test.assertEqual(list(game.bodies), [20_000 + at for at in range(len(game.bodies))])
+            assert fields(head.seats[seat]) == numbered_seat(seat)
+        assert list(game.food) == [10_000 + at for at in range(len(game.food))]
+        assert list(game.plane) == [at % 251 for at in range(len(game.plane))]
+        assert list(game.bodies) == [20_000 + at for at in range(len(game.bodies))]

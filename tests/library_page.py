@@ -21,7 +21,7 @@ def has_numpy():
     ).returncode
 
 
-def check_python(test, folder):
+def check_python(folder):
     """Runs each; those that need numpy only where it is."""
     for number, text in enumerate(blocks("python")):
         if "VectorEnv" in text and not has_numpy():
@@ -34,5 +34,5 @@ def check_python(test, folder):
             text=True,
             env={"PYTHONPATH": str(ROOT / "bindings/python"), "PATH": "/usr/bin:/bin"},
         )
-        test.assertEqual(ran.returncode, 0, ran.stderr)
-        test.assertIn("turn", ran.stdout)
+        assert ran.returncode == 0, ran.stderr
+        assert "turn" in ran.stdout

@@ -21,7 +21,7 @@ def started(threads):
     return games
 
 
-def check_threads(test):
+def check_threads():
     """Any number of threads plays the same games, and so does each game alone."""
     all_games = [started(threads) for threads in (1, 2, 3, 7)]
     alone = started(1).copy()
@@ -37,17 +37,17 @@ def check_threads(test):
             twin.states[at] = one.states[0]
         alone.step(moves, words)
         for at in range(0, COUNT, 37):
-            test.assertEqual(twin.states[at], alone.states[at])
+            assert twin.states[at] == alone.states[at]
     for games in all_games:
-        test.assertEqual(bytes(games.memory), bytes(alone.memory))
+        assert bytes(games.memory) == bytes(alone.memory)
 
 
-def check_vector_env(test):
+def check_vector_env():
     """Autoreset, rewards and observations, against the games' own states."""
     env = VectorEnv(COUNT, seed=5)
     first, infos = env.reset(seed=5)
-    test.assertEqual((first.shape, infos), ((COUNT, 5, 11, 11), {}))
-    test.assertTrue((first[:, 0].sum(axis=(1, 2)) == 1).all())
+    assert (first.shape, infos) == ((COUNT, 5, 11, 11), {})
+    assert (first[:, 0].sum(axis=(1, 2)) == 1).all()
     ended = np.zeros(COUNT, bool)
     ends = 0
     for turn in range(60):
@@ -55,17 +55,17 @@ def check_vector_env(test):
         moves, _ = drawn(turn)
         seen, rewards, over, cut, infos = env.step(moves)
         head = env.games.states["head"]
-        test.assertTrue((head["turn"] == np.where(ended, 0, before + 1)).all())
-        test.assertTrue(((head["over"] != 0) == over).all() and not cut.any() and infos == {})
+        assert (head["turn"] == np.where(ended, 0, before + 1)).all()
+        assert ((head["over"] != 0) == over).all() and not cut.any() and infos == {}
         alive = head["seats"]["cause"][:, :4] == 0
-        test.assertTrue((rewards[over] == np.where(alive[over], 1, rewards[over])).all())
-        test.assertTrue(((seen[:, 1:] > 0).any(axis=(2, 3)) == alive).all())
-        check_planes(test, env.games, seen, turn)
+        assert (rewards[over] == np.where(alive[over], 1, rewards[over])).all()
+        assert ((seen[:, 1:] > 0).any(axis=(2, 3)) == alive).all()
+        check_planes(env.games, seen, turn)
         ended, ends = over, ends + int(over.sum())
-    test.assertGreater(ends, COUNT)
+    assert ends > COUNT
 
 
-def check_planes(test, games, seen, at):
+def check_planes(games, seen, at):
     """The planes of one game, from its lists."""
     wanted = np.zeros_like(seen[at])
     for x, y in games.food(at):
@@ -75,23 +75,23 @@ def check_planes(test, games, seen, at):
         if games.memory[at].head.seats[seat].cause == 0:
             for number, (x, y) in reversed(list(enumerate(body))):
                 wanted[1 + seat, y, x] = len(body) - number
-    test.assertTrue((seen[at] == wanted).all())
+    assert (seen[at] == wanted).all()
 
 
-def check_parallel_env(test):
+def check_parallel_env():
     """A whole game, in which each agent leaves once."""
     env = ParallelEnv(seed=3, seats=3, width=7, height=7)
     seen, infos = env.reset(seed=3)
-    test.assertEqual(sorted(seen), ["snake_0", "snake_1", "snake_2"])
+    assert sorted(seen) == ["snake_0", "snake_1", "snake_2"]
     rewards = dict.fromkeys(seen, 0.0)
     for turn in range(2000):
         if not env.agents:
             break
         agents = list(env.agents)
         seen, given, ended, cut, infos = env.step({agent: turn // 2 % 4 for agent in agents})
-        test.assertEqual(sorted(given), sorted(agents))
-        test.assertTrue(all(planes.shape == (4, 7, 7) for planes in seen.values()))
+        assert sorted(given) == sorted(agents)
+        assert all(planes.shape == (4, 7, 7) for planes in seen.values())
         for agent, reward in given.items():
             rewards[agent] += reward
-    test.assertEqual(env.agents, [])
-    test.assertTrue(sorted(rewards.values()) in ([-1, -1, -1], [-1, -1, 1]), rewards)
+    assert env.agents == []
+    assert sorted(rewards.values()) in ([-1, -1, -1], [-1, -1, 1]), rewards

@@ -1,17 +1,16 @@
 """Shared by the tests: the path of the built program, runs of it, lines of files, and the parser of
 a test's command line."""
 import argparse
+import hashlib
 import json
 import subprocess
-import sys
-import unittest
 from pathlib import Path
 
 ROOT = Path(__file__).resolve().parent.parent
 BUILT = ROOT / "crates/arena/out/arena"  # ./arena --help and the gate build it
 SECONDS = 60  # the limit of a run
 
-path = BUILT  # the program that is run; `run_tests` sets it
+path = BUILT  # the program that is run; the fixture `program` sets it
 
 
 def run_bytes(*words, text=b"", **more):
@@ -32,6 +31,20 @@ def run(*words, text=""):
 def line(**members):
     """A line of a command file, without its line feed."""
     return json.dumps(members, ensure_ascii=False, separators=(",", ":"))
+
+
+def compact(value):
+    """A value as the program writes it: no spaces, keys ascending."""
+    return json.dumps(value, ensure_ascii=False, separators=(",", ":"), sort_keys=True)
+
+
+def describe(answer):
+    """The status, the output and the errors of a run in a few words; None is a run that hung."""
+    if answer is None or answer[0] is None:
+        return "no end in time"
+    status, output, errors = answer
+    digest = hashlib.sha256(output).hexdigest()[:12]
+    return f"status {status}, {len(output)} bytes written ({digest}), errors {errors[:200]!r}"
 
 
 def text_of(lines):
@@ -65,15 +78,6 @@ def parse_args(parser):
     given = parser.parse_args()
     given.program = existing(given.program, parser)
     return given
-
-
-def run_tests(about):
-    """Runs the test cases of the calling script. Arguments other than --program are unittest's."""
-    global path
-    parser = argument_parser(about)
-    given, more = parser.parse_known_args()
-    path = existing(given.program, parser)
-    unittest.main(argv=[sys.argv[0], *more])
 
 
 def existing(file, parser):

@@ -8,7 +8,6 @@ import pytest
 
 def pytest_addoption(parser):
     parser.addoption("--files", metavar="N", type=int, default=1000, help="drawn, if not 1,000")
-    parser.addoption("--seed", metavar="S", type=int, default=1)
     jobs = min(2, os.cpu_count() or 1)
     parser.addoption("--jobs", metavar="N", type=int, default=jobs, help="at the same time")
 

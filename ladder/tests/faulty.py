@@ -16,15 +16,11 @@ import argparse
 import asyncio
 import json
 import re
-import sys
 from collections import Counter
 from collections.abc import Awaitable, Callable
-from pathlib import Path
 from typing import Any
 
-sys.path.insert(0, str(Path(__file__).resolve().parent.parent / "bots"))
-
-import seeker  # noqa: E402
+import seeker  # of ladder/bots
 
 NAMES = (
     *("good", "slow", "error", "cut", "garbage", "text", "huge", "redirect", "hanging", "gone"),

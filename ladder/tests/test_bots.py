@@ -12,7 +12,7 @@ from typing import Any
 
 import pytest
 
-from arena_ladder.bots import Answer, BotClient, NoAnswer
+from arena_ladder.bots import Answer, BotClient, NoLook
 from arena_ladder.payloads import Look
 
 TIMEOUT = 2.0
@@ -195,7 +195,7 @@ def test_looks_are_taken_as_far_as_they_are_looks() -> None:
     assert run(look(fit)) == Look("#00ff7F", "trans-rights", "bolt")
     harmful = {"apiversion": "1", "color": "red; x", "head": "../../etc", "tail": 7}
     assert run(look(harmful)) == Look()
-    with pytest.raises(NoAnswer, match="json"):
+    with pytest.raises(NoLook, match="json"):
         run(look("no object"))
-    with pytest.raises(NoAnswer, match="apiversion"):
+    with pytest.raises(NoLook, match="apiversion"):
         run(look({"color": "#00ff7F"}))

@@ -10,14 +10,15 @@ from pathlib import Path
 import pytest
 from served import Served, complaints, run_ladder
 
-from arena_ladder.outcome import Finish, Outcome
+from arena_ladder.outcome import Finish, Outcome, SeatResult
 from arena_ladder.sprt import BOUND, Sprt, expected, log_ratio
 
 RUNS = 40
 
 
-def outcome(name: str, result: str) -> Outcome:
-    others = {"win": "loss", "loss": "win", "draw": "draw"}
+def outcome(name: str, result: SeatResult) -> Outcome:
+    win, draw, loss = SeatResult.WIN, SeatResult.DRAW, SeatResult.LOSS
+    others = {win: loss, loss: win, draw: draw}
     finishes = [
         Finish(bot, it, None, None, None, 3, 9)
         for bot, it in (("new", result), ("old", others[result]))
@@ -47,9 +48,9 @@ def decided(elo: float, draw: random.Random) -> bool:
         number += 1
         for game in (1, 2):
             share = draw.random()
-            result = "draw" if share < 1 / 3 else "loss"
+            result = SeatResult.DRAW if share < 1 / 3 else SeatResult.LOSS
             if share > 1 - (expected(elo) - 1 / 6):
-                result = "win"
+                result = SeatResult.WIN
             sprt.end(outcome(f"r{number:04}-t{game:03}", result))
     return sprt.ratio > 0
 
@@ -64,9 +65,9 @@ def test_decisions_are_seldom_wrong() -> None:
 def test_pairs_count_in_their_order() -> None:
     sprt = Sprt("new", 0, 20)
     for name in ("r0002-t001", "r0002-t002", "r0001-t002"):
-        sprt.end(outcome(name, "win"))
+        sprt.end(outcome(name, SeatResult.WIN))
         assert sprt.counts == [0] * 5
-    sprt.end(outcome("r0001-t001", "draw"))
+    sprt.end(outcome("r0001-t001", SeatResult.DRAW))
     assert sprt.counts == [0, 0, 0, 1, 1] and sprt.ratio > 0
 
 

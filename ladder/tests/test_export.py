@@ -12,6 +12,7 @@ import pytest
 from served import HERE, LADDER, Served, run_ladder, write_config
 
 from arena_ladder.bots import DIRECTIONS
+from arena_ladder.outcome import SeatResult
 from arena_ladder.store import open_store
 
 BOARD = {"height", "width", "food", "hazards", "snakes"}
@@ -74,7 +75,7 @@ def test_frames_are_those_of_the_official_engine(program: Path, played: Path) ->
     store = open_store(played)
     outcomes = list(store.outcomes())
     store.close()
-    assert any(it.result == "win" for outcome in outcomes for it in outcome.finishes)
+    assert any(it.result is SeatResult.WIN for outcome in outcomes for it in outcome.finishes)
     for outcome in outcomes:
         ran = run_ladder("export", played, outcome.name, "--program", program)
         assert (ran.returncode, ran.stderr) == (0, "")
@@ -87,7 +88,7 @@ def test_frames_are_those_of_the_official_engine(program: Path, played: Path) ->
                 step = (x - before[name][0], y - before[name][1])
                 assert step in STEPS
                 assert given[name] == DIRECTIONS[[(0, 1), (0, -1), (-1, 0), (1, 0)].index(step)]
-        winners = [it.bot for it in outcome.finishes if it.result == "win"] or [""]
+        winners = [it.bot for it in outcome.finishes if it.result is SeatResult.WIN] or [""]
         assert read.result == {
             "winnerId": winners[0],
             "winnerName": winners[0],

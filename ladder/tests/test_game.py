@@ -38,6 +38,11 @@ class Bots:
     asked: list[tuple[str, str, dict[str, Any]]] = field(default_factory=list)
     port: int = 0
 
+    def __post_init__(self) -> None:
+        app = web.Application()
+        app.add_routes([web.route("*", "/{bot}/{what:.*}", self.answer)])
+        self.runner = web.AppRunner(app, access_log=None)
+
     async def answer(self, request: web.Request) -> web.Response:
         bot, what = request.match_info["bot"], request.match_info["what"]
         state = json.loads(await request.text()) if request.can_read_body else {}
@@ -48,9 +53,6 @@ class Bots:
         return web.json_response({"move": STEPS[turn % 4], "shout": f"{bot} in turn {turn}"})
 
     async def __aenter__(self) -> Bots:
-        app = web.Application()
-        app.add_routes([web.route("*", "/{bot}/{what:.*}", self.answer)])
-        self.runner = web.AppRunner(app, access_log=None)
         await self.runner.setup()
         await web.TCPSite(self.runner, "127.0.0.1", 0).start()
         self.port = self.runner.addresses[0][1]
@@ -177,7 +179,7 @@ class Says(Watch):
         self.said.append(text)
 
 
-@pytest.mark.parametrize("harm", ["cut", "changed"])
+@pytest.mark.parametrize("harm", ["cut", "changed", "unknown"])
 def test_lost_answers_are_said(program: Path, tmp_path: Path, harm: str) -> None:
     """A file of answers that was cut or changed loses times, and stops no game."""
 
@@ -188,7 +190,9 @@ def test_lost_answers_are_said(program: Path, tmp_path: Path, harm: str) -> None
                 await played(config, program, [Breaks(11)])
             path = answers_file(config.folder, NAME)
             lines = path.read_bytes().splitlines(keepends=True)
-            lines[4:] = [] if harm == "cut" else [b"[" + lines[4], *lines[5:]]
+            unknown = lines[4].replace(b"null", b'"bored"')
+            changed = {"changed": b"[" + lines[4], "unknown": unknown}
+            lines[4:] = [] if harm == "cut" else [changed[harm], *lines[5:]]
             path.write_bytes(b"".join(lines))
             says = Says()
             await played(config, program, [says])

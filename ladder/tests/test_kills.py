@@ -30,7 +30,7 @@ from served import (
     write_config,
 )
 
-from arena_ladder.bots import CAUSES
+from arena_ladder.misses import Miss
 
 SEED = 20261127
 LONGEST = 600  # seconds of a run
@@ -295,7 +295,7 @@ def test_bots_that_die_lose_and_hold_up_no_game(
     assert (process.returncode, complaints(error)) == (0, "")
     rows = {row["bot"]: row for row in standings_without_times(tmp_path / "results")}
     for name, row in rows.items():
-        causes = {cause: row[cause] for cause in CAUSES if row[cause] > 0}
+        causes = {cause: row[cause] for cause in Miss if row[cause] > 0}
         if name.startswith("dying"):
             assert "refused" in causes and causes.keys() <= {"refused", "cut"}, causes
             assert row["losses"] > 0

@@ -27,7 +27,7 @@ from arena_ladder.bots import Answer
 from arena_ladder.config import Bot
 from arena_ladder.feed import MOST_READERS, MOST_WAITING, Feed, Reader
 from arena_ladder.news import News, duration
-from arena_ladder.outcome import Finish, Outcome
+from arena_ladder.outcome import Finish, Outcome, SeatResult
 from arena_ladder.page import MOST_CONNECTIONS, page
 from arena_ladder.page_calls import Calls
 from arena_ladder.page_link import Address, PageFault, PageLink, address_of
@@ -155,7 +155,7 @@ def test_board_of_a_finished_game_stays_for_some_seconds(monkeypatch: pytest.Mon
 
 def outcome_of(name: str, *winners: str) -> Outcome:
     """The outcome of a game of a and b."""
-    results = {True: "win", False: "loss"}
+    results = {True: SeatResult.WIN, False: SeatResult.LOSS}
     finishes = [Finish(it, results[it in winners], None, None, None, 3, 9) for it in ("a", "b")]
     return Outcome(name, 1, 9, 12, "digest", tuple(finishes))
 

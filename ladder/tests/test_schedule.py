@@ -13,7 +13,7 @@ from served import board_with
 from arena_ladder import schedule
 from arena_ladder.bots import Answer
 from arena_ladder.config import config_of
-from arena_ladder.outcome import Finish, Outcome
+from arena_ladder.outcome import Finish, Outcome, SeatResult
 from arena_ladder.pairing import Fixture, fixtures_of
 from arena_ladder.progress import Counts
 from arena_ladder.pulse import Pulse
@@ -80,7 +80,7 @@ def test_fewer_games_begin_while_the_ladder_is_late(monkeypatch: pytest.MonkeyPa
 
 
 def finished(name: str, *bots: str) -> Outcome:
-    finishes = tuple(Finish(bot, "draw", None, None, None, 3, 40) for bot in bots)
+    finishes = tuple(Finish(bot, SeatResult.DRAW, None, None, None, 3, 40) for bot in bots)
     return Outcome(name, 1, 40, 43, "0" * 64, finishes)
 
 

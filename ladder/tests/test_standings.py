@@ -16,9 +16,11 @@ from typing import Any
 import pytest
 from served import board_with
 
+from arena_client import Cause
 from arena_ladder.config import Bot
 from arena_ladder.merge import merge
-from arena_ladder.outcome import Finish, Outcome, Tally, finishes_of
+from arena_ladder.misses import Miss
+from arena_ladder.outcome import Finish, Outcome, SeatResult, Tally, finishes_of
 from arena_ladder.quantiles import quantile
 from arena_ladder.rating import ratings
 from arena_ladder.standings import as_csv, as_json, cells_of, standings_of
@@ -33,7 +35,7 @@ def snake(name: str, out: int | None, cause: str | None = None, by: str | None =
     return {"id": name, "out": out, "cause": cause, "by": by, "body": body, "health": 9}
 
 
-def results(over: bool, *snakes: Any) -> list[str]:
+def results(over: bool, *snakes: Any) -> list[SeatResult]:
     board = board_with(snakes=list(snakes), over=over, turn=30)
     return [finish.result for finish in finishes_of(board)]
 
@@ -133,13 +135,13 @@ def test_quantiles_are_values_that_were_counted() -> None:
 
 
 def outcome(name: str, winner: str, loser: str) -> Outcome:
-    won = Finish(winner, "win", None, None, None, 5, 30)
-    lost = Finish(loser, "loss", 30, "snake-collision", winner, 4, 30)
+    won = Finish(winner, SeatResult.WIN, None, None, None, 5, 30)
+    lost = Finish(loser, SeatResult.LOSS, 30, Cause.SNAKE_COLLISION, winner, 4, 30)
     return Outcome(name, 1, 30, 33, "0" * 64, (won, lost))
 
 
 def tallies(late: int = 0) -> dict[str, Tally]:
-    missed = Counter({"late": late}) if late else Counter()
+    missed = Counter({Miss.LATE: late}) if late else Counter()
     return {name: Tally(Counter({3: 29, 500: 1}), missed) for name in "abc"}
 
 
@@ -159,6 +161,33 @@ def rows_of(folder: Path) -> list[dict[str, Any]]:
     rows: list[dict[str, Any]] = json.loads(as_json(standings_of(store)))
     store.close()
     return rows
+
+
+def test_results_and_causes_are_stored_as_texts(tmp_path: Path) -> None:
+    game = (outcome("r0001-t001", "a", "b"), tallies(late=2))
+    store = open_store(fill(tmp_path / "x", game))
+    seats = store.base.execute("SELECT result, typeof(result), cause FROM seat ORDER BY seat")
+    assert seats.fetchall() == [("win", "text", None), ("loss", "text", "snake-collision")]
+    (read,) = store.outcomes()
+    assert read == game[0]
+    assert {type(it.result) for it in read.finishes} == {SeatResult}
+    assert read.finishes[1].cause is Cause.SNAKE_COLLISION
+    assert store.missed()["a"] == {Miss.LATE: 2} == store.tallies("r0001-t001")["a"].missed
+    assert {type(it) for it in store.missed()["a"]} == {Miss}
+    store.close()
+
+
+@pytest.mark.parametrize(
+    "change",
+    ["seat SET result = 'bye'", "seat SET cause = 'old age'", "missed SET cause = 'bored'"],
+)
+def test_other_results_and_causes_are_refused(tmp_path: Path, change: str) -> None:
+    store = open_store(fill(tmp_path / "x", (outcome("r0001-t001", "a", "b"), tallies(late=2))))
+    with store.base:
+        store.base.execute(f"UPDATE {change}")
+    with pytest.raises(StoreFault, match="results.sqlite was changed"):
+        standings_of(store)
+    store.close()
 
 
 def test_standings_add_up(tmp_path: Path) -> None:

@@ -60,6 +60,7 @@ class VectorEnv:
         centre = ((self.games.width - 1) // 2, (self.games.height - 1) // 2)
         self._food = np.full((num_envs, 1, 2), centre, "u1")
         self._lay_out_heads()
+        self._look()
         self._seed(seed)
 
     def _lay_out_heads(self) -> None:

@@ -4,4 +4,4 @@ import sys
 
 from arena_ladder.main import main
 
-sys.exit(main())
+sys.exit(main(prog="python3 -m arena_ladder"))

@@ -8,10 +8,11 @@ import os
 from collections import defaultdict
 from collections.abc import Callable, Iterable, Iterator, Mapping
 from contextlib import suppress
-from dataclasses import dataclass
+from dataclasses import dataclass, replace
 from pathlib import Path
 
 from arena_ladder.bots import Answer
+from arena_ladder.misses import Miss
 from arena_ladder.texts import fit_text
 from arena_ladder.watch import Watch
 
@@ -28,7 +29,7 @@ class Asked:
     status: int  # of the response; 0 if no head of one came
     bytes: int
     ms: int
-    cause: str | None  # why the move was missed
+    cause: Miss | None  # why the move was missed
     start: str = ""  # the first bytes of a bad answer
     id: str = ""  # of the request
 
@@ -55,6 +56,12 @@ def asked_of(game: str, turn: int, answer: Answer) -> Asked:
     return Asked(*what, start, answer.request_id)
 
 
+def asked_in(line: bytes) -> Asked:
+    """A request in a line of a log; raises ValueError or TypeError for another line."""
+    asked = Asked(**json.loads(line))
+    return asked if asked.cause is None else replace(asked, cause=Miss(asked.cause))
+
+
 def log_files(folder: Path, bot: str) -> tuple[Path, Path]:
     """The files of a bot's log, the older one first."""
     path = folder / "log" / f"{bot}.jsonl"
@@ -67,7 +74,7 @@ def read_log(folder: Path, bot: str) -> Iterator[Asked]:
         with suppress(FileNotFoundError):
             for line in path.read_bytes().splitlines():
                 with suppress(ValueError, TypeError):
-                    yield Asked(**json.loads(line))
+                    yield asked_in(line)
 
 
 def last_missed(folder: Path, bot: str, count: int) -> list[Asked]:
@@ -102,15 +109,17 @@ class BotLog(Watch):
         self.tell = tell
         self.lines: defaultdict[str, list[str]] = defaultdict(list)
         self.is_broken = False
+        self._writing: asyncio.Task[None] | None = None
 
     async def __aenter__(self) -> BotLog:
-        self.task = asyncio.create_task(self.run())
+        self._writing = asyncio.create_task(self.run())
         return self
 
     async def __aexit__(self, *_: object) -> None:
-        self.task.cancel()
-        with suppress(asyncio.CancelledError):
-            await self.task
+        if self._writing is not None:
+            self._writing.cancel()
+            with suppress(asyncio.CancelledError):
+                await self._writing
         await self.write()
 
     def answered(self, game: str, turn: int, answers: Mapping[str, Answer]) -> None:

@@ -11,6 +11,7 @@ from typing import Any
 
 from arena_ladder.addresses import AddressBook
 from arena_ladder.connections import Connections, Exchange
+from arena_ladder.misses import BadAnswer, Miss
 from arena_ladder.payloads import Look
 from arena_ladder.pulse import Pulse
 from arena_ladder.response import EXCERPT, NOTHING, Received
@@ -18,7 +19,6 @@ from arena_ladder.texts import fit_text
 from arena_ladder.urls import request_of, target_of
 
 DIRECTIONS = ("up", "down", "left", "right")
-CAUSES = ("late", "refused", "cut", "status", "long", "json", "direction")
 LONGEST_SHOUT = 256
 LOOK_SECONDS = 5.0
 LAG = 0.1  # of the timeout: if the ladder itself is late by more, it asks again
@@ -28,12 +28,8 @@ ID_BYTES = 6  # of a request for a move
 Request = tuple[str, bytes]  # the address of a bot or of one of its calls, and the body
 
 
-class NoAnswer(Exception):
-    """A request without a usable answer, with the cause."""
-
-    def __init__(self, cause: str) -> None:
-        super().__init__(cause)
-        self.cause = cause
+class NoLook(Exception):
+    """A bot that did not say how it looks, with the reason."""
 
 
 @dataclass(frozen=True, slots=True)
@@ -41,7 +37,7 @@ class Answer:
     """The answer of a bot to a request for its move: a direction, or why there is none."""
 
     move: str | None
-    cause: str | None
+    cause: Miss | None
     latency: int  # milliseconds
     shout: str = ""
     asked_at: float = 0.0  # seconds of the loop's clock
@@ -52,7 +48,10 @@ class Answer:
 
 
 class BotClient:
-    """Calls bots over HTTP; `timeout` is in seconds and limits each request."""
+    """Calls bots over HTTP; `timeout` is in seconds and limits each request.
+
+    It is an `async with` context in a running loop.
+    """
 
     def __init__(self, timeout: float) -> None:
         self.timeout = timeout
@@ -61,20 +60,24 @@ class BotClient:
         self.connections = Connections(self.addresses)
 
     async def __aenter__(self) -> BotClient:
-        await self.pulse.__aenter__()
+        self.pulse.start()
         return self
 
     async def __aexit__(self, *_: object) -> None:
-        await self.connections.__aexit__()
-        await self.pulse.__aexit__()
+        self.connections.close()
+        self.pulse.stop()
 
     async def look(self, url: str) -> Look:
-        """Asks a bot for its look; raises `NoAnswer` if it sends none."""
+        """Asks a bot for its look; raises `NoLook` if it sends none."""
         exchange = self._exchange("GET", url + "/", b"", LOOK_SECONDS)
         await self.connections.ask([exchange])
         if exchange.cause is not None:
-            raise NoAnswer(exchange.cause)
-        return look_of(object_of(exchange.body))
+            raise NoLook(exchange.cause)
+        try:
+            members = object_of(exchange.body)
+        except BadAnswer as bad:
+            raise NoLook(bad.cause) from None
+        return look_of(members)
 
     async def moves(self, requests: Sequence[Request]) -> list[Answer]:
         """Asks bots for their moves, all at once, and waits no longer than the timeout.
@@ -122,8 +125,8 @@ class BotClient:
         if exchange.cause is None:
             try:
                 answer = answer_of(object_of(exchange.body))
-            except NoAnswer as fault:
-                answer = Answer(None, fault.cause, 0)
+            except BadAnswer as bad:
+                answer = Answer(None, bad.cause, 0)
                 received = replace(received, excerpt=exchange.body[:EXCERPT])
         seconds = min(exchange.ended_at - exchange.asked_at, self.timeout)
         return replace(
@@ -138,13 +141,13 @@ class BotClient:
 
 
 def object_of(text: bytes) -> dict[str, Any]:
-    """Parses a JSON object; raises `NoAnswer` for any other text."""
+    """Parses a JSON object; raises `BadAnswer` for any other text."""
     try:
         value = json.loads(text)
     except (ValueError, RecursionError):
-        raise NoAnswer("json") from None
+        raise BadAnswer(Miss.JSON) from None
     if not isinstance(value, dict):
-        raise NoAnswer("json")
+        raise BadAnswer(Miss.JSON)
     return value
 
 
@@ -152,14 +155,14 @@ def answer_of(members: dict[str, Any]) -> Answer:
     """The move in a bot's answer, and its shout, cut if it is too long."""
     move, shout = members.get("move"), members.get("shout")
     if move not in DIRECTIONS:
-        raise NoAnswer("direction")
+        raise BadAnswer(Miss.DIRECTION)
     return Answer(move, None, 0, fit_text(shout[:LONGEST_SHOUT]) if isinstance(shout, str) else "")
 
 
 def look_of(members: dict[str, Any]) -> Look:
     """The look in a bot's answer, with defaults for bad members; its API has to be version 1."""
     if members.get("apiversion") != "1":
-        raise NoAnswer("apiversion")
+        raise NoLook("apiversion")
 
     def part(name: str, pattern: str, usual: str) -> str:
         value = members.get(name)

@@ -9,7 +9,8 @@ from collections import defaultdict
 from collections.abc import Sequence
 
 from arena_ladder.addresses import AddressBook
-from arena_ladder.response import NOTHING, BadAnswer, Response
+from arena_ladder.misses import BadAnswer, Miss
+from arena_ladder.response import NOTHING, Response
 from arena_ladder.urls import Place
 
 OWN_FAULTS = (  # of this machine, so that no bot is blamed
@@ -32,11 +33,11 @@ class Exchange:
         self.id = id
         self.loop = asyncio.get_running_loop()
         self.began_at = self.asked_at = self.ended_at = self.loop.time()
-        self.timer = self.loop.call_later(seconds, self.time_out, "refused")
+        self.timer = self.loop.call_later(seconds, self.time_out, Miss.REFUSED)
         self.is_reused = self.is_sent = self.is_timed_out = False
         self.connection: Connection | None = None
         self.connecting: asyncio.Task[None] | None = None
-        self.cause: str | None = None
+        self.cause: Miss | None = None
         self.fault: Exception | None = None
         self.body = b""
         self.received = NOTHING
@@ -48,9 +49,9 @@ class Exchange:
             self.is_sent = True
             self.timer.cancel()
             self.asked_at = self.loop.time()
-            self.timer = self.loop.call_later(self.seconds, self.time_out, "late")
+            self.timer = self.loop.call_later(self.seconds, self.time_out, Miss.LATE)
 
-    def end(self, cause: str | None, body: bytes = b"") -> None:
+    def end(self, cause: Miss | None, body: bytes = b"") -> None:
         """Ends with a body or a cause, unless it has ended."""
         if not self.done.done():
             self.timer.cancel()
@@ -60,14 +61,14 @@ class Exchange:
                 self.received = self.connection.response.received(is_bad=cause is not None)
             self.done.set_result(None)
 
-    def time_out(self, cause: str) -> None:
+    def time_out(self, cause: Miss) -> None:
         self.is_timed_out = True
         self.end(cause)
         self.abandon()
 
     def abandon(self) -> None:
         """Ends without an answer, if it has not ended, and closes what still works for it."""
-        self.end("late")
+        self.end(Miss.LATE)
         if self.connecting is not None:
             self.connecting.cancel()
         if self.connection is not None and self.connection.exchange is self:
@@ -83,10 +84,17 @@ class Connection(asyncio.Protocol):
         self.place = place
         self.exchange: Exchange | None = None
         self.response = Response()
+        self._transport: asyncio.Transport | None = None
 
     def connection_made(self, transport: asyncio.BaseTransport) -> None:
         assert isinstance(transport, asyncio.Transport)
-        self.transport = transport
+        self._transport = transport
+
+    @property
+    def transport(self) -> asyncio.Transport:
+        """The transport, once it is connected."""
+        assert self._transport is not None
+        return self._transport
 
     @property
     def is_open(self) -> bool:
@@ -124,9 +132,9 @@ class Connection(asyncio.Protocol):
         except BadAnswer as bad:
             self._finish(bad.cause)
         else:
-            self._finish(None if error is None else "cut")
+            self._finish(None if error is None else Miss.CUT)
 
-    def _finish(self, cause: str | None) -> None:
+    def _finish(self, cause: Miss | None) -> None:
         """Ends the request, and closes the connection if it can't be used again."""
         exchange, self.exchange = self.exchange, None
         assert exchange is not None
@@ -149,6 +157,10 @@ class Connections:
         return self
 
     async def __aexit__(self, *_: object) -> None:
+        self.close()
+
+    def close(self) -> None:
+        """Closes the idle connections, and stops looking up names."""
         for connections in self.idle.values():
             for connection in connections:
                 connection.close()
@@ -193,7 +205,7 @@ class Connections:
         except Exception as fault:
             is_own = not isinstance(fault, OSError) or fault.errno in OWN_FAULTS
             exchange.fault = fault if is_own else None
-            exchange.end("refused")
+            exchange.end(Miss.REFUSED)
             return
         if exchange.done.done():
             connection.close()

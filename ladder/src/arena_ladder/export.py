@@ -12,7 +12,7 @@ from typing import Any
 from arena_client import BLOCKS_OF_GAME, Board
 from arena_ladder.config import Config, config_again
 from arena_ladder.game_files import command_file
-from arena_ladder.outcome import Outcome
+from arena_ladder.outcome import Outcome, SeatResult
 from arena_ladder.payloads import Seat, bodies, game_text, living_of, text_of
 from arena_ladder.store import StoreFault, open_store
 
@@ -30,7 +30,7 @@ def frames(folder: Path, game: str, program: Path) -> Iterator[str]:
     for board in boards_of(command_file(folder, game), program):
         you = (living_of(board) or list(seats))[:1]
         yield bodies(text, board, seats, you)[0].decode()
-    winner = next((it.bot for it in outcome.finishes if it.result == "win"), "")
+    winner = next((it.bot for it in outcome.finishes if it.result is SeatResult.WIN), "")
     yield text_of({"winnerId": winner, "winnerName": winner, "isDraw": not winner})
 
 
@@ -73,5 +73,5 @@ def row_of(outcome: Outcome) -> dict[str, Any]:
         "game": outcome.name,
         "turns": outcome.turns,
         "bots": [it.bot for it in outcome.finishes],
-        "winner": next((it.bot for it in outcome.finishes if it.result == "win"), None),
+        "winner": next((it.bot for it in outcome.finishes if it.result is SeatResult.WIN), None),
     }

@@ -14,6 +14,7 @@ from typing import Any
 
 from arena_client import PLAN
 from arena_ladder.bots import Answer
+from arena_ladder.misses import Miss
 
 
 class LineFile:
@@ -85,8 +86,14 @@ class GameFiles:
 
 
 def answers_in(line: bytes) -> dict[str, Answer]:
+    """The answers in a line of a file; raises ValueError, TypeError or AttributeError if it is
+    damaged."""
     rows: dict[str, list[Any]] = json.loads(line)
-    return {name: Answer(*row) for name, row in rows.items()}
+    return {name: answer_in(*row) for name, row in rows.items()}
+
+
+def answer_in(move: str | None, cause: str | None, latency: int, shout: str = "") -> Answer:
+    return Answer(move, None if cause is None else Miss(cause), latency, shout)
 
 
 def make_folders(folder: Path) -> None:

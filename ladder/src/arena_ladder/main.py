@@ -150,8 +150,8 @@ def hours_of(word: str) -> float:
     return hours
 
 
-def parser() -> argparse.ArgumentParser:
-    words = argparse.ArgumentParser(prog="ladder", description=__doc__)
+def parser(prog: str | None) -> argparse.ArgumentParser:
+    words = argparse.ArgumentParser(prog=prog, description=__doc__)
     commands = words.add_subparsers(required=True, metavar="COMMAND")
     one = commands.add_parser("play", help="plays the games that are not done yet")
     one.add_argument("config", metavar="CONFIG.toml", type=Path)
@@ -188,9 +188,12 @@ def parser() -> argparse.ArgumentParser:
     return words
 
 
-def main(words: Sequence[str] | None = None) -> int:
-    """Runs a command. A fault is a line on the standard error, and status 1."""
-    given = parser().parse_args(words)
+def main(words: Sequence[str] | None = None, prog: str | None = None) -> int:
+    """Runs a command. A fault is a line on the standard error, and status 1.
+
+    `prog` is the name of the program in its help, if it is not that by which it was called.
+    """
+    given = parser(prog).parse_args(words)
     try:
         return int(given.run(given))
     except FAULTS as fault:

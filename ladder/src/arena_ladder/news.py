@@ -9,7 +9,7 @@ from typing import Any
 
 from arena_client import Board
 from arena_ladder.bots import Answer
-from arena_ladder.outcome import Outcome
+from arena_ladder.outcome import Outcome, SeatResult
 from arena_ladder.pairing import Fixture
 from arena_ladder.payloads import Look
 from arena_ladder.watch import Watch
@@ -71,7 +71,9 @@ class News(Watch):
     def end(self, outcome: Outcome) -> None:
         self.done += 1
         self.played += 1
-        self.ended[outcome.name] = [it.bot for it in outcome.finishes if it.result == "win"]
+        self.ended[outcome.name] = [
+            it.bot for it in outcome.finishes if it.result is SeatResult.WIN
+        ]
         if len(self.ended) > MOST_ENDED:
             self.forget(next(iter(self.ended)))
 

@@ -5,9 +5,11 @@ from __future__ import annotations
 from collections import Counter
 from collections.abc import Iterable
 from dataclasses import dataclass, field
+from enum import StrEnum
 
-from arena_client import Board, Snake
+from arena_client import Board, Cause, Snake
 from arena_ladder.bots import Answer
+from arena_ladder.misses import Miss
 from arena_ladder.payloads import living_of
 
 
@@ -16,7 +18,7 @@ class Tally:
     """Statistics of one bot in one game: the latencies, and the missed moves by cause."""
 
     latencies: Counter[int] = field(default_factory=Counter)  # by milliseconds
-    missed: Counter[str] = field(default_factory=Counter)
+    missed: Counter[Miss] = field(default_factory=Counter)
 
     def add(self, answer: Answer) -> None:
         self.latencies[answer.latency] += 1
@@ -24,14 +26,23 @@ class Tally:
             self.missed[answer.cause] += 1
 
 
+class SeatResult(StrEnum):
+    """Whether a seat won its game. A game of one snake has no winner."""
+
+    WIN = "win"
+    DRAW = "draw"
+    LOSS = "loss"
+    NONE = ""
+
+
 @dataclass(frozen=True)
 class Finish:
-    """The result of a seat. `result` is win, draw, loss, or empty in a game of one snake."""
+    """How a game ended for a seat."""
 
     bot: str
-    result: str
+    result: SeatResult
     out: int | None  # the turn in which its snake went out
-    cause: str | None
+    cause: Cause | None
     killer: str | None
     length: int
     turns: int  # in which its snake lived
@@ -66,7 +77,7 @@ def finish_of(snake: Snake, board: Board) -> Finish:
     )
 
 
-def result_of(snake: Snake, board: Board) -> str:
+def result_of(snake: Snake, board: Board) -> SeatResult:
     """A snake wins if it alone lives when the game is over.
 
     It draws if it lives in a game that is not over, or if no snake lives and it was among the last
@@ -74,11 +85,13 @@ def result_of(snake: Snake, board: Board) -> str:
     """
     living = living_of(board)
     if len(board["snakes"]) == 1:
-        return ""
+        return SeatResult.NONE
     if snake["out"] is None:
-        return "win" if board["over"] and len(living) == 1 else "draw"
+        is_alone = board["over"] and len(living) == 1
+        return SeatResult.WIN if is_alone else SeatResult.DRAW
     last = max(other["out"] or 0 for other in board["snakes"])
-    return "draw" if not living and snake["out"] == last else "loss"
+    is_among_last = not living and snake["out"] == last
+    return SeatResult.DRAW if is_among_last else SeatResult.LOSS
 
 
 def tallies_of(names: Iterable[str], turns: Iterable[dict[str, Answer]]) -> dict[str, Tally]:

@@ -56,26 +56,16 @@ class PageFault(Exception):
     """A page that can't be served, with the reason."""
 
 
+@dataclass(frozen=True)
 class PageProcess:
-    """One process that serves the page, and the socket to it."""
+    """A process that serves the page, and the two ends of the socket to it."""
 
-    def __init__(self, folder: Path, address: Address, program: Path) -> None:
-        self.words = [address.host, str(address.port), str(folder), str(program)]
+    process: asyncio.subprocess.Process
+    reader: asyncio.StreamReader
+    writer: asyncio.StreamWriter
 
-    async def start(self) -> Address:
-        """Starts it; returns its address, or raises `PageFault`."""
-        ours, theirs = socket.socketpair()
-        path = os.pathsep.join(filter(None, [str(PACKAGES), os.environ.get("PYTHONPATH")]))
-        with theirs:
-            self.process = await asyncio.create_subprocess_exec(
-                sys.executable,
-                *("-B", "-P", "-m", "arena_ladder.page", str(theirs.fileno()), *self.words),
-                stdin=asyncio.subprocess.DEVNULL,
-                pass_fds=[theirs.fileno()],
-                start_new_session=True,  # Ctrl-C ends the ladder, which then ends the page
-                env={**os.environ, "PYTHONPATH": path},
-            )
-        self.reader, self.writer = await asyncio.open_connection(sock=ours, limit=LONGEST_LINE)
+    async def served_at(self) -> Address:
+        """Waits for the address at which it serves; kills it and raises `PageFault` without one."""
         try:
             async with asyncio.timeout(START_SECONDS):
                 found = json.loads(await self.reader.readline() or b"{}")
@@ -119,6 +109,25 @@ class PageProcess:
         self.writer.transport.abort()
 
 
+async def start_page(folder: Path, address: Address, program: Path) -> PageProcess:
+    """Starts a process that is to serve the page at an address."""
+    ours, theirs = socket.socketpair()
+    path = os.pathsep.join(filter(None, [str(PACKAGES), os.environ.get("PYTHONPATH")]))
+    place = (address.host, str(address.port))
+    with theirs:
+        process = await asyncio.create_subprocess_exec(
+            sys.executable,
+            *("-B", "-P", "-m", "arena_ladder.page", str(theirs.fileno())),
+            *(*place, str(folder), str(program)),
+            stdin=asyncio.subprocess.DEVNULL,
+            pass_fds=[theirs.fileno()],
+            start_new_session=True,  # Ctrl-C ends the ladder, which then ends the page
+            env={**os.environ, "PYTHONPATH": path},
+        )
+    reader, writer = await asyncio.open_connection(sock=ours, limit=LONGEST_LINE)
+    return PageProcess(process, reader, writer)
+
+
 class PageLink(News):
     """Keeps a process with the page, and sends it the changes, tick by tick.
 
@@ -141,14 +150,15 @@ class PageLink(News):
         self.tell = tell
         self.program = program
         self.page: PageProcess | None = None
+        self._tasks: list[asyncio.Task[None]] = []
 
     async def __aenter__(self) -> PageLink:
         await self.start()
-        self.tasks = [asyncio.create_task(self.keep()), asyncio.create_task(self.run())]
+        self._tasks = [asyncio.create_task(self.keep()), asyncio.create_task(self.run())]
         return self
 
     async def __aexit__(self, *_: object) -> None:
-        for task in self.tasks:
+        for task in self._tasks:
             task.cancel()
         if self.page is not None:
             self.send()
@@ -156,8 +166,8 @@ class PageLink(News):
 
     async def start(self) -> None:
         """Starts a process for the page, which first gets all boards."""
-        page = PageProcess(self.folder, self.address, self.program)
-        self.address = await page.start()
+        page = await start_page(self.folder, self.address, self.program)
+        self.address = await page.served_at()
         self.begin_anew()
         self.page = page
 

@@ -11,7 +11,7 @@ from dataclasses import dataclass
 from pathlib import Path
 
 from arena_client import BLOCKS_OF_GAME, HostDied, Refused
-from arena_ladder.bots import BotClient, NoAnswer
+from arena_ladder.bots import BotClient, NoLook
 from arena_ladder.config import ENDLESS, Bot, Config
 from arena_ladder.endless import Endless
 from arena_ladder.game import Game, GameFault, RunContext
@@ -98,8 +98,8 @@ async def ask_looks(
     async def ask(bot: Bot) -> None:
         try:
             looks[bot.name] = await client.look(bot.url)
-        except NoAnswer as fault:
-            watch.say(f"{bot.name} did not say how it looks ({fault.cause}): {shown(bot.url)}")
+        except NoLook as fault:
+            watch.say(f"{bot.name} did not say how it looks ({fault}): {shown(bot.url)}")
 
     await asyncio.gather(*map(ask, bots))
 

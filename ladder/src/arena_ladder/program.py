@@ -21,5 +21,8 @@ def program_of(given: argparse.Namespace) -> Path:
     """The path of the arena program, which has to exist."""
     program = Path(given.program)
     if not program.is_file():
-        raise ProgramFault(f"there is no program {program}: ./arena --help proves and builds it")
+        raise ProgramFault(
+            f"there is no program {program}: ./arena --help proves and builds it, and --program "
+            "names another"
+        )
     return program.resolve()

@@ -13,6 +13,7 @@ from rich.progress import BarColumn, MofNCompleteColumn, Progress, TextColumn, T
 
 from arena_client import Board
 from arena_ladder.bots import Answer
+from arena_ladder.misses import Miss
 from arena_ladder.outcome import Outcome
 from arena_ladder.pairing import Fixture
 from arena_ladder.quantiles import quantile
@@ -31,7 +32,7 @@ class Counts(Watch):
         self.began = time.monotonic()
         self.running: set[str] = set()
         self.done = self.fixtures = self.played = self.turns = self.moves = 0
-        self.missed: Counter[str] = Counter()
+        self.missed: Counter[Miss] = Counter()
         self.own: Counter[int] = Counter()  # turns by own time, in tenths of a millisecond
         self.lagged = 0  # turns in which the ladder itself was late
         self.strain = Strain()

@@ -6,6 +6,8 @@ import re
 from collections.abc import Callable
 from dataclasses import dataclass
 
+from arena_ladder.misses import BadAnswer, Miss
+
 MOST_BYTES = 64 * 1024  # of all that an answer sends: heads, body, chunk lines and trailers
 MOST_HEAD = 16 * 1024  # of a status line with its headers
 MOST_PIECES = 1024  # in which an answer comes: reads from the socket, and chunks
@@ -19,14 +21,6 @@ FIELD = re.compile(
 )
 SIZE = re.compile(rb"([0-9A-Fa-f]{1,8})[ \t]{0,8}(?:;[^\r\n]{0,200})?\r?\n")
 NUMBER = re.compile(rb"[0-9]{1,9}")
-
-
-class BadAnswer(Exception):
-    """A response that is not taken, with the cause: `cut`, `long` or `status`."""
-
-    def __init__(self, cause: str) -> None:
-        super().__init__(cause)
-        self.cause = cause
 
 
 @dataclass(frozen=True, slots=True)
@@ -72,13 +66,13 @@ class Response:
             self.keeps = self.keeps and not self._rest and not is_long
             return True
         if is_long:
-            raise BadAnswer("long")
+            raise BadAnswer(Miss.LONG)
         return False
 
     def end(self) -> None:
         """Takes the end of the connection; raises `BadAnswer` if the response is incomplete."""
         if self._step != self._until_end:
-            raise BadAnswer("cut")
+            raise BadAnswer(Miss.CUT)
         self.body = bytes(self._rest)
 
     def received(self, is_bad: bool) -> Received:
@@ -91,7 +85,7 @@ class Response:
     def _count_piece(self) -> None:
         self.pieces += 1
         if self.pieces > MOST_PIECES:
-            raise BadAnswer("long")
+            raise BadAnswer(Miss.LONG)
 
     def _taken(self, size: int) -> bytes:
         """Removes the first bytes of the rest, and returns them."""
@@ -110,22 +104,22 @@ class Response:
         """Reads the head, and at most one interim response (1xx) before it."""
         end = self._empty_line()
         if (end or len(self._rest)) > MOST_HEAD:
-            raise BadAnswer("long")
+            raise BadAnswer(Miss.LONG)
         if end == 0:
             return False
         head = self._taken(end)
         self._start = head[:EXCERPT]
         line = STATUS.match(head)
         if line is None or line[2] == b"101":
-            raise BadAnswer("cut")
+            raise BadAnswer(Miss.CUT)
         self.status = int(line[2])
         if line[2].startswith(b"1"):
             if self._had_interim:
-                raise BadAnswer("cut")
+                raise BadAnswer(Miss.CUT)
             self._had_interim = True
             return self._head()
         if line[2] != b"200":
-            raise BadAnswer("status")
+            raise BadAnswer(Miss.STATUS)
         self._step = self._step_after(head, line[1] == b"1")
         return self._step()
 
@@ -139,7 +133,7 @@ class Response:
         codings, lengths = fields.get(b"transfer-encoding"), fields.get(b"content-length")
         if codings is not None:
             if codings != {b"chunked"}:
-                raise BadAnswer("cut")
+                raise BadAnswer(Miss.CUT)
             self.keeps = self.keeps and lengths is None
             return self._chunks
         if lengths is None:
@@ -147,10 +141,10 @@ class Response:
             return self._until_end
         (length, *others) = lengths
         if others or not NUMBER.fullmatch(length):
-            raise BadAnswer("cut")
+            raise BadAnswer(Miss.CUT)
         self._length = int(length)
         if self._length > MOST_BYTES:
-            raise BadAnswer("long")
+            raise BadAnswer(Miss.LONG)
         return self._whole
 
     def _whole(self) -> bool:
@@ -170,7 +164,7 @@ class Response:
         while (line := SIZE.match(rest, at)) is not None:
             size, begin = int(line[1], 16), line.end()
             if size > MOST_BYTES:
-                raise BadAnswer("long")
+                raise BadAnswer(Miss.LONG)
             if size == 0:
                 self._taken(begin)
                 self.body = b"".join(self._parts)
@@ -184,7 +178,7 @@ class Response:
             self._count_piece()
         self._taken(at)
         if line is None and not is_begun_line(rest):
-            raise BadAnswer("cut")
+            raise BadAnswer(Miss.CUT)
         return False
 
     def _trailers(self) -> bool:
@@ -205,7 +199,7 @@ def line_feed_at(text: bytearray, at: int) -> int:
         return 2
     if text.startswith(b"\n", at):
         return 1
-    raise BadAnswer("cut")
+    raise BadAnswer(Miss.CUT)
 
 
 def is_begun_line(text: bytearray) -> bool:

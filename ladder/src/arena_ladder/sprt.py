@@ -11,7 +11,7 @@ import math
 from collections.abc import Sequence
 from dataclasses import dataclass
 
-from arena_ladder.outcome import Outcome
+from arena_ladder.outcome import Outcome, SeatResult
 from arena_ladder.pairing import pair_of
 from arena_ladder.watch import Watch
 
@@ -20,7 +20,7 @@ LEAST = 1e-3  # pairs that are counted for a score that was not seen
 ERROR = 0.05  # the share of wrong decisions, either way
 BOUND = math.log((1 - ERROR) / ERROR)
 HALVINGS = 60
-POINTS = {"win": 2, "draw": 1, "loss": 0}
+POINTS = {SeatResult.WIN: 2, SeatResult.DRAW: 1, SeatResult.LOSS: 0}
 
 
 def expected(elo: float) -> float:

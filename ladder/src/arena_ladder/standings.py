@@ -14,8 +14,8 @@ from typing import Any
 from rich.table import Table
 from rich.text import Text
 
-from arena_ladder.bots import CAUSES
-from arena_ladder.outcome import Outcome
+from arena_ladder.misses import Miss
+from arena_ladder.outcome import Outcome, SeatResult
 from arena_ladder.quantiles import quantile
 from arena_ladder.rating import Rating, ratings
 from arena_ladder.store import Store
@@ -28,20 +28,20 @@ class Standing:
 
     bot: str
     games: int = 0
-    results: Counter[str] = field(default_factory=Counter)
+    results: Counter[SeatResult] = field(default_factory=Counter)
     turns: int = 0  # in which its snakes lived
     rating: Rating = Rating(0.0, 0.0)
     latencies: Mapping[int, int] = field(default_factory=dict)
-    missed: Mapping[str, int] = field(default_factory=dict)
+    missed: Mapping[Miss, int] = field(default_factory=dict)
 
     def row(self) -> dict[str, Any]:
         """The columns of the standings by their names, with each cause of missed moves."""
         return {
             "bot": self.bot,
             "games": self.games,
-            "wins": self.results["win"],
-            "draws": self.results["draw"],
-            "losses": self.results["loss"],
+            "wins": self.results[SeatResult.WIN],
+            "draws": self.results[SeatResult.DRAW],
+            "losses": self.results[SeatResult.LOSS],
             "turns": self.turns,
             "elo": round(self.rating.elo),
             "error": round(self.rating.error),
@@ -49,7 +49,7 @@ class Standing:
             "p99_ms": quantile(self.latencies, 0.99),
             "moves": sum(self.latencies.values()),
             "missed": sum(self.missed.values()),
-            **{cause: self.missed.get(cause, 0) for cause in CAUSES},
+            **{cause: self.missed.get(cause, 0) for cause in Miss},
         }
 
 
@@ -99,7 +99,7 @@ def cells_of(standing: Standing) -> list[str]:
     row = standing.row()
     numbers = ("games", "wins", "draws", "losses", "turns", "elo", "error")
     times = ["-" if row[name] is None else f"{row[name]} ms" for name in ("median_ms", "p99_ms")]
-    causes = ", ".join(f"{cause} {row[cause]}" for cause in CAUSES if row[cause]) or "-"
+    causes = ", ".join(f"{cause} {row[cause]}" for cause in Miss if row[cause]) or "-"
     return [
         fit_text(row["bot"]),
         *(str(row[name]) for name in numbers),

@@ -9,8 +9,10 @@ from collections.abc import Iterable, Iterator, Mapping
 from pathlib import Path
 from typing import Any
 
+from arena_client import Cause
 from arena_ladder.config import Bot
-from arena_ladder.outcome import Finish, Outcome, Tally
+from arena_ladder.misses import Miss
+from arena_ladder.outcome import Finish, Outcome, SeatResult, Tally
 from arena_ladder.pairing import GAME_NAME
 from arena_ladder.rated import Change, Drawn, Result
 from arena_ladder.urls import shown
@@ -98,10 +100,7 @@ class Store:
         try:
             self.add_all(played)
         except sqlite3.IntegrityError as fault:
-            raise StoreFault(
-                f"{self.path} was changed ({fault}): restore a copy of it, or delete it, and the "
-                "results are read again from the games' files, without times and missed moves"
-            ) from None
+            raise self.changed(fault) from None
 
     def add_all(self, played: Iterable[tuple[Outcome, Mapping[str, Tally]]]) -> None:
         with self.base:
@@ -147,12 +146,29 @@ class Store:
             " ORDER BY game, seat"
         )
         for game, *values in seats:
-            finishes.setdefault(game, []).append(Finish(*values))
+            finishes.setdefault(game, []).append(self.finish(*values))
         games = self.base.execute(
             f"SELECT name, round, turns, lines, digest FROM game ORDER BY {order}"
         )
         for name, number, turns, lines, digest in games:
             yield Outcome(name, number, turns, lines, digest, tuple(finishes.get(name, ())))
+
+    def finish(
+        self, bot: str, result: str, out: int | None, cause: str | None, *more: Any
+    ) -> Finish:
+        """The finish in a row; raises `StoreFault` if it was changed to one that none is."""
+        try:
+            known = None if cause is None else Cause(cause)
+            return Finish(bot, SeatResult(result), out, known, *more)
+        except ValueError as fault:
+            raise self.changed(fault) from None
+
+    def changed(self, fault: Exception) -> StoreFault:
+        """Says that the database has what this program did not write."""
+        return StoreFault(
+            f"{self.path} was changed ({fault}): restore a copy of it, or delete it, and the "
+            "results are read again from the games' files, without times and missed moves"
+        )
 
     def results(self, after: int) -> list[Result]:
         """The results behind the first `after`, in the order in which they were stored."""
@@ -212,11 +228,18 @@ class Store:
         tallies = {seat: Tally() for seat, _ in rows}
         missed = "SELECT seat, cause, moves FROM missed WHERE game = ?"
         for seat, cause, moves in self.base.execute(missed, (game,)):
-            tallies[seat].missed[cause] = moves
+            tallies[seat].missed[self.miss(cause)] = moves
         latencies = "SELECT seat, ms, moves FROM latency WHERE game = ?"
         for seat, ms, moves in self.base.execute(latencies, (game,)):
             tallies[seat].latencies[ms] = moves
         return {bot: tallies[seat] for seat, bot in rows}
+
+    def miss(self, cause: str) -> Miss:
+        """The cause in a row; raises `StoreFault` if it was changed to one that none is."""
+        try:
+            return Miss(cause)
+        except ValueError as fault:
+            raise self.changed(fault) from None
 
     def counts(self, table: str, key: str) -> dict[str, Counter[Any]]:
         """The number of moves of each bot by value of a column: of `missed` by cause, of `latency`
@@ -230,8 +253,11 @@ class Store:
             found.setdefault(bot, Counter())[value] = moves
         return found
 
-    def missed(self) -> dict[str, Counter[str]]:
-        return self.counts("missed", "cause")
+    def missed(self) -> dict[str, Counter[Miss]]:
+        return {
+            bot: Counter({self.miss(cause): moves for cause, moves in counts.items()})
+            for bot, counts in self.counts("missed", "cause").items()
+        }
 
     def latencies(self) -> dict[str, Counter[int]]:
         return self.counts("latency", "ms")

@@ -123,6 +123,8 @@ class Game:
     def __init__(self, rng, name, version):
         self.rng, self.name, self.version = rng, name, version
         self.runs, self.turn = False, 0
+        self.mode, self.width, self.height, self.cells = "", 0, 0, []
+        self.bodies, self.length = {}, 0
 
     def command(self):
         rng = self.rng

@@ -2,7 +2,7 @@
 """Times the library beside a simulator by hand and plain Python, on 500 drawn games of four snakes
 on 11 by 11 cells.
 
-    benches/library/run [--games N] [--runs R] [--seconds S]
+    benches/library.py [--games N] [--runs R] [--seconds S]
 
 It needs gcc, and bindings/build to have been run; the vector environment needs numpy. The rates are
 of processor time, the least of R runs; those of several threads are of wall time, S seconds each.
@@ -13,14 +13,12 @@ import subprocess
 import sys
 import tempfile
 import time
-from pathlib import Path
 
-ROOT = Path(__file__).resolve().parent.parent.parent
-sys.dont_write_bytecode = True
-sys.path[:0] = [str(ROOT / "tests"), str(ROOT / "bindings/python"), str(Path(__file__).parent)]
+from paths import ROOT  # first: it lets the next be found
 import library_games
-import plain
+from simulators import plain
 
+SIMULATORS = ROOT / "benches/simulators"
 SPOTS = [(1, 1), (1, 9), (9, 1), (9, 9), (1, 5), (5, 1), (5, 9), (9, 5)]
 MOST_TURNS = 400
 
@@ -87,7 +85,7 @@ def main():
     games = [drawn_game(number) for number in range(given.games)]
     with tempfile.TemporaryDirectory() as folder:
         library_games.write(games, f"{folder}/games")
-        here, library = Path(__file__).parent, ROOT / "out/bindings/libarena.a"
+        here, library = SIMULATORS, ROOT / "out/bindings/libarena.a"
         build = ["gcc", "-O3", "-march=x86-64-v2", f"-I{ROOT}/bindings/c", "-o", f"{folder}/bench"]
         subprocess.run([*build, here / "bench.c", library, "-lpthread"], check=True)
         bench = [f"{folder}/bench", f"{folder}/games", str(given.runs), str(given.seconds)]

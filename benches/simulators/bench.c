@@ -1,4 +1,4 @@
-// Times the library, and a simulator by hand, on the games of a file that benches/library/run
+// Times the library, and a simulator by hand, on the games of a file that benches/library.py
 // wrote.
 //
 //     bench FILE RUNS SECONDS
