@@ -1,7 +1,14 @@
+pub mod Alone
 pub mod Bodies
 pub mod Bytes
+pub mod Eliminated
+pub mod FirstOut
 pub mod Moved
 pub mod Neighbors
 pub mod Numbers
 pub mod Onward
+pub mod SeatWrites
+pub mod Shown
+pub mod SoFar
+pub mod Steps
 pub mod Torus

@@ -1,2 +1,3 @@
 -- What private contracts cite, and no public one.
+pub mod Eliminations
 pub mod Steps

@@ -1,6 +1,10 @@
 //! The collisions of a turn, all judged on one board.
 
-ghost use Rattle.std.specs.Prelude.{◌≡◌, ◌≤◌, ◌<◌};
+ghost use Rattle.std.specs.Prelude.{◌≡◌, ◌≤◌, ◌<◌, length, None, IsTrue};
+ghost use Rattle.bs_board.specs.declared.boards.board.Board.{Board};
+ghost use Rattle.bs_rules.specs.Collision.{collision_verdict};
+ghost use Rattle.bs_batch.specs.inner.Eliminations.{Eliminates};
+ghost use Rattle.bs_batch.specs.Shown.{HasRoom, ShowsSeats};
 
 use crate::layout::{ALIVE, BODY_COLLISION, HEAD_COLLISION, Head, NO_SEAT, SEATS, SELF_COLLISION};
 use crate::planes::{PARTS, at, remove_body};
@@ -107,6 +111,7 @@ fn verdict_of(head: &Head, bodies: &[u16], seat: usize) -> Verdict
 pub fn eliminate(head: &mut Head, plane: &mut [u8], bodies: &[u16], seat: usize, verdict: Verdict)
     requires seat { seat < SEATS }
     ensures settings { head.new.settings ≡ head.old.settings }
+    ensures board { Eliminates seat verdict bodies.now head.old plane.old head.new plane.new }
 {
     remove_body(plane, body_of(bodies, seat, head.seats[seat].parts));
     let out = head.turn.wrapping_add(1);
@@ -116,17 +121,24 @@ pub fn eliminate(head: &mut Head, plane: &mut [u8], bodies: &[u16], seat: usize,
     judged.out = out;
 }
 
+/// Whether the head of a seat is the only part on its cell. Then it collides with nothing.
+#[inline]
+fn is_alone(head: &Head, plane: &[u8], bodies: &[u16], seat: usize) -> bool
+    requires seat { seat < SEATS }
+    ensures { (b : Board) → ShowsSeats head.now plane.now bodies.now b → HasRoom 0 b → seat < length b.snakes → IsTrue result → collision_verdict b.snakes seat ≡ None }
+{
+    let cell = head_of(body_of(bodies, seat, head.seats[seat].parts));
+    at(plane, cell) & PARTS == 1
+}
+
 /// Whether the head of each living snake is the only part on its cell. Then nothing collides.
 #[inline]
 fn are_all_alone(head: &Head, plane: &[u8], bodies: &[u16]) -> bool
     requires seats { head.now.settings.seats ≤ SEATS }
 {
     for seat in 0..usize::from(head.settings.seats) {
-        if head.seats[seat].cause == ALIVE {
-            let cell = head_of(body_of(bodies, seat, head.seats[seat].parts));
-            if at(plane, cell) & PARTS != 1 {
-                return false;
-            }
+        if head.seats[seat].cause == ALIVE && !is_alone(head, plane, bodies, seat) {
+            return false;
         }
     }
     true

@@ -1,6 +1,7 @@
 //! The seats of a game and their bodies.
 
-ghost use Rattle.std.specs.Prelude.{◌≡◌, ◌≤◌, ◌<◌};
+ghost use Rattle.std.specs.Prelude.{◌≡◌, ◌≤◌, ◌<◌, slice_index, take};
+ghost use Rattle.bs_batch.specs.Shown.{room_of};
 
 use crate::layout::{ALIVE, Head, SEATS, SOLO};
 
@@ -21,6 +22,7 @@ pub fn room_of(bodies: &mut [u16], seat: usize) -> &mut [u16]
 #[inline]
 pub fn body_of(bodies: &[u16], seat: usize, parts: u16) -> &[u16]
     requires seat { seat < SEATS }
+    ensures { result.now ≡ take parts (room_of bodies.now seat) }
 {
     let row = bodies.len() / SEATS;
     let start = seat * row;
@@ -32,7 +34,9 @@ pub fn body_of(bodies: &[u16], seat: usize, parts: u16) -> &[u16]
 }
 
 #[inline]
-pub fn head_of(body: &[u16]) -> u16 {
+pub fn head_of(body: &[u16]) -> u16
+    ensures { result ≡ slice_index body.now 0 }
+{
     match body {
         [] => 0,
         [head, ..] => *head,

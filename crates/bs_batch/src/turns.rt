@@ -1,6 +1,13 @@
 //! One turn of one game.
 
-ghost use Rattle.std.specs.Prelude.{◌≡◌, ◌≤◌, ◌<◌};
+ghost use Rattle.std.specs.Prelude.{◌≡◌, ◌≤◌, ◌<◌, take};
+ghost use Rattle.bs_rules.specs.Elimination.{starved_or_outside};
+ghost use Rattle.bs_batch.specs.Shown.{ChangesBoard, room_of};
+ghost use Rattle.bs_batch.specs.inner.Eliminations.{
+  ChangesSeat,
+  IsFirstCause,
+  starved_or_outside_at,
+};
 
 use crate::collisions::{Verdict, collide, eliminate};
 use crate::food::{remove_eaten, spawn};
@@ -75,30 +82,11 @@ fn move_seats(head: &mut Head, plane: &mut [u8], bodies: &mut [u16], moves: &[u8
     any
 }
 
-/// Eliminates the snakes that starved and those that left the board.
-fn first_out(head: &mut Head, plane: &mut [u8], bodies: &[u16])
-    requires seats { head.old.settings.seats ≤ SEATS }
-    ensures settings { head.new.settings ≡ head.old.settings }
-{
-    let settings = head.settings;
-    for seat in 0..usize::from(settings.seats) {
-        let judged = head.seats[seat];
-        if judged.cause == ALIVE {
-            let cause = first_cause(&settings, judged.health, bodies, seat, judged.parts);
-            if cause != ALIVE {
-                let verdict = Verdict {
-                    cause,
-                    killer: NO_SEAT,
-                };
-                eliminate(head, plane, bodies, seat, verdict);
-            }
-        }
-    }
-}
-
+/// Why a snake is out before collisions: it starved, or else it left the board; 0 if neither.
 #[inline]
 fn first_cause(settings: &Settings, health: u8, bodies: &[u16], seat: usize, parts: u16) -> u8
     requires seat { seat < SEATS }
+    ensures { IsFirstCause settings.now health (take parts (room_of bodies.now seat)) result }
 {
     if health == 0 {
         OUT_OF_HEALTH
@@ -108,6 +96,37 @@ fn first_cause(settings: &Settings, health: u8, bodies: &[u16], seat: usize, par
         WALL_COLLISION
     } else {
         ALIVE
+    }
+}
+
+/// Eliminates the snake of a seat if it starved or left the board.
+#[inline]
+fn first_out_at(head: &mut Head, plane: &mut [u8], bodies: &[u16], seat: usize)
+    requires seat { seat < SEATS }
+    ensures settings { head.new.settings ≡ head.old.settings }
+    ensures board { ChangesSeat starved_or_outside_at seat bodies.now head.old plane.old head.new plane.new }
+{
+    let judged = head.seats[seat];
+    if judged.cause == ALIVE {
+        let cause = first_cause(&head.settings, judged.health, bodies, seat, judged.parts);
+        if cause != ALIVE {
+            let verdict = Verdict {
+                cause,
+                killer: NO_SEAT,
+            };
+            eliminate(head, plane, bodies, seat, verdict);
+        }
+    }
+}
+
+/// Eliminates the snakes that starved and those that left the board.
+fn first_out(head: &mut Head, plane: &mut [u8], bodies: &[u16])
+    requires seats { head.old.settings.seats ≤ SEATS }
+    ensures settings { head.new.settings ≡ head.old.settings }
+    ensures board { ChangesBoard starved_or_outside bodies.now head.old plane.old head.new plane.new }
+{
+    for seat in 0..usize::from(head.settings.seats) {
+        first_out_at(head, plane, bodies, seat);
     }
 }
 
