@@ -1,8 +1,10 @@
 pub mod Alone
 pub mod Bodies
 pub mod Bytes
+pub mod Collided
 pub mod Eliminated
 pub mod FirstOut
+pub mod Judged
 pub mod Moved
 pub mod Neighbors
 pub mod Numbers

@@ -52,5 +52,5 @@ pub map_each : (f : Snake → Snake) (snakes : List Snake) → map_seats (λ _. 
 map_each f snakes = map_from 0 f snakes
 
 -- the board with these snakes
-abbrev pub board_so_far : (Board → ℕ → Snake → Snake) → ℕ → Board → Board
-board_so_far f i b = record b { snakes = so_far (f b) i b.snakes }
+abbrev pub board_so_far : (ℕ → Snake → Snake) → ℕ → Board → Board
+board_so_far f i b = record b { snakes = so_far f i b.snakes }

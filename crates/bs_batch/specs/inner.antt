@@ -1,3 +1,4 @@
 -- What private contracts cite, and no public one.
+pub mod Collisions
 pub mod Eliminations
 pub mod Steps

@@ -1,5 +1,5 @@
 -- The elimination of one snake.
-use Rattle.std.specs.Prelude.{◌≡◌, ℕ, ◌+◌, ◌<◌, ◌≤◌, Bool, true, List, length, slice_set, Option, Some, option_map}
+use Rattle.std.specs.Prelude.{◌≡◌, ℕ, ◌+◌, ◌<◌, ◌≤◌, Bool, true, List, length, slice_set, MatchOption, Option, Some, is_some, option_map}
 use Rattle.bs_board.specs.declared.boards.board.Board.{Board}
 use Rattle.bs_board.specs.declared.boards.snake.Snake.{Snake}
 use Rattle.bs_board.specs.boards.Wrap.{is_wrapped}
@@ -46,3 +46,14 @@ abbrev pub IsFirstCause : Settings → ℕ → List ℕ → ℕ → Type 0
 IsFirstCause settings health body result =
     (b : Board) (s : Snake) → ShowsSettings settings b → b.width ≤ 25 → HasBody b.width b.height s → health ≡ s.health → body ≡ numbers_of s.body
     → result ≡ cause_byte (option_map (λ v. v.cause) (starved_or_outside_verdict (is_wrapped b.mode) b.width b.height s))
+
+-- the verdict in bytes; 0 for none
+abbrev pub IsVerdictIf : VerdictBytes → Option Verdict → Type 0
+IsVerdictIf bytes verdict = MatchOption verdict (bytes.cause ≡ 0) (IsVerdict bytes)
+
+-- the living snake of the seat is eliminated, if there is a verdict
+abbrev pub PutsOut : ℕ → VerdictBytes → List ℕ → Head → List ℕ → Head → List ℕ → Type 0
+PutsOut seat bytes bodies head plane head' plane' =
+    (b : Board) (verdict : Option Verdict) → IsVerdictIf bytes verdict → ShowsSeats head plane bodies b → HasRoom 0 b → seat < length b.snakes
+    → (is_some verdict ≡ true → is_living (snake_at b.snakes seat) ≡ true)
+    → ShowsSeats head' plane' bodies (with_snake b seat (judged (b.turn + 1) verdict (snake_at b.snakes seat)))
