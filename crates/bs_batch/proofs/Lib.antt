@@ -6,9 +6,11 @@ pub mod Eliminated
 pub mod FirstOut
 pub mod Judged
 pub mod Moved
+pub mod MovedSeat
 pub mod Neighbors
 pub mod Numbers
 pub mod Onward
+pub mod Repeated
 pub mod SeatWrites
 pub mod Shown
 pub mod SoFar

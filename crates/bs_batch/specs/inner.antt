@@ -1,4 +1,5 @@
 -- What private contracts cite, and no public one.
 pub mod Collisions
 pub mod Eliminations
+pub mod Seats
 pub mod Steps

@@ -8,6 +8,7 @@ ghost use Rattle.bs_batch.specs.inner.Eliminations.{
   IsFirstCause,
   starved_or_outside_at,
 };
+ghost use Rattle.bs_batch.specs.inner.Seats.{FeedsSeat, MovesSeat, RepeatsLast};
 
 use crate::collisions::{Verdict, collide, eliminate};
 use crate::food::{remove_eaten, spawn};
@@ -29,17 +30,23 @@ pub struct Orders<'a> {
 
 /// Repeats the last part, if there is room.
 #[inline]
-fn repeat_last(seat: &mut Seat, plane: &mut [u8], room: &mut [u16]) {
+fn repeat_last(seat: &mut Seat, plane: &mut [u8], room: &mut [u16])
+    ensures { RepeatsLast seat.old room.old plane.old seat.new room.new plane.new }
+{
     let parts = usize::from(seat.parts);
-    if 0 < parts && parts < room.len() {
-        let last = room[parts - 1];
-        room[parts] = last;
-        add_part(plane, last);
-        seat.parts = seat.parts.wrapping_add(1);
+    if parts == 0 {
+        return;
     }
+    if parts >= room.len() {
+        return;
+    }
+    let last = room[parts - 1];
+    room[parts] = last;
+    add_part(plane, last);
+    seat.parts = seat.parts.wrapping_add(1);
 }
 
-/// Moves a living snake and feeds it. Returns whether it ate.
+/// Moves a living snake. Returns the cell of its head.
 #[inline]
 fn move_seat(
     settings: &Settings,
@@ -47,19 +54,28 @@ fn move_seat(
     plane: &mut [u8],
     room: &mut [u16],
     given: u8,
-) -> bool {
+) -> u16
+    ensures { MovesSeat settings.now given seat.old room.old plane.old seat.new room.new plane.new result }
+{
     let parts = usize::from(seat.parts).min(room.len());
     let (next, lost) = move_body(settings, &mut room[..parts], given);
     remove_part(plane, lost);
     add_part(plane, next);
     seat.health = seat.health.saturating_sub(1);
-    if at(plane, next) & FOOD != 0 {
-        seat.health = FULL_HEALTH;
-        repeat_last(seat, plane, room);
-        true
-    } else {
-        false
+    next
+}
+
+/// Feeds a living snake whose head is on the cell, if food is there. Returns whether it ate.
+#[inline]
+fn feed_seat(seat: &mut Seat, plane: &mut [u8], room: &mut [u16], head: u16) -> bool
+    ensures { FeedsSeat seat.old room.old plane.old head seat.new room.new plane.new result }
+{
+    if at(plane, head) < FOOD {
+        return false;
     }
+    seat.health = FULL_HEALTH;
+    repeat_last(seat, plane, room);
+    true
 }
 
 /// Moves and feeds all living snakes. Returns whether any ate.
@@ -76,7 +92,9 @@ fn move_seats(head: &mut Head, plane: &mut [u8], bodies: &mut [u16], moves: &[u8
                 None => 4,
             };
             let room = room_of(bodies, seat);
-            any |= move_seat(&settings, &mut head.seats[seat], plane, room, given);
+            let state = &mut head.seats[seat];
+            let next = move_seat(&settings, state, plane, room, given);
+            any |= feed_seat(state, plane, room, next);
         }
     }
     any
