@@ -115,6 +115,6 @@ module _ (head : Head) (plane bodies : List ℕ) (seat : ℕ) where
       let none = no_killer (is_wrapped b.mode) b.width b.height (snake_at b.snakes seat) in
       stepped b seat (ShowsSeats head' plane' bodies) (λ dead. absurd cc) (λ _ e. absurd (some (rw e at byte)))
       (λ v _ e.
-          let o : cause ≡ cause_byte (Some v.cause) = rw e at byte in
-          let k : v.killer ≡ None = rw e at none in
-          out b v (record { cause = o; killer = rw k refl }) shows room within alive)
+      let o : cause ≡ cause_byte (Some v.cause) = rw e at byte in
+      let k : v.killer ≡ None = rw e at none in
+      out b v (record { cause = o; killer = rw k refl }) shows room within alive)

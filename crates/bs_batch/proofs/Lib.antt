@@ -6,11 +6,13 @@ pub mod Eliminated
 pub mod FirstOut
 pub mod Judged
 pub mod Moved
+pub mod MovedAt
 pub mod MovedSeat
 pub mod Neighbors
 pub mod Numbers
 pub mod Onward
 pub mod Repeated
+pub mod Rooms
 pub mod SeatWrites
 pub mod Shown
 pub mod SoFar

@@ -23,9 +23,13 @@ use Rattle.bs_batch.proofs.Bytes.{same_bytes}
 use Rattle.bs_batch.proofs.Neighbors.{near_neighbor, near_on}
 use Rattle.bs_batch.proofs.SeatWrites.{food_at_most}
 
+one_at_most : (b : Bool) → cond {A = ℕ} b 1 0 ≤ 1
+one_at_most true = omega arith
+one_at_most false = omega arith
+
 module _ (settings : Settings) (given : ℕ) (others : Point → ℕ) (food : List Point) (seat : Seat) (room plane : List ℕ) (s : Snake)
-  (sides : HasSides settings) (shows : ShowsSeat settings.width settings.height others food seat room plane s) (spare : SeatHasRoom 1 others room s)
-  (on : All (IsOn settings) s.body) where
+    (sides : HasSides settings) (shows : ShowsSeat settings.width settings.height others food seat room plane s) (spare : SeatHasRoom 1 others room s)
+    (on : All (IsOn settings) s.body) where
   abbrev width : ℕ
   width = settings.width
 
@@ -124,3 +128,22 @@ module _ (settings : Settings) (given : ℕ) (others : Point → ℕ) (food : Li
         bytes = same_bytes width height (and_one between next_cell) (byte_with others food after) new (λ q _. with_next q) bytes_new;
       } in
       rw is_after (shown, moved_numbers.head)
+
+  -- as many parts, and at most one more on each cell
+  pub moved_has_room : (room' : List ℕ) → length room' ≡ length room → ((p : Point) → others p + parts_on p s + 2 < 128)
+      → SeatHasRoom 1 others room' (moved wrap (given_by given) s)
+  moved_has_room room' long few =
+      let count = length_after in
+      let short = spare.short in
+      let small = spare.small in
+      rw is_after
+      (record {
+        short = omega arith;
+        small = omega arith;
+        few = λ q.
+            let low = few q in
+            let before = without_last q in
+            let now = with_next q in
+            let one = one_at_most (is_same_cell q next_cell) in
+            omega arith;
+      })

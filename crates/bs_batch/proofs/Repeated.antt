@@ -22,7 +22,7 @@ use Rattle.bs_batch.proofs.SeatWrites.{food_at_most}
 use Rattle.bs_batch.proofs.Shown.{head_near}
 
 module _ (width height : ℕ) (others : Point → ℕ) (food : List Point) (seat : Seat) (room plane : List ℕ) (s : Snake)
-  (shows : ShowsSeat width height others food seat room plane s) (spare : SeatHasRoom 1 others room s) where
+    (shows : ShowsSeat width height others food seat room plane s) (spare : SeatHasRoom 1 others room s) where
   abbrev p : Point
   p = last_of s.body
 

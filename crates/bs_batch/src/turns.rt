@@ -1,6 +1,6 @@
 //! One turn of one game.
 
-ghost use Rattle.std.specs.Prelude.{◌≡◌, ◌≤◌, ◌<◌, take};
+ghost use Rattle.std.specs.Prelude.{◌≡◌, ◌≤◌, ◌<◌, slice_index_or, take};
 ghost use Rattle.bs_rules.specs.Elimination.{starved_or_outside};
 ghost use Rattle.bs_batch.specs.Shown.{ChangesBoard, room_of};
 ghost use Rattle.bs_batch.specs.inner.Eliminations.{
@@ -8,7 +8,7 @@ ghost use Rattle.bs_batch.specs.inner.Eliminations.{
   IsFirstCause,
   starved_or_outside_at,
 };
-ghost use Rattle.bs_batch.specs.inner.Seats.{FeedsSeat, MovesSeat, RepeatsLast};
+ghost use Rattle.bs_batch.specs.inner.Seats.{FeedsSeat, MovesAt, MovesSeat, RepeatsLast};
 
 use crate::collisions::{Verdict, collide, eliminate};
 use crate::food::{remove_eaten, spawn};
@@ -78,24 +78,45 @@ fn feed_seat(seat: &mut Seat, plane: &mut [u8], room: &mut [u16], head: u16) -> 
     true
 }
 
+/// Moves and feeds the snake of a seat, if it lives. Returns whether it ate.
+#[inline]
+fn move_at(head: &mut Head, plane: &mut [u8], bodies: &mut [u16], seat: usize, given: u8) -> bool
+    requires seat { seat < SEATS }
+    ensures settings { head.new.settings ≡ head.old.settings }
+    ensures board { MovesAt seat given head.old bodies.old plane.old head.new bodies.new plane.new result }
+{
+    if head.seats[seat].cause != ALIVE {
+        return false;
+    }
+    let row = bodies.len() / SEATS;
+    let start = seat * row;
+    let settings = head.settings;
+    let state = &mut head.seats[seat];
+    let room = &mut bodies[start..start + row];
+    let next = move_seat(&settings, state, plane, room, given);
+    feed_seat(state, plane, room, next)
+}
+
+/// The byte of a seat; one that is no direction if there is none.
+#[inline]
+fn given_to(moves: &[u8], seat: usize) -> u8
+    ensures { result ≡ slice_index_or moves.now seat 4 }
+{
+    match moves.get(seat) {
+        Some(given) => *given,
+        None => 4,
+    }
+}
+
 /// Moves and feeds all living snakes. Returns whether any ate.
 fn move_seats(head: &mut Head, plane: &mut [u8], bodies: &mut [u16], moves: &[u8]) -> bool
     requires seats { head.old.settings.seats ≤ SEATS }
     ensures settings { head.new.settings ≡ head.old.settings }
 {
-    let settings = head.settings;
     let mut any = false;
-    for seat in 0..usize::from(settings.seats) {
-        if head.seats[seat].cause == ALIVE {
-            let given = match moves.get(seat) {
-                Some(given) => *given,
-                None => 4,
-            };
-            let room = room_of(bodies, seat);
-            let state = &mut head.seats[seat];
-            let next = move_seat(&settings, state, plane, room, given);
-            any |= feed_seat(state, plane, room, next);
-        }
+    for seat in 0..usize::from(head.settings.seats) {
+        let given = given_to(moves, seat);
+        any |= move_at(head, plane, bodies, seat, given);
     }
     any
 }

@@ -1,17 +1,22 @@
 -- What a step does to one seat, its room and the plane.
-use Rattle.std.specs.Prelude.{◌≡◌, ℕ, ◌+◌, ◌<◌, ◌≤◌, Bool, true, List, [], ◌∷◌, ◌++◌, length, All}
+use Rattle.std.specs.Prelude.{◌≡◌, ℕ, ◌+◌, ◌/◌, ◌<◌, ◌≤◌, Bool, true, List, [], ◌∷◌, ◌++◌, length, All}
 use Rattle.bs_board.specs.declared.boards.point.Point.{Point}
 use Rattle.bs_board.specs.declared.boards.snake.Snake.{Snake}
-use Rattle.bs_board.specs.boards.Cell.{head_of}
+use Rattle.bs_board.specs.declared.boards.board.Board.{Board}
+use Rattle.bs_board.specs.boards.Cell.{head_of, is_on_board}
 use Rattle.bs_board.specs.boards.Over.{is_living}
+use Rattle.bs_board.specs.boards.Wrap.{wrap_of}
+use Rattle.bs_rules.specs.Collision.{snake_at}
 use Rattle.bs_rules.specs.Feeding.{eats, fed_snake, last_of}
 use Rattle.bs_rules.specs.Motion.{moved}
+use Rattle.bs_batch.specs.declared.layout.Head.{Head}
 use Rattle.bs_batch.specs.declared.layout.Seat.{Seat}
 use Rattle.bs_batch.specs.declared.layout.Settings.{Settings}
 use Rattle.bs_batch.specs.Counts.{HasBytes}
 use Rattle.bs_batch.specs.Directions.{given_by}
 use Rattle.bs_batch.specs.Numbers.{HasSides, IsOn, number_of, sides_of}
-use Rattle.bs_batch.specs.Shown.{HasBody, ShowsSnake, food_byte, parts_on}
+use Rattle.bs_batch.specs.Shown.{HasBody, HasRoom, ShowsSeats, ShowsSnake, food_byte, parts_on}
+use Rattle.bs_batch.specs.inner.Eliminations.{with_snake}
 
 -- the parts of one snake and of the others on a cell, and its food
 abbrev pub byte_with : (Point → ℕ) → List Point → Snake → Point → ℕ
@@ -53,3 +58,31 @@ FeedsSeat seat room plane head seat' room' plane' ate =
     (width height : ℕ) (others : Point → ℕ) (food : List Point) (s : Snake) → ShowsSeat width height others food seat room plane s
     → SeatHasRoom 1 others room s → head ≡ number_of (head_of s.body)
     → ShowsSeat width height others food seat' room' plane' (fed_snake food s) × (ate ≡ eats food s)
+
+-- a snake moved by the byte of its seat, and fed
+abbrev pub stepped : Board → ℕ → Snake → Snake
+stepped b given s = fed_snake b.food (moved (wrap_of b) (given_by given) s)
+
+-- the snake of a seat is on the board, and its room is longer than its body
+pub record CanMove (bodies : List ℕ) (b : Board) (s : Snake) : Type 0 where
+  pub on : All (λ p. is_on_board b.width b.height p ≡ true) s.body
+  pub short : length s.body < length bodies / 8
+
+-- sides of a board, living snakes that can move, and lists of a size that fits the numbers
+pub record CanMoveAll (bodies : List ℕ) (b : Board) : Type 0 where
+  pub wide : 1 ≤ b.width
+  pub high : 1 ≤ b.height
+  pub low : b.height ≤ 25
+  pub small : length bodies < 65536
+  pub snakes : (seat : ℕ) → seat < length b.snakes → is_living (snake_at b.snakes seat) ≡ true → CanMove bodies b (snake_at b.snakes seat)
+
+-- the seat's snake is moved and fed
+pub record IsMovedAt (seat given : ℕ) (b : Board) (head' : Head) (bodies bodies' plane' : List ℕ) (ate : Bool) : Type 0 where
+  pub shows : ShowsSeats head' plane' bodies' (with_snake b seat (stepped b given (snake_at b.snakes seat)))
+  pub long : length bodies' ≡ length bodies
+  pub eaten : ate ≡ eats b.food (moved (wrap_of b) (given_by given) (snake_at b.snakes seat))
+
+abbrev pub MovesAt : ℕ → ℕ → Head → List ℕ → List ℕ → Head → List ℕ → List ℕ → Bool → Type 0
+MovesAt seat given head bodies plane head' bodies' plane' ate =
+    (b : Board) → ShowsSeats head plane bodies b → HasRoom 2 b → CanMoveAll bodies b → seat < length b.snakes
+    → IsMovedAt seat given b head' bodies bodies' plane' ate
