@@ -6,6 +6,7 @@ pub mod Eliminated
 pub mod FirstOut
 pub mod Judged
 pub mod Moved
+pub mod MovedAll
 pub mod MovedAt
 pub mod MovedSeat
 pub mod Neighbors

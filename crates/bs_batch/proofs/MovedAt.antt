@@ -3,6 +3,7 @@ use Rattle.std.proofs.Common.{◌≡◌, ℕ, ◌+◌, ◌-◌, ◌*◌, ◌/◌
 use Rattle.std.specs.Prelude.{◌==◌}
 use Rattle.std.proofs.lemmas.Bool.{cases_eq}
 use Rattle.std.proofs.lemmas.List.{get_or-set_same, get_or-set_other}
+use Rattle.std.proofs.lemmas.List.Elements.{All-set}
 use Rattle.std.proofs.lemmas.List.Sums.{get_or-le-sum_by}
 use Rattle.bs_board.specs.declared.boards.point.Point.{Point}
 use Rattle.bs_board.specs.declared.boards.board.Board.{Board}
@@ -25,10 +26,11 @@ use Rattle.bs_batch.specs.Numbers.{HasSides, IsOn, number_of, sides_of}
 use borrow.Rule.Slice.PartMut.{mid_of, put_mid}
 use Rattle.bs_batch.specs.Shown.{HasBody, HasRoom, ShowsSeats, ShowsSettings, ShowsSnake, ShowsSnakes, byte_of, food_byte, no_seat, occupants, parts_on, room_of, seat_at}
 use Rattle.bs_batch.specs.inner.Eliminations.{with_snake}
-use Rattle.bs_batch.specs.inner.Seats.{CanMoveAll, FeedsSeat, IsMovedAt, MovesSeat, SeatHasRoom, ShowsSeat, byte_with, stepped}
+use Rattle.bs_batch.specs.inner.Seats.{CanMoveAt, FeedsSeat, IsMovedAt, MovesSeat, SeatHasRoom, ShowsSeat, byte_with, stepped}
 use Rattle.bs_batch.proofs.Bytes.{same_bytes}
 use Rattle.bs_batch.proofs.FirstOut.{same_snake, seat_is_out, seat_lives}
-use Rattle.bs_batch.proofs.MovedSeat.{moved_has_room}
+use Rattle.bs_batch.proofs.MovedSeat.{moved_has_room, moved_parts}
+use Rattle.bs_batch.proofs.Repeated.{fed_parts}
 use Rattle.bs_batch.proofs.Rooms.{length_room, length_written, mid_is, other_room, own_room, put_is, written}
 use Rattle.bs_batch.proofs.SeatWrites.{occupants_with}
 use Rattle.bs_batch.proofs.Shown.{has_body}
@@ -55,6 +57,14 @@ same_wrap Solo m w h w' h' e f g = rw e refl
 same_wrap Constrictor m w h w' h' e f g = rw e refl
 same_wrap Wrapped m w h w' h' e f g = rw (e, f, g) refl
 
+less_room : (b : Board) (more : ℕ) → HasRoom (more + 2) b → HasRoom more b
+less_room b more room = record {
+  narrow = room.narrow;
+  early = room.early;
+  bodies = room.bodies;
+  few = λ p. let few = room.few p in omega arith;
+}
+
 pub dead_stays_at : (seat given : ℕ) (head : Head) (plane bodies : List ℕ) (b : Board) → ShowsSeats head plane bodies b → seat < length b.snakes
     → ((seat_at head.seats seat).cause ≡ 0 → ⊥) → IsMovedAt seat given b head bodies bodies plane false
 dead_stays_at seat given head plane bodies b shows within other =
@@ -65,6 +75,7 @@ dead_stays_at seat given head plane bodies b shows within other =
     let same : stepped b given s ≡ s = ap (fed_snake b.food) still ∙ rw hungry refl in
     record {
       shows = rw same (same_snake b seat (ShowsSeats head plane bodies) shows);
+      room = λ more room. rw same (same_snake b seat (HasRoom more) (less_room b more room));
       long = refl;
       eaten = sym (ap (eats b.food) still ∙ hungry);
     }
@@ -77,7 +88,7 @@ on_sides : (w h w' h' : ℕ) (parts : List Point) → w ≡ w' → h ≡ h' → 
 on_sides w h w' h' parts e f on = rw (e, f) on
 
 module _ (seat given : ℕ) (head : Head) (plane bodies : List ℕ) (b : Board) (fits : seat < 8) (shows : ShowsSeats head plane bodies b) (room : HasRoom 2 b)
-    (can : CanMoveAll bodies b) (within : seat < length b.snakes) where
+    (can : CanMoveAt bodies b seat) (within : seat < length b.snakes) where
   abbrev s : Snake
   s = snake_at b.snakes seat
 
@@ -107,6 +118,15 @@ module _ (seat given : ℕ) (head : Head) (plane bodies : List ℕ) (b : Board) 
   same_sides =
       same_wrap b.mode head.settings.mode head.settings.width head.settings.height b.width b.height shows.settings.mode shows.settings.width shows.settings.height
 
+  room_after : (t : Snake) (more : ℕ) → HasBody b.width b.height t → ((p : Point) → parts_on p t ≤ parts_on p s + 2) → HasRoom (more + 2) b
+      → HasRoom more (with_snake b seat t)
+  room_after t more body parts room = record {
+    narrow = room.narrow;
+    early = room.early;
+    bodies = All-set (HasBody b.width b.height) b.snakes seat t body room.bodies;
+    few = λ p. let few = room.few p in let change = occupants_with b.snakes seat t p within in let own = parts p in omega arith;
+  }
+
   -- what the steps on the seat make of the game
   pub moves_at : (k next : ℕ) (seat1 seat2 : Seat) (room1 room2 plane1 plane2 : List ℕ) (ate : Bool) → k ≡ length bodies / 8 → (seat_at head.seats seat).cause ≡ 0
       → MovesSeat head.settings given (seat_at head.seats seat) (mid_of (seat * (length bodies / 8)) k bodies) plane seat1 room1 plane1 next
@@ -118,7 +138,7 @@ module _ (seat given : ℕ) (head : Head) (plane bodies : List ℕ) (b : Board) 
       let h = shows.settings.height in
       let eight = shows.eight in
       let alive = seat_lives head plane bodies b seat shows within zero in
-      let ready = can.snakes seat within alive in
+      let ready = can.snake alive in
       let mid = mid_is bodies seat k row in
       let long0 : length (room_of bodies seat) ≡ length bodies / 8 = length_room bodies seat fits in
       let short = ready.short in
@@ -161,6 +181,9 @@ module _ (seat given : ℕ) (head : Head) (plane bodies : List ℕ) (b : Board) 
       } in
       record {
         shows = rw (put, ← is) all;
+        room = λ more room. rw (← is) (room_after t more end.body (λ p. let a = fed_parts b.food (moved (sides_of head.settings) (given_by given) s) p in
+            let c = moved_parts head.settings given others b.food (seat_at head.seats seat) (mid_of (seat * (length bodies / 8)) k bodies) plane s sides here' spare on p in
+            omega arith) room);
         long = ap length put ∙ length_written bodies room2 seat fits long2;
         eaten = two.1 ∙ ap (λ wrap. eats b.food (moved wrap (given_by given) s)) same_sides;
       }

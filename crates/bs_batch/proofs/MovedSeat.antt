@@ -147,3 +147,11 @@ module _ (settings : Settings) (given : ℕ) (others : Point → ℕ) (food : Li
             let one = one_at_most (is_same_cell q next_cell) in
             omega arith;
       })
+
+  pub moved_parts : (q : Point) → parts_on q (moved wrap (given_by given) s) ≤ parts_on q s + 1
+  moved_parts q =
+      rw is_after
+      (let before = without_last q in
+      let now = with_next q in
+      let one = one_at_most (is_same_cell q next_cell) in
+      omega arith)

@@ -1,7 +1,7 @@
 -- A body whose last part is repeated, and a snake that eats.
 use Rattle.std.proofs.Common.{◌≡◌, ℕ, ◌+◌, ◌-◌, ◌%◌, ◌<◌, ◌≤◌, Bool, true, false, cond, List, [], ◌∷◌, ◌++◌, length, take, set, map, get_or, slice_index, All, count_by, refl, sym, ap, ◌∙◌, arith, inl, inr}
 use Rattle.std.specs.List.{list_any}
-use Rattle.std.proofs.lemmas.Bool.{cases_Bool}
+use Rattle.std.proofs.lemmas.Bool.{cases_Bool, cond_both}
 use Rattle.std.proofs.lemmas.List.{get_or-map, get_or-take, length_push, map_push, take_more_set}
 use Rattle.std.proofs.lemmas.List.Elements.{All-get_or, All-push}
 use Rattle.std.proofs.lemmas.List.Sums.{sum_by_push}
@@ -20,6 +20,10 @@ use Rattle.bs_batch.proofs.Alone.{living_parts}
 use Rattle.bs_batch.proofs.Bytes.{same_bytes}
 use Rattle.bs_batch.proofs.SeatWrites.{food_at_most}
 use Rattle.bs_batch.proofs.Shown.{head_near}
+
+one_at_most : (b : Bool) → cond {A = ℕ} b 1 0 ≤ 1
+one_at_most true = omega arith
+one_at_most false = omega arith
 
 module _ (width height : ℕ) (others : Point → ℕ) (food : List Point) (seat : Seat) (room plane : List ℕ) (s : Snake)
     (shows : ShowsSeat width height others food seat room plane s) (spare : SeatHasRoom 1 others room s) where
@@ -125,3 +129,19 @@ module _ (width height : ℕ) (others : Point → ℕ) (food : List Point) (seat
         bytes = shows.bytes;
       } in
       rw e (repeats width height others food (record s { health = 100 }) full (record { short = spare.short; small = spare.small; few = spare.few }), refl)
+
+longer_parts : (s : Snake) (x p : Point) (health : ℕ) → parts_on p (record s { body = s.body ++ x ∷ []; health = health }) ≤ parts_on p s + 1
+longer_parts s x p health =
+    let more = sum_by_push (λ r. cond {A = ℕ} (is_same_cell p r) 1 0) s.body x in
+    let more' : count_by (is_same_cell p) (s.body ++ x ∷ []) ≡ count_by (is_same_cell p) s.body + cond (is_same_cell p x) 1 0 = more in
+    let one = one_at_most (is_same_cell p x) in
+    elim (cases_Bool (is_living s)) [
+      | inl alive ↦ rw alive (omega arith)
+      | inr dead ↦ rw dead (omega arith)
+    ]
+
+-- a snake that eats has one part more
+pub fed_parts : (food : List Point) (s : Snake) (p : Point) → parts_on p (fed_snake food s) ≤ parts_on p s + 1
+fed_parts food s p =
+    cond_both (eats food s) (record s { body = s.body ++ last_of s.body ∷ []; health = 100 }) s (λ t. parts_on p t ≤ parts_on p s + 1)
+    (λ _. longer_parts s (last_of s.body) p 100) (λ _. omega arith)

@@ -8,7 +8,7 @@ ghost use Rattle.bs_batch.specs.inner.Eliminations.{
   IsFirstCause,
   starved_or_outside_at,
 };
-ghost use Rattle.bs_batch.specs.inner.Seats.{FeedsSeat, MovesAt, MovesSeat, RepeatsLast};
+ghost use Rattle.bs_batch.specs.inner.Seats.{FeedsSeat, MovesAt, MovesSeat, MovesSeats, RepeatsLast};
 
 use crate::collisions::{Verdict, collide, eliminate};
 use crate::food::{remove_eaten, spawn};
@@ -112,6 +112,7 @@ fn given_to(moves: &[u8], seat: usize) -> u8
 fn move_seats(head: &mut Head, plane: &mut [u8], bodies: &mut [u16], moves: &[u8]) -> bool
     requires seats { head.old.settings.seats ≤ SEATS }
     ensures settings { head.new.settings ≡ head.old.settings }
+    ensures board { MovesSeats moves.now head.old bodies.old plane.old head.new bodies.new plane.new result }
 {
     let mut any = false;
     for seat in 0..usize::from(head.settings.seats) {

@@ -1,12 +1,12 @@
 -- What a step does to one seat, its room and the plane.
-use Rattle.std.specs.Prelude.{◌≡◌, ℕ, ◌+◌, ◌/◌, ◌<◌, ◌≤◌, Bool, true, List, [], ◌∷◌, ◌++◌, length, All}
+use Rattle.std.specs.Prelude.{◌≡◌, ℕ, ◌+◌, ◌/◌, ◌<◌, ◌≤◌, Bool, true, false, List, [], ◌∷◌, ◌++◌, length, All, slice_index_or}
 use Rattle.bs_board.specs.declared.boards.point.Point.{Point}
 use Rattle.bs_board.specs.declared.boards.snake.Snake.{Snake}
 use Rattle.bs_board.specs.declared.boards.board.Board.{Board}
 use Rattle.bs_board.specs.boards.Cell.{head_of, is_on_board}
 use Rattle.bs_board.specs.boards.Over.{is_living}
 use Rattle.bs_board.specs.boards.Wrap.{wrap_of}
-use Rattle.bs_rules.specs.Collision.{snake_at}
+use Rattle.bs_rules.specs.Collision.{map_seats, snake_at}
 use Rattle.bs_rules.specs.Feeding.{eats, fed_snake, last_of}
 use Rattle.bs_rules.specs.Motion.{moved}
 use Rattle.bs_batch.specs.declared.layout.Head.{Head}
@@ -68,21 +68,38 @@ pub record CanMove (bodies : List ℕ) (b : Board) (s : Snake) : Type 0 where
   pub on : All (λ p. is_on_board b.width b.height p ≡ true) s.body
   pub short : length s.body < length bodies / 8
 
--- sides of a board, living snakes that can move, and lists of a size that fits the numbers
-pub record CanMoveAll (bodies : List ℕ) (b : Board) : Type 0 where
+-- sides of a board, lists of a size that fits the numbers, and a snake that can move if it lives
+pub record CanMoveAt (bodies : List ℕ) (b : Board) (seat : ℕ) : Type 0 where
   pub wide : 1 ≤ b.width
   pub high : 1 ≤ b.height
   pub low : b.height ≤ 25
   pub small : length bodies < 65536
-  pub snakes : (seat : ℕ) → seat < length b.snakes → is_living (snake_at b.snakes seat) ≡ true → CanMove bodies b (snake_at b.snakes seat)
+  pub snake : is_living (snake_at b.snakes seat) ≡ true → CanMove bodies b (snake_at b.snakes seat)
 
 -- the seat's snake is moved and fed
 pub record IsMovedAt (seat given : ℕ) (b : Board) (head' : Head) (bodies bodies' plane' : List ℕ) (ate : Bool) : Type 0 where
   pub shows : ShowsSeats head' plane' bodies' (with_snake b seat (stepped b given (snake_at b.snakes seat)))
+  pub room : (more : ℕ) → HasRoom (more + 2) b → HasRoom more (with_snake b seat (stepped b given (snake_at b.snakes seat)))
   pub long : length bodies' ≡ length bodies
   pub eaten : ate ≡ eats b.food (moved (wrap_of b) (given_by given) (snake_at b.snakes seat))
 
 abbrev pub MovesAt : ℕ → ℕ → Head → List ℕ → List ℕ → Head → List ℕ → List ℕ → Bool → Type 0
 MovesAt seat given head bodies plane head' bodies' plane' ate =
-    (b : Board) → ShowsSeats head plane bodies b → HasRoom 2 b → CanMoveAll bodies b → seat < length b.snakes
+    (b : Board) → ShowsSeats head plane bodies b → HasRoom 2 b → CanMoveAt bodies b seat → seat < length b.snakes
     → IsMovedAt seat given b head' bodies bodies' plane' ate
+
+-- the snakes after a motion by a byte for each seat, straight on where there is none; the food stays
+abbrev pub moved_by_seat : List ℕ → Board → Board
+moved_by_seat moves b = record b { snakes = map_seats (λ seat s. stepped b (slice_index_or moves seat 4) s) b.snakes }
+
+-- all seats are moved and fed; where none ate, no head is on food
+pub record AreMoved (moves : List ℕ) (b : Board) (head' : Head) (bodies bodies' plane' : List ℕ) (any : Bool) : Type 0 where
+  pub shows : ShowsSeats head' plane' bodies' (moved_by_seat moves b)
+  pub room : HasRoom 2 (moved_by_seat moves b)
+  pub long : length bodies' ≡ length bodies
+  pub none : any ≡ false → (seat : ℕ) → seat < length b.snakes
+      → eats b.food (moved (wrap_of b) (given_by (slice_index_or moves seat 4)) (snake_at b.snakes seat)) ≡ false
+
+abbrev pub MovesSeats : List ℕ → Head → List ℕ → List ℕ → Head → List ℕ → List ℕ → Bool → Type 0
+MovesSeats moves head bodies plane head' bodies' plane' any =
+    (b : Board) → ShowsSeats head plane bodies b → HasRoom 18 b → ((seat : ℕ) → CanMoveAt bodies b seat) → AreMoved moves b head' bodies bodies' plane' any
