@@ -5,6 +5,7 @@ pub mod Collided
 pub mod Eliminated
 pub mod FirstOut
 pub mod Judged
+pub mod Living
 pub mod Moved
 pub mod MovedAll
 pub mod MovedAt
