@@ -1,6 +1,14 @@
 //! One turn of one game.
 
-ghost use Rattle.std.specs.Prelude.{◌≡◌, ◌≤◌, ◌<◌};
+ghost use Rattle.std.specs.Prelude.{◌≡◌, ◌≤◌, ◌<◌, slice_index_or, take};
+ghost use Rattle.bs_rules.specs.Elimination.{starved_or_outside};
+ghost use Rattle.bs_batch.specs.Shown.{ChangesBoard, room_of};
+ghost use Rattle.bs_batch.specs.inner.Eliminations.{
+  ChangesSeat,
+  IsFirstCause,
+  starved_or_outside_at,
+};
+ghost use Rattle.bs_batch.specs.inner.Seats.{FeedsSeat, MovesAt, MovesSeat, MovesSeats, RepeatsLast};
 
 use crate::collisions::{Verdict, collide, eliminate};
 use crate::food::{remove_eaten, spawn};
@@ -22,17 +30,23 @@ pub struct Orders<'a> {
 
 /// Repeats the last part, if there is room.
 #[inline]
-fn repeat_last(seat: &mut Seat, plane: &mut [u8], room: &mut [u16]) {
+fn repeat_last(seat: &mut Seat, plane: &mut [u8], room: &mut [u16])
+    ensures { RepeatsLast seat.old room.old plane.old seat.new room.new plane.new }
+{
     let parts = usize::from(seat.parts);
-    if 0 < parts && parts < room.len() {
-        let last = room[parts - 1];
-        room[parts] = last;
-        add_part(plane, last);
-        seat.parts = seat.parts.wrapping_add(1);
+    if parts == 0 {
+        return;
     }
+    if parts >= room.len() {
+        return;
+    }
+    let last = room[parts - 1];
+    room[parts] = last;
+    add_part(plane, last);
+    seat.parts = seat.parts.wrapping_add(1);
 }
 
-/// Moves a living snake and feeds it. Returns whether it ate.
+/// Moves a living snake. Returns the cell of its head.
 #[inline]
 fn move_seat(
     settings: &Settings,
@@ -40,18 +54,57 @@ fn move_seat(
     plane: &mut [u8],
     room: &mut [u16],
     given: u8,
-) -> bool {
+) -> u16
+    ensures { MovesSeat settings.now given seat.old room.old plane.old seat.new room.new plane.new result }
+{
     let parts = usize::from(seat.parts).min(room.len());
     let (next, lost) = move_body(settings, &mut room[..parts], given);
     remove_part(plane, lost);
     add_part(plane, next);
     seat.health = seat.health.saturating_sub(1);
-    if at(plane, next) & FOOD != 0 {
-        seat.health = FULL_HEALTH;
-        repeat_last(seat, plane, room);
-        true
-    } else {
-        false
+    next
+}
+
+/// Feeds a living snake whose head is on the cell, if food is there. Returns whether it ate.
+#[inline]
+fn feed_seat(seat: &mut Seat, plane: &mut [u8], room: &mut [u16], head: u16) -> bool
+    ensures { FeedsSeat seat.old room.old plane.old head seat.new room.new plane.new result }
+{
+    if at(plane, head) < FOOD {
+        return false;
+    }
+    seat.health = FULL_HEALTH;
+    repeat_last(seat, plane, room);
+    true
+}
+
+/// Moves and feeds the snake of a seat, if it lives. Returns whether it ate.
+#[inline]
+fn move_at(head: &mut Head, plane: &mut [u8], bodies: &mut [u16], seat: usize, given: u8) -> bool
+    requires seat { seat < SEATS }
+    ensures settings { head.new.settings ≡ head.old.settings }
+    ensures board { MovesAt seat given head.old bodies.old plane.old head.new bodies.new plane.new result }
+{
+    if head.seats[seat].cause != ALIVE {
+        return false;
+    }
+    let row = bodies.len() / SEATS;
+    let start = seat * row;
+    let settings = head.settings;
+    let state = &mut head.seats[seat];
+    let room = &mut bodies[start..start + row];
+    let next = move_seat(&settings, state, plane, room, given);
+    feed_seat(state, plane, room, next)
+}
+
+/// The byte of a seat; one that is no direction if there is none.
+#[inline]
+fn given_to(moves: &[u8], seat: usize) -> u8
+    ensures { result ≡ slice_index_or moves.now seat 4 }
+{
+    match moves.get(seat) {
+        Some(given) => *given,
+        None => 4,
     }
 }
 
@@ -59,46 +112,21 @@ fn move_seat(
 fn move_seats(head: &mut Head, plane: &mut [u8], bodies: &mut [u16], moves: &[u8]) -> bool
     requires seats { head.old.settings.seats ≤ SEATS }
     ensures settings { head.new.settings ≡ head.old.settings }
+    ensures board { MovesSeats moves.now head.old bodies.old plane.old head.new bodies.new plane.new result }
 {
-    let settings = head.settings;
     let mut any = false;
-    for seat in 0..usize::from(settings.seats) {
-        if head.seats[seat].cause == ALIVE {
-            let given = match moves.get(seat) {
-                Some(given) => *given,
-                None => 4,
-            };
-            let room = room_of(bodies, seat);
-            any |= move_seat(&settings, &mut head.seats[seat], plane, room, given);
-        }
+    for seat in 0..usize::from(head.settings.seats) {
+        let given = given_to(moves, seat);
+        any |= move_at(head, plane, bodies, seat, given);
     }
     any
 }
 
-/// Eliminates the snakes that starved and those that left the board.
-fn first_out(head: &mut Head, plane: &mut [u8], bodies: &[u16])
-    requires seats { head.old.settings.seats ≤ SEATS }
-    ensures settings { head.new.settings ≡ head.old.settings }
-{
-    let settings = head.settings;
-    for seat in 0..usize::from(settings.seats) {
-        let judged = head.seats[seat];
-        if judged.cause == ALIVE {
-            let cause = first_cause(&settings, judged.health, bodies, seat, judged.parts);
-            if cause != ALIVE {
-                let verdict = Verdict {
-                    cause,
-                    killer: NO_SEAT,
-                };
-                eliminate(head, plane, bodies, seat, verdict);
-            }
-        }
-    }
-}
-
+/// Why a snake is out before collisions: it starved, or else it left the board; 0 if neither.
 #[inline]
 fn first_cause(settings: &Settings, health: u8, bodies: &[u16], seat: usize, parts: u16) -> u8
     requires seat { seat < SEATS }
+    ensures { IsFirstCause settings.now health (take parts (room_of bodies.now seat)) result }
 {
     if health == 0 {
         OUT_OF_HEALTH
@@ -108,6 +136,37 @@ fn first_cause(settings: &Settings, health: u8, bodies: &[u16], seat: usize, par
         WALL_COLLISION
     } else {
         ALIVE
+    }
+}
+
+/// Eliminates the snake of a seat if it starved or left the board.
+#[inline]
+fn first_out_at(head: &mut Head, plane: &mut [u8], bodies: &[u16], seat: usize)
+    requires seat { seat < SEATS }
+    ensures settings { head.new.settings ≡ head.old.settings }
+    ensures board { ChangesSeat starved_or_outside_at seat bodies.now head.old plane.old head.new plane.new }
+{
+    let judged = head.seats[seat];
+    if judged.cause == ALIVE {
+        let cause = first_cause(&head.settings, judged.health, bodies, seat, judged.parts);
+        if cause != ALIVE {
+            let verdict = Verdict {
+                cause,
+                killer: NO_SEAT,
+            };
+            eliminate(head, plane, bodies, seat, verdict);
+        }
+    }
+}
+
+/// Eliminates the snakes that starved and those that left the board.
+fn first_out(head: &mut Head, plane: &mut [u8], bodies: &[u16])
+    requires seats { head.old.settings.seats ≤ SEATS }
+    ensures settings { head.new.settings ≡ head.old.settings }
+    ensures board { ChangesBoard starved_or_outside bodies.now head.old plane.old head.new plane.new }
+{
+    for seat in 0..usize::from(head.settings.seats) {
+        first_out_at(head, plane, bodies, seat);
     }
 }
 

@@ -1,6 +1,11 @@
 use Rattle.std.proofs.Common.{◌≡◌}
+use Rattle.bs_batch.specs.inner.Eliminations.{starved_or_outside_at}
+use Rattle.bs_batch.proofs.Steps.{ChangesSoFar}
 use Rattle.bs_batch.proofs.turns.first_out.Given as goal
 
--- the settings stay
+-- the seats so far are judged; the settings stay
 abbrev pub invariant-loop-seat : goal.invariant-loop-seat
-invariant-loop-seat l = l.head.settings ≡ l.fn.head.settings
+invariant-loop-seat l = record {
+  settings : l.head.settings ≡ l.fn.head.settings;
+  board : ChangesSoFar (λ b _. starved_or_outside_at b) l.seat l.bodies l.fn.head l.fn.plane l.head l.plane;
+}
