@@ -1,6 +1,7 @@
 -- What private contracts cite, and no public one.
 pub mod Collisions
 pub mod Eliminations
+pub mod Food
 pub mod Living
 pub mod Seats
 pub mod Steps
