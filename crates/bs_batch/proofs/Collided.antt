@@ -14,7 +14,8 @@ use Rattle.bs_batch.specs.declared.collisions.Verdict.{Verdict as VerdictBytes}
 use Rattle.bs_batch.specs.declared.layout.Head.{Head}
 use Rattle.bs_batch.specs.Shown.{HasRoom, ShowsSeats, seat_at}
 use Rattle.bs_batch.specs.inner.Collisions.{ShowsJudged, spared}
-use Rattle.bs_batch.specs.inner.Eliminations.{Eliminates, PutsOut, with_snake}
+use Rattle.bs_batch.specs.Eliminations.{Eliminates, with_snake}
+use Rattle.bs_batch.specs.inner.Eliminations.{PutsOut}
 use Rattle.bs_batch.proofs.Eliminated.{put_out_has_room}
 use Rattle.bs_batch.proofs.FirstOut.{living_byte, same_snake, seat_is_out}
 use Rattle.bs_batch.proofs.Judged.{dead_spared_at}

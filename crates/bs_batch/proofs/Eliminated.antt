@@ -15,7 +15,7 @@ use Rattle.bs_batch.specs.declared.layout.Seat.{Seat}
 use Rattle.bs_batch.specs.Counts.{CountsNone}
 use Rattle.bs_batch.specs.Numbers.{numbers_of}
 use Rattle.bs_batch.specs.Shown.{HasBody, HasRoom, ShowsSeats, ShowsSettings, ShowsSnake, byte_of, occupants, parts_on, room_of, seat_at}
-use Rattle.bs_batch.specs.inner.Eliminations.{IsVerdict, put_out}
+use Rattle.bs_batch.specs.Eliminations.{IsVerdict, put_out}
 use Rattle.bs_batch.proofs.Alone.{living_parts}
 use Rattle.bs_batch.proofs.Bytes.{same_bytes}
 use Rattle.bs_batch.proofs.SeatWrites.{food_at_most, occupants_with, one_seat}

@@ -15,7 +15,8 @@ use Rattle.bs_batch.specs.declared.layout.Head.{Head}
 use Rattle.bs_batch.specs.Counts.{HasBytes, WritesFood}
 use Rattle.bs_batch.specs.Numbers.{number_of, numbers_of}
 use Rattle.bs_batch.specs.Shown.{ShowsSeats, byte_of, food_byte, occupants}
-use Rattle.bs_batch.specs.inner.Food.{HasFoodLeft, KeepsFood}
+use Rattle.bs_batch.specs.Food.{HasFoodLeft}
+use Rattle.bs_batch.specs.inner.Food.{KeepsFood}
 use Rattle.bs_batch.proofs.Bytes.{same_bytes}
 
 pub any_push : {X : Type 0} (f : X → Bool) (xs : List X) (y : X) → list_any f (xs ++ y ∷ []) ≡ (list_any f xs || f y)

@@ -12,7 +12,7 @@ use Rattle.bs_rules.specs.Motion.{moved}
 use Rattle.bs_batch.specs.declared.layout.Head.{Head}
 use Rattle.bs_batch.specs.Directions.{given_by}
 use Rattle.bs_batch.specs.Shown.{HasRoom, ShowsSeats}
-use Rattle.bs_batch.specs.inner.Eliminations.{with_snake}
+use Rattle.bs_batch.specs.Eliminations.{with_snake}
 use Rattle.bs_batch.specs.inner.Seats.{AreMoved, CanMoveAt, IsMovedAt, MovesAt, moved_by_seat, stepped}
 use Rattle.bs_batch.proofs.SoFar.{all_so_far, board_so_far, length_so_far, more_so_far, next_so_far}
 

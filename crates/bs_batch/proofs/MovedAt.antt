@@ -22,7 +22,7 @@ use Rattle.bs_batch.specs.Directions.{given_by}
 use Rattle.bs_batch.specs.Numbers.{HasSides, IsOn, sides_of}
 use borrow.Rule.Slice.PartMut.{mid_of, put_mid}
 use Rattle.bs_batch.specs.Shown.{HasBody, HasRoom, ShowsSeats, ShowsSettings, ShowsSnake, ShowsSnakes, byte_of, no_seat, occupants, parts_on, room_of, seat_at}
-use Rattle.bs_batch.specs.inner.Eliminations.{with_snake}
+use Rattle.bs_batch.specs.Eliminations.{with_snake}
 use Rattle.bs_batch.specs.inner.Seats.{CanMoveAt, FeedsSeat, IsMovedAt, MovesSeat, SeatHasRoom, ShowsSeat, byte_with, stepped}
 use Rattle.bs_batch.proofs.Bytes.{same_bytes}
 use Rattle.bs_batch.proofs.FirstOut.{same_snake, seat_is_out, seat_lives}

@@ -2,6 +2,5 @@
 pub mod Collisions
 pub mod Eliminations
 pub mod Food
-pub mod Living
 pub mod Seats
 pub mod Steps

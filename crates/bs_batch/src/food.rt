@@ -1,7 +1,8 @@
 //! Food: what is eaten, and what appears.
 
 ghost use Rattle.std.specs.Prelude.{◌≡◌, ◌≤◌, ◌<◌, length};
-ghost use Rattle.bs_batch.specs.inner.Food.{HasHeadAt, IsUnderHead, KeepsFood, RemovesEaten};
+ghost use Rattle.bs_batch.specs.Food.{RemovesEaten};
+ghost use Rattle.bs_batch.specs.inner.Food.{HasHeadAt, IsUnderHead, KeepsFood};
 
 use crate::layout::{ALIVE, Head, LARGE_SIDE, SEATS, STRIDE, Settings};
 use crate::planes::{add_food, remove_food};

@@ -31,14 +31,3 @@ IsUnderHead head bodies cell result = ForCell head bodies cell (λ snakes p. res
 pub record KeepsFood (gone : Bool) (index left : ℕ) (food plane food' plane' : List ℕ) (left' : ℕ) : Type 0 where
   pub taken : gone ≡ true → (left' ≡ left) × (food' ≡ food) × WritesFood 0 (slice_index food index) plane plane'
   pub kept : gone ≡ false → (left' ≡ left + 1) × (food' ≡ slice_set food left (slice_index food index)) × (plane' ≡ plane)
-
--- the food under living heads is gone
-pub record HasFoodLeft (b : Board) (head : Head) (food plane bodies : List ℕ) : Type 0 where
-  pub seats : ShowsSeats head plane bodies (record b { food = food_left b.snakes b.food })
-  pub list : ShowsFood head.foods food (food_left b.snakes b.food)
-
-abbrev pub RemovesEaten : List ℕ → Head → List ℕ → List ℕ → Head → List ℕ → List ℕ → Type 0
-RemovesEaten bodies head food plane head' food' plane' =
-    (b : Board) → ShowsSeats head plane bodies b → ShowsFood head.foods food b.food → HasRoom 0 b → length food ≤ 1024
-    → ((cell : ℕ) (d : Point) → cell < length b.food → is_on_board b.width b.height (slice_index_or b.food cell d) ≡ true)
-    → HasFoodLeft b head' food' plane' bodies
