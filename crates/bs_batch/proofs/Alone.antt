@@ -1,7 +1,7 @@
 -- A head that is alone on its cell collides with nothing.
-use Rattle.std.proofs.Common.{◌≡◌, ℕ, zero, suc, ◌+◌, ◌%◌, ◌<◌, ◌≤◌, Bool, true, false, cond, List, [], ◌∷◌, length, take, drop, bit_and, get_or, slice_index, refl, sym, ap, ◌∙◌, arith, Some, None, Option, sum_by, count_by, Contains, All, inl, inr}
+use Rattle.std.proofs.Common.{◌≡◌, ℕ, zero, suc, ◌+◌, ◌%◌, ◌<◌, ◌≤◌, Bool, true, cond, List, [], ◌∷◌, length, take, drop, bit_and, get_or, slice_index, refl, sym, ap, ◌∙◌, arith, Some, None, Option, sum_by, count_by, Contains, All, inl, inr}
 use Rattle.std.specs.List.{list_any}
-use Rattle.std.proofs.lemmas.Bool.{cases_Bool, cases_eq, false≢true}
+use Rattle.std.proofs.lemmas.Bool.{cases_Bool, false≢true}
 use Rattle.std.proofs.lemmas.List.Sums.{sum_by-cons, get_or-le-sum_by}
 use Rattle.std.proofs.lemmas.List.Elements.{All-get_or, All-weaker}
 use Rattle.std.proofs.lemmas.Nat.{and_mask}
@@ -11,12 +11,11 @@ use Rattle.bs_board.specs.declared.boards.snake.Snake.{Snake}
 use Rattle.bs_board.specs.declared.boards.snake.Cause.{Cause}
 use Rattle.bs_board.specs.declared.boards.snake.Cause.TheVariants.{OutOfHealth, WallCollision, SelfCollision, BodyCollision, HeadCollision, Hazard}
 use Rattle.bs_board.specs.boards.Cell.{head_of, is_same_cell}
-use Rattle.bs_board.specs.boards.Legal.{is_near}
 use Rattle.bs_board.specs.boards.Over.{is_living}
 use Rattle.bs_rules.specs.Collision.{collision_verdict, killer_of, snake_at, nobody, CollidesWith, IsOnLaterPart}
 use Rattle.bs_rules.proofs.CollisionTest.{same_cell, has_cell}
 use Rattle.bs_rules.proofs.CollisionMeaning.{seat_of_living}
-use Rattle.bs_rules.proofs.Killers.{IsKillerAmong, MeansKiller, killer_means}
+use Rattle.bs_rules.proofs.Killers.{MeansKiller, killer_means}
 use Rattle.bs_batch.specs.declared.layout.Head.{Head}
 use Rattle.bs_batch.specs.Numbers.{number_of}
 use Rattle.bs_batch.specs.Shown.{HasBody, HasRoom, ShowsSeats, byte_of, occupants, parts_on, room_of, seat_at}

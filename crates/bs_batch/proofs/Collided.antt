@@ -1,20 +1,21 @@
 -- The collisions of a board: who is judged, and who is eliminated.
-use Rattle.std.proofs.Common.{◌≡◌, ℕ, ◌+◌, ◌<◌, ◌≤◌, Bool, true, false, List, length, map, set, get_or, Option, Some, None, refl, sym, ap, ◌∙◌, arith, inl, inr}
+use Rattle.std.proofs.Common.{◌≡◌, ℕ, ◌+◌, ◌<◌, ◌≤◌, true, List, length, set, get_or, Option, Some, None, refl, sym, ap, ◌∙◌, arith, inl, inr}
 use Rattle.std.specs.Prelude.{is_some}
-use Rattle.std.proofs.lemmas.Bool.{cases_Bool, cases_eq}
-use Rattle.std.proofs.lemmas.List.{get_or-set_same, get_or-set_other, map-id, set-get_or}
+use Rattle.std.proofs.lemmas.Bool.{cases_eq}
+use Rattle.std.proofs.lemmas.List.{get_or-set_same, get_or-set_other, map-id}
 use Rattle.bs_board.specs.declared.boards.board.Board.{Board}
 use Rattle.bs_board.specs.declared.boards.snake.Snake.{Snake}
 use Rattle.bs_board.specs.boards.Over.{is_living}
 use Rattle.bs_rules.specs.declared.verdict.Verdict.{Verdict}
-use Rattle.bs_rules.specs.Collision.{collided, collision_verdict, map_seats, nobody, snake_at}
+use Rattle.bs_rules.specs.Collision.{collided, collision_verdict, map_seats, snake_at}
 use Rattle.bs_rules.specs.Elimination.{judged}
 use Rattle.bs_rules.proofs.Seats.{map_seats_agree}
 use Rattle.bs_batch.specs.declared.collisions.Verdict.{Verdict as VerdictBytes}
 use Rattle.bs_batch.specs.declared.layout.Head.{Head}
 use Rattle.bs_batch.specs.Shown.{HasRoom, ShowsSeats, seat_at}
 use Rattle.bs_batch.specs.inner.Collisions.{ShowsJudged, spared}
-use Rattle.bs_batch.specs.inner.Eliminations.{Eliminates, IsVerdictIf, PutsOut, with_snake}
+use Rattle.bs_batch.specs.Eliminations.{Eliminates, with_snake}
+use Rattle.bs_batch.specs.inner.Eliminations.{PutsOut}
 use Rattle.bs_batch.proofs.Eliminated.{put_out_has_room}
 use Rattle.bs_batch.proofs.FirstOut.{living_byte, same_snake, seat_is_out}
 use Rattle.bs_batch.proofs.Judged.{dead_spared_at}

@@ -1,5 +1,5 @@
 -- A snake that is eliminated: its seat is written, and its parts leave the plane.
-use Rattle.std.proofs.Common.{◌≡◌, ℕ, ◌+◌, ◌%◌, ◌<◌, ◌≤◌, Bool, true, false, List, length, set, take, Some, All, refl, sym, ap, ◌∙◌, arith, count_by, length-set}
+use Rattle.std.proofs.Common.{◌≡◌, ℕ, ◌+◌, ◌%◌, ◌<◌, true, List, length, set, take, Some, refl, sym, ◌∙◌, arith, count_by, length-set}
 use Rattle.std.proofs.lemmas.List.Elements.{All-set}
 use Rattle.bs_board.specs.declared.boards.point.Point.{Point}
 use Rattle.bs_board.specs.declared.boards.board.Board.{Board}
@@ -12,10 +12,10 @@ use Rattle.bs_rules.specs.Elimination.{judged}
 use Rattle.bs_batch.specs.declared.collisions.Verdict.{Verdict as VerdictBytes}
 use Rattle.bs_batch.specs.declared.layout.Head.{Head}
 use Rattle.bs_batch.specs.declared.layout.Seat.{Seat}
-use Rattle.bs_batch.specs.Counts.{CountsNone, HasBytes}
+use Rattle.bs_batch.specs.Counts.{CountsNone}
 use Rattle.bs_batch.specs.Numbers.{numbers_of}
-use Rattle.bs_batch.specs.Shown.{HasBody, HasRoom, ShowsSeats, ShowsSettings, ShowsSnake, byte_of, food_byte, occupants, parts_on, room_of, seat_at}
-use Rattle.bs_batch.specs.inner.Eliminations.{IsVerdict, put_out, with_snake}
+use Rattle.bs_batch.specs.Shown.{HasBody, HasRoom, ShowsSeats, ShowsSettings, ShowsSnake, byte_of, occupants, parts_on, room_of, seat_at}
+use Rattle.bs_batch.specs.Eliminations.{IsVerdict, put_out}
 use Rattle.bs_batch.proofs.Alone.{living_parts}
 use Rattle.bs_batch.proofs.Bytes.{same_bytes}
 use Rattle.bs_batch.proofs.SeatWrites.{food_at_most, occupants_with, one_seat}

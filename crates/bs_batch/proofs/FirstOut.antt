@@ -1,5 +1,5 @@
 -- The first elimination of one seat, by whether there is one.
-use Rattle.std.proofs.Common.{◌≡◌, ℕ, ◌+◌, ◌<◌, Bool, true, false, cond, List, length, set, take, Option, Some, None, MatchOption, refl, sym, ap, ◌∙◌, arith, inl, inr, eqb}
+use Rattle.std.proofs.Common.{◌≡◌, ℕ, ◌+◌, ◌<◌, Bool, true, false, cond, List, length, take, Option, Some, None, MatchOption, refl, sym, ◌∙◌, arith, inl, inr}
 use Rattle.std.specs.Prelude.{◌||◌, is_none, option_map, nat_eq}
 use Rattle.std.proofs.lemmas.Bool.{cases_Bool, cond_both}
 use Rattle.std.proofs.lemmas.List.{set-get_or}
@@ -16,7 +16,8 @@ use Rattle.bs_rules.specs.Collision.{nobody, snake_at}
 use Rattle.bs_rules.specs.Elimination.{judged, starved_or_outside_verdict}
 use Rattle.bs_batch.specs.declared.layout.Head.{Head}
 use Rattle.bs_batch.specs.Shown.{HasRoom, ShowsSeats, room_of, seat_at}
-use Rattle.bs_batch.specs.inner.Eliminations.{ChangesSeat, Eliminates, IsFirstCause, put_out, starved_or_outside_at, with_snake}
+use Rattle.bs_batch.specs.Eliminations.{Eliminates, put_out, with_snake}
+use Rattle.bs_batch.specs.inner.Eliminations.{ChangesSeat, IsFirstCause, starved_or_outside_at}
 use Rattle.bs_batch.proofs.Eliminated.{put_out_has_room}
 use Rattle.bs_batch.proofs.Shown.{body_shown, has_body}
 

@@ -1,10 +1,10 @@
 -- The judgement of collisions on numbers.
-use Rattle.std.proofs.Common.{◌≡◌, ℕ, ◌+◌, ◌<◌, ◌≤◌, Bool, true, false, not, ◌&&◌, ◌||◌, cond, List, [], ◌∷◌, length, take, drop, map, get_or, All, Contains, Decides, Option, Some, None, MatchOption, refl, sym, ap, ◌∙◌, arith, inl, inr, suc, eqb, leb, ltb, slice_index}
+use Rattle.std.proofs.Common.{◌≡◌, ℕ, ◌+◌, ◌<◌, ◌≤◌, Bool, true, false, not, ◌&&◌, cond, List, [], ◌∷◌, length, take, drop, All, Decides, Option, Some, None, refl, sym, ap, ◌∙◌, arith, inl, inr, suc, eqb, leb, ltb, slice_index}
 use Rattle.std.specs.List.{list_any}
 use Rattle.std.proofs.lemmas.Bool.{cases_Bool, eqb-true, false≢true, le-ltb, lt-ltb}
 use Rattle.std.proofs.lemmas.Bool.Decides.{Decides-eqb, Decides-like, same_from_decides}
 use Rattle.std.proofs.lemmas.List.{drop-map}
-use Rattle.std.proofs.lemmas.List.Elements.{All-get_or, recursion_from_All}
+use Rattle.std.proofs.lemmas.List.Elements.{All-get_or}
 use Rattle.bs_board.specs.declared.boards.point.Point.{Point}
 use Rattle.bs_board.specs.declared.boards.snake.Snake.{Snake}
 use Rattle.bs_board.specs.declared.boards.snake.Cause.{Cause}
@@ -16,7 +16,7 @@ use Rattle.std.specs.Prelude.{is_some}
 use Rattle.bs_rules.specs.declared.verdict.Verdict.{Verdict}
 use Rattle.bs_rules.specs.Collision.{CollidesWith, IsOnLaterPart, collides, collision_verdict, is_on_later_part, killer_among, killer_of, length_at, longer_of, meets_head, nobody, runs_into, snake_at}
 use Rattle.bs_rules.proofs.CollisionTest.{has_cell, same_cell}
-use Rattle.bs_rules.proofs.Killers.{IsKillerAmong, MeansKiller, killer_among_next, killer_means}
+use Rattle.bs_rules.proofs.Killers.{MeansKiller, killer_among_next, killer_means}
 use Rattle.bs_batch.specs.declared.layout.Head.{Head}
 use Rattle.bs_batch.specs.Numbers.{number_of, numbers_of}
 use Rattle.bs_batch.specs.Shown.{HasBody, room_of, seat_at, seat_byte}

@@ -4,6 +4,9 @@ pub mod Bytes
 pub mod Collided
 pub mod Eliminated
 pub mod FirstOut
+pub mod FoodEaten
+pub mod FoodGone
+pub mod FoodHeads
 pub mod Judged
 pub mod Living
 pub mod Moved

@@ -1,16 +1,16 @@
 -- A body of numbers that is moved.
-use Rattle.std.proofs.Common.{◌≡◌, ℕ, zero, suc, ◌+◌, ◌-◌, ◌<◌, ◌≤◌, List, [], ◌∷◌, length, take, map, get_or, All, refl, sym, ap, ◌∙◌, arith}
+use Rattle.std.proofs.Common.{◌≡◌, ℕ, suc, ◌-◌, ◌≤◌, List, [], ◌∷◌, length, map, get_or, ap, ◌∙◌, arith}
 use Rattle.std.specs.List.{take-map}
 use Rattle.std.proofs.lemmas.List.{length-map, get_or-map}
 use Rattle.std.proofs.lemmas.List.Elements.{All-get_or}
 use Rattle.bs_board.specs.declared.boards.point.Point.{Point}
-use Rattle.bs_board.specs.boards.Cell.{head_of, origin}
+use Rattle.bs_board.specs.boards.Cell.{origin}
 use Rattle.bs_rules.specs.Feeding.{last_of}
-use Rattle.bs_rules.specs.Motion.{direction_taken, moved_body, neighbor}
+use Rattle.bs_rules.specs.Motion.{direction_taken, neighbor}
 use Rattle.bs_batch.specs.declared.layout.Settings.{Settings}
-use Rattle.bs_batch.specs.Directions.{direction_of, given_by}
-use Rattle.bs_batch.specs.Numbers.{HasSides, IsOn, number_of, numbers_of, sides_of}
-use Rattle.bs_batch.specs.Steps.{IsMoved, MovesBody}
+use Rattle.bs_batch.specs.Directions.{given_by}
+use Rattle.bs_batch.specs.Numbers.{IsOn, number_of, numbers_of, sides_of}
+use Rattle.bs_batch.specs.Steps.{MovesBody}
 use Rattle.bs_batch.specs.inner.Steps.{StepsCell, TakesDirection, shifted}
 
 pub last_number : (parts : List Point) → 1 ≤ length parts → get_or (numbers_of parts) (length parts - 1) 0 ≡ number_of (last_of parts)

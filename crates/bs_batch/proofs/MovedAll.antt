@@ -1,5 +1,5 @@
 -- The seats that are moved and fed one by one.
-use Rattle.std.proofs.Common.{◌≡◌, ℕ, ◌+◌, ◌-◌, ◌*◌, ◌/◌, ◌<◌, ◌≤◌, Bool, true, false, ◌||◌, List, length, get_or, set, refl, sym, ap, ◌∙◌, arith, inl, inr}
+use Rattle.std.proofs.Common.{◌≡◌, ℕ, ◌+◌, ◌-◌, ◌*◌, ◌<◌, ◌≤◌, Bool, true, false, ◌||◌, List, length, refl, sym, ap, ◌∙◌, arith, inl, inr}
 use Rattle.std.specs.Prelude.{slice_index_or}
 use Rattle.std.proofs.lemmas.Bool.{cases_eq}
 use Rattle.bs_board.specs.declared.boards.board.Board.{Board}
@@ -12,8 +12,8 @@ use Rattle.bs_rules.specs.Motion.{moved}
 use Rattle.bs_batch.specs.declared.layout.Head.{Head}
 use Rattle.bs_batch.specs.Directions.{given_by}
 use Rattle.bs_batch.specs.Shown.{HasRoom, ShowsSeats}
-use Rattle.bs_batch.specs.inner.Eliminations.{with_snake}
-use Rattle.bs_batch.specs.inner.Seats.{AreMoved, CanMove, CanMoveAt, IsMovedAt, MovesAt, moved_by_seat, stepped}
+use Rattle.bs_batch.specs.Eliminations.{with_snake}
+use Rattle.bs_batch.specs.inner.Seats.{AreMoved, CanMoveAt, IsMovedAt, MovesAt, moved_by_seat, stepped}
 use Rattle.bs_batch.proofs.SoFar.{all_so_far, board_so_far, length_so_far, more_so_far, next_so_far}
 
 abbrev pub step_of : List ℕ → Board → ℕ → Snake → Snake

@@ -10,8 +10,7 @@ use Rattle.bs_board.specs.declared.boards.board.Board.{Board}
 use Rattle.bs_board.specs.declared.boards.board.Mode.{Mode}
 use Rattle.bs_board.specs.declared.boards.board.Mode.TheVariants.{Standard, Solo, Constrictor, Wrapped}
 use Rattle.bs_board.specs.declared.boards.snake.Snake.{Snake}
-use Rattle.bs_board.specs.boards.Cell.{head_of, is_on_board}
-use Rattle.bs_board.specs.boards.Over.{is_living}
+use Rattle.bs_board.specs.boards.Cell.{is_on_board}
 use Rattle.bs_board.specs.boards.Wrap.{is_wrapped, wrap_of}
 use Rattle.bs_board.specs.records.Record.{mode_byte}
 use Rattle.bs_rules.specs.Collision.{nobody, snake_at}
@@ -19,13 +18,11 @@ use Rattle.bs_rules.specs.Feeding.{eats, fed_snake}
 use Rattle.bs_rules.specs.Motion.{moved}
 use Rattle.bs_batch.specs.declared.layout.Head.{Head}
 use Rattle.bs_batch.specs.declared.layout.Seat.{Seat}
-use Rattle.bs_batch.specs.declared.layout.Settings.{Settings}
-use Rattle.bs_batch.specs.Counts.{HasBytes}
 use Rattle.bs_batch.specs.Directions.{given_by}
-use Rattle.bs_batch.specs.Numbers.{HasSides, IsOn, number_of, sides_of}
+use Rattle.bs_batch.specs.Numbers.{HasSides, IsOn, sides_of}
 use borrow.Rule.Slice.PartMut.{mid_of, put_mid}
-use Rattle.bs_batch.specs.Shown.{HasBody, HasRoom, ShowsSeats, ShowsSettings, ShowsSnake, ShowsSnakes, byte_of, food_byte, no_seat, occupants, parts_on, room_of, seat_at}
-use Rattle.bs_batch.specs.inner.Eliminations.{with_snake}
+use Rattle.bs_batch.specs.Shown.{HasBody, HasRoom, ShowsSeats, ShowsSettings, ShowsSnake, ShowsSnakes, byte_of, no_seat, occupants, parts_on, room_of, seat_at}
+use Rattle.bs_batch.specs.Eliminations.{with_snake}
 use Rattle.bs_batch.specs.inner.Seats.{CanMoveAt, FeedsSeat, IsMovedAt, MovesSeat, SeatHasRoom, ShowsSeat, byte_with, stepped}
 use Rattle.bs_batch.proofs.Bytes.{same_bytes}
 use Rattle.bs_batch.proofs.FirstOut.{same_snake, seat_is_out, seat_lives}

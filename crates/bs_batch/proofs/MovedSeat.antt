@@ -1,10 +1,9 @@
 -- A seat whose snake moves one step.
-use Rattle.std.proofs.Common.{◌≡◌, ℕ, suc, ◌+◌, ◌-◌, ◌<◌, ◌≤◌, Bool, true, false, cond, List, [], ◌∷◌, ◌++◌, length, take, drop, map, min, get_or, All, count_by, refl, sym, ap, ◌∙◌, arith, length-take, Option}
+use Rattle.std.proofs.Common.{◌≡◌, ℕ, ◌+◌, ◌-◌, ◌<◌, ◌≤◌, Bool, true, false, cond, List, ◌∷◌, ◌++◌, length, take, drop, min, All, count_by, refl, ap, ◌∙◌, arith, length-take, Option}
 use Rattle.std.proofs.lemmas.List.{length-map, take_all, take_at}
-use Rattle.std.proofs.lemmas.List.Elements.{All-cons, All-get_or, All-take, All-weaker}
+use Rattle.std.proofs.lemmas.List.Elements.{All-cons, All-get_or, All-take}
 use Rattle.std.proofs.lemmas.List.Sums.{sum_by-cons, sum_by_more}
 use Rattle.bs_board.specs.declared.boards.point.Point.{Point}
-use Rattle.bs_board.specs.declared.boards.point.Direction.{Direction}
 use Rattle.bs_board.specs.declared.boards.snake.Snake.{Snake}
 use Rattle.bs_board.specs.boards.Cell.{head_of, is_same_cell, origin}
 use Rattle.bs_board.specs.boards.Legal.{is_near}
@@ -15,12 +14,12 @@ use Rattle.bs_batch.specs.declared.layout.Settings.{Settings}
 use Rattle.bs_batch.specs.Counts.{CountsLess, CountsMore, HasBytes, and_one}
 use Rattle.bs_batch.specs.Directions.{given_by}
 use Rattle.bs_batch.specs.Numbers.{HasSides, IsOn, number_of, numbers_of, sides_of}
-use Rattle.bs_batch.specs.Shown.{HasBody, food_byte, parts_on}
-use Rattle.bs_batch.specs.Steps.{IsMoved, MovesBody}
+use Rattle.bs_batch.specs.Shown.{food_byte, parts_on}
+use Rattle.bs_batch.specs.Steps.{MovesBody}
 use Rattle.bs_batch.specs.inner.Seats.{SeatHasRoom, ShowsSeat, byte_with}
 use Rattle.bs_batch.proofs.Alone.{living_parts}
 use Rattle.bs_batch.proofs.Bytes.{same_bytes}
-use Rattle.bs_batch.proofs.Neighbors.{near_neighbor, near_on}
+use Rattle.bs_batch.proofs.Neighbors.{near_neighbor}
 use Rattle.bs_batch.proofs.SeatWrites.{food_at_most}
 
 one_at_most : (b : Bool) → cond {A = ℕ} b 1 0 ≤ 1

@@ -1,8 +1,8 @@
 -- The step of a cell and of its number.
-use Rattle.std.proofs.Common.{◌≡◌, ℕ, ℤ, zero, ◌+◌, ◌-◌, ◌%◌, ◌<◌, ◌≤◌, Bool, true, false, pos, negsuc, nat_abs, ◌+ℤ◌, ◌-ℤ◌, Some, None, refl, sym, ap, ◌∙◌, arith, inl, inr, eqb}
+use Rattle.std.proofs.Common.{◌≡◌, ℕ, ℤ, ◌%◌, ◌<◌, ◌≤◌, true, pos, negsuc, ◌+ℤ◌, ◌-ℤ◌, Some, arith, inl, inr}
 use Rattle.std.specs.Prelude.{int_le, int_lt, ◌==◌}
 use Rattle.std.specs.Int.{int_rem_euclid}
-use Rattle.std.proofs.lemmas.Bool.{cases_Bool, eqb-true, eq-eqb, false≢true}
+use Rattle.std.proofs.lemmas.Bool.{cases_Bool, eqb-true, eq-eqb}
 use Rattle.std.proofs.lemmas.Int.{ints}
 use Rattle.bs_board.specs.declared.boards.point.Point.{Point}
 use Rattle.bs_board.specs.declared.boards.point.Direction.{Direction}

@@ -1,10 +1,10 @@
 -- Numbers of cells: they fit the plane, and cells with one number are one cell.
-use Rattle.std.proofs.Common.{◌≡◌, ℕ, ℤ, ◌+◌, ◌*◌, ◌<◌, ◌≤◌, Bool, true, pos, negsuc, nat_abs, ◌+ℤ◌, refl, sym, ap, ◌∙◌, arith}
-use Rattle.std.specs.Prelude.{int_le, int_lt}
+use Rattle.std.proofs.Common.{◌≡◌, ℕ, ℤ, ◌+◌, ◌*◌, ◌<◌, ◌≤◌, true, pos, negsuc, nat_abs, ◌+ℤ◌, refl, sym, ap, ◌∙◌, arith}
+use Rattle.std.specs.Prelude.{int_le}
 use Rattle.std.proofs.lemmas.Int.{ints}
 use Rattle.std.proofs.lemmas.Nat.{same_from_place}
 use Rattle.bs_board.specs.declared.boards.point.Point.{Point}
-use Rattle.bs_board.specs.boards.Cell.{is_on_board, is_same_cell}
+use Rattle.bs_board.specs.boards.Cell.{is_same_cell}
 use Rattle.bs_board.specs.boards.Legal.{is_near}
 use Rattle.bs_board.proofs.boards.CellsOnBoard.{same_int}
 use Rattle.bs_rules.proofs.CollisionTest.{same_cell}

@@ -1,5 +1,5 @@
 -- A body whose last part is repeated, and a snake that eats.
-use Rattle.std.proofs.Common.{◌≡◌, ℕ, ◌+◌, ◌-◌, ◌%◌, ◌<◌, ◌≤◌, Bool, true, false, cond, List, [], ◌∷◌, ◌++◌, length, take, set, map, get_or, slice_index, All, count_by, refl, sym, ap, ◌∙◌, arith, inl, inr}
+use Rattle.std.proofs.Common.{◌≡◌, ℕ, ◌+◌, ◌-◌, ◌%◌, ◌<◌, ◌≤◌, Bool, true, false, cond, List, [], ◌∷◌, ◌++◌, length, take, set, get_or, slice_index, count_by, refl, sym, ap, ◌∙◌, arith, inl, inr}
 use Rattle.std.specs.List.{list_any}
 use Rattle.std.proofs.lemmas.Bool.{cases_Bool, cond_both}
 use Rattle.std.proofs.lemmas.List.{get_or-map, get_or-take, length_push, map_push, take_more_set}
@@ -14,7 +14,7 @@ use Rattle.bs_rules.specs.Feeding.{eats, fed_snake, last_of}
 use Rattle.bs_batch.specs.declared.layout.Seat.{Seat}
 use Rattle.bs_batch.specs.Counts.{CountsMore, and_one}
 use Rattle.bs_batch.specs.Numbers.{number_of, numbers_of}
-use Rattle.bs_batch.specs.Shown.{HasBody, food_byte, parts_on}
+use Rattle.bs_batch.specs.Shown.{parts_on}
 use Rattle.bs_batch.specs.inner.Seats.{RepeatsLast, SeatHasRoom, ShowsSeat, byte_with, repeated}
 use Rattle.bs_batch.proofs.Alone.{living_parts}
 use Rattle.bs_batch.proofs.Bytes.{same_bytes}

@@ -1,5 +1,5 @@
 -- The room of a seat in the list of all bodies.
-use Rattle.std.proofs.Common.{◌≡◌, ℕ, suc, ◌+◌, ◌-◌, ◌*◌, ◌/◌, ◌<◌, ◌≤◌, List, ◌++◌, length, take, drop, get_or, min, refl, sym, ap, ◌∙◌, arith, inl, inr, length-append, length-drop, length-take, length-take-le}
+use Rattle.std.proofs.Common.{◌≡◌, ℕ, ◌+◌, ◌-◌, ◌*◌, ◌/◌, ◌<◌, ◌≤◌, List, ◌++◌, length, take, drop, get_or, sym, ap, ◌∙◌, arith, inl, inr, length-append, length-drop, length-take, length-take-le}
 use Rattle.std.proofs.lemmas.Bool.{cases_lt}
 use Rattle.std.proofs.lemmas.List.{drop-drop, drop_at, ext_get_or, get_or-append_right, get_or-drop, get_or-take, get_or_append_left, take_at}
 use borrow.Rule.Slice.PartMut.{mid_of, put_mid}

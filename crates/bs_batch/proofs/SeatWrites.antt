@@ -1,5 +1,5 @@
 -- A game in which one seat is written.
-use Rattle.std.proofs.Common.{◌≡◌, ℕ, ◌+◌, ◌<◌, ◌≤◌, Bool, true, false, cond, List, length, set, refl, sym, ap, ◌∙◌, arith, inl, inr, length-set}
+use Rattle.std.proofs.Common.{◌≡◌, ℕ, ◌+◌, ◌<◌, ◌≤◌, Bool, true, false, cond, List, length, set, arith, inl, inr, length-set}
 use Rattle.std.specs.List.{list_any}
 use Rattle.std.proofs.lemmas.Bool.{cases_eq}
 use Rattle.std.proofs.lemmas.List.{get_or-set_same, get_or-set_other}
@@ -9,7 +9,7 @@ use Rattle.bs_board.specs.declared.boards.snake.Snake.{Snake}
 use Rattle.bs_board.specs.boards.Cell.{is_same_cell}
 use Rattle.bs_rules.specs.Collision.{nobody, snake_at}
 use Rattle.bs_batch.specs.declared.layout.Seat.{Seat}
-use Rattle.bs_batch.specs.Shown.{ShowsSnake, ShowsSnakes, food_byte, no_seat, occupants, parts_on, room_of, seat_at}
+use Rattle.bs_batch.specs.Shown.{ShowsSnake, ShowsSnakes, food_byte, no_seat, occupants, parts_on, room_of}
 
 pub one_seat : (seats : List Seat) (bodies : List ℕ) (snakes : List Snake) (seat : ℕ) (new : Seat) (s : Snake) → seat < length seats → seat < length snakes
     → ShowsSnakes seats bodies snakes → ShowsSnake new (room_of bodies seat) s → ShowsSnakes (set seats seat new) bodies (set snakes seat s)

@@ -1,18 +1,17 @@
 -- What the seats, the bodies and the plane show.
-use Rattle.std.proofs.Common.{◌≡◌, ℕ, ◌+◌, ◌%◌, ◌<◌, ◌≤◌, Bool, true, false, cond, List, length, take, map, get_or, slice_index, All, refl, sym, ap, ◌∙◌, arith}
-use Rattle.std.specs.List.{list_any}
+use Rattle.std.proofs.Common.{◌≡◌, ℕ, ◌+◌, ◌%◌, ◌<◌, ◌≤◌, Bool, true, false, cond, List, length, take, slice_index, ap, ◌∙◌, arith}
 use Rattle.std.proofs.lemmas.List.{get_or-map}
 use Rattle.std.proofs.lemmas.List.Elements.{All-get_or}
 use Rattle.bs_board.specs.declared.boards.point.Point.{Point}
 use Rattle.bs_board.specs.declared.boards.board.Board.{Board}
 use Rattle.bs_board.specs.declared.boards.snake.Snake.{Snake}
-use Rattle.bs_board.specs.boards.Cell.{head_of, is_same_cell, origin}
+use Rattle.bs_board.specs.boards.Cell.{head_of, origin}
 use Rattle.bs_board.specs.boards.Legal.{is_near}
 use Rattle.bs_rules.specs.Collision.{nobody, snake_at}
 use Rattle.bs_batch.specs.declared.layout.Head.{Head}
 use Rattle.bs_batch.specs.declared.layout.Seat.{Seat}
 use Rattle.bs_batch.specs.Numbers.{number_of, numbers_of}
-use Rattle.bs_batch.specs.Shown.{HasBody, HasRoom, ShowsSeats, ShowsSnake, ShowsSnakes, byte_of, food_byte, occupants, room_of, seat_at}
+use Rattle.bs_batch.specs.Shown.{HasBody, HasRoom, ShowsSeats, ShowsSnakes, byte_of, room_of, seat_at}
 
 -- the bits of the parts
 pub parts_of_byte : (n : ℕ) (there : Bool) → n < 128 → (n + cond there 128 0) % 128 ≡ n

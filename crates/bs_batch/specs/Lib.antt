@@ -1,5 +1,8 @@
 pub mod Counts
 pub mod Directions
+pub mod Eliminations
+pub mod Food
+pub mod Living
 pub mod Numbers
 pub mod Shown
 pub mod Steps

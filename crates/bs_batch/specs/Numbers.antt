@@ -1,5 +1,5 @@
 -- Cells as numbers.
-use Rattle.std.specs.Prelude.{◌≡◌, ℕ, ◌+◌, ◌*◌, ◌≤◌, ◌==◌, Bool, true, if◌then◌else◌, List, map, nat_abs, pos, ◌+ℤ◌, Option, Some, None}
+use Rattle.std.specs.Prelude.{◌≡◌, ℕ, ◌+◌, ◌*◌, ◌≤◌, ◌==◌, true, if◌then◌else◌, List, map, nat_abs, pos, ◌+ℤ◌, Option, Some, None}
 use Rattle.bs_board.specs.declared.boards.point.Point.{Point}
 use Rattle.bs_board.specs.boards.Cell.{is_on_board}
 use Rattle.bs_batch.specs.declared.layout.Settings.{Settings}

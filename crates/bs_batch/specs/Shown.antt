@@ -1,5 +1,5 @@
 -- Which board the memory of a game shows.
-use Rattle.std.specs.Prelude.{◌≡◌, ℕ, ◌+◌, ◌*◌, ◌/◌, ◌<◌, ◌≤◌, Bool, true, cond, List, length, take, drop, map, All, count_by, sum_by, Option, Some, None, unwrap_or, slice_index_or}
+use Rattle.std.specs.Prelude.{◌≡◌, ℕ, ◌+◌, ◌*◌, ◌/◌, ◌<◌, ◌≤◌, true, cond, List, length, take, drop, All, count_by, sum_by, Option, Some, None, unwrap_or, slice_index_or}
 use Rattle.std.specs.List.{list_any}
 use Rattle.bs_board.specs.declared.boards.point.Point.{Point}
 use Rattle.bs_board.specs.declared.boards.board.Board.{Board}

@@ -1,6 +1,6 @@
 -- What private contracts cite, and no public one.
 pub mod Collisions
 pub mod Eliminations
-pub mod Living
+pub mod Food
 pub mod Seats
 pub mod Steps

@@ -16,7 +16,8 @@ ghost use Rattle.bs_batch.specs.inner.Collisions.{
   is_later_number,
   spared,
 };
-ghost use Rattle.bs_batch.specs.inner.Eliminations.{Eliminates, PutsOut};
+ghost use Rattle.bs_batch.specs.Eliminations.{Eliminates};
+ghost use Rattle.bs_batch.specs.inner.Eliminations.{PutsOut};
 ghost use Rattle.bs_batch.specs.Shown.{ChangesBoard, HasRoom, ShowsSeats};
 
 use crate::layout::{ALIVE, BODY_COLLISION, HEAD_COLLISION, Head, NO_SEAT, SEATS, SELF_COLLISION};

@@ -1,42 +1,66 @@
 //! Food: what is eaten, and what appears.
 
-ghost use Rattle.std.specs.Prelude.{◌≡◌, ◌≤◌, ◌<◌};
+ghost use Rattle.std.specs.Prelude.{◌≡◌, ◌≤◌, ◌<◌, length};
+ghost use Rattle.bs_batch.specs.Food.{RemovesEaten};
+ghost use Rattle.bs_batch.specs.inner.Food.{HasHeadAt, IsUnderHead, KeepsFood};
 
 use crate::layout::{ALIVE, Head, LARGE_SIDE, SEATS, STRIDE, Settings};
 use crate::planes::{add_food, remove_food};
 use crate::seats::{body_of, head_of};
 
+/// Whether the snake of a seat lives and has its head on the cell.
+#[inline]
+fn has_head_at(head: &Head, bodies: &[u16], seat: usize, cell: u16) -> bool
+    requires seat { seat < SEATS }
+    ensures { HasHeadAt head.now bodies.now seat cell result }
+{
+    if head.seats[seat].cause != ALIVE {
+        return false;
+    }
+    head_of(body_of(bodies, seat, head.seats[seat].parts)) == cell
+}
+
 #[inline]
 fn is_under_head(head: &Head, bodies: &[u16], cell: u16) -> bool
     requires seats { head.now.settings.seats ≤ SEATS }
+    ensures { IsUnderHead head.now bodies.now cell result }
 {
     for seat in 0..usize::from(head.settings.seats) {
-        if head.seats[seat].cause == ALIVE
-            && head_of(body_of(bodies, seat, head.seats[seat].parts)) == cell
-        {
+        if has_head_at(head, bodies, seat, cell) {
             return true;
         }
     }
     false
 }
 
+/// Takes the food of that index off the plane if it is gone, else moves it to the place `left`.
+/// Returns the number of cells that are left so far.
+#[inline]
+fn keep_food(food: &mut [u16], plane: &mut [u8], index: usize, left: usize, gone: bool) -> usize
+    requires index { index < length food.old }
+    requires left { left ≤ index }
+    ensures { KeepsFood gone index left food.old plane.old food.new plane.new result }
+{
+    let cell = food[index];
+    if gone {
+        remove_food(plane, cell);
+        return left;
+    }
+    food[left] = cell;
+    left + 1
+}
+
 /// Removes the food under living heads; the other food keeps its order.
 pub fn remove_eaten(head: &mut Head, food: &mut [u16], plane: &mut [u8], bodies: &[u16])
     requires seats { head.old.settings.seats ≤ SEATS }
     ensures settings { head.new.settings ≡ head.old.settings }
+    ensures board { RemovesEaten bodies.now head.old food.old plane.old head.new food.new plane.new }
 {
     let count = usize::from(head.foods).min(food.len());
     let mut left = 0usize;
     for index in 0..count {
-        let cell = food[index];
-        if is_under_head(head, bodies, cell) {
-            remove_food(plane, cell);
-        } else {
-            if left < count {
-                food[left] = cell;
-            }
-            left = left.wrapping_add(1);
-        }
+        let gone = is_under_head(head, bodies, food[index]);
+        left = keep_food(food, plane, index, left, gone);
     }
     head.foods = left.min(1024) as u16;
 }

@@ -5,7 +5,7 @@ ghost use Rattle.bs_board.specs.declared.boards.board.Mode.{Mode as AnyMode};
 ghost use Rattle.bs_board.specs.declared.boards.snake.Snake.{Snake};
 ghost use Rattle.bs_board.specs.boards.Over.{is_living, last_living};
 ghost use Rattle.bs_board.specs.records.Record.{mode_byte};
-ghost use Rattle.bs_batch.specs.inner.Living.{CountsBoard, ShowsCauses};
+ghost use Rattle.bs_batch.specs.Living.{CountsBoard, ShowsCauses};
 ghost use Rattle.bs_batch.specs.Shown.{room_of};
 
 use crate::layout::{ALIVE, Head, SEATS, SOLO};

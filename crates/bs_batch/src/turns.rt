@@ -3,11 +3,7 @@
 ghost use Rattle.std.specs.Prelude.{◌≡◌, ◌≤◌, ◌<◌, slice_index_or, take};
 ghost use Rattle.bs_rules.specs.Elimination.{starved_or_outside};
 ghost use Rattle.bs_batch.specs.Shown.{ChangesBoard, room_of};
-ghost use Rattle.bs_batch.specs.inner.Eliminations.{
-  ChangesSeat,
-  IsFirstCause,
-  starved_or_outside_at,
-};
+ghost use Rattle.bs_batch.specs.inner.Eliminations.{ChangesSeat, IsFirstCause, starved_or_outside_at};
 ghost use Rattle.bs_batch.specs.inner.Seats.{FeedsSeat, MovesAt, MovesSeat, MovesSeats, RepeatsLast};
 
 use crate::collisions::{Verdict, collide, eliminate};

@@ -1,11 +1,10 @@
 -- The steps of the judgement of collisions.
-use Rattle.std.specs.Prelude.{◌≡◌, ℕ, ◌<◌, ◌≤◌, ◌==◌, Bool, true, cond, List, length, drop, All, MatchOption, Option, None}
+use Rattle.std.specs.Prelude.{◌≡◌, ℕ, ◌<◌, ◌≤◌, ◌==◌, Bool, true, cond, List, length, drop, All, MatchOption, Option}
 use Rattle.std.specs.List.{list_any}
 use Rattle.bs_board.specs.declared.boards.snake.Cause.{Cause}
 use Rattle.bs_board.specs.declared.boards.snake.Snake.{Snake}
 use Rattle.bs_board.specs.boards.Cell.{head_of}
 use Rattle.bs_board.specs.boards.Over.{is_living}
-use Rattle.bs_rules.specs.declared.verdict.Verdict.{Verdict}
 use Rattle.bs_rules.specs.Collision.{collides, collision_verdict, killer_of, longer_of, snake_at}
 use Rattle.bs_batch.specs.declared.collisions.Verdict.{Verdict as VerdictBytes}
 use Rattle.bs_batch.specs.declared.layout.Head.{Head}

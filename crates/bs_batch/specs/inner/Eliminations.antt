@@ -1,5 +1,5 @@
--- The elimination of one snake.
-use Rattle.std.specs.Prelude.{◌≡◌, ℕ, ◌+◌, ◌<◌, ◌≤◌, Bool, true, List, length, slice_set, MatchOption, Option, Some, is_some, option_map}
+-- The eliminations, seat by seat.
+use Rattle.std.specs.Prelude.{◌≡◌, ℕ, ◌+◌, ◌<◌, ◌≤◌, true, List, length, slice_set, MatchOption, Option, Some, is_some, option_map}
 use Rattle.bs_board.specs.declared.boards.board.Board.{Board}
 use Rattle.bs_board.specs.declared.boards.snake.Snake.{Snake}
 use Rattle.bs_board.specs.boards.Wrap.{is_wrapped}
@@ -11,26 +11,9 @@ use Rattle.bs_rules.specs.Elimination.{judged, starved_or_outside_snake, starved
 use Rattle.bs_batch.specs.declared.collisions.Verdict.{Verdict as VerdictBytes}
 use Rattle.bs_batch.specs.declared.layout.Head.{Head}
 use Rattle.bs_batch.specs.declared.layout.Settings.{Settings}
+use Rattle.bs_batch.specs.Eliminations.{IsVerdict, with_snake}
 use Rattle.bs_batch.specs.Numbers.{numbers_of}
 use Rattle.bs_batch.specs.Shown.{HasBody, HasRoom, ShowsSeats, ShowsSettings, seat_byte}
-
--- the verdict in bytes
-pub record IsVerdict (bytes : VerdictBytes) (v : Verdict) : Type 0 where
-  pub cause : bytes.cause ≡ cause_byte (Some v.cause)
-  pub killer : bytes.killer ≡ seat_byte v.killer
-
--- the board with another snake at a seat
-abbrev pub with_snake : Board → ℕ → Snake → Board
-with_snake b seat s = record b { snakes = slice_set b.snakes seat s }
-
--- the snake of the seat is eliminated in the turn that is played
-abbrev pub put_out : Board → ℕ → Verdict → Board
-put_out b seat v = with_snake b seat (judged (b.turn + 1) (Some v) (snake_at b.snakes seat))
-
-abbrev pub Eliminates : ℕ → VerdictBytes → List ℕ → Head → List ℕ → Head → List ℕ → Type 0
-Eliminates seat bytes bodies head plane head' plane' =
-    (b : Board) (v : Verdict) → IsVerdict bytes v → ShowsSeats head plane bodies b → HasRoom 0 b → seat < length b.snakes
-    → is_living (snake_at b.snakes seat) ≡ true → ShowsSeats head' plane' bodies (put_out b seat v)
 
 -- a step that changes the snake of one seat
 abbrev pub ChangesSeat : (Board → Snake → Snake) → ℕ → List ℕ → Head → List ℕ → Head → List ℕ → Type 0

@@ -16,7 +16,7 @@ use Rattle.bs_batch.specs.Counts.{HasBytes}
 use Rattle.bs_batch.specs.Directions.{given_by}
 use Rattle.bs_batch.specs.Numbers.{HasSides, IsOn, number_of, sides_of}
 use Rattle.bs_batch.specs.Shown.{HasBody, HasRoom, ShowsSeats, ShowsSnake, food_byte, parts_on}
-use Rattle.bs_batch.specs.inner.Eliminations.{with_snake}
+use Rattle.bs_batch.specs.Eliminations.{with_snake}
 
 -- the parts of one snake and of the others on a cell, and its food
 abbrev pub byte_with : (Point → ℕ) → List Point → Snake → Point → ℕ

@@ -1,5 +1,5 @@
 -- The steps of a motion.
-use Rattle.std.specs.Prelude.{◌≡◌, ℕ, ◌+◌, ◌≤◌, true, List, ◌∷◌, length, take, nat_abs, pos, negsuc, ◌+ℤ◌, int_le, Some, ℤ}
+use Rattle.std.specs.Prelude.{◌≡◌, ℕ, ◌≤◌, true, List, ◌∷◌, length, take, nat_abs, pos, negsuc, ◌+ℤ◌, int_le, Some, ℤ}
 use Rattle.std.specs.Int.{int_rem_euclid}
 use Rattle.bs_board.specs.declared.boards.point.Point.{Point}
 use Rattle.bs_board.specs.boards.Legal.{is_near}

@@ -1,6 +1,5 @@
-use Rattle.std.proofs.Common.{◌≡◌, None, length, ◌<◌, arith, inl, inr}
+use Rattle.std.proofs.Common.{length, ◌<◌, arith, inl, inr}
 use Rattle.std.proofs.lemmas.Bool.{cases_eq}
-use Rattle.bs_rules.specs.Collision.{collision_verdict}
 use Rattle.bs_batch.proofs.Collided.{all_spared}
 use Rattle.bs_batch.proofs.collisions.are_all_alone.Goals as goal
 

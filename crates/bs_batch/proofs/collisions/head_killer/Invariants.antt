@@ -1,4 +1,4 @@
-use Rattle.std.proofs.Common.{◌≡◌, ℕ}
+use Rattle.std.proofs.Common.{◌≡◌}
 use Rattle.bs_board.specs.declared.boards.snake.Cause.TheVariants.{HeadCollision}
 use Rattle.bs_rules.specs.Collision.{killer_among}
 use Rattle.bs_batch.specs.Shown.{seat_byte}

@@ -1,0 +1,26 @@
+-- The food that is gone.
+use Rattle.std.specs.Prelude.{◌≡◌, ℕ, ◌+◌, ◌<◌, ◌≤◌, Bool, true, false, List, length, slice_index, slice_index_or, slice_set}
+use Rattle.std.specs.List.{list_any}
+use Rattle.bs_board.specs.declared.boards.board.Board.{Board}
+use Rattle.bs_board.specs.declared.boards.point.Point.{Point}
+use Rattle.bs_board.specs.declared.boards.snake.Snake.{Snake}
+use Rattle.bs_board.specs.boards.Cell.{is_on_board}
+use Rattle.bs_board.specs.boards.Legal.{is_near}
+use Rattle.bs_rules.specs.Collision.{snake_at}
+use Rattle.bs_rules.specs.Feeding.{food_left, has_head_on}
+use Rattle.bs_batch.specs.declared.layout.Head.{Head}
+use Rattle.bs_batch.specs.Counts.{WritesFood}
+use Rattle.bs_batch.specs.Numbers.{number_of}
+use Rattle.bs_batch.specs.Shown.{HasRoom, ShowsFood, ShowsSeats}
+use Rattle.bs_batch.specs.inner.Collisions.{ShowsJudged}
+
+-- the food under living heads is gone
+pub record HasFoodLeft (b : Board) (head : Head) (food plane bodies : List ℕ) : Type 0 where
+  pub seats : ShowsSeats head plane bodies (record b { food = food_left b.snakes b.food })
+  pub list : ShowsFood head.foods food (food_left b.snakes b.food)
+
+abbrev pub RemovesEaten : List ℕ → Head → List ℕ → List ℕ → Head → List ℕ → List ℕ → Type 0
+RemovesEaten bodies head food plane head' food' plane' =
+    (b : Board) → ShowsSeats head plane bodies b → ShowsFood head.foods food b.food → HasRoom 0 b → length food ≤ 1024
+    → ((cell : ℕ) (d : Point) → cell < length b.food → is_on_board b.width b.height (slice_index_or b.food cell d) ≡ true)
+    → HasFoodLeft b head' food' plane' bodies
