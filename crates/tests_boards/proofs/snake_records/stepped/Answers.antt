@@ -1,4 +1,4 @@
-use Rattle.std.proofs.Common.{[], ◌∙◌, sym, ap, length, arith}
+use Rattle.std.proofs.Common.{rules, [], ◌∙◌, sym, ap, length, arith}
 use Rattle.std.proofs.lemmas.List.{append-nil}
 use Rattle.bs_board.specs.records.Record.{snake_record}
 use Rattle.bs_board.proofs.records.FitSnake.{fit_is_writable}
