@@ -7,9 +7,7 @@ use crate::compare::same_board;
 use crate::texts::{board, board_after, order};
 use bs_board::limits::{LAST_TURN, LONGEST_SIDE, MOST_SNAKES};
 use bs_board::{Board, Direction, Move, Moves, Point, Snake, is_legal};
-use bs_rules::{
-    collide, feed, finish_turn, first_out, move_snake, move_snakes, next_head, turn,
-};
+use bs_rules::{collide, feed, finish_turn, first_out, move_snake, move_snakes, next_head, turn};
 use bs_samples::{holds, no_orders, same};
 use std::alloc::Global;
 use std::test::Fail;

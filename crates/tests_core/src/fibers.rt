@@ -4,8 +4,7 @@ use crate::player::{
     CAP, DoneParts, core_of, finish, hand, play_one, put, put_parts, take_done, take_part,
 };
 use bs_board::{
-    Board, Command, Direction, Mode, Point, Record, Reply, TurnNumber, Word, encode,
-    is_legal,
+    Board, Command, Direction, Mode, Point, Record, Reply, TurnNumber, Word, encode, is_legal,
 };
 use bs_fiber::{
     Contents, Done, Expected, Handles, Input, JobKind, JobName, Moved, Out, Piece, QueuedCommand,
@@ -295,7 +294,9 @@ fn check_pieces(done: &Done<CAP>, expected: &[Piece]) -> Result<(), Fail> {
 }
 
 const FIRST: [u8; 15] = [1, 115, 99, 0, 0, 0, 0, 0, 3, 2, 3, 2, 2, 2, 2];
+
 const SECOND: [u8; 15] = [1, 116, 99, 0, 0, 0, 0, 0, 3, 6, 3, 6, 2, 6, 2];
+
 const THIRD: [u8; 15] = [1, 117, 99, 0, 0, 0, 0, 0, 3, 4, 5, 4, 6, 4, 6];
 
 /// Checks that the first part wrote its two snakes into its block.
