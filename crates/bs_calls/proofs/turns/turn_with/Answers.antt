@@ -11,7 +11,7 @@ returns-clause-value c =
     IfOk-weaker c.finish_turn.result _ (λ next. next ≡ turn_with c.args.bytes.now c.args.rest.now c.args.board)
     (λ next e.
     next_is_turn c.args.bytes.now c.args.rest.now c.args.board _ next _
-    (c.as_slice-2.ensures.value ∙ c.in_ok-moves.ensures ∙ ap (moves_by_seat c.args.bytes.now) c.as_slice.ensures)
+    (c.in_ok-moves.ensures ∙ ap (moves_by_seat c.args.bytes.now) c.as_slice.ensures)
     c.move_board-moved.ensures e)
     c.finish_turn.ensures
 
@@ -21,7 +21,7 @@ returns-clause-legal c =
     (λ next e.
     rw
     (next_is_turn c.args.bytes.now c.args.rest.now c.args.board _ next _
-    (c.as_slice-2.ensures.value ∙ c.in_ok-moves.ensures ∙ ap (moves_by_seat c.args.bytes.now) c.as_slice.ensures)
+    (c.in_ok-moves.ensures ∙ ap (moves_by_seat c.args.bytes.now) c.as_slice.ensures)
     c.move_board-moved.ensures e)
     (turn_with_is_legal c.args.bytes.now c.args.rest.now c.args.board c.requires.legal c.requires.turn))
     c.finish_turn.ensures
