@@ -144,10 +144,15 @@ fn find_job<const CAP: usize>(
 }
 
 /// The place of the first open stay of that row or a later one; the number of open stays if there
-/// is none.
+/// is none. The row itself is looked at first: it is the place while no stay has left.
 fn place_from(rows: &[u32], first: usize) -> usize
     ensures { result ≤ length rows.now }
 {
+    if let Some(row) = rows.get(first) {
+        if *row as usize == first {
+            return first;
+        }
+    }
     match rows.iter().position(|row| *row as usize >= first) {
         Some(place) => place,
         None => rows.len(),

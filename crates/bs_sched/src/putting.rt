@@ -39,9 +39,10 @@ fn keep_spare<const CAP: usize>(spares: &mut Vec<Box<Contents<CAP>>>, spent: Box
 }
 
 impl<const CAP: usize> Core<CAP> {
-    /// Completes a job of the worker, and keeps the memory of its ticket for a later one. The
-    /// journal has room for the event, which `take` reserved.
-    fn complete(&mut self, worker: usize, done: Done<CAP>)
+    /// Completes a job that the worker is known to have out: one that was just taken, say. Takes no
+    /// memory: the journal has room for the event, which `take` reserved. Keeps the memory of the
+    /// ticket for a later one.
+    pub fn put_own(&mut self, worker: usize, done: Done<CAP>)
         requires { IsOwn self.old.games worker done }
         ensures { self.new ≡ core_after CAP self.old (event.Put worker done.entry.input.job) }
     {
@@ -64,7 +65,7 @@ impl<const CAP: usize> Core<CAP> {
         if !self.games.is_own_job(worker, &done) {
             return Err(Stray { done });
         }
-        self.complete(worker, done);
+        self.put_own(worker, done);
         Ok(())
     }
 
@@ -76,7 +77,7 @@ impl<const CAP: usize> Core<CAP> {
         match completed {
             Some(done) => {
                 let taker = done.ticket().worker() as usize;
-                self.complete(taker, done);
+                self.put_own(taker, done);
             }
             None => unreachable!(),
         }

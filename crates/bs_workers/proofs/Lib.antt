@@ -1,3 +1,4 @@
 pub mod AcceptableActs
 pub mod Acted
 pub mod Compared
+pub mod MadeActs

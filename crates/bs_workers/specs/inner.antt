@@ -1,4 +1,5 @@
 -- What private contracts cite, and no public one.
 pub mod Acts
 pub mod Faults
+pub mod Making
 pub mod Run

@@ -160,6 +160,22 @@ fn has_ended<const CAP: usize>(
         && core.is_quiet()
 }
 
+/// Whether the core, whose journal makes these acts, is the result of their run in a core with that
+/// plan and that many blocks.
+pub(crate) fn has_ended_run<const CAP: usize>(
+    core: &Core<CAP>,
+    rows: &[Row],
+    blocks: usize,
+    acts: &[Act],
+) -> bool
+    requires { acts_of core.now.journal ≡ acts.now }
+    ensures { (old : CoreView) → rows.now ≡ old.games.rows → blocks ≡ size old.games.storage.pool
+        → IsTrue result → IsRunOf old acts.now core.now }
+{
+    let _journal = core.journal();
+    has_ended(core, rows, count_admitted(acts), blocks)
+}
+
 /// Whether the core is the result of a run of these acts in a core with that plan and that many
 /// blocks.
 #[tactic(auto, using(crate::proofs::Compared::run_of, crate::proofs::Compared::run_ended))]

@@ -3,6 +3,7 @@
 #![tactic(auto)]
 
 mod act;
+mod alone;
 mod compare;
 mod executor;
 mod fault;

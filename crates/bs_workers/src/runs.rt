@@ -6,6 +6,7 @@ ghost use Rattle.bs_workers.specs.Acts.{are_acceptable, capacity_of_core, opened
 ghost use Rattle.bs_workers.specs.Run.{IsRunOf};
 
 use crate::act::Act;
+use crate::alone::run_alone;
 use crate::compare::{copy_rows, is_run_of};
 use crate::executor::Executor;
 use crate::fault::Run;
@@ -15,6 +16,33 @@ use bs_sched::Core;
 use std::alloc::Global;
 use std::sync::Wait;
 use std::thread::Threads;
+
+/// Runs the jobs on several threads, by an executor, and compares the core with the acts.
+fn run_together<const CAP: usize, R: Threads + Wait + Sync, G: Gate>(
+    rt: &R,
+    alloc: Global,
+    core: Core<CAP>,
+    acts: &[Act],
+    threads: usize,
+    gate: &G,
+) -> Result<Core<CAP>, Run>
+    requires { core
+        ≡ opened_core CAP (size core.games.storage.pool) core.games.workers core.games.rows }
+    ensures { IfOk result (λ done. IsRunOf core.entry acts.now done) }
+{
+    let rows = copy_rows(alloc, &core)?;
+    let blocks = core.counts().size;
+    let workers = core.workers();
+    let own = Worker::new(alloc, threads, workers, 1)?;
+    let executor = Executor::new(alloc, core, workers / threads.max(1))?;
+    executor.work_in_threads(rt, acts, threads, gate);
+    let core = executor.finish(rt, own, gate)?;
+    if is_run_of(&core, rows.as_slice(), blocks, acts) {
+        Ok(core)
+    } else {
+        Err(Run::Broken)
+    }
+}
 
 /// Like `run`, for any acts. An act that the core refuses for a reason other than memory stops the
 /// run with `Broken`.
@@ -30,22 +58,11 @@ pub fn run_any<const CAP: usize, R: Threads + Wait + Sync, G: Gate>(
         ≡ opened_core CAP (size core.games.storage.pool) core.games.workers core.games.rows }
     ensures { IfOk result (λ done. IsRunOf core.entry acts.now done) }
 {
-    let rows = copy_rows(alloc, &core)?;
-    let blocks = core.counts().size;
-    let workers = core.workers();
-    let threads = threads.min(workers);
-    let mut own = Worker::new(alloc, threads, workers, 1)?;
-    let executor = Executor::new(alloc, core, workers / threads.max(1))?;
+    let threads = threads.min(core.workers());
     if threads > 1 {
-        executor.work_in_threads(rt, acts, threads, gate);
+        run_together(rt, alloc, core, acts, threads, gate)
     } else {
-        executor.submit(rt, acts, &mut own, gate);
-    }
-    let core = executor.finish(rt, own, gate)?;
-    if is_run_of(&core, rows.as_slice(), blocks, acts) {
-        Ok(core)
-    } else {
-        Err(Run::Broken)
+        run_alone(rt, alloc, core, acts, threads, gate)
     }
 }
 

@@ -9,7 +9,7 @@ use Rattle.bs_sched.specs.inner.Busy.{IsBusyTable, marked}
 use Rattle.bs_sched.proofs.BusyTable.{put_marks}
 use Rattle.bs_sched.proofs.JobsOut.{one_less_out}
 use Rattle.bs_sched.proofs.Journal.{journaled_after}
-use Rattle.bs_sched.proofs.cores.Core.complete.Goals as goal
+use Rattle.bs_sched.proofs.cores.Core.put_own.Goals as goal
 
 pub invariant_of-self : goal.invariant_of-self
 invariant_of-self g c =

@@ -2,7 +2,7 @@
 use Rattle.std.proofs.Common.{◌∙◌}
 use Rattle.bs_pool.specs.Ledger.{size}
 use Rattle.bs_workers.proofs.Compared.{rows_fresh}
-use Rattle.bs_workers.proofs.runs.run_any.Goals as goal
+use Rattle.bs_workers.proofs.runs.run_together.Goals as goal
 
 pub returns-then-is_run_of : goal.returns-then-is_run_of
 returns-then-is_run_of g c =

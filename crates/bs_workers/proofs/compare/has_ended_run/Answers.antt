@@ -1,0 +1,10 @@
+-- A core that has ended and made the acts is the result of the run.
+use Rattle.std.proofs.Common.{ap, sym, ◌∙◌}
+use Rattle.bs_workers.proofs.Compared.{run_of}
+use Rattle.bs_workers.proofs.compare.has_ended_run.Goals as goal
+
+pub returns : goal.returns
+returns g c =
+    λ old same many ended.
+    run_of g.row.CAP c.args.rows.now c.count_admitted.result c.args.blocks c.args.acts.now old c.args.core.now c.journal-journal.ensures.apart
+    (c.has_ended.ensures.0 ended) c.count_admitted.ensures c.requires same many

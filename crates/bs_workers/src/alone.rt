@@ -1,0 +1,218 @@
+//! A run on the calling thread alone. Nothing else has the core, so what each call does to it is
+//! known: the acts need no comparison, and of the results only those of parts are compared, which
+//! come out of a tally.
+ghost use Rattle.std.specs.Prelude.{◌≡◌, ◌≤◌, ◌∷◌, [], IfOk, OnOk};
+ghost use Rattle.bs_fiber.specs.Tickets.{IsFresh, names_of};
+ghost use Rattle.bs_fiber.specs.PartOf.{part_of};
+ghost use Rattle.bs_pool.specs.Ledger.{size};
+ghost use Rattle.bs_sched.specs.Core.{opened_core};
+ghost use Rattle.bs_workers.specs.Run.{IsRunOf};
+ghost use Rattle.bs_workers.specs.inner.Making.{Makes};
+ghost use Rattle.bs_workers.specs.declared.act.Act.TheVariants as act;
+
+use crate::act::Act;
+use crate::compare::{copy_rows, has_ended_run};
+use crate::fault::Run;
+use crate::gate::Gate;
+use arrayvec::ArrayVec;
+use bs_board::Row;
+use bs_counter::{Finish, PartKey};
+use bs_fiber::{Done, Handles, Ticket, work};
+use bs_sched::{Admit, Core, Leave, Taken};
+use std::alloc::Global;
+use std::sync::Wait;
+
+/// A core, and the thread that makes its acts and runs its jobs.
+#[derive(Drop)]
+pub(crate) struct Alone<'a, const CAP: usize, R, G> {
+    rt: &'a R,
+    alloc: Global,
+    core: Core<CAP>,
+    /// The number of the thread, which is passed to the `Gate`.
+    thread: usize,
+    /// The worker in the core.
+    worker: usize,
+    gate: &'a G,
+}
+
+impl<const CAP: usize, R: Wait, G: Gate> Alone<'_, CAP, R, G> {
+    /// Runs a job that was just taken.
+    #[inline(always)]
+    fn run_job(&self, ticket: Ticket<CAP>) -> Result<Done<CAP>, Run>
+        requires { IsFresh ticket }
+        ensures input { IfOk result (λ done. done.input ≡ ticket.entry.input) }
+        ensures frames { IfOk result (λ done. names_of done.frames ≡ names_of ticket.entry.frames) }
+    {
+        if !self.gate.at(self.thread, ticket.job()) {
+            return Err(Run::Broken);
+        }
+        match work(self.alloc, ticket) {
+            Ok(done) => Ok(done),
+            Err(_) => Err(Run::Memory),
+        }
+    }
+
+    /// Completes all parts of a move.
+    fn complete_move(&mut self, parts: ArrayVec<Option<Done<CAP>>, 4>) -> Result<(), Run>
+        ensures made { OnOk result (Makes [] self.old.core self.new.core) }
+        ensures worker { self.new.worker ≡ self.old.worker }
+    {
+        match self.core.put_parts(parts) {
+            Ok(()) => Ok(()),
+            Err(_) => Err(Run::Broken),
+        }
+    }
+
+    /// Finishes a part; after the last one of its move, completes all of them.
+    #[tactic(auto, using(crate::proofs::MadeActs::makes_none))]
+    #[inline(always)]
+    fn finish(&mut self, key: PartKey<Done<CAP>>, done: Done<CAP>) -> Result<(), Run>
+        requires { part_of done.input ≡ key.part }
+        ensures made { OnOk result (Makes [] self.old.core self.new.core) }
+        ensures worker { self.new.worker ≡ self.old.worker }
+    {
+        match key.finish(done) {
+            Finish::More(spent) => {
+                drop(spent);
+                Ok(())
+            }
+            Finish::Last(parts) => self.complete_move(parts),
+        }
+    }
+
+    /// Takes the next job, runs it and completes it. Returns false if there is none.
+    #[inline(always)]
+    fn step(&mut self) -> Result<bool, Run>
+        requires { self.old.worker ≤ self.old.core.games.workers }
+        ensures made { OnOk result (Makes [] self.old.core self.new.core) }
+        ensures worker { self.new.worker ≡ self.old.worker }
+    {
+        match self.core.take(self.alloc, self.worker)? {
+            Taken::Job(ticket) => {
+                let done = self.run_job(ticket)?;
+                self.core.put_own(self.worker, done);
+                Ok(true)
+            }
+            Taken::Part(ticket, key) => {
+                let done = self.run_job(ticket)?;
+                self.finish(key, done)?;
+                Ok(true)
+            }
+            Taken::Nothing => Ok(false),
+            Taken::Busy => Err(Run::Broken),
+            Taken::Failed => Err(Run::Broken),
+        }
+    }
+
+    /// Answers all commands that are queued.
+    fn answer_all(&mut self) -> Result<(), Run>
+        requires { self.old.worker ≤ self.old.core.games.workers }
+        ensures made { OnOk result (Makes [] self.old.core self.new.core) }
+        ensures worker { self.new.worker ≡ self.old.worker }
+    {
+        for _ in self.rt.forever() {
+            if !self.step()? {
+                break;
+            }
+        }
+        Ok(())
+    }
+
+    /// Queues the command for the game of that row.
+    fn hand(&mut self, stay: usize, command: Handles) -> Result<(), Run>
+        ensures made { OnOk result (Makes (act.Hand stay command ∷ []) self.old.core self.new.core) }
+        ensures worker { self.new.worker ≡ self.old.worker }
+    {
+        if stay >= self.core.rows() || !self.core.is_open(stay) {
+            return Err(Run::Broken);
+        }
+        Ok(self.core.hand_handles(stay, command)?)
+    }
+
+    /// Admits a game. If the acts are acceptable, the core refuses it only when memory runs out.
+    fn admit(&mut self, row: Row) -> Result<(), Run>
+        ensures made { OnOk result (Makes (act.Admit row ∷ []) self.old.core self.new.core) }
+        ensures worker { self.new.worker ≡ self.old.worker }
+    {
+        match self.core.admit(self.alloc, row) {
+            Ok(_) => Ok(()),
+            Err(Admit::Memory) => Err(Run::Memory),
+            Err(_) => Err(Run::Broken),
+        }
+    }
+
+    /// Dismisses the game of that row, which has nothing left to do.
+    fn leave(&mut self, stay: usize) -> Result<(), Run>
+        ensures made { OnOk result (Makes (act.Leave stay ∷ []) self.old.core self.new.core) }
+        ensures worker { self.new.worker ≡ self.old.worker }
+    {
+        if stay >= self.core.rows() {
+            return Err(Run::Broken);
+        }
+        match self.core.leave(self.alloc, stay) {
+            Ok(()) => Ok(()),
+            Err(Leave::Memory) => Err(Run::Memory),
+            Err(_) => Err(Run::Broken),
+        }
+    }
+
+    /// Makes the act. Before a game leaves, all commands are answered.
+    fn make(&mut self, next: &Act) -> Result<(), Run>
+        requires { self.old.worker ≤ self.old.core.games.workers }
+        ensures made { OnOk result (Makes (next.now ∷ []) self.old.core self.new.core) }
+        ensures worker { self.new.worker ≡ self.old.worker }
+    {
+        match next {
+            Act::Hand(stay, command) => self.hand(*stay, Handles::new(command)?),
+            Act::Admit(row) => self.admit(row.copy(self.alloc)?),
+            Act::Leave(stay) => {
+                self.answer_all()?;
+                self.leave(*stay)
+            }
+        }
+    }
+
+    /// Makes the acts in order, and answers all commands.
+    fn make_all(&mut self, acts: &[Act]) -> Result<(), Run>
+        requires { self.old.worker ≤ self.old.core.games.workers }
+        ensures { OnOk result (Makes acts.now self.old.core self.new.core) }
+    {
+        for next in acts {
+            self.make(next)?;
+        }
+        self.answer_all()
+    }
+}
+
+/// Like `run_any`, on the calling thread alone, which has that number.
+pub(crate) fn run_alone<const CAP: usize, R: Wait, G: Gate>(
+    rt: &R,
+    alloc: Global,
+    core: Core<CAP>,
+    acts: &[Act],
+    thread: usize,
+    gate: &G,
+) -> Result<Core<CAP>, Run>
+    requires { core
+        ≡ opened_core CAP (size core.games.storage.pool) core.games.workers core.games.rows }
+    ensures { IfOk result (λ done. IsRunOf core.entry acts.now done) }
+{
+    let rows = copy_rows(alloc, &core)?;
+    let blocks = core.counts().size;
+    let worker = core.workers();
+    let mut alone = Alone {
+        rt,
+        alloc,
+        core,
+        thread,
+        worker,
+        gate,
+    };
+    alone.make_all(acts)?;
+    let Alone { core, .. } = alone;
+    if has_ended_run(&core, rows.as_slice(), blocks, acts) {
+        Ok(core)
+    } else {
+        Err(Run::Broken)
+    }
+}
