@@ -1,6 +1,6 @@
 -- The result of a run: every act was made in order, and every command was answered, in each stay as
 -- if the stay were alone.
-use Rattle.std.specs.Prelude.{◌≡◌, ℕ, ◌+◌, ◌<◌, true, false, List, ◌++◌, length, map, Option, Some, None}
+use Rattle.std.specs.Prelude.{◌≡◌, ℕ, ◌<◌, true, false, List, ◌++◌, length, map, Option, Some, None}
 use Rattle.std.specs.List.{filter_map, list_all}
 use Rattle.bs_board.specs.plans.Plan.{GameRow}
 use Rattle.bs_pool.specs.Ledger.{size}

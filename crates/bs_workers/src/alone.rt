@@ -2,10 +2,11 @@
 //! known: the acts need no comparison, and of the results only those of parts are compared, which
 //! come out of a tally.
 ghost use Rattle.std.specs.Prelude.{◌≡◌, ◌≤◌, ◌∷◌, [], IfOk, OnOk};
-ghost use Rattle.bs_fiber.specs.Tickets.{IsFresh, names_of};
+ghost use Rattle.bs_fiber.specs.Tickets.{IsFresh};
 ghost use Rattle.bs_fiber.specs.PartOf.{part_of};
 ghost use Rattle.bs_pool.specs.Ledger.{size};
 ghost use Rattle.bs_sched.specs.Core.{opened_core};
+ghost use Rattle.bs_sched.specs.Putting.{IsOwn};
 ghost use Rattle.bs_workers.specs.Run.{IsRunOf};
 ghost use Rattle.bs_workers.specs.inner.Making.{Makes};
 ghost use Rattle.bs_workers.specs.declared.act.Act.TheVariants as act;
@@ -36,18 +37,22 @@ pub(crate) struct Alone<'a, const CAP: usize, R, G> {
 }
 
 impl<const CAP: usize, R: Wait, G: Gate> Alone<'_, CAP, R, G> {
-    /// Runs a job that was just taken.
+    /// Runs a Begin or a Join that was just taken, and completes it.
     #[inline(always)]
-    fn run_job(&self, ticket: Ticket<CAP>) -> Result<Done<CAP>, Run>
-        requires { IsFresh ticket }
-        ensures input { IfOk result (λ done. done.input ≡ ticket.entry.input) }
-        ensures frames { IfOk result (λ done. names_of done.frames ≡ names_of ticket.entry.frames) }
+    fn run_job(&mut self, ticket: Ticket<CAP>) -> Result<(), Run>
+        requires fresh { IsFresh ticket }
+        requires own { IsOwn self.old.core.games self.old.worker ticket }
+        ensures made { OnOk result (Makes [] self.old.core self.new.core) }
+        ensures worker { self.new.worker ≡ self.old.worker }
     {
         if !self.gate.at(self.thread, ticket.job()) {
             return Err(Run::Broken);
         }
         match work(self.alloc, ticket) {
-            Ok(done) => Ok(done),
+            Ok(done) => {
+                self.core.put_own(self.worker, done);
+                Ok(())
+            }
             Err(_) => Err(Run::Memory),
         }
     }
@@ -80,6 +85,23 @@ impl<const CAP: usize, R: Wait, G: Gate> Alone<'_, CAP, R, G> {
         }
     }
 
+    /// Runs a part that was just taken, and finishes it.
+    #[inline(always)]
+    fn run_part(&mut self, ticket: Ticket<CAP>, key: PartKey<Done<CAP>>) -> Result<(), Run>
+        requires fresh { IsFresh ticket }
+        requires part { part_of ticket.input ≡ key.part }
+        ensures made { OnOk result (Makes [] self.old.core self.new.core) }
+        ensures worker { self.new.worker ≡ self.old.worker }
+    {
+        if !self.gate.at(self.thread, ticket.job()) {
+            return Err(Run::Broken);
+        }
+        match work(self.alloc, ticket) {
+            Ok(done) => self.finish(key, done),
+            Err(_) => Err(Run::Memory),
+        }
+    }
+
     /// Takes the next job, runs it and completes it. Returns false if there is none.
     #[inline(always)]
     fn step(&mut self) -> Result<bool, Run>
@@ -89,13 +111,11 @@ impl<const CAP: usize, R: Wait, G: Gate> Alone<'_, CAP, R, G> {
     {
         match self.core.take(self.alloc, self.worker)? {
             Taken::Job(ticket) => {
-                let done = self.run_job(ticket)?;
-                self.core.put_own(self.worker, done);
+                self.run_job(ticket)?;
                 Ok(true)
             }
             Taken::Part(ticket, key) => {
-                let done = self.run_job(ticket)?;
-                self.finish(key, done)?;
+                self.run_part(ticket, key)?;
                 Ok(true)
             }
             Taken::Nothing => Ok(false),

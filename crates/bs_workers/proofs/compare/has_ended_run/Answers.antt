@@ -1,5 +1,4 @@
 -- A core that has ended and made the acts is the result of the run.
-use Rattle.std.proofs.Common.{ap, sym, ◌∙◌}
 use Rattle.bs_workers.proofs.Compared.{run_of}
 use Rattle.bs_workers.proofs.compare.has_ended_run.Goals as goal
 
