@@ -1,12 +1,16 @@
 pub mod Alone
 pub mod Bodies
 pub mod Bytes
+pub mod CellCounts
 pub mod Collided
+pub mod Crossings
 pub mod Eliminated
 pub mod FirstOut
 pub mod FoodEaten
 pub mod FoodGone
 pub mod FoodHeads
+pub mod Grown
+pub mod GrownAll
 pub mod Judged
 pub mod Living
 pub mod Moved
@@ -15,6 +19,7 @@ pub mod MovedAt
 pub mod MovedSeat
 pub mod Neighbors
 pub mod Numbers
+pub mod OneSeat
 pub mod Onward
 pub mod Repeated
 pub mod Rooms

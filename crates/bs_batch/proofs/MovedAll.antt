@@ -14,6 +14,7 @@ use Rattle.bs_batch.specs.Directions.{given_by}
 use Rattle.bs_batch.specs.Shown.{HasRoom, ShowsSeats}
 use Rattle.bs_batch.specs.Eliminations.{with_snake}
 use Rattle.bs_batch.specs.inner.Seats.{AreMoved, CanMoveAt, IsMovedAt, MovesAt, moved_by_seat, stepped}
+use Rattle.bs_batch.proofs.MovedAt.{less_room}
 use Rattle.bs_batch.proofs.SoFar.{all_so_far, board_so_far, length_so_far, more_so_far, next_so_far}
 
 abbrev pub step_of : List ℕ → Board → ℕ → Snake → Snake
@@ -40,14 +41,6 @@ none_moved moves head bodies plane b shows room can = record {
   room = λ more e. let all : more ≡ 18 = omega arith in rw all room;
   long = refl;
   none = λ _ seat before _. absurd (omega arith);
-}
-
-less : (b : Board) (more fewer : ℕ) → fewer ≤ more → HasRoom more b → HasRoom fewer b
-less b more fewer low room = record {
-  narrow = room.narrow;
-  early = room.early;
-  bodies = room.bodies;
-  few = λ p. let few = room.few p in omega arith;
 }
 
 neither : (a b : Bool) → (a || b) ≡ false → (a ≡ false) × (b ≡ false)
@@ -85,7 +78,7 @@ module _ (moves : List ℕ) (i : ℕ) (b : Board) (within : i < length b.snakes)
       → StoodMoved moves (i + 1) b head' bodies0 bodies' plane' (any || ate)
   one_moved head bodies0 bodies plane head' bodies' plane' given any ate is can stood step =
       let moved_now : IsMovedAt i (slice_index_or moves i 4) now head' bodies bodies' plane' ate =
-      rw (← is) (step now stood.shows (less now (18 - 2 * i) 2 (omega arith) (stood.room (18 - 2 * i) (omega arith))) (can_now bodies0 bodies stood.long can) inside) in
+      rw (← is) (step now stood.shows (less_room now (18 - 2 * i) 2 (omega arith) (stood.room (18 - 2 * i) (omega arith))) (can_now bodies0 bodies stood.long can) inside) in
       record {
         shows = let P : Board → Type 0 = λ c. ShowsSeats head' plane' bodies' c in rw next_board at moved_now.shows;
         room = λ more e. let P : Board → Type 0 = λ c. HasRoom more c in rw next_board at (moved_now.room more (stood.room (more + 2) (omega arith)));
@@ -108,7 +101,7 @@ all_moved moves i b head bodies0 bodies plane any end few stood =
     ap (λ snakes. record b { snakes = snakes }) (all_so_far (step_of moves b) i b.snakes (omega arith)) in
     record {
       shows = let P : Board → Type 0 = λ c. ShowsSeats head plane bodies c in rw all at stood.shows;
-      room = let P : Board → Type 0 = λ c. HasRoom 2 c in rw all at (less (board_so_far (step_of moves b) i b) (18 - 2 * i) 2 (omega arith) (stood.room (18 - 2 * i) (omega arith)));
+      room = let P : Board → Type 0 = λ c. HasRoom 2 c in rw all at (less_room (board_so_far (step_of moves b) i b) (18 - 2 * i) 2 (omega arith) (stood.room (18 - 2 * i) (omega arith)));
       long = stood.long;
       none = λ e seat within. stood.none e seat (omega arith) within;
     }

@@ -4,7 +4,17 @@ ghost use Rattle.std.specs.Prelude.{◌≡◌, ◌≤◌, ◌<◌, slice_index_o
 ghost use Rattle.bs_rules.specs.Elimination.{starved_or_outside};
 ghost use Rattle.bs_batch.specs.Shown.{ChangesBoard, room_of};
 ghost use Rattle.bs_batch.specs.inner.Eliminations.{ChangesSeat, IsFirstCause, starved_or_outside_at};
-ghost use Rattle.bs_batch.specs.inner.Seats.{FeedsSeat, MovesAt, MovesSeat, MovesSeats, RepeatsLast};
+ghost use Rattle.bs_batch.specs.inner.Seats.{
+  FeedsSeat,
+  GrowsAt,
+  GrowsSeat,
+  GrowsSeats,
+  IsStretched,
+  MovesAt,
+  MovesSeat,
+  MovesSeats,
+  RepeatsLast,
+};
 
 use crate::collisions::{Verdict, collide, eliminate};
 use crate::food::{remove_eaten, spawn};
@@ -14,7 +24,7 @@ use crate::layout::{
 };
 use crate::motion::move_body;
 use crate::planes::{FOOD, add_part, at, is_on_board, remove_part};
-use crate::seats::{body_of, count, head_of, room_of};
+use crate::seats::{body_of, count, head_of};
 
 /// The directions and the words of a turn.
 #[derive(Clone, Copy)]
@@ -166,25 +176,58 @@ fn first_out(head: &mut Head, plane: &mut [u8], bodies: &[u16])
     }
 }
 
-/// Grows a living snake of constrictor.
+/// Whether the last two parts of a seat differ.
 #[inline]
-fn grow_seat(seat: &mut Seat, plane: &mut [u8], room: &mut [u16]) {
+fn is_stretched(seat: &Seat, room: &[u16]) -> bool
+    ensures { IsStretched seat.now room.now result }
+{
     let parts = usize::from(seat.parts);
-    if 2 <= parts && parts <= room.len() && room[parts - 1] != room[parts - 2] {
-        repeat_last(seat, plane, room);
+    if parts < 2 {
+        return false;
     }
-    seat.health = FULL_HEALTH;
+    if parts > room.len() {
+        return false;
+    }
+    room[parts - 1] != room[parts - 2]
 }
 
+/// Grows a living snake of constrictor.
+#[inline]
+fn grow_seat(seat: &mut Seat, plane: &mut [u8], room: &mut [u16])
+    ensures { GrowsSeat seat.old room.old plane.old seat.new room.new plane.new }
+{
+    seat.health = FULL_HEALTH;
+    if !is_stretched(seat, room) {
+        return;
+    }
+    repeat_last(seat, plane, room);
+}
+
+/// Grows the snake of a seat, if it lives.
+#[inline]
+fn grow_at(head: &mut Head, plane: &mut [u8], bodies: &mut [u16], seat: usize)
+    requires seat { seat < SEATS }
+    ensures settings { head.new.settings ≡ head.old.settings }
+    ensures board { GrowsAt seat head.old bodies.old plane.old head.new bodies.new plane.new }
+{
+    if head.seats[seat].cause != ALIVE {
+        return;
+    }
+    let row = bodies.len() / SEATS;
+    let from = seat * row;
+    let state = &mut head.seats[seat];
+    let room = &mut bodies[from..from + row];
+    grow_seat(state, plane, room);
+}
+
+/// Grows all living snakes.
 fn grow(head: &mut Head, plane: &mut [u8], bodies: &mut [u16])
     requires seats { head.old.settings.seats ≤ SEATS }
     ensures settings { head.new.settings ≡ head.old.settings }
+    ensures board { GrowsSeats head.old bodies.old plane.old head.new bodies.new plane.new }
 {
-    let settings = head.settings;
-    for seat in 0..usize::from(settings.seats) {
-        if head.seats[seat].cause == ALIVE {
-            grow_seat(&mut head.seats[seat], plane, room_of(bodies, seat));
-        }
+    for seat in 0..usize::from(head.settings.seats) {
+        grow_at(head, plane, bodies, seat);
     }
 }
 
