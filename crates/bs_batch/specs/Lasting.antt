@@ -1,5 +1,5 @@
 -- The boards on which each later turn is exact.
-use Rattle.std.specs.Prelude.{◌≡◌, ℕ, ◌-◌, ◌≤◌, ◌<◌, true, List, length, take, All, None, count_by, sum_by}
+use Rattle.std.specs.Prelude.{◌≡◌, ℕ, ◌-◌, ◌≤◌, true, List, length, take, All, None, count_by, sum_by}
 use Rattle.bs_board.specs.declared.boards.point.Point.{Point}
 use Rattle.bs_board.specs.declared.boards.board.Board.{Board}
 use Rattle.bs_board.specs.declared.boards.snake.Snake.{Snake}
@@ -16,10 +16,10 @@ parts_before_last cell body = count_by (is_same_cell cell) (take (length body - 
 abbrev pub crossings : ℕ → ℕ → List Point → ℕ
 crossings width height body = sum_by (λ cell. parts_before_last cell body - 1) (all_cells width height)
 
--- A body of three parts on one cell has one crossing, and no turn adds one: so a body is never
--- longer than the number of cells and three.
+-- At the start three parts are on one cell, which is one crossing, and no turn adds one to a snake
+-- that lives on. So a body has at most two parts more than the board has cells.
 abbrev pub CrossesLittle : ℕ → ℕ → Snake → Type 0
-CrossesLittle width height s = is_living s ≡ true → crossings width height s.body ≤ 2
+CrossesLittle width height s = is_living s ≡ true → crossings width height s.body ≤ 1
 
 -- a legal board without hazards, whose living bodies hardly cross themselves
 pub record IsLasting (b : Board) : Type 0 where

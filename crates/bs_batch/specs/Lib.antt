@@ -7,4 +7,5 @@ pub mod Living
 pub mod Numbers
 pub mod Shown
 pub mod Steps
+pub mod Turn
 pub mod inner

@@ -193,14 +193,14 @@ fn is_stretched(seat: &Seat, room: &[u16]) -> bool
 
 /// Grows a living snake of constrictor.
 #[inline]
-fn grow_seat(seat: &mut Seat, plane: &mut [u8], room: &mut [u16])
-    ensures { GrowsSeat seat.old room.old plane.old seat.new room.new plane.new }
+fn grow_seat(state: &mut Seat, plane: &mut [u8], room: &mut [u16])
+    ensures { GrowsSeat state.old room.old plane.old state.new room.new plane.new }
 {
-    seat.health = FULL_HEALTH;
-    if !is_stretched(seat, room) {
+    state.health = FULL_HEALTH;
+    if !is_stretched(state, room) {
         return;
     }
-    repeat_last(seat, plane, room);
+    repeat_last(state, plane, room);
 }
 
 /// Grows the snake of a seat, if it lives.

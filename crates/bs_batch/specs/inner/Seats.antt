@@ -96,14 +96,14 @@ moved_by_seat moves b = record b { snakes = map_seats (λ seat s. stepped b (sli
 -- all seats are moved and fed; where none ate, no head is on food
 pub record AreMoved (moves : List ℕ) (b : Board) (head' : Head) (bodies bodies' plane' : List ℕ) (any : Bool) : Type 0 where
   pub shows : ShowsSeats head' plane' bodies' (moved_by_seat moves b)
-  pub room : HasRoom 2 (moved_by_seat moves b)
+  pub room : (more : ℕ) → HasRoom (more + 16) b → HasRoom more (moved_by_seat moves b)
   pub long : length bodies' ≡ length bodies
   pub none : any ≡ false → (seat : ℕ) → seat < length b.snakes
       → eats b.food (moved (wrap_of b) (given_by (slice_index_or moves seat 4)) (snake_at b.snakes seat)) ≡ false
 
 abbrev pub MovesSeats : List ℕ → Head → List ℕ → List ℕ → Head → List ℕ → List ℕ → Bool → Type 0
 MovesSeats moves head bodies plane head' bodies' plane' any =
-    (b : Board) → ShowsSeats head plane bodies b → HasRoom 18 b → ((seat : ℕ) → CanMoveAt bodies b seat) → AreMoved moves b head' bodies bodies' plane' any
+    (b : Board) → ShowsSeats head plane bodies b → HasRoom 16 b → ((seat : ℕ) → CanMoveAt bodies b seat) → AreMoved moves b head' bodies bodies' plane' any
 
 -- whether the last two parts of the seat's snake differ
 abbrev pub IsStretched : Seat → List ℕ → Bool → Type 0

@@ -10,5 +10,5 @@ pub returns-clause-board : goal.returns-clause-board
 returns-clause-board c b shows room can within =
     grows_at c.args.seat c.args.head.now c.args.plane.now c.args.bodies.now b
     (c.args.seat * (length c.args.bodies.now / 8) + length c.args.bodies.now / 8 - c.args.seat * (length c.args.bodies.now / 8))
-    c.grow_seat.new.seat c.grow_seat.new.room c.grow_seat.new.plane c.requires.seat shows room can within (omega arith) c.if-head-seat-ne-ALIVE.false
+    c.grow_seat.new.state c.grow_seat.new.room c.grow_seat.new.plane c.requires.seat shows room can within (omega arith) c.if-head-seat-ne-ALIVE.false
     c.grow_seat.ensures c.grow_seat.auto.room

@@ -11,7 +11,7 @@ loop-seat-preserved c = record {
   board = λ b shows room can.
       one_moved c.args.moves.now c.loop-seat.seat b (omega (arith, c.loop-seat-test.true, c.from-seat-end.ensures, shows.settings.seats))
       (omega (arith, c.loop-seat-test.true, c.from-seat-end.ensures, c.requires.seats)) c.loop-seat.head c.args.bodies.now c.loop-seat.bodies c.loop-seat.plane
-      c.move_at-any.new.head c.move_at-any.new.bodies c.move_at-any.new.plane c.given_to-given.result c.loop-seat.any c.move_at-any.result c.given_to-given.ensures
+      c.move_at-any.new.head c.move_at-any.new.bodies c.move_at-any.new.plane c.given_to-given.result c.loop-seat.any c.move_at-any.result c.given_to-given.ensures room
       (can c.loop-seat.seat) (c.loop-seat.invariant.board b shows room can) c.move_at-any.ensures.board;
 }
 
