@@ -7,6 +7,9 @@ pub mod FirstOut
 pub mod FoodEaten
 pub mod FoodGone
 pub mod FoodHeads
+pub mod FoodMissing
+pub mod FoodPlaced
+pub mod FreeRows
 pub mod Judged
 pub mod Living
 pub mod Moved
