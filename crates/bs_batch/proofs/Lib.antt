@@ -9,6 +9,9 @@ pub mod FirstOut
 pub mod FoodEaten
 pub mod FoodGone
 pub mod FoodHeads
+pub mod FoodMissing
+pub mod FoodPlaced
+pub mod FreeRows
 pub mod Grown
 pub mod GrownAll
 pub mod Judged
