@@ -2,7 +2,7 @@
 use Rattle.std.proofs.Common.{◌≡◌, ℕ, zero, suc, ◌+◌, ◌-◌, ◌*◌, ◌≤◌, ◌<◌, Bool, true, false, cond, ◌||◌, ◌&&◌, List, [], ◌∷◌, ◌++◌, length, map, All, get_or, sum_by, count_by, refl, sym, ap, ◌∙◌, arith, inl, inr, pos, nat_abs, length-append}
 use Rattle.std.specs.List.{flat_map, list_any, range_with_len}
 use Rattle.std.proofs.lemmas.Bool.{cases_Bool, cases_eq, false≢true}
-use Rattle.std.proofs.lemmas.Grind.{list_any-append}
+use Rattle.std.proofs.lemmas.List.Folds.{list_any-append}
 use Rattle.std.proofs.lemmas.List.{length-map}
 use Rattle.std.proofs.lemmas.List.FromFn.{length-range_with_len}
 use Rattle.std.proofs.lemmas.List.Elements.{All-head, All-tail}
@@ -90,7 +90,8 @@ in_all_cells width height p on =
     let at = stands_at width height p on in
     let e : point_at (nat_abs p.x) (nat_abs p.y) ≡ p =
     ap (λ x. record { x = x; y = pos (nat_abs p.y) }) (sym at.x_is) ∙ ap (λ y. record { x = p.x; y = y }) (sym at.y_is) in
-    in_rows (λ q. is_same_cell q p) width 0 height (nat_abs p.x) (nat_abs p.y) (omega arith) at.y_fits at.x_fits
+    let y_fits = at.y_fits in
+    in_rows (λ q. is_same_cell q p) width 0 height (nat_abs p.x) (nat_abs p.y) (omega arith) (omega arith) at.x_fits
     ((same_cell (point_at (nat_abs p.x) (nat_abs p.y)) p).1 e)
 
 length_rows : (width a n : ℕ) → length (flat_map (row_of_cells width) (range_with_len a n)) ≡ width * n

@@ -5,6 +5,7 @@ pub mod CellCounts
 pub mod Collided
 pub mod Crossings
 pub mod Eliminated
+pub mod FedAll
 pub mod FirstOut
 pub mod FoodEaten
 pub mod FoodGone
@@ -15,6 +16,8 @@ pub mod FreeRows
 pub mod Grown
 pub mod GrownAll
 pub mod Judged
+pub mod JudgedRoom
+pub mod LastingBoards
 pub mod Living
 pub mod Moved
 pub mod MovedAll
@@ -25,9 +28,12 @@ pub mod Numbers
 pub mod OneSeat
 pub mod Onward
 pub mod Repeated
+pub mod Replenished
 pub mod Rooms
 pub mod SeatWrites
 pub mod Shown
 pub mod SoFar
 pub mod Steps
+pub mod Survivors
 pub mod Torus
+pub mod Turned

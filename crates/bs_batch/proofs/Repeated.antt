@@ -21,7 +21,7 @@ use Rattle.bs_batch.proofs.Bytes.{same_bytes}
 use Rattle.bs_batch.proofs.SeatWrites.{food_at_most}
 use Rattle.bs_batch.proofs.Shown.{head_near}
 
-one_at_most : (b : Bool) → cond {A = ℕ} b 1 0 ≤ 1
+pub one_at_most : (b : Bool) → cond {A = ℕ} b 1 0 ≤ 1
 one_at_most true = omega arith
 one_at_most false = omega arith
 

@@ -20,16 +20,16 @@ pub record ShowsGame (head : Head) (food plane bodies : List ℕ) (b : Board) : 
 
 -- lists with room for food on each cell, and for a body of four parts more than there are cells
 pub record HasLists (food bodies : List ℕ) (b : Board) : Type 0 where
-  pub food : b.width * b.height ≤ length food
+  pub cells : b.width * b.height ≤ length food
   pub few : length food ≤ 1024
-  pub bodies : b.width * b.height + 4 ≤ length bodies / 8
+  pub long : b.width * b.height + 4 ≤ length bodies / 8
   pub small : length bodies < 65536
 
 -- a direction for each seat by its byte, straight on where there is none, and words; neither food
 -- nor hazards are given
 pub record AreOrders (moves words : List ℕ) (b : Board) (orders : Orders) : Type 0 where
-  pub moves : (seat : ℕ) → seat < length b.snakes → given_to orders.moves (snake_at b.snakes seat).id ≡ given_by (slice_index_or moves seat 4)
-  pub words : orders.words ≡ words
+  pub directions : (seat : ℕ) → seat < length b.snakes → given_to orders.moves (snake_at b.snakes seat).id ≡ given_by (slice_index_or moves seat 4)
+  pub given : orders.words ≡ words
   pub food : orders.food ≡ None
   pub hazards : orders.hazards ≡ None
 

@@ -5,3 +5,4 @@ pub mod Food
 pub mod FreeCells
 pub mod Seats
 pub mod Steps
+pub mod Turns

@@ -15,6 +15,8 @@ ghost use Rattle.bs_batch.specs.inner.Seats.{
   MovesSeats,
   RepeatsLast,
 };
+ghost use Rattle.bs_batch.specs.Turn.{PlaysTurn};
+ghost use Rattle.bs_batch.specs.inner.Turns.{EndsTurn, MovesAndFeeds, Replenishes};
 
 use crate::collisions::{Verdict, collide, eliminate};
 use crate::food::{remove_eaten, spawn};
@@ -89,6 +91,7 @@ fn feed_seat(seat: &mut Seat, plane: &mut [u8], room: &mut [u16], head: u16) -> 
 fn move_at(head: &mut Head, plane: &mut [u8], bodies: &mut [u16], seat: usize, given: u8) -> bool
     requires seat { seat < SEATS }
     ensures settings { head.new.settings ≡ head.old.settings }
+    ensures foods { head.new.foods ≡ head.old.foods }
     ensures board { MovesAt seat given head.old bodies.old plane.old head.new bodies.new plane.new result }
 {
     if head.seats[seat].cause != ALIVE {
@@ -118,6 +121,7 @@ fn given_to(moves: &[u8], seat: usize) -> u8
 fn move_seats(head: &mut Head, plane: &mut [u8], bodies: &mut [u16], moves: &[u8]) -> bool
     requires seats { head.old.settings.seats ≤ SEATS }
     ensures settings { head.new.settings ≡ head.old.settings }
+    ensures foods { head.new.foods ≡ head.old.foods }
     ensures board { MovesSeats moves.now head.old bodies.old plane.old head.new bodies.new plane.new result }
 {
     let mut any = false;
@@ -150,6 +154,7 @@ fn first_cause(settings: &Settings, health: u8, bodies: &[u16], seat: usize, par
 fn first_out_at(head: &mut Head, plane: &mut [u8], bodies: &[u16], seat: usize)
     requires seat { seat < SEATS }
     ensures settings { head.new.settings ≡ head.old.settings }
+    ensures foods { head.new.foods ≡ head.old.foods }
     ensures board { ChangesSeat starved_or_outside_at seat bodies.now head.old plane.old head.new plane.new }
 {
     let judged = head.seats[seat];
@@ -169,6 +174,7 @@ fn first_out_at(head: &mut Head, plane: &mut [u8], bodies: &[u16], seat: usize)
 fn first_out(head: &mut Head, plane: &mut [u8], bodies: &[u16])
     requires seats { head.old.settings.seats ≤ SEATS }
     ensures settings { head.new.settings ≡ head.old.settings }
+    ensures foods { head.new.foods ≡ head.old.foods }
     ensures board { ChangesBoard starved_or_outside bodies.now head.old plane.old head.new plane.new }
 {
     for seat in 0..usize::from(head.settings.seats) {
@@ -208,6 +214,7 @@ fn grow_seat(state: &mut Seat, plane: &mut [u8], room: &mut [u16])
 fn grow_at(head: &mut Head, plane: &mut [u8], bodies: &mut [u16], seat: usize)
     requires seat { seat < SEATS }
     ensures settings { head.new.settings ≡ head.old.settings }
+    ensures foods { head.new.foods ≡ head.old.foods }
     ensures board { GrowsAt seat head.old bodies.old plane.old head.new bodies.new plane.new }
 {
     if head.seats[seat].cause != ALIVE {
@@ -224,11 +231,63 @@ fn grow_at(head: &mut Head, plane: &mut [u8], bodies: &mut [u16], seat: usize)
 fn grow(head: &mut Head, plane: &mut [u8], bodies: &mut [u16])
     requires seats { head.old.settings.seats ≤ SEATS }
     ensures settings { head.new.settings ≡ head.old.settings }
+    ensures foods { head.new.foods ≡ head.old.foods }
     ensures board { GrowsSeats head.old bodies.old plane.old head.new bodies.new plane.new }
 {
     for seat in 0..usize::from(head.settings.seats) {
         grow_at(head, plane, bodies, seat);
     }
+}
+
+/// Moves and feeds all living snakes, and removes the food that they ate.
+#[inline]
+fn move_and_feed(
+    head: &mut Head,
+    food: &mut [u16],
+    plane: &mut [u8],
+    bodies: &mut [u16],
+    moves: &[u8],
+)
+    requires seats { head.old.settings.seats ≤ SEATS }
+    ensures settings { head.new.settings ≡ head.old.settings }
+    ensures board { MovesAndFeeds moves.now head.old food.old plane.old bodies.old head.new food.new plane.new bodies.new }
+{
+    let any = move_seats(head, plane, bodies, moves);
+    if !any {
+        return;
+    }
+    remove_eaten(head, food, plane, bodies);
+}
+
+/// Grows the living snakes in constrictor; in the other modes adds food.
+#[inline]
+fn replenish(
+    head: &mut Head,
+    food: &mut [u16],
+    plane: &mut [u8],
+    bodies: &mut [u16],
+    words: &[u32],
+)
+    requires high { head.old.settings.height ≤ LARGE_SIDE }
+    requires seats { head.old.settings.seats ≤ SEATS }
+    ensures settings { head.new.settings ≡ head.old.settings }
+    ensures board { Replenishes words.now head.old food.old plane.old bodies.old head.new food.new plane.new bodies.new }
+{
+    if head.settings.mode == CONSTRICTOR {
+        grow(head, plane, bodies);
+        return;
+    }
+    spawn(head, food, plane, words);
+}
+
+/// Raises the turn number, and counts the living snakes.
+#[inline]
+fn end_turn(head: &mut Head)
+    requires seats { head.old.settings.seats ≤ SEATS }
+    ensures board { EndsTurn head.old head.new }
+{
+    head.turn = head.turn.wrapping_add(1);
+    count(head);
 }
 
 /// Plays a turn of a game.
@@ -241,17 +300,11 @@ pub fn step(
 )
     requires high { head.old.settings.height ≤ LARGE_SIDE }
     requires seats { head.old.settings.seats ≤ SEATS }
+    ensures board { PlaysTurn orders.entry.moves.now orders.entry.words.now head.old food.old plane.old bodies.old head.new food.new plane.new bodies.new }
 {
-    if move_seats(head, plane, bodies, orders.moves) {
-        remove_eaten(head, food, plane, bodies);
-    }
+    move_and_feed(head, food, plane, bodies, orders.moves);
     first_out(head, plane, bodies);
     collide(head, plane, bodies);
-    if head.settings.mode == CONSTRICTOR {
-        grow(head, plane, bodies);
-    } else {
-        spawn(head, food, plane, orders.words);
-    }
-    head.turn = head.turn.wrapping_add(1);
-    count(head);
+    replenish(head, food, plane, bodies, orders.words);
+    end_turn(head);
 }
