@@ -136,7 +136,7 @@ module _ (moves : List ℕ) (b : Board) where
       record {
         shows = record {
           seats = let P : Board → Type 0 = λ c. ShowsSeats head'' plane'' bodies' c in rw is at left.seats;
-          list = let P : List Point → Type 0 = λ cells. ShowsFood head''.foods food'' cells in rw left_is at left.list;
+          food = let P : List Point → Type 0 = λ cells. ShowsFood head''.foods food'' cells in rw left_is at left.list;
         };
         room = λ more room. let P : Board → Type 0 = λ c. HasRoom more c in rw is at (room_is more F (are.room more room));
       }
@@ -154,7 +154,7 @@ module _ (moves : List ℕ) (b : Board) where
       record {
         shows = record {
           seats = let P : Board → Type 0 = λ c. ShowsSeats head' plane' bodies' c in rw is at are.shows;
-          list = let P : List Point → Type 0 = λ cells. ShowsFood head'.foods food cells in rw stays at list;
+          food = let P : List Point → Type 0 = λ cells. ShowsFood head'.foods food cells in rw stays at list;
         };
         room = λ more room. let P : Board → Type 0 = λ c. HasRoom more c in rw is at (are.room more room);
       }

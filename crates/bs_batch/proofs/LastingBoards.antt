@@ -35,7 +35,7 @@ use Rattle.bs_batch.proofs.CellCounts.{above_one, all_counted, in_all_cells, len
 use Rattle.bs_batch.proofs.Crossings.{advanced_length}
 use Rattle.bs_batch.proofs.Survivors.{left, length_left, survivors}
 
-sides : (n : ℕ) → is_side n ≡ true → (3 ≤ n) × (n ≤ 25)
+pub sides : (n : ℕ) → is_side n ≡ true → (3 ≤ n) × (n ≤ 25)
 sides n h = let both = and_parts _ _ h in (leb-true 3 n both.0, leb-true n 25 both.1)
 
 all_parts : (P : Point → Type 0) (body : List Point) → 1 ≤ length body → P (head_of body) → All P (drop 1 body) → All P body

@@ -4,6 +4,7 @@ pub mod Bytes
 pub mod CellCounts
 pub mod Collided
 pub mod Crossings
+pub mod EachGame
 pub mod Eliminated
 pub mod FedAll
 pub mod FirstOut
@@ -33,6 +34,7 @@ pub mod Rooms
 pub mod SeatWrites
 pub mod Shown
 pub mod SoFar
+pub mod Stepping
 pub mod Steps
 pub mod Survivors
 pub mod Torus

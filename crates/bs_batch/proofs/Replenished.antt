@@ -35,10 +35,10 @@ fed_by Wrapped orders words b other w f = nothing_given orders words b w f
 pub has_grown : (orders : Orders) (b : Board) (mode : ℕ) (head' : Head) (food bodies plane' bodies' : List ℕ) → mode ≡ mode_byte b.mode → mode ≡ 2
     → AreGrown b head' bodies bodies' plane' → ShowsFood head'.foods food b.food → ShowsBoard head' food plane' bodies' (replenished b.mode orders b)
 has_grown orders b mode head' food bodies plane' bodies' byte two are list =
-    rw (grows_by b.mode orders b (sym byte ∙ two)) (record { seats = are.shows; list = list })
+    rw (grows_by b.mode orders b (sym byte ∙ two)) (record { seats = are.shows; food = list })
 
 pub has_food : (orders : Orders) (words : List ℕ) (b : Board) (mode : ℕ) (head' : Head) (food food' plane' bodies : List ℕ) → mode ≡ mode_byte b.mode
     → (mode ≡ 2 → ⊥) → orders.words ≡ words → orders.food ≡ None → HasSpawned (spawned words b) food head' food' plane' bodies
     → ShowsBoard head' food' plane' bodies (replenished b.mode orders b)
 has_food orders words b mode head' food food' plane' bodies byte other w f has =
-    rw (fed_by b.mode orders words b (λ two. other (byte ∙ two)) w f) (record { seats = has.seats; list = has.list })
+    rw (fed_by b.mode orders words b (λ two. other (byte ∙ two)) w f) (record { seats = has.seats; food = has.list })

@@ -28,7 +28,8 @@ use Rattle.bs_rules.proofs.TurnLegal.{turn_is_legal}
 use Rattle.bs_batch.specs.declared.layout.Head.{Head}
 use Rattle.bs_batch.specs.Directions.{given_by}
 use Rattle.bs_batch.specs.Lasting.{CrossesLittle, IsLasting}
-use Rattle.bs_batch.specs.Turn.{AreOrders, IsPlayed, ShowsGame}
+use Rattle.bs_batch.specs.Shown.{ShowsGame}
+use Rattle.bs_batch.specs.Turn.{AreOrders, IsPlayed}
 use Rattle.bs_batch.specs.inner.Turns.{moved_each}
 use Rattle.bs_batch.proofs.Crossings.{no_more_crossings}
 use Rattle.bs_batch.proofs.Survivors.{Survives, left, length_left, survives_grown, survivors}

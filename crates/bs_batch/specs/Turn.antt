@@ -1,22 +1,14 @@
 -- A turn of a game in memory.
-use Rattle.std.specs.Prelude.{◌≡◌, ℕ, ◌+◌, ◌*◌, ◌/◌, ◌<◌, ◌≤◌, List, length, cond, count_by, None, slice_index_or}
+use Rattle.std.specs.Prelude.{◌≡◌, ℕ, ◌+◌, ◌*◌, ◌/◌, ◌<◌, ◌≤◌, List, length, None, slice_index_or}
 use Rattle.bs_board.specs.declared.boards.board.Board.{Board}
 use Rattle.bs_board.specs.declared.limits.TheConstants.{LAST_TURN}
-use Rattle.bs_board.specs.boards.Over.{is_living, is_over}
 use Rattle.bs_board.specs.commands.Orders.{Orders, given_to}
 use Rattle.bs_rules.specs.Collision.{snake_at}
 use Rattle.bs_rules.specs.Turn.{turn_of}
 use Rattle.bs_batch.specs.declared.layout.Head.{Head}
 use Rattle.bs_batch.specs.Directions.{given_by}
 use Rattle.bs_batch.specs.Lasting.{IsLasting}
-use Rattle.bs_batch.specs.Shown.{ShowsFood, ShowsSeats}
-
--- the memory of a game shows a board
-pub record ShowsGame (head : Head) (food plane bodies : List ℕ) (b : Board) : Type 0 where
-  pub seats : ShowsSeats head plane bodies b
-  pub list : ShowsFood head.foods food b.food
-  pub living : head.living ≡ count_by is_living b.snakes
-  pub over : head.over ≡ cond (is_over b) 1 0
+use Rattle.bs_batch.specs.Shown.{ShowsGame}
 
 -- lists with room for food on each cell, and for a body of four parts more than there are cells
 pub record HasLists (food bodies : List ℕ) (b : Board) : Type 0 where

@@ -1,5 +1,9 @@
 //! Large games side by side. Game i has the i-th piece of each other list.
 
+ghost use Rattle.std.specs.Prelude.{◌≡◌, ℕ, ◌<◌, length, slice_index_or};
+ghost use Rattle.bs_batch.specs.declared.layout.LargeGame.{LargeGame as AnyGame};
+ghost use Rattle.bs_batch.specs.Games.{StepsLarge, piece_of, words_of};
+
 use crate::layout::{LARGE_SIDE, LargeGame, Place, is_fit};
 use crate::lists::{list_body, list_food};
 use crate::loading::{Misfit, is_within, load, refuse};
@@ -7,21 +11,33 @@ use crate::many::{ManyOrders, ManyStarts, cells_of, has_to_start, may_step, orde
 use crate::saving::save;
 use crate::showing::show;
 use crate::starting::{clear, start};
-use crate::turns::step;
+use crate::turns::{Orders, step};
 use bs_board::Board;
 
+/// Plays a turn of one game, if it is not over and is below turn 10,000.
+#[inline]
+fn step_one(game: &mut LargeGame, orders: Orders<'_>)
+    ensures { StepsLarge orders.entry.moves.now orders.entry.words.now game.old game.new }
+{
+    if !may_step(&game.head, LARGE_SIDE) {
+        return;
+    }
+    step(
+        &mut game.head,
+        &mut game.food,
+        &mut game.plane,
+        &mut game.bodies,
+        orders,
+    );
+}
+
 /// Plays a turn in each game that is not over and is below turn 10,000.
-pub fn step_large(games: &mut [LargeGame], orders: &ManyOrders<'_>) {
-    for (number, game) in games.iter_mut().enumerate() {
-        if may_step(&game.head, LARGE_SIDE) {
-            step(
-                &mut game.head,
-                &mut game.food,
-                &mut game.plane,
-                &mut game.bodies,
-                orders_of(orders, number),
-            );
-        }
+pub fn step_large(games: &mut [LargeGame], orders: &ManyOrders<'_>)
+    ensures games { (i : ℕ) (d : AnyGame) → i < length games.old
+        → StepsLarge (piece_of orders.now.moves.now i orders.now.moves_each) (words_of orders.now.words.now i orders.now.words_each) (slice_index_or games.old i d) (slice_index_or games.new i d) }
+{
+    for number in 0..games.len() {
+        step_one(&mut games[number], orders_of(orders, number));
     }
 }
 

@@ -1,6 +1,7 @@
 //! The memory of a game.
 
-ghost use Rattle.std.specs.Prelude.{◌≡◌, ◌≤◌, ◌<◌, IsTrue};
+ghost use Rattle.std.specs.Prelude.{◌≡◌, ◌≤◌, IsTrue};
+ghost use Rattle.bs_batch.specs.Games.{is_fit};
 
 /// The most seats of a game.
 pub const SEATS: usize = 8;
@@ -142,6 +143,7 @@ pub fn is_fit(settings: &Settings, longest: u8) -> bool
     ensures seats { IsTrue result → settings.now.seats ≤ SEATS }
     ensures wide { IsTrue result → settings.now.width ≤ longest }
     ensures high { IsTrue result → settings.now.height ≤ longest }
+    ensures test { result ≡ is_fit longest settings.now }
 {
     settings.mode <= WRAPPED
         && 3 <= settings.width

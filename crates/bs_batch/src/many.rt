@@ -1,6 +1,7 @@
 //! The lists of many games: game i has the i-th piece of each.
 
-ghost use Rattle.std.specs.Prelude.{◌≡◌, ◌≤◌, ◌<◌, IsTrue};
+ghost use Rattle.std.specs.Prelude.{◌≡◌, ◌≤◌, IsTrue};
+ghost use Rattle.bs_batch.specs.Games.{may_step, piece_of, words_of};
 
 use crate::layout::{Cell, Head, LAST_TURN, SEATS, Settings, is_fit};
 use crate::starting::FirstCells;
@@ -34,12 +35,25 @@ pub struct ManyStarts<'a> {
     pub settings: Settings,
 }
 
+/// The first `each` entries; none if there are fewer.
+#[inline]
+fn first_of<T>(list: &[T], each: usize) -> &[T]
+    ensures { result.now ≡ piece_of list.now 0 each }
+{
+    match list.get(..each) {
+        Some(piece) => piece,
+        None => &[],
+    }
+}
+
 /// The piece of that number, of pieces of `each` entries; empty if the list is too short.
 #[inline]
-fn piece<T>(list: &[T], number: usize, each: usize) -> &[T] {
+fn piece<T>(list: &[T], number: usize, each: usize) -> &[T]
+    ensures { result.now ≡ piece_of list.now number each }
+{
     let from = number.saturating_mul(each);
-    match list.get(from..from.saturating_add(each)) {
-        Some(piece) => piece,
+    match list.get(from..) {
+        Some(rest) => first_of(rest, each),
         None => &[],
     }
 }
@@ -56,7 +70,10 @@ pub fn piece_mut(list: &mut [u8], number: usize, each: usize) -> &mut [u8] {
 
 /// The directions and words of the game of that number.
 #[inline]
-pub fn orders_of<'a>(orders: &ManyOrders<'a>, number: usize) -> Orders<'a> {
+pub fn orders_of<'a>(orders: &ManyOrders<'a>, number: usize) -> Orders<'a>
+    ensures moves { result.moves.now ≡ piece_of orders.now.moves.now number orders.now.moves_each }
+    ensures words { result.words.now ≡ words_of orders.now.words.now number orders.now.words_each }
+{
     let words = piece(orders.words, number, orders.words_each);
     let few = words.len().min(MOST_WORDS);
     Orders {
@@ -87,6 +104,7 @@ pub fn has_to_start(first: &ManyStarts<'_>, number: usize) -> bool {
 pub fn may_step(head: &Head, longest: u8) -> bool
     ensures seats { IsTrue result → head.now.settings.seats ≤ SEATS }
     ensures high { IsTrue result → head.now.settings.height ≤ longest }
+    ensures test { result ≡ may_step longest head.now }
 {
     head.over == 0 && head.turn < LAST_TURN && is_fit(&head.settings, longest)
 }

@@ -12,15 +12,14 @@ use Rattle.bs_rules.specs.Turn.{replenished}
 use Rattle.bs_batch.specs.declared.layout.Head.{Head}
 use Rattle.bs_batch.specs.Directions.{given_by}
 use Rattle.bs_batch.specs.Food.{CanSpawn}
-use Rattle.bs_batch.specs.Shown.{HasRoom, ShowsFood, ShowsSeats}
-use Rattle.bs_batch.specs.Turn.{ShowsGame}
+use Rattle.bs_batch.specs.Shown.{HasRoom, ShowsFood, ShowsGame, ShowsSeats}
 use Rattle.bs_batch.specs.inner.Seats.{CanGrowAt, CanMoveAt}
 
 -- The memory shows the seats and the food of a board. Within a turn the number of living snakes may
 -- be older.
-pub record ShowsBoard (head : Head) (food plane bodies : List ℕ) (b : Board) : Type 0 where
+pub record ShowsBoard (head : Head) (cells plane bodies : List ℕ) (b : Board) : Type 0 where
   pub seats : ShowsSeats head plane bodies b
-  pub list : ShowsFood head.foods food b.food
+  pub food : ShowsFood head.foods cells b.food
 
 -- the snakes after a motion by a byte for each seat, before they eat
 abbrev pub moved_each : List ℕ → Board → Board

@@ -7,11 +7,11 @@ pub returns-then-not-any-clause-board : goal.returns-then-not-any-clause-board
 returns-then-not-any-clause-board c b shows room can few on =
     none_eaten c.args.moves.now b c.args.bodies.now c.move_seats-any.new.bodies c.args.food.now c.move_seats-any.new.head c.move_seats-any.new.plane
     c.move_seats-any.result c.if-not-any.true (c.move_seats-any.ensures.board b shows.seats room can)
-    (rw c.move_seats-any.ensures.foods shows.list)
+    (rw c.move_seats-any.ensures.foods shows.food)
 
 pub returns-clause-board : goal.returns-clause-board
 returns-clause-board c b shows room can few on =
     let are = c.move_seats-any.ensures.board b shows.seats room can in
-    let left = c.remove_eaten.ensures.board (moved_by_seat c.args.moves.now b) are.shows (rw c.move_seats-any.ensures.foods shows.list) (are.room 0 room) few on in
+    let left = c.remove_eaten.ensures.board (moved_by_seat c.args.moves.now b) are.shows (rw c.move_seats-any.ensures.foods shows.food) (are.room 0 room) few on in
     some_eaten c.args.moves.now b c.args.bodies.now c.move_seats-any.new.bodies c.move_seats-any.new.head c.remove_eaten.new.head
     c.remove_eaten.new.food c.move_seats-any.new.plane c.remove_eaten.new.plane c.move_seats-any.result are left

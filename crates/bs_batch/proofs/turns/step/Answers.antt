@@ -21,7 +21,7 @@ returns c = record {
       let food1 = c.move_and_feed.new.food in
       let bodies1 = c.move_and_feed.new.bodies in
       let room = has_room_for_turn b lasting early in
-      let ate = c.move_and_feed.ensures.board b (record { seats = shows.seats; list = shows.list }) (less_room b 24 16 (omega arith) room)
+      let ate = c.move_and_feed.ensures.board b (record { seats = shows.seats; food = shows.food }) (less_room b 24 16 (omega arith) room)
       (can_move b lasting early bodies0 food0 lists) lists.few (food_on_board b lasting early) in
       let after = fed (moved_each moves b) in
       let roomy = ate.room 8 (less_room b 24 24 (omega arith) room) in
@@ -29,8 +29,8 @@ returns c = record {
       let roomy1 = first_has_room after 8 roomy in
       let hit = c.collide.ensures.board (starved_or_outside after) first (less_room (starved_or_outside after) 8 0 (omega arith) roomy1) in
       let roomy2 = collided_has_room (starved_or_outside after) 8 roomy1 in
-      let list : ShowsFood c.collide.new.head.foods food1 (left moves b).food = rw (c.collide.ensures.foods, c.first_out.ensures.foods) ate.shows.list in
-      let filled = c.replenish.ensures.board (left moves b) orders (record { seats = hit; list = list }) roomy2
+      let list : ShowsFood c.collide.new.head.foods food1 (left moves b).food = rw (c.collide.ensures.foods, c.first_out.ensures.foods) ate.shows.food in
+      let filled = c.replenish.ensures.board (left moves b) orders (record { seats = hit; food = list }) roomy2
       (can_grow b lasting early bodies0 food0 lists moves bodies1 c.move_and_feed.auto.bodies)
       (can_spawn b lasting early bodies0 food0 lists moves food1 c.move_and_feed.auto.food) given.given given.food in
       let n = next moves words b orders given lasting early in

@@ -1,0 +1,14 @@
+use Rattle.std.proofs.Common.{◌≡◌, ◌<◌, arith, length, sym, ◌∙◌, true, false, rules}
+use Rattle.std.proofs.lemmas.Bool.{false≢true}
+use Rattle.bs_batch.proofs.Stepping.{plays_game}
+use Rattle.bs_batch.proofs.small.step_one.Goals as goal
+
+pub returns : goal.returns
+returns c =
+    let food : length c.args.game.now.food ≡ 121 = search rules in
+    let bodies : length c.args.game.now.bodies ≡ 1000 = search rules in
+    record {
+      plays = plays_game 11 c.args.orders.moves.now c.args.orders.words.now c.args.game.now.head c.args.game.now.food c.args.game.now.plane c.args.game.now.bodies
+          c.step.new.head c.step.new.food c.step.new.plane c.step.new.bodies (omega arith) (omega arith) (omega arith) (omega arith) c.step.ensures.board;
+      stays = λ closed. absurd (false≢true (sym closed ∙ sym c.may_step.ensures.test ∙ c.if-not-may_step.false));
+    }
