@@ -1,6 +1,6 @@
-use Rattle.std.proofs.Common.{◌≡◌, ◌<◌, arith, length, sym, ◌∙◌, true, false, rules}
+use Rattle.std.proofs.Common.{◌≡◌, ◌<◌, arith, length, refl, sym, ◌∙◌, true, false, rules}
 use Rattle.std.proofs.lemmas.Bool.{false≢true}
-use Rattle.bs_batch.proofs.Stepping.{plays_game}
+use Rattle.bs_batch.proofs.Stepping.{plays_game, plays_none}
 use Rattle.bs_batch.proofs.small.step_one.Goals as goal
 
 pub returns : goal.returns
@@ -12,3 +12,10 @@ returns c =
           c.step.new.head c.step.new.food c.step.new.plane c.step.new.bodies (omega arith) (omega arith) (omega arith) (omega arith) c.step.ensures.board;
       stays = λ closed. absurd (false≢true (sym closed ∙ sym c.may_step.ensures.test ∙ c.if-not-may_step.false));
     }
+
+pub returns-then-not-may_step : goal.returns-then-not-may_step
+returns-then-not-may_step c = record {
+  plays = plays_none 11 c.args.orders.moves.now c.args.orders.words.now c.args.game.now.head c.args.game.now.food c.args.game.now.plane c.args.game.now.bodies
+      (sym c.may_step.ensures.test ∙ c.if-not-may_step.true);
+  stays = λ _. refl;
+}
