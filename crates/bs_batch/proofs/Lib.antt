@@ -2,11 +2,13 @@ pub mod Alone
 pub mod Bodies
 pub mod Bytes
 pub mod CellCounts
+pub mod CellOnce
 pub mod Collided
 pub mod Crossings
 pub mod EachGame
 pub mod Eliminated
 pub mod FedAll
+pub mod FirstLasts
 pub mod FirstOut
 pub mod FoodEaten
 pub mod FoodGone

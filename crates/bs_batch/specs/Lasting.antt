@@ -6,7 +6,9 @@ use Rattle.bs_board.specs.declared.boards.snake.Snake.{Snake}
 use Rattle.bs_board.specs.boards.Cell.{is_same_cell}
 use Rattle.bs_board.specs.boards.Legal.{IsLegal}
 use Rattle.bs_board.specs.boards.Over.{is_living}
+use Rattle.bs_board.specs.commands.Setup.{Setup, is_fit_setup}
 use Rattle.bs_food.specs.Free.{all_cells}
+use Rattle.bs_modes.specs.FirstBoard.{first_board}
 
 -- the parts before the last one on a cell
 abbrev pub parts_before_last : Point → List Point → ℕ
@@ -26,3 +28,7 @@ pub record IsLasting (b : Board) : Type 0 where
   pub legal : IsLegal b
   pub plain : b.hazards ≡ None
   pub bodies : All (CrossesLittle b.width b.height) b.snakes
+
+-- the board of a new game without hazards is lasting
+abbrev pub FirstLaw : Type 0
+FirstLaw = (s : Setup) → is_fit_setup s ≡ true → s.hazards ≡ None → IsLasting (first_board s)
