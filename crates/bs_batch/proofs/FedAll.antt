@@ -1,5 +1,5 @@
 -- All seats are moved and fed, and the food that was eaten is gone.
-use Rattle.std.proofs.Common.{◌≡◌, ℕ, zero, suc, ◌+◌, ◌-◌, ◌<◌, ◌≤◌, Bool, true, false, not, ◌&&◌, cond, List, [], ◌∷◌, ◌++◌, length, map, get_or, All, refl, sym, ap, ◌∙◌, arith, inl, inr, length-append}
+use Rattle.std.proofs.Common.{◌≡◌, ℕ, ◌+◌, ◌<◌, ◌≤◌, Bool, true, false, not, ◌&&◌, List, [], ◌∷◌, ◌++◌, length, map, get_or, All, refl, sym, ap, ◌∙◌, arith, inl, inr}
 use Rattle.std.specs.Prelude.{slice_index_or}
 use Rattle.std.specs.List.{enumerate_from, filter, list_any}
 use Rattle.std.proofs.lemmas.Bool.{cases_Bool, cond_both, false≢true}
@@ -7,13 +7,12 @@ use Rattle.std.proofs.lemmas.List.Elements.{All-head, All-tail}
 use Rattle.bs_board.specs.declared.boards.point.Point.{Point}
 use Rattle.bs_board.specs.declared.boards.board.Board.{Board}
 use Rattle.bs_board.specs.declared.boards.snake.Snake.{Snake}
-use Rattle.bs_board.specs.boards.Cell.{head_of, is_same_cell, origin}
+use Rattle.bs_board.specs.boards.Cell.{head_of, is_same_cell}
 use Rattle.bs_board.specs.boards.Over.{is_living}
 use Rattle.bs_board.specs.boards.Wrap.{wrap_of}
 use Rattle.bs_rules.specs.Collision.{map_seats, nobody, snake_at}
 use Rattle.bs_rules.specs.Feeding.{eats, fed, fed_snake, food_left, has_head_on, last_of}
 use Rattle.bs_rules.specs.Motion.{moved}
-use Rattle.bs_rules.proofs.CollisionTest.{same_cell}
 use Rattle.bs_rules.proofs.Seats.{at_seat, length-map_seats}
 use Rattle.bs_batch.specs.declared.layout.Head.{Head}
 use Rattle.bs_batch.specs.Directions.{given_by}

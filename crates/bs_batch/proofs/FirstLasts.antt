@@ -1,14 +1,13 @@
 -- The board of a new game is lasting.
-use Rattle.std.proofs.Common.{◌≡◌, ℕ, ◌+◌, ◌-◌, ◌≤◌, true, cond, List, [], ◌∷◌, length, map, All, get_or, None, count_by, sum_by, arith}
+use Rattle.std.proofs.Common.{◌≡◌, ℕ, ◌+◌, ◌-◌, ◌≤◌, cond, [], ◌∷◌, get_or, count_by, arith}
 use Rattle.std.proofs.lemmas.List.{get_or-map, length-map}
 use Rattle.std.proofs.lemmas.List.Sums.{sum_by-cons, sum_by-le-sum_by}
 use Rattle.bs_board.specs.declared.boards.point.Point.{Point}
 use Rattle.bs_board.specs.boards.Cell.{is_same_cell, origin}
-use Rattle.bs_board.specs.commands.Setup.{Setup, is_fit_setup}
 use Rattle.bs_food.specs.Free.{all_cells}
 use Rattle.bs_modes.specs.FirstBoard.{first_board, first_snake}
 use Rattle.bs_modes.proofs.FirstLegal.{first_board_is_legal}
-use Rattle.bs_batch.specs.Lasting.{CrossesLittle, FirstLaw, crossings, parts_before_last}
+use Rattle.bs_batch.specs.Lasting.{FirstLaw, crossings, parts_before_last}
 use Rattle.bs_batch.proofs.CellOnce.{once_in_all}
 use Rattle.bs_batch.proofs.Repeated.{one_at_most}
 

@@ -1,12 +1,12 @@
 -- A seat whose snake grows.
-use Rattle.std.proofs.Common.{◌≡◌, ℕ, ◌+◌, ◌-◌, ◌*◌, ◌/◌, ◌<◌, ◌≤◌, Bool, true, false, cond, not, ◌&&◌, List, [], ◌∷◌, ◌++◌, length, take, set, get_or, refl, sym, ap, ◌∙◌, arith, inl, inr, eqb, leb, length-take}
+use Rattle.std.proofs.Common.{◌≡◌, ℕ, ◌+◌, ◌-◌, ◌*◌, ◌/◌, ◌<◌, ◌≤◌, true, false, not, List, length, take, set, get_or, refl, sym, ap, ◌∙◌, arith, inl, inr, eqb, leb, length-take}
 use Rattle.std.proofs.lemmas.Bool.{cases_Bool, le-leb}
 use Rattle.std.proofs.lemmas.List.{get_or-map, get_or-take, length-map}
 use Rattle.std.proofs.lemmas.List.Elements.{All-get_or}
 use Rattle.bs_board.specs.declared.boards.point.Point.{Point}
 use Rattle.bs_board.specs.declared.boards.board.Board.{Board}
 use Rattle.bs_board.specs.declared.boards.snake.Snake.{Snake}
-use Rattle.bs_board.specs.boards.Cell.{is_same_cell, origin}
+use Rattle.bs_board.specs.boards.Cell.{origin}
 use Rattle.bs_board.specs.boards.Legal.{is_near}
 use Rattle.bs_board.specs.boards.Over.{is_living}
 use Rattle.bs_modes.specs.Growth.{grown_body, grown_snake, is_stretched, part_from_end}
@@ -16,7 +16,6 @@ use Rattle.bs_batch.specs.declared.layout.Head.{Head}
 use Rattle.bs_batch.specs.declared.layout.Seat.{Seat}
 use Rattle.bs_batch.specs.Numbers.{number_of, numbers_of}
 use Rattle.bs_batch.specs.Shown.{HasBody, HasRoom, ShowsSeats, ShowsSnake, parts_on, seat_at}
-use Rattle.bs_batch.specs.Eliminations.{with_snake}
 use Rattle.bs_batch.specs.inner.Seats.{CanGrowAt, GrowsSeat, IsGrownAt, RepeatsLast, SeatHasRoom, ShowsSeat, repeated}
 use Rattle.bs_batch.proofs.FirstOut.{same_snake, seat_is_out, seat_lives}
 use Rattle.bs_batch.proofs.FoodHeads.{same_numbers}

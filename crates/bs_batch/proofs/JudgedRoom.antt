@@ -1,5 +1,5 @@
 -- Eliminations leave as much room.
-use Rattle.std.proofs.Common.{◌≡◌, ℕ, Bool, ◌+◌, ◌<◌, ◌≤◌, List, [], ◌∷◌, length, map, get_or, sum_by, Option, Some, None, refl, sym, ap, ◌∙◌, arith}
+use Rattle.std.proofs.Common.{◌≡◌, ℕ, Bool, ◌+◌, ◌<◌, ◌≤◌, List, [], ◌∷◌, length, map, sum_by, Option, Some, None, refl, arith}
 use Rattle.std.specs.List.{enumerate_from}
 use Rattle.std.proofs.lemmas.Bool.{cond_both}
 use Rattle.std.proofs.lemmas.List.Sums.{sum_by-cons}
@@ -12,7 +12,7 @@ use Rattle.bs_rules.specs.declared.verdict.Verdict.{Verdict}
 use Rattle.bs_rules.specs.Collision.{collided, collision_verdict, map_seats, nobody, snake_at}
 use Rattle.bs_rules.specs.Elimination.{judged, starved_or_outside, starved_or_outside_snake, starved_or_outside_verdict}
 use Rattle.bs_rules.proofs.Seats.{at_seat, length-map_seats}
-use Rattle.bs_batch.specs.Shown.{HasBody, HasRoom, occupants, parts_on}
+use Rattle.bs_batch.specs.Shown.{HasRoom, parts_on}
 use Rattle.bs_batch.proofs.SoFar.{map_each}
 
 -- the body stays, and no part more is counted

@@ -1,10 +1,10 @@
 -- What a lasting board gives for its turn.
-use Rattle.std.proofs.Common.{◌≡◌, ℕ, ◌+◌, ◌-◌, ◌*◌, ◌/◌, ◌<◌, ◌≤◌, Bool, true, false, not, cond, List, [], ◌∷◌, length, take, drop, get_or, All, MatchOption, Option, Some, None, sum_by, count_by, refl, sym, ap, ◌∙◌, arith, inl, inr, length-take}
+use Rattle.std.proofs.Common.{◌≡◌, ℕ, ◌+◌, ◌-◌, ◌*◌, ◌/◌, ◌<◌, ◌≤◌, Bool, true, false, not, cond, List, [], ◌∷◌, length, take, drop, get_or, All, MatchOption, Option, Some, None, count_by, refl, sym, ap, ◌∙◌, arith, inl, inr, length-take}
 use Rattle.std.specs.Prelude.{slice_index_or}
 use Rattle.std.specs.List.{list_all, list_any}
 use Rattle.std.proofs.lemmas.Bool.{and_parts, cases_Bool, false≢true, leb-true}
 use Rattle.std.proofs.lemmas.List.{take_all}
-use Rattle.std.proofs.lemmas.List.Elements.{All-cons, All-get_or, All-head, All-tail, All-take, All-weaker}
+use Rattle.std.proofs.lemmas.List.Elements.{All-cons, All-head, All-tail, All-take, All-weaker}
 use Rattle.std.proofs.lemmas.List.Sums.{AllPass-from_list_all, sum_by-cons, sum_by-le, sum_by_more}
 use Rattle.bs_board.specs.declared.boards.point.Point.{Point}
 use Rattle.bs_board.specs.declared.boards.board.Board.{Board}
@@ -12,7 +12,7 @@ use Rattle.bs_board.specs.declared.boards.snake.Snake.{Snake}
 use Rattle.bs_board.specs.declared.boards.snake.Cause.{Cause}
 use Rattle.bs_board.specs.declared.boards.snake.Cause.TheVariants.{OutOfHealth, WallCollision, SelfCollision, BodyCollision, HeadCollision, Hazard}
 use Rattle.bs_board.specs.boards.Cell.{are_distinct_cells, head_of, is_on_board, is_same_cell, origin}
-use Rattle.bs_board.specs.boards.Legal.{IsLegal, IsLegalLiving, IsLegalOut, IsLegalSnake, is_head_of, is_near}
+use Rattle.bs_board.specs.boards.Legal.{IsLegalLiving, IsLegalOut, IsLegalSnake, is_head_of, is_near}
 use Rattle.bs_board.specs.boards.Over.{is_living}
 use Rattle.bs_board.specs.boards.Wrap.{is_wrapped}
 use Rattle.bs_board.specs.commands.Setup.{is_side}
@@ -25,9 +25,9 @@ use Rattle.bs_rules.proofs.FoodLeft.{fit_food_left}
 use Rattle.bs_rules.proofs.Movable.{near_from_on_board}
 use Rattle.bs_batch.specs.Food.{CanSpawn}
 use Rattle.bs_batch.specs.Lasting.{CrossesLittle, IsLasting, crossings, parts_before_last}
-use Rattle.bs_batch.specs.Shown.{HasBody, HasRoom, occupants, parts_on}
+use Rattle.bs_batch.specs.Shown.{HasBody, HasRoom, parts_on}
 use Rattle.bs_batch.specs.Turn.{HasLists}
-use Rattle.bs_batch.specs.inner.Seats.{CanGrowAt, CanMove, CanMoveAt}
+use Rattle.bs_batch.specs.inner.Seats.{CanGrowAt, CanMoveAt}
 use Rattle.bs_batch.specs.inner.Turns.{moved_each}
 use Rattle.bs_batch.proofs.Alone.{living_parts}
 use Rattle.bs_batch.proofs.Repeated.{one_at_most}

@@ -1,18 +1,17 @@
 -- The turn of one game of many.
-use Rattle.std.proofs.Common.{◌≡◌, ℕ, ◌+◌, ◌*◌, ◌/◌, ◌<◌, ◌≤◌, Bool, true, false, ◌&&◌, cond, List, [], length, take, drop, min, refl, sym, ap, ◌∙◌, arith, inl, inr, eqb, leb, ltb}
-use Rattle.std.proofs.lemmas.Bool.{cases_lt, eq-eqb, false≢true, le-leb, lt-ltb, leb-true, ltb-true}
+use Rattle.std.proofs.Common.{◌≡◌, ℕ, ◌+◌, ◌*◌, ◌/◌, ◌<◌, ◌≤◌, Bool, true, false, ◌&&◌, cond, List, length, take, min, refl, sym, ap, ◌∙◌, arith, inl, inr, eqb, leb, ltb}
+use Rattle.std.proofs.lemmas.Bool.{cases_lt, eq-eqb, false≢true, le-leb, lt-ltb}
 use Rattle.std.proofs.lemmas.List.{take_all}
 use Rattle.bs_board.specs.declared.boards.board.Board.{Board}
 use Rattle.bs_board.specs.declared.boards.board.Mode.{Mode}
 use Rattle.bs_board.specs.declared.boards.board.Mode.TheVariants.{Standard, Solo, Constrictor, Wrapped}
 use Rattle.bs_board.specs.boards.Over.{is_over}
-use Rattle.bs_board.specs.commands.Orders.{Orders}
 use Rattle.bs_board.specs.records.Record.{mode_byte}
 use Rattle.bs_batch.specs.declared.layout.Head.{Head}
 use Rattle.bs_batch.specs.Games.{PlaysGame, may_step}
 use Rattle.bs_batch.specs.Lasting.{IsLasting}
 use Rattle.bs_batch.specs.Shown.{ShowsGame}
-use Rattle.bs_batch.specs.Turn.{AreOrders, HasLists, IsPlayed, PlaysTurn}
+use Rattle.bs_batch.specs.Turn.{PlaysTurn}
 use Rattle.bs_batch.proofs.LastingBoards.{sides}
 
 known_mode : (mode : Mode) → mode_byte mode ≤ 3

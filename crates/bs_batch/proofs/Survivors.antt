@@ -1,5 +1,5 @@
 -- The snakes that survive a turn.
-use Rattle.std.proofs.Common.{◌≡◌, ℕ, ◌+◌, ◌-◌, ◌<◌, ◌≤◌, Bool, true, false, cond, List, [], ◌∷◌, ◌++◌, length, drop, map, get_or, Contains, Option, Some, None, refl, sym, subst, ap, ◌∙◌, arith, inl, inr}
+use Rattle.std.proofs.Common.{◌≡◌, ℕ, ◌+◌, ◌-◌, ◌<◌, Bool, true, false, List, [], ◌∷◌, ◌++◌, length, get_or, Contains, Option, Some, None, refl, sym, subst, ap, ◌∙◌, arith, inl, inr}
 use Rattle.std.specs.Prelude.{slice_index_or}
 use Rattle.std.proofs.lemmas.Bool.{cond_both, false≢true}
 use Rattle.std.proofs.lemmas.List.{get_or-map, length-map}
@@ -9,7 +9,6 @@ use Rattle.bs_board.specs.declared.boards.board.Board.{Board}
 use Rattle.bs_board.specs.declared.boards.snake.Snake.{Snake}
 use Rattle.bs_board.specs.declared.boards.snake.Cause.TheVariants.{SelfCollision}
 use Rattle.bs_board.specs.boards.Cell.{head_of}
-use Rattle.bs_board.specs.boards.Legal.{EachSeat}
 use Rattle.bs_board.specs.boards.Over.{is_living}
 use Rattle.bs_board.specs.boards.Wrap.{is_wrapped, wrap_of}
 use Rattle.bs_modes.specs.Growth.{grown_body, grown_snake}

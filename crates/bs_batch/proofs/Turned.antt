@@ -1,5 +1,5 @@
 -- A whole turn from its steps.
-use Rattle.std.proofs.Common.{◌≡◌, ℕ, ◌+◌, ◌<◌, ◌≤◌, ◌⊎◌, List, [], ◌∷◌, length, map, get_or, All, Option, Some, None, refl, sym, subst, ap, ◌∙◌, arith, inl, inr, true}
+use Rattle.std.proofs.Common.{◌≡◌, ℕ, ◌+◌, ◌<◌, ◌⊎◌, List, [], ◌∷◌, length, map, get_or, All, Option, None, refl, sym, subst, ap, ◌∙◌, arith, inl, inr}
 use Rattle.std.specs.Prelude.{slice_index_or}
 use Rattle.std.proofs.lemmas.List.{ext_get_or, get_or-map, length-map}
 use Rattle.bs_board.specs.declared.boards.point.Point.{Point}
@@ -9,14 +9,13 @@ use Rattle.bs_board.specs.declared.boards.board.Mode.TheVariants.{Standard, Solo
 use Rattle.bs_board.specs.declared.boards.hazards.Hazards.{Hazards}
 use Rattle.bs_board.specs.declared.boards.snake.Snake.{Snake}
 use Rattle.bs_board.specs.boards.Legal.{IsLegal}
-use Rattle.bs_board.specs.boards.Over.{is_living}
 use Rattle.bs_board.specs.boards.Wrap.{wrap_of}
 use Rattle.bs_board.specs.commands.Orders.{Orders, given_to}
 use Rattle.bs_food.specs.Given.{given}
 use Rattle.bs_food.specs.Spawning.{spawned}
 use Rattle.bs_food.proofs.GivenFood.{given_refed}
 use Rattle.bs_food.proofs.NewFood.{refed_then, spawned_refed}
-use Rattle.bs_modes.specs.Growth.{grown, grown_snake}
+use Rattle.bs_modes.specs.Growth.{grown_snake}
 use Rattle.bs_rules.specs.Collision.{collided, map_seats, nobody, snake_at}
 use Rattle.bs_rules.specs.Elimination.{starved_or_outside}
 use Rattle.bs_rules.specs.Feeding.{fed}
@@ -30,7 +29,6 @@ use Rattle.bs_batch.specs.Directions.{given_by}
 use Rattle.bs_batch.specs.Lasting.{CrossesLittle, IsLasting}
 use Rattle.bs_batch.specs.Shown.{ShowsGame}
 use Rattle.bs_batch.specs.Turn.{AreOrders, IsPlayed}
-use Rattle.bs_batch.specs.inner.Turns.{moved_each}
 use Rattle.bs_batch.proofs.Crossings.{no_more_crossings}
 use Rattle.bs_batch.proofs.Survivors.{Survives, left, length_left, survives_grown, survivors}
 

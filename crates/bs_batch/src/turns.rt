@@ -261,13 +261,7 @@ fn move_and_feed(
 
 /// Grows the living snakes in constrictor; in the other modes adds food.
 #[inline]
-fn replenish(
-    head: &mut Head,
-    food: &mut [u16],
-    plane: &mut [u8],
-    bodies: &mut [u16],
-    words: &[u32],
-)
+fn replenish(head: &mut Head, food: &mut [u16], plane: &mut [u8], bodies: &mut [u16], words: &[u32])
     requires high { head.old.settings.height ≤ LARGE_SIDE }
     requires seats { head.old.settings.seats ≤ SEATS }
     ensures settings { head.new.settings ≡ head.old.settings }

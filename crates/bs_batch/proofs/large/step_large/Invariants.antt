@@ -1,4 +1,4 @@
-use Rattle.std.proofs.Common.{◌≡◌, ℕ, ◌<◌, ◌≤◌, length, get_or}
+use Rattle.std.proofs.Common.{◌≡◌, ℕ, ◌<◌, ◌≤◌, get_or}
 use Rattle.bs_batch.specs.declared.layout.LargeGame.{LargeGame}
 use Rattle.bs_batch.specs.Games.{StepsLarge, piece_of, words_of}
 use Rattle.bs_batch.proofs.large.step_large.Given as goal

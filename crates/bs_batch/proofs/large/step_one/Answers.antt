@@ -1,4 +1,4 @@
-use Rattle.std.proofs.Common.{◌≡◌, ◌<◌, arith, length, refl, sym, ◌∙◌, true, false, rules}
+use Rattle.std.proofs.Common.{◌≡◌, arith, length, refl, sym, ◌∙◌, rules}
 use Rattle.std.proofs.lemmas.Bool.{false≢true}
 use Rattle.bs_batch.proofs.Stepping.{plays_game, plays_none}
 use Rattle.bs_batch.proofs.large.step_one.Goals as goal

@@ -1,4 +1,4 @@
-use Rattle.std.proofs.Common.{◌≡◌, ℕ, ◌<◌, ◌≤◌, length, get_or}
+use Rattle.std.proofs.Common.{◌≡◌, ℕ, ◌<◌, ◌≤◌, get_or}
 use Rattle.bs_batch.specs.declared.layout.SmallGame.{SmallGame}
 use Rattle.bs_batch.specs.Games.{StepsSmall, piece_of, words_of}
 use Rattle.bs_batch.proofs.small.step_small.Given as goal

@@ -1,4 +1,3 @@
-use Rattle.std.proofs.Common.{◌∙◌, arith}
 use Rattle.bs_batch.specs.inner.Seats.{moved_by_seat}
 use Rattle.bs_batch.proofs.FedAll.{none_eaten, some_eaten}
 use Rattle.bs_batch.proofs.turns.move_and_feed.Goals as goal

@@ -1,9 +1,8 @@
-use Rattle.std.proofs.Common.{◌≡◌, ◌<◌, ◌∙◌, ap, arith, length}
-use Rattle.bs_rules.specs.Collision.{collided}
+use Rattle.std.proofs.Common.{arith}
 use Rattle.bs_rules.specs.Elimination.{starved_or_outside}
 use Rattle.bs_rules.specs.Feeding.{fed}
 use Rattle.bs_batch.specs.Shown.{ShowsFood}
-use Rattle.bs_batch.specs.inner.Turns.{ShowsBoard, moved_each}
+use Rattle.bs_batch.specs.inner.Turns.{moved_each}
 use Rattle.bs_batch.proofs.JudgedRoom.{collided_has_room, first_has_room}
 use Rattle.bs_batch.proofs.LastingBoards.{can_grow, can_move, can_spawn, food_on_board, has_room_for_turn}
 use Rattle.bs_batch.proofs.MovedAt.{less_room}
