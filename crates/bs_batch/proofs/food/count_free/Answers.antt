@@ -1,4 +1,4 @@
-use Rattle.std.proofs.Common.{◌≡◌, ◌+◌, ◌∙◌, ap, arith, length, map, count_by}
+use Rattle.std.proofs.Common.{◌∙◌, ap, arith, count_by}
 use Rattle.std.proofs.lemmas.List.Sums.{count_by-le-length}
 use Rattle.bs_food.specs.Free.{row_of_cells}
 use Rattle.bs_batch.specs.inner.FreeCells.{is_zero}

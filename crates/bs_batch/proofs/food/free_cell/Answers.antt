@@ -1,11 +1,6 @@
-use Rattle.std.proofs.Common.{◌≡◌, ◌+◌, ◌*◌, ◌<◌, ◌∙◌, ap, sym, arith, length, map, count_by, get_or}
-use Rattle.std.specs.List.{filter, range_with_len}
-use Rattle.std.proofs.lemmas.List.{length-map}
-use Rattle.std.proofs.lemmas.List.FromFn.{get_or-map-range_with_len, length-map-range_with_len}
-use Rattle.bs_board.specs.boards.Cell.{origin}
-use Rattle.bs_food.specs.Free.{point_at, row_of_cells}
-use Rattle.bs_batch.specs.Numbers.{number_of}
-use Rattle.bs_batch.specs.inner.FreeCells.{IsZeroOf, clear_cells, is_clear, is_zero}
+use Rattle.std.proofs.Common.{◌≡◌, ◌+◌, ◌*◌, ◌<◌, ◌∙◌, ap, sym, arith, count_by}
+use Rattle.bs_food.specs.Free.{row_of_cells}
+use Rattle.bs_batch.specs.inner.FreeCells.{is_zero}
 use Rattle.bs_batch.proofs.FreeRows.{length_more, number_at, zeros}
 use Rattle.bs_batch.proofs.food.free_cell.Goals as goal
 

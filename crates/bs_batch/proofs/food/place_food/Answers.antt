@@ -1,6 +1,5 @@
-use Rattle.std.proofs.Common.{◌≡◌, ◌<◌, ◌∙◌, arith, length, refl}
+use Rattle.std.proofs.Common.{◌≡◌, ◌<◌, arith, length, refl}
 use Rattle.bs_food.specs.Free.{free_cells}
-use Rattle.bs_food.specs.Spawning.{with_one_food}
 use Rattle.bs_batch.proofs.FoodPlaced.{free_count, free_number, new_food_is, places, room_for_one, stays_full}
 use Rattle.bs_batch.proofs.food.place_food.Goals as goal
 use Rattle.bs_batch.proofs.food.place_food.Goals.{else-free-gt0-via-then-free-gt0+else-count-food, else-free-gt0-via-else-free-gt0}
