@@ -54,7 +54,7 @@ zeros byte [] = refl
 zeros byte (p ∷ cells) =
     let rest = zeros byte cells in
     one_more (byte p) (map byte cells)
-    ∙ elim (cases_Bool (is_zero (byte p))) [ | inl clear ↦ rw clear (omega arith) | inr taken ↦ rw taken (omega arith) ]
+    ∙ elim (cases_Bool (is_zero (byte p))) [ inl clear ↦ rw clear (omega arith) | inr taken ↦ rw taken (omega arith) ]
 
 -- and the zero of a number is the clear cell of that number
 pub zero_cell : {X : Type 0} (byte : X → ℕ) (cells : List X) (number column : ℕ) (d : X) → IsZeroOf (map byte cells) number column

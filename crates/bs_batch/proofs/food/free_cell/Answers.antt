@@ -15,7 +15,7 @@ returns-then-left-free c byte has within =
     let column : c.min-column.result ≡ c.column_of.result = omega (arith, at.within, c.row_of-cells.ensures.short, c.min-column.ensures) in
     let place : (i + 1) * 32 + c.column_of.result + 1 ≡ (i + 1) * 32 + (c.column_of.result + 1) = omega arith in
     let number = number_at byte s.width s.height i c.loop-row.left c.args.number c.column_of.result c.row_of-cells.result.now high cells some at
-        (c.loop-row.invariant byte has) in
+    (c.loop-row.invariant byte has) in
     ap (λ n. (i + 1) * n + c.min-column.result + 1) c.from.ensures ∙ ap (λ n. (i + 1) * 32 + n + 1) column ∙ place ∙ sym number
 
 pub loop-row-preserved : goal.loop-row-preserved

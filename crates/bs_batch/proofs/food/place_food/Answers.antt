@@ -12,7 +12,7 @@ returns-then-count-food-clause-board c bodies b shows listed room can =
     let count = free_count head.settings c.args.plane.now b of.width of.height shows.counts free c.count_free-free.ensures in
     let some : 0 < length (free_cells b) = omega (arith, count, c.if-free-gt0.true) in
     let cell = free_number head.settings c.args.plane.now b of.width of.height shows.counts c.args.word free c.free_cell-cell.result count c.if-free-gt0.true
-        c.free_cell-cell.ensures in
+    c.free_cell-cell.ensures in
     let at : c.min-count.result ≡ length b.food = omega (arith, c.min-count.ensures, c.from.ensures, listed.count, c.if-count-food.true) in
     rw (new_food_is c.args.word b some)
     (places c.args.word b some head c.args.food.now c.args.plane.now c.add_food.new.plane bodies c.free_cell-cell.result c.min-count.result _ shows listed room can cell
