@@ -1,7 +1,6 @@
 -- New food on a free cell, in the list and on the plane.
-use Rattle.std.proofs.Common.{◌≡◌, ℕ, zero, suc, ◌+◌, ◌*◌, ◌%◌, ◌<◌, ◌≤◌, Bool, true, false, not, ◌&&◌, ◌||◌, cond, List, [], ◌∷◌, ◌++◌, length, take, set, get_or, count_by, refl, sym, ap, ◌∙◌, arith, inl, inr, eqb, length-set}
-use Rattle.std.specs.Prelude.{◌==◌}
-use Rattle.std.specs.List.{filter, list_all, list_any, sum_by}
+use Rattle.std.proofs.Common.{◌≡◌, ℕ, ◌+◌, ◌*◌, ◌%◌, ◌<◌, ◌≤◌, Bool, true, false, not, ◌&&◌, ◌||◌, cond, List, [], ◌∷◌, ◌++◌, length, take, set, get_or, refl, sym, ap, ◌∙◌, arith, inl, inr, eqb, length-set}
+use Rattle.std.specs.List.{list_all, list_any, sum_by}
 use Rattle.std.proofs.lemmas.Bool.{cases_Bool, cases_eq, eqb-true, not-true}
 use Rattle.std.proofs.lemmas.List.{length_push, map_push, take_more_set}
 use Rattle.std.proofs.lemmas.List.Elements.{filter_agree}
@@ -27,8 +26,8 @@ use Rattle.bs_batch.specs.declared.layout.Settings.{Settings}
 use Rattle.bs_batch.specs.Counts.{HasBytes, WritesFood}
 use Rattle.bs_batch.specs.Food.{CanSpawn, HasSpawned}
 use Rattle.bs_batch.specs.Numbers.{number_of, numbers_of}
-use Rattle.bs_batch.specs.Shown.{HasRoom, ShowsFood, ShowsSeats, byte_of, food_byte, occupants, parts_on}
-use Rattle.bs_batch.specs.inner.FreeCells.{CountsFree, FindsFree, clear_cells, is_clear, is_zero}
+use Rattle.bs_batch.specs.Shown.{HasRoom, ShowsFood, ShowsSeats, byte_of, occupants, parts_on}
+use Rattle.bs_batch.specs.inner.FreeCells.{CountsFree, FindsFree, clear_cells, is_clear}
 use Rattle.bs_batch.proofs.Bytes.{same_bytes}
 use Rattle.bs_batch.proofs.FoodGone.{any_push}
 

@@ -1,5 +1,5 @@
 -- Rows of cells and their bytes, and the clear cells of the rows.
-use Rattle.std.proofs.Common.{◌≡◌, ℕ, zero, suc, ◌+◌, ◌-◌, ◌*◌, ◌<◌, ◌≤◌, Bool, true, false, List, [], ◌∷◌, ◌++◌, length, take, drop, map, get_or, cond, count_by, slice_index, pos, negsuc, refl, sym, ap, ◌∙◌, arith, inl, inr, eqb, length-append, length-drop}
+use Rattle.std.proofs.Common.{◌≡◌, ℕ, zero, suc, ◌+◌, ◌-◌, ◌*◌, ◌<◌, ◌≤◌, true, List, [], ◌∷◌, ◌++◌, length, take, drop, map, get_or, cond, count_by, pos, refl, sym, ap, ◌∙◌, arith, inl, inr, length-append, length-drop}
 use Rattle.std.specs.Prelude.{int_le}
 use Rattle.std.specs.List.{filter, range_with_len, slice_range}
 use Rattle.std.proofs.lemmas.Bool.{cases_Bool, le-leb}
@@ -54,7 +54,7 @@ zeros byte [] = refl
 zeros byte (p ∷ cells) =
     let rest = zeros byte cells in
     one_more (byte p) (map byte cells)
-    ∙ elim (cases_Bool (is_zero (byte p))) [ | inl clear ↦ rw clear (omega arith) | inr taken ↦ rw taken (omega arith) ]
+    ∙ elim (cases_Bool (is_zero (byte p))) [ inl clear ↦ rw clear (omega arith) | inr taken ↦ rw taken (omega arith) ]
 
 -- and the zero of a number is the clear cell of that number
 pub zero_cell : {X : Type 0} (byte : X → ℕ) (cells : List X) (number column : ℕ) (d : X) → IsZeroOf (map byte cells) number column

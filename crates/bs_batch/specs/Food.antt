@@ -1,20 +1,13 @@
 -- The food that is gone, and the food that appears.
-use Rattle.std.specs.Prelude.{◌≡◌, ℕ, ◌+◌, ◌*◌, ◌<◌, ◌≤◌, Bool, true, false, List, length, slice_index, slice_index_or, slice_set}
-use Rattle.std.specs.List.{list_any}
+use Rattle.std.specs.Prelude.{◌≡◌, ℕ, ◌*◌, ◌<◌, ◌≤◌, true, List, length, slice_index_or}
 use Rattle.bs_board.specs.declared.boards.board.Board.{Board}
 use Rattle.bs_board.specs.declared.boards.point.Point.{Point}
-use Rattle.bs_board.specs.declared.boards.snake.Snake.{Snake}
 use Rattle.bs_board.specs.boards.Cell.{is_on_board}
-use Rattle.bs_board.specs.boards.Legal.{is_near}
 use Rattle.bs_board.specs.commands.Setup.{is_fit_food}
 use Rattle.bs_food.specs.Spawning.{spawned}
-use Rattle.bs_rules.specs.Collision.{snake_at}
-use Rattle.bs_rules.specs.Feeding.{food_left, has_head_on}
+use Rattle.bs_rules.specs.Feeding.{food_left}
 use Rattle.bs_batch.specs.declared.layout.Head.{Head}
-use Rattle.bs_batch.specs.Counts.{WritesFood}
-use Rattle.bs_batch.specs.Numbers.{number_of}
 use Rattle.bs_batch.specs.Shown.{HasRoom, ShowsFood, ShowsSeats}
-use Rattle.bs_batch.specs.inner.Collisions.{ShowsJudged}
 
 -- the food under living heads is gone
 pub record HasFoodLeft (b : Board) (head : Head) (food plane bodies : List ℕ) : Type 0 where

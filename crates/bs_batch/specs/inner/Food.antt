@@ -1,18 +1,16 @@
 -- The steps by which food that is eaten leaves the list, and new food comes into it.
-use Rattle.std.specs.Prelude.{◌≡◌, ℕ, ◌+◌, ◌<◌, ◌≤◌, Bool, true, false, List, length, fold, slice_index, slice_index_or, slice_set}
+use Rattle.std.specs.Prelude.{◌≡◌, ℕ, ◌+◌, ◌<◌, Bool, true, false, List, length, fold, slice_index, slice_set}
 use Rattle.std.specs.List.{list_any}
 use Rattle.bs_board.specs.declared.boards.board.Board.{Board}
 use Rattle.bs_board.specs.declared.boards.point.Point.{Point}
 use Rattle.bs_board.specs.declared.boards.snake.Snake.{Snake}
-use Rattle.bs_board.specs.boards.Cell.{is_on_board}
 use Rattle.bs_board.specs.boards.Legal.{is_near}
 use Rattle.bs_food.specs.Spawning.{with_one_food}
 use Rattle.bs_rules.specs.Collision.{snake_at}
-use Rattle.bs_rules.specs.Feeding.{food_left, has_head_on}
+use Rattle.bs_rules.specs.Feeding.{has_head_on}
 use Rattle.bs_batch.specs.declared.layout.Head.{Head}
 use Rattle.bs_batch.specs.Counts.{WritesFood}
 use Rattle.bs_batch.specs.Numbers.{number_of}
-use Rattle.bs_batch.specs.Shown.{HasRoom, ShowsFood, ShowsSeats}
 use Rattle.bs_batch.specs.inner.Collisions.{ShowsJudged}
 
 abbrev pub ForCell : Head → List ℕ → ℕ → (List Snake → Point → Type 0) → Type 0

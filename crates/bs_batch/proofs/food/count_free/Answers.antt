@@ -1,4 +1,4 @@
-use Rattle.std.proofs.Common.{◌≡◌, ◌+◌, ◌∙◌, ap, arith, length, map, count_by}
+use Rattle.std.proofs.Common.{◌∙◌, ap, arith, count_by}
 use Rattle.std.proofs.lemmas.List.Sums.{count_by-le-length}
 use Rattle.bs_food.specs.Free.{row_of_cells}
 use Rattle.bs_batch.specs.inner.FreeCells.{is_zero}
@@ -16,6 +16,6 @@ loop-row-preserved c =
           let cells = c.row_of.ensures.cells byte has (omega (arith, c.loop-row-test.true, c.from-row-end.ensures)) in
           let here = c.free_in-free.ensures ∙ ap (count_by is_zero) cells ∙ zeros byte (row_of_cells width i) in
           let more = length_more byte width i in
-          omega (arith, few, here, more, c.row_of.ensures.short, c.free_in-free.ensures, c.loop-row.invariant.few, c.loop-row.invariant.count byte has, c.loop-row-test.true,
-          c.from-row-end.ensures, c.requires.high);
+          let before = c.loop-row.invariant.count byte has in
+          omega arith;
     }

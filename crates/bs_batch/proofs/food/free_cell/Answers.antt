@@ -1,11 +1,6 @@
-use Rattle.std.proofs.Common.{◌≡◌, ◌+◌, ◌*◌, ◌<◌, ◌∙◌, ap, sym, arith, length, map, count_by, get_or}
-use Rattle.std.specs.List.{filter, range_with_len}
-use Rattle.std.proofs.lemmas.List.{length-map}
-use Rattle.std.proofs.lemmas.List.FromFn.{get_or-map-range_with_len, length-map-range_with_len}
-use Rattle.bs_board.specs.boards.Cell.{origin}
-use Rattle.bs_food.specs.Free.{point_at, row_of_cells}
-use Rattle.bs_batch.specs.Numbers.{number_of}
-use Rattle.bs_batch.specs.inner.FreeCells.{IsZeroOf, clear_cells, is_clear, is_zero}
+use Rattle.std.proofs.Common.{◌≡◌, ◌+◌, ◌*◌, ◌<◌, ◌∙◌, ap, sym, arith, count_by}
+use Rattle.bs_food.specs.Free.{row_of_cells}
+use Rattle.bs_batch.specs.inner.FreeCells.{is_zero}
 use Rattle.bs_batch.proofs.FreeRows.{length_more, number_at, zeros}
 use Rattle.bs_batch.proofs.food.free_cell.Goals as goal
 
@@ -20,7 +15,7 @@ returns-then-left-free c byte has within =
     let column : c.min-column.result ≡ c.column_of.result = omega (arith, at.within, c.row_of-cells.ensures.short, c.min-column.ensures) in
     let place : (i + 1) * 32 + c.column_of.result + 1 ≡ (i + 1) * 32 + (c.column_of.result + 1) = omega arith in
     let number = number_at byte s.width s.height i c.loop-row.left c.args.number c.column_of.result c.row_of-cells.result.now high cells some at
-        (c.loop-row.invariant byte has) in
+    (c.loop-row.invariant byte has) in
     ap (λ n. (i + 1) * n + c.min-column.result + 1) c.from.ensures ∙ ap (λ n. (i + 1) * 32 + n + 1) column ∙ place ∙ sym number
 
 pub loop-row-preserved : goal.loop-row-preserved

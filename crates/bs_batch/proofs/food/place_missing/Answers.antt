@@ -1,4 +1,4 @@
-use Rattle.std.proofs.Common.{◌≡◌, ◌∙◌, arith, get_or, refl, take}
+use Rattle.std.proofs.Common.{◌∙◌, get_or, refl}
 use Rattle.std.proofs.lemmas.List.{take_all}
 use Rattle.bs_batch.proofs.FoodMissing.{one_food_more}
 use Rattle.bs_batch.proofs.food.place_missing.Goals as goal

@@ -1,5 +1,5 @@
-use Rattle.std.proofs.Common.{◌≡◌, ◌+◌, ◌*◌, ◌∙◌, ap, arith, take, drop}
-use Rattle.bs_batch.proofs.FreeRows.{row_bytes, row_slice}
+use Rattle.std.proofs.Common.{◌≡◌, ◌+◌, ◌*◌, ap, arith}
+use Rattle.bs_batch.proofs.FreeRows.{row_slice}
 use Rattle.bs_batch.proofs.food.row_of.Goals as goal
 
 pub returns-in-Some-clause-cells : goal.returns-in-Some-clause-cells
