@@ -9,6 +9,9 @@ pub mod FoodGone
 pub mod FoodHeads
 pub mod Judged
 pub mod Living
+pub mod Loaded
+pub mod LoadedAll
+pub mod LoadedSeat
 pub mod Moved
 pub mod MovedAll
 pub mod MovedAt

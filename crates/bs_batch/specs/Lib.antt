@@ -3,6 +3,7 @@ pub mod Directions
 pub mod Eliminations
 pub mod Food
 pub mod Living
+pub mod Loading
 pub mod Numbers
 pub mod Shown
 pub mod Steps

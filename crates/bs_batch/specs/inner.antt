@@ -2,5 +2,6 @@
 pub mod Collisions
 pub mod Eliminations
 pub mod Food
+pub mod Loading
 pub mod Seats
 pub mod Steps

@@ -1,13 +1,26 @@
 //! Makes a game of a board.
 
-ghost use Rattle.std.specs.Prelude.{◌≡◌, ◌≤◌, ◌<◌};
+ghost use Rattle.std.specs.Prelude.{◌≡◌, ◌≢◌, ◌↔◌, ◌≤◌, ◌<◌, Some, IsTrue, length};
+ghost use Rattle.bs_board.specs.declared.boards.snake.Cause.TheVariants.{Hazard as ByHazard};
+ghost use Rattle.bs_board.specs.records.Record.{cause_byte, mode_byte};
+ghost use Rattle.bs_batch.specs.Shown.{seat_byte};
+ghost use Rattle.bs_batch.specs.inner.Loading.{
+  AddsParts,
+  BeginsWith,
+  IsSeatOfEight,
+  LoadsFood,
+  LoadsSeat,
+  LoadsSnake,
+  LoadsSnakes,
+  NumbersCell,
+};
 
 use crate::layout::{
     ALIVE, BODY_COLLISION, CONSTRICTOR, HEAD_COLLISION, Head, NO_SEAT, OUT_OF_HEALTH, SEATS,
     SELF_COLLISION, SOLO, STANDARD, STRIDE, Seat, Settings, WALL_COLLISION, WRAPPED,
 };
 use crate::planes::{PARTS, add_food, add_part, at};
-use crate::seats::{count, room_of};
+use crate::seats::count;
 use crate::starting::clear;
 use bs_board::{Board, Cause, Mode, Point, Snake};
 
@@ -23,7 +36,9 @@ pub enum Misfit {
     Room,
 }
 
-fn mode_byte(mode: Mode) -> u8 {
+fn mode_byte(mode: Mode) -> u8
+    ensures { result ≡ mode_byte mode }
+{
     match mode {
         Mode::Standard => STANDARD,
         Mode::Solo => SOLO,
@@ -33,7 +48,9 @@ fn mode_byte(mode: Mode) -> u8 {
 }
 
 /// The byte of the cause. A board without hazards has no snake that a hazard eliminated.
-fn cause_byte(cause: Option<Cause>) -> u8 {
+fn cause_byte(cause: Option<Cause>) -> u8
+    ensures { cause ≢ Some ByHazard → result ≡ cause_byte cause }
+{
     match cause {
         None => ALIVE,
         Some(Cause::OutOfHealth) => OUT_OF_HEALTH,
@@ -45,7 +62,9 @@ fn cause_byte(cause: Option<Cause>) -> u8 {
     }
 }
 
-fn killer_byte(killer: Option<usize>) -> u8 {
+fn killer_byte(killer: Option<usize>) -> u8
+    ensures { IsSeatOfEight killer → result ≡ seat_byte killer }
+{
     match killer {
         Some(seat) if seat < SEATS => seat as u8,
         _ => NO_SEAT,
@@ -53,7 +72,9 @@ fn killer_byte(killer: Option<usize>) -> u8 {
 }
 
 /// The number of a cell that is on the board or next to it; 0 for another.
-fn number_of(cell: Point) -> u16 {
+fn number_of(cell: Point) -> u16
+    ensures { NumbersCell cell result }
+{
     if -1 <= cell.x && cell.x <= 25 && -1 <= cell.y && cell.y <= 25 {
         ((cell.y + 1) as u16) * STRIDE + (cell.x + 1) as u16
     } else {
@@ -62,18 +83,23 @@ fn number_of(cell: Point) -> u16 {
 }
 
 /// Writes the numbers of the cells. False if there is no room.
-fn write_cells(room: &mut [u16], cells: &[Point]) -> bool {
+fn write_cells(room: &mut [u16], cells: &[Point]) -> bool
+    ensures fits { IsTrue result ↔ (length cells.now ≤ length room.old) }
+    ensures cells { IsTrue result → BeginsWith cells.now room.new }
+{
     if cells.len() > room.len() {
         return false;
     }
-    for (number, cell) in room.iter_mut().zip(cells) {
-        *number = number_of(*cell);
+    for index in 0..cells.len() {
+        room[index] = number_of(cells[index]);
     }
     true
 }
 
 /// Adds the parts to the plane. False if too many are on one cell.
-fn add_parts(plane: &mut [u8], body: &[u16]) -> bool {
+fn add_parts(plane: &mut [u8], body: &[u16]) -> bool
+    ensures { AddsParts body.now plane.old plane.new result }
+{
     for cell in body {
         if at(plane, *cell) & PARTS >= MOST_PARTS {
             return false;
@@ -83,7 +109,11 @@ fn add_parts(plane: &mut [u8], body: &[u16]) -> bool {
     true
 }
 
-fn load_snake(seat: &mut Seat, plane: &mut [u8], room: &mut [u16], snake: &Snake) -> bool {
+/// Loads a snake into its seat and its room. False if the body is too long, or too many parts are
+/// on one cell.
+fn load_snake(seat: &mut Seat, plane: &mut [u8], room: &mut [u16], snake: &Snake) -> bool
+    ensures { LoadsSnake snake.now plane.old seat.new plane.new room.new result }
+{
     let parts = snake.body.len();
     if parts > 1024 || !write_cells(room, snake.body.as_slice()) {
         return false;
@@ -96,21 +126,36 @@ fn load_snake(seat: &mut Seat, plane: &mut [u8], room: &mut [u16], snake: &Snake
         killer: killer_byte(snake.killer),
         spare: 0,
     };
-    match (snake.cause, room.get(..parts)) {
-        (None, Some(body)) => add_parts(plane, body),
-        _ => true,
-    }
+    !snake.is_living() || add_parts(plane, &room[..parts])
+}
+
+/// Loads the snake of a seat.
+fn load_seat(
+    head: &mut Head,
+    plane: &mut [u8],
+    bodies: &mut [u16],
+    seat: usize,
+    snake: &Snake,
+) -> bool
+    requires seat { seat < SEATS }
+    ensures settings { head.new.settings ≡ head.old.settings }
+    ensures board { LoadsSeat seat snake.now head.old bodies.old plane.old head.new bodies.new plane.new result }
+{
+    let row = bodies.len() / SEATS;
+    let start = seat * row;
+    let room = &mut bodies[start..start + row];
+    load_snake(&mut head.seats[seat], plane, room, snake)
 }
 
 fn load_snakes(head: &mut Head, plane: &mut [u8], bodies: &mut [u16], snakes: &[Snake]) -> bool
     ensures settings { head.new.settings ≡ head.old.settings }
+    ensures board { LoadsSnakes snakes.now head.old bodies.old plane.old head.new bodies.new plane.new result }
 {
     if snakes.len() > SEATS {
         return false;
     }
     for seat in 0..snakes.len() {
-        let room = room_of(bodies, seat);
-        if !load_snake(&mut head.seats[seat], plane, room, &snakes[seat]) {
+        if !load_seat(head, plane, bodies, seat, &snakes[seat]) {
             return false;
         }
     }
@@ -119,6 +164,7 @@ fn load_snakes(head: &mut Head, plane: &mut [u8], bodies: &mut [u16], snakes: &[
 
 fn load_food(head: &mut Head, food: &mut [u16], plane: &mut [u8], cells: &[Point]) -> bool
     ensures settings { head.new.settings ≡ head.old.settings }
+    ensures board { LoadsFood cells.now head.old plane.old head.new food.new plane.new result }
 {
     if cells.len() > 1024 || !write_cells(food, cells) {
         return false;
