@@ -11,6 +11,7 @@ pub mod Judged
 pub mod Living
 pub mod Loaded
 pub mod LoadedAll
+pub mod LoadedBoard
 pub mod LoadedSeat
 pub mod Moved
 pub mod MovedAll

@@ -1,5 +1,5 @@
 -- Which boards a game takes, and what it shows then.
-use Rattle.std.specs.Prelude.{◌≡◌, ◌↔◌, ℕ, ◌+◌, ◌≤◌, ◌/◌, Bool, true, cond, if◌then◌else◌, is_none, is_some, List, length, All, count_by, replicate, Result, IsOk, IfErr, OnOk}
+use Rattle.std.specs.Prelude.{◌≡◌, ◌↔◌, ℕ, ◌+◌, ◌≤◌, ◌/◌, true, cond, if◌then◌else◌, is_none, is_some, List, length, All, count_by, replicate, Result, IsErr, IsOk, IfErr, OnErr, OnOk}
 use Rattle.bs_board.specs.declared.boards.board.Board.{Board}
 use Rattle.bs_board.specs.declared.boards.point.Point.{Point}
 use Rattle.bs_board.specs.declared.boards.snake.Snake.{Snake}
@@ -50,3 +50,17 @@ cleared s = record { settings = s; turn = 0; foods = 0; living = 0; over = 1; se
 -- why a board is not loaded
 abbrev pub misfit_of : Board → Misfit
 misfit_of b = if is_some b.hazards then Hazards else Room
+
+-- Whether a board is loaded, what the memory shows then, and why it is not. A game of a board that
+-- is not loaded is over, without a snake.
+pub record IsLoaded {T : Type 0} (fits : Type 0) (b : Board) (result : Result T Misfit) (head : Head) (food plane bodies : List ℕ) : Type 0 where
+  pub exactly : IsOk result ↔ ((is_none b.hazards ≡ true) × fits)
+  pub shows : OnOk result (ShowsGame head food plane bodies b)
+  pub misfit : IfErr result (λ misfit. misfit ≡ misfit_of b)
+  pub none : OnErr result (head ≡ cleared head.settings)
+
+-- the board is not loaded
+pub record RefusesBoard {T : Type 0} (b : Board) (result : Result T Misfit) (head : Head) : Type 0 where
+  pub error : IsErr result
+  pub misfit : IfErr result (λ misfit. misfit ≡ misfit_of b)
+  pub none : head ≡ cleared head.settings

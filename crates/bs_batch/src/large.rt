@@ -1,5 +1,8 @@
 //! Large games side by side. Game i has the i-th piece of each other list.
 
+ghost use Rattle.bs_board.specs.boards.Legal.{IsLegal};
+ghost use Rattle.bs_batch.specs.Loading.{FitsLists, FitsSides, IsLoaded};
+
 use crate::layout::{LARGE_SIDE, LargeGame, Place, is_fit};
 use crate::lists::{list_body, list_food};
 use crate::loading::{Misfit, is_within, load, refuse};
@@ -74,7 +77,9 @@ pub fn save_large(game: &LargeGame, into: &mut [u8]) -> usize {
 }
 
 /// Makes the game of this board. Its ids are not kept.
-pub fn load_large(game: &mut LargeGame, board: &Board) -> Result<(), Misfit> {
+pub fn load_large(game: &mut LargeGame, board: &Board) -> Result<(), Misfit>
+    ensures { IsLegal board.now → IsLoaded (FitsSides LARGE_SIDE board.now × FitsLists 625 5032 board.now) board.now result game.new.head game.new.food game.new.plane game.new.bodies }
+{
     if !is_within(board, LARGE_SIDE) {
         return refuse(&mut game.head, board);
     }

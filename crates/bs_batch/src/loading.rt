@@ -3,11 +3,14 @@
 ghost use Rattle.std.specs.Prelude.{◌≡◌, ◌≢◌, ◌↔◌, ◌≤◌, ◌<◌, Some, IsTrue, length};
 ghost use Rattle.bs_board.specs.declared.boards.snake.Cause.TheVariants.{Hazard as ByHazard};
 ghost use Rattle.bs_board.specs.records.Record.{cause_byte, mode_byte};
-ghost use Rattle.bs_batch.specs.Shown.{seat_byte};
+ghost use Rattle.bs_batch.specs.Loading.{FitsLists, FitsSides, IsLoaded, RefusesBoard};
+ghost use Rattle.bs_batch.specs.Shown.{ShowsSettings, seat_byte};
 ghost use Rattle.bs_batch.specs.inner.Loading.{
   AddsParts,
   BeginsWith,
+  CanLoadLists,
   IsSeatOfEight,
+  LoadsCells,
   LoadsFood,
   LoadsSeat,
   LoadsSnake,
@@ -21,7 +24,7 @@ use crate::layout::{
 };
 use crate::planes::{PARTS, add_food, add_part, at};
 use crate::seats::count;
-use crate::starting::clear;
+use crate::starting::{clear, clear_plane};
 use bs_board::{Board, Cause, Mode, Point, Snake};
 
 /// The most parts on one cell of a loaded board, so that a byte counts them in every later turn.
@@ -177,7 +180,8 @@ fn load_food(head: &mut Head, food: &mut [u16], plane: &mut [u8], cells: &[Point
 }
 
 fn settings_of(board: &Board) -> Settings
-    ensures { result.seats ≤ SEATS }
+    ensures seats { result.seats ≤ SEATS }
+    ensures board { length board.now.snakes ≤ SEATS → ShowsSettings result board.now }
 {
     Settings {
         mode: mode_byte(board.mode),
@@ -198,6 +202,7 @@ fn load_cells(
     board: &Board,
 ) -> bool
     ensures settings { head.new.settings ≡ head.old.settings }
+    ensures board { LoadsCells board.now head.old plane.old head.new food.new plane.new bodies.new result }
 {
     if !load_food(head, food, plane, board.food.as_slice()) {
         return false;
@@ -206,14 +211,23 @@ fn load_cells(
 }
 
 /// Whether no side of the board is longer.
-pub fn is_within(board: &Board, longest: u8) -> bool {
+pub fn is_within(board: &Board, longest: u8) -> bool
+    ensures { IsTrue result ↔ FitsSides longest board.now }
+{
     board.width <= longest && board.height <= longest
 }
 
 /// Clears the game of a board that does not fit.
-pub fn refuse(head: &mut Head, board: &Board) -> Result<(), Misfit> {
+pub fn refuse(head: &mut Head, board: &Board) -> Result<(), Misfit>
+    ensures { RefusesBoard board.now result head.new }
+{
     clear(head, settings_of(board));
-    Err(Misfit::Room)
+    let hazardous = board.hazards.is_some();
+    if hazardous {
+        Err(Misfit::Hazards)
+    } else {
+        Err(Misfit::Room)
+    }
 }
 
 /// Makes the game of a board. If it does not fit, the game is over, without a snake.
@@ -223,10 +237,12 @@ pub fn load(
     plane: &mut [u8],
     bodies: &mut [u16],
     board: &Board,
-) -> Result<(), Misfit> {
+) -> Result<(), Misfit>
+    ensures { CanLoadLists board.now (length food.new) (length plane.new) (length bodies.new) → IsLoaded (FitsLists (length food.new) (length bodies.new) board.now) board.now result head.new food.new plane.new bodies.new }
+{
     let settings = settings_of(board);
     clear(head, settings);
-    plane.fill(0);
+    clear_plane(plane);
     if board.hazards.is_some() {
         return Err(Misfit::Hazards);
     }

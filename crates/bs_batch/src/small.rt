@@ -1,5 +1,8 @@
 //! Small games side by side. Game i has the i-th piece of each other list.
 
+ghost use Rattle.bs_board.specs.boards.Legal.{IsLegal};
+ghost use Rattle.bs_batch.specs.Loading.{FitsLists, FitsSides, IsLoaded};
+
 use crate::layout::{Place, SMALL_SIDE, SmallGame, is_fit};
 use crate::lists::{list_body, list_food};
 use crate::loading::{Misfit, is_within, load, refuse};
@@ -74,7 +77,9 @@ pub fn save_small(game: &SmallGame, into: &mut [u8]) -> usize {
 }
 
 /// Makes the game of this board. Its ids are not kept.
-pub fn load_small(game: &mut SmallGame, board: &Board) -> Result<(), Misfit> {
+pub fn load_small(game: &mut SmallGame, board: &Board) -> Result<(), Misfit>
+    ensures { IsLegal board.now → IsLoaded (FitsSides SMALL_SIDE board.now × FitsLists 121 1000 board.now) board.now result game.new.head game.new.food game.new.plane game.new.bodies }
+{
     if !is_within(board, SMALL_SIDE) {
         return refuse(&mut game.head, board);
     }

@@ -1,6 +1,7 @@
 //! The first board of a game.
 
-ghost use Rattle.std.specs.Prelude.{◌≡◌, ◌≤◌, ◌<◌};
+ghost use Rattle.std.specs.Prelude.{◌≡◌, ◌≤◌, ◌<◌, length, replicate};
+ghost use Rattle.bs_batch.specs.Loading.{cleared};
 
 use crate::layout::{
     ALIVE, CONSTRICTOR, Cell, FULL_HEALTH, Head, NO_SEAT, NO_SNAKE, SEATS, Seat, Settings,
@@ -18,7 +19,7 @@ pub struct FirstCells<'a> {
 
 /// Makes a game of these settings that has no snake, no food and is over.
 pub fn clear(head: &mut Head, settings: Settings)
-    ensures settings { head.new.settings ≡ settings }
+    ensures { head.new ≡ cleared settings }
 {
     *head = Head {
         settings,
@@ -28,6 +29,13 @@ pub fn clear(head: &mut Head, settings: Settings)
         over: 1,
         seats: [NO_SNAKE; SEATS],
     };
+}
+
+/// Sets each byte of the plane to 0.
+pub fn clear_plane(plane: &mut [u8])
+    ensures { plane.new ≡ replicate (length plane.old) 0 }
+{
+    plane.fill(0);
 }
 
 #[inline]
@@ -137,7 +145,7 @@ pub fn start(
     requires seats { head.old.settings.seats ≤ SEATS }
 {
     let settings = head.settings;
-    plane.fill(0);
+    clear_plane(plane);
     let fits = place_snakes(head, plane, bodies, first.starts)
         && place_food(head, food, plane, first.food);
     if !fits {

@@ -1,19 +1,19 @@
 -- The steps by which a board is loaded.
-use Rattle.std.specs.Prelude.{◌≡◌, ◌≢◌, ◌↔◌, ℕ, ◌+◌, ◌≤◌, ◌<◌, ◌/◌, Bool, true, IsTrue, List, length, take, All, count_by, Option, Some, MatchOption}
+use Rattle.std.specs.Prelude.{◌≡◌, ◌≢◌, ◌↔◌, ℕ, ◌+◌, ◌*◌, ◌≤◌, ◌<◌, ◌/◌, Bool, true, IsTrue, List, length, take, All, count_by, Option, Some, MatchOption}
 use Rattle.bs_board.specs.declared.boards.board.Board.{Board}
 use Rattle.bs_board.specs.declared.boards.point.Point.{Point}
 use Rattle.bs_board.specs.declared.boards.snake.Cause.{Cause}
 use Rattle.bs_board.specs.declared.boards.snake.Cause.TheVariants.{Hazard}
 use Rattle.bs_board.specs.declared.boards.snake.Snake.{Snake}
 use Rattle.bs_board.specs.boards.Cell.{is_same_cell}
-use Rattle.bs_board.specs.boards.Legal.{is_near}
+use Rattle.bs_board.specs.boards.Legal.{IsLegal, is_near}
 use Rattle.bs_batch.specs.declared.layout.Head.{Head}
 use Rattle.bs_batch.specs.declared.layout.Seat.{Seat}
 use Rattle.bs_batch.specs.declared.loading.TheConstants.{MOST_PARTS}
 use Rattle.bs_batch.specs.Counts.{HasBytes}
-use Rattle.bs_batch.specs.Loading.{AreShort, HasFewParts}
+use Rattle.bs_batch.specs.Loading.{AreShort, FitsLists, HasFewParts}
 use Rattle.bs_batch.specs.Numbers.{number_of, numbers_of}
-use Rattle.bs_batch.specs.Shown.{ShowsFood, ShowsSnake, ShowsSnakes, food_byte, occupants, parts_on, room_of, seat_at}
+use Rattle.bs_batch.specs.Shown.{ShowsFood, ShowsSnake, ShowsSnakes, byte_of, food_byte, occupants, parts_on, room_of, seat_at}
 
 -- cells on a board with these sides or next to it
 pub record AreNear (width height : ℕ) (cells : List Point) : Type 0 where
@@ -105,3 +105,30 @@ abbrev pub LoadsFood : List Point → Head → List ℕ → Head → List ℕ �
 LoadsFood cells head plane head' list' plane' result =
     (width height : ℕ) → AreNear width height cells → length list' ≤ 1024 → HasBytes width height (λ _. 0) plane
     → FoodLoaded width height cells head head' list' plane' result
+
+-- food and snakes as on a legal board without hazards
+pub record CanLoadBoard (b : Board) : Type 0 where
+  pub food : AreNear b.width b.height b.food
+  pub snakes : All (CanLoad b.width b.height) b.snakes
+  pub few : length b.snakes ≤ 8
+
+-- the food and the snakes are in the lists and on the plane; no other field of the head is written
+pub record CellsLoaded (b : Board) (old head : Head) (list plane bodies : List ℕ) (result : Bool) : Type 0 where
+  pub fits : IsTrue result ↔ FitsLists (length list) (length bodies) b
+  pub food : IsTrue result → ShowsFood head.foods list b.food
+  pub snakes : IsTrue result → ShowsSnakes head.seats bodies b.snakes
+  pub bytes : IsTrue result → HasBytes b.width b.height (byte_of b.food b.snakes) plane
+  pub rest : head ≡ record old { foods = head.foods; seats = head.seats }
+  pub eight : length head.seats ≡ 8
+
+abbrev pub LoadsCells : Board → Head → List ℕ → Head → List ℕ → List ℕ → List ℕ → Bool → Type 0
+LoadsCells b head plane head' list' plane' bodies' result =
+    CanLoadBoard b → length list' ≤ 1024 → length bodies' ≤ 8192 → length head.seats ≡ 8 → HasBytes b.width b.height (λ _. 0) plane
+    → CellsLoaded b head head' list' plane' bodies' result
+
+-- a legal board, and lists of a size that fits the numbers
+pub record CanLoadLists (b : Board) (cells bytes parts : ℕ) : Type 0 where
+  pub legal : IsLegal b
+  pub food : cells ≤ 1024
+  pub plane : (b.height + 2) * 32 ≤ bytes
+  pub bodies : parts ≤ 8192
