@@ -3,6 +3,7 @@ pub mod Bodies
 pub mod Bytes
 pub mod Collided
 pub mod Eliminated
+pub mod FirstCells
 pub mod FirstOut
 pub mod FoodEaten
 pub mod FoodGone
@@ -25,5 +26,9 @@ pub mod Rooms
 pub mod SeatWrites
 pub mod Shown
 pub mod SoFar
+pub mod Started
+pub mod StartedAll
+pub mod StartedBoard
+pub mod StartedFood
 pub mod Steps
 pub mod Torus

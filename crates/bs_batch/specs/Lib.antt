@@ -6,5 +6,6 @@ pub mod Living
 pub mod Loading
 pub mod Numbers
 pub mod Shown
+pub mod Starting
 pub mod Steps
 pub mod inner

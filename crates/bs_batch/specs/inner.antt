@@ -4,4 +4,5 @@ pub mod Eliminations
 pub mod Food
 pub mod Loading
 pub mod Seats
+pub mod Starting
 pub mod Steps

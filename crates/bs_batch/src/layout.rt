@@ -1,6 +1,8 @@
 //! The memory of a game.
 
 ghost use Rattle.std.specs.Prelude.{◌≡◌, ◌≤◌, ◌<◌, IsTrue};
+ghost use Rattle.bs_batch.specs.Numbers.{number_of};
+ghost use Rattle.bs_batch.specs.Starting.{point_of};
 
 /// The most seats of a game.
 pub const SEATS: usize = 8;
@@ -155,7 +157,9 @@ pub fn is_fit(settings: &Settings, longest: u8) -> bool
 
 /// The number of the cell.
 #[inline]
-pub fn number_of(cell: Cell) -> u16 {
+pub fn number_of(cell: Cell) -> u16
+    ensures { result ≡ number_of (point_of cell) }
+{
     (u16::from(cell.y) + 1) * STRIDE + u16::from(cell.x) + 1
 }
 

@@ -1,0 +1,52 @@
+-- The first board of a game.
+use Rattle.std.specs.Prelude.{◌≡◌, ◌↔◌, ℕ, ◌≤◌, Bool, true, false, List, length, map, pos, None, IsTrue, IsFalse}
+use Rattle.bs_board.specs.declared.boards.board.Board.{Board}
+use Rattle.bs_board.specs.declared.boards.point.Point.{Point}
+use Rattle.bs_board.specs.commands.Setup.{Setup, is_fit_food}
+use Rattle.bs_board.specs.records.Record.{mode_byte}
+use Rattle.bs_modes.specs.FirstBoard.{first_board}
+use Rattle.bs_batch.specs.declared.layout.Cell.{Cell}
+use Rattle.bs_batch.specs.declared.layout.Head.{Head}
+use Rattle.bs_batch.specs.declared.layout.Settings.{Settings}
+use Rattle.bs_batch.specs.Loading.{ShowsGame, cleared}
+
+abbrev pub point_of : Cell → Point
+point_of c = record { x = pos c.x; y = pos c.y }
+
+abbrev pub points_of : List Cell → List Point
+points_of = map point_of
+
+-- The settings and the first cells are those of a setup without hazards. A game has no ids.
+pub record IsSetupOf (settings : Settings) (starts cells : List Cell) (s : Setup) : Type 0 where
+  pub mode : settings.mode ≡ mode_byte s.mode
+  pub width : settings.width ≡ s.width
+  pub height : settings.height ≡ s.height
+  pub min_food : settings.min_food ≡ s.min_food
+  pub chance : settings.chance ≡ s.chance
+  pub snakes : map (λ start. start.1) s.snakes ≡ points_of starts
+  pub food : s.food ≡ points_of cells
+  pub hazards : s.hazards ≡ None
+
+-- a starting cell for each seat; they are distinct cells of the board, and so are those of the food
+pub record AreFirstCells (s : Settings) (starts cells : List Cell) : Type 0 where
+  pub seats : length starts ≡ s.seats
+  pub snakes : is_fit_food s.width s.height (points_of starts) ≡ true
+  pub food : is_fit_food s.width s.height (points_of cells) ≡ true
+
+-- the settings of a board with sides of 3 to that many cells
+pub record AreSettings (longest : ℕ) (s : Settings) : Type 0 where
+  pub mode : s.mode ≤ 3
+  pub wide : 3 ≤ s.width
+  pub narrow : s.width ≤ longest
+  pub high : 3 ≤ s.height
+  pub low : s.height ≤ longest
+  pub some : 1 ≤ s.seats
+  pub few : s.seats ≤ 8
+  pub chance : s.chance ≤ 100
+
+-- Whether a game is started, and what its memory shows then. A game that is not started is over,
+-- without a snake.
+pub record IsStarted (fits : Type 0) (settings : Settings) (starts cells : List Cell) (result : Bool) (head : Head) (food plane bodies : List ℕ) : Type 0 where
+  pub exactly : IsTrue result ↔ fits
+  pub shows : IsTrue result → (s : Setup) → IsSetupOf settings starts cells s → ShowsGame head food plane bodies (first_board s)
+  pub none : IsFalse result → head ≡ cleared settings
