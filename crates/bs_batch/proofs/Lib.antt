@@ -30,5 +30,6 @@ pub mod Started
 pub mod StartedAll
 pub mod StartedBoard
 pub mod StartedFood
+pub mod StartedGames
 pub mod Steps
 pub mod Torus

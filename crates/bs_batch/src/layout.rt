@@ -1,8 +1,8 @@
 //! The memory of a game.
 
-ghost use Rattle.std.specs.Prelude.{◌≡◌, ◌≤◌, ◌<◌, IsTrue};
+ghost use Rattle.std.specs.Prelude.{◌≡◌, ◌↔◌, ◌≤◌, ◌<◌, IsTrue};
 ghost use Rattle.bs_batch.specs.Numbers.{number_of};
-ghost use Rattle.bs_batch.specs.Starting.{point_of};
+ghost use Rattle.bs_batch.specs.Starting.{AreSettings, point_of};
 
 /// The most seats of a game.
 pub const SEATS: usize = 8;
@@ -144,6 +144,7 @@ pub fn is_fit(settings: &Settings, longest: u8) -> bool
     ensures seats { IsTrue result → settings.now.seats ≤ SEATS }
     ensures wide { IsTrue result → settings.now.width ≤ longest }
     ensures high { IsTrue result → settings.now.height ≤ longest }
+    ensures exactly { IsTrue result ↔ AreSettings longest settings.now }
 {
     settings.mode <= WRAPPED
         && 3 <= settings.width
