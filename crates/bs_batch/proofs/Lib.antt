@@ -8,6 +8,7 @@ pub mod Crossings
 pub mod EachGame
 pub mod Eliminated
 pub mod FedAll
+pub mod FirstCells
 pub mod FirstLasts
 pub mod FirstOut
 pub mod FoodEaten
@@ -22,6 +23,10 @@ pub mod Judged
 pub mod JudgedRoom
 pub mod LastingBoards
 pub mod Living
+pub mod Loaded
+pub mod LoadedAll
+pub mod LoadedBoard
+pub mod LoadedSeat
 pub mod Moved
 pub mod MovedAll
 pub mod MovedAt
@@ -36,6 +41,11 @@ pub mod Rooms
 pub mod SeatWrites
 pub mod Shown
 pub mod SoFar
+pub mod Started
+pub mod StartedAll
+pub mod StartedBoard
+pub mod StartedFood
+pub mod StartedGames
 pub mod Stepping
 pub mod Steps
 pub mod Survivors

@@ -8,7 +8,7 @@ use Rattle.bs_board.specs.declared.boards.board.Mode.TheVariants.{Standard, Solo
 use Rattle.bs_board.specs.boards.Over.{is_over}
 use Rattle.bs_board.specs.records.Record.{mode_byte}
 use Rattle.bs_batch.specs.declared.layout.Head.{Head}
-use Rattle.bs_batch.specs.Games.{PlaysGame, may_step}
+use Rattle.bs_batch.specs.Games.{MayStep, PlaysGame}
 use Rattle.bs_batch.specs.Lasting.{IsLasting}
 use Rattle.bs_batch.specs.Shown.{ShowsGame}
 use Rattle.bs_batch.specs.Turn.{PlaysTurn}
@@ -20,13 +20,9 @@ known_mode Solo = omega arith
 known_mode Constrictor = omega arith
 known_mode Wrapped = omega arith
 
-eight_tests : (a b c d e f g h : Bool) → a ≡ true → b ≡ true → c ≡ true → d ≡ true → e ≡ true → f ≡ true → g ≡ true → h ≡ true
-    → (a && b && c && d && e && f && g && h) ≡ true
-eight_tests a b c d e f g h ea eb ec ed ee ef eg eh = rw (ea, eb, ec, ed, ee, ef, eg, eh) refl
-
 -- the game of a lasting board that is not over may be stepped
 pub may_be_stepped : (longest : ℕ) (head : Head) (food plane bodies : List ℕ) (b : Board) → ShowsGame head food plane bodies b → IsLasting b → b.turn < 10000
-    → is_over b ≡ false → b.width ≤ longest → b.height ≤ longest → may_step longest head ≡ true
+    → is_over b ≡ false → b.width ≤ longest → b.height ≤ longest → MayStep longest head
 may_be_stepped longest head food plane bodies b shows lasting early on wide high =
     let s = shows.seats.settings in
     let limits = lasting.legal.limits in
@@ -43,16 +39,21 @@ may_be_stepped longest head food plane bodies b shows lasting early on wide high
     let chance = limits.chance in
     let known = known_mode b.mode in
     let same_mode = s.mode in
-    let over : head.over ≡ 0 = shows.over ∙ ap (λ o. cond {A = ℕ} o 1 0) on in
     let turn = shows.seats.turn in
-    let fit = eight_tests (leb head.settings.mode 3) (leb 3 head.settings.width) (leb head.settings.width longest) (leb 3 head.settings.height) (leb head.settings.height longest)
-    (leb 1 head.settings.seats) (leb head.settings.seats 8) (leb head.settings.chance 100)
-    (le-leb head.settings.mode 3 (omega arith)) (le-leb 3 head.settings.width (omega arith)) (le-leb head.settings.width longest (omega arith))
-    (le-leb 3 head.settings.height (omega arith)) (le-leb head.settings.height longest (omega arith)) (le-leb 1 head.settings.seats (omega arith))
-    (le-leb head.settings.seats 8 (omega arith)) (le-leb head.settings.chance 100 (omega arith)) in
-    let zero : eqb head.over 0 ≡ true = eq-eqb head.over 0 over in
-    let soon : ltb head.turn 10000 ≡ true = lt-ltb head.turn 10000 (omega arith) in
-    rw (zero, soon, fit) refl
+    record {
+      open_game = shows.over ∙ ap (λ o. cond {A = ℕ} o 1 0) on;
+      early = omega arith;
+      settings = record {
+        mode = omega arith;
+        wide = omega arith;
+        narrow = omega arith;
+        high = omega arith;
+        low = omega arith;
+        some = omega arith;
+        few = omega arith;
+        chance = omega arith;
+      };
+    }
 
 area : (w h longest : ℕ) → w ≤ longest → h ≤ longest → w * h ≤ longest * longest
 area w h longest wide high = grind arith
@@ -66,10 +67,10 @@ plays_game longest moves words head food plane bodies head' food' plane' bodies'
     plays b orders shows lasting early (record { cells = omega arith; few = few; long = omega arith; small = small }) given
 
 -- a game that may not be stepped shows no such board
-pub plays_none : (longest : ℕ) (moves words : List ℕ) (head : Head) (food plane bodies : List ℕ) → may_step longest head ≡ false
+pub plays_none : (longest : ℕ) (moves words : List ℕ) (head : Head) (food plane bodies : List ℕ) → (MayStep longest head → ⊥)
     → PlaysGame longest moves words head food plane bodies head food plane bodies
 plays_none longest moves words head food plane bodies closed b orders shows lasting early on wide high given =
-    absurd (false≢true (sym closed ∙ may_be_stepped longest head food plane bodies b shows lasting early on wide high))
+    absurd (closed (may_be_stepped longest head food plane bodies b shows lasting early on wide high))
 
 -- as many as there are, up to a number
 pub few_taken : (n k : ℕ) (list piece : List ℕ) → k ≡ min (length list) n → list ≡ piece → take k list ≡ take n piece

@@ -3,6 +3,8 @@ pub mod Collisions
 pub mod Eliminations
 pub mod Food
 pub mod FreeCells
+pub mod Loading
 pub mod Seats
+pub mod Starting
 pub mod Steps
 pub mod Turns

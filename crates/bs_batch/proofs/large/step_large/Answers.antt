@@ -1,6 +1,7 @@
 use Rattle.std.proofs.Common.{ℕ, arith}
 use Rattle.bs_batch.specs.declared.layout.LargeGame.{LargeGame}
-use Rattle.bs_batch.specs.Games.{StepsLarge, piece_of, words_of}
+use Rattle.bs_batch.specs.Games.{StepsLarge, words_of}
+use Rattle.bs_batch.specs.Starting.{piece_of}
 use Rattle.bs_batch.proofs.EachGame.{one_more, others_rest}
 use Rattle.bs_batch.proofs.large.step_large.Goals as goal
 

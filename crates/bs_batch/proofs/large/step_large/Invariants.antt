@@ -1,6 +1,7 @@
 use Rattle.std.proofs.Common.{◌≡◌, ℕ, ◌<◌, ◌≤◌, get_or}
 use Rattle.bs_batch.specs.declared.layout.LargeGame.{LargeGame}
-use Rattle.bs_batch.specs.Games.{StepsLarge, piece_of, words_of}
+use Rattle.bs_batch.specs.Games.{StepsLarge, words_of}
+use Rattle.bs_batch.specs.Starting.{piece_of}
 use Rattle.bs_batch.proofs.large.step_large.Given as goal
 
 -- the games so far have played, the others have not

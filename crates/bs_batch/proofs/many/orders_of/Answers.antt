@@ -1,4 +1,4 @@
-use Rattle.bs_batch.specs.Games.{piece_of}
+use Rattle.bs_batch.specs.Starting.{piece_of}
 use Rattle.bs_batch.proofs.Stepping.{few_taken}
 use Rattle.bs_batch.proofs.many.orders_of.Goals as goal
 

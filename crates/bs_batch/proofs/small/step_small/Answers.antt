@@ -1,6 +1,7 @@
 use Rattle.std.proofs.Common.{ℕ, arith}
 use Rattle.bs_batch.specs.declared.layout.SmallGame.{SmallGame}
-use Rattle.bs_batch.specs.Games.{StepsSmall, piece_of, words_of}
+use Rattle.bs_batch.specs.Games.{StepsSmall, words_of}
+use Rattle.bs_batch.specs.Starting.{piece_of}
 use Rattle.bs_batch.proofs.EachGame.{one_more, others_rest}
 use Rattle.bs_batch.proofs.small.step_small.Goals as goal
 
