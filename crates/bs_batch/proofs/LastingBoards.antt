@@ -48,7 +48,7 @@ living_state b seat s None alive state = state
 living_state b seat s (Some c) alive state = absurd (false≢true alive)
 
 -- all parts of a living snake are on the board
-on_board : (b : Board) (seat : ℕ) (s : Snake) → IsLegalSnake b seat s → is_living s ≡ true → All (λ p. is_on_board b.width b.height p ≡ true) s.body
+pub on_board : (b : Board) (seat : ℕ) (s : Snake) → IsLegalSnake b seat s → is_living s ≡ true → All (λ p. is_on_board b.width b.height p ≡ true) s.body
 on_board b seat s l alive =
     let long = l.body.long in
     all_parts (λ p. is_on_board b.width b.height p ≡ true) s.body (omega arith) (living_state b seat s s.cause alive l.state).head l.body.inside

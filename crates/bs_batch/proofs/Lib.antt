@@ -4,6 +4,8 @@ pub mod Bytes
 pub mod CellCounts
 pub mod CellOnce
 pub mod Collided
+pub mod CrossingAll
+pub mod CrossingCounts
 pub mod Crossings
 pub mod EachGame
 pub mod Eliminated

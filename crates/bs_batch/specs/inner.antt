@@ -1,5 +1,6 @@
 -- What private contracts cite, and no public one.
 pub mod Collisions
+pub mod Crossing
 pub mod Eliminations
 pub mod Food
 pub mod FreeCells

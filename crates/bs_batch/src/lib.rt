@@ -4,6 +4,7 @@
 #![tactic(auto)]
 
 mod collisions;
+mod crossing;
 mod food;
 mod large;
 mod law;
