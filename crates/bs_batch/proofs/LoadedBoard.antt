@@ -175,3 +175,7 @@ room_is b none = rw none refl
 pub none_is : (hazards : Option Hazards) → is_some hazards ≡ false → is_none hazards ≡ true
 none_is None fails = refl
 none_is (Some h) fails = absurd cc
+
+pub no_hazards : {X : Type 0} (hazards : Option X) → is_some hazards ≡ false → hazards ≡ None
+no_hazards None none = refl
+no_hazards (Some h) none = absurd cc

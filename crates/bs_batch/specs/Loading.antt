@@ -11,6 +11,7 @@ use Rattle.bs_batch.specs.declared.layout.Settings.{Settings}
 use Rattle.bs_batch.specs.declared.loading.Misfit.{Misfit}
 use Rattle.bs_batch.specs.declared.loading.Misfit.TheVariants.{Hazards, Room}
 use Rattle.bs_batch.specs.declared.loading.TheConstants.{MOST_PARTS}
+use Rattle.bs_batch.specs.Lasting.{CrossesLittle, IsLasting}
 use Rattle.bs_batch.specs.Shown.{ShowsGame, occupants}
 
 -- each cell has at most that many parts of living snakes
@@ -26,6 +27,11 @@ pub record FitsLists (food bodies : ℕ) (b : Board) : Type 0 where
   pub cells : length b.food ≤ food
   pub short : AreShort (bodies / 8) b.snakes
   pub few : HasFewParts b.snakes
+
+-- besides, no living body crosses itself more than once, so that each later turn is exact
+pub record FitsGame (food bodies : ℕ) (b : Board) : Type 0 where
+  pub lists : FitsLists food bodies b
+  pub crossings : All (CrossesLittle b.width b.height) b.snakes
 
 -- no side is longer
 pub record FitsSides (longest : ℕ) (b : Board) : Type 0 where
@@ -49,6 +55,7 @@ misfit_of b = if is_some b.hazards then Hazards else Room
 pub record IsLoaded {T : Type 0} (fits : Type 0) (b : Board) (result : Result T Misfit) (head : Head) (food plane bodies : List ℕ) : Type 0 where
   pub exactly : IsOk result ↔ ((is_none b.hazards ≡ true) × fits)
   pub shows : OnOk result (ShowsGame head food plane bodies b)
+  pub lasts : OnOk result (IsLasting b)
   pub misfit : IfErr result (λ misfit. misfit ≡ misfit_of b)
   pub none : OnErr result (head ≡ cleared head.settings)
 

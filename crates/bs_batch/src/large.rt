@@ -4,7 +4,7 @@ ghost use Rattle.std.specs.Prelude.{◌≡◌, ℕ, ◌<◌, length, slice_index
 ghost use Rattle.bs_batch.specs.declared.layout.LargeGame.{LargeGame as AnyGame};
 ghost use Rattle.bs_batch.specs.Games.{StepsLarge, words_of};
 ghost use Rattle.bs_board.specs.boards.Legal.{IsLegal};
-ghost use Rattle.bs_batch.specs.Loading.{FitsLists, FitsSides, IsLoaded};
+ghost use Rattle.bs_batch.specs.Loading.{FitsGame, FitsSides, IsLoaded};
 ghost use Rattle.bs_batch.specs.Starting.{StartsEach, StartsLarge, piece_of};
 
 use crate::layout::{LARGE_SIDE, LargeGame, Place, is_fit};
@@ -102,7 +102,7 @@ pub fn save_large(game: &LargeGame, into: &mut [u8]) -> usize {
 
 /// Makes the game of this board. Its ids are not kept.
 pub fn load_large(game: &mut LargeGame, board: &Board) -> Result<(), Misfit>
-    ensures { IsLegal board.now → IsLoaded (FitsSides LARGE_SIDE board.now × FitsLists 625 5032 board.now) board.now result game.new.head game.new.food game.new.plane game.new.bodies }
+    ensures { IsLegal board.now → IsLoaded (FitsSides LARGE_SIDE board.now × FitsGame 625 5032 board.now) board.now result game.new.head game.new.food game.new.plane game.new.bodies }
 {
     if !is_within(board, LARGE_SIDE) {
         return refuse(&mut game.head, board);

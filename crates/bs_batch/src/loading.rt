@@ -3,7 +3,7 @@
 ghost use Rattle.std.specs.Prelude.{◌≡◌, ◌≢◌, ◌↔◌, ◌≤◌, ◌<◌, Some, IsTrue, length};
 ghost use Rattle.bs_board.specs.declared.boards.snake.Cause.TheVariants.{Hazard as ByHazard};
 ghost use Rattle.bs_board.specs.records.Record.{cause_byte, mode_byte};
-ghost use Rattle.bs_batch.specs.Loading.{FitsLists, FitsSides, IsLoaded, RefusesBoard};
+ghost use Rattle.bs_batch.specs.Loading.{FitsGame, FitsSides, IsLoaded, RefusesBoard};
 ghost use Rattle.bs_batch.specs.Shown.{ShowsSettings, seat_byte};
 ghost use Rattle.bs_batch.specs.inner.Loading.{
   AddsParts,
@@ -18,6 +18,7 @@ ghost use Rattle.bs_batch.specs.inner.Loading.{
   NumbersCell,
 };
 
+use crate::crossing::cross_little;
 use crate::layout::{
     ALIVE, BODY_COLLISION, CONSTRICTOR, HEAD_COLLISION, Head, NO_SEAT, OUT_OF_HEALTH, SEATS,
     SELF_COLLISION, SOLO, STANDARD, STRIDE, Seat, Settings, WALL_COLLISION, WRAPPED,
@@ -35,7 +36,8 @@ const MOST_PARTS: u8 = 64;
 pub enum Misfit {
     /// It has hazards.
     Hazards,
-    /// A list is too long for the game, a side too long, or too many parts are on one cell.
+    /// A list is too long for the game, a side too long, too many parts are on one cell, or a living
+    /// body crosses itself more than once.
     Room,
 }
 
@@ -238,13 +240,16 @@ pub fn load(
     bodies: &mut [u16],
     board: &Board,
 ) -> Result<(), Misfit>
-    ensures { CanLoadLists board.now (length food.new) (length plane.new) (length bodies.new) → IsLoaded (FitsLists (length food.new) (length bodies.new) board.now) board.now result head.new food.new plane.new bodies.new }
+    ensures { CanLoadLists board.now (length food.new) (length plane.new) (length bodies.new) → IsLoaded (FitsGame (length food.new) (length bodies.new) board.now) board.now result head.new food.new plane.new bodies.new }
 {
     let settings = settings_of(board);
     clear(head, settings);
     clear_plane(plane);
     if board.hazards.is_some() {
         return Err(Misfit::Hazards);
+    }
+    if !cross_little(board.snakes.as_slice()) {
+        return Err(Misfit::Room);
     }
     if !load_cells(head, food, plane, bodies, board) {
         clear(head, settings);

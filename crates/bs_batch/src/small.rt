@@ -4,7 +4,7 @@ ghost use Rattle.std.specs.Prelude.{◌≡◌, ℕ, ◌<◌, length, slice_index
 ghost use Rattle.bs_batch.specs.declared.layout.SmallGame.{SmallGame as AnyGame};
 ghost use Rattle.bs_batch.specs.Games.{StepsSmall, words_of};
 ghost use Rattle.bs_board.specs.boards.Legal.{IsLegal};
-ghost use Rattle.bs_batch.specs.Loading.{FitsLists, FitsSides, IsLoaded};
+ghost use Rattle.bs_batch.specs.Loading.{FitsGame, FitsSides, IsLoaded};
 ghost use Rattle.bs_batch.specs.Starting.{StartsEach, StartsSmall, piece_of};
 
 use crate::layout::{Place, SMALL_SIDE, SmallGame, is_fit};
@@ -102,7 +102,7 @@ pub fn save_small(game: &SmallGame, into: &mut [u8]) -> usize {
 
 /// Makes the game of this board. Its ids are not kept.
 pub fn load_small(game: &mut SmallGame, board: &Board) -> Result<(), Misfit>
-    ensures { IsLegal board.now → IsLoaded (FitsSides SMALL_SIDE board.now × FitsLists 121 1000 board.now) board.now result game.new.head game.new.food game.new.plane game.new.bodies }
+    ensures { IsLegal board.now → IsLoaded (FitsSides SMALL_SIDE board.now × FitsGame 121 1000 board.now) board.now result game.new.head game.new.food game.new.plane game.new.bodies }
 {
     if !is_within(board, SMALL_SIDE) {
         return refuse(&mut game.head, board);
