@@ -25,7 +25,7 @@ one_if : (b : Bool) → b ≡ true → cond {A = ℕ} b 1 0 ≡ 1
 one_if b e = rw e refl
 
 -- what some element passes is counted
-counted : {X : Type 0} (p : X → Bool) (xs : List X) → list_any p xs ≡ true → 1 ≤ count_by p xs
+pub counted : {X : Type 0} (p : X → Bool) (xs : List X) → list_any p xs ≡ true → 1 ≤ count_by p xs
 counted p [] e = absurd (false≢true e)
 counted p (x ∷ xs) e =
     let more : count_by p (x ∷ xs) ≡ cond (p x) 1 0 + count_by p xs = sum_by-cons (λ y. cond (p y) 1 0) x xs in

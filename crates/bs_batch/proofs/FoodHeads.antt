@@ -32,7 +32,7 @@ pub none_any : {X : Type 0} (f : X → Bool) (xs : List X) (d : X) → ((k : ℕ
 none_any f [] d e = refl
 none_any f (x ∷ xs) d e = rw (e zero (omega arith)) (none_any f xs d (λ k within. e (suc k) (omega arith)))
 
-same_numbers : (width height : ℕ) (p q : Point) → width ≤ 25 → is_near width height p ≡ true → is_near width height q ≡ true
+pub same_numbers : (width height : ℕ) (p q : Point) → width ≤ 25 → is_near width height p ≡ true → is_near width height q ≡ true
     → eqb (number_of p) (number_of q) ≡ is_same_cell p q
 same_numbers width height p q narrow near_p near_q =
     let by_number : Decides (eqb (number_of p) (number_of q)) (p ≡ q) =

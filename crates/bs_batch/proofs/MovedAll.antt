@@ -1,5 +1,5 @@
 -- The seats that are moved and fed one by one.
-use Rattle.std.proofs.Common.{◌≡◌, ℕ, ◌+◌, ◌-◌, ◌*◌, ◌<◌, ◌≤◌, Bool, true, false, ◌||◌, List, length, refl, sym, ap, ◌∙◌, arith, inl, inr}
+use Rattle.std.proofs.Common.{◌≡◌, ℕ, ◌+◌, ◌*◌, ◌<◌, ◌≤◌, Bool, true, false, ◌||◌, List, length, refl, sym, ap, ◌∙◌, arith, inl, inr}
 use Rattle.std.specs.Prelude.{slice_index_or}
 use Rattle.std.proofs.lemmas.Bool.{cases_eq}
 use Rattle.bs_board.specs.declared.boards.board.Board.{Board}
@@ -14,6 +14,7 @@ use Rattle.bs_batch.specs.Directions.{given_by}
 use Rattle.bs_batch.specs.Shown.{HasRoom, ShowsSeats}
 use Rattle.bs_batch.specs.Eliminations.{with_snake}
 use Rattle.bs_batch.specs.inner.Seats.{AreMoved, CanMoveAt, IsMovedAt, MovesAt, moved_by_seat, stepped}
+use Rattle.bs_batch.proofs.MovedAt.{less_room}
 use Rattle.bs_batch.proofs.SoFar.{all_so_far, board_so_far, length_so_far, more_so_far, next_so_far}
 
 abbrev pub step_of : List ℕ → Board → ℕ → Snake → Snake
@@ -26,28 +27,20 @@ Hungers moves b seat = eats b.food (moved (wrap_of b) (given_by (slice_index_or 
 -- after i seats
 pub record StoodMoved (moves : List ℕ) (i : ℕ) (b : Board) (head : Head) (bodies0 bodies plane : List ℕ) (any : Bool) : Type 0 where
   pub shows : ShowsSeats head plane bodies (board_so_far (step_of moves b) i b)
-  pub room : (more : ℕ) → more + 2 * i ≡ 18 → HasRoom more (board_so_far (step_of moves b) i b)
+  pub room : (more : ℕ) → HasRoom (more + 2 * i) b → HasRoom more (board_so_far (step_of moves b) i b)
   pub long : length bodies ≡ length bodies0
   pub none : any ≡ false → (seat : ℕ) → seat < i → seat < length b.snakes → Hungers moves b seat
 
 abbrev pub MovedSoFar : List ℕ → ℕ → Head → List ℕ → List ℕ → Head → List ℕ → List ℕ → Bool → Type 0
 MovedSoFar moves i head bodies plane head' bodies' plane' any =
-    (b : Board) → ShowsSeats head plane bodies b → HasRoom 18 b → ((seat : ℕ) → CanMoveAt bodies b seat) → StoodMoved moves i b head' bodies bodies' plane' any
+    (b : Board) → ShowsSeats head plane bodies b → HasRoom 16 b → ((seat : ℕ) → CanMoveAt bodies b seat) → StoodMoved moves i b head' bodies bodies' plane' any
 
 pub none_moved : (moves : List ℕ) (head : Head) (bodies plane : List ℕ) → MovedSoFar moves 0 head bodies plane head bodies plane false
 none_moved moves head bodies plane b shows room can = record {
   shows = shows;
-  room = λ more e. let all : more ≡ 18 = omega arith in rw all room;
+  room = λ more room. less_room b (more + 2 * 0) more (omega arith) room;
   long = refl;
   none = λ _ seat before _. absurd (omega arith);
-}
-
-less : (b : Board) (more fewer : ℕ) → fewer ≤ more → HasRoom more b → HasRoom fewer b
-less b more fewer low room = record {
-  narrow = room.narrow;
-  early = room.early;
-  bodies = room.bodies;
-  few = λ p. let few = room.few p in omega arith;
 }
 
 neither : (a b : Bool) → (a || b) ≡ false → (a ≡ false) × (b ≡ false)
@@ -81,14 +74,16 @@ module _ (moves : List ℕ) (i : ℕ) (b : Board) (within : i < length b.snakes)
   }
 
   pub one_moved : (head : Head) (bodies0 bodies plane : List ℕ) (head' : Head) (bodies' plane' : List ℕ) (given : ℕ) (any ate : Bool) → given ≡ slice_index_or moves i 4
-      → CanMoveAt bodies0 b i → StoodMoved moves i b head bodies0 bodies plane any → MovesAt i given head bodies plane head' bodies' plane' ate
+      → HasRoom 16 b → CanMoveAt bodies0 b i → StoodMoved moves i b head bodies0 bodies plane any → MovesAt i given head bodies plane head' bodies' plane' ate
       → StoodMoved moves (i + 1) b head' bodies0 bodies' plane' (any || ate)
-  one_moved head bodies0 bodies plane head' bodies' plane' given any ate is can stood step =
+  one_moved head bodies0 bodies plane head' bodies' plane' given any ate is room can stood step =
       let moved_now : IsMovedAt i (slice_index_or moves i 4) now head' bodies bodies' plane' ate =
-      rw (← is) (step now stood.shows (less now (18 - 2 * i) 2 (omega arith) (stood.room (18 - 2 * i) (omega arith))) (can_now bodies0 bodies stood.long can) inside) in
+      rw (← is) (step now stood.shows (stood.room 2 (less_room b 16 (2 + 2 * i) (omega arith) room)) (can_now bodies0 bodies stood.long can) inside) in
       record {
         shows = let P : Board → Type 0 = λ c. ShowsSeats head' plane' bodies' c in rw next_board at moved_now.shows;
-        room = λ more e. let P : Board → Type 0 = λ c. HasRoom more c in rw next_board at (moved_now.room more (stood.room (more + 2) (omega arith)));
+        room = λ more room.
+            let P : Board → Type 0 = λ c. HasRoom more c in
+            rw next_board at (moved_now.room more (stood.room (more + 2) (less_room b (more + 2 * (i + 1)) (more + 2 + 2 * i) (omega arith) room)));
         long = moved_now.long ∙ stood.long;
         none = λ e seat before l.
             let both = neither any ate e in
@@ -108,7 +103,7 @@ all_moved moves i b head bodies0 bodies plane any end few stood =
     ap (λ snakes. record b { snakes = snakes }) (all_so_far (step_of moves b) i b.snakes (omega arith)) in
     record {
       shows = let P : Board → Type 0 = λ c. ShowsSeats head plane bodies c in rw all at stood.shows;
-      room = let P : Board → Type 0 = λ c. HasRoom 2 c in rw all at (less (board_so_far (step_of moves b) i b) (18 - 2 * i) 2 (omega arith) (stood.room (18 - 2 * i) (omega arith)));
+      room = λ more room. let P : Board → Type 0 = λ c. HasRoom more c in rw all at (stood.room more (less_room b (more + 16) (more + 2 * i) (omega arith) room));
       long = stood.long;
       none = λ e seat within. stood.none e seat (omega arith) within;
     }

@@ -21,7 +21,7 @@ use Rattle.bs_batch.proofs.Bytes.{same_bytes}
 use Rattle.bs_batch.proofs.SeatWrites.{food_at_most}
 use Rattle.bs_batch.proofs.Shown.{head_near}
 
-one_at_most : (b : Bool) → cond {A = ℕ} b 1 0 ≤ 1
+pub one_at_most : (b : Bool) → cond {A = ℕ} b 1 0 ≤ 1
 one_at_most true = omega arith
 one_at_most false = omega arith
 
@@ -130,7 +130,7 @@ module _ (width height : ℕ) (others : Point → ℕ) (food : List Point) (seat
       } in
       rw e (repeats width height others food (record s { health = 100 }) full (record { short = spare.short; small = spare.small; few = spare.few }), refl)
 
-longer_parts : (s : Snake) (x p : Point) (health : ℕ) → parts_on p (record s { body = s.body ++ x ∷ []; health = health }) ≤ parts_on p s + 1
+pub longer_parts : (s : Snake) (x p : Point) (health : ℕ) → parts_on p (record s { body = s.body ++ x ∷ []; health = health }) ≤ parts_on p s + 1
 longer_parts s x p health =
     let more = sum_by_push (λ r. cond {A = ℕ} (is_same_cell p r) 1 0) s.body x in
     let more' : count_by (is_same_cell p) (s.body ++ x ∷ []) ≡ count_by (is_same_cell p) s.body + cond (is_same_cell p x) 1 0 = more in

@@ -2,8 +2,13 @@ pub mod Counts
 pub mod Directions
 pub mod Eliminations
 pub mod Food
+pub mod Games
+pub mod Lasting
 pub mod Living
+pub mod Loading
 pub mod Numbers
 pub mod Shown
+pub mod Starting
 pub mod Steps
+pub mod Turn
 pub mod inner

@@ -7,7 +7,7 @@ use Rattle.bs_board.specs.declared.boards.snake.Snake.{Snake}
 use Rattle.bs_board.specs.declared.limits.TheConstants.{LAST_TURN}
 use Rattle.bs_board.specs.boards.Cell.{is_same_cell}
 use Rattle.bs_board.specs.boards.Legal.{is_near}
-use Rattle.bs_board.specs.boards.Over.{is_living}
+use Rattle.bs_board.specs.boards.Over.{is_living, is_over}
 use Rattle.bs_board.specs.records.Record.{cause_byte, mode_byte}
 use Rattle.bs_rules.specs.Collision.{snake_at}
 use Rattle.bs_batch.specs.declared.layout.Head.{Head}
@@ -79,6 +79,13 @@ pub record ShowsSeats (head : Head) (plane bodies : List ℕ) (b : Board) : Type
 pub record ShowsFood (foods : ℕ) (cells : List ℕ) (food : List Point) : Type 0 where
   pub count : foods ≡ length food
   pub listed : take (length food) cells ≡ numbers_of food
+
+-- the memory of a game shows a board
+pub record ShowsGame (head : Head) (cells plane bodies : List ℕ) (b : Board) : Type 0 where
+  pub seats : ShowsSeats head plane bodies b
+  pub food : ShowsFood head.foods cells b.food
+  pub living : head.living ≡ count_by is_living b.snakes
+  pub over : head.over ≡ cond (is_over b) 1 0
 
 -- a body of three parts or more, each on the board or next to it
 pub record HasBody (width height : ℕ) (s : Snake) : Type 0 where

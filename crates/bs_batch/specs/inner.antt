@@ -1,6 +1,11 @@
 -- What private contracts cite, and no public one.
 pub mod Collisions
+pub mod Crossing
 pub mod Eliminations
 pub mod Food
+pub mod FreeCells
+pub mod Loading
 pub mod Seats
+pub mod Starting
 pub mod Steps
+pub mod Turns

@@ -161,6 +161,7 @@ fn verdict_of(head: &Head, bodies: &[u16], seat: usize) -> Verdict
 pub fn eliminate(head: &mut Head, plane: &mut [u8], bodies: &[u16], seat: usize, verdict: Verdict)
     requires seat { seat < SEATS }
     ensures settings { head.new.settings ≡ head.old.settings }
+    ensures foods { head.new.foods ≡ head.old.foods }
     ensures board { Eliminates seat verdict bodies.now head.old plane.old head.new plane.new }
 {
     remove_body(plane, body_of(bodies, seat, head.seats[seat].parts));
@@ -230,6 +231,7 @@ fn judge(head: &Head, bodies: &[u16]) -> [Verdict; SEATS]
 fn put_out(head: &mut Head, plane: &mut [u8], bodies: &[u16], seat: usize, verdict: Verdict)
     requires seat { seat < SEATS }
     ensures settings { head.new.settings ≡ head.old.settings }
+    ensures foods { head.new.foods ≡ head.old.foods }
     ensures board { PutsOut seat verdict bodies.now head.old plane.old head.new plane.new }
 {
     if verdict.cause != ALIVE {
@@ -241,6 +243,7 @@ fn put_out(head: &mut Head, plane: &mut [u8], bodies: &[u16], seat: usize, verdi
 pub fn collide(head: &mut Head, plane: &mut [u8], bodies: &[u16])
     requires seats { head.old.settings.seats ≤ SEATS }
     ensures settings { head.new.settings ≡ head.old.settings }
+    ensures foods { head.new.foods ≡ head.old.foods }
     ensures board { ChangesBoard collided bodies.now head.old plane.old head.new plane.new }
 {
     if are_all_alone(head, plane, bodies) {

@@ -1,8 +1,10 @@
 //! Food: what is eaten, and what appears.
 
-ghost use Rattle.std.specs.Prelude.{◌≡◌, ◌≤◌, ◌<◌, length};
-ghost use Rattle.bs_batch.specs.Food.{RemovesEaten};
-ghost use Rattle.bs_batch.specs.inner.Food.{HasHeadAt, IsUnderHead, KeepsFood};
+ghost use Rattle.std.specs.Prelude.{◌≡◌, ◌≤◌, ◌<◌, count_by, length};
+ghost use Rattle.bs_food.specs.Spawning.{with_one_food};
+ghost use Rattle.bs_batch.specs.Food.{AddsFood, RemovesEaten, Spawns};
+ghost use Rattle.bs_batch.specs.inner.Food.{HasHeadAt, IsUnderHead, KeepsFood, with_food_by};
+ghost use Rattle.bs_batch.specs.inner.FreeCells.{CountsFree, FindsFree, FindsZero, IsRow, is_zero};
 
 use crate::layout::{ALIVE, Head, LARGE_SIDE, SEATS, STRIDE, Settings};
 use crate::planes::{add_food, remove_food};
@@ -67,7 +69,10 @@ pub fn remove_eaten(head: &mut Head, food: &mut [u16], plane: &mut [u8], bodies:
 
 /// The number of free cells of a row.
 #[inline]
-fn free_in(row: &[u8]) -> u32 {
+fn free_in(row: &[u8]) -> u32
+    requires short { length row.now ≤ LARGE_SIDE }
+    ensures { result ≡ count_by is_zero row.now }
+{
     let mut free = 0u32;
     for count in row {
         free = free.wrapping_add(u32::from(*count == 0));
@@ -79,6 +84,8 @@ fn free_in(row: &[u8]) -> u32 {
 #[inline]
 fn row_of<'a>(plane: &'a [u8], settings: &Settings, row: usize) -> &'a [u8]
     requires high { row < LARGE_SIDE }
+    ensures short { length result.now ≤ LARGE_SIDE }
+    ensures cells { IsRow settings.now plane.now row result.now }
 {
     let start = (row + 1) * usize::from(STRIDE) + 1;
     let width = usize::from(settings.width.min(LARGE_SIDE));
@@ -88,8 +95,10 @@ fn row_of<'a>(plane: &'a [u8], settings: &Settings, row: usize) -> &'a [u8]
     }
 }
 
+/// The number of free cells of the board.
 fn count_free(plane: &[u8], settings: &Settings) -> u32
     requires high { settings.now.height ≤ LARGE_SIDE }
+    ensures { CountsFree settings.now plane.now result }
 {
     let mut free = 0u32;
     for row in 0..usize::from(settings.height) {
@@ -100,7 +109,9 @@ fn count_free(plane: &[u8], settings: &Settings) -> u32
 
 /// The column of the free cell of that number.
 #[inline]
-fn column_of(row: &[u8], number: u32) -> usize {
+fn column_of(row: &[u8], number: u32) -> usize
+    ensures { FindsZero row.now number result }
+{
     let mut left = number;
     for (column, count) in row.iter().enumerate() {
         if *count == 0 {
@@ -116,6 +127,7 @@ fn column_of(row: &[u8], number: u32) -> usize {
 /// The free cell of that number, counted row by row from the bottom left; 0 if there is none.
 fn free_cell(plane: &[u8], settings: &Settings, number: u32) -> u16
     requires high { settings.now.height ≤ LARGE_SIDE }
+    ensures { FindsFree settings.now plane.now number result }
 {
     let mut left = number;
     for row in 0..usize::from(settings.height) {
@@ -134,6 +146,7 @@ fn free_cell(plane: &[u8], settings: &Settings, number: u32) -> u16
 fn place_food(head: &mut Head, food: &mut [u16], plane: &mut [u8], word: u32)
     requires high { head.old.settings.height ≤ LARGE_SIDE }
     ensures settings { head.new.settings ≡ head.old.settings }
+    ensures board { AddsFood (with_one_food word) head.old food.old plane.old head.new food.new plane.new }
 {
     let count = usize::from(head.foods).min(food.len());
     let free = count_free(plane, &head.settings);
@@ -145,9 +158,11 @@ fn place_food(head: &mut Head, food: &mut [u16], plane: &mut [u8], word: u32)
     }
 }
 
+/// Puts one food for each word.
 fn place_missing(head: &mut Head, food: &mut [u16], plane: &mut [u8], words: &[u32])
     requires high { head.old.settings.height ≤ LARGE_SIDE }
     ensures settings { head.new.settings ≡ head.old.settings }
+    ensures board { AddsFood (with_food_by words.now) head.old food.old plane.old head.new food.new plane.new }
 {
     for word in words {
         place_food(head, food, plane, *word);
@@ -159,6 +174,7 @@ fn place_missing(head: &mut Head, food: &mut [u16], plane: &mut [u8], words: &[u
 pub fn spawn(head: &mut Head, food: &mut [u16], plane: &mut [u8], words: &[u32])
     requires high { head.old.settings.height ≤ LARGE_SIDE }
     ensures settings { head.new.settings ≡ head.old.settings }
+    ensures board { Spawns words.now head.old food.old plane.old head.new food.new plane.new }
 {
     let missing = u16::from(head.settings.min_food).saturating_sub(head.foods);
     if missing > 0 {

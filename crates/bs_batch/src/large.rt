@@ -1,5 +1,12 @@
 //! Large games side by side. Game i has the i-th piece of each other list.
 
+ghost use Rattle.std.specs.Prelude.{◌≡◌, ℕ, ◌<◌, length, slice_index_or};
+ghost use Rattle.bs_batch.specs.declared.layout.LargeGame.{LargeGame as AnyGame};
+ghost use Rattle.bs_batch.specs.Games.{StepsLarge, words_of};
+ghost use Rattle.bs_board.specs.boards.Legal.{IsLegal};
+ghost use Rattle.bs_batch.specs.Loading.{FitsGame, FitsSides, IsLoaded};
+ghost use Rattle.bs_batch.specs.Starting.{StartsEach, StartsLarge, piece_of};
+
 use crate::layout::{LARGE_SIDE, LargeGame, Place, is_fit};
 use crate::lists::{list_body, list_food};
 use crate::loading::{Misfit, is_within, load, refuse};
@@ -7,43 +14,63 @@ use crate::many::{ManyOrders, ManyStarts, cells_of, has_to_start, may_step, orde
 use crate::saving::save;
 use crate::showing::show;
 use crate::starting::{clear, start};
-use crate::turns::step;
+use crate::turns::{Orders, step};
 use bs_board::Board;
 
-/// Plays a turn in each game that is not over and is below turn 10,000.
-pub fn step_large(games: &mut [LargeGame], orders: &ManyOrders<'_>) {
-    for (number, game) in games.iter_mut().enumerate() {
-        if may_step(&game.head, LARGE_SIDE) {
-            step(
-                &mut game.head,
-                &mut game.food,
-                &mut game.plane,
-                &mut game.bodies,
-                orders_of(orders, number),
-            );
-        }
+/// Plays a turn of one game, if it is not over and is below turn 10,000.
+#[inline]
+fn step_one(game: &mut LargeGame, orders: Orders<'_>)
+    ensures { StepsLarge orders.entry.moves.now orders.entry.words.now game.old game.new }
+{
+    if !may_step(&game.head, LARGE_SIDE) {
+        return;
     }
+    step(
+        &mut game.head,
+        &mut game.food,
+        &mut game.plane,
+        &mut game.bodies,
+        orders,
+    );
+}
+
+/// Plays a turn in each game that is not over and is below turn 10,000.
+pub fn step_large(games: &mut [LargeGame], orders: &ManyOrders<'_>)
+    ensures games { (i : ℕ) (d : AnyGame) → i < length games.old
+        → StepsLarge (piece_of orders.now.moves.now i orders.now.moves_each) (words_of orders.now.words.now i orders.now.words_each) (slice_index_or games.old i d) (slice_index_or games.new i d) }
+{
+    for number in 0..games.len() {
+        step_one(&mut games[number], orders_of(orders, number));
+    }
+}
+
+/// Starts the game of that number, if its byte of `which` is not 0. Returns whether it started.
+fn start_game(game: &mut LargeGame, first: &ManyStarts<'_>, number: usize) -> bool
+    ensures { StartsLarge first.now number game.old game.new result }
+{
+    if !has_to_start(first, number) {
+        return false;
+    }
+    clear(&mut game.head, first.settings);
+    is_fit(&first.settings, LARGE_SIDE)
+        && start(
+            &mut game.head,
+            &mut game.food,
+            &mut game.plane,
+            &mut game.bodies,
+            cells_of(first, number),
+        )
 }
 
 /// Starts each game whose byte of `which` is not 0, and returns the number of those that started. A
 /// game whose cells do not fit the settings is over, without a snake.
-pub fn start_large(games: &mut [LargeGame], first: &ManyStarts<'_>) -> usize {
+pub fn start_large(games: &mut [LargeGame], first: &ManyStarts<'_>) -> usize
+    ensures { StartsEach (StartsLarge first.now) games.old games.new result }
+{
     let mut started = 0usize;
-    for (number, game) in games.iter_mut().enumerate() {
-        if has_to_start(first, number) {
-            clear(&mut game.head, first.settings);
-            if is_fit(&first.settings, LARGE_SIDE)
-                && start(
-                    &mut game.head,
-                    &mut game.food,
-                    &mut game.plane,
-                    &mut game.bodies,
-                    cells_of(first, number),
-                )
-            {
-                started = started.wrapping_add(1);
-            }
-        }
+    for number in 0..games.len() {
+        let begins = start_game(&mut games[number], first, number);
+        started = started.wrapping_add(usize::from(begins));
     }
     started
 }
@@ -74,7 +101,9 @@ pub fn save_large(game: &LargeGame, into: &mut [u8]) -> usize {
 }
 
 /// Makes the game of this board. Its ids are not kept.
-pub fn load_large(game: &mut LargeGame, board: &Board) -> Result<(), Misfit> {
+pub fn load_large(game: &mut LargeGame, board: &Board) -> Result<(), Misfit>
+    ensures { IsLegal board.now → IsLoaded (FitsSides LARGE_SIDE board.now × FitsGame 625 5032 board.now) board.now result game.new.head game.new.food game.new.plane game.new.bodies }
+{
     if !is_within(board, LARGE_SIDE) {
         return refuse(&mut game.head, board);
     }

@@ -1,6 +1,8 @@
 //! The memory of a game.
 
-ghost use Rattle.std.specs.Prelude.{◌≡◌, ◌≤◌, ◌<◌, IsTrue};
+ghost use Rattle.std.specs.Prelude.{◌≡◌, ◌↔◌, ◌≤◌, ◌<◌, IsTrue};
+ghost use Rattle.bs_batch.specs.Numbers.{number_of};
+ghost use Rattle.bs_batch.specs.Starting.{AreSettings, point_of};
 
 /// The most seats of a game.
 pub const SEATS: usize = 8;
@@ -142,6 +144,7 @@ pub fn is_fit(settings: &Settings, longest: u8) -> bool
     ensures seats { IsTrue result → settings.now.seats ≤ SEATS }
     ensures wide { IsTrue result → settings.now.width ≤ longest }
     ensures high { IsTrue result → settings.now.height ≤ longest }
+    ensures exactly { IsTrue result ↔ AreSettings longest settings.now }
 {
     settings.mode <= WRAPPED
         && 3 <= settings.width
@@ -155,7 +158,9 @@ pub fn is_fit(settings: &Settings, longest: u8) -> bool
 
 /// The number of the cell.
 #[inline]
-pub fn number_of(cell: Cell) -> u16 {
+pub fn number_of(cell: Cell) -> u16
+    ensures { result ≡ number_of (point_of cell) }
+{
     (u16::from(cell.y) + 1) * STRIDE + u16::from(cell.x) + 1
 }
 

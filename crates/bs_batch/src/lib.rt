@@ -4,8 +4,10 @@
 #![tactic(auto)]
 
 mod collisions;
+mod crossing;
 mod food;
 mod large;
+mod law;
 mod layout;
 mod lists;
 mod loading;
@@ -22,6 +24,7 @@ mod turns;
 pub use large::{
     body_large, food_large, load_large, save_large, show_large, start_large, step_large,
 };
+pub use law::first_law;
 pub use layout::{Cell, Head, LargeGame, Place, Seat, Settings, SmallGame};
 pub use loading::Misfit;
 pub use many::{ManyOrders, ManyStarts, orders_of, piece_mut};

@@ -1,6 +1,8 @@
 //! The lists of many games: game i has the i-th piece of each.
 
-ghost use Rattle.std.specs.Prelude.{◌≡◌, ◌≤◌, ◌<◌, IsTrue};
+ghost use Rattle.std.specs.Prelude.{◌≡◌, ◌↔◌, ◌≤◌, IsTrue};
+ghost use Rattle.bs_batch.specs.Starting.{food_of, has_to_start, piece_of, starts_of};
+ghost use Rattle.bs_batch.specs.Games.{MayStep, words_of};
 
 use crate::layout::{Cell, Head, LAST_TURN, SEATS, Settings, is_fit};
 use crate::starting::FirstCells;
@@ -36,12 +38,17 @@ pub struct ManyStarts<'a> {
 
 /// The piece of that number, of pieces of `each` entries; empty if the list is too short.
 #[inline]
-fn piece<T>(list: &[T], number: usize, each: usize) -> &[T] {
+fn piece<T>(list: &[T], number: usize, each: usize) -> &[T]
+    ensures { result.now ≡ piece_of list.now number each }
+{
     let from = number.saturating_mul(each);
-    match list.get(from..from.saturating_add(each)) {
-        Some(piece) => piece,
-        None => &[],
+    if from > list.len() {
+        return &[];
     }
+    if each > list.len() - from {
+        return &[];
+    }
+    &list[from..from + each]
 }
 
 /// The piece of that number, of pieces of `each` bytes; empty if the list is too short.
@@ -56,7 +63,10 @@ pub fn piece_mut(list: &mut [u8], number: usize, each: usize) -> &mut [u8] {
 
 /// The directions and words of the game of that number.
 #[inline]
-pub fn orders_of<'a>(orders: &ManyOrders<'a>, number: usize) -> Orders<'a> {
+pub fn orders_of<'a>(orders: &ManyOrders<'a>, number: usize) -> Orders<'a>
+    ensures moves { result.moves.now ≡ piece_of orders.now.moves.now number orders.now.moves_each }
+    ensures words { result.words.now ≡ words_of orders.now.words.now number orders.now.words_each }
+{
     let words = piece(orders.words, number, orders.words_each);
     let few = words.len().min(MOST_WORDS);
     Orders {
@@ -66,7 +76,10 @@ pub fn orders_of<'a>(orders: &ManyOrders<'a>, number: usize) -> Orders<'a> {
 }
 
 /// The first cells of the game of that number.
-pub fn cells_of<'a>(first: &ManyStarts<'a>, number: usize) -> FirstCells<'a> {
+pub fn cells_of<'a>(first: &ManyStarts<'a>, number: usize) -> FirstCells<'a>
+    ensures starts { result.starts.now ≡ starts_of first.now number }
+    ensures food { result.food.now ≡ food_of first.now number }
+{
     let seats = usize::from(first.settings.seats);
     FirstCells {
         starts: piece(first.starts, number, seats),
@@ -75,7 +88,9 @@ pub fn cells_of<'a>(first: &ManyStarts<'a>, number: usize) -> FirstCells<'a> {
 }
 
 /// Whether the game of that number is to start.
-pub fn has_to_start(first: &ManyStarts<'_>, number: usize) -> bool {
+pub fn has_to_start(first: &ManyStarts<'_>, number: usize) -> bool
+    ensures { result ≡ has_to_start first.now number }
+{
     match first.which.get(number) {
         Some(byte) => *byte != 0,
         None => false,
@@ -87,6 +102,7 @@ pub fn has_to_start(first: &ManyStarts<'_>, number: usize) -> bool {
 pub fn may_step(head: &Head, longest: u8) -> bool
     ensures seats { IsTrue result → head.now.settings.seats ≤ SEATS }
     ensures high { IsTrue result → head.now.settings.height ≤ longest }
+    ensures exactly { IsTrue result ↔ MayStep longest head.now }
 {
     head.over == 0 && head.turn < LAST_TURN && is_fit(&head.settings, longest)
 }

@@ -4,7 +4,19 @@ ghost use Rattle.std.specs.Prelude.{◌≡◌, ◌≤◌, ◌<◌, slice_index_o
 ghost use Rattle.bs_rules.specs.Elimination.{starved_or_outside};
 ghost use Rattle.bs_batch.specs.Shown.{ChangesBoard, room_of};
 ghost use Rattle.bs_batch.specs.inner.Eliminations.{ChangesSeat, IsFirstCause, starved_or_outside_at};
-ghost use Rattle.bs_batch.specs.inner.Seats.{FeedsSeat, MovesAt, MovesSeat, MovesSeats, RepeatsLast};
+ghost use Rattle.bs_batch.specs.inner.Seats.{
+  FeedsSeat,
+  GrowsAt,
+  GrowsSeat,
+  GrowsSeats,
+  IsStretched,
+  MovesAt,
+  MovesSeat,
+  MovesSeats,
+  RepeatsLast,
+};
+ghost use Rattle.bs_batch.specs.Turn.{PlaysTurn};
+ghost use Rattle.bs_batch.specs.inner.Turns.{EndsTurn, MovesAndFeeds, Replenishes};
 
 use crate::collisions::{Verdict, collide, eliminate};
 use crate::food::{remove_eaten, spawn};
@@ -14,7 +26,7 @@ use crate::layout::{
 };
 use crate::motion::move_body;
 use crate::planes::{FOOD, add_part, at, is_on_board, remove_part};
-use crate::seats::{body_of, count, head_of, room_of};
+use crate::seats::{body_of, count, head_of};
 
 /// The directions and the words of a turn.
 #[derive(Clone, Copy)]
@@ -79,6 +91,7 @@ fn feed_seat(seat: &mut Seat, plane: &mut [u8], room: &mut [u16], head: u16) -> 
 fn move_at(head: &mut Head, plane: &mut [u8], bodies: &mut [u16], seat: usize, given: u8) -> bool
     requires seat { seat < SEATS }
     ensures settings { head.new.settings ≡ head.old.settings }
+    ensures foods { head.new.foods ≡ head.old.foods }
     ensures board { MovesAt seat given head.old bodies.old plane.old head.new bodies.new plane.new result }
 {
     if head.seats[seat].cause != ALIVE {
@@ -108,6 +121,7 @@ fn given_to(moves: &[u8], seat: usize) -> u8
 fn move_seats(head: &mut Head, plane: &mut [u8], bodies: &mut [u16], moves: &[u8]) -> bool
     requires seats { head.old.settings.seats ≤ SEATS }
     ensures settings { head.new.settings ≡ head.old.settings }
+    ensures foods { head.new.foods ≡ head.old.foods }
     ensures board { MovesSeats moves.now head.old bodies.old plane.old head.new bodies.new plane.new result }
 {
     let mut any = false;
@@ -140,6 +154,7 @@ fn first_cause(settings: &Settings, health: u8, bodies: &[u16], seat: usize, par
 fn first_out_at(head: &mut Head, plane: &mut [u8], bodies: &[u16], seat: usize)
     requires seat { seat < SEATS }
     ensures settings { head.new.settings ≡ head.old.settings }
+    ensures foods { head.new.foods ≡ head.old.foods }
     ensures board { ChangesSeat starved_or_outside_at seat bodies.now head.old plane.old head.new plane.new }
 {
     let judged = head.seats[seat];
@@ -159,6 +174,7 @@ fn first_out_at(head: &mut Head, plane: &mut [u8], bodies: &[u16], seat: usize)
 fn first_out(head: &mut Head, plane: &mut [u8], bodies: &[u16])
     requires seats { head.old.settings.seats ≤ SEATS }
     ensures settings { head.new.settings ≡ head.old.settings }
+    ensures foods { head.new.foods ≡ head.old.foods }
     ensures board { ChangesBoard starved_or_outside bodies.now head.old plane.old head.new plane.new }
 {
     for seat in 0..usize::from(head.settings.seats) {
@@ -166,26 +182,106 @@ fn first_out(head: &mut Head, plane: &mut [u8], bodies: &[u16])
     }
 }
 
-/// Grows a living snake of constrictor.
+/// Whether the last two parts of a seat differ.
 #[inline]
-fn grow_seat(seat: &mut Seat, plane: &mut [u8], room: &mut [u16]) {
+fn is_stretched(seat: &Seat, room: &[u16]) -> bool
+    ensures { IsStretched seat.now room.now result }
+{
     let parts = usize::from(seat.parts);
-    if 2 <= parts && parts <= room.len() && room[parts - 1] != room[parts - 2] {
-        repeat_last(seat, plane, room);
+    if parts < 2 {
+        return false;
     }
-    seat.health = FULL_HEALTH;
+    if parts > room.len() {
+        return false;
+    }
+    room[parts - 1] != room[parts - 2]
 }
 
+/// Grows a living snake of constrictor.
+#[inline]
+fn grow_seat(state: &mut Seat, plane: &mut [u8], room: &mut [u16])
+    ensures { GrowsSeat state.old room.old plane.old state.new room.new plane.new }
+{
+    state.health = FULL_HEALTH;
+    if !is_stretched(state, room) {
+        return;
+    }
+    repeat_last(state, plane, room);
+}
+
+/// Grows the snake of a seat, if it lives.
+#[inline]
+fn grow_at(head: &mut Head, plane: &mut [u8], bodies: &mut [u16], seat: usize)
+    requires seat { seat < SEATS }
+    ensures settings { head.new.settings ≡ head.old.settings }
+    ensures foods { head.new.foods ≡ head.old.foods }
+    ensures board { GrowsAt seat head.old bodies.old plane.old head.new bodies.new plane.new }
+{
+    if head.seats[seat].cause != ALIVE {
+        return;
+    }
+    let row = bodies.len() / SEATS;
+    let from = seat * row;
+    let state = &mut head.seats[seat];
+    let room = &mut bodies[from..from + row];
+    grow_seat(state, plane, room);
+}
+
+/// Grows all living snakes.
 fn grow(head: &mut Head, plane: &mut [u8], bodies: &mut [u16])
     requires seats { head.old.settings.seats ≤ SEATS }
     ensures settings { head.new.settings ≡ head.old.settings }
+    ensures foods { head.new.foods ≡ head.old.foods }
+    ensures board { GrowsSeats head.old bodies.old plane.old head.new bodies.new plane.new }
 {
-    let settings = head.settings;
-    for seat in 0..usize::from(settings.seats) {
-        if head.seats[seat].cause == ALIVE {
-            grow_seat(&mut head.seats[seat], plane, room_of(bodies, seat));
-        }
+    for seat in 0..usize::from(head.settings.seats) {
+        grow_at(head, plane, bodies, seat);
     }
+}
+
+/// Moves and feeds all living snakes, and removes the food that they ate.
+#[inline]
+fn move_and_feed(
+    head: &mut Head,
+    food: &mut [u16],
+    plane: &mut [u8],
+    bodies: &mut [u16],
+    moves: &[u8],
+)
+    requires seats { head.old.settings.seats ≤ SEATS }
+    ensures settings { head.new.settings ≡ head.old.settings }
+    ensures board { MovesAndFeeds moves.now head.old food.old plane.old bodies.old head.new food.new plane.new bodies.new }
+{
+    let any = move_seats(head, plane, bodies, moves);
+    if !any {
+        return;
+    }
+    remove_eaten(head, food, plane, bodies);
+}
+
+/// Grows the living snakes in constrictor; in the other modes adds food.
+#[inline]
+fn replenish(head: &mut Head, food: &mut [u16], plane: &mut [u8], bodies: &mut [u16], words: &[u32])
+    requires high { head.old.settings.height ≤ LARGE_SIDE }
+    requires seats { head.old.settings.seats ≤ SEATS }
+    ensures settings { head.new.settings ≡ head.old.settings }
+    ensures board { Replenishes words.now head.old food.old plane.old bodies.old head.new food.new plane.new bodies.new }
+{
+    if head.settings.mode == CONSTRICTOR {
+        grow(head, plane, bodies);
+        return;
+    }
+    spawn(head, food, plane, words);
+}
+
+/// Raises the turn number, and counts the living snakes.
+#[inline]
+fn end_turn(head: &mut Head)
+    requires seats { head.old.settings.seats ≤ SEATS }
+    ensures board { EndsTurn head.old head.new }
+{
+    head.turn = head.turn.wrapping_add(1);
+    count(head);
 }
 
 /// Plays a turn of a game.
@@ -198,17 +294,11 @@ pub fn step(
 )
     requires high { head.old.settings.height ≤ LARGE_SIDE }
     requires seats { head.old.settings.seats ≤ SEATS }
+    ensures board { PlaysTurn orders.entry.moves.now orders.entry.words.now head.old food.old plane.old bodies.old head.new food.new plane.new bodies.new }
 {
-    if move_seats(head, plane, bodies, orders.moves) {
-        remove_eaten(head, food, plane, bodies);
-    }
+    move_and_feed(head, food, plane, bodies, orders.moves);
     first_out(head, plane, bodies);
     collide(head, plane, bodies);
-    if head.settings.mode == CONSTRICTOR {
-        grow(head, plane, bodies);
-    } else {
-        spawn(head, food, plane, orders.words);
-    }
-    head.turn = head.turn.wrapping_add(1);
-    count(head);
+    replenish(head, food, plane, bodies, orders.words);
+    end_turn(head);
 }

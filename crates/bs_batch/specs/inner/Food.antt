@@ -1,17 +1,16 @@
--- The steps by which food that is eaten leaves the list.
-use Rattle.std.specs.Prelude.{◌≡◌, ℕ, ◌+◌, ◌<◌, ◌≤◌, Bool, true, false, List, length, slice_index, slice_index_or, slice_set}
+-- The steps by which food that is eaten leaves the list, and new food comes into it.
+use Rattle.std.specs.Prelude.{◌≡◌, ℕ, ◌+◌, ◌<◌, Bool, true, false, List, length, fold, slice_index, slice_set}
 use Rattle.std.specs.List.{list_any}
 use Rattle.bs_board.specs.declared.boards.board.Board.{Board}
 use Rattle.bs_board.specs.declared.boards.point.Point.{Point}
 use Rattle.bs_board.specs.declared.boards.snake.Snake.{Snake}
-use Rattle.bs_board.specs.boards.Cell.{is_on_board}
 use Rattle.bs_board.specs.boards.Legal.{is_near}
+use Rattle.bs_food.specs.Spawning.{with_one_food}
 use Rattle.bs_rules.specs.Collision.{snake_at}
-use Rattle.bs_rules.specs.Feeding.{food_left, has_head_on}
+use Rattle.bs_rules.specs.Feeding.{has_head_on}
 use Rattle.bs_batch.specs.declared.layout.Head.{Head}
 use Rattle.bs_batch.specs.Counts.{WritesFood}
 use Rattle.bs_batch.specs.Numbers.{number_of}
-use Rattle.bs_batch.specs.Shown.{HasRoom, ShowsFood, ShowsSeats}
 use Rattle.bs_batch.specs.inner.Collisions.{ShowsJudged}
 
 abbrev pub ForCell : Head → List ℕ → ℕ → (List Snake → Point → Type 0) → Type 0
@@ -31,3 +30,7 @@ IsUnderHead head bodies cell result = ForCell head bodies cell (λ snakes p. res
 pub record KeepsFood (gone : Bool) (index left : ℕ) (food plane food' plane' : List ℕ) (left' : ℕ) : Type 0 where
   pub taken : gone ≡ true → (left' ≡ left) × (food' ≡ food) × WritesFood 0 (slice_index food index) plane plane'
   pub kept : gone ≡ false → (left' ≡ left + 1) × (food' ≡ slice_set food left (slice_index food index)) × (plane' ≡ plane)
+
+-- one food for each word
+abbrev pub with_food_by : List ℕ → Board → Board
+with_food_by words b = fold (λ c word. with_one_food word c) b words

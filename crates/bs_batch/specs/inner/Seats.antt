@@ -6,6 +6,7 @@ use Rattle.bs_board.specs.declared.boards.board.Board.{Board}
 use Rattle.bs_board.specs.boards.Cell.{head_of, is_on_board}
 use Rattle.bs_board.specs.boards.Over.{is_living}
 use Rattle.bs_board.specs.boards.Wrap.{wrap_of}
+use Rattle.bs_modes.specs.Growth.{grown, grown_snake, is_stretched}
 use Rattle.bs_rules.specs.Collision.{map_seats, snake_at}
 use Rattle.bs_rules.specs.Feeding.{eats, fed_snake, last_of}
 use Rattle.bs_rules.specs.Motion.{moved}
@@ -95,11 +96,47 @@ moved_by_seat moves b = record b { snakes = map_seats (λ seat s. stepped b (sli
 -- all seats are moved and fed; where none ate, no head is on food
 pub record AreMoved (moves : List ℕ) (b : Board) (head' : Head) (bodies bodies' plane' : List ℕ) (any : Bool) : Type 0 where
   pub shows : ShowsSeats head' plane' bodies' (moved_by_seat moves b)
-  pub room : HasRoom 2 (moved_by_seat moves b)
+  pub room : (more : ℕ) → HasRoom (more + 16) b → HasRoom more (moved_by_seat moves b)
   pub long : length bodies' ≡ length bodies
   pub none : any ≡ false → (seat : ℕ) → seat < length b.snakes
       → eats b.food (moved (wrap_of b) (given_by (slice_index_or moves seat 4)) (snake_at b.snakes seat)) ≡ false
 
 abbrev pub MovesSeats : List ℕ → Head → List ℕ → List ℕ → Head → List ℕ → List ℕ → Bool → Type 0
 MovesSeats moves head bodies plane head' bodies' plane' any =
-    (b : Board) → ShowsSeats head plane bodies b → HasRoom 18 b → ((seat : ℕ) → CanMoveAt bodies b seat) → AreMoved moves b head' bodies bodies' plane' any
+    (b : Board) → ShowsSeats head plane bodies b → HasRoom 16 b → ((seat : ℕ) → CanMoveAt bodies b seat) → AreMoved moves b head' bodies bodies' plane' any
+
+-- whether the last two parts of the seat's snake differ
+abbrev pub IsStretched : Seat → List ℕ → Bool → Type 0
+IsStretched seat room result =
+    (width height : ℕ) (s : Snake) → width ≤ 25 → HasBody width height s → ShowsSnake seat room s → result ≡ is_stretched s.body
+
+-- a living snake grows, and its health is full
+abbrev pub GrowsSeat : Seat → List ℕ → List ℕ → Seat → List ℕ → List ℕ → Type 0
+GrowsSeat seat room plane seat' room' plane' =
+    (width height : ℕ) (others : Point → ℕ) (food : List Point) (s : Snake) → ShowsSeat width height others food seat room plane s
+    → SeatHasRoom 1 others room s → ShowsSeat width height others food seat' room' plane' (grown_snake s)
+
+-- lists of a size that fits the numbers, and a snake whose room is longer than its body if it lives
+pub record CanGrowAt (bodies : List ℕ) (b : Board) (seat : ℕ) : Type 0 where
+  pub small : length bodies < 65536
+  pub short : is_living (snake_at b.snakes seat) ≡ true → length (snake_at b.snakes seat).body < length bodies / 8
+
+-- the seat's snake has grown
+pub record IsGrownAt (seat : ℕ) (b : Board) (head' : Head) (bodies bodies' plane' : List ℕ) : Type 0 where
+  pub shows : ShowsSeats head' plane' bodies' (with_snake b seat (grown_snake (snake_at b.snakes seat)))
+  pub room : (more : ℕ) → HasRoom (more + 1) b → HasRoom more (with_snake b seat (grown_snake (snake_at b.snakes seat)))
+  pub long : length bodies' ≡ length bodies
+
+abbrev pub GrowsAt : ℕ → Head → List ℕ → List ℕ → Head → List ℕ → List ℕ → Type 0
+GrowsAt seat head bodies plane head' bodies' plane' =
+    (b : Board) → ShowsSeats head plane bodies b → HasRoom 1 b → CanGrowAt bodies b seat → seat < length b.snakes
+    → IsGrownAt seat b head' bodies bodies' plane'
+
+-- all living snakes have grown
+pub record AreGrown (b : Board) (head' : Head) (bodies bodies' plane' : List ℕ) : Type 0 where
+  pub shows : ShowsSeats head' plane' bodies' (grown b)
+  pub long : length bodies' ≡ length bodies
+
+abbrev pub GrowsSeats : Head → List ℕ → List ℕ → Head → List ℕ → List ℕ → Type 0
+GrowsSeats head bodies plane head' bodies' plane' =
+    (b : Board) → ShowsSeats head plane bodies b → HasRoom 8 b → ((seat : ℕ) → CanGrowAt bodies b seat) → AreGrown b head' bodies bodies' plane'

@@ -17,6 +17,7 @@ returns-then-are_all_alone-clause-board c b shows room =
 pub loop-seat-preserved : goal.loop-seat-preserved
 loop-seat-preserved c = record {
   settings = c.put_out.ensures.settings ∙ c.loop-seat.invariant.settings;
+  foods = c.put_out.ensures.foods ∙ c.loop-seat.invariant.foods;
   board = λ b shows room.
       let i = c.loop-seat.seat in
       let f = λ (seat : ℕ) (s : Snake). judged (b.turn + 1) (collision_verdict b.snakes seat) s in

@@ -8,6 +8,7 @@ use Rattle.bs_batch.proofs.turns.first_out.Goals as goal
 pub loop-seat-preserved : goal.loop-seat-preserved
 loop-seat-preserved c = record {
   settings = c.first_out_at.ensures.settings ∙ c.loop-seat.invariant.settings;
+  foods = c.first_out_at.ensures.foods ∙ c.loop-seat.invariant.foods;
   board = λ b shows room.
       let f = λ (_ : ℕ). starved_or_outside_at b in
       let now = board_so_far f c.loop-seat.seat b in

@@ -3,9 +3,10 @@ use Rattle.bs_batch.specs.inner.Eliminations.{starved_or_outside_at}
 use Rattle.bs_batch.proofs.Steps.{ChangesSoFar}
 use Rattle.bs_batch.proofs.turns.first_out.Given as goal
 
--- the seats so far are judged; the settings stay
+-- the seats so far are judged; the settings and the list of food stay
 abbrev pub invariant-loop-seat : goal.invariant-loop-seat
 invariant-loop-seat l = record {
   settings : l.head.settings ≡ l.fn.head.settings;
+  foods : l.head.foods ≡ l.fn.head.foods;
   board : ChangesSoFar (λ b _. starved_or_outside_at b) l.seat l.bodies l.fn.head l.fn.plane l.head l.plane;
 }

@@ -1,0 +1,11 @@
+use Rattle.std.proofs.Common.{arith, refl, sym}
+use Rattle.std.proofs.lemmas.List.{get_or_default}
+use Rattle.bs_batch.specs.Starting.{StartsLarge}
+use Rattle.bs_batch.proofs.StartedGames.{one_started}
+use Rattle.bs_batch.proofs.large.start_large.Goals as goal
+
+pub loop-number-preserved : goal.loop-number-preserved
+loop-number-preserved c =
+    one_started (StartsLarge c.args.first.now) c.loop-number.number c.args.games.now c.loop-number.games c.loop-number.started _ c.from-started.result _ c.start_game-begins.new.game
+    c.start_game-begins.result c.loop-number-test.true (omega arith) (λ d. get_or_default c.loop-number.games c.loop-number.number _ d (omega (arith, c.loop-number-test.true, c.loop-number.auto.games))) c.from-started.ensures refl c.loop-number.invariant
+    c.start_game-begins.ensures
