@@ -23,6 +23,7 @@ pub mod Numbers
 pub mod Onward
 pub mod Repeated
 pub mod Rooms
+pub mod Saved
 pub mod SeatWrites
 pub mod Shown
 pub mod SoFar

@@ -5,6 +5,7 @@ pub mod Food
 pub mod Living
 pub mod Loading
 pub mod Numbers
+pub mod Saving
 pub mod Shown
 pub mod Starting
 pub mod Steps

@@ -3,6 +3,7 @@ pub mod Collisions
 pub mod Eliminations
 pub mod Food
 pub mod Loading
+pub mod Saving
 pub mod Seats
 pub mod Starting
 pub mod Steps

@@ -2,6 +2,7 @@
 
 ghost use Rattle.bs_board.specs.boards.Legal.{IsLegal};
 ghost use Rattle.bs_batch.specs.Loading.{FitsLists, FitsSides, IsLoaded};
+ghost use Rattle.bs_batch.specs.Saving.{SavesGameOf};
 ghost use Rattle.bs_batch.specs.Starting.{StartsEach, StartsSmall};
 
 use crate::layout::{Place, SMALL_SIDE, SmallGame, is_fit};
@@ -77,7 +78,9 @@ pub fn show_small(games: &[SmallGame], into: &mut [u8], each: usize) {
 
 /// Writes the record of the game's board, as far as there is room, and returns its length; 0 if the
 /// settings are not those of a game.
-pub fn save_small(game: &SmallGame, into: &mut [u8]) -> usize {
+pub fn save_small(game: &SmallGame, into: &mut [u8]) -> usize
+    ensures { SavesGameOf SMALL_SIDE game.now.head game.now.food game.now.bodies into.new result }
+{
     if is_fit(&game.head.settings, SMALL_SIDE) {
         save(&game.head, &game.food, &game.bodies, into)
     } else {
