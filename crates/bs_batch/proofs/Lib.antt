@@ -9,6 +9,7 @@ pub mod FoodEaten
 pub mod FoodGone
 pub mod FoodHeads
 pub mod Judged
+pub mod Listed
 pub mod Living
 pub mod Loaded
 pub mod LoadedAll

@@ -26,6 +26,7 @@ use Rattle.bs_batch.specs.Saving.{BeginsWithBytes, IsSavedAs, SavesGame, digit_o
 use Rattle.bs_batch.specs.Shown.{ShowsSnake, room_of, seat_at, seat_byte}
 use Rattle.bs_batch.specs.inner.Loading.{CanLoad, IsSeatOfEight}
 use Rattle.bs_batch.specs.inner.Saving.{AreWritable, IsWritten, WritesBytes, WritesCells, WritesHead, WritesSeat, WritesSnake}
+use Rattle.bs_batch.proofs.Listed.{food_shown}
 use Rattle.bs_batch.proofs.LoadedBoard.{can_load}
 use Rattle.bs_batch.proofs.Numbers.{near_raised}
 use Rattle.bs_batch.proofs.Shown.{body_shown}
@@ -156,12 +157,7 @@ SavedSoFar head food bodies i at into =
 pub food_saved : (head : Head) (food bodies : List ℕ) (n middle at : ℕ) (now new : List ℕ) → n ≡ min head.foods (length food) → WritesHead head middle now
     → WritesCells 0 (take n food) middle now at new → SavedSoFar head food bodies 0 at new
 food_saved head food bodies n middle at now new few first second b plane saved =
-    let list = saved.shows.food in
-    let count = list.count in
-    let long : length (take (length b.food) food) ≡ length b.food = ap length list.listed ∙ length-map b.food number_of in
-    let room = length-take (length b.food) food in
-    let same : n ≡ length b.food = omega arith in
-    let are : take n food ≡ numbers_of b.food = ap (λ k. take k food) same ∙ list.listed in
+    let are = food_shown head.foods n food b.food few saved.shows.food in
     let parts = and_parts (list_all (is_on_board b.width b.height) b.food) (are_distinct_cells b.food) saved.legal.food.fits in
     let writable : AreWritable 0 b.width b.height b.food = record {
       narrow = side_fits b.width saved.legal.limits.width;

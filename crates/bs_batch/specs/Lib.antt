@@ -2,6 +2,7 @@ pub mod Counts
 pub mod Directions
 pub mod Eliminations
 pub mod Food
+pub mod Listing
 pub mod Living
 pub mod Loading
 pub mod Numbers

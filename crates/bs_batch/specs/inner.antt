@@ -2,6 +2,7 @@
 pub mod Collisions
 pub mod Eliminations
 pub mod Food
+pub mod Listing
 pub mod Loading
 pub mod Saving
 pub mod Seats

@@ -1,6 +1,7 @@
 //! Small games side by side. Game i has the i-th piece of each other list.
 
 ghost use Rattle.bs_board.specs.boards.Legal.{IsLegal};
+ghost use Rattle.bs_batch.specs.Listing.{ListsBody, ListsFood};
 ghost use Rattle.bs_batch.specs.Loading.{FitsLists, FitsSides, IsLoaded};
 ghost use Rattle.bs_batch.specs.Saving.{SavesGameOf};
 ghost use Rattle.bs_batch.specs.Starting.{StartsEach, StartsSmall};
@@ -105,12 +106,16 @@ pub fn load_small(game: &mut SmallGame, board: &Board) -> Result<(), Misfit>
 }
 
 /// Lists the cells with food, the oldest first, as far as there is room. Returns their number.
-pub fn food_small(game: &SmallGame, into: &mut [Place]) -> usize {
+pub fn food_small(game: &SmallGame, into: &mut [Place]) -> usize
+    ensures { ListsFood game.now.head game.now.food into.new result }
+{
     list_food(&game.head, &game.food, into)
 }
 
 /// Lists the parts of a seat, its head first, as far as there is room. Returns their number, 0 for
 /// no seat.
-pub fn body_small(game: &SmallGame, seat: usize, into: &mut [Place]) -> usize {
+pub fn body_small(game: &SmallGame, seat: usize, into: &mut [Place]) -> usize
+    ensures { ListsBody game.now.head game.now.bodies seat into.new result }
+{
     list_body(&game.head, &game.bodies, seat, into)
 }
