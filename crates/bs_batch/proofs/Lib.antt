@@ -15,6 +15,7 @@ pub mod Loaded
 pub mod LoadedAll
 pub mod LoadedBoard
 pub mod LoadedSeat
+pub mod Marked
 pub mod Moved
 pub mod MovedAll
 pub mod MovedAt
@@ -27,6 +28,7 @@ pub mod Rooms
 pub mod Saved
 pub mod SeatWrites
 pub mod Shown
+pub mod ShownPlanes
 pub mod SoFar
 pub mod Started
 pub mod StartedAll

@@ -7,6 +7,7 @@ pub mod Living
 pub mod Loading
 pub mod Numbers
 pub mod Saving
+pub mod Showing
 pub mod Shown
 pub mod Starting
 pub mod Steps

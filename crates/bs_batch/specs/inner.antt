@@ -6,5 +6,6 @@ pub mod Listing
 pub mod Loading
 pub mod Saving
 pub mod Seats
+pub mod Showing
 pub mod Starting
 pub mod Steps
