@@ -28,6 +28,7 @@ pub mod Rooms
 pub mod Saved
 pub mod SeatWrites
 pub mod Shown
+pub mod ShownGames
 pub mod ShownPlanes
 pub mod SoFar
 pub mod Started

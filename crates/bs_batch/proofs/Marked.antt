@@ -69,18 +69,18 @@ module _ (s : Settings) (height : ℕ) (byte : Point → ℕ) (p : Point) (narro
           ∙ ap (λ b. cond b value (byte q)) (sym same)
       | inr other ↦
           let apart : cell_index s.width q ≡ (row - 1) * s.width + (column - 1) → ⊥ = λ e.
-              let at = placed s.width height q on in
-              let a = at.column in
-              let b = at.row in
-              let c = column_at in
-              let d = row_at in
-              let both = same_from_place (nat_abs q.y) (nat_abs q.x) (row - 1) (column - 1) s.width at.x_fits (omega arith) e in
-              let y = both.0 in
-              let x = both.1 in
-              let numbers : number_of q ≡ number_of p = omega arith in
-              let one = one_number s.width height q p narrow (near_from_on_board s.width height q on) near numbers in
-              let same = (same_cell q p).1 one in
-              cc in
+          let at = placed s.width height q on in
+          let a = at.column in
+          let b = at.row in
+          let c = column_at in
+          let d = row_at in
+          let both = same_from_place (nat_abs q.y) (nat_abs q.x) (row - 1) (column - 1) s.width at.x_fits (omega arith) e in
+          let y = both.0 in
+          let x = both.1 in
+          let numbers : number_of q ≡ number_of p = omega arith in
+          let one = one_number s.width height q p narrow (near_from_on_board s.width height q on) near numbers in
+          let same = (same_cell q p).1 one in
+          cc in
           get_or-set_other plane ((row - 1) * s.width + (column - 1)) (cell_index s.width q) value 0 apart ∙ has.cells q on ∙ ap (λ b. cond b value (byte q)) (sym other)
     ];
   }
@@ -162,8 +162,8 @@ one_part_marked s numbers i value old now new within is marks so_far height cell
     same_cells s.width height (λ q. cond (is_same_cell q p) value (min (turns_left (drop (length cells - i) cells) q) 255))
     (λ q. min (turns_left (drop (length cells - (i + 1)) cells) q) 255) new
     (λ q. ap (λ v. cond (is_same_cell q p) v (min (turns_left (drop (length cells - i) cells) q) 255)) (is ∙ ap (λ m. min (m + 1) 255) (sym rest))
-      ∙ one_more_part (is_same_cell q p) (length (drop (length cells - i) cells) + 1) (turns_left (drop (length cells - i) cells) q)
-      ∙ ap (λ l. min (turns_left l q) 255) (sym split))
+    ∙ one_more_part (is_same_cell q p) (length (drop (length cells - i) cells) + 1) (turns_left (drop (length cells - i) cells) q)
+    ∙ ap (λ l. min (turns_left l q) 255) (sym split))
     (marks height (λ q. min (turns_left (drop (length cells - i) cells) q) 255) p near.narrow near.low here n.1 (so_far height cells near are has))
 
 pub all_parts_marked : (s : Settings) (numbers : List ℕ) (i : ℕ) (old now : List ℕ) → length numbers ≤ i → BodyMarkedSoFar s numbers i old now → MarksBody s numbers old now

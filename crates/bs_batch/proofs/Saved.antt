@@ -109,14 +109,14 @@ all_cells raised i at0 at numbers old now end so_far width height cells can are 
 
 pub head_written : (head : Head) (version at : ℕ) (old new : List ℕ) → ((m : Mode) → head.settings.mode ≡ mode_byte m → version ≡ plain_version m)
     → WritesBytes (version ∷ head.settings.mode ∷ head.settings.width ∷ head.settings.height ∷ head.turn / 256 ∷ head.turn % 256 ∷ head.settings.min_food ∷ head.settings.chance
-      ∷ head.settings.seats ∷ head.foods / 256 ∷ head.foods % 256 ∷ []) 0 old at new → WritesHead head at new
+    ∷ head.settings.seats ∷ head.foods / 256 ∷ head.foods % 256 ∷ []) 0 old at new → WritesHead head at new
 head_written head version at old new versions writes b food plane bodies saved =
     let s = saved.shows.seats.settings in
     let v = versions b.mode s.mode in
     let none : is_some b.hazards ≡ false = ap is_some saved.hazards in
     let start : IsWritten [] 0 old = record { end = refl; bytes = λ _. refl } in
     let is : (version ∷ head.settings.mode ∷ head.settings.width ∷ head.settings.height ∷ head.turn / 256 ∷ head.turn % 256 ∷ head.settings.min_food ∷ head.settings.chance
-      ∷ head.settings.seats ∷ head.foods / 256 ∷ head.foods % 256 ∷ []) ≡ head_bytes b =
+    ∷ head.settings.seats ∷ head.foods / 256 ∷ head.foods % 256 ∷ []) ≡ head_bytes b =
     rw (v, s.mode, s.width, s.height, saved.shows.seats.turn, s.min_food, s.chance, s.seats, saved.shows.food.count, none) refl in
     subst (λ (l : List ℕ). IsWritten l at new) is (writes [] start)
 
@@ -125,7 +125,7 @@ killer_is None byte is few = rw is refl
 killer_is (Some k) byte is few = omega arith
 
 pub seat_written : (number at at' digit killer : ℕ) (seat : Seat) (old new : List ℕ) → WritesBytes (1 ∷ digit ∷ seat.health ∷ seat.cause ∷ killer ∷ seat.out / 256 ∷ seat.out % 256
-      ∷ seat.parts / 256 ∷ seat.parts % 256 ∷ []) at old at' new → digit ≡ 48 + number → killer ≡ (seat.killer + 1) % 256 → WritesSeat number seat at old at' new
+    ∷ seat.parts / 256 ∷ seat.parts % 256 ∷ []) at old at' new → digit ≡ 48 + number → killer ≡ (seat.killer + 1) % 256 → WritesSeat number seat at old at' new
 seat_written number at at' digit killer seat old new writes digit_is killer_next room s shows few id done written =
     let k : killer ≡ killer_byte s.killer = killer_next ∙ killer_is s.killer seat.killer shows.killer few in
     let is : (1 ∷ digit ∷ seat.health ∷ seat.cause ∷ killer ∷ seat.out / 256 ∷ seat.out % 256 ∷ seat.parts / 256 ∷ seat.parts % 256 ∷ []) ≡ (length s.id ∷ s.id) ++ state_bytes s =
@@ -174,7 +174,7 @@ snake_saved head food bodies i at at' now new within so_far writes b plane saved
     let front = flat_map snake_record (take i b.snakes) in
     let more : flat_map snake_record (take (i + 1) b.snakes) ≡ front ++ snake_record (get_or b.snakes i nobody) = more_pieces snake_record b.snakes i nobody (omega arith) in
     subst (λ (l : List ℕ). IsWritten l at' new) (append_assoc (head_bytes b ++ flat_map (cell_bytes 0) b.food) front (snake_record (get_or b.snakes i nobody))
-      ∙ ap (λ l. (head_bytes b ++ flat_map (cell_bytes 0) b.food) ++ l) (sym more))
+    ∙ ap (λ l. (head_bytes b ++ flat_map (cell_bytes 0) b.food) ++ l) (sym more))
     (writes b food plane nobody saved (omega arith) ((head_bytes b ++ flat_map (cell_bytes 0) b.food) ++ front) (so_far b plane saved))
 
 no_hazards : (hazards : Option Hazards) → hazards ≡ None → hazard_bytes hazards ≡ []

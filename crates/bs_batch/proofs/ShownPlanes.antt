@@ -37,7 +37,7 @@ index_fits width height p on =
     omega arith
 
 module _ (start k area : ℕ) (into piece : List ℕ) (row : k ≡ area) (fits : start + area ≤ length into) (kept : length piece ≡ length (mid_of start k into)) where
-  long_piece : length piece ≡ area
+  pub long_piece : length piece ≡ area
   long_piece =
       let rest = length-drop start into in
       let mid = length-take-le k (drop start into) (omega arith) in
@@ -123,8 +123,8 @@ food_plane head food into piece area k n fits row kept few marks b plane bodies 
     let s = shows.seats.settings in
     plane_written 0 k area into piece row (omega arith) kept b.width b.height 0 (food_mark b.food) size (omega arith)
     (λ zeros. subst (λ (w : ℕ). HasCells w b.height (food_mark b.food) piece) s.width
-      (marks b.height b.food (subst (λ (w : ℕ). AreNear w b.height b.food) (sym s.width) (food_near b legal)) (food_shown head.foods n food b.food few shows.food)
-        (subst (λ (w : ℕ). HasCells w b.height (λ _. 0) (mid_of 0 k into)) (sym s.width) zeros)))
+    (marks b.height b.food (subst (λ (w : ℕ). AreNear w b.height b.food) (sym s.width) (food_near b legal)) (food_shown head.foods n food b.food few shows.food)
+    (subst (λ (w : ℕ). HasCells w b.height (λ _. 0) (mid_of 0 k into)) (sym s.width) zeros)))
 
 pub seat_out : (head : Head) (bodies : List ℕ) (seat area : ℕ) (into : List ℕ) → ((seat_at head.seats seat).cause ≡ 0 → ⊥) → ShowsSeatPlane head bodies seat area into into
 seat_out head bodies seat area into other b food plane legal shows size within =
@@ -143,10 +143,10 @@ seat_plane head bodies seat area start k into piece numbers none at fits row kep
     let same : (p : Point) → min (turns_left cells p) 255 ≡ body_mark (snake_at b.snakes seat) p = λ p. ap (λ l. cond l (min (turns_left cells p) 255) 0) (sym alive) in
     plane_written start k area into piece row fits kept b.width b.height (seat + 1) (body_mark (snake_at b.snakes seat)) size at
     (λ zeros.
-      let done = subst (λ (w : ℕ). HasCells w b.height (λ p. min (turns_left cells p) 255) piece) s.width
-      (marks b.height cells (subst (λ (w : ℕ). AreNear w b.height cells) (sym s.width) (body_near b seat legal within)) are
-        (subst (λ (w : ℕ). HasCells w b.height (λ _. 0) (mid_of start k into)) (sym s.width) zeros)) in
-      record { area = done.area; cells = λ p on. done.cells p on ∙ same p })
+    let done = subst (λ (w : ℕ). HasCells w b.height (λ p. min (turns_left cells p) 255) piece) s.width
+    (marks b.height cells (subst (λ (w : ℕ). AreNear w b.height cells) (sym s.width) (body_near b seat legal within)) are
+    (subst (λ (w : ℕ). HasCells w b.height (λ _. 0) (mid_of start k into)) (sym s.width) zeros)) in
+    record { area = done.area; cells = λ p on. done.cells p on ∙ same p })
 
 -- the food and the first seats are shown, and the other planes are empty
 pub record StoodShown (b : Board) (i : ℕ) (into : List ℕ) : Type 0 where

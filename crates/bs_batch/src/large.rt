@@ -4,12 +4,14 @@ ghost use Rattle.bs_board.specs.boards.Legal.{IsLegal};
 ghost use Rattle.bs_batch.specs.Listing.{ListsBody, ListsFood};
 ghost use Rattle.bs_batch.specs.Loading.{FitsLists, FitsSides, IsLoaded};
 ghost use Rattle.bs_batch.specs.Saving.{SavesGameOf};
+ghost use Rattle.bs_batch.specs.Showing.{IsLargeBoard, ShowsEach};
 ghost use Rattle.bs_batch.specs.Starting.{StartsEach, StartsLarge};
+ghost use Rattle.bs_batch.specs.inner.Showing.{PieceShown};
 
 use crate::layout::{LARGE_SIDE, LargeGame, Place, is_fit};
 use crate::lists::{list_body, list_food};
 use crate::loading::{Misfit, is_within, load, refuse};
-use crate::many::{ManyOrders, ManyStarts, cells_of, has_to_start, may_step, orders_of, piece_mut};
+use crate::many::{ManyOrders, ManyStarts, cells_of, has_to_start, may_step, orders_of};
 use crate::saving::save;
 use crate::showing::show;
 use crate::starting::{clear, start};
@@ -62,18 +64,35 @@ pub fn start_large(games: &mut [LargeGame], first: &ManyStarts<'_>) -> usize
     started
 }
 
+/// Writes the planes of a game into the piece of that number.
+fn show_game(game: &LargeGame, into: &mut [u8], number: usize, each: usize)
+    ensures { PieceShown (IsLargeBoard game.now) number each into.old into.new }
+{
+    let from = number.saturating_mul(each);
+    if from > into.len() {
+        return;
+    }
+    if each > into.len() - from {
+        return;
+    }
+    if !is_fit(&game.head.settings, LARGE_SIDE) {
+        return;
+    }
+    show(
+        &game.head,
+        &game.food,
+        &game.bodies,
+        &mut into[from..from + each],
+    );
+}
+
 /// Writes the planes of each game into its `each` bytes: its food, then its living snakes by their
 /// seats.
-pub fn show_large(games: &[LargeGame], into: &mut [u8], each: usize) {
-    for (number, game) in games.iter().enumerate() {
-        if is_fit(&game.head.settings, LARGE_SIDE) {
-            show(
-                &game.head,
-                &game.food,
-                &game.bodies,
-                piece_mut(into, number, each),
-            );
-        }
+pub fn show_large(games: &[LargeGame], into: &mut [u8], each: usize)
+    ensures { ShowsEach IsLargeBoard games.now each into.new }
+{
+    for number in 0..games.len() {
+        show_game(&games[number], into, number, each);
     }
 }
 

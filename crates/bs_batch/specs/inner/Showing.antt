@@ -9,7 +9,8 @@ use Rattle.bs_batch.specs.declared.layout.Head.{Head}
 use Rattle.bs_batch.specs.declared.layout.Settings.{Settings}
 use Rattle.bs_batch.specs.Loading.{ShowsGame}
 use Rattle.bs_batch.specs.Numbers.{number_of, numbers_of}
-use Rattle.bs_batch.specs.Showing.{HasPlane, body_mark, food_mark, turns_left}
+use Rattle.bs_batch.specs.Showing.{HasPlane, ShowsPlanes, body_mark, food_mark, turns_left}
+use Rattle.bs_batch.specs.Starting.{piece_of}
 use Rattle.bs_batch.specs.inner.Loading.{AreNear}
 
 -- one plane by itself: a byte for each cell of the board
@@ -48,3 +49,9 @@ abbrev pub ShowsSeatPlane : Head → List ℕ → ℕ → ℕ → List ℕ → L
 ShowsSeatPlane head bodies seat area old new =
     (b : Board) (food plane : List ℕ) → IsLegal b → ShowsGame head food plane bodies b → area ≡ b.width * b.height → seat < length b.snakes
     → WritesPlane b.width b.height (seat + 1) (body_mark (snake_at b.snakes seat)) old new
+
+-- the planes of a game are in its piece, and no other piece is written
+pub record PieceShown (shows : Board → Type 0) (number each : ℕ) (old new : List ℕ) : Type 0 where
+  pub long : length new ≡ length old
+  pub own : (b : Board) → shows b → number * each + each ≤ length new → ShowsPlanes b (piece_of new number each)
+  pub others : (k : ℕ) → k ≢ number → piece_of new k each ≡ piece_of old k each
