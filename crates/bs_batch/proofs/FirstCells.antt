@@ -108,11 +108,13 @@ module _ (width height : ℕ) where
       let whole : (fit (take i xs) && (is_on_board width height p && not (list_any (is_same_cell p) (take i xs)))) ≡ true =
       sym (fit_push (take i xs) p) ∙ ap fit (sym (take_more xs i origin within)) ∙ fit_front (i + 1) xs fits in
       let last = and_parts (fit (take i xs)) (is_on_board width height p && not (list_any (is_same_cell p) (take i xs))) whole in
-      let both = and_parts (is_on_board width height p) (not (list_any (is_same_cell p) (take i xs))) last.1 in
-      (both.0, elim (cases_Bool (list_any (is_same_cell p) (take i xs))) [
-        | inl there ↦ let wrong : false ≡ true = ap not (sym there) ∙ both.1 in cc
-        | inr none ↦ none
-      ])
+      let both = and_parts (is_on_board width height p) (not (list_any (is_same_cell p) (take i xs))) last.1 in (
+        both.0,
+        elim (cases_Bool (list_any (is_same_cell p) (take i xs))) [
+          | inl there ↦ let wrong : false ≡ true = ap not (sym there) ∙ both.1 in cc
+          | inr none ↦ none
+        ],
+      )
 
 -- the parts of new snakes
 pub one_more_starter : (i : ℕ) (ps : List Point) (q : Point) → i < length ps

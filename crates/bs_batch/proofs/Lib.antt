@@ -24,11 +24,13 @@ pub mod GrownAll
 pub mod Judged
 pub mod JudgedRoom
 pub mod LastingBoards
+pub mod Listed
 pub mod Living
 pub mod Loaded
 pub mod LoadedAll
 pub mod LoadedBoard
 pub mod LoadedSeat
+pub mod Marked
 pub mod Moved
 pub mod MovedAll
 pub mod MovedAt
@@ -40,8 +42,11 @@ pub mod Onward
 pub mod Repeated
 pub mod Replenished
 pub mod Rooms
+pub mod Saved
 pub mod SeatWrites
 pub mod Shown
+pub mod ShownGames
+pub mod ShownPlanes
 pub mod SoFar
 pub mod Started
 pub mod StartedAll

@@ -90,14 +90,20 @@ module _ (width height : ℕ) (food : List Point) (snakes : List Snake) (i : ℕ
   one_refused f =
       let r = step width height (occupants (take i snakes)) food can_one low fits stood.few stood.bytes in
       record {
-        fits = (λ t. absurd cc, λ both.
-            let short = All-get_or (λ s. length s.body ≤ length bodies' / 8) snakes i nobody within both.0 in
-            let yes : result ≡ true = r.1.fits.1 (short, λ p.
-                let all = both.1 p in
-                let part = sum_by_more_le (parts_on p) snakes i nobody within in
-                let part' : occupants (take i snakes) p + parts_on p s ≤ occupants snakes p = part in
-                omega arith) in
-            absurd cc);
+        fits = (
+          λ t. absurd cc,
+          λ both.
+              let short = All-get_or (λ s. length s.body ≤ length bodies' / 8) snakes i nobody within both.0 in
+              let yes : result ≡ true = r.1.fits.1 (
+                short,
+                λ p.
+                    let all = both.1 p in
+                    let part = sum_by_more_le (parts_on p) snakes i nobody within in
+                    let part' : occupants (take i snakes) p + parts_on p s ≤ occupants snakes p = part in
+                    omega arith,
+              ) in
+              absurd cc,
+        );
         shows = λ t. absurd cc;
         bytes = λ t. absurd cc;
         rest = r.0.rest ∙ ap (λ (h : Head). record h { seats = head'.seats }) stood.rest;

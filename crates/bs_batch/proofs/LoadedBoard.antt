@@ -105,6 +105,29 @@ can_load b legal none =
       few = legal.limits.few;
     }
 
+-- the food and the bodies of a legal board
+pub food_near : (b : Board) → IsLegal b → AreNear b.width b.height b.food
+food_near b legal =
+    let food = and_parts (list_all (is_on_board b.width b.height) b.food) (are_distinct_cells b.food) legal.food.fits in
+    record {
+      narrow = side_fits b.width legal.limits.width;
+      low = side_fits b.height legal.limits.height;
+      near = All-weaker (λ p. is_on_board b.width b.height p ≡ true) (λ p. is_near b.width b.height p ≡ true) (λ p. near_from_on_board b.width b.height p) b.food
+          (AllPass-from_list_all (is_on_board b.width b.height) b.food food.0);
+    }
+
+pub body_near : (b : Board) (seat : ℕ) → IsLegal b → seat < length b.snakes → AreNear b.width b.height (snake_at b.snakes seat).body
+body_near b seat legal within =
+    let s = snake_at b.snakes seat in
+    let one = legal.snakes seat nobody within in
+    record {
+      narrow = side_fits b.width legal.limits.width;
+      low = side_fits b.height legal.limits.height;
+      near = near_body b.width b.height s.body (head_is_near b seat s s.cause one.state)
+          (All-weaker (λ p. is_on_board b.width b.height p ≡ true) (λ p. is_near b.width b.height p ≡ true) (λ p. near_from_on_board b.width b.height p) (drop 1 s.body)
+          one.body.inside);
+    }
+
 -- a plane of zeros
 pub no_bytes : (width height : ℕ) (plane : List ℕ) (n : ℕ) → width ≤ 25 → (height + 2) * 32 ≤ n → plane ≡ replicate n 0 → HasBytes width height (λ _. 0) plane
 no_bytes width height plane n narrow room zeros = rw zeros (record {

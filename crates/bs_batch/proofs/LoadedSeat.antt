@@ -50,8 +50,10 @@ alive_loaded width height others food s seat old plane room parts result alive l
     let same : (p : Point) → parts_on p s ≡ count_by (is_same_cell p) s.body = λ p. ap (λ b. cond b (count_by (is_same_cell p) s.body) 0) alive in
     let added = adds width height others food s.body can.body (ap (λ n. take n room) long ∙ shows.body) few has in
     record {
-      fits = (λ t. (short, λ p. let f = added.few.0 t p in let e = same p in omega arith),
-          λ all. added.few.1 (λ p. let f = all.1 p in let e = same p in omega arith));
+      fits = (
+        λ t. (short, λ p. let f = added.few.0 t p in let e = same p in omega arith),
+        λ all. added.few.1 (λ p. let f = all.1 p in let e = same p in omega arith),
+      );
       shows = λ _. shows;
       bytes = λ t. same_bytes width height (λ p. others p + count_by (is_same_cell p) s.body + food_byte food p)
           (λ p. others p + parts_on p s + food_byte food p) plane (λ p _. let e = same p in omega arith) (added.bytes t);

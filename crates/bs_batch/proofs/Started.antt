@@ -71,7 +71,7 @@ pub one_placed : (seat k number : ℕ) (cell : Cell) (head : Head) (bodies plane
     → length room ≡ length (mid_of (seat * (length bodies / 8)) k bodies) → take 3 room ≡ number ∷ number ∷ number ∷ []
     → CountsMore number plane one → CountsMore number one two → CountsMore number two three
     → PlacesSnake seat cell head bodies plane (record head { seats = set head.seats seat (record { parts = 3; out = 0; health = 100; cause = 0; killer = 255; spare = 0 }) })
-      (put_mid (seat * (length bodies / 8)) k bodies room) three true
+    (put_mid (seat * (length bodies / 8)) k bodies room) three true
 one_placed seat k number cell head bodies plane one two three room eight is on empty row kept body first second third others enough fits bytes =
     let p = point_of cell in
     let new : Seat = record { parts = 3; out = 0; health = 100; cause = 0; killer = 255; spare = 0 } in

@@ -103,10 +103,13 @@ module _ (starts : List Point) (i : ℕ) (within : i < length starts) (eight : i
   one_less f =
       let writes = (step others more_bodies fits now).0 in
       record {
-        fits = (λ t. absurd cc, λ both.
-            let next = next_fits columns rows i starts within both.1 in
-            let holds : result ≡ true = placed.fits.1 (next.0, none_here (take i starts) p next.1) in
-            absurd cc);
+        fits = (
+          λ t. absurd cc,
+          λ both.
+              let next = next_fits columns rows i starts within both.1 in
+              let holds : result ≡ true = placed.fits.1 (next.0, none_here (take i starts) p next.1) in
+              absurd cc,
+        );
         shows = λ t. absurd cc;
         bytes = λ t. absurd cc;
         rest = writes.rest ∙ ap (λ (h : Head). record h { seats = head'.seats }) stood.rest;

@@ -93,8 +93,10 @@ module _ (starts cells : List Cell) (head head1 head2 : Head) (bodies0 bodies li
       let food = second (occupants (starters ps)) low foods area can.small now in
       let seats : head2.seats ≡ head1.seats = ap (λ (h : Head). h.seats) food.rest in
       record {
-        fits = (λ t. record { seats = sym n ∙ fit.0; snakes = fit.1; food = subst (λ (s : Settings). is_fit_food s.width s.height (points_of cells) ≡ true) settings (food.fits.0 t) },
-            λ fits. food.fits.1 (subst (λ (s : Settings). is_fit_food s.width s.height (points_of cells) ≡ true) (sym settings) fits.food));
+        fits = (
+          λ t. record { seats = sym n ∙ fit.0; snakes = fit.1; food = subst (λ (s : Settings). is_fit_food s.width s.height (points_of cells) ≡ true) settings (food.fits.0 t) },
+          λ fits. food.fits.1 (subst (λ (s : Settings). is_fit_food s.width s.height (points_of cells) ≡ true) (sym settings) fits.food),
+        );
         snakes = λ _. rw seats (snakes.shows holds);
         food = food.shows;
         bytes = λ t. subst (λ (s : Settings). HasBytes s.width s.height (λ p. occupants (starters ps) p + food_byte (points_of cells) p) plane2) settings (food.bytes t);

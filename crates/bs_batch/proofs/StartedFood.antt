@@ -193,7 +193,7 @@ module _ (cells : List Cell) (i : ℕ) (within : i < length cells) (head0 head :
       let long : length (set list index number) ≡ length list = length-set list index number in
       let stood = so_far others few none (omega arith) (omega arith) bytes in
       rw is (one_food (points_of cells) i there others few head0 head list plane (omega arith) (omega arith) stood (get_or cells i no_cell) (point_is cells i within) number numbered byte plane'
-          on has holds at low (omega arith) writes)
+      on has holds at low (omega arith) writes)
 
   pub not_on_board : (on : Bool) → on ≡ is_on_board head.settings.width head.settings.height (point_of (get_or cells i no_cell)) → on ≡ false
       → PlacesFood cells head0 plane0 head list plane false
@@ -264,7 +264,9 @@ pub all_dropped : (list : List ℕ) (i : ℕ) (head : Head) (old now : List ℕ)
     → DropsFood list head old (record head { foods = 0 }) now
 all_dropped list i head old now end so_far width height others cells few fits shows has =
     let count = shows.count in
-    let all : take i cells ≡ cells = take_all i cells (omega arith) in
-    (same_bytes width height (left_byte others cells i) others now
-      (λ q _. ap (λ l. others q + cond (list_any (is_same_cell q) l) 0 (food_byte cells q)) all ∙ none_left (list_any (is_same_cell q) cells) (others q))
-      (so_far width height others cells few fits shows has), refl)
+    let all : take i cells ≡ cells = take_all i cells (omega arith) in (
+      same_bytes width height (left_byte others cells i) others now
+          (λ q _. ap (λ l. others q + cond (list_any (is_same_cell q) l) 0 (food_byte cells q)) all ∙ none_left (list_any (is_same_cell q) cells) (others q))
+          (so_far width height others cells few fits shows has),
+      refl,
+    )

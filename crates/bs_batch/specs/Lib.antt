@@ -4,9 +4,12 @@ pub mod Eliminations
 pub mod Food
 pub mod Games
 pub mod Lasting
+pub mod Listing
 pub mod Living
 pub mod Loading
 pub mod Numbers
+pub mod Saving
+pub mod Showing
 pub mod Shown
 pub mod Starting
 pub mod Steps

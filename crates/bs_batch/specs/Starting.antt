@@ -76,7 +76,7 @@ pub record StartsOne (longest : ℕ) (first : ManyStarts) (number : ℕ) (stays 
   pub left : has_to_start first number ≡ false → stays × IsFalse result
   pub begins : has_to_start first number ≡ true
       → IsStarted (AreSettings longest first.settings × AreFirstCells first.settings (starts_of first number) (food_of first number)) first.settings (starts_of first number)
-        (food_of first number) result head food plane bodies
+      (food_of first number) result head food plane bodies
 
 abbrev pub StartsSmall : ManyStarts → ℕ → SmallGame → SmallGame → Bool → Type 0
 StartsSmall first number old new result = StartsOne SMALL_SIDE first number (new ≡ old) result new.head new.food new.plane new.bodies

@@ -4,8 +4,11 @@ pub mod Crossing
 pub mod Eliminations
 pub mod Food
 pub mod FreeCells
+pub mod Listing
 pub mod Loading
+pub mod Saving
 pub mod Seats
+pub mod Showing
 pub mod Starting
 pub mod Steps
 pub mod Turns

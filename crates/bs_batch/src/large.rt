@@ -4,13 +4,17 @@ ghost use Rattle.std.specs.Prelude.{◌≡◌, ℕ, ◌<◌, length, slice_index
 ghost use Rattle.bs_batch.specs.declared.layout.LargeGame.{LargeGame as AnyGame};
 ghost use Rattle.bs_batch.specs.Games.{StepsLarge, words_of};
 ghost use Rattle.bs_board.specs.boards.Legal.{IsLegal};
+ghost use Rattle.bs_batch.specs.Listing.{ListsBody, ListsFood};
 ghost use Rattle.bs_batch.specs.Loading.{FitsGame, FitsSides, IsLoaded};
+ghost use Rattle.bs_batch.specs.Saving.{SavesGameOf};
+ghost use Rattle.bs_batch.specs.Showing.{IsLargeBoard, ShowsEach};
 ghost use Rattle.bs_batch.specs.Starting.{StartsEach, StartsLarge, piece_of};
+ghost use Rattle.bs_batch.specs.inner.Showing.{PieceShown};
 
 use crate::layout::{LARGE_SIDE, LargeGame, Place, is_fit};
 use crate::lists::{list_body, list_food};
 use crate::loading::{Misfit, is_within, load, refuse};
-use crate::many::{ManyOrders, ManyStarts, cells_of, has_to_start, may_step, orders_of, piece_mut};
+use crate::many::{ManyOrders, ManyStarts, cells_of, has_to_start, may_step, orders_of};
 use crate::saving::save;
 use crate::showing::show;
 use crate::starting::{clear, start};
@@ -75,24 +79,43 @@ pub fn start_large(games: &mut [LargeGame], first: &ManyStarts<'_>) -> usize
     started
 }
 
+/// Writes the planes of a game into the piece of that number.
+fn show_game(game: &LargeGame, into: &mut [u8], number: usize, each: usize)
+    ensures { PieceShown (IsLargeBoard game.now) number each into.old into.new }
+{
+    let from = number.saturating_mul(each);
+    if from > into.len() {
+        return;
+    }
+    if each > into.len() - from {
+        return;
+    }
+    if !is_fit(&game.head.settings, LARGE_SIDE) {
+        return;
+    }
+    show(
+        &game.head,
+        &game.food,
+        &game.bodies,
+        &mut into[from..from + each],
+    );
+}
+
 /// Writes the planes of each game into its `each` bytes: its food, then its living snakes by their
 /// seats.
-pub fn show_large(games: &[LargeGame], into: &mut [u8], each: usize) {
-    for (number, game) in games.iter().enumerate() {
-        if is_fit(&game.head.settings, LARGE_SIDE) {
-            show(
-                &game.head,
-                &game.food,
-                &game.bodies,
-                piece_mut(into, number, each),
-            );
-        }
+pub fn show_large(games: &[LargeGame], into: &mut [u8], each: usize)
+    ensures { ShowsEach IsLargeBoard games.now each into.new }
+{
+    for number in 0..games.len() {
+        show_game(&games[number], into, number, each);
     }
 }
 
 /// Writes the record of the game's board, as far as there is room, and returns its length; 0 if the
 /// settings are not those of a game.
-pub fn save_large(game: &LargeGame, into: &mut [u8]) -> usize {
+pub fn save_large(game: &LargeGame, into: &mut [u8]) -> usize
+    ensures { SavesGameOf LARGE_SIDE game.now.head game.now.food game.now.bodies into.new result }
+{
     if is_fit(&game.head.settings, LARGE_SIDE) {
         save(&game.head, &game.food, &game.bodies, into)
     } else {
@@ -117,12 +140,16 @@ pub fn load_large(game: &mut LargeGame, board: &Board) -> Result<(), Misfit>
 }
 
 /// Lists the cells with food, the oldest first, as far as there is room. Returns their number.
-pub fn food_large(game: &LargeGame, into: &mut [Place]) -> usize {
+pub fn food_large(game: &LargeGame, into: &mut [Place]) -> usize
+    ensures { ListsFood game.now.head game.now.food into.new result }
+{
     list_food(&game.head, &game.food, into)
 }
 
 /// Lists the parts of a seat, its head first, as far as there is room. Returns their number, 0 for
 /// no seat.
-pub fn body_large(game: &LargeGame, seat: usize, into: &mut [Place]) -> usize {
+pub fn body_large(game: &LargeGame, seat: usize, into: &mut [Place]) -> usize
+    ensures { ListsBody game.now.head game.now.bodies seat into.new result }
+{
     list_body(&game.head, &game.bodies, seat, into)
 }

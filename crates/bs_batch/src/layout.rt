@@ -3,6 +3,7 @@
 ghost use Rattle.std.specs.Prelude.{◌≡◌, ◌↔◌, ◌≤◌, ◌<◌, IsTrue};
 ghost use Rattle.bs_batch.specs.Numbers.{number_of};
 ghost use Rattle.bs_batch.specs.Starting.{AreSettings, point_of};
+ghost use Rattle.bs_batch.specs.inner.Listing.{PlacesCell};
 
 /// The most seats of a game.
 pub const SEATS: usize = 8;
@@ -166,7 +167,9 @@ pub fn number_of(cell: Cell) -> u16
 
 /// The cell of the number.
 #[inline]
-pub fn place_of(number: u16) -> Place {
+pub fn place_of(number: u16) -> Place
+    ensures { PlacesCell number result }
+{
     Place {
         x: (number % STRIDE) as i8 - 1,
         y: (number / STRIDE).min(100) as i8 - 1,
