@@ -36,8 +36,8 @@ const MOST_PARTS: u8 = 64;
 pub enum Misfit {
     /// It has hazards.
     Hazards,
-    /// A list is too long for the game, a side too long, too many parts are on one cell, or a living
-    /// body crosses itself more than once.
+    /// A list is too long for the game, a side too long, too many parts are on one cell, or a
+    /// living body crosses itself more than once.
     Room,
 }
 

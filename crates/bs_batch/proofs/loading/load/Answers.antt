@@ -28,8 +28,11 @@ returns-then-not-cross_little c can =
     let b = c.args.board.now in
     let none : is_some b.hazards ≡ false = sym c.is_some.ensures ∙ c.if-is_some.false in
     record {
-      exactly = (λ t. absurd cc, λ both. let crosses = (c.cross_little.ensures b can.legal c.as_slice.ensures).1 both.1.crossings in
-          let refused = c.if-not-cross_little.true in absurd cc);
+      exactly = (
+        λ t. absurd cc,
+        λ both. let crosses = (c.cross_little.ensures b can.legal c.as_slice.ensures).1 both.1.crossings in
+            let refused = c.if-not-cross_little.true in absurd cc,
+      );
       shows = tt;
       lasts = tt;
       misfit = room_is b none;
