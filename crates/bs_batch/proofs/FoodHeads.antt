@@ -1,5 +1,5 @@
 -- Which cells are under living heads.
-use Rattle.std.proofs.Common.{◌≡◌, ℕ, ◌<◌, ◌≤◌, Bool, true, false, ◌||◌, ◌&&◌, List, [], ◌∷◌, length, take, get_or, slice_index, Decides, refl, sym, ap, ◌∙◌, arith, suc, zero, eqb, inl, inr}
+use Rattle.std.proofs.Common.{◌≡◌, ℕ, ◌<◌, ◌≤◌, Bool, true, false, List, [], ◌∷◌, length, take, get_or, slice_index, Decides, refl, ap, ◌∙◌, arith, suc, zero, eqb, inl, inr}
 use Rattle.std.specs.List.{list_any}
 use Rattle.std.proofs.lemmas.Bool.{cases_Bool}
 use Rattle.std.proofs.lemmas.Bool.Decides.{Decides-eqb, Decides-like, same_from_decides}
@@ -8,7 +8,6 @@ use Rattle.bs_board.specs.declared.boards.point.Point.{Point}
 use Rattle.bs_board.specs.declared.boards.snake.Snake.{Snake}
 use Rattle.bs_board.specs.boards.Cell.{head_of, is_same_cell}
 use Rattle.bs_board.specs.boards.Legal.{is_near}
-use Rattle.bs_board.specs.boards.Over.{is_living}
 use Rattle.bs_rules.specs.Collision.{nobody, snake_at}
 use Rattle.bs_rules.specs.Feeding.{has_head_on}
 use Rattle.bs_rules.proofs.CollisionTest.{same_cell}

@@ -1,5 +1,5 @@
 -- Cells that are listed one by one.
-use Rattle.std.proofs.Common.{◌≡◌, ℕ, ◌+◌, ◌*◌, ◌/◌, ◌%◌, ◌<◌, ◌≤◌, min, true, List, [], ◌∷◌, ◌++◌, length, take, map, set, get_or, All, pos, nat_abs, ◌+ℤ◌, refl, sym, ap, ◌∙◌, arith, inl, inr, length-set, length-take}
+use Rattle.std.proofs.Common.{◌≡◌, ℕ, ◌+◌, ◌<◌, min, true, List, [], ◌∷◌, ◌++◌, length, take, set, get_or, refl, sym, ap, ◌∙◌, arith, inl, inr, length-take}
 use Rattle.std.proofs.lemmas.Bool.{cases_lt}
 use Rattle.std.proofs.lemmas.List.{get_or-map, length-map, map_push, take-map, take_all, take_more, take_more_set}
 use Rattle.std.proofs.lemmas.List.Elements.{All-get_or}
@@ -7,7 +7,7 @@ use Rattle.bs_board.specs.declared.boards.point.Point.{Point}
 use Rattle.bs_board.specs.boards.Cell.{origin}
 use Rattle.bs_board.specs.boards.Legal.{is_near}
 use Rattle.bs_batch.specs.declared.layout.Place.{Place}
-use Rattle.bs_batch.specs.Listing.{IsListed, place_at, places_of}
+use Rattle.bs_batch.specs.Listing.{place_at, places_of}
 use Rattle.bs_batch.specs.Numbers.{number_of, numbers_of}
 use Rattle.bs_batch.specs.Shown.{ShowsFood}
 use Rattle.bs_batch.specs.inner.Listing.{ListsCells, PlacesCell}

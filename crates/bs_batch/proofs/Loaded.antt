@@ -1,6 +1,5 @@
 -- Cells that are written into a list, and parts that are counted on the plane, one by one.
-use Rattle.std.proofs.Common.{◌≡◌, ℕ, zero, suc, ◌+◌, ◌%◌, ◌<◌, ◌≤◌, Bool, true, false, cond, List, [], ◌∷◌, ◌++◌, length, take, set, get_or, slice_index, All, count_by, refl, sym, ap, ◌∙◌, arith, inl, inr}
-use Rattle.std.specs.Prelude.{IsTrue, ◌↔◌}
+use Rattle.std.proofs.Common.{◌≡◌, ℕ, zero, suc, ◌+◌, ◌%◌, ◌<◌, ◌≤◌, true, false, cond, List, [], ◌∷◌, ◌++◌, length, take, set, get_or, slice_index, count_by, refl, sym, ap, ◌∙◌, arith, inl, inr}
 use Rattle.std.specs.List.{list_any}
 use Rattle.std.proofs.lemmas.Bool.{cases_Bool}
 use Rattle.std.proofs.lemmas.List.{get_or-map, length-map, map_push, take_all, take_more, take_more_set}
@@ -14,7 +13,7 @@ use Rattle.bs_batch.specs.declared.loading.TheConstants.{MOST_PARTS}
 use Rattle.bs_batch.specs.Counts.{CountsMore, HasBytes, and_one}
 use Rattle.bs_batch.specs.Numbers.{number_of, numbers_of}
 use Rattle.bs_batch.specs.Shown.{food_byte}
-use Rattle.bs_batch.specs.inner.Loading.{AddsParts, AreNear, BeginsWith, NumbersCell, PartsAdded}
+use Rattle.bs_batch.specs.inner.Loading.{AddsParts, AreNear, BeginsWith, NumbersCell}
 use Rattle.bs_batch.proofs.Bytes.{same_bytes}
 use Rattle.bs_batch.proofs.Shown.{parts_of_byte}
 use Rattle.bs_batch.proofs.SeatWrites.{food_at_most}

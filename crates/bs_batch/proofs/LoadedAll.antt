@@ -1,6 +1,5 @@
 -- The snakes of a board that are loaded seat by seat, and its food.
-use Rattle.std.proofs.Common.{◌≡◌, ◌≢◌, ℕ, ◌+◌, ◌*◌, ◌/◌, ◌%◌, ◌<◌, ◌≤◌, Bool, true, false, ◌||◌, cond, List, [], ◌∷◌, ◌++◌, length, take, get_or, All, count_by, refl, subst, sym, ap, ◌∙◌, arith, inl, inr}
-use Rattle.std.specs.Prelude.{IsTrue, ◌↔◌}
+use Rattle.std.proofs.Common.{◌≡◌, ℕ, ◌+◌, ◌/◌, ◌%◌, ◌<◌, ◌≤◌, Bool, true, false, ◌||◌, cond, List, length, take, get_or, All, refl, subst, sym, ap, ◌∙◌, arith, inl, inr}
 use Rattle.std.specs.List.{list_any}
 use Rattle.std.proofs.lemmas.Bool.{cases_Bool, cases_eq}
 use Rattle.std.proofs.lemmas.List.{get_or_default, take_all, take_more}
@@ -11,12 +10,9 @@ use Rattle.bs_board.specs.declared.boards.snake.Snake.{Snake}
 use Rattle.bs_board.specs.boards.Cell.{is_same_cell, origin}
 use Rattle.bs_board.specs.boards.Legal.{is_near}
 use Rattle.bs_rules.specs.Collision.{nobody, snake_at}
-use Rattle.bs_rules.proofs.CollisionTest.{same_cell}
 use Rattle.bs_batch.specs.declared.layout.Head.{Head}
-use Rattle.bs_batch.specs.declared.loading.TheConstants.{MOST_PARTS}
 use Rattle.bs_batch.specs.Counts.{HasBytes, WritesFood}
 use Rattle.bs_batch.specs.Loading.{AreShort, HasFewParts}
-use Rattle.bs_batch.specs.Numbers.{number_of}
 use Rattle.bs_batch.specs.Shown.{ShowsSnake, food_byte, occupants, parts_on, room_of, seat_at}
 use Rattle.bs_batch.specs.inner.Loading.{AreNear, CanLoad, LoadsSeat, LoadsSnakes, NumbersCell, SnakesLoaded}
 use Rattle.bs_batch.proofs.Bytes.{same_bytes}

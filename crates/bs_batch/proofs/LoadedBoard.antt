@@ -1,6 +1,6 @@
 -- A board that is loaded.
-use Rattle.std.proofs.Common.{◌≡◌, ◌≢◌, ℕ, ◌+◌, ◌*◌, ◌/◌, ◌<◌, ◌≤◌, Bool, true, false, cond, List, [], ◌∷◌, length, drop, get_or, slice_index, replicate, All, count_by, MatchOption, Option, Some, None, refl, subst, sym, ap, ◌∙◌, arith, inl, inr}
-use Rattle.std.specs.Prelude.{IsTrue, ◌↔◌, is_none, is_some, Ok, Err, Result}
+use Rattle.std.proofs.Common.{◌≡◌, ◌≢◌, ℕ, ◌+◌, ◌*◌, ◌<◌, ◌≤◌, Bool, true, false, List, [], ◌∷◌, length, drop, get_or, replicate, All, MatchOption, Option, Some, None, refl, subst, sym, ap, ◌∙◌, arith}
+use Rattle.std.specs.Prelude.{is_none, is_some}
 use Rattle.std.proofs.lemmas.Bool.{and_parts}
 use Rattle.std.proofs.lemmas.List.{get_or-replicate, length-replicate}
 use Rattle.std.proofs.lemmas.List.Elements.{All-cons, All-nil, All-weaker}
@@ -13,24 +13,21 @@ use Rattle.bs_board.specs.declared.boards.snake.Cause.TheVariants.{OutOfHealth, 
 use Rattle.bs_board.specs.declared.boards.snake.Snake.{Snake}
 use Rattle.bs_board.specs.boards.Cell.{are_distinct_cells, head_of, is_on_board}
 use Rattle.std.specs.List.{list_all}
-use Rattle.bs_board.specs.boards.Legal.{IsKillerOf, IsLegal, IsLegalLiving, IsLegalOut, IsLegalSnake, is_head_of, is_near, may_cause}
-use Rattle.bs_board.specs.boards.Over.{is_living, is_over}
+use Rattle.bs_board.specs.boards.Legal.{IsKillerOf, IsLegal, IsLegalLiving, IsLegalOut, IsLegalSnake, is_head_of, is_near}
 use Rattle.bs_board.specs.boards.Wrap.{is_wrapped}
-use Rattle.bs_board.specs.records.Record.{cause_byte}
 use Rattle.bs_board.proofs.records.Longest.{side_fits}
 use Rattle.bs_rules.specs.Collision.{nobody, snake_at}
 use Rattle.bs_rules.proofs.Movable.{near_from_on_board}
 use Rattle.bs_batch.specs.declared.layout.Head.{Head}
 use Rattle.bs_batch.specs.declared.layout.Settings.{Settings}
-use Rattle.bs_batch.specs.declared.loading.Misfit.{Misfit}
 use Rattle.bs_batch.specs.declared.loading.Misfit.TheVariants.{Room}
 use Rattle.bs_batch.specs.Counts.{HasBytes}
 use Rattle.bs_batch.specs.Living.{CountsBoard, ShowsCauses}
-use Rattle.bs_batch.specs.Loading.{FitsLists, IsLoaded, cleared, misfit_of}
+use Rattle.bs_batch.specs.Loading.{cleared, misfit_of}
 use Rattle.bs_batch.specs.Shown.{ShowsGame}
 use Rattle.bs_batch.specs.Numbers.{number_of}
-use Rattle.bs_batch.specs.Shown.{ShowsSettings, byte_of}
-use Rattle.bs_batch.specs.inner.Loading.{AreNear, CanLoad, CanLoadBoard, CanLoadLists, CellsLoaded, IsSeatOfEight, LoadsCells, LoadsFood, LoadsSnakes}
+use Rattle.bs_batch.specs.Shown.{ShowsSettings}
+use Rattle.bs_batch.specs.inner.Loading.{AreNear, CanLoad, CanLoadBoard, CellsLoaded, IsSeatOfEight, LoadsCells, LoadsFood, LoadsSnakes}
 use Rattle.bs_batch.proofs.Numbers.{number_fits}
 
 head_of_out : (cause : Cause) (wraps : Bool) (w h : ℕ) (p : Point) → is_head_of wraps cause w h p ≡ true → is_near w h p ≡ true

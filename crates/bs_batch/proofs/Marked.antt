@@ -1,5 +1,5 @@
 -- Planes that are written cell by cell.
-use Rattle.std.proofs.Common.{◌≡◌, ◌≢◌, ℕ, ℤ, suc, ◌+◌, ◌-◌, ◌*◌, ◌/◌, ◌%◌, ◌<◌, ◌≤◌, min, Bool, true, false, ◌||◌, cond, List, [], ◌∷◌, ◌++◌, length, take, drop, set, get_or, slice_index, All, pos, nat_abs, ◌+ℤ◌, refl, subst, sym, ap, ◌∙◌, arith, inl, inr, add-one, drop-cons, length-drop, length-set}
+use Rattle.std.proofs.Common.{◌≡◌, ℕ, ℤ, suc, ◌+◌, ◌-◌, ◌*◌, ◌/◌, ◌%◌, ◌<◌, ◌≤◌, min, Bool, true, false, ◌||◌, cond, List, [], ◌∷◌, length, take, drop, set, get_or, pos, nat_abs, ◌+ℤ◌, refl, subst, sym, ap, ◌∙◌, arith, inl, inr, drop-cons, length-drop, length-set}
 use Rattle.std.specs.Prelude.{int_le, int_lt}
 use Rattle.std.specs.List.{list_any}
 use Rattle.std.proofs.lemmas.Bool.{cases_Bool}

@@ -1,10 +1,10 @@
 -- The bytes of a record, written one after the other.
-use Rattle.std.proofs.Common.{◌≡◌, ℕ, ℤ, ◌+◌, ◌*◌, ◌/◌, ◌%◌, ◌<◌, ◌≤◌, min, Bool, true, false, List, [], ◌∷◌, ◌++◌, length, take, get_or, All, Option, Some, None, pos, negsuc, nat_abs, ◌+ℤ◌, refl, subst, sym, ap, ◌∙◌, arith, inl, inr, append_assoc, length-take}
-use Rattle.std.specs.Prelude.{int_le, int_lt, is_none, is_some, unwrap_or}
+use Rattle.std.proofs.Common.{◌≡◌, ℕ, ℤ, ◌+◌, ◌/◌, ◌%◌, ◌<◌, ◌≤◌, min, true, false, List, [], ◌∷◌, ◌++◌, length, take, get_or, Option, Some, None, pos, nat_abs, ◌+ℤ◌, refl, subst, sym, ap, ◌∙◌, arith, inl, inr, append_assoc}
+use Rattle.std.specs.Prelude.{int_le, int_lt, is_some}
 use Rattle.std.specs.List.{flat_map, list_all}
 use Rattle.std.proofs.lemmas.Bool.{and_parts}
 use Rattle.std.proofs.lemmas.Int.{ints}
-use Rattle.std.proofs.lemmas.List.{append-nil, get_or-map, get_or_default, length-map, length-take-le, take_all, take_more}
+use Rattle.std.proofs.lemmas.List.{append-nil, get_or-map, get_or_default, length-map, take_all, take_more}
 use Rattle.std.proofs.lemmas.List.Concat.{flat_map-append}
 use Rattle.std.proofs.lemmas.List.Elements.{All-get_or}
 use Rattle.std.proofs.lemmas.List.Sums.{AllPass-from_list_all}
@@ -15,14 +15,14 @@ use Rattle.bs_board.specs.declared.boards.point.Point.{Point}
 use Rattle.bs_board.specs.declared.boards.snake.Snake.{Snake}
 use Rattle.bs_board.specs.boards.Cell.{are_distinct_cells, is_on_board, origin}
 use Rattle.bs_board.specs.boards.Legal.{is_near}
-use Rattle.bs_board.specs.records.Record.{cause_byte, cell_bytes, hazard_bytes, head_bytes, killer_byte, mode_byte, plain_version, record_of, snake_record, state_bytes}
+use Rattle.bs_board.specs.records.Record.{cell_bytes, hazard_bytes, head_bytes, killer_byte, mode_byte, plain_version, record_of, snake_record, state_bytes}
 use Rattle.bs_board.proofs.records.Longest.{legal_size, side_fits}
 use Rattle.bs_rules.specs.Collision.{nobody, snake_at}
 use Rattle.bs_rules.proofs.Movable.{four_parts, near_from_on_board}
 use Rattle.bs_batch.specs.declared.layout.Head.{Head}
 use Rattle.bs_batch.specs.declared.layout.Seat.{Seat}
 use Rattle.bs_batch.specs.Numbers.{number_of, numbers_of}
-use Rattle.bs_batch.specs.Saving.{BeginsWithBytes, IsSavedAs, SavesGame, digit_of}
+use Rattle.bs_batch.specs.Saving.{IsSavedAs, SavesGame}
 use Rattle.bs_batch.specs.Shown.{ShowsSnake, room_of, seat_at, seat_byte}
 use Rattle.bs_batch.specs.inner.Loading.{CanLoad, IsSeatOfEight}
 use Rattle.bs_batch.specs.inner.Saving.{AreWritable, IsWritten, WritesBytes, WritesCells, WritesHead, WritesSeat, WritesSnake}

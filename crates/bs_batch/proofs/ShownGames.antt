@@ -1,8 +1,8 @@
 -- The planes of many games, each in its piece of a list.
-use Rattle.std.proofs.Common.{◌≡◌, ◌≢◌, ℕ, ◌+◌, ◌-◌, ◌*◌, ◌<◌, ◌≤◌, Bool, true, false, List, [], length, take, drop, get_or, refl, subst, sym, ap, ◌∙◌, arith, inl, inr, length-drop, length-take-le, leb}
+use Rattle.std.proofs.Common.{◌≡◌, ◌≢◌, ℕ, ◌+◌, ◌*◌, ◌<◌, ◌≤◌, true, false, List, [], length, take, drop, get_or, refl, subst, sym, ap, ◌∙◌, arith, inl, inr, length-drop, length-take-le, leb}
 use Rattle.std.specs.Prelude.{slice_index_or}
 use Rattle.std.proofs.lemmas.Bool.{cases_eq, cases_lt}
-use Rattle.std.proofs.lemmas.List.{ext_get_or, get_or-drop, get_or-take, get_or_default}
+use Rattle.std.proofs.lemmas.List.{ext_get_or, get_or-drop, get_or-take}
 use borrow.Rule.Slice.PartMut.{mid_of, put_mid}
 use Rattle.bs_board.specs.declared.boards.board.Board.{Board}
 use Rattle.bs_batch.specs.Showing.{ShowsEach, ShowsPlanes}

@@ -1,21 +1,16 @@
 -- Planes that lie one after the other in a list of bytes.
-use Rattle.std.proofs.Common.{◌≡◌, ◌≢◌, ℕ, ◌+◌, ◌-◌, ◌*◌, ◌<◌, ◌≤◌, min, Bool, true, false, cond, List, ◌++◌, length, take, drop, get_or, replicate, refl, subst, sym, ap, ◌∙◌, arith, inl, inr, length-append, length-drop, length-take-le}
+use Rattle.std.proofs.Common.{◌≡◌, ℕ, ◌+◌, ◌-◌, ◌*◌, ◌<◌, ◌≤◌, min, true, cond, List, ◌++◌, length, take, drop, get_or, replicate, refl, subst, sym, ap, ◌∙◌, arith, inl, inr, length-append, length-drop, length-take-le}
 use Rattle.std.proofs.lemmas.Bool.{cases_eq, cases_lt}
-use Rattle.std.proofs.lemmas.List.{drop-drop, get_or-append_right, get_or-drop, get_or-replicate, get_or-take, get_or_append_left, get_or_past, length-replicate}
-use Rattle.std.proofs.lemmas.Nat.{mul-le}
+use Rattle.std.proofs.lemmas.List.{get_or-append_right, get_or-drop, get_or-replicate, get_or-take, get_or_append_left, get_or_past, length-replicate}
 use borrow.Rule.Slice.PartMut.{mid_of, put_mid}
 use Rattle.bs_board.specs.declared.boards.board.Board.{Board}
 use Rattle.bs_board.specs.declared.boards.point.Point.{Point}
-use Rattle.bs_board.specs.declared.boards.snake.Snake.{Snake}
 use Rattle.bs_board.specs.boards.Cell.{cell_index, is_on_board}
 use Rattle.bs_board.specs.boards.Legal.{IsLegal}
-use Rattle.bs_board.specs.boards.Over.{is_living}
 use Rattle.bs_rules.specs.Collision.{snake_at}
 use Rattle.bs_batch.specs.declared.layout.Head.{Head}
-use Rattle.bs_batch.specs.declared.layout.Settings.{Settings}
-use Rattle.bs_batch.specs.Loading.{ShowsGame}
-use Rattle.bs_batch.specs.Shown.{room_of, seat_at}
-use Rattle.bs_batch.specs.Showing.{HasPlane, ShowsBoard, ShowsPlanes, body_mark, food_mark, turns_left}
+use Rattle.bs_batch.specs.Shown.{ShowsGame, room_of, seat_at}
+use Rattle.bs_batch.specs.Showing.{HasPlane, ShowsBoard, body_mark, food_mark, turns_left}
 use Rattle.bs_batch.specs.inner.Loading.{AreNear}
 use Rattle.bs_batch.specs.inner.Showing.{HasCells, MarksBody, MarksFood, ShowsFoodPlane, ShowsSeatPlane, WritesPlane}
 use Rattle.bs_batch.proofs.FirstOut.{seat_is_out, seat_lives}

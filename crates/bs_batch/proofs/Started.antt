@@ -1,11 +1,8 @@
 -- A new snake on its cell.
-use Rattle.std.proofs.Common.{◌≡◌, ◌≢◌, ℕ, zero, suc, ◌+◌, ◌-◌, ◌*◌, ◌/◌, ◌%◌, ◌<◌, ◌≤◌, Bool, true, false, cond, List, [], ◌∷◌, ◌++◌, length, take, set, get_or, slice_index, All, count_by, refl, subst, sym, ap, ◌∙◌, arith, inl, inr, length-set}
-use Rattle.std.specs.Prelude.{IsTrue, IsFalse, ◌↔◌}
-use Rattle.std.proofs.lemmas.Bool.{cases_Bool}
+use Rattle.std.proofs.Common.{◌≡◌, ℕ, ◌+◌, ◌*◌, ◌/◌, ◌<◌, ◌≤◌, true, cond, List, [], ◌∷◌, length, take, set, slice_index, count_by, refl, sym, ap, ◌∙◌, arith, length-set}
 use Rattle.std.proofs.lemmas.List.{get_or-set_other, get_or-set_same}
 use Rattle.std.proofs.lemmas.List.Sums.{sum_by-cons}
 use Rattle.bs_board.specs.declared.boards.point.Point.{Point}
-use Rattle.bs_board.specs.declared.boards.snake.Snake.{Snake}
 use Rattle.bs_board.specs.boards.Cell.{is_on_board, is_same_cell}
 use Rattle.bs_board.specs.boards.Legal.{is_near}
 use Rattle.bs_rules.proofs.CollisionTest.{same_cell}
@@ -15,7 +12,7 @@ use Rattle.bs_batch.specs.declared.layout.Cell.{Cell}
 use Rattle.bs_batch.specs.declared.layout.Head.{Head}
 use Rattle.bs_batch.specs.declared.layout.Seat.{Seat}
 use Rattle.bs_batch.specs.Counts.{CountsMore, HasBytes, and_one}
-use Rattle.bs_batch.specs.Numbers.{number_of, numbers_of}
+use Rattle.bs_batch.specs.Numbers.{number_of}
 use Rattle.bs_batch.specs.Shown.{ShowsSnake, no_seat, parts_on, room_of, seat_at}
 use Rattle.bs_batch.specs.Starting.{point_of}
 use Rattle.bs_batch.specs.inner.Loading.{WritesSeat}

@@ -1,16 +1,14 @@
 -- The first board of a game, put together.
-use Rattle.std.proofs.Common.{◌≡◌, ◌≢◌, ℕ, ◌+◌, ◌*◌, ◌<◌, ◌≤◌, min, Bool, true, false, List, [], ◌∷◌, length, take, map, get_or, replicate, None, refl, subst, sym, ap, ◌∙◌, arith, length-take}
-use Rattle.std.specs.Prelude.{IsTrue, IsFalse, ◌↔◌}
-use Rattle.std.proofs.lemmas.List.{get_or-map, length-map, length-take-le, take_all}
+use Rattle.std.proofs.Common.{◌≡◌, ℕ, ◌+◌, ◌*◌, ◌<◌, ◌≤◌, min, Bool, true, false, List, [], ◌∷◌, length, take, map, get_or, replicate, refl, subst, sym, ap, ◌∙◌, arith, length-take}
+use Rattle.std.proofs.lemmas.List.{get_or-map, length-map, take_all}
 use Rattle.std.proofs.lemmas.List.Sums.{sum_by-cons}
-use Rattle.bs_board.specs.declared.boards.board.Board.{Board}
 use Rattle.bs_board.specs.declared.boards.board.Mode.{Mode}
 use Rattle.bs_board.specs.declared.boards.board.Mode.TheVariants.{Standard, Solo, Constrictor, Wrapped}
 use Rattle.bs_board.specs.declared.boards.point.Point.{Point}
 use Rattle.bs_board.specs.declared.boards.snake.Snake.{Snake}
 use Rattle.bs_board.specs.boards.Cell.{origin}
 use Rattle.bs_board.specs.commands.Setup.{Setup, is_fit_food}
-use Rattle.bs_board.specs.records.Record.{cause_byte, mode_byte}
+use Rattle.bs_board.specs.records.Record.{mode_byte}
 use Rattle.bs_modes.specs.FirstBoard.{first_board, first_food, first_snake}
 use Rattle.bs_rules.specs.Collision.{nobody, snake_at}
 use Rattle.bs_batch.specs.declared.layout.Cell.{Cell}
@@ -21,10 +19,9 @@ use Rattle.bs_batch.specs.Counts.{HasBytes}
 use Rattle.bs_batch.specs.Living.{CountsBoard, ShowsCauses}
 use Rattle.bs_batch.specs.Loading.{cleared}
 use Rattle.bs_batch.specs.Shown.{ShowsGame}
-use Rattle.bs_batch.specs.Numbers.{numbers_of}
-use Rattle.bs_batch.specs.Shown.{ShowsFood, ShowsSettings, ShowsSnake, ShowsSnakes, byte_of, food_byte, occupants, parts_on, room_of, seat_at}
-use Rattle.bs_batch.specs.Starting.{AreFirstCells, IsSetupOf, IsStarted, point_of, points_of}
-use Rattle.bs_batch.specs.inner.Starting.{AllPlaced, CanStart, DropsFood, HasFirstFood, KeepsFirstFood, PlacesAll, PlacesFood, PlacesSnakes, starter, starters}
+use Rattle.bs_batch.specs.Shown.{ShowsFood, ShowsSnake, ShowsSnakes, byte_of, food_byte, occupants, parts_on, room_of, seat_at}
+use Rattle.bs_batch.specs.Starting.{AreFirstCells, IsSetupOf, point_of, points_of}
+use Rattle.bs_batch.specs.inner.Starting.{AllPlaced, CanStart, DropsFood, KeepsFirstFood, PlacesAll, PlacesFood, PlacesSnakes, starter, starters}
 use Rattle.bs_batch.proofs.Bytes.{same_bytes}
 use Rattle.bs_batch.proofs.FirstCells.{few_starters}
 use Rattle.bs_batch.proofs.LoadedBoard.{no_bytes}

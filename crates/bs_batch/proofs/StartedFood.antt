@@ -1,6 +1,5 @@
 -- The first food that is placed and dropped cell by cell.
-use Rattle.std.proofs.Common.{◌≡◌, ◌≢◌, ℕ, ◌+◌, ◌*◌, ◌%◌, ◌<◌, ◌≤◌, Bool, true, false, not, ◌||◌, cond, List, [], ◌∷◌, ◌++◌, length, take, map, set, get_or, slice_index, All, refl, subst, sym, ap, ◌∙◌, arith, inl, inr, length-set}
-use Rattle.std.specs.Prelude.{IsTrue, IsFalse, ◌↔◌}
+use Rattle.std.proofs.Common.{◌≡◌, ℕ, ◌+◌, ◌*◌, ◌%◌, ◌<◌, ◌≤◌, Bool, true, false, ◌||◌, cond, List, [], ◌∷◌, ◌++◌, length, take, set, get_or, slice_index, refl, sym, ap, ◌∙◌, arith, inl, inr, length-set}
 use Rattle.std.specs.List.{list_all, list_any}
 use Rattle.std.proofs.lemmas.Bool.{and_parts, cases_Bool}
 use Rattle.std.proofs.lemmas.List.{get_or-map, get_or-take, length-map, length-take-le, map_push, take_all, take_more, take_more_set}
@@ -8,10 +7,8 @@ use Rattle.std.proofs.lemmas.List.Elements.{All-get_or}
 use Rattle.std.proofs.lemmas.List.Sums.{AllPass-from_list_all}
 use Rattle.bs_board.specs.declared.boards.point.Point.{Point}
 use Rattle.bs_board.specs.boards.Cell.{are_distinct_cells, is_on_board, is_same_cell, origin}
-use Rattle.bs_board.specs.boards.Legal.{is_near}
 use Rattle.bs_board.specs.commands.Setup.{is_fit_food}
 use Rattle.bs_board.proofs.boards.CellsOnBoard.{cells_on_board}
-use Rattle.bs_rules.proofs.CollisionTest.{same_cell}
 use Rattle.bs_rules.proofs.Movable.{near_from_on_board}
 use Rattle.bs_batch.specs.declared.layout.Cell.{Cell}
 use Rattle.bs_batch.specs.declared.layout.Head.{Head}

@@ -1,6 +1,5 @@
 -- Games that are started one by one.
-use Rattle.std.proofs.Common.{◌≡◌, ◌≢◌, ℕ, ◌+◌, ◌-◌, ◌*◌, ◌%◌, ◌<◌, ◌≤◌, Bool, true, false, cond, List, [], ◌∷◌, ◌++◌, length, set, get_or, count_by, refl, subst, sym, ap, ◌∙◌, arith, inl, inr, length-set}
-use Rattle.std.specs.Prelude.{IsTrue, IsFalse, ◌↔◌}
+use Rattle.std.proofs.Common.{◌≡◌, ℕ, ◌+◌, ◌-◌, ◌*◌, ◌%◌, ◌<◌, ◌≤◌, Bool, true, false, cond, List, [], ◌∷◌, ◌++◌, length, set, get_or, count_by, refl, subst, sym, ap, ◌∙◌, arith, inl, inr, length-set}
 use Rattle.std.proofs.lemmas.Bool.{cases_eq}
 use Rattle.std.proofs.lemmas.List.{get_or-append_right, get_or-set_other, get_or-set_same, get_or_append_left, length_push}
 use Rattle.std.proofs.lemmas.List.Sums.{count_by-le-length, sum_by_push}
@@ -10,7 +9,7 @@ use Rattle.bs_batch.specs.declared.layout.Cell.{Cell}
 use Rattle.bs_batch.specs.declared.layout.Head.{Head}
 use Rattle.bs_batch.specs.declared.many.ManyStarts.{ManyStarts}
 use Rattle.bs_batch.specs.Loading.{cleared}
-use Rattle.bs_batch.specs.Starting.{AreFirstCells, AreSettings, IsStarted, StartsEach, StartsOne, food_of, has_to_start, starts_of}
+use Rattle.bs_batch.specs.Starting.{AreSettings, StartsEach, StartsOne, food_of, has_to_start, starts_of}
 use Rattle.bs_batch.specs.inner.Starting.{CanStart, StartsGame}
 
 pub game_begins : (longest : ℕ) (first : ManyStarts) (number : ℕ) (stays : Type 0) (result : Bool) (old head : Head) (food plane bodies : List ℕ) (starts cells : List Cell)

@@ -1,18 +1,15 @@
 -- The elimination of one snake.
-use Rattle.std.specs.Prelude.{◌≡◌, ℕ, ◌+◌, ◌<◌, ◌≤◌, true, List, length, slice_set, MatchOption, Option, Some, is_some, option_map}
+use Rattle.std.specs.Prelude.{◌≡◌, ℕ, ◌+◌, ◌<◌, true, List, length, slice_set, Some}
 use Rattle.bs_board.specs.declared.boards.board.Board.{Board}
 use Rattle.bs_board.specs.declared.boards.snake.Snake.{Snake}
-use Rattle.bs_board.specs.boards.Wrap.{is_wrapped}
 use Rattle.bs_board.specs.boards.Over.{is_living}
 use Rattle.bs_board.specs.records.Record.{cause_byte}
 use Rattle.bs_rules.specs.declared.verdict.Verdict.{Verdict}
 use Rattle.bs_rules.specs.Collision.{snake_at}
-use Rattle.bs_rules.specs.Elimination.{judged, starved_or_outside_snake, starved_or_outside_verdict}
+use Rattle.bs_rules.specs.Elimination.{judged}
 use Rattle.bs_batch.specs.declared.collisions.Verdict.{Verdict as VerdictBytes}
 use Rattle.bs_batch.specs.declared.layout.Head.{Head}
-use Rattle.bs_batch.specs.declared.layout.Settings.{Settings}
-use Rattle.bs_batch.specs.Numbers.{numbers_of}
-use Rattle.bs_batch.specs.Shown.{HasBody, HasRoom, ShowsSeats, ShowsSettings, seat_byte}
+use Rattle.bs_batch.specs.Shown.{HasRoom, ShowsSeats, seat_byte}
 
 -- the verdict in bytes
 pub record IsVerdict (bytes : VerdictBytes) (v : Verdict) : Type 0 where

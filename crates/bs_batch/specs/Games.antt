@@ -1,5 +1,5 @@
 -- A turn of many games.
-use Rattle.std.specs.Prelude.{◌≡◌, ℕ, ◌+◌, ◌*◌, ◌<◌, ◌≤◌, Bool, false, ◌&&◌, if◌then◌else◌, nat_eq, nat_le, nat_lt, List, [], length, take, drop}
+use Rattle.std.specs.Prelude.{◌≡◌, ℕ, ◌<◌, ◌≤◌, false, List, take}
 use Rattle.bs_board.specs.declared.boards.board.Board.{Board}
 use Rattle.bs_board.specs.declared.limits.TheConstants.{LAST_TURN, MOST_WORDS}
 use Rattle.bs_board.specs.boards.Over.{is_over}

@@ -1,10 +1,8 @@
 -- Which boards a game takes, and what it shows then.
-use Rattle.std.specs.Prelude.{◌≡◌, ◌↔◌, ℕ, ◌+◌, ◌≤◌, ◌/◌, true, cond, if◌then◌else◌, is_none, is_some, List, length, All, count_by, replicate, Result, IsErr, IsOk, IfErr, OnErr, OnOk}
+use Rattle.std.specs.Prelude.{◌≡◌, ◌↔◌, ℕ, ◌≤◌, ◌/◌, true, if◌then◌else◌, is_none, is_some, List, length, All, replicate, Result, IsErr, IsOk, IfErr, OnErr, OnOk}
 use Rattle.bs_board.specs.declared.boards.board.Board.{Board}
 use Rattle.bs_board.specs.declared.boards.point.Point.{Point}
 use Rattle.bs_board.specs.declared.boards.snake.Snake.{Snake}
-use Rattle.bs_board.specs.boards.Legal.{IsLegal}
-use Rattle.bs_board.specs.boards.Over.{is_living, is_over}
 use Rattle.bs_batch.specs.declared.layout.Head.{Head}
 use Rattle.bs_batch.specs.declared.layout.Seat.{Seat}
 use Rattle.bs_batch.specs.declared.layout.Settings.{Settings}

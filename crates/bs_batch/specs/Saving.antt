@@ -1,11 +1,11 @@
 -- The record of a game's board.
 use Rattle.std.specs.Prelude.{◌≡◌, ℕ, ◌+◌, ◌≤◌, List, [], ◌∷◌, length, take, None}
 use Rattle.bs_board.specs.declared.boards.board.Board.{Board}
-use Rattle.bs_board.specs.declared.boards.snake.Snake.{Snake}
 use Rattle.bs_board.specs.boards.Legal.{EachSeat, IsLegal}
 use Rattle.bs_board.specs.records.Record.{record_of}
 use Rattle.bs_batch.specs.declared.layout.Head.{Head}
-use Rattle.bs_batch.specs.Loading.{FitsSides, ShowsGame}
+use Rattle.bs_batch.specs.Loading.{FitsSides}
+use Rattle.bs_batch.specs.Shown.{ShowsGame}
 
 -- a game has no ids: the record has the digit of the seat
 abbrev pub digit_of : ℕ → List ℕ

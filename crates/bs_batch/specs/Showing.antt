@@ -12,7 +12,8 @@ use Rattle.bs_batch.specs.declared.layout.Head.{Head}
 use Rattle.bs_batch.specs.declared.layout.LargeGame.{LargeGame}
 use Rattle.bs_batch.specs.declared.layout.SmallGame.{SmallGame}
 use Rattle.bs_batch.specs.declared.layout.TheConstants.{LARGE_SIDE, SMALL_SIDE}
-use Rattle.bs_batch.specs.Loading.{FitsSides, ShowsGame}
+use Rattle.bs_batch.specs.Loading.{FitsSides}
+use Rattle.bs_batch.specs.Shown.{ShowsGame}
 use Rattle.bs_batch.specs.Starting.{piece_of}
 
 -- The number of turns until the foremost part on the cell is gone, if nothing is eaten; 0 where no

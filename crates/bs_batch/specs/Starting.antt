@@ -1,6 +1,5 @@
 -- The first board of a game.
 use Rattle.std.specs.Prelude.{◌≡◌, ◌↔◌, ℕ, ◌+◌, ◌*◌, ◌≤◌, ◌<◌, ◌==◌, nat_le, Bool, true, false, not, if◌then◌else◌, List, [], length, map, take, drop, count_by, slice_index_or, pos, None, IsTrue, IsFalse}
-use Rattle.bs_board.specs.declared.boards.board.Board.{Board}
 use Rattle.bs_board.specs.declared.boards.point.Point.{Point}
 use Rattle.bs_board.specs.commands.Setup.{Setup, is_fit_food}
 use Rattle.bs_board.specs.records.Record.{mode_byte}

@@ -1,5 +1,5 @@
 -- The eliminations, seat by seat.
-use Rattle.std.specs.Prelude.{◌≡◌, ℕ, ◌+◌, ◌<◌, ◌≤◌, true, List, length, slice_set, MatchOption, Option, Some, is_some, option_map}
+use Rattle.std.specs.Prelude.{◌≡◌, ℕ, ◌+◌, ◌<◌, ◌≤◌, true, List, length, MatchOption, Option, is_some, option_map}
 use Rattle.bs_board.specs.declared.boards.board.Board.{Board}
 use Rattle.bs_board.specs.declared.boards.snake.Snake.{Snake}
 use Rattle.bs_board.specs.boards.Wrap.{is_wrapped}
@@ -13,7 +13,7 @@ use Rattle.bs_batch.specs.declared.layout.Head.{Head}
 use Rattle.bs_batch.specs.declared.layout.Settings.{Settings}
 use Rattle.bs_batch.specs.Eliminations.{IsVerdict, with_snake}
 use Rattle.bs_batch.specs.Numbers.{numbers_of}
-use Rattle.bs_batch.specs.Shown.{HasBody, HasRoom, ShowsSeats, ShowsSettings, seat_byte}
+use Rattle.bs_batch.specs.Shown.{HasBody, HasRoom, ShowsSeats, ShowsSettings}
 
 -- a step that changes the snake of one seat
 abbrev pub ChangesSeat : (Board → Snake → Snake) → ℕ → List ℕ → Head → List ℕ → Head → List ℕ → Type 0

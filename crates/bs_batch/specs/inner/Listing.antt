@@ -1,5 +1,5 @@
 -- The steps by which cells are listed.
-use Rattle.std.specs.Prelude.{◌≡◌, ℕ, ◌≤◌, true, List, length}
+use Rattle.std.specs.Prelude.{◌≡◌, ℕ, ◌≤◌, true, List}
 use Rattle.bs_board.specs.declared.boards.point.Point.{Point}
 use Rattle.bs_board.specs.boards.Legal.{is_near}
 use Rattle.bs_batch.specs.declared.layout.Place.{Place}

@@ -5,9 +5,9 @@ use Rattle.bs_board.specs.declared.boards.point.Point.{Point}
 use Rattle.bs_board.specs.boards.Cell.{cell_index, is_on_board, is_same_cell}
 use Rattle.bs_board.specs.boards.Legal.{IsLegal, is_near}
 use Rattle.bs_rules.specs.Collision.{snake_at}
+use Rattle.bs_batch.specs.Shown.{ShowsGame}
 use Rattle.bs_batch.specs.declared.layout.Head.{Head}
 use Rattle.bs_batch.specs.declared.layout.Settings.{Settings}
-use Rattle.bs_batch.specs.Loading.{ShowsGame}
 use Rattle.bs_batch.specs.Numbers.{number_of, numbers_of}
 use Rattle.bs_batch.specs.Showing.{HasPlane, ShowsPlanes, body_mark, food_mark, turns_left}
 use Rattle.bs_batch.specs.Starting.{piece_of}

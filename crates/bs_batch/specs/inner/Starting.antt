@@ -1,5 +1,5 @@
 -- The steps by which a game is started.
-use Rattle.std.specs.Prelude.{◌≡◌, ◌↔◌, ℕ, ◌+◌, ◌*◌, ◌≤◌, ◌<◌, Bool, true, IsTrue, List, [], length, map, None}
+use Rattle.std.specs.Prelude.{◌≡◌, ◌↔◌, ℕ, ◌+◌, ◌*◌, ◌≤◌, ◌<◌, Bool, true, IsTrue, List, [], length, map}
 use Rattle.bs_board.specs.declared.boards.board.Mode.{Mode}
 use Rattle.bs_board.specs.declared.boards.point.Point.{Point}
 use Rattle.bs_board.specs.declared.boards.snake.Snake.{Snake}
@@ -12,7 +12,7 @@ use Rattle.bs_batch.specs.declared.layout.Head.{Head}
 use Rattle.bs_batch.specs.declared.layout.Settings.{Settings}
 use Rattle.bs_batch.specs.Counts.{HasBytes}
 use Rattle.bs_batch.specs.Loading.{cleared}
-use Rattle.bs_batch.specs.Shown.{ShowsFood, ShowsSnake, ShowsSnakes, byte_of, food_byte, occupants, parts_on, room_of, seat_at}
+use Rattle.bs_batch.specs.Shown.{ShowsFood, ShowsSnake, ShowsSnakes, food_byte, occupants, parts_on, room_of, seat_at}
 use Rattle.bs_batch.specs.Starting.{AreFirstCells, IsStarted, point_of, points_of}
 use Rattle.bs_batch.specs.inner.Loading.{WritesSeat}
 

@@ -1,4 +1,4 @@
-use Rattle.std.proofs.Common.{◌≡◌, ◌<◌, ◌∙◌, arith, inl, inr, length, sym}
+use Rattle.std.proofs.Common.{◌<◌, ◌∙◌, arith, inl, inr, length, sym}
 use Rattle.std.proofs.lemmas.Bool.{cases_eq}
 use Rattle.bs_rules.specs.Collision.{nobody}
 use Rattle.bs_rules.specs.Feeding.{has_head_on}

@@ -1,4 +1,4 @@
-use Rattle.std.proofs.Common.{◌≡◌, ◌<◌, ◌≤◌, ◌∙◌, arith, get_or, length, true}
+use Rattle.std.proofs.Common.{◌≡◌, ◌<◌, arith, get_or, length, true}
 use Rattle.bs_board.specs.boards.Cell.{origin}
 use Rattle.bs_board.specs.boards.Legal.{is_near}
 use Rattle.bs_rules.proofs.Movable.{near_from_on_board}

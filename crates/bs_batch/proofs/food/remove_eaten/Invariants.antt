@@ -1,6 +1,4 @@
 use Rattle.std.proofs.Common.{◌≤◌}
-use Rattle.bs_board.specs.declared.boards.board.Board.{Board}
-use Rattle.bs_batch.specs.Shown.{ShowsFood, ShowsSeats}
 use Rattle.bs_batch.proofs.FoodEaten.{EatenSoFar}
 use Rattle.bs_batch.proofs.food.remove_eaten.Given as goal
 

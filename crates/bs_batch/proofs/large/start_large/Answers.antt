@@ -1,4 +1,4 @@
-use Rattle.std.proofs.Common.{arith, refl, sym}
+use Rattle.std.proofs.Common.{arith, refl}
 use Rattle.std.proofs.lemmas.List.{get_or_default}
 use Rattle.bs_batch.specs.Starting.{StartsLarge}
 use Rattle.bs_batch.proofs.StartedGames.{one_started}

@@ -1,4 +1,4 @@
-use Rattle.std.proofs.Common.{arith, bit_and}
+use Rattle.std.proofs.Common.{bit_and}
 use Rattle.std.proofs.lemmas.Nat.{and_mask}
 use Rattle.bs_batch.proofs.Loaded.{all_added, next_added, none_more}
 use Rattle.bs_batch.proofs.loading.add_parts.Goals as goal

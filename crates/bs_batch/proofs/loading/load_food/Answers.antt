@@ -1,6 +1,5 @@
-use Rattle.std.proofs.Common.{◌≡◌, ◌≤◌, arith, length, refl}
+use Rattle.std.proofs.Common.{◌≤◌, arith, length, refl}
 use Rattle.bs_batch.proofs.LoadedAll.{all_food_added, one_food_added}
-use Rattle.bs_batch.proofs.LoadedSeat.{begins}
 use Rattle.bs_batch.proofs.loading.load_food.Goals as goal
 
 pub loop-cell-preserved : goal.loop-cell-preserved

@@ -1,5 +1,4 @@
-use Rattle.std.proofs.Common.{◌≡◌, ◌≤◌, false, true, arith, length, sym, ◌∙◌, ap}
-use Rattle.std.specs.Prelude.{not}
+use Rattle.std.proofs.Common.{◌≤◌, arith, length, sym, ◌∙◌, ap}
 use Rattle.bs_batch.proofs.LoadedSeat.{alive_loaded, begins, dead_loaded, shows_loaded}
 use Rattle.bs_batch.proofs.loading.load_snake.Goals as goal
 

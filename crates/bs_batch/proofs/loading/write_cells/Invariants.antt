@@ -1,4 +1,3 @@
-use Rattle.std.proofs.Common.{◌≡◌}
 use Rattle.bs_batch.proofs.Loaded.{WrittenSoFar}
 use Rattle.bs_batch.proofs.loading.write_cells.Given as goal
 

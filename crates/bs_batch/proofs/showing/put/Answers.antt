@@ -1,4 +1,4 @@
-use Rattle.std.proofs.Common.{◌≡◌, ◌/◌, ◌%◌, ◌≤◌, arith, subst, sym}
+use Rattle.std.proofs.Common.{arith}
 use Rattle.bs_batch.proofs.Marked.{marked_at}
 use Rattle.bs_batch.proofs.showing.put.Goals as goal
 

@@ -1,4 +1,3 @@
-use Rattle.std.proofs.Common.{arith}
 use Rattle.bs_batch.proofs.Marked.{all_parts_marked, no_part_marked, one_part_marked}
 use Rattle.bs_batch.proofs.showing.put_body.Goals as goal
 

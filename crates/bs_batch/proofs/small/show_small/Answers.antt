@@ -1,4 +1,3 @@
-use Rattle.std.proofs.Common.{arith}
 use Rattle.std.proofs.lemmas.List.{get_or_default}
 use Rattle.bs_batch.specs.Showing.{IsSmallBoard}
 use Rattle.bs_batch.proofs.ShownGames.{all_games, no_games, one_game}

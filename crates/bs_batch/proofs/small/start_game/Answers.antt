@@ -1,4 +1,4 @@
-use Rattle.std.proofs.Common.{◌≡◌, arith, length, sym, ◌∙◌}
+use Rattle.std.proofs.Common.{arith, sym, ◌∙◌}
 use Rattle.bs_batch.proofs.StartedGames.{game_begins}
 use Rattle.bs_batch.proofs.small.start_game.Goals as goal
 

@@ -1,4 +1,4 @@
-use Rattle.std.proofs.Common.{◌∙◌, arith, refl}
+use Rattle.std.proofs.Common.{arith, refl}
 use Rattle.bs_batch.proofs.StartedFood.{all_food, next_food, no_food, not_on_board, past_room, twice}
 use Rattle.bs_batch.proofs.starting.place_food.Goals as goal
 use Rattle.bs_batch.proofs.starting.place_food.Goals.{then-not-has-via-then-not-has, then-not-has-via-else-not-has+then-at-ge-FOOD}

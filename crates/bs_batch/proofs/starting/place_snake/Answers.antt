@@ -1,4 +1,4 @@
-use Rattle.std.proofs.Common.{arith, length, ◌*◌, ◌/◌, ◌+◌, ◌-◌, sym, ap, ◌∙◌}
+use Rattle.std.proofs.Common.{arith, length, ◌*◌, ◌/◌, ◌+◌, ◌-◌, sym, ◌∙◌}
 use Rattle.bs_batch.proofs.Started.{one_placed}
 use Rattle.bs_batch.proofs.starting.place_snake.Goals as goal
 

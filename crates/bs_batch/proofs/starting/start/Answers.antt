@@ -1,4 +1,4 @@
-use Rattle.std.proofs.Common.{arith, length, refl, subst, sym, ap, ◌∙◌, ◌≡◌}
+use Rattle.std.proofs.Common.{arith, length, refl, subst, ap, ◌∙◌, ◌≡◌}
 use Rattle.bs_batch.specs.declared.layout.Head.{Head}
 use Rattle.bs_batch.specs.declared.layout.Settings.{Settings}
 use Rattle.bs_batch.specs.Starting.{AreFirstCells}
