@@ -187,7 +187,8 @@ typedef struct {
  * arena_small_save writes the record of the board as far as there is room, with the ids "0" to "7",
  * and returns its length; 0 if the settings are not those of a game.
  *
- * arena_small_load makes the game of a record, whose ids are not kept: ARENA_OK,
+ * arena_small_load makes the game of a record, whose ids are not kept. A living body that crosses
+ * itself more than once has no room either, though no game that was started has one: ARENA_OK,
  * ARENA_NOT_A_RECORD, ARENA_ROOM, ARENA_HAZARDS, ARENA_MEMORY. After ARENA_ROOM and ARENA_HAZARDS
  * the game is over, with no living snake; after the other faults it is as it was. */
 #define ARENA_CALLS(size, game)                                                                    \

@@ -1,5 +1,10 @@
 //! Small games of the caller, on boards of at most 11 by 11 cells.
 
+ghost use Rattle.std.specs.Prelude.{ℕ, ◌<◌, length, slice_index_or};
+ghost use Rattle.bs_batch.specs.declared.layout.SmallGame.{SmallGame as AnyGame};
+ghost use Rattle.bs_batch.specs.Games.{StepsSmall, words_of};
+ghost use Rattle.bs_batch.specs.Starting.{StartsEach, StartsSmall, piece_of};
+
 use crate::status::{NOT_A_RECORD, OK, OUT_OF_MEMORY, status_of_misfit};
 use bs_batch::{
     ManyOrders, ManyStarts, Place, SmallGame, body_small, food_small, load_small, save_small,
@@ -11,13 +16,18 @@ use std::alloc::Global;
 /// Starts each game whose byte of `which` is not 0, and returns the number of those that started. A
 /// game whose settings or cells are not those of a first board is over, without a snake.
 #[unsafe(no_mangle)]
-pub extern "C" fn arena_small_start(games: &mut [SmallGame], starts: &ManyStarts<'_>) -> usize {
+pub extern "C" fn arena_small_start(games: &mut [SmallGame], starts: &ManyStarts<'_>) -> usize
+    ensures { StartsEach (StartsSmall starts.now) games.old games.new result }
+{
     start_small(games, starts)
 }
 
 /// Plays a turn in each game that is not over and is below turn 10,000.
 #[unsafe(no_mangle)]
-pub extern "C" fn arena_small_step(games: &mut [SmallGame], orders: &ManyOrders<'_>) {
+pub extern "C" fn arena_small_step(games: &mut [SmallGame], orders: &ManyOrders<'_>)
+    ensures games { (i : ℕ) (d : AnyGame) → i < length games.old
+        → StepsSmall (piece_of orders.now.moves.now i orders.now.moves_each) (words_of orders.now.words.now i orders.now.words_each) (slice_index_or games.old i d) (slice_index_or games.new i d) }
+{
     step_small(games, orders);
 }
 

@@ -7,10 +7,10 @@ use Rattle.bs_board.specs.declared.boards.point.Point.{Point}
 use Rattle.bs_board.specs.boards.Cell.{origin}
 use Rattle.bs_board.specs.boards.Legal.{is_near}
 use Rattle.bs_batch.specs.declared.layout.Place.{Place}
-use Rattle.bs_batch.specs.Listing.{place_at, places_of}
+use Rattle.bs_batch.specs.Listing.{PlacesCell, place_at, places_of}
 use Rattle.bs_batch.specs.Numbers.{number_of, numbers_of}
 use Rattle.bs_batch.specs.Shown.{ShowsFood}
-use Rattle.bs_batch.specs.inner.Listing.{ListsCells, PlacesCell}
+use Rattle.bs_batch.specs.inner.Listing.{ListsCells}
 use Rattle.bs_batch.specs.inner.Loading.{AreNear}
 
 -- the first cells are listed

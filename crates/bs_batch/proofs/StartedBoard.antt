@@ -20,8 +20,8 @@ use Rattle.bs_batch.specs.Living.{CountsBoard, ShowsCauses}
 use Rattle.bs_batch.specs.Loading.{cleared}
 use Rattle.bs_batch.specs.Shown.{ShowsGame}
 use Rattle.bs_batch.specs.Shown.{ShowsFood, ShowsSnake, ShowsSnakes, byte_of, food_byte, occupants, parts_on, room_of, seat_at}
-use Rattle.bs_batch.specs.Starting.{AreFirstCells, IsSetupOf, point_of, points_of}
-use Rattle.bs_batch.specs.inner.Starting.{AllPlaced, CanStart, DropsFood, KeepsFirstFood, PlacesAll, PlacesFood, PlacesSnakes, starter, starters}
+use Rattle.bs_batch.specs.Starting.{AreFirstCells, CanStart, IsSetupOf, point_of, points_of}
+use Rattle.bs_batch.specs.inner.Starting.{AllPlaced, DropsFood, KeepsFirstFood, PlacesAll, PlacesFood, PlacesSnakes, starter, starters}
 use Rattle.bs_batch.proofs.Bytes.{same_bytes}
 use Rattle.bs_batch.proofs.FirstCells.{few_starters}
 use Rattle.bs_batch.proofs.LoadedBoard.{no_bytes}

@@ -9,8 +9,7 @@ use Rattle.bs_batch.specs.declared.layout.Cell.{Cell}
 use Rattle.bs_batch.specs.declared.layout.Head.{Head}
 use Rattle.bs_batch.specs.declared.many.ManyStarts.{ManyStarts}
 use Rattle.bs_batch.specs.Loading.{cleared}
-use Rattle.bs_batch.specs.Starting.{AreSettings, StartsEach, StartsOne, food_of, has_to_start, starts_of}
-use Rattle.bs_batch.specs.inner.Starting.{CanStart, StartsGame}
+use Rattle.bs_batch.specs.Starting.{AreSettings, CanStart, StartsEach, StartsGame, StartsOne, food_of, has_to_start, starts_of}
 
 pub game_begins : (longest : ℕ) (first : ManyStarts) (number : ℕ) (stays : Type 0) (result : Bool) (old head : Head) (food plane bodies : List ℕ) (starts cells : List Cell)
     → longest ≤ 25 → has_to_start first number ≡ true → AreSettings longest first.settings → starts ≡ starts_of first number → cells ≡ food_of first number

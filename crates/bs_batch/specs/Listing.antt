@@ -1,15 +1,21 @@
 -- The cells of a game as lists.
-use Rattle.std.specs.Prelude.{◌≡◌, ℕ, ◌<◌, List, length, map, take}
+use Rattle.std.specs.Prelude.{◌≡◌, ℕ, ◌<◌, ◌≤◌, true, List, length, map, take}
 use Rattle.bs_board.specs.declared.boards.board.Board.{Board}
 use Rattle.bs_board.specs.declared.boards.point.Point.{Point}
-use Rattle.bs_board.specs.boards.Legal.{IsLegal}
+use Rattle.bs_board.specs.boards.Legal.{IsLegal, is_near}
 use Rattle.bs_rules.specs.Collision.{snake_at}
 use Rattle.bs_batch.specs.declared.layout.Head.{Head}
 use Rattle.bs_batch.specs.declared.layout.Place.{Place}
+use Rattle.bs_batch.specs.Numbers.{number_of}
 use Rattle.bs_batch.specs.Shown.{ShowsFood, ShowsSeats}
 
 abbrev pub place_at : Point → Place
 place_at p = record { x = p.x; y = p.y }
+
+-- the cell of the number
+abbrev pub PlacesCell : ℕ → Place → Type 0
+PlacesCell number result =
+    (width height : ℕ) (p : Point) → width ≤ 25 → height ≤ 25 → is_near width height p ≡ true → number ≡ number_of p → result ≡ place_at p
 
 abbrev pub places_of : List Point → List Place
 places_of = map place_at

@@ -1,8 +1,9 @@
 -- Which boards a game takes, and what it shows then.
-use Rattle.std.specs.Prelude.{◌≡◌, ◌↔◌, ℕ, ◌≤◌, ◌/◌, true, if◌then◌else◌, is_none, is_some, List, length, All, replicate, Result, IsErr, IsOk, IfErr, OnErr, OnOk}
+use Rattle.std.specs.Prelude.{◌+◌, ◌*◌, ◌≡◌, ◌↔◌, ℕ, ◌≤◌, ◌/◌, true, if◌then◌else◌, is_none, is_some, List, length, All, replicate, Result, IsErr, IsOk, IfErr, OnErr, OnOk}
 use Rattle.bs_board.specs.declared.boards.board.Board.{Board}
 use Rattle.bs_board.specs.declared.boards.point.Point.{Point}
 use Rattle.bs_board.specs.declared.boards.snake.Snake.{Snake}
+use Rattle.bs_board.specs.boards.Legal.{IsLegal}
 use Rattle.bs_batch.specs.declared.layout.Head.{Head}
 use Rattle.bs_batch.specs.declared.layout.Seat.{Seat}
 use Rattle.bs_batch.specs.declared.layout.Settings.{Settings}
@@ -62,3 +63,10 @@ pub record RefusesBoard {T : Type 0} (b : Board) (result : Result T Misfit) (hea
   pub error : IsErr result
   pub misfit : IfErr result (λ misfit. misfit ≡ misfit_of b)
   pub none : head ≡ cleared head.settings
+
+-- a legal board, and lists of a size that fits the numbers
+pub record CanLoadLists (b : Board) (cells bytes parts : ℕ) : Type 0 where
+  pub legal : IsLegal b
+  pub food : cells ≤ 1024
+  pub plane : (b.height + 2) * 32 ≤ bytes
+  pub bodies : parts ≤ 8192

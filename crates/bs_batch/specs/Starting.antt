@@ -90,3 +90,18 @@ pub record StartsEach {G : Type 0} (Starts : ℕ → G → G → Bool → Type 0
   pub same : length games' ≡ length games
   pub each : (k : ℕ) (d : G) → k < length games → Starts k (slice_index_or games k d) (slice_index_or games' k d) (slice_index_or started k false)
   pub count : result ≡ count_by (λ b. b) started
+
+-- lists of a size that holds the cells of the board and fits the numbers
+pub record CanStart (s : Settings) (cells bytes parts : ℕ) : Type 0 where
+  pub few : s.seats ≤ 8
+  pub narrow : s.width ≤ 25
+  pub area : s.width * s.height ≤ cells
+  pub small : cells ≤ 1024
+  pub plane : (s.height + 2) * 32 ≤ bytes
+  pub bodies : 24 ≤ parts
+
+-- a cleared game of these settings is started
+abbrev pub StartsGame : List Cell → List Cell → Head → Head → List ℕ → List ℕ → List ℕ → Bool → Type 0
+StartsGame starts cells old head food plane bodies result =
+    (settings : Settings) → old ≡ cleared settings → CanStart settings (length food) (length plane) (length bodies)
+    → IsStarted (AreFirstCells settings starts cells) settings starts cells result head food plane bodies

@@ -3,7 +3,7 @@
 ghost use Rattle.std.specs.Prelude.{◌≡◌, ◌↔◌, ◌≤◌, ◌<◌, IsTrue};
 ghost use Rattle.bs_batch.specs.Numbers.{number_of};
 ghost use Rattle.bs_batch.specs.Starting.{AreSettings, point_of};
-ghost use Rattle.bs_batch.specs.inner.Listing.{PlacesCell};
+ghost use Rattle.bs_batch.specs.Listing.{PlacesCell};
 
 /// The most seats of a game.
 pub const SEATS: usize = 8;

@@ -3,20 +3,9 @@
 ghost use Rattle.std.specs.Prelude.{◌≡◌, ◌≢◌, ◌↔◌, ◌≤◌, ◌<◌, Some, IsTrue, length};
 ghost use Rattle.bs_board.specs.declared.boards.snake.Cause.TheVariants.{Hazard as ByHazard};
 ghost use Rattle.bs_board.specs.records.Record.{cause_byte, mode_byte};
-ghost use Rattle.bs_batch.specs.Loading.{FitsGame, FitsSides, IsLoaded, RefusesBoard};
+ghost use Rattle.bs_batch.specs.Loading.{CanLoadLists, FitsGame, FitsSides, IsLoaded, RefusesBoard};
 ghost use Rattle.bs_batch.specs.Shown.{ShowsSettings, seat_byte};
-ghost use Rattle.bs_batch.specs.inner.Loading.{
-  AddsParts,
-  BeginsWith,
-  CanLoadLists,
-  IsSeatOfEight,
-  LoadsCells,
-  LoadsFood,
-  LoadsSeat,
-  LoadsSnake,
-  LoadsSnakes,
-  NumbersCell,
-};
+ghost use Rattle.bs_batch.specs.inner.Loading.{AddsParts, BeginsWith, IsSeatOfEight, LoadsCells, LoadsFood, LoadsSeat, LoadsSnake, LoadsSnakes, NumbersCell};
 
 use crate::crossing::cross_little;
 use crate::layout::{

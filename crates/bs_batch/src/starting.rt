@@ -3,16 +3,8 @@
 ghost use Rattle.std.specs.Prelude.{◌≡◌, ◌↔◌, ◌≤◌, ◌<◌, IsTrue, [], ◌∷◌, length, replicate, take};
 ghost use Rattle.bs_board.specs.boards.Cell.{is_on_board};
 ghost use Rattle.bs_batch.specs.Loading.{cleared};
-ghost use Rattle.bs_batch.specs.Starting.{point_of};
-ghost use Rattle.bs_batch.specs.inner.Starting.{
-  DropsFood,
-  KeepsFirstFood,
-  PlacesAll,
-  PlacesFood,
-  PlacesSnake,
-  PlacesSnakes,
-  StartsGame,
-};
+ghost use Rattle.bs_batch.specs.Starting.{StartsGame, point_of};
+ghost use Rattle.bs_batch.specs.inner.Starting.{DropsFood, KeepsFirstFood, PlacesAll, PlacesFood, PlacesSnake, PlacesSnakes};
 
 use crate::layout::{
     ALIVE, CONSTRICTOR, Cell, FULL_HEALTH, Head, NO_SEAT, NO_SNAKE, SEATS, Seat, Settings,

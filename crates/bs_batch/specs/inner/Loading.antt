@@ -1,11 +1,11 @@
 -- The steps by which a board is loaded.
-use Rattle.std.specs.Prelude.{◌≡◌, ◌≢◌, ◌↔◌, ℕ, ◌+◌, ◌*◌, ◌≤◌, ◌<◌, ◌/◌, Bool, true, IsTrue, List, length, take, All, count_by, Option, Some, MatchOption}
+use Rattle.std.specs.Prelude.{◌≡◌, ◌≢◌, ◌↔◌, ℕ, ◌+◌, ◌≤◌, ◌<◌, ◌/◌, Bool, true, IsTrue, List, length, take, All, count_by, Option, Some, MatchOption}
 use Rattle.bs_board.specs.declared.boards.board.Board.{Board}
 use Rattle.bs_board.specs.declared.boards.point.Point.{Point}
 use Rattle.bs_board.specs.declared.boards.snake.Cause.TheVariants.{Hazard}
 use Rattle.bs_board.specs.declared.boards.snake.Snake.{Snake}
 use Rattle.bs_board.specs.boards.Cell.{is_same_cell}
-use Rattle.bs_board.specs.boards.Legal.{IsLegal, is_near}
+use Rattle.bs_board.specs.boards.Legal.{is_near}
 use Rattle.bs_batch.specs.declared.layout.Head.{Head}
 use Rattle.bs_batch.specs.declared.layout.Seat.{Seat}
 use Rattle.bs_batch.specs.declared.loading.TheConstants.{MOST_PARTS}
@@ -124,10 +124,3 @@ abbrev pub LoadsCells : Board → Head → List ℕ → Head → List ℕ → Li
 LoadsCells b head plane head' list' plane' bodies' result =
     CanLoadBoard b → length list' ≤ 1024 → length bodies' ≤ 8192 → length head.seats ≡ 8 → HasBytes b.width b.height (λ _. 0) plane
     → CellsLoaded b head head' list' plane' bodies' result
-
--- a legal board, and lists of a size that fits the numbers
-pub record CanLoadLists (b : Board) (cells bytes parts : ℕ) : Type 0 where
-  pub legal : IsLegal b
-  pub food : cells ≤ 1024
-  pub plane : (b.height + 2) * 32 ≤ bytes
-  pub bodies : parts ≤ 8192

@@ -9,11 +9,9 @@ use Rattle.bs_board.specs.records.Record.{mode_byte}
 use Rattle.bs_modes.specs.FirstBoard.{first_food, first_snake}
 use Rattle.bs_batch.specs.declared.layout.Cell.{Cell}
 use Rattle.bs_batch.specs.declared.layout.Head.{Head}
-use Rattle.bs_batch.specs.declared.layout.Settings.{Settings}
 use Rattle.bs_batch.specs.Counts.{HasBytes}
-use Rattle.bs_batch.specs.Loading.{cleared}
 use Rattle.bs_batch.specs.Shown.{ShowsFood, ShowsSnake, ShowsSnakes, food_byte, occupants, parts_on, room_of, seat_at}
-use Rattle.bs_batch.specs.Starting.{AreFirstCells, IsStarted, point_of, points_of}
+use Rattle.bs_batch.specs.Starting.{AreFirstCells, CanStart, point_of, points_of}
 use Rattle.bs_batch.specs.inner.Loading.{WritesSeat}
 
 -- a new snake on that cell; games have no ids
@@ -75,15 +73,6 @@ pub record AllPlaced (old : Head) (starts cells : List Cell) (head : Head) (list
   pub rest : IsTrue result → head ≡ record old { foods = head.foods; seats = head.seats }
   pub eight : IsTrue result → length head.seats ≡ 8
 
--- lists of a size that holds the cells of the board and fits the numbers
-pub record CanStart (s : Settings) (cells bytes parts : ℕ) : Type 0 where
-  pub few : s.seats ≤ 8
-  pub narrow : s.width ≤ 25
-  pub area : s.width * s.height ≤ cells
-  pub small : cells ≤ 1024
-  pub plane : (s.height + 2) * 32 ≤ bytes
-  pub bodies : 24 ≤ parts
-
 abbrev pub PlacesAll : List Cell → List Cell → Head → List ℕ → Head → List ℕ → List ℕ → List ℕ → Bool → Type 0
 PlacesAll starts cells head plane head' list' plane' bodies' result =
     CanStart head.settings (length list') (length plane') (length bodies') → head.foods ≡ 0 → length head.seats ≡ 8
@@ -100,9 +89,3 @@ KeepsFirstFood list head plane head' plane' =
     (m : Mode) (width height : ℕ) (others : Point → ℕ) (cells : List Point) → head.settings.mode ≡ mode_byte m → ((p : Point) → others p < 128)
     → is_fit_food width height cells ≡ true → ShowsFood head.foods list cells → HasBytes width height (λ p. others p + food_byte cells p) plane
     → HasFirstFood m width height others cells head head' list plane'
-
--- a cleared game of these settings is started
-abbrev pub StartsGame : List Cell → List Cell → Head → Head → List ℕ → List ℕ → List ℕ → Bool → Type 0
-StartsGame starts cells old head food plane bodies result =
-    (settings : Settings) → old ≡ cleared settings → CanStart settings (length food) (length plane) (length bodies)
-    → IsStarted (AreFirstCells settings starts cells) settings starts cells result head food plane bodies

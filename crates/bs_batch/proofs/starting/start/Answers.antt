@@ -1,8 +1,7 @@
 use Rattle.std.proofs.Common.{arith, length, refl, subst, ap, ◌∙◌, ◌≡◌}
 use Rattle.bs_batch.specs.declared.layout.Head.{Head}
 use Rattle.bs_batch.specs.declared.layout.Settings.{Settings}
-use Rattle.bs_batch.specs.Starting.{AreFirstCells}
-use Rattle.bs_batch.specs.inner.Starting.{CanStart}
+use Rattle.bs_batch.specs.Starting.{AreFirstCells, CanStart}
 use Rattle.bs_batch.proofs.StartedBoard.{all_from_cleared, shows_first}
 use Rattle.bs_batch.proofs.starting.start.Goals as goal
 
