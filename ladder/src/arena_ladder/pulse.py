@@ -9,7 +9,7 @@ BEATS = 4  # within the time by which the loop may be late
 
 
 class Pulse:
-    """A heartbeat of the running loop. The loop lags if a beat comes more than `limit` seconds late.
+    """A heartbeat of the running loop, which lags if a beat comes more than `limit` seconds late.
 
     It beats from `start` to `stop`, or within an `async with` block.
     """
