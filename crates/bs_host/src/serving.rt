@@ -20,7 +20,6 @@ use crate::parse::parse_lines;
 use crate::render::write_core;
 use crate::route::{Requests, route_lines};
 use bs_board::Plan;
-use bs_board::limits::MOST_ROWS;
 use bs_json::read_plan;
 use bs_sched::{Core, MOST_WORKERS};
 use bs_workers::{Gate, run};
@@ -36,7 +35,7 @@ const MOST_THREADS: usize = 1_024;
 /// lock; with 16 its critical sections are so long that others use up their polls and sleep.
 const MOST_WORKERS_OF_THREAD: usize = 8;
 
-/// The number of workers of a core for that plan. Each thread has as many as games may be open,
+/// The number of workers of a core for that plan. Each thread has as many as the plan has games,
 /// divided by the number of threads, but at least 1 and at most 8. A single thread has one.
 #[tactic(auto, using(crate::proofs::HostedCore::few_workers))]
 fn count_workers(plan: &Plan, threads: usize) -> usize
@@ -46,11 +45,7 @@ fn count_workers(plan: &Plan, threads: usize) -> usize
     if threads <= 1 {
         return threads;
     }
-    let games = if plan.version.has_stays() {
-        MOST_ROWS
-    } else {
-        plan.rows.as_slice().len()
-    };
+    let games = plan.rows.as_slice().len();
     let of_thread = (games / threads).clamp(1, MOST_WORKERS_OF_THREAD);
     threads * of_thread
 }

@@ -1,7 +1,8 @@
 //! The acts of a run.
+use crate::fault::Run;
 use bs_board::Row;
 use bs_fiber::{Handles, SharedCommand};
-use std::alloc::{AllocError, Global};
+use std::alloc::Global;
 
 /// One act of a run. A row of the plan is named by its number, and admitted rows are numbered after
 /// those.
@@ -15,30 +16,39 @@ pub enum Act {
     Leave(usize),
 }
 
-/// An act with the handles that a core will keep of its command.
+/// A command for the game of that row, with the handles that a core will keep of it.
 #[derive(Drop)]
-pub(crate) enum HeldAct {
-    Hand(usize, Handles),
-    Admit(Row),
-    Leave(usize),
+pub(crate) struct HeldCommand {
+    pub(crate) stay: usize,
+    pub(crate) command: Handles,
 }
 
 impl Act {
-    /// Makes the handles that a core keeps of the act's command.
-    fn hold(&self, alloc: Global) -> Result<HeldAct, AllocError> {
+    /// Makes the handles that a core keeps of the act's command. `Broken` for an act that queues
+    /// none.
+    fn hold(&self) -> Result<HeldCommand, Run> {
         match self {
-            Act::Hand(stay, command) => Ok(HeldAct::Hand(*stay, Handles::new(command)?)),
-            Act::Admit(row) => Ok(HeldAct::Admit(row.copy(alloc)?)),
-            Act::Leave(stay) => Ok(HeldAct::Leave(*stay)),
+            Act::Hand(stay, command) => Ok(HeldCommand {
+                stay: *stay,
+                command: Handles::new(command)?,
+            }),
+            Act::Admit(_) | Act::Leave(_) => Err(Run::Broken),
         }
     }
 }
 
-/// Makes the handles of all acts, in reverse order: the first act comes last.
-pub(crate) fn hold_all(alloc: Global, acts: &[Act]) -> Result<Vec<HeldAct>, AllocError> {
+/// Whether all acts queue commands.
+pub(crate) fn are_commands(acts: &[Act]) -> bool {
+    acts.iter().all(|act| matches!(act, Act::Hand(_, _)))
+}
+
+/// Makes the handles of acts that queue commands.
+pub(crate) fn hold_all(alloc: Global, acts: &[Act]) -> Result<Vec<HeldCommand>, Run> {
     let mut held = Vec::with_capacity(alloc, acts.len())?;
-    for act in acts.iter().rev() {
-        held.push(act.hold(alloc)?)?;
+    for act in acts {
+        if held.push(act.hold()?).is_err() {
+            return Err(Run::Memory);
+        }
     }
     Ok(held)
 }

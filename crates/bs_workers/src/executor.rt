@@ -1,8 +1,8 @@
 //! The executor: the state of a run behind a lock, and the threads that run its jobs.
-use crate::act::{Act, HeldAct, hold_all};
+use crate::act::{Act, HeldCommand, hold_all};
 use crate::fault::Run;
 use crate::gate::Gate;
-use crate::state::{Next, State, Submitted};
+use crate::state::{Next, State};
 use crate::worker::Worker;
 use bs_sched::Core;
 use std::alloc::{AllocError, Global};
@@ -90,22 +90,20 @@ impl<const CAP: usize> Executor<CAP> {
         self.unlock(state, true);
     }
 
-    /// Makes all acts in order, until the run is stopped. Their handles are made before the lock is
-    /// taken. While a game cannot leave yet, the calling thread runs jobs as that worker.
-    pub(crate) fn submit<R: Wait, G: Gate>(
-        &self,
-        rt: &R,
-        acts: &[Act],
-        worker: &mut Worker<CAP>,
-        gate: &G,
-    ) {
+    /// Makes the acts, which queue commands, in order until the run is stopped. Their handles are
+    /// made before the lock is taken.
+    fn submit<R: Wait>(&self, rt: &R, acts: &[Act]) {
         for some in acts.chunks(ACTS_AT_ONCE) {
-            let Ok(mut held) = hold_all(self.alloc, some) else {
-                self.fail(rt, Run::Memory);
-                return;
-            };
-            if !self.submit_held(rt, &mut held, worker, gate) {
-                return;
+            match hold_all(self.alloc, some) {
+                Ok(held) => {
+                    if !self.submit_held(rt, held) {
+                        return;
+                    }
+                }
+                Err(fault) => {
+                    self.fail(rt, fault);
+                    return;
+                }
             }
         }
         let mut state = self.lock(rt);
@@ -113,41 +111,12 @@ impl<const CAP: usize> Executor<CAP> {
         self.unlock(state, true);
     }
 
-    /// Makes the acts of a reversed list, popping them. Returns false if the run is stopped.
-    fn submit_held<R: Wait, G: Gate>(
-        &self,
-        rt: &R,
-        held: &mut Vec<HeldAct>,
-        worker: &mut Worker<CAP>,
-        gate: &G,
-    ) -> bool {
+    /// Queues the commands. Returns false if the run is stopped.
+    fn submit_held<R: Wait>(&self, rt: &R, mut held: Vec<HeldCommand>) -> bool {
         let mut state = self.lock(rt);
-        for _ in rt.forever() {
-            // The results are completed first: the leaving game may wait for them.
-            state.complete(worker);
-            let made = state.submit(self.alloc, held);
-            if made != Submitted::Busy {
-                self.unlock(state, true);
-                return made == Submitted::All;
-            }
-            match state.complete_and_take(worker) {
-                Next::Work { wakes: _ } => {
-                    self.unlock(state, true);
-                    worker.run_jobs(gate);
-                    state = self.lock(rt);
-                }
-                Next::Wait { wakes: _ } => {
-                    // Others may run jobs of the acts that were just made.
-                    self.changed.notify_all();
-                    state = self.sleep(rt, state);
-                }
-                Next::End => {
-                    self.unlock(state, true);
-                    return false;
-                }
-            }
-        }
-        false
+        let goes_on = state.submit(&mut held);
+        self.unlock(state, true);
+        goes_on
     }
 
     /// Completes the results of the worker and takes its next batch of jobs, waiting until there is
@@ -164,12 +133,7 @@ impl<const CAP: usize> Executor<CAP> {
                     self.unlock(state, true);
                     return false;
                 }
-                Next::Wait { wakes } => {
-                    if wakes {
-                        self.changed.notify_all();
-                    }
-                    state = self.sleep(rt, state);
-                }
+                Next::Wait => state = self.sleep(rt, state),
             }
         }
         false
@@ -219,7 +183,7 @@ impl<const CAP: usize> Executor<CAP> {
                 let _thread = scope.spawn(move || self.work_as(rt, thread, gate));
             }
             if let Some(mut worker) = self.worker_of(rt, 0) {
-                self.submit(rt, acts, &mut worker, gate);
+                self.submit(rt, acts);
                 self.work(rt, &mut worker, gate);
             }
         });
@@ -237,7 +201,7 @@ impl<const CAP: usize> Executor<CAP> {
         for _ in rt.forever() {
             match state.complete_and_take(&mut worker) {
                 Next::Work { wakes: _ } => worker.run_jobs(gate),
-                Next::Wait { wakes: _ } => break,
+                Next::Wait => break,
                 Next::End => break,
             }
         }

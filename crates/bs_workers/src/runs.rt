@@ -5,7 +5,7 @@ ghost use Rattle.bs_sched.specs.Core.{opened_core};
 ghost use Rattle.bs_workers.specs.Acts.{are_acceptable, capacity_of_core, opened};
 ghost use Rattle.bs_workers.specs.Run.{IsRunOf};
 
-use crate::act::Act;
+use crate::act::{Act, are_commands};
 use crate::alone::run_alone;
 use crate::compare::{copy_rows, is_run_of};
 use crate::executor::Executor;
@@ -17,7 +17,8 @@ use std::alloc::Global;
 use std::sync::Wait;
 use std::thread::Threads;
 
-/// Runs the jobs on several threads, by an executor, and compares the core with the acts.
+/// Runs the jobs of acts that queue commands on several threads, by an executor, and compares the
+/// core with the acts.
 fn run_together<const CAP: usize, R: Threads + Wait + Sync, G: Gate>(
     rt: &R,
     alloc: Global,
@@ -59,7 +60,7 @@ pub fn run_any<const CAP: usize, R: Threads + Wait + Sync, G: Gate>(
     ensures { IfOk result (λ done. IsRunOf core.entry acts.now done) }
 {
     let threads = threads.min(core.workers());
-    if threads > 1 {
+    if threads > 1 && are_commands(acts) {
         run_together(rt, alloc, core, acts, threads, gate)
     } else {
         run_alone(rt, alloc, core, acts, threads, gate)

@@ -2,13 +2,10 @@
 ghost use Rattle.std.specs.Prelude.{◌≡◌, Some, None, IfErr, OnOk};
 ghost use Rattle.bs_workers.specs.inner.Faults.{kept_fault};
 
-use crate::act::HeldAct;
+use crate::act::HeldCommand;
 use crate::fault::Run;
 use crate::worker::{Job, MOST_PARTS, Worker};
-use bs_board::Row;
-use bs_fiber::Handles;
-use bs_sched::{Core, Leave, Taken};
-use std::alloc::Global;
+use bs_sched::{Core, Taken};
 
 /// What a thread does once it has released the lock.
 #[derive(Clone, Copy, PartialEq, Eq)]
@@ -16,21 +13,10 @@ pub(crate) enum Next {
     /// Runs the jobs that it took. If `wakes`, it first wakes the waiting threads, because it may
     /// have left jobs for them.
     Work { wakes: bool },
-    /// Waits: no job is ready, but one may become ready. If `wakes`, it first wakes the waiting
-    /// threads, because a game may be able to leave now.
-    Wait { wakes: bool },
+    /// Waits: no job is ready, but one may become ready.
+    Wait,
     /// Ends: there will be no more jobs.
     End,
-}
-
-/// The progress through a list of acts.
-#[derive(Clone, Copy, PartialEq, Eq)]
-pub(crate) enum Submitted {
-    All,
-    /// The next act is the leave of a game that is not idle yet.
-    Busy,
-    /// The run is stopped.
-    Stopped,
 }
 
 /// The core of a run, and the progress of the run.
@@ -41,8 +27,6 @@ pub(crate) struct State<const CAP: usize> {
     pub(crate) waiting: usize,
     /// Whether all acts are made.
     pub(crate) is_closed: bool,
-    /// Whether the caller's thread waits until a game can leave.
-    is_leaving: bool,
     /// Why the run was stopped.
     fault: Option<Run>,
 }
@@ -53,7 +37,6 @@ impl<const CAP: usize> State<CAP> {
             core,
             waiting: 0,
             is_closed: false,
-            is_leaving: false,
             fault: None,
         }
     }
@@ -72,8 +55,9 @@ impl<const CAP: usize> State<CAP> {
         Next::End
     }
 
-    /// Queues the command for the game of that row, which is open.
-    fn hand(&mut self, stay: usize, command: Handles) {
+    /// Queues the command for a game that is open.
+    fn hand(&mut self, held: HeldCommand) {
+        let HeldCommand { stay, command } = held;
         if stay >= self.core.rows() || !self.core.is_open(stay) {
             self.fail(Run::Broken);
         } else if self.core.hand_handles(stay, command).is_err() {
@@ -81,56 +65,14 @@ impl<const CAP: usize> State<CAP> {
         }
     }
 
-    /// Admits a game. If the acts are acceptable, the core refuses it only when memory runs out.
-    fn admit(&mut self, alloc: Global, row: Row) {
-        match self.core.admit(alloc, row) {
-            Ok(_) => {}
-            Err(bs_sched::Admit::Memory) => self.fail(Run::Memory),
-            Err(_) => self.fail(Run::Broken),
-        }
-    }
-
-    /// Dismisses the game of that row. Returns false if it cannot leave yet.
-    fn leave(&mut self, alloc: Global, stay: usize) -> bool {
-        if stay >= self.core.rows() {
-            self.fail(Run::Broken);
-            return true;
-        }
-        match self.core.leave(alloc, stay) {
-            Ok(()) => {}
-            Err(Leave::Busy) => return self.fault.is_some(),
-            Err(Leave::Closed) => self.fail(Run::Broken),
-            Err(Leave::Memory) => self.fail(Run::Memory),
-        }
-        true
-    }
-
-    /// Makes the acts in order, popping them from a reversed list, up to the leave of a game that
-    /// still has work.
-    pub(crate) fn submit(&mut self, alloc: Global, acts: &mut Vec<HeldAct>) -> Submitted {
-        self.is_leaving = false;
-        for _ in 0..acts.len() {
-            match acts.pop() {
-                Some(HeldAct::Hand(stay, command)) => self.hand(stay, command),
-                Some(HeldAct::Admit(row)) => self.admit(alloc, row),
-                Some(HeldAct::Leave(stay)) => {
-                    if !self.leave(alloc, stay) {
-                        acts.push_reserved(HeldAct::Leave(stay));
-                        self.is_leaving = true;
-                        return Submitted::Busy;
-                    }
-                }
-                None => break,
-            }
-            if self.fault.is_some() {
-                return Submitted::Stopped;
+    /// Queues the commands in order and leaves the list empty. Returns false if the run is stopped.
+    pub(crate) fn submit(&mut self, commands: &mut Vec<HeldCommand>) -> bool {
+        for held in commands.drain(..) {
+            if self.fault.is_none() {
+                self.hand(held);
             }
         }
-        if self.fault.is_some() {
-            Submitted::Stopped
-        } else {
-            Submitted::All
-        }
+        self.fault.is_none()
     }
 
     /// Completes all results of the worker.
@@ -153,7 +95,7 @@ impl<const CAP: usize> State<CAP> {
         if self.is_closed && self.core.is_quiet() {
             Next::End
         } else {
-            Next::Wait { wakes: false }
+            Next::Wait
         }
     }
 
@@ -206,30 +148,22 @@ impl<const CAP: usize> State<CAP> {
         Ok(())
     }
 
-    /// Records the worker's fault and completes its results.
-    pub(crate) fn complete(&mut self, worker: &mut Worker<CAP>) {
+    /// Records the worker's fault, completes its results, and takes its next batch of jobs. Results
+    /// of a single game wake nobody: a wake-up takes longer than the parts of a move.
+    pub(crate) fn complete_and_take(&mut self, worker: &mut Worker<CAP>) -> Next {
         if let Some(fault) = worker.fault {
             self.fail(fault);
         }
-        self.complete_all(worker);
-    }
-
-    /// Records the worker's fault, completes its results, and takes its next batch of jobs. If the
-    /// caller's thread waits until a game can leave, a thread that completes something wakes it.
-    /// Results of a single game wake nobody else: a wake-up takes longer than the parts of a move.
-    pub(crate) fn complete_and_take(&mut self, worker: &mut Worker<CAP>) -> Next {
         let games = worker.count_results();
-        let wakes = self.is_leaving && games > 0;
-        self.complete(worker);
+        self.complete_all(worker);
         if self.fault.is_some() {
             return Next::End;
         }
         match self.take_batch(worker, games) {
             Ok(()) => Next::Work {
-                wakes: wakes || (self.waiting > 0 && games > 1),
+                wakes: self.waiting > 0 && games > 1,
             },
-            Err(_) if !worker.jobs.is_empty() => Next::Work { wakes },
-            Err(Next::Wait { wakes: _ }) => Next::Wait { wakes },
+            Err(_) if !worker.jobs.is_empty() => Next::Work { wakes: false },
             Err(next) => next,
         }
     }

@@ -2,20 +2,14 @@
 use crate::player::CAP;
 use crate::runs::{TWO, push, run_games};
 use bs_board::{Command, Direction};
-use bs_fiber::{JobName, SharedCommand};
+use bs_fiber::SharedCommand;
 use bs_samples::{holds, new_of_three, new_solo, row, same, third_goes};
 use bs_sched::Core;
-use bs_workers::{Act, Gate, OpenGate, Run};
+use bs_workers::{Act, OpenGate, Run};
 use std::alloc::{AllocError, Global};
-use std::hint::spin_loop;
-use std::process::Abort;
 use std::sync::Wait;
-use std::sync::atomic::AtomicBool;
-use std::sync::atomic::Ordering::SeqCst;
 use std::test::Fail;
-use std::thread;
 use std::thread::Threads;
-use std::time::{Clock, Duration};
 
 /// A game is admitted, plays and leaves while another plays; then one of the same name. There are
 /// blocks for each of them only once another game has left.
@@ -193,83 +187,4 @@ fn all_acts_of_a_long_list_are_made(rt: HostRuntime) -> Result<(), Fail> {
         same("replies", core.replies(1).len(), 2_500)?;
     }
     Ok(())
-}
-
-/// Lets the thread that makes the acts pass once another thread is at a job, which it delays.
-#[derive(Drop)]
-struct Slow {
-    is_other_here: AtomicBool,
-}
-
-impl Gate for Slow {
-    fn at(&self, worker: usize, _job: JobName) -> bool {
-        if worker > 0 {
-            self.is_other_here.store(true, SeqCst);
-            for _ in 0..100_000u32 {
-                spin_loop();
-            }
-            return true;
-        }
-        for _ in 0..1_000_000_000u32 {
-            if self.is_other_here.load(SeqCst) {
-                return true;
-            }
-        }
-        false
-    }
-}
-
-/// Both games are set up and leave. One of them is played by a slow thread, so that the thread that
-/// makes the acts has nothing to run and waits.
-fn leaving(alloc: Global) -> Result<Vec<Act>, Fail> {
-    let mut acts = Vec::new(alloc);
-    push(alloc, &mut acts, 0, new_of_three(alloc)?)?;
-    push(alloc, &mut acts, 1, new_of_three(alloc)?)?;
-    acts.push(Act::Leave(0))?;
-    acts.push(Act::Leave(1))?;
-    Ok(acts)
-}
-
-/// Counts the runs in which a leave waits for another thread and which end with a core.
-fn count_left<R: Threads + Wait + Sync + AllocGlobal>(
-    rt: &R,
-    acts: &[Act],
-    runs: usize,
-) -> Result<usize, Fail> {
-    let mut count = 0usize;
-    for _ in 0..runs {
-        let gate = Slow {
-            is_other_here: AtomicBool::new(false),
-        };
-        let core = run_games(rt, &TWO, acts, 2, &gate)??;
-        if core.is_quiet() {
-            count = count.saturating_add(1);
-        }
-    }
-    Ok(count)
-}
-
-/// Aborts the test if the work is not done after 20 seconds.
-fn watch<R: Abort + Clock>(rt: &R, is_done: &AtomicBool) {
-    for _ in 0..2_000u32 {
-        if is_done.load(SeqCst) {
-            return;
-        }
-        thread::sleep(rt, Duration::from_millis(10));
-    }
-    assert!(rt; false, "a run has not ended after 20 seconds");
-}
-
-/// A thread that completes the last job of a leaving game wakes the thread that makes the acts.
-#[test]
-fn a_waiting_leave_is_woken(rt: HostRuntime) -> Result<(), Fail> {
-    let acts = leaving(rt.alloc())?;
-    let is_done = AtomicBool::new(false);
-    let left = thread::scope(thread::scope_env(), &rt, |scope| {
-        let _watch = scope.spawn(|| watch(&rt, &is_done));
-        let left = count_left(&rt, acts.as_slice(), 20);
-        is_done.store(true, SeqCst);
-        left
-    });
-    same("runs", left?, 20)
 }

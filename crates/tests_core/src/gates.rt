@@ -2,7 +2,7 @@
 use crate::coming::coming_and_going;
 use crate::runs::{TWO, commands, run_with};
 use bs_fiber::{JobKind, JobName};
-use bs_samples::same;
+use bs_samples::{holds, same};
 use bs_sched::Event;
 use bs_workers::{Act, Gate, Run};
 use std::alloc::Global;
@@ -108,6 +108,22 @@ fn the_gate_is_asked_about_each_job(rt: HostRuntime) -> Result<(), Fail> {
         let core = run_with(&rt, &TWO, acts.as_slice(), (threads, workers), &gate)??;
         let numbers = workers.checked_div(threads).ok_or("threads")?;
         check_noted(core.journal(), gate.noted.into_inner(), numbers)?;
+    }
+    Ok(())
+}
+
+/// If games come and go, the caller's thread runs all jobs, however many threads are requested: one
+/// for each of four commands, and four for a move of three snakes.
+#[test]
+fn one_thread_runs_all_jobs_if_games_leave(rt: HostRuntime) -> Result<(), Fail> {
+    let acts = coming_and_going(rt.alloc())?;
+    for threads in [1usize, 2, 4] {
+        let gate = Noting::new(rt.alloc());
+        run_with(&rt, &TWO, acts.as_slice(), (threads, threads), &gate)??;
+        let noted = gate.noted.into_inner();
+        same("jobs", noted.len(), 8)?;
+        let is_callers = noted.iter().all(|note| note.0 == threads);
+        holds("jobs of the caller", is_callers)?;
     }
     Ok(())
 }
