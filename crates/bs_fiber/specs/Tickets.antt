@@ -1,5 +1,6 @@
--- A ticket as clauses see it: the input of its job, and its frame blocks.
-use Rattle.std.specs.Prelude.{◌≡◌, ℕ, ◌≤◌, List, [], ◌∷◌, ◌++◌, map}
+-- A ticket as clauses see it: the input of its job, its frame blocks, and the output if the job was
+-- run.
+use Rattle.std.specs.Prelude.{◌≡◌, ℕ, ◌≤◌, List, [], ◌∷◌, ◌++◌, map, Option, None, MatchOption}
 use Rattle.bs_block.specs.Bytes.{padded}
 use Rattle.bs_board.specs.declared.commands.command.Command.{Command}
 use Rattle.bs_pool.specs.declared.owned.Owned.{Owned}
@@ -10,12 +11,13 @@ use Rattle.bs_fiber.specs.declared.contents.TheConstants.{LEAST_CAPACITY}
 use Rattle.bs_fiber.specs.declared.input.Input.{Input}
 use Rattle.bs_fiber.specs.declared.job.JobKind.{JobKind}
 use Rattle.bs_fiber.specs.declared.job.JobKind.TheVariants.{Begin, Part, Join}
+use Rattle.bs_fiber.specs.declared.out.Out.{Out}
 use Rattle.bs_game.specs.declared.view.View.{View}
 use Rattle.bs_game.specs.View.{answer_of}
 use Rattle.bs_fiber.specs.Fit.{IsFitInput}
 use Rattle.bs_fiber.specs.Frames.{frame_of}
 use Rattle.bs_fiber.specs.Seeing.{IsSeen}
-use Rattle.bs_fiber.specs.Work.{moved_part, moved_parts}
+use Rattle.bs_fiber.specs.Work.{IsWorked, moved_part, moved_parts}
 
 -- a frame block: its owner and its number in the pool, and its bytes
 pub record Frame : Type 0 where
@@ -26,6 +28,7 @@ pub record Frame : Type 0 where
 pub record TicketView : Type 0 where
   pub input : Input
   pub frames : List Frame
+  pub out : Option Out
 
 abbrev pub frame_in : {most : ℕ} → Owned most → Frame
 frame_in owned = record { tag = owned.tag; number = owned.number; bytes = owned.block }
@@ -34,7 +37,10 @@ abbrev pub frames_in : {most : ℕ} → List (Owned most) → List Frame
 frames_in = map frame_in
 
 abbrev pub ticket_in : {most : ℕ} → Contents most → TicketView
-ticket_in c = record { input = c.input; frames = frames_in c.frames.items }
+ticket_in c = record { input = c.input; frames = frames_in c.frames.items; out = c.out }
+
+abbrev pub without_output : TicketView → TicketView
+without_output t = record t { out = None }
 
 -- the owners and numbers of the blocks, without their bytes
 abbrev pub names_of : List Frame → List (ℕ × ℕ)
@@ -78,3 +84,7 @@ worked_bytes Join part view command = with_added (answer_of view command).effect
 
 abbrev pub HoldsWork : TicketView → Type 0
 HoldsWork t = (view : View) → IsSeen view t.input → bytes_of t.frames ≡ worked_bytes t.input.job.kind t.input.job.part view t.input.command
+
+-- its job was run, and it has the output
+abbrev pub HasOutput : TicketView → Type 0
+HasOutput t = MatchOption t.out ⊥ (IsWorked t.input)

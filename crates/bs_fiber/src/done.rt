@@ -2,7 +2,7 @@
 ghost use Rattle.std.specs.Prelude.{◌≡◌, ◌≤◌, IfOk, IfErr, OnOk, map, option_map};
 ghost use Rattle.bs_fiber.specs.declared.input.Input.{Input as AnyInput};
 ghost use Rattle.bs_fiber.specs.Fit.{IsFitInput};
-ghost use Rattle.bs_fiber.specs.Tickets.{HoldsWork, IsFresh, bytes_of, fresh_bytes, frames_in, names_of, ticket_in, worked_bytes};
+ghost use Rattle.bs_fiber.specs.Tickets.{HasOutput, HoldsWork, IsFresh, bytes_of, fresh_bytes, frames_in, names_of, ticket_in, without_output, worked_bytes};
 ghost use Rattle.bs_game.specs.declared.view.View.{View as AnyView};
 ghost use Rattle.bs_fiber.specs.Seeing.{IsSeen};
 ghost use Rattle.bs_fiber.specs.Work.{IsWorked, added_seen};
@@ -20,11 +20,11 @@ use bs_pool::Owned;
 use std::alloc::{AllocError, Global};
 use std::marker::Model;
 
-/// A completed job: its ticket and its output. Contracts see the ticket. Only `work` makes one.
+/// A completed job: its ticket, which holds its output. Contracts see the ticket. Only `work` makes
+/// one.
 #[derive(Debug, Drop)]
 pub struct Done<const CAP: usize> {
     ticket: Ticket<CAP>,
-    out: Out,
 }
 
 impl<const CAP: usize> Model for Done<CAP> {
@@ -34,10 +34,9 @@ impl<const CAP: usize> Model for Done<CAP> {
 
     ghost view = { λ d. d.ticket };
 
-    ghost use Rattle.bs_fiber.specs.Tickets.{HoldsWork};
-    ghost use Rattle.bs_fiber.specs.Work.{IsWorked};
+    ghost use Rattle.bs_fiber.specs.Tickets.{HasOutput, HoldsWork};
 
-    ghost invariant = { λ d. IsWorked d.ticket.input d.out × HoldsWork d.ticket };
+    ghost invariant = { λ d. HasOutput d.ticket × HoldsWork d.ticket };
 }
 
 impl<const CAP: usize> Done<CAP> {
@@ -53,23 +52,30 @@ impl<const CAP: usize> Done<CAP> {
         ensures out { IsWorked self.now.input result.now }
         ensures holds { HoldsWork self.now }
     {
-        &self.out
+        match self.ticket.out() {
+            Some(out) => out,
+            None => unreachable!(),
+        }
     }
 
     /// The record that a Join adds, read from part 0's block.
     pub fn added(&self) -> Option<&[u8]>
         ensures { (view : AnyView) → IsSeen view self.now.input → option_map (λ bytes. bytes.now) result ≡ added_seen self.now.input.job.kind view self.now.input.command }
     {
-        added_in(&self.ticket, &self.out)
+        added_in(&self.ticket, self.out())
     }
 
     /// Splits it into the ticket and the output.
     pub fn into_parts(self) -> (Ticket<CAP>, Out)
-        ensures ticket { result.0 ≡ self.entry }
+        ensures ticket { result.0 ≡ without_output self.entry }
         ensures out { IsWorked self.entry.input result.1 }
         ensures holds { HoldsWork self.entry }
     {
-        (self.ticket, self.out)
+        let mut contents = self.ticket.into_contents();
+        match contents.out.take() {
+            Some(out) => (Ticket::again(contents), out),
+            None => unreachable!(),
+        }
     }
 }
 
@@ -109,16 +115,18 @@ fn out_of<const CAP: usize>(
     }
 }
 
-fn work_in<const CAP: usize>(alloc: Global, contents: &mut Contents<CAP>) -> Result<Out, AllocError>
+/// Runs the job, and keeps its output in the contents.
+fn work_in<const CAP: usize>(alloc: Global, contents: &mut Contents<CAP>) -> Result<(), AllocError>
     requires wide { LEAST_CAPACITY ≤ CAP }
     requires fit { IsFitInput contents.old.input }
     requires fresh { IsFresh (ticket_in contents.old) }
     ensures input { contents.new.input ≡ contents.old.input }
-    ensures worked { IfOk result (λ out. IsWorked contents.old.input out) }
+    ensures worked { OnOk result (HasOutput (ticket_in contents.new)) }
     ensures holds { OnOk result (HoldsWork (ticket_in contents.new)) }
     ensures names { names_of (frames_in contents.new.frames.items) ≡ names_of (frames_in contents.old.frames.items) }
 {
-    out_of(alloc, &contents.input, &mut contents.frames)
+    contents.out = Some(out_of(alloc, &contents.input, &mut contents.frames)?);
+    Ok(())
 }
 
 /// Runs the job. If memory runs out, `Stopped` returns its frame blocks.
@@ -130,9 +138,8 @@ pub fn work<const CAP: usize>(alloc: Global, ticket: Ticket<CAP>) -> Result<Done
 {
     let mut contents = ticket.into_contents();
     match work_in(alloc, &mut contents) {
-        Ok(out) => Ok(Done {
+        Ok(()) => Ok(Done {
             ticket: Ticket::again(contents),
-            out,
         }),
         Err(_) => Err(Stopped {
             blocks: Box::into_inner(contents).frames,

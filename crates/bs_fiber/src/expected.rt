@@ -103,6 +103,7 @@ impl Expected<'_> {
         let contents = Contents {
             input: self.new_input(alloc, handle)?,
             frames: Vec::new(alloc),
+            out: None,
         };
         Ok(Box::new(alloc, contents)?)
     }

@@ -7,6 +7,7 @@ use crate::expected::Expected;
 use crate::input::Input;
 use crate::job::JobName;
 use crate::moved::Moved;
+use crate::out::Out;
 use bs_board::{Command, Record};
 use bs_pool::Owned;
 use std::marker::Model;
@@ -115,6 +116,13 @@ impl<const CAP: usize> Ticket<CAP> {
         ensures fit { IsFitInput self.now.input }
     {
         self.contents.frames.as_slice()
+    }
+
+    /// The output, if the job was run.
+    pub(crate) fn out(&self) -> Option<&Out>
+        ensures { option_map (λ out. out.now) result ≡ self.now.out }
+    {
+        self.contents.out.as_ref()
     }
 
     /// The name of the job.

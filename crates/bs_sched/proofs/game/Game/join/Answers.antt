@@ -62,7 +62,7 @@ new-requires g c =
     let bytes : bytes_of (frames_in c.deref_mut-3.result.now.frames.items) ≡ fresh_bytes kind.Join (lane_view x) (lane_command x)
     = ap (λ (l : List (Owned g.row.CAP)). bytes_of (frames_in l)) blocks ∙ c.join-2.ensures.bytes ∙ ap (map (λ w. w.bytes)) wrote
     ∙ ap (λ (l : Lane). map (λ w. w.bytes) (written_by l)) (sym lane) ∙ joining_bytes x c.args.worker job.part right joins in
-    let ticket : TicketView = record { input = record c.deref_mut-3.result.now.input { parts = c.from_vec.result }; frames = frames_in c.deref_mut-3.result.now.frames.items } in
+    let ticket : TicketView = record { input = record c.deref_mut-3.result.now.input { parts = c.from_vec.result }; frames = frames_in c.deref_mut-3.result.now.frames.items; out = c.deref_mut-3.result.now.out } in
     let fresh : IsFresh ticket = fresh_ticket x c.args.worker job ticket right input
     (subst (λ (k : JobKind). bytes_of ticket.frames ≡ fresh_bytes k (lane_view x) (lane_command x)) (sym c.requires.kind) bytes) in
     (omega arith, (omega arith, (c.self.invariant.wide, (rw input (lane_input x c.args.worker job right out), fresh))))
@@ -114,7 +114,7 @@ returns-clause-ticket g c =
     let bytes : bytes_of (frames_in c.deref_mut-3.result.now.frames.items) ≡ fresh_bytes kind.Join (lane_view x) (lane_command x)
     = ap (λ (l : List (Owned g.row.CAP)). bytes_of (frames_in l)) blocks ∙ c.join-2.ensures.bytes ∙ ap (map (λ w. w.bytes)) wrote
     ∙ ap (λ (l : Lane). map (λ w. w.bytes) (written_by l)) (sym lane) ∙ joining_bytes x c.args.worker job.part right joins in
-    let ticket : TicketView = record { input = record c.deref_mut-3.result.now.input { parts = c.from_vec.result }; frames = frames_in c.deref_mut-3.result.now.frames.items } in
+    let ticket : TicketView = record { input = record c.deref_mut-3.result.now.input { parts = c.from_vec.result }; frames = frames_in c.deref_mut-3.result.now.frames.items; out = c.deref_mut-3.result.now.out } in
     let fresh : IsFresh ticket = fresh_ticket x c.args.worker job ticket right input
     (subst (λ (k : JobKind). bytes_of ticket.frames ≡ fresh_bytes k (lane_view x) (lane_command x)) (sym c.requires.kind) bytes) in
     let names = ap (λ (l : List (Owned g.row.CAP)). names_of (frames_in l)) blocks

@@ -53,7 +53,7 @@ new-requires g c =
     let many = subst (λ (v : PartsView). HasParts inside.fiber (states_of v)) (sym c.take-owned.ensures.parts)
     (taken_parts g.row.CAP inside job.part c.args.worker (next_number c.args.pool.now) c.self.invariant) in
     let right = c.keeps.ensures (states_of ps) many in
-    let ticket : TicketView = record { input = c.deref_mut-2.result.now.input; frames = frames_in c.push_reserved.new.self.items } in
+    let ticket : TicketView = record { input = c.deref_mut-2.result.now.input; frames = frames_in c.push_reserved.new.self.items; out = c.deref_mut-2.result.now.out } in
     let fresh : IsFresh ticket = fresh_ticket x c.args.worker job ticket right input
     (subst (λ (k : JobKind). bytes_of ticket.frames ≡ fresh_bytes k (lane_view x) (lane_command x)) (sym c.requires.kind) bytes) in
     (omega arith, (omega arith, (c.self.invariant.wide, (rw input (lane_input x c.args.worker job right out), fresh))))
@@ -77,7 +77,7 @@ returns-clause-ticket g c =
     let input = part_input (lane_at inside) x c.args.worker job c.deref_mut-2.result.now.input c.requires.kind lane held in
     let many = subst (λ (v : PartsView). HasParts inside.fiber (states_of v)) (sym c.take-owned.ensures.parts)
     (taken_parts g.row.CAP inside job.part c.args.worker (next_number c.args.pool.now) c.self.invariant) in
-    let ticket : TicketView = record { input = c.deref_mut-2.result.now.input; frames = frames_in c.push_reserved.new.self.items } in
+    let ticket : TicketView = record { input = c.deref_mut-2.result.now.input; frames = frames_in c.push_reserved.new.self.items; out = c.deref_mut-2.result.now.out } in
     let fresh : IsFresh ticket = fresh_ticket x c.args.worker job ticket (c.keeps.ensures (states_of ps) many) input
     (subst (λ (k : JobKind). bytes_of ticket.frames ≡ fresh_bytes k (lane_view x) (lane_command x)) (sym c.requires.kind) bytes) in
     let n = next_number c.args.pool.now in

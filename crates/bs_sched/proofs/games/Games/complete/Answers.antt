@@ -1,7 +1,7 @@
 use Rattle.std.proofs.Common.{◌≡◌, ap, sym, subst, ◌∙◌, arith}
 use Rattle.bs_fiber.specs.declared.job.JobName.{JobName}
 use Rattle.bs_fiber.specs.declared.contents.Contents.{Contents}
-use Rattle.bs_fiber.specs.Tickets.{TicketView, bytes_of, frames_in, names_of, ticket_in}
+use Rattle.bs_fiber.specs.Tickets.{TicketView, bytes_of, frames_in, names_of, ticket_in, without_output}
 use Rattle.bs_sched.specs.Courses.{IsRight}
 use Rattle.bs_sched.specs.inner.Games.{games_completed}
 use Rattle.bs_sched.specs.Lane.{Lane}
@@ -20,7 +20,7 @@ complete_job-requires g c =
     let right = subst (λ (x : Lane). IsRight x) (sym c.game.ensures) c.keeps.ensures.right in
     let back = brings c.args.self.now c.requires.0 c.args.done c.job-job.result c.into_parts-ticket.result.1 c.requires.1 job right
     c.into_parts-ticket.ensures.out c.into_parts-ticket.ensures.holds in
-    let ticket : ticket_in c.into_contents-contents.result.value ≡ c.args.done = c.into_contents-contents.ensures.value ∙ c.into_parts-ticket.ensures.ticket in
+    let ticket : ticket_in c.into_contents-contents.result.value ≡ without_output c.args.done = c.into_contents-contents.ensures.value ∙ c.into_parts-ticket.ensures.ticket in
     let blocks : frames_in c.deref_mut.result.now.frames.items ≡ c.args.done.frames
     = ap (λ (t : Contents g.row.CAP). frames_in t.frames.items) c.deref_mut.ensures.value ∙ ap (λ (t : TicketView). t.frames) ticket in
     (omega arith, (omega arith, (back.there, (back.out, (back.worked, (ap names_of blocks ∙ back.names, ap bytes_of blocks ∙ back.holds))))))
