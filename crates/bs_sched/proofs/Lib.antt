@@ -45,3 +45,6 @@ pub mod Results
 pub mod Tallies
 pub mod PartFrames
 pub mod JoinFrames
+pub mod Woven
+pub mod ApartLanes
+pub mod ApartRows

@@ -2,6 +2,7 @@
 ghost use Rattle.bs_sched.specs.Registry.{RegistryLaw, ProgressExample, NamesLaw, ServedLaw, JournalLaw};
 ghost use Rattle.bs_sched.specs.Isolation.{IsolationLaw};
 ghost use Rattle.bs_sched.specs.SharedMemory.{MemoryLaw};
+ghost use Rattle.bs_sched.specs.Assembly.{AssemblyLaw};
 
 /// States the isolation law for every plan within its limits, every number of workers, every list
 /// of events whose commands and rows are within the limits, and every stay of the plan or admitted
@@ -24,4 +25,9 @@ pub fn isolation_law()
     ensures names { NamesLaw }
     ensures served { ServedLaw }
     ensures progress { ProgressExample }
+{}
+
+/// States the law of games that run apart. Does nothing.
+pub fn assembly_law()
+    ensures assembly { AssemblyLaw }
 {}
