@@ -37,7 +37,7 @@ module _ (mine all : Setting) (same : mine.workers ≡ all.workers) (done rest :
   there : (x : Lane) → nat_lt (length done) (length (done ++ x ∷ rest)) ≡ true
   there x = let e = length-append done (x ∷ rest) in lt-ltb _ _ (omega (arith, e))
 
-  at : (x : Lane) → lane_of (done ++ x ∷ rest) (length done) ≡ x
+  pub at : (x : Lane) → lane_of (done ++ x ∷ rest) (length done) ≡ x
   at x = get_or_at done x rest no_lane (length done) refl
 
   take_same : (x : Lane) (worker : ℕ) (job : JobName)
@@ -51,7 +51,7 @@ module _ (mine all : Setting) (same : mine.workers ≡ all.workers) (done rest :
   set_lane : (x y : Lane) → slice_set (done ++ x ∷ rest) (length done) y ≡ done ++ y ∷ rest
   set_lane x y = set_at done x rest y (length done) refl
 
-  take_step : (x : Lane) (worker : ℕ) (job : JobName)
+  pub take_step : (x : Lane) (worker : ℕ) (job : JobName)
       → step all (done ++ x ∷ rest) (event.Take worker (job_at (length done) job)) ≡ done ++ lane_stepped mine x (event.Take worker (job_at 0 job)) ∷ rest
   take_step x worker job =
       ap (λ (b : Bool). if b then lane_effect (done ++ x ∷ rest) (event.Take worker (job_at (length done) job)) else done ++ x ∷ rest) (take_same x worker job)
@@ -62,7 +62,7 @@ module _ (mine all : Setting) (same : mine.workers ≡ all.workers) (done rest :
       choose true = set_lane x _ ∙ ap (λ (y : Lane). done ++ with_taken worker job.kind job.part y ∷ rest) (at x)
       choose false = refl
 
-  put_step : (x : Lane) (worker : ℕ) (job : JobName)
+  pub put_step : (x : Lane) (worker : ℕ) (job : JobName)
       → step all (done ++ x ∷ rest) (event.Put worker (job_at (length done) job)) ≡ done ++ lane_stepped mine x (event.Put worker (job_at 0 job)) ∷ rest
   put_step x worker job =
       ap (λ (b : Bool). if b then lane_effect (done ++ x ∷ rest) (event.Put worker (job_at (length done) job)) else done ++ x ∷ rest) (put_same x worker job)
@@ -73,7 +73,7 @@ module _ (mine all : Setting) (same : mine.workers ≡ all.workers) (done rest :
       choose true = set_lane x _ ∙ ap (λ (y : Lane). done ++ with_put job.kind job.part y ∷ rest) (at x)
       choose false = refl
 
-  one_lane : (x y : Lane) (b : Bool) → (if b then y ∷ [] else x ∷ []) ≡ (if b then y else x) ∷ []
+  pub one_lane : (x y : Lane) (b : Bool) → (if b then y ∷ [] else x ∷ []) ≡ (if b then y else x) ∷ []
   one_lane x y true = refl
   one_lane x y false = refl
 
@@ -123,10 +123,10 @@ abbrev pub handed : List Hand → ℕ → List Lane → List Lane
 handed hands row [] = []
 handed hands row (x ∷ lanes) = queued (commands_for row hands) x ∷ handed hands (suc row) lanes
 
-for_this : (row : ℕ) (hand : Hand) (hands : List Hand) → hand.row ≡ row → commands_for row (hand ∷ hands) ≡ hand.command ∷ commands_for row hands
+pub for_this : (row : ℕ) (hand : Hand) (hands : List Hand) → hand.row ≡ row → commands_for row (hand ∷ hands) ≡ hand.command ∷ commands_for row hands
 for_this row hand hands is = rw (eq-eqb hand.row row is) refl
 
-for_others : (row : ℕ) (hand : Hand) (hands : List Hand) → (hand.row ≡ row → ⊥) → commands_for row (hand ∷ hands) ≡ commands_for row hands
+pub for_others : (row : ℕ) (hand : Hand) (hands : List Hand) → (hand.row ≡ row → ⊥) → commands_for row (hand ∷ hands) ≡ commands_for row hands
 for_others row hand hands is_not = rw (ne_eqb hand.row row is_not) refl
 
 handed_later : (hand : Hand) (hands : List Hand) (row : ℕ) (lanes : List Lane) → hand.row < row → handed (hand ∷ hands) row lanes ≡ handed hands row lanes

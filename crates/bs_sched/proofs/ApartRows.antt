@@ -19,7 +19,7 @@ use Rattle.bs_sched.specs.Isolation.{are_enabled, opened_lanes}
 use Rattle.bs_sched.specs.Journal.{IsItsJournal, setting_in}
 use Rattle.bs_sched.specs.Lane.{Lane, empty_lane, occupies, is_idle, has_begin, has_join}
 use Rattle.bs_sched.specs.Machine.{Setting, lane_of, is_busy, is_enabled, step, run_of}
-use Rattle.bs_sched.proofs.ApartLanes.{AreFree, GoesBeside, jobs_beside, queued, handed, hands_alone, hands_run, are_open}
+use Rattle.bs_sched.proofs.ApartLanes.{AreFree, GoesBeside, jobs_beside, queued, handed, hands_alone, AreHanded, hands_run, are_open}
 use Rattle.bs_sched.proofs.Journal.{keeps_apart}
 
 -- events after events
@@ -105,38 +105,50 @@ alone_from cap workers hands game (row ∷ rows) (core ∷ cores) many each =
         subst (λ g. RanAlone cap workers (row_at rows k) (commands_for g hands) (core_at cores k)) next (each (suc k) (omega (arith, less)))))
 
 module _ (cap workers : ℕ) (all : Setting) (same : all.workers ≡ workers) (hands : List Hand) where
-  abbrev start : List Lane → ℕ → List GameRow → List Lane
-  start done game rows = done ++ handed hands game (opened_lanes rows)
+  -- the jobs of one row: they are enabled, and the next row goes on from there
+  pub record RowBeside (done : List Lane) (game : ℕ) (row : GameRow) (rows : List GameRow) (core : CoreView) : Type 0 where
+    pub enabled : are_enabled all (done ++ handed hands game (opened_lanes (row ∷ rows))) (jobs_at game core.journal) ≡ true
+    pub next : run_of all (done ++ handed hands game (opened_lanes (row ∷ rows))) (jobs_at game core.journal)
+        ≡ (done ++ own_lane core ∷ []) ++ handed hands (suc game) (opened_lanes rows)
 
-  pub record GoOn (done : List Lane) (game : ℕ) (rows : List GameRow) (cores : List CoreView) : Type 0 where
-    pub enabled : are_enabled all (start done game rows) (jobs_from game cores) ≡ true
-    pub lanes : run_of all (start done game rows) (jobs_from game cores) ≡ done ++ map own_lane cores
-
-  pub rows_beside : (done : List Lane) (game : ℕ) (rows : List GameRow) (cores : List CoreView) → length done ≡ game → AreFree done
-      → AreAlone cap workers hands game rows cores → GoOn done game rows cores
-  rows_beside done game [] [] long free alone = record { enabled = refl; lanes = refl }
-  rows_beside done game [] (core ∷ cores) long free alone = absurd alone
-  rows_beside done game (row ∷ rows) [] long free alone = absurd alone
-  rows_beside done game (row ∷ rows) (core ∷ cores) long free alone =
+  pub row_beside : (done : List Lane) (game : ℕ) (row : GameRow) (rows : List GameRow) (core : CoreView) → length done ≡ game → AreFree done
+      → RanAlone cap workers row (commands_for game hands) core → RowBeside done game row rows core
+  row_beside done game row rows core long free alone =
       let mine = setting_in cap core in
       let x = queued (commands_for game hands) (empty_lane row) in
       let y = own_lane core in
       let rest = handed hands (suc game) (opened_lanes rows) in
+      let workers_same : mine.workers ≡ all.workers = alone.workers_same ∙ sym same in
+      let none = handed_free hands (suc game) rows in
+      let beside : GoesBeside mine all workers_same done rest free none x (jobs_at 0 core.journal) (jobs_at game core.journal)
+      = subst (λ n. GoesBeside mine all workers_same done rest free none x (jobs_at 0 core.journal) (jobs_at n core.journal)) long
+      (jobs_beside mine all workers_same done rest free none core.journal x) in
+      let own = own_jobs cap workers row (commands_for game hands) core alone in
+      record {
+        enabled = beside.enabled ∙ own.enabled;
+        next = beside.lanes ∙ ap (λ z. done ++ z ∷ rest) own.lane ∙ sym (append_assoc done (y ∷ []) rest);
+      }
+
+  pub record RowsBeside (done : List Lane) (game : ℕ) (rows : List GameRow) (cores : List CoreView) : Type 0 where
+    pub enabled : are_enabled all (done ++ handed hands game (opened_lanes rows)) (jobs_from game cores) ≡ true
+    pub lanes : run_of all (done ++ handed hands game (opened_lanes rows)) (jobs_from game cores) ≡ done ++ map own_lane cores
+
+  pub rows_beside : (done : List Lane) (game : ℕ) (rows : List GameRow) (cores : List CoreView) → length done ≡ game → AreFree done
+      → AreAlone cap workers hands game rows cores → RowsBeside done game rows cores
+  rows_beside done game [] [] long free alone = record { enabled = refl; lanes = refl }
+  rows_beside done game [] (core ∷ cores) long free alone = absurd alone
+  rows_beside done game (row ∷ rows) [] long free alone = absurd alone
+  rows_beside done game (row ∷ rows) (core ∷ cores) long free alone =
+      let y = own_lane core in
+      let lanes = done ++ handed hands game (opened_lanes (row ∷ rows)) in
       let jobs = jobs_at game core.journal in
       let later = jobs_from (suc game) cores in
-      let beside : GoesBeside mine all (alone.0.workers_same ∙ sym same) done rest free (handed_free hands (suc game) rows) x (jobs_at 0 core.journal) jobs
-      = subst (λ n. GoesBeside mine all (alone.0.workers_same ∙ sym same) done rest free (handed_free hands (suc game) rows) x (jobs_at 0 core.journal) (jobs_at n core.journal))
-      long (jobs_beside mine all (alone.0.workers_same ∙ sym same) done rest free (handed_free hands (suc game) rows) core.journal x) in
-      let own = own_jobs cap workers row (commands_for game hands) core alone.0 in
-      let next : run_of all (done ++ x ∷ rest) jobs ≡ start (done ++ y ∷ []) (suc game) rows
-      = beside.lanes ∙ ap (λ z. done ++ z ∷ rest) own.lane ∙ sym (append_assoc done (y ∷ []) rest) in
+      let one = row_beside done game row rows core long free alone.0 in
       let goes = rows_beside (done ++ y ∷ []) (suc game) rows cores (let e = length_push done y in omega (arith, e, long))
       (free_push done y free alone.0.idle) alone.1 in
       record {
-        enabled = enabled_after all (done ++ x ∷ rest) jobs later
-        ∙ and_from _ _ (beside.enabled ∙ own.enabled) (ap (λ ls. are_enabled all ls later) next ∙ goes.enabled);
-        lanes = run_after all (done ++ x ∷ rest) jobs later ∙ ap (λ ls. run_of all ls later) next ∙ goes.lanes
-        ∙ append_assoc done (y ∷ []) (map own_lane cores);
+        enabled = enabled_after all lanes jobs later ∙ and_from _ _ one.enabled (ap (λ ls. are_enabled all ls later) one.next ∙ goes.enabled);
+        lanes = run_after all lanes jobs later ∙ ap (λ ls. run_of all ls later) one.next ∙ goes.lanes ∙ append_assoc done (y ∷ []) (map own_lane cores);
       }
 
 -- all rows of the plan
@@ -145,6 +157,22 @@ opened_open : (plan : List GameRow) → are_open (opened_lanes plan) ≡ true
 opened_open [] = refl
 opened_open (row ∷ plan) = opened_open plan
 
+all_handed : (all : Setting) (plan : List GameRow) (hands : List Hand) → All (λ hand. hand.row < length plan) hands → AreHanded all (opened_lanes plan) hands
+all_handed all plan hands within =
+    let size : length (opened_lanes plan) ≡ length plan = length-map plan empty_lane in
+    hands_run all (opened_lanes plan) hands (opened_open plan) (subst (λ n. All (λ h. h.row < n) hands) (sym size) within)
+
+pub rows_handed : (all : Setting) (plan : List GameRow) (hands : List Hand) → All (λ hand. hand.row < length plan) hands
+    → run_of all (opened_lanes plan) (map hand_event hands) ≡ handed hands 0 (opened_lanes plan)
+rows_handed all plan hands within = (all_handed all plan hands within).lanes_after
+
+pub rows_alone : (cap workers : ℕ) (plan : List GameRow) (hands : List Hand) (cores : List CoreView) → RanApart cap workers plan hands cores
+    → AreAlone cap workers hands 0 plan cores
+rows_alone cap workers plan hands cores apart =
+    alone_from cap workers hands 0 plan cores apart.many
+    (λ k less. let at : k ≡ 0 + k = omega arith in
+      subst (λ g. RanAlone cap workers (row_at plan k) (commands_for g hands) (core_at cores k)) at (apart.each k less))
+
 pub record ComesTo (all : Setting) (plan : List GameRow) (hands : List Hand) (cores : List CoreView) : Type 0 where
   pub enabled : are_enabled all (opened_lanes plan) (assembled_journal hands cores) ≡ true
   pub lanes : run_of all (opened_lanes plan) (assembled_journal hands cores) ≡ map own_lane cores
@@ -152,16 +180,11 @@ pub record ComesTo (all : Setting) (plan : List GameRow) (hands : List Hand) (co
 pub lanes_law : (cap workers : ℕ) (all : Setting) (plan : List GameRow) (hands : List Hand) (cores : List CoreView) → all.workers ≡ workers
     → All (λ hand. hand.row < length plan) hands → RanApart cap workers plan hands cores → ComesTo all plan hands cores
 lanes_law cap workers all plan hands cores same within apart =
-    let opened = opened_lanes plan in
-    let events = map hand_event hands in
-    let size : length opened ≡ length plan = length-map plan empty_lane in
-    let first = hands_run all opened hands (opened_open plan) (subst (λ n. All (λ h. h.row < n) hands) (sym size) within) in
-    let alone = alone_from cap workers hands 0 plan cores apart.many
-    (λ k less. let at : k ≡ 0 + k = omega arith in
-      subst (λ g. RanAlone cap workers (row_at plan k) (commands_for g hands) (core_at cores k)) at (apart.each k less)) in
-    let goes = rows_beside cap workers all same hands [] 0 plan cores refl (λ worker. refl) alone in
+    let first = all_handed all plan hands within in
+    let goes = rows_beside cap workers all same hands [] 0 plan cores refl (λ worker. refl) (rows_alone cap workers plan hands cores apart) in
     record {
-      enabled = enabled_after all opened events (jobs_from 0 cores)
+      enabled = enabled_after all (opened_lanes plan) (map hand_event hands) (jobs_from 0 cores)
       ∙ and_from _ _ first.enabled (ap (λ ls. are_enabled all ls (jobs_from 0 cores)) first.lanes_after ∙ goes.enabled);
-      lanes = run_after all opened events (jobs_from 0 cores) ∙ ap (λ ls. run_of all ls (jobs_from 0 cores)) first.lanes_after ∙ goes.lanes;
+      lanes = run_after all (opened_lanes plan) (map hand_event hands) (jobs_from 0 cores)
+      ∙ ap (λ ls. run_of all ls (jobs_from 0 cores)) first.lanes_after ∙ goes.lanes;
     }

@@ -48,3 +48,9 @@ pub mod JoinFrames
 pub mod Woven
 pub mod ApartLanes
 pub mod ApartRows
+pub mod ApartStorage
+pub mod ApartStep
+pub mod ApartRun
+pub mod ApartNeeds
+pub mod ApartGames
+pub mod Assembly

@@ -11,7 +11,6 @@ use Rattle.bs_sched.specs.declared.event.Event.{Event}
 use Rattle.bs_sched.specs.declared.event.Event.TheVariants as event
 use Rattle.bs_sched.specs.Core.{CoreView, opened_core}
 use Rattle.bs_sched.specs.Games.{GamesView, row_at}
-use Rattle.bs_sched.specs.Isolation.{are_enabled, opened_lanes, shared_run}
 use Rattle.bs_sched.specs.Journal.{IsItsJournal}
 use Rattle.bs_sched.specs.Lane.{Lane, is_idle}
 use Rattle.bs_sched.specs.Machine.{Setting, lane_of}
@@ -152,10 +151,11 @@ pub record RanApart (cap workers : ℕ) (plan : List GameRow) (hands : List Hand
 abbrev pub setting_with : ℕ → ℕ → ℕ → Setting
 setting_with cap blocks workers = record { cap = cap; blocks = blocks; workers = workers }
 
--- Each event is enabled in its place, and they lead to these lanes.
+-- The whole has as many blocks, and it is its journal: each event was enabled in its place, and they
+-- lead to these lanes, packings, frame blocks and owners.
 pub record IsAssembled (cap blocks workers : ℕ) (plan : List GameRow) (hands : List Hand) (cores : List CoreView) : Type 0 where
-  pub enabled : are_enabled (setting_with cap blocks workers) (opened_lanes plan) (assembled_journal hands cores) ≡ true
-  pub lanes : shared_run (setting_with cap blocks workers) plan (assembled_journal hands cores) ≡ map own_lane cores
+  pub blocks_same : size (assembled cap blocks workers plan hands cores).games.storage.pool ≡ blocks
+  pub journaled : IsItsJournal cap (assembled cap blocks workers plan hands cores)
 
 -- For every plan that is hosted, and all commands for its rows.
 abbrev pub AssemblyLaw : Type 0
