@@ -8,7 +8,7 @@ use Rattle.bs_heap.specs.Packing.{Packing, no_packing}
 use Rattle.bs_pool.proofs.Counts.{count_cons}
 use Rattle.bs_pool.specs.declared.reservation.Reservation.{Reservation}
 use Rattle.bs_pool.specs.Ledger.{Ledger, ledger_of, is_unowned, size}
-use Rattle.bs_sched.specs.Assembly.{Hand, commands_for, jobs_at, jobs_from, tag_at, owners_with, owners_from, packings_from, frames_from, renumbered, renumbered_frames, own_lane, RanAlone}
+use Rattle.bs_sched.specs.Assembly.{Hand, commands_for, jobs_at, jobs_from, tag_at, owners_with, owners_from, packings_from, frames_from, renamed_packing, renamed_frames, own_lane, RanAlone}
 use Rattle.bs_sched.specs.Core.{CoreView}
 use Rattle.bs_sched.specs.Isolation.{opened_lanes}
 use Rattle.bs_sched.specs.Journal.{setting_in}
@@ -80,10 +80,10 @@ module _ (cap workers : ℕ) (all : Setting) (same : all.workers ≡ workers) (h
       }
 
   abbrev packing_here : List (Option ℕ) → CoreView → Packing
-  packing_here owners core = renumbered (place_in owners) (packing_of core.games.storage 0)
+  packing_here owners core = renamed_packing (place_in owners) (packing_of core.games.storage 0)
 
   abbrev frames_here : List (Option ℕ) → CoreView → List (Option ℕ)
-  frames_here owners core = renumbered_frames (place_in owners) (frames_of core.games.storage 0)
+  frames_here owners core = renamed_frames (place_in owners) (frames_of core.games.storage 0)
 
   -- the storage once the core of one row is laid into it
   abbrev laid_row : List Packing → List (List (Option ℕ)) → ℕ → List (Option ℕ) → List GameRow → CoreView → Storage

@@ -86,14 +86,14 @@ module _ (mine all : Setting) (same : mine.workers ≡ all.workers) (done rest :
       → step all (done ++ x ∷ rest) d ≡ done ++ y ∷ rest → step mine (x ∷ []) e ≡ y ∷ [] → GoesBeside y own whole → GoesBeside x (e ∷ own) (d ∷ whole)
   goes_on_beside x y own whole e d on all_step my_step later = record {
     enabled =
-      ap (λ (b : Bool). b && are_enabled all (step all (done ++ x ∷ rest) d) whole) on
-      ∙ ap (λ (ls : List Lane). is_enabled mine (x ∷ []) e && are_enabled all ls whole) all_step
-      ∙ ap (λ (b : Bool). is_enabled mine (x ∷ []) e && b) later.enabled
-      ∙ ap (λ (ls : List Lane). is_enabled mine (x ∷ []) e && are_enabled mine ls own) (sym my_step);
+        ap (λ (b : Bool). b && are_enabled all (step all (done ++ x ∷ rest) d) whole) on
+        ∙ ap (λ (ls : List Lane). is_enabled mine (x ∷ []) e && are_enabled all ls whole) all_step
+        ∙ ap (λ (b : Bool). is_enabled mine (x ∷ []) e && b) later.enabled
+        ∙ ap (λ (ls : List Lane). is_enabled mine (x ∷ []) e && are_enabled mine ls own) (sym my_step);
     lanes =
-      ap (λ (ls : List Lane). run_of all ls whole) all_step
-      ∙ later.lanes
-      ∙ ap (λ (ls : List Lane). done ++ lane_of (run_of mine ls own) 0 ∷ rest) (sym my_step);
+        ap (λ (ls : List Lane). run_of all ls whole) all_step
+        ∙ later.lanes
+        ∙ ap (λ (ls : List Lane). done ++ lane_of (run_of mine ls own) 0 ∷ rest) (sym my_step);
   }
 
   pub jobs_beside : (journal : List Event) (x : Lane) → GoesBeside x (jobs_at 0 journal) (jobs_at (length done) journal)

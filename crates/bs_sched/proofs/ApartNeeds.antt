@@ -94,10 +94,11 @@ module _ (mine : Setting) (row : GameRow) (hosted : IsHosted mine (row ∷ [])) 
       ∙ cond-true (is_enabled mine w.lanes e) (world_after mine.cap w e) w both.0 in
       let lanes : lane_effect w.lanes e ≡ step mine w.lanes e = sym (step_enabled mine w.lanes e both.0) in
       let later = goes (subst (All HandsFit) (sym (append_assoc before (e ∷ []) jobs)) fits)
-      (ap (λ (v : World). are_enabled mine v.lanes jobs) is ∙ ap (λ ls. are_enabled mine ls jobs) lanes ∙ both.1) in
-      (can_step before e (all_left HandsFit before (e ∷ jobs) fits) there here both.0,
+      (ap (λ (v : World). are_enabled mine v.lanes jobs) is ∙ ap (λ ls. are_enabled mine ls jobs) lanes ∙ both.1) in (
+        can_step before e (all_left HandsFit before (e ∷ jobs) fits) there here both.0,
         subst (λ ls. CanRun mine.cap mine jobs ls (world_after mine.cap w e).storage) lanes
-        (subst (λ (v : World). CanRun mine.cap mine jobs v.lanes v.storage) is later))
+            (subst (λ (v : World). CanRun mine.cap mine jobs v.lanes v.storage) is later),
+      )
 
   pub can_run : (journal before : List Event) → All HandsFit (before ++ jobs_at 0 journal) → are_enabled mine (world before).lanes (jobs_at 0 journal) ≡ true
       → CanRunFrom before (jobs_at 0 journal)
@@ -158,6 +159,6 @@ own_storage cap workers row commands core alone =
     record {
       can = subst (λ ls. CanRun cap mine jobs ls (first_storage cap row core)) lanes (subst (λ s. CanRun cap mine jobs w.lanes s) storage can);
       storage = ap (λ ls. storage_run cap mine jobs ls (first_storage cap row core)) (sym first.lanes_after)
-      ∙ sym (after_commands cap mine commands jobs (empty_lane row ∷ []) (first_storage cap row core))
-      ∙ ap (λ (g : GamesView). g.storage) (sym (games_law mine start (hands ++ jobs) on) ∙ ends);
+          ∙ sym (after_commands cap mine commands jobs (empty_lane row ∷ []) (first_storage cap row core))
+          ∙ ap (λ (g : GamesView). g.storage) (sym (games_law mine start (hands ++ jobs) on) ∙ ends);
     }

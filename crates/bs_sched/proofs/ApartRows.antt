@@ -61,7 +61,7 @@ own_jobs cap workers row commands core alone =
     record {
       enabled = ap (λ ls. are_enabled mine ls jobs) (sym first.lanes_after) ∙ both.1;
       lane = ap (λ ls. lane_of (run_of mine ls jobs) 0) (sym first.lanes_after)
-      ∙ ap (λ ls. lane_of ls 0) (sym (run_after mine (empty_lane row ∷ []) hands jobs) ∙ ends);
+          ∙ ap (λ ls. lane_of ls 0) (sym (run_after mine (empty_lane row ∷ []) hands jobs) ∙ ends);
     }
 
 -- no worker is busy
@@ -97,12 +97,13 @@ alone_from cap workers hands game [] [] many each = record {}
 alone_from cap workers hands game [] (core ∷ cores) many each = omega (arith, many)
 alone_from cap workers hands game (row ∷ rows) [] many each = omega (arith, many)
 alone_from cap workers hands game (row ∷ rows) (core ∷ cores) many each =
-    let here : game + 0 ≡ game = omega arith in
-    (subst (λ g. RanAlone cap workers row (commands_for g hands) core) here (each 0 (omega arith)),
+    let here : game + 0 ≡ game = omega arith in (
+      subst (λ g. RanAlone cap workers row (commands_for g hands) core) here (each 0 (omega arith)),
       alone_from cap workers hands (suc game) rows cores (omega (arith, many))
-      (λ k less.
-        let next : game + suc k ≡ suc game + k = omega arith in
-        subst (λ g. RanAlone cap workers (row_at rows k) (commands_for g hands) (core_at cores k)) next (each (suc k) (omega (arith, less)))))
+          (λ k less.
+          let next : game + suc k ≡ suc game + k = omega arith in
+          subst (λ g. RanAlone cap workers (row_at rows k) (commands_for g hands) (core_at cores k)) next (each (suc k) (omega (arith, less)))),
+    )
 
 module _ (cap workers : ℕ) (all : Setting) (same : all.workers ≡ workers) (hands : List Hand) where
   -- the jobs of one row: they are enabled, and the next row goes on from there
@@ -171,7 +172,7 @@ pub rows_alone : (cap workers : ℕ) (plan : List GameRow) (hands : List Hand) (
 rows_alone cap workers plan hands cores apart =
     alone_from cap workers hands 0 plan cores apart.many
     (λ k less. let at : k ≡ 0 + k = omega arith in
-      subst (λ g. RanAlone cap workers (row_at plan k) (commands_for g hands) (core_at cores k)) at (apart.each k less))
+    subst (λ g. RanAlone cap workers (row_at plan k) (commands_for g hands) (core_at cores k)) at (apart.each k less))
 
 pub record ComesTo (all : Setting) (plan : List GameRow) (hands : List Hand) (cores : List CoreView) : Type 0 where
   pub enabled : are_enabled all (opened_lanes plan) (assembled_journal hands cores) ≡ true
@@ -184,7 +185,7 @@ lanes_law cap workers all plan hands cores same within apart =
     let goes = rows_beside cap workers all same hands [] 0 plan cores refl (λ worker. refl) (rows_alone cap workers plan hands cores apart) in
     record {
       enabled = enabled_after all (opened_lanes plan) (map hand_event hands) (jobs_from 0 cores)
-      ∙ and_from _ _ first.enabled (ap (λ ls. are_enabled all ls (jobs_from 0 cores)) first.lanes_after ∙ goes.enabled);
+          ∙ and_from _ _ first.enabled (ap (λ ls. are_enabled all ls (jobs_from 0 cores)) first.lanes_after ∙ goes.enabled);
       lanes = run_after all (opened_lanes plan) (map hand_event hands) (jobs_from 0 cores)
-      ∙ ap (λ ls. run_of all ls (jobs_from 0 cores)) first.lanes_after ∙ goes.lanes;
+          ∙ ap (λ ls. run_of all ls (jobs_from 0 cores)) first.lanes_after ∙ goes.lanes;
     }

@@ -98,10 +98,10 @@ module _ (cap : ℕ) (mine all : Setting) (same : mine.workers ≡ all.workers) 
       record {
         lone = subst (λ ls. IsLone (storage_run cap mine (jobs_at 0 journal) ls t)) (sym one) later.lone;
         storage = ap (λ ls. storage_run cap all (jobs_at (length done) journal) ls (storage_taken job.kind (length done) job.part (all_storage s)))
-        (take_step mine all same done rest free next x worker job)
-        ∙ ap (storage_run cap all (jobs_at (length done) journal) (done ++ y ∷ rest)) here
-        ∙ later.storage
-        ∙ ap (λ ls. all_storage (storage_run cap mine (jobs_at 0 journal) ls t)) (sym one);
+            (take_step mine all same done rest free next x worker job)
+            ∙ ap (storage_run cap all (jobs_at (length done) journal) (done ++ y ∷ rest)) here
+            ∙ later.storage
+            ∙ ap (λ ls. all_storage (storage_run cap mine (jobs_at 0 journal) ls t)) (sym one);
       }
   jobs_stored (event.Put worker job ∷ journal) x s lone can =
       let e = event.Put worker (job_at 0 job) in
@@ -116,10 +116,10 @@ module _ (cap : ℕ) (mine all : Setting) (same : mine.workers ≡ all.workers) 
       record {
         lone = subst (λ ls. IsLone (storage_run cap mine (jobs_at 0 journal) ls t)) (sym one) later.lone;
         storage = ap (λ ls. storage_run cap all (jobs_at (length done) journal) ls (storage_put job.kind cap (length done) (lane_of (done ++ x ∷ rest) (length done)) (all_storage s)))
-        (put_step mine all same done rest free next x worker job)
-        ∙ ap (storage_run cap all (jobs_at (length done) journal) (done ++ y ∷ rest)) here
-        ∙ later.storage
-        ∙ ap (λ ls. all_storage (storage_run cap mine (jobs_at 0 journal) ls t)) (sym one);
+            (put_step mine all same done rest free next x worker job)
+            ∙ ap (storage_run cap all (jobs_at (length done) journal) (done ++ y ∷ rest)) here
+            ∙ later.storage
+            ∙ ap (λ ls. all_storage (storage_run cap mine (jobs_at 0 journal) ls t)) (sym one);
       }
   jobs_stored (event.Admit new ∷ journal) x s lone can = jobs_stored journal x s lone can
   jobs_stored (event.Leave game ∷ journal) x s lone can = jobs_stored journal x s lone can

@@ -12,7 +12,7 @@ use Rattle.bs_fiber.specs.declared.job.JobKind.TheVariants as kind
 use Rattle.bs_fiber.specs.declared.job.JobName.{JobName}
 use Rattle.bs_game.specs.declared.reply.Effect.{Effect}
 use Rattle.bs_game.specs.declared.reply.Effect.TheVariants as effect
-use Rattle.bs_sched.specs.Assembly.{renumbered, renumbered_frames, tag_at}
+use Rattle.bs_sched.specs.Assembly.{renamed_packing, renamed_frames, tag_at}
 use Rattle.bs_sched.specs.Frames.{flattened}
 use Rattle.bs_sched.specs.Games.{storage_taken, storage_put, put_effect, answer_effect}
 use Rattle.bs_sched.specs.Lane.{Lane, goes_on, forked}
@@ -32,20 +32,20 @@ IsLone s = s ≡ lone_storage (packing_of s 0) (frames_of s 0) s.pool
 
 module _ (rename : ℕ → ℕ) (before : List (Option ℕ)) (rs : List Reservation) where
   added_packing : (len : ℕ) (p : Packing) (pool : Ledger) (b : Bool) → (b ≡ false → least_free pool ≡ Some (next_number pool))
-      → with_place len (if b then renumbered (place_in before) p else with_block (next_number (whole_ledger rename before rs pool)) (renumbered (place_in before) p))
-      ≡ renumbered (place_in before) (with_place len (if b then p else with_block (next_number pool) p))
+      → with_place len (if b then renamed_packing (place_in before) p else with_block (next_number (whole_ledger rename before rs pool)) (renamed_packing (place_in before) p))
+      ≡ renamed_packing (place_in before) (with_place len (if b then p else with_block (next_number pool) p))
   added_packing len p pool true can = place_apart (place_in before) len p
   added_packing len p pool false can =
-      ap (λ m. with_place len (with_block m (renumbered (place_in before) p))) (draws_law rename before rs 0 (next_number pool) pool (can refl)).0
+      ap (λ m. with_place len (with_block m (renamed_packing (place_in before) p))) (draws_law rename before rs 0 (next_number pool) pool (can refl)).0
       ∙ ap (with_place len) (block_apart (place_in before) (next_number pool) p)
       ∙ place_apart (place_in before) len (with_block (next_number pool) p)
 
   packing_whole : (cap : ℕ) (effect : Effect) (p : Packing) (pool : Ledger) → CanDraw cap effect p pool
-      → packing_after cap (next_number (whole_ledger rename before rs pool)) effect (renumbered (place_in before) p)
-      ≡ renumbered (place_in before) (packing_after cap (next_number pool) effect p)
+      → packing_after cap (next_number (whole_ledger rename before rs pool)) effect (renamed_packing (place_in before) p)
+      ≡ renamed_packing (place_in before) (packing_after cap (next_number pool) effect p)
   packing_whole cap effect.Keep p pool can = refl
   packing_whole cap (effect.Add bytes) p pool can =
-      ap (λ (b : Bool). with_place (length bytes) (if b then renumbered (place_in before) p else with_block (next_number (whole_ledger rename before rs pool)) (renumbered (place_in before) p)))
+      ap (λ (b : Bool). with_place (length bytes) (if b then renamed_packing (place_in before) p else with_block (next_number (whole_ledger rename before rs pool)) (renamed_packing (place_in before) p)))
       (fits_apart (place_in before) cap (rounded (length bytes)) p.current)
       ∙ added_packing (length bytes) p pool (fits cap (rounded (length bytes)) p.current) can
   packing_whole cap effect.Trim p pool can = packings_law (place_in before) cap 0 effect.Trim p
@@ -91,7 +91,7 @@ module _ (row : ℕ) (before : List (Option ℕ)) (rs : List Reservation) (done_
 
   -- the storage of all while the core of this row is laid into it
   abbrev pub beside : Storage → Storage
-  beside s = storage_with (renumbered phi (packing_of s 0)) (renumbered_frames phi (frames_of s 0)) (laid s.pool)
+  beside s = storage_with (renamed_packing phi (packing_of s 0)) (renamed_frames phi (frames_of s 0)) (laid s.pool)
 
   packing_there : (p : Packing) (f : List (Option ℕ)) (pool : Ledger) → packing_of (storage_with p f pool) row ≡ p
   packing_there p f pool = get_or_at done_packings p rest_packings no_packing row many_packings
@@ -109,8 +109,8 @@ module _ (row : ℕ) (before : List (Option ℕ)) (rs : List Reservation) (done_
       → stored cap row effect (beside (lone_storage p f pool)) ≡ beside (stored cap 0 effect (lone_storage p f pool))
   stored_beside cap effect p f pool can =
       let w = laid pool in
-      let q = renumbered phi p in
-      let g = renumbered_frames phi f in
+      let q = renamed_packing phi p in
+      let g = renamed_frames phi f in
       ap (λ r. record {
         frames = done_frames ++ g ∷ rest_frames;
         packings = slice_set (done_packings ++ q ∷ rest_packings) row (packing_after cap (next_number w) effect r);
@@ -119,24 +119,24 @@ module _ (row : ℕ) (before : List (Option ℕ)) (rs : List Reservation) (done_
       ∙ ap (λ ps. record { frames = done_frames ++ g ∷ rest_frames; packings = ps; pool = pool_after cap (record_tag row) effect q w })
       (set_at done_packings q rest_packings (packing_after cap (next_number w) effect q) row many_packings)
       ∙ ap (λ r. storage_with r g (pool_after cap (record_tag row) effect q w)) (packing_whole (tag_at row) before rs cap effect p pool can.draws)
-      ∙ ap (λ tag. storage_with (renumbered phi (packing_after cap (next_number pool) effect p)) g (pool_after cap tag effect q w)) (sym records_tag)
-      ∙ ap (storage_with (renumbered phi (packing_after cap (next_number pool) effect p)) g)
+      ∙ ap (λ tag. storage_with (renamed_packing phi (packing_after cap (next_number pool) effect p)) g (pool_after cap tag effect q w)) (sym records_tag)
+      ∙ ap (storage_with (renamed_packing phi (packing_after cap (next_number pool) effect p)) g)
       (pool_law (tag_at row) before rs cap (record_tag 0) effect p pool can.draws can.closed can.numbers)
 
   parts_beside : (parts : ℕ) (p : Packing) (f : List (Option ℕ)) (pool : Ledger)
       → with_parts row parts (beside (lone_storage p f pool)) ≡ beside (with_parts 0 parts (lone_storage p f pool))
   parts_beside parts p f pool =
-      ap (λ fs. record { packings = done_packings ++ renumbered phi p ∷ rest_packings; frames = fs; pool = laid pool })
-      (set_at done_frames (renumbered_frames phi f) rest_frames (replicate parts None) row many_frames)
-      ∙ ap (λ g. storage_with (renumbered phi p) g (laid pool)) (new_frames phi parts)
+      ap (λ fs. record { packings = done_packings ++ renamed_packing phi p ∷ rest_packings; frames = fs; pool = laid pool })
+      (set_at done_frames (renamed_frames phi f) rest_frames (replicate parts None) row many_frames)
+      ∙ ap (λ g. storage_with (renamed_packing phi p) g (laid pool)) (new_frames phi parts)
 
   frame_beside : (part : ℕ) (p : Packing) (f : List (Option ℕ)) (pool : Ledger) → least_free pool ≡ Some (next_number pool)
       → with_frame row part (beside (lone_storage p f pool)) ≡ beside (with_frame 0 part (lone_storage p f pool))
   frame_beside part p f pool some =
       let w = laid pool in
       let n = next_number pool in
-      let q = renumbered phi p in
-      let g = renumbered_frames phi f in
+      let q = renamed_packing phi p in
+      let g = renamed_frames phi f in
       let draws = draws_law (tag_at row) before rs (frame_tag 0) n pool some in
       ap (λ h. record {
         packings = done_packings ++ q ∷ rest_packings;
@@ -147,15 +147,15 @@ module _ (row : ℕ) (before : List (Option ℕ)) (rs : List Reservation) (done_
       (set_at done_frames g rest_frames (slice_set g part (Some (next_number w))) row many_frames)
       ∙ ap (λ m. storage_with q (slice_set g part (Some m)) (drawn (frame_tag row) m w)) draws.0
       ∙ ap (λ h. storage_with q h (drawn (frame_tag row) (phi n) w)) (sym (map-set (option_map phi) f part (Some n)))
-      ∙ ap (λ tag. storage_with q (renumbered_frames phi (slice_set f part (Some n))) (drawn tag (phi n) w)) (sym frames_tag)
-      ∙ ap (storage_with q (renumbered_frames phi (slice_set f part (Some n)))) draws.1
+      ∙ ap (λ tag. storage_with q (renamed_frames phi (slice_set f part (Some n))) (drawn tag (phi n) w)) (sym frames_tag)
+      ∙ ap (storage_with q (renamed_frames phi (slice_set f part (Some n)))) draws.1
 
   no_frames_beside : (p : Packing) (f : List (Option ℕ)) (pool : Ledger) → AreBelow (length pool.owners) (flattened f)
       → without_frames row (beside (lone_storage p f pool)) ≡ beside (without_frames 0 (lone_storage p f pool))
   no_frames_beside p f pool below =
       let w = laid pool in
-      let q = renumbered phi p in
-      let g = renumbered_frames phi f in
+      let q = renamed_packing phi p in
+      let g = renamed_frames phi f in
       ap (λ h. record {
         packings = done_packings ++ q ∷ rest_packings;
         frames = slice_set (done_frames ++ g ∷ rest_frames) row [];

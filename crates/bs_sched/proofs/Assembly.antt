@@ -25,6 +25,7 @@ use Rattle.bs_sched.proofs.ApartLanes.{for_this, for_others, handed}
 use Rattle.bs_sched.proofs.ApartRows.{AreAlone, rows_alone, rows_handed, lanes_law}
 use Rattle.bs_sched.proofs.ApartRun.{storage_run, games_law, after_hands}
 use Rattle.bs_sched.proofs.ApartNeeds.{all_left}
+use Rattle.bs_sched.proofs.ApartReservations.{rows_reserved}
 use Rattle.bs_sched.proofs.ApartGames.{all_unowned, rows_stored, owners_many}
 
 -- the commands and the jobs are within the limits
@@ -117,6 +118,7 @@ module _ (cap blocks workers : ℕ) (plan : List GameRow) (hands : List Hand) (c
       let lanes = lanes_law cap workers all plan hands cores refl within apart in
       record {
         blocks_same = many;
+        reserved = rows_reserved cap workers hands 0 plan cores alone;
         journaled = record {
           hosted = subst (λ b. IsHosted (setting_with cap b workers) plan) (sym many) hosted;
           fits = fits;

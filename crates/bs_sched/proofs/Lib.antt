@@ -53,4 +53,6 @@ pub mod ApartStep
 pub mod ApartRun
 pub mod ApartNeeds
 pub mod ApartGames
+pub mod ApartReservations
 pub mod Assembly
+pub mod OpenedApart

@@ -4,7 +4,8 @@ use Rattle.std.specs.Prelude.{◌≡◌, ℕ, suc, ◌+◌, ◌*◌, ◌<◌, tr
 use Rattle.std.specs.List.{filter_map}
 use Rattle.bs_board.specs.declared.commands.command.Command.{Command}
 use Rattle.bs_board.specs.plans.Plan.{GameRow}
-use Rattle.bs_pool.specs.Ledger.{Ledger, ledger_of, size}
+use Rattle.bs_pool.specs.declared.reservation.Reservation.{Reservation}
+use Rattle.bs_pool.specs.Ledger.{ledger_of, size}
 use Rattle.bs_heap.specs.Packing.{Use, Place, Packing}
 use Rattle.bs_fiber.specs.declared.job.JobName.{JobName}
 use Rattle.bs_sched.specs.declared.event.Event.{Event}
@@ -67,7 +68,7 @@ assembled_journal hands cores = map hand_event hands ++ jobs_from 0 cores
 
 -- the tag in the whole of a tag in the core of that row
 abbrev pub tag_at : ℕ → ℕ → ℕ
-tag_at row tag = 2 * row + tag
+tag_at row tag = tag + 2 * row
 
 -- the owners once the blocks of a core have their numbers
 abbrev pub owners_with : ℕ → List (Option ℕ) → CoreView → List (Option ℕ)
@@ -77,33 +78,41 @@ abbrev pub owners_from : ℕ → List (Option ℕ) → List CoreView → List (O
 owners_from row owners [] = owners
 owners_from row owners (core ∷ cores) = owners_from (suc row) (owners_with row owners core) cores
 
-abbrev pub renumbered_use : (ℕ → ℕ) → Use → Use
-renumbered_use number u = record { number = number u.number; used = u.used }
+-- the reservations of each core, one core after the other
+abbrev pub reservation_at : ℕ → Reservation → Reservation
+reservation_at row r = record { tag = tag_at row r.tag; blocks = r.blocks }
 
-abbrev pub renumbered_place : (ℕ → ℕ) → Place → Place
-renumbered_place number p = record { number = number p.number; at = p.at; len = p.len }
+abbrev pub reservations_laid : ℕ → List CoreView → List Reservation
+reservations_laid row [] = []
+reservations_laid row (core ∷ cores) = map (reservation_at row) core.games.storage.pool.reservations ++ reservations_laid (suc row) cores
+
+abbrev pub renamed_use : (ℕ → ℕ) → Use → Use
+renamed_use number u = record { number = number u.number; used = u.used }
+
+abbrev pub renamed_place : (ℕ → ℕ) → Place → Place
+renamed_place number p = record { number = number p.number; at = p.at; len = p.len }
 
 -- the packing of the same records in blocks with other numbers
-abbrev pub renumbered : (ℕ → ℕ) → Packing → Packing
-renumbered number p =
+abbrev pub renamed_packing : (ℕ → ℕ) → Packing → Packing
+renamed_packing number p =
     record {
-      closed = map (renumbered_use number) p.closed;
-      current = option_map (renumbered_use number) p.current;
-      places = map (renumbered_place number) p.places;
+      closed = map (renamed_use number) p.closed;
+      current = option_map (renamed_use number) p.current;
+      places = map (renamed_place number) p.places;
     }
 
-abbrev pub renumbered_frames : (ℕ → ℕ) → List (Option ℕ) → List (Option ℕ)
-renumbered_frames number = map (option_map number)
+abbrev pub renamed_frames : (ℕ → ℕ) → List (Option ℕ) → List (Option ℕ)
+renamed_frames number = map (option_map number)
 
 abbrev pub packings_from : ℕ → List (Option ℕ) → List CoreView → List Packing
 packings_from row owners [] = []
 packings_from row owners (core ∷ cores) =
-    renumbered (place_in owners) (packing_of core.games.storage 0) ∷ packings_from (suc row) (owners_with row owners core) cores
+    renamed_packing (place_in owners) (packing_of core.games.storage 0) ∷ packings_from (suc row) (owners_with row owners core) cores
 
 abbrev pub frames_from : ℕ → List (Option ℕ) → List CoreView → List (List (Option ℕ))
 frames_from row owners [] = []
 frames_from row owners (core ∷ cores) =
-    renumbered_frames (place_in owners) (frames_of core.games.storage 0) ∷ frames_from (suc row) (owners_with row owners core) cores
+    renamed_frames (place_in owners) (frames_of core.games.storage 0) ∷ frames_from (suc row) (owners_with row owners core) cores
 
 -- The whole.
 
@@ -152,13 +161,28 @@ abbrev pub setting_with : ℕ → ℕ → ℕ → Setting
 setting_with cap blocks workers = record { cap = cap; blocks = blocks; workers = workers }
 
 -- The whole has as many blocks, and it is its journal: each event was enabled in its place, and they
--- lead to these lanes, packings, frame blocks and owners.
+-- lead to these lanes, packings, frame blocks and owners. The reservations of the plan are those of
+-- the cores.
 pub record IsAssembled (cap blocks workers : ℕ) (plan : List GameRow) (hands : List Hand) (cores : List CoreView) : Type 0 where
   pub blocks_same : size (assembled cap blocks workers plan hands cores).games.storage.pool ≡ blocks
   pub journaled : IsItsJournal cap (assembled cap blocks workers plan hands cores)
+  pub reserved : reservations_laid 0 cores ≡ reservations_of cap plan
 
 -- For every plan that is hosted, and all commands for its rows.
 abbrev pub AssemblyLaw : Type 0
 AssemblyLaw =
     (cap blocks workers : ℕ) (plan : List GameRow) (hands : List Hand) (cores : List CoreView) → IsHosted (setting_with cap blocks workers) plan
     → All (λ hand. hand.row < length plan) hands → RanApart cap workers plan hands cores → IsAssembled cap blocks workers plan hands cores
+
+-- Newly opened cores, one for each row of the plan.
+
+abbrev pub opened_apart : ℕ → ℕ → List GameRow → List CoreView
+opened_apart cap workers = map (λ row. opened_core cap (blocks_of cap row) workers (row ∷ []))
+
+-- Put together before any command, they are the newly opened core of the plan.
+pub record OpensApart (cap blocks workers : ℕ) (plan : List GameRow) : Type 0 where
+  pub apart : RanApart cap workers plan [] (opened_apart cap workers plan)
+  pub whole : assembled cap blocks workers plan [] (opened_apart cap workers plan) ≡ opened_core cap blocks workers plan
+
+abbrev pub SharingLaw : Type 0
+SharingLaw = (cap blocks workers : ℕ) (plan : List GameRow) → IsHosted (setting_with cap blocks workers) plan → OpensApart cap blocks workers plan

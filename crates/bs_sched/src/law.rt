@@ -2,7 +2,7 @@
 ghost use Rattle.bs_sched.specs.Registry.{RegistryLaw, ProgressExample, NamesLaw, ServedLaw, JournalLaw};
 ghost use Rattle.bs_sched.specs.Isolation.{IsolationLaw};
 ghost use Rattle.bs_sched.specs.SharedMemory.{MemoryLaw};
-ghost use Rattle.bs_sched.specs.Assembly.{AssemblyLaw};
+ghost use Rattle.bs_sched.specs.Assembly.{AssemblyLaw, SharingLaw};
 
 /// States the isolation law for every plan within its limits, every number of workers, every list
 /// of events whose commands and rows are within the limits, and every stay of the plan or admitted
@@ -27,7 +27,15 @@ pub fn isolation_law()
     ensures progress { ProgressExample }
 {}
 
-/// States the law of games that run apart. Does nothing.
+/// States the assembly law for every plan within its limits, every number of workers and all
+/// commands of a file. Each game of the plan ran in a core of its own, with the blocks that it
+/// reserves, first all its commands and then its jobs, until no job was in progress. The events of
+/// these cores, all commands in the order of the file and then the jobs of one core after the other,
+/// are enabled in the core of all games. They lead there to the lanes of these cores, and to their
+/// records and frame blocks, each in the n-th block that the cores before left free where it was in
+/// block n. The reservations are those of the plan. Newly opened cores are put together to the newly
+/// opened core of the plan. Does nothing.
 pub fn assembly_law()
     ensures assembly { AssemblyLaw }
+    ensures sharing { SharingLaw }
 {}
