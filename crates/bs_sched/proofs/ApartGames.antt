@@ -1,19 +1,19 @@
 -- The storage of all games that ran apart, one core after the other.
-use Rattle.std.proofs.Common.{◌≡◌, ℕ, zero, suc, ◌+◌, ◌<◌, ◌≤◌, List, [], ◌∷◌, ◌++◌, length, map, replicate, Option, Some, None, refl, sym, ap, subst, ◌∙◌, arith}
+use Rattle.std.proofs.Common.{◌≡◌, ℕ, zero, suc, ◌+◌, ◌≤◌, List, [], ◌∷◌, ◌++◌, length, map, replicate, Option, Some, None, refl, sym, ap, subst, ◌∙◌, arith}
 use Rattle.std.specs.Prelude.{count_by, option_map}
-use Rattle.std.proofs.lemmas.List.{append_assoc, length_push, length-replicate}
+use Rattle.std.proofs.lemmas.List.{append_assoc, length_push}
 use Rattle.std.proofs.lemmas.List.Sums.{sum_by-cons}
 use Rattle.bs_board.specs.plans.Plan.{GameRow}
 use Rattle.bs_heap.specs.Packing.{Packing, no_packing}
 use Rattle.bs_pool.proofs.Counts.{count_cons}
 use Rattle.bs_pool.specs.declared.reservation.Reservation.{Reservation}
-use Rattle.bs_pool.specs.Ledger.{Ledger, ledger_of, is_unowned, size}
+use Rattle.bs_pool.specs.Ledger.{ledger_of, is_unowned, size}
 use Rattle.bs_sched.specs.Assembly.{Hand, commands_for, jobs_at, jobs_from, tag_at, owners_with, owners_from, packings_from, frames_from, renamed_packing, renamed_frames, own_lane, RanAlone}
 use Rattle.bs_sched.specs.Core.{CoreView}
 use Rattle.bs_sched.specs.Isolation.{opened_lanes}
 use Rattle.bs_sched.specs.Journal.{setting_in}
 use Rattle.bs_sched.specs.Lane.{Lane, empty_lane}
-use Rattle.bs_sched.specs.Machine.{Setting, run_of}
+use Rattle.bs_sched.specs.Machine.{Setting}
 use Rattle.bs_sched.specs.PlanBlocks.{blocks_of, blocks_of_all}
 use Rattle.bs_sched.specs.Storage.{Storage, packing_of, frames_of}
 use Rattle.bs_sched.specs.Woven.{woven, place_in}
@@ -116,7 +116,7 @@ module _ (cap workers : ℕ) (all : Setting) (same : all.workers ≡ workers) (h
       let one : storage_run cap all (jobs_at (length done) core.journal) (done ++ x ∷ rest) (before_rows packings frames owners (row ∷ rows))
       ≡ laid_row packings frames (length done) owners rows core
       = ap (λ os. storage_run cap all (jobs_at (length done) core.journal) (done ++ x ∷ rest) (before_rows packings frames os (row ∷ rows))) (sym fresh)
-      ∙ stored.storage ∙ ap laid own.storage in
+      ∙ stored ∙ ap laid own.storage in
       subst (λ g. storage_run cap all (jobs_at g core.journal) (done ++ x ∷ rest) (before_rows packings frames owners (row ∷ rows))
       ≡ laid_row packings frames g owners rows core) long one
 

@@ -1,21 +1,20 @@
 -- The lanes of games that ran apart: what the one lane of a core does, it does in the core of all.
-use Rattle.std.proofs.Common.{◌≡◌, ℕ, zero, suc, ◌+◌, ◌<◌, Bool, true, false, ◌&&◌, ◌||◌, if◌then◌else◌, List, [], ◌∷◌, ◌++◌, length, map, Option, Some, None, refl, sym, ap, subst, ◌∙◌, arith, inl, inr}
-use Rattle.std.specs.List.{list_any, list_all, filter_map}
-use Rattle.std.specs.Prelude.{All, not, nat_eq, nat_lt, nat_le, slice_set}
-use Rattle.std.proofs.lemmas.Bool.{cases_Bool, cases_eq, cond-true, cond-false, lt-ltb, ltb-true, and_from, eq-eqb, ne_eqb}
-use Rattle.std.proofs.lemmas.List.{append_assoc, append-nil, get_or_at, set_at, length-append, length_push, length-set, map-append}
-use Rattle.std.proofs.lemmas.List.Elements.{All-head, All-tail, filter_map-append}
+use Rattle.std.proofs.Common.{◌≡◌, ℕ, zero, suc, ◌+◌, ◌<◌, Bool, true, false, ◌&&◌, ◌||◌, if◌then◌else◌, List, [], ◌∷◌, ◌++◌, length, map, refl, sym, ap, subst, ◌∙◌, arith}
+use Rattle.std.specs.List.{list_all}
+use Rattle.std.specs.Prelude.{All, nat_lt, slice_set}
+use Rattle.std.proofs.lemmas.Bool.{cond-true, lt-ltb, and_from, eq-eqb, ne_eqb}
+use Rattle.std.proofs.lemmas.List.{append_assoc, append-nil, get_or_at, set_at, length-append, length-set}
+use Rattle.std.proofs.lemmas.List.Elements.{All-head, All-tail}
 use Rattle.std.proofs.lemmas.List.Folds.{list_any-append}
 use Rattle.bs_board.proofs.Chains.{and_both}
 use Rattle.bs_board.specs.declared.commands.command.Command.{Command}
-use Rattle.bs_board.specs.plans.Plan.{GameRow}
 use Rattle.bs_fiber.specs.declared.job.JobName.{JobName}
 use Rattle.bs_sched.specs.declared.event.Event.{Event}
 use Rattle.bs_sched.specs.declared.event.Event.TheVariants as event
-use Rattle.bs_sched.specs.Assembly.{Hand, hand_event, command_for, commands_for, job_at, job_event, jobs_at}
-use Rattle.bs_sched.specs.Isolation.{are_enabled, opened_lanes}
-use Rattle.bs_sched.specs.Lane.{Lane, empty_lane, no_lane, occupies, with_waiting, with_taken, with_put, is_ready, is_out}
-use Rattle.bs_sched.specs.Machine.{Setting, lane_of, is_busy, is_allowed, has_hands, is_enabled, is_enabled_there, lane_after, lane_effect, step, run_of}
+use Rattle.bs_sched.specs.Assembly.{Hand, hand_event, commands_for, job_at, jobs_at}
+use Rattle.bs_sched.specs.Isolation.{are_enabled}
+use Rattle.bs_sched.specs.Lane.{Lane, no_lane, occupies, with_waiting, with_taken, with_put}
+use Rattle.bs_sched.specs.Machine.{Setting, lane_of, is_busy, is_enabled, lane_after, lane_effect, step, run_of}
 
 -- no worker has a Begin or a Join
 abbrev pub AreFree : List Lane → Type 0

@@ -1,6 +1,6 @@
 -- What each job of a core of one game needs is there: the memory law in its place.
-use Rattle.std.proofs.Common.{◌≡◌, ℕ, suc, ◌<◌, ◌≤◌, Bool, true, false, if◌then◌else◌, List, [], ◌∷◌, ◌++◌, length, map, replicate, Option, Some, None, refl, sym, ap, subst, ◌∙◌, arith, inl, inr}
-use Rattle.std.specs.Prelude.{All, option_to_list, slice_get}
+use Rattle.std.proofs.Common.{◌≡◌, ℕ, ◌<◌, true, false, List, [], ◌∷◌, ◌++◌, length, map, replicate, Some, None, refl, sym, ap, subst, ◌∙◌, arith, inl, inr}
+use Rattle.std.specs.Prelude.{All, option_to_list}
 use Rattle.std.proofs.lemmas.Bool.{cases_Bool, cond-true}
 use Rattle.std.proofs.lemmas.Option.{slice_get_within}
 use Rattle.std.proofs.lemmas.List.{append_assoc, map-append}
@@ -9,8 +9,6 @@ use Rattle.std.proofs.lemmas.List.Sums.{fold-append}
 use Rattle.bs_board.proofs.Chains.{and_both}
 use Rattle.bs_board.specs.declared.commands.command.Command.{Command}
 use Rattle.bs_board.specs.plans.Plan.{GameRow}
-use Rattle.bs_fiber.specs.declared.job.JobKind.TheVariants as kind
-use Rattle.bs_fiber.specs.declared.job.JobName.{JobName}
 use Rattle.bs_heap.specs.HeldBlocks.{Holds}
 use Rattle.bs_heap.specs.Packing.{Use, Packing, no_packing, numbers_of, closed_numbers}
 use Rattle.bs_pool.specs.Ledger.{Ledger, Owns, ledger_of, size}
@@ -21,11 +19,11 @@ use Rattle.bs_sched.specs.Core.{CoreView}
 use Rattle.bs_sched.specs.Games.{GamesView, opened}
 use Rattle.bs_sched.specs.Isolation.{HandsFit, are_enabled, opened_lanes}
 use Rattle.bs_sched.specs.Journal.{setting_in}
-use Rattle.bs_sched.specs.Lane.{Lane, empty_lane}
-use Rattle.bs_sched.specs.Machine.{Setting, lane_of, game_of, is_admit, is_enabled, lane_effect, step, run_of}
+use Rattle.bs_sched.specs.Lane.{empty_lane}
+use Rattle.bs_sched.specs.Machine.{Setting, lane_of, game_of, is_admit, is_enabled, lane_effect, step}
 use Rattle.bs_sched.specs.Memory.{World, CanDraw, effect_at, world_after, world_step, world_run, opened_world, games_run}
 use Rattle.bs_sched.specs.PlanBlocks.{reservations_of}
-use Rattle.bs_sched.specs.SharedMemory.{IsHosted, SharesMemory, shared_world, packing_in, numbers_in, frames_in}
+use Rattle.bs_sched.specs.SharedMemory.{IsHosted, shared_world, packing_in, numbers_in, frames_in}
 use Rattle.bs_sched.specs.Storage.{Storage, packing_of}
 use Rattle.bs_sched.proofs.LoneLanes.{grows_run, step_enabled}
 use Rattle.bs_sched.proofs.MemoryLaw.{memory_law, lanes_run}

@@ -1,5 +1,5 @@
 -- The lanes of all games that ran apart, one core after the other.
-use Rattle.std.proofs.Common.{◌≡◌, ℕ, zero, suc, ◌+◌, ◌<◌, Bool, true, false, ◌&&◌, ◌||◌, List, [], ◌∷◌, ◌++◌, length, map, refl, sym, ap, subst, ◌∙◌, arith}
+use Rattle.std.proofs.Common.{◌≡◌, ℕ, suc, ◌+◌, ◌<◌, Bool, true, false, ◌&&◌, ◌||◌, List, [], ◌∷◌, ◌++◌, length, map, refl, sym, ap, subst, ◌∙◌, arith}
 use Rattle.std.specs.Prelude.{All}
 use Rattle.std.proofs.lemmas.Bool.{and_from}
 use Rattle.std.proofs.lemmas.List.{append_assoc, length_push, length-map}
@@ -16,9 +16,9 @@ use Rattle.bs_sched.specs.Assembly.{Hand, hand_event, commands_for, jobs_at, job
 use Rattle.bs_sched.specs.Core.{CoreView}
 use Rattle.bs_sched.specs.Games.{row_at}
 use Rattle.bs_sched.specs.Isolation.{are_enabled, opened_lanes}
-use Rattle.bs_sched.specs.Journal.{IsItsJournal, setting_in}
+use Rattle.bs_sched.specs.Journal.{setting_in}
 use Rattle.bs_sched.specs.Lane.{Lane, empty_lane, occupies, is_idle, has_begin, has_join}
-use Rattle.bs_sched.specs.Machine.{Setting, lane_of, is_busy, is_enabled, step, run_of}
+use Rattle.bs_sched.specs.Machine.{Setting, lane_of, is_enabled, step, run_of}
 use Rattle.bs_sched.proofs.ApartLanes.{AreFree, GoesBeside, jobs_beside, queued, handed, hands_alone, AreHanded, hands_run, are_open}
 use Rattle.bs_sched.proofs.Journal.{keeps_apart}
 

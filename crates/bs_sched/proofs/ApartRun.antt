@@ -1,14 +1,10 @@
 -- All jobs of a core of one game on its storage, beside the same jobs on the storage of all.
-use Rattle.std.proofs.Common.{◌≡◌, ℕ, zero, suc, ◌<◌, Bool, true, false, if◌then◌else◌, List, [], ◌∷◌, ◌++◌, length, map, Option, Some, None, refl, sym, ap, subst, ◌∙◌, arith}
-use Rattle.std.specs.Prelude.{All}
+use Rattle.std.proofs.Common.{◌≡◌, ℕ, true, List, [], ◌∷◌, ◌++◌, length, map, Option, Some, refl, sym, ap, subst, ◌∙◌}
 use Rattle.std.proofs.lemmas.Bool.{cond-true}
 use Rattle.bs_board.proofs.Chains.{and_both}
 use Rattle.bs_board.specs.declared.commands.command.Command.{Command}
-use Rattle.bs_board.specs.plans.Plan.{GameRow}
 use Rattle.bs_fiber.specs.declared.job.JobKind.{JobKind}
 use Rattle.bs_fiber.specs.declared.job.JobKind.TheVariants as kind
-use Rattle.bs_fiber.specs.declared.job.JobName.{JobName}
-use Rattle.bs_game.specs.declared.reply.Effect.TheVariants as effect
 use Rattle.bs_heap.specs.HeldBlocks.{next_number}
 use Rattle.bs_heap.specs.Packing.{Packing}
 use Rattle.bs_pool.specs.declared.reservation.Reservation.{Reservation}
@@ -21,7 +17,7 @@ use Rattle.bs_sched.specs.Isolation.{are_enabled}
 use Rattle.bs_sched.specs.Lane.{Lane, with_taken, with_put}
 use Rattle.bs_sched.specs.Machine.{Setting, lane_of, is_enabled, lane_effect, step, run_of}
 use Rattle.bs_sched.specs.Memory.{effect_at, games_run}
-use Rattle.bs_sched.specs.Storage.{Storage, packing_of}
+use Rattle.bs_sched.specs.Storage.{Storage}
 use Rattle.bs_sched.proofs.LoneLanes.{step_enabled}
 use Rattle.bs_sched.proofs.ApartLanes.{AreFree, lane_stepped, take_step, put_step, one_lane, at}
 use Rattle.bs_sched.proofs.ApartStep.{IsLone, CanStore, beside, put_beside, taken_beside, put_lone, taken_lone}
@@ -77,17 +73,17 @@ module _ (cap : ℕ) (mine all : Setting) (same : mine.workers ≡ all.workers) 
   abbrev all_storage : Storage → Storage
   all_storage = beside (length done) before rs done_packings rest_packings done_frames rest_frames many_packings many_frames
 
-  pub record StoresBeside (x : Lane) (s : Storage) (own whole : List Event) : Type 0 where
-    pub lone : IsLone (storage_run cap mine own (x ∷ []) s)
-    pub storage : storage_run cap all whole (done ++ x ∷ rest) (all_storage s) ≡ all_storage (storage_run cap mine own (x ∷ []) s)
+  -- the jobs lead to the same storage, laid into that of all
+  abbrev pub StoresBeside : Lane → Storage → List Event → List Event → Type 0
+  StoresBeside x s own whole =
+      storage_run cap all whole (done ++ x ∷ rest) (all_storage s) ≡ all_storage (storage_run cap mine own (x ∷ []) s)
 
   pub jobs_stored : (journal : List Event) (x : Lane) (s : Storage) → IsLone s → CanRun cap mine (jobs_at 0 journal) (x ∷ []) s
       → StoresBeside x s (jobs_at 0 journal) (jobs_at (length done) journal)
-  jobs_stored [] x s lone can = record { lone = lone; storage = refl }
+  jobs_stored [] x s lone can = refl
   jobs_stored (event.Hand game command ∷ journal) x s lone can = jobs_stored journal x s lone can
   jobs_stored (event.Take worker job ∷ journal) x s lone can =
       let e = event.Take worker (job_at 0 job) in
-      let d = event.Take worker (job_at (length done) job) in
       let y = lane_stepped mine x e in
       let t = storage_taken job.kind 0 job.part s in
       let one : step mine (x ∷ []) e ≡ y ∷ [] = one_lane mine all same done rest free next x (with_taken worker job.kind job.part x) (is_enabled mine (x ∷ []) e) in
@@ -95,17 +91,13 @@ module _ (cap : ℕ) (mine all : Setting) (same : mine.workers ≡ all.workers) 
       = taken_beside (length done) before rs done_packings rest_packings done_frames rest_frames many_packings many_frames job.kind job.part s lone
       (λ is. can.0.frame worker job.part (ap (λ (k : JobKind). event.Take worker (record { game = 0; kind = k; part = job.part })) is)) in
       let later = jobs_stored journal y t (taken_lone job.kind job.part s lone) (subst (λ ls. CanRun cap mine (jobs_at 0 journal) ls t) one can.1) in
-      record {
-        lone = subst (λ ls. IsLone (storage_run cap mine (jobs_at 0 journal) ls t)) (sym one) later.lone;
-        storage = ap (λ ls. storage_run cap all (jobs_at (length done) journal) ls (storage_taken job.kind (length done) job.part (all_storage s)))
-            (take_step mine all same done rest free next x worker job)
-            ∙ ap (storage_run cap all (jobs_at (length done) journal) (done ++ y ∷ rest)) here
-            ∙ later.storage
-            ∙ ap (λ ls. all_storage (storage_run cap mine (jobs_at 0 journal) ls t)) (sym one);
-      }
+      ap (λ ls. storage_run cap all (jobs_at (length done) journal) ls (storage_taken job.kind (length done) job.part (all_storage s)))
+      (take_step mine all same done rest free next x worker job)
+      ∙ ap (storage_run cap all (jobs_at (length done) journal) (done ++ y ∷ rest)) here
+      ∙ later
+      ∙ ap (λ ls. all_storage (storage_run cap mine (jobs_at 0 journal) ls t)) (sym one)
   jobs_stored (event.Put worker job ∷ journal) x s lone can =
       let e = event.Put worker (job_at 0 job) in
-      let d = event.Put worker (job_at (length done) job) in
       let y = lane_stepped mine x e in
       let t = storage_put job.kind cap 0 x s in
       let one : step mine (x ∷ []) e ≡ y ∷ [] = one_lane mine all same done rest free next x (with_put job.kind job.part x) (is_enabled mine (x ∷ []) e) in
@@ -113,13 +105,10 @@ module _ (cap : ℕ) (mine all : Setting) (same : mine.workers ≡ all.workers) 
       = ap (λ z. storage_put job.kind cap (length done) z (all_storage s)) (at mine all same done rest free next x)
       ∙ put_beside (length done) before rs done_packings rest_packings done_frames rest_frames many_packings many_frames cap x job.kind s lone can.0.store in
       let later = jobs_stored journal y t (put_lone cap x job.kind s lone) (subst (λ ls. CanRun cap mine (jobs_at 0 journal) ls t) one can.1) in
-      record {
-        lone = subst (λ ls. IsLone (storage_run cap mine (jobs_at 0 journal) ls t)) (sym one) later.lone;
-        storage = ap (λ ls. storage_run cap all (jobs_at (length done) journal) ls (storage_put job.kind cap (length done) (lane_of (done ++ x ∷ rest) (length done)) (all_storage s)))
-            (put_step mine all same done rest free next x worker job)
-            ∙ ap (storage_run cap all (jobs_at (length done) journal) (done ++ y ∷ rest)) here
-            ∙ later.storage
-            ∙ ap (λ ls. all_storage (storage_run cap mine (jobs_at 0 journal) ls t)) (sym one);
-      }
+      ap (λ ls. storage_run cap all (jobs_at (length done) journal) ls (storage_put job.kind cap (length done) (lane_of (done ++ x ∷ rest) (length done)) (all_storage s)))
+      (put_step mine all same done rest free next x worker job)
+      ∙ ap (storage_run cap all (jobs_at (length done) journal) (done ++ y ∷ rest)) here
+      ∙ later
+      ∙ ap (λ ls. all_storage (storage_run cap mine (jobs_at 0 journal) ls t)) (sym one)
   jobs_stored (event.Admit new ∷ journal) x s lone can = jobs_stored journal x s lone can
   jobs_stored (event.Leave game ∷ journal) x s lone can = jobs_stored journal x s lone can

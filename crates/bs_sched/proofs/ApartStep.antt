@@ -1,6 +1,6 @@
 -- One event of a core of one game on its storage, beside the same event on the storage of all.
-use Rattle.std.proofs.Common.{◌≡◌, ℕ, zero, suc, ◌+◌, ◌<◌, Bool, true, false, if◌then◌else◌, List, [], ◌∷◌, ◌++◌, length, map, replicate, Option, Some, None, refl, sym, ap, subst, ◌∙◌, arith}
-use Rattle.std.specs.Prelude.{All, option_map, slice_set}
+use Rattle.std.proofs.Common.{◌≡◌, ℕ, zero, suc, Bool, true, false, if◌then◌else◌, List, [], ◌∷◌, ◌++◌, length, map, replicate, Option, Some, None, refl, sym, ap, subst, ◌∙◌, arith}
+use Rattle.std.specs.Prelude.{option_map, slice_set}
 use Rattle.std.proofs.lemmas.List.{get_or_at, set_at, length-set, map-set}
 use Rattle.bs_block.specs.Rounding.{rounded}
 use Rattle.bs_pool.specs.declared.reservation.Reservation.{Reservation}
@@ -9,7 +9,6 @@ use Rattle.bs_heap.specs.HeldBlocks.{all_given, next_number}
 use Rattle.bs_heap.specs.Packing.{Packing, no_packing, numbers_of, closed_numbers, fits, with_block, with_place}
 use Rattle.bs_fiber.specs.declared.job.JobKind.{JobKind}
 use Rattle.bs_fiber.specs.declared.job.JobKind.TheVariants as kind
-use Rattle.bs_fiber.specs.declared.job.JobName.{JobName}
 use Rattle.bs_game.specs.declared.reply.Effect.{Effect}
 use Rattle.bs_game.specs.declared.reply.Effect.TheVariants as effect
 use Rattle.bs_sched.specs.Assembly.{renamed_packing, renamed_frames, tag_at}

@@ -1,14 +1,13 @@
 -- Packings, draws and gives commute with the renaming of blocks.
-use Rattle.std.proofs.Common.{◌≡◌, ℕ, ◌+◌, ◌-◌, ◌<◌, Bool, true, false, if◌then◌else◌, List, [], ◌∷◌, ◌++◌, length, map, drop, Option, Some, None, refl, sym, ap, subst, ◌∙◌, arith, inl, inr}
+use Rattle.std.proofs.Common.{◌≡◌, ℕ, ◌+◌, ◌-◌, ◌<◌, Bool, true, false, if◌then◌else◌, List, [], ◌∷◌, ◌++◌, length, map, drop, Option, Some, None, refl, sym, ap, subst, ◌∙◌}
 use Rattle.std.specs.Prelude.{All, option_map, option_to_list, unwrap_or, slice_set}
-use Rattle.std.proofs.lemmas.Bool.{cases_Bool}
 use Rattle.std.proofs.lemmas.List.{map-append, map_push, drop-map, length-map, length-set}
 use Rattle.std.proofs.lemmas.List.Elements.{All-head, All-tail}
 use Rattle.bs_block.specs.Rounding.{rounded}
 use Rattle.bs_pool.specs.declared.reservation.Reservation.{Reservation}
 use Rattle.bs_pool.specs.Ledger.{Ledger, ledger_of, drawn, least_free, is_unowned}
 use Rattle.bs_heap.specs.HeldBlocks.{all_given, next_number}
-use Rattle.bs_heap.specs.Packing.{Use, Place, Packing, uses, numbers_of, closed_numbers, fits, packed, with_block, with_place, with_place_in, packing_of_last, last_alone}
+use Rattle.bs_heap.specs.Packing.{Use, Place, Packing, uses, numbers_of, closed_numbers, fits, packed, with_block, with_place, with_place_in, last_alone}
 use Rattle.bs_game.specs.declared.reply.Effect.{Effect}
 use Rattle.bs_game.specs.declared.reply.Effect.TheVariants as effect
 use Rattle.bs_sched.specs.Frames.{flattened}

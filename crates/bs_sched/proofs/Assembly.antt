@@ -1,5 +1,5 @@
 -- The cores of games that ran apart, put together: the whole is its journal.
-use Rattle.std.proofs.Common.{◌≡◌, ℕ, suc, true, ◌≤◌, ◌+◌, ◌<◌, List, [], ◌∷◌, ◌++◌, length, map, replicate, Option, Some, None, refl, sym, ap, subst, ◌∙◌, arith, inl, inr}
+use Rattle.std.proofs.Common.{◌≡◌, ℕ, suc, true, ◌≤◌, ◌<◌, List, [], ◌∷◌, length, map, replicate, None, refl, sym, ap, subst, ◌∙◌, arith, inl, inr}
 use Rattle.std.specs.Prelude.{All, count_by}
 use Rattle.std.proofs.lemmas.Bool.{cases_eq}
 use Rattle.std.proofs.lemmas.List.{length-replicate}
@@ -10,18 +10,15 @@ use Rattle.bs_game.specs.Answer.{Fits}
 use Rattle.bs_pool.specs.Ledger.{is_unowned, size}
 use Rattle.bs_sched.specs.declared.event.Event.{Event}
 use Rattle.bs_sched.specs.declared.event.Event.TheVariants as event
-use Rattle.bs_sched.specs.Assembly.{Hand, hand_event, commands_for, jobs_at, jobs_from, assembled_journal, owners_from, own_lane, assembled, RanAlone, RanApart, core_at, setting_with, IsAssembled, AssemblyLaw}
+use Rattle.bs_sched.specs.Assembly.{Hand, hand_event, commands_for, jobs_at, jobs_from, assembled_journal, own_lane, assembled, RanAlone, RanApart, core_at, setting_with, IsAssembled, AssemblyLaw}
 use Rattle.bs_sched.specs.Core.{CoreView}
-use Rattle.bs_sched.specs.Games.{GamesView, row_at, opened}
+use Rattle.bs_sched.specs.Games.{row_at, opened}
 use Rattle.bs_sched.specs.Isolation.{HandsFit, are_enabled, opened_lanes}
-use Rattle.bs_sched.specs.Journal.{IsItsJournal, setting_in}
-use Rattle.bs_sched.specs.Lane.{Lane}
-use Rattle.bs_sched.specs.Machine.{Setting, run_of}
+use Rattle.bs_sched.specs.Machine.{Setting}
 use Rattle.bs_sched.specs.Memory.{games_run}
 use Rattle.bs_sched.specs.PlanBlocks.{blocks_of_all, reservations_of}
 use Rattle.bs_sched.specs.SharedMemory.{IsHosted}
-use Rattle.bs_sched.specs.Storage.{Storage}
-use Rattle.bs_sched.proofs.ApartLanes.{for_this, for_others, handed}
+use Rattle.bs_sched.proofs.ApartLanes.{for_this, for_others}
 use Rattle.bs_sched.proofs.ApartRows.{AreAlone, rows_alone, rows_handed, lanes_law}
 use Rattle.bs_sched.proofs.ApartRun.{storage_run, games_law, after_hands}
 use Rattle.bs_sched.proofs.ApartNeeds.{all_left}

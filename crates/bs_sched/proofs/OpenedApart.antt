@@ -1,5 +1,5 @@
 -- Newly opened cores of all rows are the newly opened core of the plan.
-use Rattle.std.proofs.Common.{◌≡◌, ℕ, suc, ◌<◌, ◌≤◌, true, false, List, [], ◌∷◌, ◌++◌, length, map, replicate, Option, None, refl, sym, ap, subst, ◌∙◌, arith}
+use Rattle.std.proofs.Common.{◌≡◌, ℕ, suc, ◌<◌, ◌≤◌, true, false, List, [], ◌∷◌, length, map, replicate, Option, None, refl, sym, ap, subst, ◌∙◌, arith}
 use Rattle.std.specs.Prelude.{count_by}
 use Rattle.std.proofs.lemmas.List.{get_or-map, length-map, length-replicate}
 use Rattle.std.proofs.lemmas.List.Elements.{All-nil, All-cons, All-get_or}
@@ -8,7 +8,7 @@ use Rattle.bs_board.specs.plans.Plan.{GameRow, row_of, is_fit_row, IsFitPlan}
 use Rattle.bs_heap.specs.Packing.{Packing, no_packing}
 use Rattle.bs_pool.specs.Ledger.{ledger_of, is_unowned}
 use Rattle.bs_sched.specs.declared.event.Event.{Event}
-use Rattle.bs_sched.specs.Assembly.{jobs_from, tag_at, owners_with, owners_from, packings_from, frames_from, own_lane, RanAlone, core_at, setting_with, opened_apart, OpensApart, SharingLaw}
+use Rattle.bs_sched.specs.Assembly.{jobs_from, tag_at, owners_with, owners_from, packings_from, frames_from, own_lane, RanAlone, setting_with, opened_apart, SharingLaw}
 use Rattle.bs_sched.specs.Core.{CoreView, opened_core}
 use Rattle.bs_sched.specs.Games.{row_at}
 use Rattle.bs_sched.specs.Lane.{Lane, empty_lane}
@@ -103,14 +103,14 @@ sharing_law cap blocks workers plan hosted =
       apart = record {
         many = length-map plan (λ row. opened_core cap (blocks_of cap row) workers (row ∷ []));
         each = λ row less.
-        subst (RanAlone cap workers (row_at plan row) [])
-        (sym (get_or-map (λ r. opened_core cap (blocks_of cap r) workers (r ∷ [])) plan row (row_of [] 0) (opened_core 0 0 0 []) less))
-        (opened_alone cap workers (row_at plan row) (row_hosted cap blocks workers plan row hosted less));
+            subst (RanAlone cap workers (row_at plan row) [])
+            (sym (get_or-map (λ r. opened_core cap (blocks_of cap r) workers (r ∷ [])) plan row (row_of [] 0) (opened_core 0 0 0 []) less))
+            (opened_alone cap workers (row_at plan row) (row_hosted cap blocks workers plan row hosted less));
       };
       whole =
-        ap (λ ls. whole_with cap workers plan ls (packings_from 0 none cores) (frames_from 0 none cores) (owners_from 0 none cores) (jobs_from 0 cores)) (fresh_lanes cap workers plan)
-        ∙ ap (λ ps. whole_with cap workers plan (map empty_lane plan) ps (frames_from 0 none cores) (owners_from 0 none cores) (jobs_from 0 cores)) fresh.packings
-        ∙ ap (λ fs. whole_with cap workers plan (map empty_lane plan) (map (λ _. no_packing) plan) fs (owners_from 0 none cores) (jobs_from 0 cores)) fresh.frames
-        ∙ ap (λ os. whole_with cap workers plan (map empty_lane plan) (map (λ _. no_packing) plan) (map (λ _. []) plan) os (jobs_from 0 cores)) fresh.owners_same
-        ∙ ap (whole_with cap workers plan (map empty_lane plan) (map (λ _. no_packing) plan) (map (λ _. []) plan) none) (no_jobs cap workers 0 plan);
+          ap (λ ls. whole_with cap workers plan ls (packings_from 0 none cores) (frames_from 0 none cores) (owners_from 0 none cores) (jobs_from 0 cores)) (fresh_lanes cap workers plan)
+          ∙ ap (λ ps. whole_with cap workers plan (map empty_lane plan) ps (frames_from 0 none cores) (owners_from 0 none cores) (jobs_from 0 cores)) fresh.packings
+          ∙ ap (λ fs. whole_with cap workers plan (map empty_lane plan) (map (λ _. no_packing) plan) fs (owners_from 0 none cores) (jobs_from 0 cores)) fresh.frames
+          ∙ ap (λ os. whole_with cap workers plan (map empty_lane plan) (map (λ _. no_packing) plan) (map (λ _. []) plan) os (jobs_from 0 cores)) fresh.owners_same
+          ∙ ap (whole_with cap workers plan (map empty_lane plan) (map (λ _. no_packing) plan) (map (λ _. []) plan) none) (no_jobs cap workers 0 plan);
     }

@@ -11,13 +11,13 @@ use Rattle.bs_fiber.specs.declared.job.JobName.{JobName}
 use Rattle.bs_sched.specs.declared.event.Event.{Event}
 use Rattle.bs_sched.specs.declared.event.Event.TheVariants as event
 use Rattle.bs_sched.specs.Core.{CoreView, opened_core}
-use Rattle.bs_sched.specs.Games.{GamesView, row_at}
+use Rattle.bs_sched.specs.Games.{row_at}
 use Rattle.bs_sched.specs.Journal.{IsItsJournal}
 use Rattle.bs_sched.specs.Lane.{Lane, is_idle}
 use Rattle.bs_sched.specs.Machine.{Setting, lane_of}
 use Rattle.bs_sched.specs.PlanBlocks.{blocks_of, reservations_of}
 use Rattle.bs_sched.specs.SharedMemory.{IsHosted}
-use Rattle.bs_sched.specs.Storage.{Storage, packing_of, frames_of}
+use Rattle.bs_sched.specs.Storage.{packing_of, frames_of}
 use Rattle.bs_sched.specs.Woven.{woven, place_in}
 
 -- The commands of a file.
