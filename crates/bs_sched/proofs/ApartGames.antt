@@ -8,21 +8,21 @@ use Rattle.bs_heap.specs.Packing.{Packing, no_packing}
 use Rattle.bs_pool.proofs.Counts.{count_cons}
 use Rattle.bs_pool.specs.declared.reservation.Reservation.{Reservation}
 use Rattle.bs_pool.specs.Ledger.{ledger_of, is_unowned, size}
-use Rattle.bs_sched.specs.Assembly.{Hand, commands_for, jobs_at, jobs_from, tag_at, owners_with, owners_from, packings_from, frames_from, renamed_packing, renamed_frames, own_lane, RanAlone}
+use Rattle.bs_sched.specs.Assembly.{Hand, commands_for, jobs_at, jobs_from, tag_at, owners_with, owners_from, packings_from, renamed_packing, own_lane, own_frames, RanAlone}
 use Rattle.bs_sched.specs.Core.{CoreView}
 use Rattle.bs_sched.specs.Isolation.{opened_lanes}
 use Rattle.bs_sched.specs.Journal.{setting_in}
 use Rattle.bs_sched.specs.Lane.{Lane, empty_lane}
 use Rattle.bs_sched.specs.Machine.{Setting}
 use Rattle.bs_sched.specs.PlanBlocks.{blocks_of, blocks_of_all}
-use Rattle.bs_sched.specs.Storage.{Storage, packing_of, frames_of}
+use Rattle.bs_sched.specs.Storage.{Storage, packing_of}
 use Rattle.bs_sched.specs.Woven.{woven, place_in}
 use Rattle.bs_sched.proofs.Woven.{fresh_woven, size_woven}
 use Rattle.bs_sched.proofs.ApartLanes.{AreFree, queued, handed}
 use Rattle.bs_sched.proofs.ApartRows.{AreAlone, handed_free, free_push, row_beside}
 use Rattle.bs_sched.proofs.ApartRun.{storage_run, storage_run_after, jobs_stored}
 use Rattle.bs_sched.proofs.ApartStep.{beside}
-use Rattle.bs_sched.proofs.ApartNeeds.{first_storage, own_storage}
+use Rattle.bs_sched.proofs.ApartNeeds.{first_storage, own_storage, frames_stay}
 
 -- room
 
@@ -75,22 +75,19 @@ module _ (cap workers : ℕ) (all : Setting) (same : all.workers ≡ workers) (h
   after_rows packings frames game owners cores =
       record {
         packings = packings ++ packings_from game owners cores;
-        frames = frames ++ frames_from game owners cores;
+        frames = frames ++ map own_frames cores;
         pool = ledger_of (owners_from game owners cores) rs;
       }
 
   abbrev packing_here : List (Option ℕ) → CoreView → Packing
   packing_here owners core = renamed_packing (place_in owners) (packing_of core.games.storage 0)
 
-  abbrev frames_here : List (Option ℕ) → CoreView → List (Option ℕ)
-  frames_here owners core = renamed_frames (place_in owners) (frames_of core.games.storage 0)
-
   -- the storage once the core of one row is laid into it
   abbrev laid_row : List Packing → List (List (Option ℕ)) → ℕ → List (Option ℕ) → List GameRow → CoreView → Storage
   laid_row packings frames game owners rows core =
       record {
         packings = packings ++ packing_here owners core ∷ map (λ _. no_packing) rows;
-        frames = frames ++ frames_here owners core ∷ map (λ _. []) rows;
+        frames = frames ++ own_frames core ∷ map (λ _. []) rows;
         pool = ledger_of (owners_with game owners core) rs;
       }
 
@@ -116,7 +113,12 @@ module _ (cap workers : ℕ) (all : Setting) (same : all.workers ≡ workers) (h
       let one : storage_run cap all (jobs_at (length done) core.journal) (done ++ x ∷ rest) (before_rows packings frames owners (row ∷ rows))
       ≡ laid_row packings frames (length done) owners rows core
       = ap (λ os. storage_run cap all (jobs_at (length done) core.journal) (done ++ x ∷ rest) (before_rows packings frames os (row ∷ rows))) (sym fresh)
-      ∙ stored ∙ ap laid own.storage in
+      ∙ stored ∙ ap laid own.storage
+      ∙ ap (λ f. record {
+        packings = packings ++ packing_here owners core ∷ rest_packings;
+        frames = frames ++ f ∷ rest_frames;
+        pool = ledger_of (owners_with (length done) owners core) rs;
+      }) (frames_stay cap workers row (commands_for game hands) core (place_in owners) alone) in
       subst (λ g. storage_run cap all (jobs_at g core.journal) (done ++ x ∷ rest) (before_rows packings frames owners (row ∷ rows))
       ≡ laid_row packings frames g owners rows core) long one
 
@@ -131,7 +133,7 @@ module _ (cap workers : ℕ) (all : Setting) (same : all.workers ≡ workers) (h
   rows_stored done packings frames game owners (row ∷ rows) (core ∷ cores) long many_packings many_frames free alone room =
       let y = own_lane core in
       let p = packing_here owners core in
-      let f = frames_here owners core in
+      let f = own_frames core in
       let owners' = owners_with game owners core in
       let lanes = done ++ handed hands game (opened_lanes (row ∷ rows)) in
       let jobs = jobs_at game core.journal in
@@ -153,10 +155,10 @@ module _ (cap workers : ℕ) (all : Setting) (same : all.workers ≡ workers) (h
       ∙ ap (λ fs. storage_run cap all later lanes' (record { packings = (packings ++ p ∷ []) ++ map (λ (r : GameRow). no_packing) rows; frames = fs; pool = ledger_of owners' rs }))
       (sym (append_assoc frames (f ∷ []) (map (λ (r : GameRow). []) rows)))
       ∙ goes
-      ∙ ap (λ ps. record { packings = ps; frames = (frames ++ f ∷ []) ++ frames_from (suc game) owners' cores; pool = ledger_of (owners_from (suc game) owners' cores) rs })
+      ∙ ap (λ ps. record { packings = ps; frames = (frames ++ f ∷ []) ++ map own_frames cores; pool = ledger_of (owners_from (suc game) owners' cores) rs })
       (append_assoc packings (p ∷ []) (packings_from (suc game) owners' cores))
       ∙ ap (λ fs. record { packings = packings ++ packings_from game owners (core ∷ cores); frames = fs; pool = ledger_of (owners_from (suc game) owners' cores) rs })
-      (append_assoc frames (f ∷ []) (frames_from (suc game) owners' cores))
+      (append_assoc frames (f ∷ []) (map own_frames cores))
 
 -- no number comes or goes
 pub owners_many : (cap workers : ℕ) (hands : List Hand) (game : ℕ) (owners : List (Option ℕ)) (rows : List GameRow) (cores : List CoreView)

@@ -1,9 +1,9 @@
 -- What each job of a core of one game needs is there: the memory law in its place.
-use Rattle.std.proofs.Common.{◌≡◌, ℕ, ◌<◌, true, false, List, [], ◌∷◌, ◌++◌, length, map, replicate, Some, None, refl, sym, ap, subst, ◌∙◌, arith, inl, inr}
+use Rattle.std.proofs.Common.{◌≡◌, ℕ, ◌<◌, true, false, List, [], ◌∷◌, ◌++◌, length, map, replicate, Option, Some, None, refl, sym, ap, subst, ◌∙◌, arith, inl, inr}
 use Rattle.std.specs.Prelude.{All, option_to_list}
 use Rattle.std.proofs.lemmas.Bool.{cases_Bool, cond-true}
 use Rattle.std.proofs.lemmas.Option.{slice_get_within}
-use Rattle.std.proofs.lemmas.List.{append_assoc, map-append}
+use Rattle.std.proofs.lemmas.List.{append_assoc, map-append, length-map}
 use Rattle.std.proofs.lemmas.List.Elements.{All-nil, All-cons, All-head, All-tail, All-weaker}
 use Rattle.std.proofs.lemmas.List.Sums.{fold-append}
 use Rattle.bs_board.proofs.Chains.{and_both}
@@ -14,23 +14,27 @@ use Rattle.bs_heap.specs.Packing.{Use, Packing, no_packing, numbers_of, closed_n
 use Rattle.bs_pool.specs.Ledger.{Ledger, Owns, ledger_of, size}
 use Rattle.bs_sched.specs.declared.event.Event.{Event}
 use Rattle.bs_sched.specs.declared.event.Event.TheVariants as event
-use Rattle.bs_sched.specs.Assembly.{job_at, jobs_at, RanAlone}
+use Rattle.bs_sched.specs.Assembly.{job_at, jobs_at, own_lane, own_frames, RanAlone}
 use Rattle.bs_sched.specs.Core.{CoreView}
 use Rattle.bs_sched.specs.Games.{GamesView, opened}
 use Rattle.bs_sched.specs.Isolation.{HandsFit, are_enabled, opened_lanes}
 use Rattle.bs_sched.specs.Journal.{setting_in}
-use Rattle.bs_sched.specs.Lane.{empty_lane}
+use Rattle.bs_sched.specs.declared.stage.Stage.{Stage}
+use Rattle.bs_sched.specs.declared.stage.Stage.TheVariants as stage
+use Rattle.bs_sched.specs.Frames.{flattened}
+use Rattle.bs_sched.specs.Lane.{empty_lane, is_idle, is_playing}
 use Rattle.bs_sched.specs.Machine.{Setting, lane_of, game_of, is_admit, is_enabled, lane_effect, step}
 use Rattle.bs_sched.specs.Memory.{World, CanDraw, effect_at, world_after, world_step, world_run, opened_world, games_run}
 use Rattle.bs_sched.specs.PlanBlocks.{reservations_of}
 use Rattle.bs_sched.specs.SharedMemory.{IsHosted, shared_world, packing_in, numbers_in, frames_in}
-use Rattle.bs_sched.specs.Storage.{Storage, packing_of}
+use Rattle.bs_sched.specs.Storage.{Storage, packing_of, frames_of}
 use Rattle.bs_sched.proofs.LoneLanes.{grows_run, step_enabled}
 use Rattle.bs_sched.proofs.MemoryLaw.{memory_law, lanes_run}
 use Rattle.bs_sched.proofs.ApartLanes.{queued, hands_alone}
 use Rattle.bs_sched.proofs.ApartRows.{own_jobs}
 use Rattle.bs_sched.proofs.ApartRun.{CanStep, CanRun, storage_run, games_law, after_commands}
-use Rattle.bs_sched.proofs.ApartStep.{lone_storage}
+use Rattle.bs_sched.proofs.ApartStep.{lone_storage, renamed_frames}
+use Rattle.bs_sched.proofs.Journal.{keeps_apart}
 use Rattle.bs_sched.proofs.ApartStorage.{AreBelow}
 
 -- elements of the first list
@@ -160,3 +164,35 @@ own_storage cap workers row commands core alone =
           ∙ sym (after_commands cap mine commands jobs (empty_lane row ∷ []) (first_storage cap row core))
           ∙ ap (λ (g : GamesView). g.storage) (sym (games_law mine start (hands ++ jobs) on) ∙ ends);
     }
+
+-- no frame block is out in the end, so none gets another number
+
+not_playing : (s : Stage) → is_idle s ≡ true → is_playing s ≡ false
+not_playing stage.Idle idle = refl
+not_playing (stage.Begin worker) idle = refl
+not_playing stage.Parts idle = cc
+not_playing (stage.Join taker) idle = cc
+
+none_renamed : (phi : ℕ → ℕ) (frames : List (Option ℕ)) → flattened frames ≡ [] → renamed_frames phi frames ≡ frames
+none_renamed phi [] none = refl
+none_renamed phi (None ∷ frames) none = ap (λ fs. None ∷ fs) (none_renamed phi frames none)
+none_renamed phi (Some n ∷ frames) none = cc
+
+pub frames_stay : (cap workers : ℕ) (row : GameRow) (commands : List Command) (core : CoreView) (phi : ℕ → ℕ) → RanAlone cap workers row commands core
+    → renamed_frames phi (own_frames core) ≡ own_frames core
+frames_stay cap workers row commands core phi alone =
+    let mine = setting_in cap core in
+    let keeps = keeps_apart cap core alone.journaled in
+    let w = shared_world mine core.games.rows core.journal in
+    let lanes : w.lanes ≡ core.games.lanes = keeps.memory.lanes ∙ keeps.lanes in
+    let storage : w.storage ≡ core.games.storage
+    = ap (λ (g : GamesView). g.storage) (sym keeps.memory.core ∙ alone.journaled.games) in
+    let rows = ap length alone.plan in
+    let opened = length-map core.games.rows empty_lane in
+    let many = grows_run mine (opened_lanes core.games.rows) core.journal in
+    let long = ap length keeps.memory.lanes in
+    let idle : is_playing (lane_of w.lanes 0).stage ≡ false
+    = ap (λ ls. is_playing (lane_of ls 0).stage) lanes ∙ not_playing (own_lane core).stage alone.idle in
+    none_renamed phi (own_frames core)
+    (ap (λ (s : Storage). flattened (frames_of s 0)) (sym storage)
+    ∙ keeps.memory.blocks_shared.idle 0 (omega (arith, rows, opened, many, long)) idle)

@@ -11,7 +11,7 @@ use Rattle.bs_fiber.specs.declared.job.JobKind.{JobKind}
 use Rattle.bs_fiber.specs.declared.job.JobKind.TheVariants as kind
 use Rattle.bs_game.specs.declared.reply.Effect.{Effect}
 use Rattle.bs_game.specs.declared.reply.Effect.TheVariants as effect
-use Rattle.bs_sched.specs.Assembly.{renamed_packing, renamed_frames, tag_at}
+use Rattle.bs_sched.specs.Assembly.{renamed_packing, tag_at}
 use Rattle.bs_sched.specs.Frames.{flattened}
 use Rattle.bs_sched.specs.Games.{storage_taken, storage_put, put_effect, answer_effect}
 use Rattle.bs_sched.specs.Lane.{Lane, goes_on, forked}
@@ -23,6 +23,9 @@ use Rattle.bs_sched.proofs.ApartStorage.{whole_ledger, AreBelow, block_apart, pl
 -- the storage of a core of one game
 abbrev pub lone_storage : Packing → List (Option ℕ) → Ledger → Storage
 lone_storage p f pool = record { packings = p ∷ []; frames = f ∷ []; pool = pool }
+
+abbrev pub renamed_frames : (ℕ → ℕ) → List (Option ℕ) → List (Option ℕ)
+renamed_frames number = map (option_map number)
 
 abbrev pub IsLone : Storage → Type 0
 IsLone s = s ≡ lone_storage (packing_of s 0) (frames_of s 0) s.pool

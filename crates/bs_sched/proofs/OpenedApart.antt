@@ -8,7 +8,7 @@ use Rattle.bs_board.specs.plans.Plan.{GameRow, row_of, is_fit_row, IsFitPlan}
 use Rattle.bs_heap.specs.Packing.{Packing, no_packing}
 use Rattle.bs_pool.specs.Ledger.{ledger_of, is_unowned}
 use Rattle.bs_sched.specs.declared.event.Event.{Event}
-use Rattle.bs_sched.specs.Assembly.{jobs_from, tag_at, owners_with, owners_from, packings_from, frames_from, own_lane, RanAlone, setting_with, opened_apart, SharingLaw}
+use Rattle.bs_sched.specs.Assembly.{jobs_from, tag_at, owners_with, owners_from, packings_from, own_lane, own_frames, RanAlone, setting_with, opened_apart, SharingLaw}
 use Rattle.bs_sched.specs.Core.{CoreView, opened_core}
 use Rattle.bs_sched.specs.Games.{row_at}
 use Rattle.bs_sched.specs.Lane.{Lane, empty_lane}
@@ -52,12 +52,11 @@ opened_alone cap workers row hosted =
 
 pub record IsFresh (cap workers game : ℕ) (owners : List (Option ℕ)) (rows : List GameRow) : Type 0 where
   pub packings : packings_from game owners (opened_apart cap workers rows) ≡ map (λ _. no_packing) rows
-  pub frames : frames_from game owners (opened_apart cap workers rows) ≡ map (λ _. []) rows
   pub owners_same : owners_from game owners (opened_apart cap workers rows) ≡ owners
 
 fresh_from : (cap workers game : ℕ) (owners : List (Option ℕ)) (rows : List GameRow) → blocks_of_all cap rows ≤ count_by is_unowned owners
     → IsFresh cap workers game owners rows
-fresh_from cap workers game owners [] room = record { packings = refl; frames = refl; owners_same = refl }
+fresh_from cap workers game owners [] room = record { packings = refl; owners_same = refl }
 fresh_from cap workers game owners (row ∷ rows) room =
     let all = sum_by-cons (blocks_of cap) row rows in
     let cores = opened_apart cap workers rows in
@@ -66,13 +65,16 @@ fresh_from cap workers game owners (row ∷ rows) room =
     let later = fresh_from cap workers (suc game) owners rows (omega (arith, all, room)) in
     record {
       packings = ap (λ os. no_packing ∷ packings_from (suc game) os cores) same ∙ ap (λ ps. no_packing ∷ ps) later.packings;
-      frames = ap (λ os. [] ∷ frames_from (suc game) os cores) same ∙ ap (λ fs. [] ∷ fs) later.frames;
       owners_same = ap (λ os. owners_from (suc game) os cores) same ∙ later.owners_same;
     }
 
 fresh_lanes : (cap workers : ℕ) (rows : List GameRow) → map own_lane (opened_apart cap workers rows) ≡ map empty_lane rows
 fresh_lanes cap workers [] = refl
 fresh_lanes cap workers (row ∷ rows) = ap (λ ls. empty_lane row ∷ ls) (fresh_lanes cap workers rows)
+
+fresh_frames : (cap workers : ℕ) (rows : List GameRow) → map own_frames (opened_apart cap workers rows) ≡ map (λ _. []) rows
+fresh_frames cap workers [] = refl
+fresh_frames cap workers (row ∷ rows) = ap (λ fs. [] ∷ fs) (fresh_frames cap workers rows)
 
 no_jobs : (cap workers game : ℕ) (rows : List GameRow) → jobs_from game (opened_apart cap workers rows) ≡ []
 no_jobs cap workers game [] = refl
@@ -108,9 +110,9 @@ sharing_law cap blocks workers plan hosted =
             (opened_alone cap workers (row_at plan row) (row_hosted cap blocks workers plan row hosted less));
       };
       whole =
-          ap (λ ls. whole_with cap workers plan ls (packings_from 0 none cores) (frames_from 0 none cores) (owners_from 0 none cores) (jobs_from 0 cores)) (fresh_lanes cap workers plan)
-          ∙ ap (λ ps. whole_with cap workers plan (map empty_lane plan) ps (frames_from 0 none cores) (owners_from 0 none cores) (jobs_from 0 cores)) fresh.packings
-          ∙ ap (λ fs. whole_with cap workers plan (map empty_lane plan) (map (λ _. no_packing) plan) fs (owners_from 0 none cores) (jobs_from 0 cores)) fresh.frames
+          ap (λ ls. whole_with cap workers plan ls (packings_from 0 none cores) (map own_frames cores) (owners_from 0 none cores) (jobs_from 0 cores)) (fresh_lanes cap workers plan)
+          ∙ ap (λ ps. whole_with cap workers plan (map empty_lane plan) ps (map own_frames cores) (owners_from 0 none cores) (jobs_from 0 cores)) fresh.packings
+          ∙ ap (λ fs. whole_with cap workers plan (map empty_lane plan) (map (λ _. no_packing) plan) fs (owners_from 0 none cores) (jobs_from 0 cores)) (fresh_frames cap workers plan)
           ∙ ap (λ os. whole_with cap workers plan (map empty_lane plan) (map (λ _. no_packing) plan) (map (λ _. []) plan) os (jobs_from 0 cores)) fresh.owners_same
           ∙ ap (whole_with cap workers plan (map empty_lane plan) (map (λ _. no_packing) plan) (map (λ _. []) plan) none) (no_jobs cap workers 0 plan);
     }

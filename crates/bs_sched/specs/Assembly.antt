@@ -101,23 +101,19 @@ renamed_packing number p =
       places = map (renamed_place number) p.places;
     }
 
-abbrev pub renamed_frames : (ℕ → ℕ) → List (Option ℕ) → List (Option ℕ)
-renamed_frames number = map (option_map number)
-
 abbrev pub packings_from : ℕ → List (Option ℕ) → List CoreView → List Packing
 packings_from row owners [] = []
 packings_from row owners (core ∷ cores) =
     renamed_packing (place_in owners) (packing_of core.games.storage 0) ∷ packings_from (suc row) (owners_with row owners core) cores
 
-abbrev pub frames_from : ℕ → List (Option ℕ) → List CoreView → List (List (Option ℕ))
-frames_from row owners [] = []
-frames_from row owners (core ∷ cores) =
-    renamed_frames (place_in owners) (frames_of core.games.storage 0) ∷ frames_from (suc row) (owners_with row owners core) cores
-
 -- The whole.
 
 abbrev pub own_lane : CoreView → Lane
 own_lane core = lane_of core.games.lanes 0
+
+-- no frame block is out, so none gets another number
+abbrev pub own_frames : CoreView → List (Option ℕ)
+own_frames core = frames_of core.games.storage 0
 
 -- the core of all games, over `blocks` blocks of `cap` bytes
 abbrev pub assembled : ℕ → ℕ → ℕ → List GameRow → List Hand → List CoreView → CoreView
@@ -130,7 +126,7 @@ assembled cap blocks workers plan hands cores =
         lanes = map own_lane cores;
         storage = record {
           packings = packings_from 0 (replicate blocks None) cores;
-          frames = frames_from 0 (replicate blocks None) cores;
+          frames = map own_frames cores;
           pool = ledger_of (owners_from 0 (replicate blocks None) cores) (reservations_of cap plan);
         };
         tallies = [];
