@@ -45,3 +45,14 @@ pub mod Results
 pub mod Tallies
 pub mod PartFrames
 pub mod JoinFrames
+pub mod Woven
+pub mod ApartLanes
+pub mod ApartRows
+pub mod ApartStorage
+pub mod ApartStep
+pub mod ApartRun
+pub mod ApartNeeds
+pub mod ApartGames
+pub mod ApartReservations
+pub mod Assembly
+pub mod OpenedApart

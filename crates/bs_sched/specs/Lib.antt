@@ -1,4 +1,5 @@
 pub mod Registry
+pub mod Assembly
 pub mod Coming
 pub mod Game
 pub mod Games
@@ -22,4 +23,5 @@ pub mod SharedMemory
 pub mod Stays
 pub mod Storage
 pub mod Taking
+pub mod Woven
 pub mod inner

@@ -2,6 +2,7 @@
 ghost use Rattle.bs_sched.specs.Registry.{RegistryLaw, ProgressExample, NamesLaw, ServedLaw, JournalLaw};
 ghost use Rattle.bs_sched.specs.Isolation.{IsolationLaw};
 ghost use Rattle.bs_sched.specs.SharedMemory.{MemoryLaw};
+ghost use Rattle.bs_sched.specs.Assembly.{AssemblyLaw, SharingLaw};
 
 /// States the isolation law for every plan within its limits, every number of workers, every list
 /// of events whose commands and rows are within the limits, and every stay of the plan or admitted
@@ -24,4 +25,17 @@ pub fn isolation_law()
     ensures names { NamesLaw }
     ensures served { ServedLaw }
     ensures progress { ProgressExample }
+{}
+
+/// States the assembly law for every plan within its limits, every number of workers and all
+/// commands of a file. Each game of the plan ran in a core of its own, with the blocks that it
+/// reserves, first all its commands and then its jobs, until no job was in progress. The events of
+/// these cores, all commands in the order of the file and then the jobs of one core after the
+/// other, are enabled in the core of all games. They lead there to the lanes of these cores. A
+/// record that lies in block n of its core lies there in the n-th of the blocks that the cores
+/// before left free, at the same place. The reservations of the cores are those of the plan. Newly
+/// opened cores are put together to the newly opened core of the plan. Does nothing.
+pub fn assembly_law()
+    ensures assembly { AssemblyLaw }
+    ensures sharing { SharingLaw }
 {}

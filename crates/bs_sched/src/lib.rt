@@ -21,7 +21,7 @@ mod taking;
 
 pub use cores::{Core, Counts, LEAST_CAPACITY, MOST_WORKERS};
 pub use event::Event;
-pub use law::isolation_law;
+pub use law::{assembly_law, isolation_law};
 pub use opening::Open;
 pub use plan_blocks::{MOST_STAYS, blocks_of, blocks_of_all};
 pub use putting::{Stray, Strays};
