@@ -5,6 +5,7 @@ use Rattle.std.specs.Vec.{with_item}
 use Rattle.std.proofs.lemmas.Bool.{cases_Bool, cases_eq, lt-ltb}
 use Rattle.std.proofs.lemmas.Grind.{get_or-set_at}
 use Rattle.std.proofs.lemmas.List.{get_or-set_other, get_or-set_same, length-set, set-get_or}
+use Rattle.bs_board.proofs.Chains.{and_both}
 use Rattle.bs_board.specs.declared.commands.command.Command.{Command}
 use Rattle.bs_counter.specs.Keys.{Key, TallyId}
 use Rattle.bs_fiber.specs.declared.job.JobKind.{JobKind}
@@ -23,7 +24,7 @@ use Rattle.bs_sched.specs.Games.{GamesView, after, answer_effect, games_taken, s
 use Rattle.bs_sched.specs.inner.Games.{games_completed}
 use Rattle.bs_sched.specs.inner.GamesLayout.{AreAtRows, AreGone, IsAtRow, IsSound, game_at, games_in, lanes_in, storage_in, tallies_in}
 use Rattle.bs_sched.specs.Inputs.{input_of, job_numbers, names_for}
-use Rattle.bs_sched.specs.Lane.{Lane, forked, goes_on, is_out, is_ready, with_put, with_waiting}
+use Rattle.bs_sched.specs.Lane.{Lane, forked, goes_on, is_out, is_quiet, is_ready, may_leave, with_put, with_waiting}
 use Rattle.bs_sched.specs.Machine.{lane_of, open_blocks}
 use Rattle.bs_sched.specs.Putting.{IsOwn}
 use Rattle.bs_sched.specs.inner.Reserved.{AreReserved}
@@ -36,18 +37,6 @@ use Rattle.bs_sched.proofs.OwnJobs.{own_out}
 use Rattle.bs_sched.proofs.Reserved.{reserved_changed, with_room}
 use Rattle.bs_sched.proofs.RightRuns.{busy_out, busy_ready, open_busy}
 use Rattle.bs_sched.proofs.Tallies.{same_tallies}
-
--- a stay with a job that is out or may be taken is open
-
-pub open_out : (cap : ℕ) {at : ℕ} (c : Inside at) (game worker : ℕ) (k : JobKind) (p : ℕ) → IsSound cap c → game < length c.list.items
-    → is_out worker (game_at c.list.items game).lane k p ≡ true → (game_at c.list.items game).lane.is_open ≡ true
-open_out cap c game worker k p sound within out =
-    open_busy (game_at c.list.items game).lane (sound.gone game within) (busy_out (game_at c.list.items game).lane worker k p out)
-
-pub open_ready : (cap : ℕ) {at : ℕ} (c : Inside at) (game : ℕ) (k : JobKind) (p : ℕ) → IsSound cap c → game < length c.list.items
-    → is_ready (game_at c.list.items game).lane k p ≡ true → (game_at c.list.items game).lane.is_open ≡ true
-open_ready cap c game k p sound within ready =
-    open_busy (game_at c.list.items game).lane (sound.gone game within) (busy_ready (game_at c.list.items game).lane k p ready)
 
 -- a stay keeps its tags and its row, and is as open as before
 pub record IsSameStay (v w : GameView) : Type 0 where
@@ -294,19 +283,38 @@ names_set games job w pool within tag =
     let numbers = ap (λ (u : GameView). u.frames.numbers) (sym (game_set games job.game w within)) ∙ sym (numbers_at (slice_set games job.game w) job.game pool) in
     ap (λ (own : ℕ). named own w.frames.numbers) tag ∙ ap (named (frame_tag job.game)) numbers
 
-pub row_there : (cap : ℕ) {at : ℕ} (c : Inside at) (view : GamesView) (game : ℕ) (v : GameView) → IsSound cap c → IsThere c view game v → v.lane.is_open ≡ true
-    → IsAtRow cap game v c.pool
-row_there cap c view game v sound here stands = rw here.there (sound.blocks game here.within (rw (← here.there) stands))
+-- an open stay, with its blocks
+pub record IsAtStay (cap : ℕ) {at : ℕ} (c : Inside at) (view : GamesView) (game : ℕ) (v : GameView) : Type 0 where
+  pub here : IsThere c view game v
+  pub stands : v.lane.is_open ≡ true
+  pub row : IsAtRow cap game v c.pool
 
-pub open_with_out : (cap : ℕ) {at : ℕ} (c : Inside at) (view : GamesView) (game worker : ℕ) (k : JobKind) (p : ℕ) (v : GameView) → IsSound cap c → IsThere c view game v
-    → is_out worker v.lane k p ≡ true → v.lane.is_open ≡ true
-open_with_out cap c view game worker k p v sound here out =
-    rw here.there (open_out cap c game worker k p sound here.within (rw (← here.there) out))
+pub at_open : (cap : ℕ) {at : ℕ} (c : Inside at) (view : GamesView) (game : ℕ) (v : GameView) → IsSound cap c → IsThere c view game v → v.lane.is_open ≡ true
+    → IsAtStay cap c view game v
+at_open cap c view game v sound here stands =
+    record { here = here; stands = stands; row = rw here.there (sound.blocks game here.within (rw (← here.there) stands)) }
 
-pub open_with_ready : (cap : ℕ) {at : ℕ} (c : Inside at) (view : GamesView) (game : ℕ) (k : JobKind) (p : ℕ) (v : GameView) → IsSound cap c → IsThere c view game v
-    → is_ready v.lane k p ≡ true → v.lane.is_open ≡ true
-open_with_ready cap c view game k p v sound here ready =
-    rw here.there (open_ready cap c game k p sound here.within (rw (← here.there) ready))
+-- a stay with a job that is out or may be taken is open
+at_busy : (cap : ℕ) {at : ℕ} (c : Inside at) (view : GamesView) (game : ℕ) (v : GameView) → IsSound cap c → IsThere c view game v → is_quiet v.lane ≡ false
+    → IsAtStay cap c view game v
+at_busy cap c view game v sound here busy =
+    let gone = subst (λ (u : GameView). u.lane.is_open ≡ false → is_quiet u.lane ≡ true) (sym here.there) (sound.gone game here.within) in
+    at_open cap c view game v sound here (open_busy v.lane gone busy)
+
+pub at_ready : (cap : ℕ) {at : ℕ} (c : Inside at) (view : GamesView) (job : JobName) (v : GameView) → IsSound cap c → IsThere c view job.game v
+    → is_ready (lane_of view.lanes job.game) job.kind job.part ≡ true → IsAtStay cap c view job.game v
+at_ready cap c view job v sound here ready =
+    at_busy cap c view job.game v sound here (busy_ready v.lane job.kind job.part (subst (λ (x : Lane). is_ready x job.kind job.part ≡ true) here.lane ready))
+
+pub at_out : (cap : ℕ) {at : ℕ} (c : Inside at) (view : GamesView) (job : JobName) (v : GameView) (worker : ℕ) → IsSound cap c → IsThere c view job.game v
+    → is_out worker (lane_of view.lanes job.game) job.kind job.part ≡ true → IsAtStay cap c view job.game v
+at_out cap c view job v worker sound here out =
+    at_busy cap c view job.game v sound here (busy_out v.lane worker job.kind job.part (subst (λ (x : Lane). is_out worker x job.kind job.part ≡ true) here.lane out))
+
+pub at_leave : (cap : ℕ) {at : ℕ} (c : Inside at) (view : GamesView) (game : ℕ) (v : GameView) → IsSound cap c → IsThere c view game v
+    → may_leave (lane_of view.lanes game) ≡ true → IsAtStay cap c view game v
+at_leave cap c view game v sound here may =
+    at_open cap c view game v sound here (ap (λ (x : Lane). x.is_open) (sym here.lane) ∙ (and_both (lane_of view.lanes game).is_open (is_quiet (lane_of view.lanes game)) may).0)
 
 -- whether a ticket is the core's own is judged by its stay
 pub own_at_stay : (cap : ℕ) {at : ℕ} (c : Inside at) (view : GamesView) (worker : ℕ) (ticket : TicketView) (v : GameView) → IsSound cap c → games_in c ≡ view
@@ -314,7 +322,7 @@ pub own_at_stay : (cap : ℕ) {at : ℕ} (c : Inside at) (view : GamesView) (wor
 own_at_stay cap c view worker ticket v sound is here =
     let job = ticket.input.job in
     let tag : is_out worker v.lane job.kind job.part ≡ true → v.frames.tag ≡ frame_tag job.game
-    = λ out. (row_there cap c view job.game v sound here (open_with_out cap c view job.game worker job.kind job.part v sound here out)).frame_tag_is in
+    = λ out. (at_busy cap c view job.game v sound here (busy_out v.lane worker job.kind job.part out)).row.frame_tag_is in
     let within : nat_lt job.game (length view.lanes) ≡ true
     = lt-ltb _ _ (let less = here.within in let many = many_lanes c.list.items in let same = ap (λ (u : GamesView). length u.lanes) is in omega (arith, less, many, same)) in (
       (λ own.

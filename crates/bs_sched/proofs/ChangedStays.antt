@@ -19,8 +19,8 @@ use Rattle.bs_sched.specs.declared.plan_blocks.TheConstants.{MOST_STAYS}
 use Rattle.bs_sched.specs.Frames.{flattened}
 use Rattle.bs_sched.specs.Game.{GameView}
 use Rattle.bs_sched.specs.inner.Game.{HasBlocks, closed_game, no_game, opened_game}
-use Rattle.bs_sched.specs.Games.{pool_left, with_stay, without_stay}
-use Rattle.bs_sched.specs.inner.GamesLayout.{AreAtRows, AreGone, IsAtRow, IsSound, game_at, lanes_in, open_rows, storage_in, tallies_in}
+use Rattle.bs_sched.specs.Games.{GamesView, pool_left, with_stay, without_stay}
+use Rattle.bs_sched.specs.inner.GamesLayout.{AreAtRows, AreGone, IsAtRow, IsSound, game_at, games_in, lanes_in, open_rows, storage_in, tallies_in}
 use Rattle.bs_sched.specs.Lane.{Lane, empty_lane, is_quiet, closed_lane, may_leave, no_lane}
 use Rattle.bs_sched.specs.Machine.{Setting, has_name, is_full, lane_of, may_admit, open_blocks}
 use Rattle.bs_sched.specs.PlanBlocks.{blocks_of, with_row}
@@ -213,6 +213,15 @@ storage_comes cap c new row comes =
 
 pub lanes_come : (cap : ℕ) {at : ℕ} (c new : Inside at) (row : GameRow) → Comes cap c new row → lanes_in new.list.items ≡ lanes_in c.list.items ++ empty_lane row ∷ []
 lanes_come cap c new row comes = ap lanes_in comes.games ∙ come_there c.list.items row
+
+-- what the clauses of the call say of the fields
+pub may_come_in : (cap : ℕ) {at : ℕ} (c : Inside at) (view : GamesView) (row : GameRow) → games_in c ≡ view → length view.lanes < MOST_STAYS
+    → blocks_of cap row ≤ size view.storage.pool - open_blocks cap view.lanes
+    → (length c.list.items < MOST_STAYS) × (blocks_of cap row ≤ size c.pool - open_blocks cap (lanes_in c.list.items))
+may_come_in cap c view row is room fits =
+    let many = many_lanes c.list.items in
+    let same = ap (λ (u : GamesView). length u.lanes) is in
+    (omega (arith, many, room, same), subst (λ (u : GamesView). blocks_of cap row ≤ size u.storage.pool - open_blocks cap u.lanes) (sym is) fits)
 
 -- a stay leaves
 

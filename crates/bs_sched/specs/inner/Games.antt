@@ -1,6 +1,5 @@
 -- What private contracts add to specs/Games.
 use Rattle.std.specs.Prelude.{ℕ, slice_set}
-use Rattle.bs_fiber.specs.declared.job.JobKind.TheVariants as kind
 use Rattle.bs_fiber.specs.declared.job.JobName.{JobName}
 use Rattle.bs_sched.specs.Lane.{with_put}
 use Rattle.bs_sched.specs.Machine.{lane_of}

@@ -1,7 +1,6 @@
 -- What private contracts add to specs/Putting.
 use Rattle.std.specs.Prelude.{◌≡◌, ℕ, true}
 use Rattle.bs_fiber.specs.Tickets.{TicketView}
-use Rattle.bs_fiber.specs.declared.job.JobKind.TheVariants as kind
 use Rattle.bs_sched.specs.Inputs.{input_of}
 use Rattle.bs_sched.specs.Lane.{Lane, is_out}
 

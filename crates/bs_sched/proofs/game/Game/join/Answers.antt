@@ -1,7 +1,6 @@
 use Rattle.std.proofs.Common.{rules, ◌≡◌, ◌≤◌, true, List, [], map, sym, ap, subst, ◌∙◌, arith, vec_capacity}
 use Rattle.std.proofs.lemmas.Grind.{common_steps}
 use Rattle.bs_fiber.specs.declared.contents.Contents.{Contents}
-use Rattle.bs_fiber.specs.declared.input.Input.{Input}
 use Rattle.bs_fiber.specs.declared.job.JobKind.{JobKind}
 use Rattle.bs_fiber.specs.declared.job.JobKind.TheVariants as kind
 use Rattle.bs_fiber.specs.Tickets.{IsFresh, TicketView, bytes_of, frames_in, fresh_bytes, names_of}

@@ -4,7 +4,7 @@ use Rattle.bs_sched.specs.Lane.{Lane}
 use Rattle.bs_sched.specs.declared.event.Event.TheVariants as event
 use Rattle.bs_sched.specs.inner.Game.{handed_game}
 use Rattle.bs_sched.proofs.ChangedGame.{leaves_all}
-use Rattle.bs_sched.proofs.ChangedGames.{handed_blocks, handed_stay, handed_view, row_there, sound_game, stay_there}
+use Rattle.bs_sched.proofs.ChangedGames.{at_open, handed_blocks, handed_stay, handed_view, sound_game, stay_there}
 use Rattle.bs_sched.proofs.Results.{on_ok}
 use Rattle.bs_sched.proofs.games.Games.hand.Goals as goal
 
@@ -15,10 +15,10 @@ invariant_of-self g c =
     let w = c.hand.new.self in
     let here = stay_there inside c.args.self.now c.args.game v c.self.view_is c.requires.game c.index_mut.ensures.value in
     let stands : v.lane.is_open ≡ true = ap (λ (x : Lane). x.is_open) (sym here.lane) ∙ c.requires.«open» in
-    let at = row_there g.row.CAP inside c.args.self.now c.args.game v c.self.invariant here stands in
+    let at = at_open g.row.CAP inside c.args.self.now c.args.game v c.self.invariant here stands in
     sound_game g.row.CAP inside c.args.game v w inside.pool c.self.invariant here.within here.there stands
     (handed_stay c.hand.result v w c.args.command c.hand.ensures.ok c.hand.ensures.err)
-    (handed_blocks c.hand.result g.row.CAP v w c.args.command inside.pool c.hand.ensures.ok c.hand.ensures.err at.blocks)
+    (handed_blocks c.hand.result g.row.CAP v w c.args.command inside.pool c.hand.ensures.ok c.hand.ensures.err at.row.blocks)
     (leaves_all v.tag v.frames.tag inside.pool)
 
 pub returns-clause-ok : goal.returns-clause-ok
