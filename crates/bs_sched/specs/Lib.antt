@@ -19,7 +19,6 @@ pub mod Parts
 pub mod PlanBlocks
 pub mod Putting
 pub mod SharedMemory
-pub mod Stays
 pub mod Storage
 pub mod Taking
 pub mod inner

@@ -1,12 +1,12 @@
 use Rattle.std.proofs.Common.{◌≡◌, ◌-◌, ◌<◌, ◌≤◌, length, refl, sym, ap, subst, ◌∙◌, arith}
 use Rattle.bs_pool.specs.Ledger.{size}
 use Rattle.bs_sched.specs.declared.games.Games.TheInside.{Inside}
-use Rattle.bs_sched.specs.declared.plan_blocks.TheConstants.{MOST_STAYS}
+use Rattle.bs_registry.specs.declared.blocks.TheConstants.{MOST_STAYS}
 use Rattle.bs_sched.specs.Game.{GameView}
 use Rattle.bs_sched.specs.Games.{GamesView}
 use Rattle.bs_sched.specs.inner.GamesLayout.{lanes_in, tallies_in}
 use Rattle.bs_sched.specs.Machine.{open_blocks}
-use Rattle.bs_sched.specs.PlanBlocks.{blocks_of}
+use Rattle.bs_registry.specs.Blocks.{blocks_of}
 use Rattle.bs_sched.proofs.ChangedStays.{Comes, can_reserve, lanes_come, sound_comes, storage_comes}
 use Rattle.bs_sched.proofs.ListedGames.{many_lanes}
 use Rattle.bs_sched.proofs.Tallies.{tallies_come}
