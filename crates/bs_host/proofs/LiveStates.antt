@@ -2,7 +2,7 @@
 -- give. So what it writes for a line is the answer that the definition gives.
 use Rattle.std.proofs.Common.{◌≡◌, ℕ, zero, suc, ◌+◌, ◌<◌, ◌≤◌, true, false, List, [], ◌∷◌, ◌++◌, Option, Some, None, length, map, refl, sym, ap, subst, ◌∙◌, arith, inl, inr, append-nil, append_assoc, length-append}
 use Rattle.std.specs.Prelude.{find, fold, nat_eq, nat_lt, not, option_to_list}
-use Rattle.std.specs.List.{cons_option, filter, flat_map}
+use Rattle.std.specs.List.{cons_option, filter}
 use Rattle.std.proofs.lemmas.Bool.{and_parts, cases_Bool, eq-eqb, eqb-true, ltb-true, ne_eqb}
 use Rattle.std.proofs.Math.ListN.{get_or-map}
 use Rattle.std.proofs.lemmas.List.{length-map, length-set, map-append}
@@ -32,7 +32,7 @@ use Rattle.bs_host.specs.inner.LiveHost.{answered_by, final_in, finals_of, host_
 use Rattle.bs_registry.specs.declared.registry.Listed.{Listed}
 use Rattle.bs_registry.specs.Registry.{Listing, is_numbered, listing_of, rows_open, seen}
 use Rattle.bs_host.specs.inner.Parsed.{parsed_line, route_parsed}
-use Rattle.bs_registry.specs.OpenStays.{OpenStayList, open_from, open_of}
+use Rattle.bs_registry.specs.OpenStays.{open_from, open_of}
 use Rattle.bs_registry.specs.inner.OpenStays.{open_stays_of}
 use Rattle.bs_host.specs.inner.OpenStays.{route_by}
 use Rattle.bs_host.specs.Routing.{act_in, acts_in, capacity_of, next_registry, registry_behind, registry_then, route_at, route_of, routes_from}

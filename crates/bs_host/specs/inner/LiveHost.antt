@@ -1,5 +1,5 @@
 -- A live host as an automaton over the lines of a file. It keeps the open stays only.
-use Rattle.std.specs.Prelude.{ℕ, ◌+◌, Bool, List, [], ◌∷◌, ◌++◌, find, fold, if◌then◌else◌, length, Option, Some, None}
+use Rattle.std.specs.Prelude.{ℕ, ◌+◌, List, [], ◌∷◌, ◌++◌, find, fold, if◌then◌else◌, length, Option, Some, None}
 use Rattle.std.specs.List.{flat_map}
 use Rattle.bs_board.specs.declared.commands.command.Command.{Command}
 use Rattle.bs_board.specs.declared.plans.plan.Plan.{Plan}
