@@ -15,7 +15,7 @@ use Rattle.bs_board.specs.Texts.{is_same_text}
 use Rattle.bs_json.specs.declared.line.Line.{Line}
 use Rattle.bs_json.specs.declared.line.Stray.{Stray}
 use Rattle.bs_json.specs.declared.line.Line.TheVariants as line
-use Rattle.bs_sched.specs.Stays.{Capacity, Stay, closed_stay, has_name, has_room, is_full, no_stay, open_stay, stay_at}
+use Rattle.bs_registry.specs.Stays.{Capacity, Stay, closed_stay, has_name, has_room, is_full, no_stay, open_stay, stay_at}
 use Rattle.bs_workers.specs.Acts.{opened, stay_named}
 use Rattle.bs_workers.specs.declared.act.Act.TheVariants as act
 use Rattle.bs_host.specs.Routing.{admit_refusal, admit_route, registry_then, hand_route, leave_route, route_of}

@@ -6,9 +6,9 @@ use Rattle.std.proofs.lemmas.List.Sums.{sum_by-cons, get_or-le-sum_by}
 use Rattle.std.specs.List.{enumerate_from, flat_map}
 use Rattle.bs_board.specs.plans.Plan.{GameRow, is_fit_row}
 use Rattle.bs_json.specs.PlanLine.{plan_line_of}
-use Rattle.bs_sched.specs.PlanBlocks.{blocks_of, blocks_of_all}
+use Rattle.bs_registry.specs.Blocks.{blocks_of, blocks_of_all}
 use Rattle.bs_transcript.specs.Lines.{stray_lines_of}
-use Rattle.bs_sched.specs.Stays.{Stay, no_stay, stay_at}
+use Rattle.bs_registry.specs.Stays.{Stay, no_stay, stay_at}
 use Rattle.bs_workers.specs.Acts.{opened, rows_in_registry}
 use Rattle.bs_host.specs.declared.limits.TheConstants.{BLOCK_BYTES}
 use Rattle.bs_host.specs.File.{pieces_of, first_piece, later_pieces, plan_of, rows_in, rows_of, version_of, version_in}

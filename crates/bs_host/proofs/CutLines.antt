@@ -8,7 +8,7 @@ use Rattle.std.proofs.lemmas.List.Splits.{slice_split_none, slice_split_at}
 use Rattle.std.specs.List.{join_with_byte, list_all, onto_first, sum_by}
 use Rattle.std.specs.Prelude.{not}
 use Rattle.bs_board.specs.declared.plans.version.Version.{Version}
-use Rattle.bs_sched.specs.Stays.{Capacity, Stay}
+use Rattle.bs_registry.specs.Stays.{Capacity, Stay}
 use Rattle.bs_host.specs.declared.lines.TheConstants.{LINE_FEED}
 use Rattle.bs_host.specs.Cut.{is_own_line, own_lines_in}
 use Rattle.bs_host.specs.inner.Cut.{behind_feeds}

@@ -10,7 +10,7 @@ use Rattle.bs_json.specs.PlanLine.{IsPlanFault, plan_line_of}
 use Rattle.bs_json.specs.declared.line.Stray.{Stray}
 use Rattle.bs_pool.specs.Ledger.{size}
 use Rattle.bs_sched.specs.Core.{CoreView, opened_core}
-use Rattle.bs_sched.specs.PlanBlocks.{blocks_of_all}
+use Rattle.bs_registry.specs.Blocks.{blocks_of_all}
 use Rattle.bs_sched.specs.declared.opening.Open.{Open}
 use Rattle.bs_sched.specs.declared.opening.Open.TheVariants as opening
 use Rattle.bs_workers.specs.declared.act.Act.{Act}

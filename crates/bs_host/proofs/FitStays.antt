@@ -20,9 +20,9 @@ use Rattle.bs_json.specs.Commands.{command_of}
 use Rattle.bs_json.specs.Line.{admit_line, command_line, does, is_space, line_for, line_from, line_in, line_of}
 use Rattle.bs_json.specs.PlanLine.{row_from}
 use Rattle.bs_json.specs.Values.{text_at, value_of}
-use Rattle.bs_sched.specs.PlanBlocks.{blocks_of}
-use Rattle.bs_sched.specs.declared.stays.Admit.TheVariants as admit
-use Rattle.bs_sched.specs.Stays.{Capacity, Stay, blocks_in_registry, closed_stay, has_name, has_room, is_full, may_admit_in, no_stay, open_stay, refusal_in_order, stay_at}
+use Rattle.bs_registry.specs.Blocks.{blocks_of}
+use Rattle.bs_registry.specs.declared.refusal.Refusal.TheVariants as refused
+use Rattle.bs_registry.specs.Stays.{Capacity, Stay, blocks_in_registry, closed_stay, has_name, has_room, is_full, may_admit_in, no_stay, open_stay, refusal_in_order, stay_at}
 use Rattle.bs_workers.specs.Acts.{opened, stay_named}
 use Rattle.bs_host.specs.Routing.{admit_refusal, admit_route, registry_behind, registry_then, hand_route, leave_route, next_registry, route_of, stray_for}
 use Rattle.bs_host.proofs.CutRows.{IsFitIfRead, row_from_is_fit}
@@ -89,7 +89,7 @@ line_is_fit version text = elim (cases_Bool (nat_lt MAX_LINE (length text))) [
 
 -- a row that is not refused may be admitted
 
-has_room_for : (c : Bool) (left : ℕ) → stray_for (if c then None else Some (admit.Short left)) ≡ None → c ≡ true
+has_room_for : (c : Bool) (left : ℕ) → stray_for (if c then None else Some (refused.Short left)) ≡ None → c ≡ true
 has_room_for true left none = refl
 has_room_for false left none = absurd cc
 

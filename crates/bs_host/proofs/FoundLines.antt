@@ -7,14 +7,15 @@ use Rattle.bs_board.specs.plans.Plan.{GameRow, row_of}
 use Rattle.bs_board.specs.plans.Version.{has_stays}
 use Rattle.bs_board.specs.Texts.{is_same_text}
 use Rattle.bs_json.specs.Line.{line_of}
-use Rattle.bs_sched.specs.Stays.{Capacity}
+use Rattle.bs_registry.specs.Stays.{Capacity}
 use Rattle.bs_workers.specs.Acts.{opened}
 use Rattle.bs_workers.specs.declared.act.Act.TheVariants as act
 use Rattle.bs_host.specs.declared.route.Route.{Route}
 use Rattle.bs_host.specs.declared.route.Route.TheVariants as route
 use Rattle.bs_host.specs.Cut.{nth_from, row_at}
-use Rattle.bs_host.specs.OpenStays.{OpenStayList}
-use Rattle.bs_host.specs.inner.OpenStays.{open_stays_of, open_stays_then, route_by, rows_by_open_stays, rows_in_route}
+use Rattle.bs_registry.specs.OpenStays.{OpenStayList}
+use Rattle.bs_registry.specs.inner.OpenStays.{open_stays_of}
+use Rattle.bs_host.specs.inner.OpenStays.{open_stays_then, route_by, rows_by_open_stays, rows_in_route}
 use Rattle.bs_host.specs.Routing.{stays_behind}
 use Rattle.bs_host.proofs.ActsLaw.{stays_walked}
 use Rattle.bs_host.proofs.FoundStays.{found_first, passed_by}

@@ -17,10 +17,10 @@ use Rattle.bs_json.specs.declared.line.Line.TheVariants as line
 use Rattle.bs_json.specs.declared.line.Stray.{Stray}
 use Rattle.bs_json.specs.declared.line.Stray.TheVariants as stray
 use Rattle.bs_json.specs.Line.{line_of}
-use Rattle.bs_sched.specs.declared.plan_blocks.TheConstants.{MOST_STAYS}
-use Rattle.bs_sched.specs.declared.stays.Admit.TheVariants as admit
-use Rattle.bs_sched.specs.PlanBlocks.{blocks_of}
-use Rattle.bs_sched.specs.Stays.{Capacity, Stay, blocks_in_registry, closed_stay, has_name, is_full, open_stay, refusal_in_order, stay_at}
+use Rattle.bs_registry.specs.declared.blocks.TheConstants.{MOST_STAYS}
+use Rattle.bs_registry.specs.declared.refusal.Refusal.TheVariants as refused
+use Rattle.bs_registry.specs.Blocks.{blocks_of}
+use Rattle.bs_registry.specs.Stays.{Capacity, Stay, blocks_in_registry, closed_stay, has_name, is_full, open_stay, refusal_in_order, stay_at}
 use Rattle.bs_workers.specs.Acts.{opened, stay_named}
 use Rattle.bs_workers.specs.declared.act.Act.TheVariants as act
 use Rattle.bs_host.specs.declared.lines.TheConstants.{LINE_FEED}
@@ -67,7 +67,7 @@ lines_fit file =
 
 -- the line that is refused as `Full`
 
-not_short : (c : Bool) (left : ℕ) → stray_for (if c then None else Some (admit.Short left)) ≡ Some stray.Full → false ≡ true
+not_short : (c : Bool) (left : ℕ) → stray_for (if c then None else Some (refused.Short left)) ≡ Some stray.Full → false ≡ true
 not_short true left is = absurd cc
 not_short false left is = absurd cc
 

@@ -18,7 +18,7 @@ use Rattle.bs_sched.specs.Games.{row_at}
 use Rattle.bs_sched.specs.Registry.{IsServedAlone}
 use Rattle.bs_sched.specs.Lane.{Lane, no_lane}
 use Rattle.bs_sched.specs.Machine.{lane_of}
-use Rattle.bs_sched.specs.PlanBlocks.{blocks_of_all}
+use Rattle.bs_registry.specs.Blocks.{blocks_of_all}
 use Rattle.bs_sched.specs.declared.opening.Open.{Open}
 use Rattle.bs_sched.specs.declared.opening.Open.TheVariants as opening
 use Rattle.bs_workers.specs.declared.act.Act.{Act}

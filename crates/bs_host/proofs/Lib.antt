@@ -24,8 +24,6 @@ pub mod LiveStays
 pub mod LiveRefusals
 pub mod LiveStops
 pub mod LiveTexts
-pub mod NamedOnce
-pub mod OpenStays
 pub mod OwnLines
 pub mod ParsedLines
 pub mod PlainLines

@@ -11,10 +11,10 @@ use Rattle.bs_board.specs.declared.plans.version.Version.{Version}
 use Rattle.bs_board.specs.plans.Plan.{GameRow}
 use Rattle.bs_json.specs.declared.limits.TheConstants.{MAX_LINE}
 use Rattle.bs_json.specs.Line.{line_of}
-use Rattle.bs_sched.specs.Stays.{Capacity, Stay}
+use Rattle.bs_registry.specs.Stays.{Capacity, Stay}
 use Rattle.bs_workers.specs.Acts.{opened}
 use Rattle.bs_host.specs.File.{pieces_of}
-use Rattle.bs_host.specs.OpenStays.{open_of}
+use Rattle.bs_registry.specs.OpenStays.{open_of}
 use Rattle.bs_host.specs.Live.{acts_behind, answer_after, answers_from, closing_behind, closing_of, live_lines_of, route_line, stays_left}
 use Rattle.bs_host.specs.inner.Live.{IsSameText, held_of}
 use Rattle.bs_host.specs.Routing.{act_in, acts_in, capacity_of, next_registry, registry_behind, registry_then, route_at, route_of, routes_from}

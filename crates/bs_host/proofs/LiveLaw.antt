@@ -13,7 +13,7 @@ use Rattle.bs_board.specs.plans.Plan.{GameRow, row_of}
 use Rattle.bs_json.specs.Replies.{reply_line_of, stray_line_of}
 use Rattle.bs_game.specs.Alone.{alone}
 use Rattle.bs_game.specs.Answer.{answer_to}
-use Rattle.bs_sched.specs.Stays.{Capacity, Stay, closed_stay, is_in, no_stay, open_stay, stay_at}
+use Rattle.bs_registry.specs.Stays.{Capacity, Stay, closed_stay, is_in, no_stay, open_stay, stay_at}
 use Rattle.bs_transcript.specs.Lines.{reply_lines_from, last_line_of, stray_lines_of}
 use Rattle.bs_workers.specs.declared.act.Act.{Act}
 use Rattle.bs_workers.specs.declared.act.Act.TheVariants as act
@@ -22,7 +22,7 @@ use Rattle.bs_host.specs.declared.route.Route.{Route}
 use Rattle.bs_host.specs.declared.route.Route.TheVariants as route
 use Rattle.bs_host.specs.Cut.{row_at}
 use Rattle.bs_host.specs.File.{later_pieces, pieces_of, rows_of, version_of}
-use Rattle.bs_host.specs.OpenStays.{open_from, open_of}
+use Rattle.bs_registry.specs.OpenStays.{open_from, open_of}
 use Rattle.bs_host.specs.Live.{LiveLaw, TranscriptLaw, own_live_of, act_line, acts_behind, answer_after, closing_line, closing_of, commands_given, is_of_act, is_of_stay, is_stray, next_line, own_closing, route_behind, route_line, rows_behind, some_answers, stays_left}
 use Rattle.bs_host.specs.Routing.{act_in, acts_in, capacity_of, commands_of, next_registry, registry_behind, registry_then, route_at, routes_from, routes_of, stays_of, strays_in}
 use Rattle.bs_host.specs.inner.Routing.{acts_of}

@@ -9,7 +9,7 @@ use Rattle.bs_board.specs.plans.Plan.{GameRow}
 use Rattle.bs_game.specs.Alone.{alone}
 use Rattle.bs_game.specs.Answer.{answer_to}
 use Rattle.bs_game.proofs.Courses.{course_snoc}
-use Rattle.bs_sched.specs.Stays.{Capacity, Stay}
+use Rattle.bs_registry.specs.Stays.{Capacity, Stay}
 use Rattle.bs_workers.specs.declared.act.Act.{Act}
 use Rattle.bs_workers.specs.declared.act.Act.TheVariants as act
 use Rattle.bs_workers.specs.Acts.{command_in, rows_admitted}

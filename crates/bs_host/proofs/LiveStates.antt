@@ -2,10 +2,10 @@
 -- give. So what it writes for a line is the answer that the definition gives.
 use Rattle.std.proofs.Common.{◌≡◌, ℕ, zero, suc, ◌+◌, ◌<◌, ◌≤◌, true, false, List, [], ◌∷◌, ◌++◌, Option, Some, None, length, map, refl, sym, ap, subst, ◌∙◌, arith, inl, inr, append-nil, append_assoc, length-append}
 use Rattle.std.specs.Prelude.{find, fold, nat_eq, nat_lt, not, option_to_list}
-use Rattle.std.specs.List.{cons_option, filter, flat_map}
+use Rattle.std.specs.List.{cons_option, filter}
 use Rattle.std.proofs.lemmas.Bool.{and_parts, cases_Bool, eq-eqb, eqb-true, ltb-true, ne_eqb}
 use Rattle.std.proofs.Math.ListN.{get_or-map}
-use Rattle.std.proofs.lemmas.List.{length-set, map-append}
+use Rattle.std.proofs.lemmas.List.{length-map, length-set, map-append}
 use Rattle.std.proofs.lemmas.List.Concat.{flat_map-cons}
 use Rattle.std.proofs.lemmas.List.Sums.{fold-append}
 use Rattle.bs_board.specs.declared.commands.command.Command.{Command}
@@ -15,8 +15,8 @@ use Rattle.bs_json.specs.Line.{line_of}
 use Rattle.bs_game.specs.Alone.{alone}
 use Rattle.bs_game.proofs.Courses.{course_snoc}
 use Rattle.bs_live.specs.Stay.{Stay as LiveStay, final_line, stay_after}
-use Rattle.bs_sched.specs.PlanBlocks.{blocks_of}
-use Rattle.bs_sched.specs.Stays.{Capacity, Stay, closed_stay, is_in, no_stay, open_stay, stay_at}
+use Rattle.bs_registry.specs.Blocks.{blocks_of}
+use Rattle.bs_registry.specs.Stays.{Capacity, Stay, closed_stay, is_in, no_stay, open_stay, stay_at}
 use Rattle.bs_workers.specs.declared.act.Act.{Act}
 use Rattle.bs_workers.specs.declared.act.Act.TheVariants as act
 use Rattle.bs_workers.specs.Acts.{opened, rows_in_registry}
@@ -28,29 +28,42 @@ use Rattle.bs_host.specs.declared.route.Route.TheVariants as route
 use Rattle.bs_host.specs.Cut.{row_at}
 use Rattle.bs_host.specs.Live.{acts_behind, answer_after, answers_from, closing_behind, closing_line, closing_of, commands_given, next_line, route_line, rows_behind, stays_left}
 use Rattle.bs_host.specs.inner.Live.{HasAnswered}
-use Rattle.bs_host.specs.inner.LiveHost.{answered_by, final_in, host_of, is_not_numbered, is_numbered, live_after, live_end, live_stay, live_text, live_texts, reply_in, stays_then, stays_with, text_then}
+use Rattle.bs_host.specs.inner.LiveHost.{answered_by, final_in, finals_of, host_of, live_after, live_end, live_stay, live_text, live_texts, reply_in, stays_then, text_then}
+use Rattle.bs_registry.specs.declared.registry.Listed.{Listed}
+use Rattle.bs_registry.specs.Registry.{Listing, is_numbered, listing_of, rows_open, seen}
 use Rattle.bs_host.specs.inner.Parsed.{parsed_line, route_parsed}
-use Rattle.bs_host.specs.OpenStays.{OpenStayList, open_from, open_of}
-use Rattle.bs_host.specs.inner.OpenStays.{open_stays_of, open_stays_then}
+use Rattle.bs_registry.specs.OpenStays.{open_from, open_of}
+use Rattle.bs_registry.specs.inner.OpenStays.{open_stays_of}
+use Rattle.bs_host.specs.inner.OpenStays.{route_by}
 use Rattle.bs_host.specs.Routing.{act_in, acts_in, capacity_of, next_registry, registry_behind, registry_then, route_at, route_of, routes_from}
 use Rattle.bs_host.proofs.ActsLaw.{IsAcceptable, route_acceptable}
 use Rattle.bs_host.proofs.LiveLines.{given_append}
 use Rattle.bs_host.proofs.LiveTexts.{rows_left}
-use Rattle.bs_host.proofs.OpenStays.{open_law}
+use Rattle.bs_registry.proofs.OpenStays.{open_law}
 use Rattle.bs_host.proofs.ParsedLines.{route_of_parsed}
-use Rattle.bs_host.proofs.OpenStayRoutes.{rows_are_open, same_next, same_route}
+use Rattle.bs_host.proofs.OpenStayRoutes.{open_stays_with, rows_are_open, same_route}
 
 -- a stay that was given its commands among these acts
-abbrev stay_behind : List Act → ℕ × GameRow → ℕ × LiveStay
-stay_behind acts stay = (
-  stay.0,
-  record {
-    row = stay.1;
-    game = (alone stay.1 (commands_given stay.0 acts)).game;
-    answered = length (commands_given stay.0 acts);
-    blocks = blocks_of BLOCK_BYTES stay.1;
-  },
-)
+abbrev stay_behind : List Act → ℕ × GameRow → Listed LiveStay
+stay_behind acts stay =
+    record {
+      number = stay.0;
+      row = stay.1;
+      kept = record {
+        row = stay.1;
+        game = (alone stay.1 (commands_given stay.0 acts)).game;
+        answered = length (commands_given stay.0 acts);
+        blocks = blocks_of BLOCK_BYTES stay.1;
+      };
+    }
+
+abbrev stays_behind : List Act → List (ℕ × GameRow) → List (Listed LiveStay)
+stays_behind acts = map (stay_behind acts)
+
+-- without what is kept for them they are the open stays
+rows_behind_are : (acts : List Act) (stays : List (ℕ × GameRow)) → rows_open (stays_behind acts stays) ≡ stays
+rows_behind_are acts [] = refl
+rows_behind_are acts (stay ∷ stays) = ap (λ rest. stay ∷ rest) (rows_behind_are acts stays)
 
 -- one more act
 
@@ -67,7 +80,7 @@ given_not : (stay other : ℕ) (command : Command) → nat_eq stay other ≡ fal
 given_not stay other command differ = rw differ refl
 
 answers : (acts : List Act) (stay : ℕ × GameRow) (command : Command) (more : List Act) → commands_given stay.0 more ≡ command ∷ []
-    → stay_behind (acts ++ more) stay ≡ ((stay_behind acts stay).0, stay_after command (stay_behind acts stay).1)
+    → stay_behind (acts ++ more) stay ≡ record { number = stay.0; row = stay.1; kept = stay_after command (stay_behind acts stay).kept }
 answers acts stay command more one =
     let before = commands_given stay.0 acts in
     let given : commands_given stay.0 (acts ++ more) ≡ before ++ command ∷ []
@@ -129,7 +142,7 @@ all_kept acts more (stay ∷ stays) none =
     ∙ ap (λ rest. stay_behind acts stay ∷ rest) (all_kept acts more stays none)
 
 filtered : (acts : List Act) (stay : ℕ) (stays : List (ℕ × GameRow))
-    → filter (is_not_numbered stay) (map (stay_behind acts) stays) ≡ map (stay_behind acts) (filter (λ other. not (nat_eq other.0 stay)) stays)
+    → filter (λ (other : Listed LiveStay). not (nat_eq other.number stay)) (map (stay_behind acts) stays) ≡ map (stay_behind acts) (filter (λ other. not (nat_eq other.0 stay)) stays)
 filtered acts stay [] = refl
 filtered acts stay (first ∷ stays) = elim (cases_Bool (nat_eq first.0 stay)) [
   | inl left ↦ rw left (filtered acts stay stays)
@@ -137,11 +150,11 @@ filtered acts stay (first ∷ stays) = elim (cases_Bool (nat_eq first.0 stay)) [
 ]
 
 -- the final lines of these stays
-all_close : (acts : List Act) (stays : List (ℕ × GameRow)) → flat_map (λ stay. final_line stay.1) (map (stay_behind acts) stays) ≡ closing_of acts stays
+all_close : (acts : List Act) (stays : List (ℕ × GameRow)) → finals_of (map (stay_behind acts) stays) ≡ closing_of acts stays
 unfolding closing_line
 all_close acts [] = refl
 all_close acts (stay ∷ stays) =
-    flat_map-cons (λ (stay : ℕ × LiveStay). final_line stay.1) (stay_behind acts stay) (map (stay_behind acts) stays)
+    flat_map-cons (λ (stay : Listed LiveStay). final_line stay.kept) (stay_behind acts stay) (map (stay_behind acts) stays)
     ∙ ap (λ rest. closing_line stay.1 (commands_given stay.0 acts) ++ rest) (all_close acts stays)
     ∙ sym (flat_map-cons (λ (stay : ℕ × GameRow). closing_line stay.1 (commands_given stay.0 acts)) stay stays)
 
@@ -154,31 +167,43 @@ abbrev IsFresh : List Act → List Stay → Type 0
 IsFresh acts registry = (stay : ℕ) → length registry ≤ stay → commands_given stay acts ≡ []
 
 admitted : (acts : List Act) (row : GameRow) (registry : List Stay) → IsFresh acts registry
-    → stays_with (length registry) row (map (stay_behind acts) (open_of registry))
+    → map (stay_behind acts) (open_of registry) ++ record { number = length registry; row = row; kept = live_stay row } ∷ []
     ≡ map (stay_behind (acts ++ act.Admit row ∷ [])) (open_of registry ++ (length registry, row) ∷ [])
 admitted acts row registry fresh =
     let more = act.Admit row ∷ [] in
     let none : commands_given (length registry) (acts ++ more) ≡ []
     = given_append (length registry) acts more ∙ append-nil (commands_given (length registry) acts) ∙ fresh (length registry) (omega arith) in
-    let new : stay_behind (acts ++ more) (length registry, row) ≡ (length registry, live_stay row) = rw none refl in
-    ap (λ stays. stays ++ (length registry, live_stay row) ∷ []) (sym (all_kept acts more (open_of registry) (λ stay. refl)))
+    let new : stay_behind (acts ++ more) (length registry, row) ≡ record { number = length registry; row = row; kept = live_stay row } = rw none refl in
+    ap (λ stays. stays ++ record { number = length registry; row = row; kept = live_stay row } ∷ []) (sym (all_kept acts more (open_of registry) (λ stay. refl)))
     ∙ ap (λ one. map (stay_behind (acts ++ more)) (open_of registry) ++ one ∷ []) (sym new)
     ∙ sym (map-append (stay_behind (acts ++ more)) (open_of registry) ((length registry, row) ∷ []))
 
+-- the open stays, of which each was given its commands among these acts
+abbrev stays_open : List Act → List Stay → Listing LiveStay
+stays_open acts registry = listing_of (length registry) (map (stay_behind acts) (open_of registry))
+
+seen_open : (acts : List Act) (registry : List Stay) → seen (stays_open acts registry) ≡ open_stays_of registry
+seen_open acts registry = ap (open_stays_with (length registry)) (rows_behind_are acts (open_of registry))
+
 module _ (capacity : Capacity) where
   stays_step : (acts : List Act) (registry : List Stay) (r : Route) → IsFresh acts registry
-      → stays_then (length registry) r (map (stay_behind acts) (open_of registry))
-      ≡ map (stay_behind (acts ++ option_to_list (act_in r))) (open_of (registry_then registry r))
-  stays_step acts registry (route.Act (act.Hand stay command)) fresh = one_answers acts stay command 0 registry
+      → stays_then r (stays_open acts registry) ≡ stays_open (acts ++ option_to_list (act_in r)) (registry_then registry r)
+  stays_step acts registry (route.Act (act.Hand stay command)) fresh = ap (listing_of (length registry)) (one_answers acts stay command 0 registry)
   stays_step acts registry (route.Act (act.Admit row)) fresh =
-      admitted acts row registry fresh
-      ∙ ap (map (stay_behind (acts ++ act.Admit row ∷ []))) (sym ((open_law capacity.cap registry).admits row))
+      let more = acts ++ act.Admit row ∷ [] in
+      let many : length registry + 1 ≡ length (registry ++ open_stay row ∷ []) = omega (arith, length-append registry (open_stay row ∷ [])) in
+      ap (listing_of (length registry + 1)) (admitted acts row registry fresh ∙ ap (map (stay_behind more)) (sym ((open_law capacity.cap registry).admits row)))
+      ∙ ap (λ made. listing_of made (map (stay_behind more) (open_of (registry ++ open_stay row ∷ [])))) many
   stays_step acts registry (route.Act (act.Leave stay)) fresh =
-      filtered acts stay (open_of registry)
+      let more = acts ++ act.Leave stay ∷ [] in
+      let left = registry_then registry (route.Act (act.Leave stay)) in
+      let many : length registry ≡ length left = sym (length-set registry stay (closed_stay (stay_at registry stay))) in
+      ap (listing_of (length registry)) (filtered acts stay (open_of registry)
       ∙ sym (all_kept acts (act.Leave stay ∷ []) (filter (λ other. not (nat_eq other.0 stay)) (open_of registry)) (λ other. refl))
-      ∙ ap (map (stay_behind (acts ++ act.Leave stay ∷ []))) (sym ((open_law capacity.cap registry).leaves stay))
-  stays_step acts registry (route.Stray kind) fresh = ap (λ all. map (stay_behind all) (open_of registry)) (sym (append-nil acts))
-  stays_step acts registry route.Nowhere fresh = ap (λ all. map (stay_behind all) (open_of registry)) (sym (append-nil acts))
+      ∙ ap (map (stay_behind more)) (sym ((open_law capacity.cap registry).leaves stay)))
+      ∙ ap (λ made. listing_of made (map (stay_behind more) (open_of left))) many
+  stays_step acts registry (route.Stray kind) fresh = ap (λ all. stays_open all registry) (sym (append-nil acts))
+  stays_step acts registry route.Nowhere fresh = ap (λ all. stays_open all registry) (sym (append-nil acts))
 
   fresh_still : (acts more : List Act) (registry new : List Stay) → IsFresh acts registry → length registry ≤ length new
       → ((stay : ℕ) → length new ≤ stay → commands_given stay more ≡ []) → IsFresh (acts ++ more) new
@@ -242,7 +267,7 @@ module _ (capacity : Capacity) where
       sym (get_or-map (λ (entry : Stay). entry.row) registry stay no_stay) ∙ ap (λ all. row_at all stay) rows
 
   text_step : (plan : List GameRow) (acts : List Act) (registry : List Stay) (number : ℕ) (r : Route) → IsAcceptable capacity registry r
-      → rows_in_registry registry ≡ rows_behind plan acts → text_then number r (map (stay_behind acts) (open_of registry)) ≡ route_line plan acts number r
+      → rows_in_registry registry ≡ rows_behind plan acts → text_then number r (stays_open acts registry) ≡ route_line plan acts number r
   unfolding next_line closing_line
   text_step plan acts registry number (route.Act (act.Hand stay command)) is rows =
       let found = found_there acts registry stay is in
@@ -259,8 +284,7 @@ module _ (blocks : ℕ) (version : Version) where
   state acts registry number = record {
     blocks = blocks;
     version = version;
-    open_stays = open_stays_of registry;
-    stays = map (stay_behind acts) (open_of registry);
+    stays = stays_open acts registry;
     number = number;
   }
 
@@ -271,12 +295,11 @@ module _ (blocks : ℕ) (version : Version) where
   one_line acts registry number text fresh =
       let capacity = capacity_of blocks in
       let r = route_at capacity version registry text in
-      let stays = map (stay_behind acts) (open_of registry) in
-      let host : OpenStayList → List (ℕ × LiveStay) → LiveHost
-      = λ open_stays stays. record { blocks = blocks; version = version; open_stays = open_stays; stays = stays; number = number + 1 } in
-      ap (λ (goes : Route). host (open_stays_then (open_stays_of registry) goes) (stays_then (length registry) goes stays)) (sym (same_route capacity registry (line_of version text)))
-      ∙ ap (λ open_stays. host open_stays (stays_then (length registry) r stays)) (sym (same_next capacity registry r))
-      ∙ ap (host (open_stays_of (registry_then registry r))) (stays_step capacity acts registry r fresh)
+      let stays = stays_open acts registry in
+      let host : Listing LiveStay → LiveHost = λ stays. record { blocks = blocks; version = version; stays = stays; number = number + 1 } in
+      ap (λ open_stays. host (stays_then (route_by capacity open_stays (line_of version text)) stays)) (seen_open acts registry)
+      ∙ ap (λ (goes : Route). host (stays_then goes stays)) (sym (same_route capacity registry (line_of version text)))
+      ∙ ap host (stays_step capacity acts registry r fresh)
 
   all_lines : (acts : List Act) (registry : List Stay) (number : ℕ) (lines : List (List ℕ)) → IsFresh acts registry
       → fold live_after (state acts registry number) lines
@@ -297,9 +320,9 @@ module _ (blocks : ℕ) (version : Version) where
 
   begins : (rows : List GameRow) → host_of blocks (record { rows = rows; version = version }) ≡ state [] (opened rows) 2
   begins rows =
-      let host : List (ℕ × LiveStay) → LiveHost
-      = λ stays. record { blocks = blocks; version = version; open_stays = open_stays_of (opened rows); stays = stays; number = 2 } in
-      ap (λ stays. host (map (stay_behind []) stays)) (sym (rows_are_open 0 rows))
+      let host : Listing LiveStay → LiveHost = λ stays. record { blocks = blocks; version = version; stays = stays; number = 2 } in
+      ap (λ stays. host (listing_of (length rows) (map (stay_behind []) stays))) (sym (rows_are_open 0 rows))
+      ∙ ap (λ made. host (listing_of made (map (stay_behind []) (open_of (opened rows))))) (sym (length-map rows open_stay))
 
   module _ (plan : List GameRow) where
     state_is : (lines : List (List ℕ)) (host : LiveHost) → HasAnswered blocks version plan lines host
@@ -317,7 +340,8 @@ module _ (blocks : ℕ) (version : Version) where
         let registry = stays_left blocks version plan lines in
         let l = line_of version text in
         ap (λ host. live_text host text) (state_is lines host is)
-        ∙ ap (λ goes. text_then (2 + length lines) goes (map (stay_behind acts) (open_of registry))) (sym (same_route capacity registry l))
+        ∙ ap (λ open_stays. text_then (2 + length lines) (route_by capacity open_stays l) (stays_open acts registry)) (seen_open acts registry)
+        ∙ ap (λ goes. text_then (2 + length lines) goes (stays_open acts registry)) (sym (same_route capacity registry l))
         ∙ text_step capacity plan acts registry (2 + length lines) (route_of capacity registry l) (route_acceptable capacity registry l) (rows_left blocks version plan lines)
 
     pub answered_more : (before lines : List (List ℕ)) (host new : LiveHost) → HasAnswered blocks version plan before host → new ≡ fold live_after host lines
@@ -341,20 +365,19 @@ module _ (blocks : ℕ) (version : Version) where
 
 -- a routed line
 
-pub step_is : (host new : LiveHost) (text : List ℕ) (parsed : ParsedLine) (r : Route) (made number : ℕ) (open_stays : OpenStayList) → parsed ≡ parsed_line (line_of host.version text)
-    → r ≡ route_parsed (capacity_of host.blocks) host.open_stays parsed → open_stays ≡ open_stays_then host.open_stays r → made ≡ host.open_stays.made
-    → number ≡ host.number + 1 → new ≡ record host { open_stays = open_stays; stays = stays_then made r host.stays }
+pub step_is : (host new : LiveHost) (text : List ℕ) (parsed : ParsedLine) (r : Route) (number : ℕ) → parsed ≡ parsed_line (line_of host.version text)
+    → r ≡ route_parsed (capacity_of host.blocks) (seen host.stays) parsed → number ≡ host.number + 1 → new ≡ record host { stays = stays_then r host.stays }
     → record new { number = number } ≡ live_after host text
 unfolding live_after
-step_is host new text parsed r made number open_stays is goes after many next moved =
-    let same = route_of_parsed (capacity_of host.blocks) host.open_stays (line_of host.version text) in
-    rw (moved, after, many, next, goes, is, same) refl
+step_is host new text parsed r number is goes next moved =
+    let same = route_of_parsed (capacity_of host.blocks) (seen host.stays) (line_of host.version text) in
+    rw (moved, next, goes, is, same) refl
 
 pub told_is : (host : LiveHost) (text : List ℕ) (parsed : ParsedLine) (r : Route) (old new : List ℕ) → parsed ≡ parsed_line (line_of host.version text)
-    → r ≡ route_parsed (capacity_of host.blocks) host.open_stays parsed → new ≡ old ++ text_then host.number r host.stays → new ≡ old ++ live_text host text
+    → r ≡ route_parsed (capacity_of host.blocks) (seen host.stays) parsed → new ≡ old ++ text_then host.number r host.stays → new ≡ old ++ live_text host text
 unfolding live_text
 told_is host text parsed r old new is goes told =
-    let same = route_of_parsed (capacity_of host.blocks) host.open_stays (line_of host.version text) in
+    let same = route_of_parsed (capacity_of host.blocks) (seen host.stays) (line_of host.version text) in
     rw (goes, is, same) at told
 
 -- one more of the lines that are left

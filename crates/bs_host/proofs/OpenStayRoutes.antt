@@ -1,31 +1,40 @@
 -- The open stays alone decide the routing.
-use Rattle.std.proofs.Common.{◌≡◌, Bool, is_some, ℕ, suc, ◌+◌, ◌-◌, ◌<◌, ◌&&◌, nat_lt, if◌then◌else◌, List, [], ◌∷◌, ◌++◌, Option, Some, None, drop, get_or, length, option_map, inl, inr, refl, sym, ap, ◌∙◌, arith, append-nil, append_assoc, length-append}
-use Rattle.std.specs.List.{enumerate_from, list_any, position}
-use Rattle.std.proofs.lemmas.Bool.{and_parts, cases_Bool, lt-ltb, ltb-true}
-use Rattle.std.proofs.lemmas.List.{drop_all, drop_more, length-map, length-set}
-use Rattle.std.proofs.lemmas.List.Sums.{sum_by-cons}
+use Rattle.std.proofs.Common.{◌≡◌, Bool, true, false, not, is_some, ℕ, ◌+◌, ◌<◌, ◌&&◌, nat_lt, if◌then◌else◌, List, [], ◌∷◌, ◌++◌, Option, Some, None, length, inl, inr, refl, sym, ap, ◌∙◌, arith, length-append}
+use Rattle.std.specs.List.{enumerate_from, list_any}
+use Rattle.std.proofs.lemmas.Bool.{and_parts, cases_Bool, ltb-true, not-true}
+use Rattle.std.proofs.lemmas.List.{length-map, length-set, map-append}
 use Rattle.bs_board.specs.declared.limits.TheConstants.{MOST_ROWS}
-use Rattle.bs_board.specs.plans.Plan.{GameRow, row_of}
+use Rattle.bs_board.specs.plans.Plan.{GameRow}
 use Rattle.bs_board.specs.declared.commands.command.Command.TheVariants as command
 use Rattle.bs_json.specs.declared.line.Line.{Line}
 use Rattle.bs_json.specs.Line.{line_of}
 use Rattle.bs_json.specs.declared.line.Line.TheVariants as line
 use Rattle.bs_json.specs.declared.line.Stray.TheVariants as stray
-use Rattle.bs_sched.specs.PlanBlocks.{blocks_of}
-use Rattle.bs_sched.specs.declared.plan_blocks.TheConstants.{MOST_STAYS}
-use Rattle.bs_sched.specs.Stays.{Capacity, Stay, closed_stay, open_stay, stay_at}
+use Rattle.bs_registry.specs.declared.registry.Listed.{Listed}
+use Rattle.bs_registry.specs.Registry.{Listing, listed_from, listing_of, row_open, rows_open, seen, with_stay, without_stay}
+use Rattle.bs_registry.specs.declared.blocks.TheConstants.{MOST_STAYS}
+use Rattle.bs_registry.specs.Stays.{Capacity, Stay, closed_stay, open_stay, stay_at}
 use Rattle.bs_workers.specs.Acts.{opened}
 use Rattle.bs_workers.specs.declared.act.Act.TheVariants as act
 use Rattle.bs_host.specs.declared.route.Route.{Route}
-use Rattle.bs_host.specs.OpenStays.{open_from, open_of, OpenStayList}
-use Rattle.bs_host.specs.inner.OpenStays.{bears, blocks_in, found_in, own_by_open_stays, open_stays_of, open_stays_then, refusal_by, route_by, routes_by_open_stays}
+use Rattle.bs_registry.specs.OpenStays.{open_from, open_of, OpenStayList}
+use Rattle.bs_registry.specs.OpenStays.{bears, found_in}
+use Rattle.bs_registry.specs.inner.OpenStays.{open_stays_of, refusal_by}
+use Rattle.bs_host.specs.inner.OpenStays.{may_follow, own_by_open_stays, open_stays_then, route_by, routes_by_open_stays}
 use Rattle.bs_host.specs.Cut.{is_own_line, own_lines_in}
 use Rattle.bs_host.specs.inner.Laws.{OpenStayLinesLaw, OpenStaysLaw}
-use Rattle.bs_host.specs.Routing.{command_to, admit_refusal, admit_route, registry_then, hand_route, leave_route, next_registry, route_at, route_of, routes_from}
+use Rattle.bs_host.specs.Routing.{command_to, admit_refusal, admit_route, registry_then, hand_route, leave_route, next_registry, route_at, route_of, routes_from, stray_for}
 use Rattle.bs_host.specs.declared.route.Route.TheVariants as route
-use Rattle.bs_host.proofs.OpenStays.{open_law, position_behind}
+use Rattle.bs_registry.proofs.OpenStays.{open_law}
+use Rattle.bs_registry.proofs.Planned.{rows_listed}
+use Rattle.bs_registry.proofs.Rows.{filtered_rows}
+use Rattle.bs_host.specs.declared.parse.ParsedLine.{ParsedLine}
+use Rattle.bs_host.specs.declared.parse.ParsedLine.TheVariants as parsed
+use Rattle.bs_host.specs.inner.Parsed.{route_parsed}
+use Rattle.bs_json.specs.declared.line.Stray.{Stray}
+use Rattle.bs_board.specs.declared.commands.command.Command.{Command}
 
-same_refusal : (capacity : Capacity) (registry : List Stay) (row : GameRow) → admit_refusal capacity registry row ≡ refusal_by capacity (open_stays_of registry) row
+same_refusal : (capacity : Capacity) (registry : List Stay) (row : GameRow) → admit_refusal capacity registry row ≡ stray_for (refusal_by capacity (open_stays_of registry) row)
 same_refusal capacity registry row =
     let told = open_law capacity.cap registry in
     let any = told.any row.game in
@@ -86,79 +95,68 @@ open_stay_lines_law capacity version stay registry (text ∷ lines) =
     ∙ ap (if_own (is_some (command_to stay r)) text) rest
     ∙ sym (same_if (is_some (command_to stay r)) text (own_by_open_stays capacity version (open_stays_then (open_stays_of registry) r) stay lines))
 
--- the stay of a name is the first open one with it
-
-abbrev number_at : List (ℕ × GameRow) → ℕ × GameRow → ℕ → ℕ
-number_at stays d i = (get_or stays i d).0
-
-shifted : (stay : ℕ × GameRow) (stays : List (ℕ × GameRow)) (d : ℕ × GameRow) (o : Option ℕ)
-    → option_map (number_at stays d) o ≡ option_map (number_at (stay ∷ stays) d) (option_map (λ i. 1 + i) o)
-shifted stay stays d None = refl
-shifted stay stays d (Some i) = let e : suc i ≡ 1 + i = omega arith in ap (λ n. Some (number_at (stay ∷ stays) d n)) e
-
-found_by_position : (name : List ℕ) (stays : List (ℕ × GameRow)) (d : ℕ × GameRow) → found_in name stays ≡ option_map (number_at stays d) (position (bears name) stays)
-found_by_position name [] d = refl
-found_by_position name (stay ∷ stays) d = elim (cases_Bool (bears name stay)) [
-  | inl hit ↦
-      let first : found_in name (stay ∷ stays) ≡ Some stay.0 = rw hit refl in
-      let at : position (bears name) (stay ∷ stays) ≡ Some 0 = (let more = lt-ltb 0 (suc (length stays)) (omega arith) in rw (hit, more) refl) in
-      first ∙ sym (ap (option_map (number_at (stay ∷ stays) d)) at)
-  | inr miss ↦
-      let skipped : found_in name (stay ∷ stays) ≡ found_in name stays = rw miss refl in
-      skipped ∙ found_by_position name stays d ∙ shifted stay stays d (position (bears name) stays)
-      ∙ sym (ap (option_map (number_at (stay ∷ stays) d)) (position_behind (bears name) stay stays miss))
-]
-
-pub found_at : (name : List ℕ) (stays : List (ℕ × GameRow)) (place : ℕ) (d : ℕ × GameRow) → Some place ≡ position (bears name) stays
-    → Some (get_or stays place d).0 ≡ found_in name stays
-found_at name stays place d is = ap (option_map (number_at stays d)) is ∙ sym (found_by_position name stays d)
-
-pub found_nowhere : (name : List ℕ) (stays : List (ℕ × GameRow)) → None ≡ position (bears name) stays → None ≡ found_in name stays
-found_nowhere name stays none = ap (option_map (number_at stays (0, row_of [] 0))) none ∙ sym (found_by_position name stays (0, row_of [] 0))
-
 -- the plan's rows are open at first
 
 pub rows_are_open : (first : ℕ) (rows : List GameRow) → open_from first (opened rows) ≡ enumerate_from first rows
 rows_are_open first [] = refl
 rows_are_open first (row ∷ rows) = ap (λ rest. (first, row) ∷ rest) (rows_are_open (first + 1) rows)
 
-pub one_more_open : (rows : List GameRow) (stay : ℕ) (row : GameRow) (old new : List (ℕ × GameRow)) → stay < length rows → row ≡ get_or rows stay (row_of [] 0)
-    → new ≡ old ++ (stay, row) ∷ [] → old ++ enumerate_from stay (drop stay rows) ≡ enumerate_from 0 rows
-    → new ++ enumerate_from (stay + 1) (drop (stay + 1) rows) ≡ enumerate_from 0 rows
-one_more_open rows stay row old new within is pushed before =
-    let next = ap (enumerate_from stay) (drop_more rows stay (row_of [] 0) within) in
-    ap (λ stays. stays ++ enumerate_from (stay + 1) (drop (stay + 1) rows)) pushed
-    ∙ append_assoc old ((stay, row) ∷ []) (enumerate_from (stay + 1) (drop (stay + 1) rows))
-    ∙ ap (λ first. old ++ (stay, first) ∷ enumerate_from (stay + 1) (drop (stay + 1) rows)) is
-    ∙ ap (λ stays. old ++ stays) (sym next) ∙ before
+module _ {X : Type 0} where
+  -- the open rows of a plan
 
--- the stays behind the last row
-pub all_stays : (all : List GameRow) (stays : List (ℕ × GameRow)) (end : ℕ) → end ≡ length all
-    → stays ++ enumerate_from end (drop end all) ≡ enumerate_from 0 all → stays ≡ enumerate_from 0 all
-all_stays all stays end is before =
-    let none : [] ≡ drop end all = sym (drop_all end all (omega (arith, is))) in
-    sym (append-nil stays) ∙ ap (λ left. stays ++ enumerate_from end left) none ∙ before
+  pub listed_rows : (kept : GameRow → X) (rows all : List GameRow) (stays : List (Listed X)) → all ≡ rows → stays ≡ listed_from kept 0 all
+      → rows_open stays ≡ enumerate_from 0 rows
+  listed_rows kept rows all stays same are = ap rows_open are ∙ rows_listed kept 0 all ∙ ap (enumerate_from 0) same
 
-pub all_open : (rows all : List GameRow) (stays : List (ℕ × GameRow)) → all ≡ rows
-    → stays ≡ enumerate_from 0 all → open_stays_with (length all) stays ≡ open_stays_of (opened rows)
-all_open rows all stays same are =
-    ap (λ list. open_stays_with (length all) list) (are ∙ ap (enumerate_from 0) same ∙ sym (rows_are_open 0 rows))
-    ∙ ap (λ n. open_stays_with n (open_of (opened rows))) (ap length same ∙ sym (length-map rows open_stay))
+  pub plan_open : (rows : List GameRow) (stays : List (Listed X)) → rows_open stays ≡ enumerate_from 0 rows
+      → seen (listing_of (length rows) stays) ≡ open_stays_of (opened rows)
+  plan_open rows stays are =
+      ap (open_stays_with (length rows)) (are ∙ sym (rows_are_open 0 rows))
+      ∙ ap (λ n. open_stays_with n (open_of (opened rows))) (sym (length-map rows open_stay))
 
--- if nothing refuses a row, there is a number for it
-pub room_for_one : (capacity : Capacity) (open_stays : OpenStayList) (row : GameRow) → refusal_by capacity open_stays row ≡ None → open_stays.made < MOST_STAYS
-room_for_one capacity open_stays row none = elim (cases_Bool (list_any (bears row.game) open_stays.stays)) [
+  -- one more stay, and one stay less
+
+  pub seen_pushed : (row : GameRow) (kept : X) (stays : Listing X) → seen (with_stay row kept stays) ≡ open_stays_then (seen stays) (route.Act (act.Admit row))
+  seen_pushed row kept stays =
+      ap (open_stays_with (stays.made + 1)) (map-append row_open stays.stays (record { number = stays.made; row = row; kept = kept } ∷ []))
+
+  pub seen_removed : (number : ℕ) (stays : Listing X) → seen (without_stay number stays) ≡ open_stays_then (seen stays) (route.Act (act.Leave number))
+  seen_removed number stays = ap (open_stays_with stays.made) (filtered_rows number stays.stays)
+
+pub may_push : (open_stays : OpenStayList) (row : GameRow) → may_follow open_stays (route.Act (act.Admit row)) ≡ true
+    → (list_any (bears row.game) open_stays.stays ≡ false) × (open_stays.made < MOST_STAYS)
+may_push open_stays row may =
+    let both = and_parts (not (list_any (bears row.game) open_stays.stays)) (nat_lt open_stays.made MOST_STAYS) may in
+    (not-true (list_any (bears row.game) open_stays.stays) both.0, ltb-true open_stays.made MOST_STAYS both.1)
+
+-- if nothing refuses a row, its name is new, and there is a number for it
+pub unrefused : (capacity : Capacity) (open_stays : OpenStayList) (row : GameRow) → stray_for (refusal_by capacity open_stays row) ≡ None
+    → (list_any (bears row.game) open_stays.stays ≡ false) × (nat_lt open_stays.made MOST_STAYS ≡ true)
+unrefused capacity open_stays row none = elim (cases_Bool (list_any (bears row.game) open_stays.stays)) [
   | inl same ↦ let wrong : Some stray.NameOpen ≡ None = rw same at none in absurd cc
   | inr new ↦ elim (cases_Bool (nat_lt (length open_stays.stays) MOST_ROWS && nat_lt open_stays.made MOST_STAYS)) [
-    | inl fits ↦ ltb-true open_stays.made MOST_STAYS (and_parts (nat_lt (length open_stays.stays) MOST_ROWS) (nat_lt open_stays.made MOST_STAYS) fits).1
+    | inl fits ↦ (new, (and_parts (nat_lt (length open_stays.stays) MOST_ROWS) (nat_lt open_stays.made MOST_STAYS) fits).1)
     | inr full ↦ let wrong : Some stray.Full ≡ None = rw (new, full) at none in absurd cc
   ]
 ]
 
--- the free blocks after one more open stay is counted
-pub one_less_left : (cap : ℕ) (stays : List (ℕ × GameRow)) (index : ℕ) (d : ℕ × GameRow) (old new total : ℕ) → index < length stays
-    → new ≡ old - blocks_of cap (get_or stays index d).1 → old - blocks_in cap (drop index stays) ≡ total → new - blocks_in cap (drop (index + 1) stays) ≡ total
-one_less_left cap stays index d old new total within is before =
-    let next = ap (blocks_in cap) (drop_more stays index d within) in
-    let one = sum_by-cons (λ (stay : ℕ × GameRow). blocks_of cap stay.1) (get_or stays index d) (drop (index + 1) stays) in
-    omega (arith, is, before, next, one)
+follows_admit : (open_stays : OpenStayList) (row : GameRow) (found : Option Stray)
+    → (found ≡ None → (list_any (bears row.game) open_stays.stays ≡ false) × (nat_lt open_stays.made MOST_STAYS ≡ true)) → may_follow open_stays (admit_route found row) ≡ true
+follows_admit open_stays row None is = let both = is refl in rw (both.0, both.1) refl
+follows_admit open_stays row (Some kind) is = refl
+
+follows_hand : (open_stays : OpenStayList) (found : Option ℕ) (command : Command) → may_follow open_stays (hand_route found command) ≡ true
+follows_hand open_stays None command = refl
+follows_hand open_stays (Some stay) command = refl
+
+follows_leave : (open_stays : OpenStayList) (found : Option ℕ) → may_follow open_stays (leave_route found) ≡ true
+follows_leave open_stays None = refl
+follows_leave open_stays (Some stay) = refl
+
+-- what routing admits may be opened
+pub routed_follows : (capacity : Capacity) (open_stays : OpenStayList) (l : ParsedLine) → may_follow open_stays (route_parsed capacity open_stays l) ≡ true
+routed_follows capacity open_stays (parsed.Command game command) = follows_hand open_stays (found_in game open_stays.stays) command
+routed_follows capacity open_stays (parsed.Stray kind) = refl
+routed_follows capacity open_stays parsed.Blank = refl
+routed_follows capacity open_stays (parsed.Admit row) = follows_admit open_stays row (stray_for (refusal_by capacity open_stays row)) (unrefused capacity open_stays row)
+routed_follows capacity open_stays (parsed.Leave game) = follows_leave open_stays (found_in game open_stays.stays)

@@ -14,7 +14,7 @@ use Rattle.bs_json.specs.declared.line.Line.{Line}
 use Rattle.bs_json.specs.declared.line.Stray.{Stray}
 use Rattle.bs_json.specs.Line.{line_of}
 use Rattle.bs_json.specs.declared.line.Line.TheVariants as line
-use Rattle.bs_sched.specs.Stays.{Capacity, Stay, closed_stay, has_name, no_stay, open_stay, stay_at}
+use Rattle.bs_registry.specs.Stays.{Capacity, Stay, closed_stay, has_name, no_stay, open_stay, stay_at}
 use Rattle.bs_workers.specs.Acts.{opened, stay_named}
 use Rattle.bs_workers.specs.declared.act.Act.TheVariants as act
 use Rattle.bs_host.specs.File.{pieces_of, later_pieces, rows_of, version_of}

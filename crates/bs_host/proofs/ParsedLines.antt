@@ -1,22 +1,23 @@
 -- Parsed lines, and their routes.
-use Rattle.std.proofs.Common.{◌≡◌, ℕ, ◌+◌, ◌<◌, List, [], ◌∷◌, ◌++◌, Option, Some, None, length, drop, get_or, refl, sym, ap, subst, ◌∙◌, arith, append-nil, append_assoc}
+use Rattle.std.proofs.Common.{◌≡◌, ℕ, ◌+◌, ◌<◌, List, [], ◌∷◌, ◌++◌, Option, Some, None, length, refl, sym, ap, subst, ◌∙◌, arith, append-nil, append_assoc}
 use Rattle.std.specs.Prelude.{Result, Ok, Err, option_map, option_to_list, unwrap_or, IfOk, IfSome}
 use Rattle.std.specs.Borrow.{Bor}
 use Rattle.std.specs.List.{cons_option}
-use Rattle.std.proofs.lemmas.List.{drop_all, drop_more, map-append}
+use Rattle.std.proofs.lemmas.List.{map-append}
 use Rattle.bs_board.specs.declared.plans.plan.Plan.{Plan}
 use Rattle.bs_board.specs.declared.plans.version.Version.{Version}
 use Rattle.bs_board.specs.plans.Plan.{GameRow}
 use Rattle.bs_json.specs.declared.line.Line.{Line}
 use Rattle.bs_json.specs.declared.line.Line.TheVariants as line
 use Rattle.bs_json.specs.Line.{line_of}
-use Rattle.bs_sched.specs.Stays.{Capacity}
+use Rattle.bs_registry.specs.Stays.{Capacity}
 use Rattle.bs_workers.specs.Acts.{opened}
 use Rattle.bs_host.specs.declared.parse.ParsedLine.{ParsedLine}
 use Rattle.bs_host.specs.declared.route.Requests.{Requests}
 use Rattle.bs_host.specs.declared.route.Route.{Route}
-use Rattle.bs_host.specs.OpenStays.{OpenStayList}
-use Rattle.bs_host.specs.inner.OpenStays.{open_stays_of, open_stays_then, route_by, routes_by_open_stays}
+use Rattle.bs_registry.specs.OpenStays.{OpenStayList}
+use Rattle.bs_registry.specs.inner.OpenStays.{open_stays_of}
+use Rattle.bs_host.specs.inner.OpenStays.{open_stays_then, route_by, routes_by_open_stays}
 use Rattle.bs_host.specs.inner.Parsed.{parsed_line, parsed_lines, route_parsed, routes_parsed}
 use Rattle.bs_host.specs.Routing.{act_in, acts_in, numbered_stray, routes_from, strays_in}
 use Rattle.bs_host.specs.inner.Routing.{IsRouted}

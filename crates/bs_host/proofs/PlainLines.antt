@@ -16,7 +16,7 @@ use Rattle.bs_json.specs.Values.{text_at, value_of}
 use Rattle.bs_json.specs.declared.line.Line.{Line}
 use Rattle.bs_json.specs.declared.line.Line.TheVariants as line
 use Rattle.bs_transcript.specs.Lines.{stray_lines_of}
-use Rattle.bs_sched.specs.Stays.{Capacity, Stay}
+use Rattle.bs_registry.specs.Stays.{Capacity, Stay}
 use Rattle.bs_workers.specs.Acts.{opened, rows_in_registry, stay_named}
 use Rattle.bs_host.specs.declared.route.Route.{Route}
 use Rattle.bs_host.specs.Laws.{EarlyLaw}

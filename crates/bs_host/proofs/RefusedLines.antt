@@ -6,28 +6,29 @@ use Rattle.std.proofs.lemmas.Bool.{and_from, cases_Bool, lt-ltb}
 use Rattle.std.proofs.lemmas.List.{length-map}
 use Rattle.bs_board.specs.Texts.{is_same_text}
 use Rattle.bs_json.specs.declared.line.Stray.{Stray}
+use Rattle.bs_registry.specs.declared.refusal.Refusal.{Refusal}
+use Rattle.bs_registry.specs.declared.refusal.Refusal.TheVariants as refused
 use Rattle.bs_sched.specs.declared.stays.Admit.{Admit}
 use Rattle.bs_sched.specs.declared.stays.Admit.TheVariants as admit
 use Rattle.bs_sched.specs.Coming.{IsFirstRefusal}
 use Rattle.bs_sched.specs.Lane.{is_quiet, no_lane}
 use Rattle.bs_sched.specs.Machine.{lane_of}
 use Rattle.bs_sched.specs.Registry.{capacity_of, registry_of, stay_of}
-use Rattle.bs_sched.specs.Stays.{first_refusal, has_name, is_in, no_stay, stay_at}
+use Rattle.bs_registry.specs.Stays.{first_refusal, has_name, is_in, no_stay, stay_at}
 use Rattle.bs_sched.proofs.Registry.{registry_law}
 use Rattle.bs_host.specs.Laws.{CoreLaw}
-use Rattle.bs_host.specs.Routing.{stray_for}
+use Rattle.bs_host.specs.Routing.{stray_for, stray_of}
 use Rattle.bs_host.proofs.ActsLaw.{named_is_in}
 use Rattle.bs_host.proofs.FitStays.{may_come}
-use Rattle.bs_host.proofs.OpenStays.{position_behind}
+use Rattle.bs_registry.proofs.OpenStays.{position_behind}
 
-told_first : (found : Option Admit) (kind : Stray) → stray_for found ≡ Some kind → (refusal : Admit) × ((stray_for (Some refusal) ≡ Some kind) × IsFirstRefusal found refusal)
+told_first : (found : Option Refusal) (kind : Stray) → stray_for found ≡ Some kind → (refusal : Admit) × ((stray_of refusal ≡ Some kind) × IsFirstRefusal found refusal)
 told_first None kind is = absurd cc
-told_first (Some admit.NameOpen) kind is = (admit.NameOpen, (is, refl))
-told_first (Some admit.Full) kind is = (admit.Full, (is, refl))
-told_first (Some (admit.Short free)) kind is = (admit.Short free, (is, refl))
-told_first (Some admit.Memory) kind is = absurd cc
+told_first (Some refused.NameOpen) kind is = (admit.NameOpen, (is, refl))
+told_first (Some refused.Full) kind is = (admit.Full, (is, refl))
+told_first (Some (refused.Short free)) kind is = (admit.Short free, (is, refl))
 
-first_told : (found : Option Admit) (refusal : Admit) → IsFirstRefusal found refusal → stray_for found ≡ stray_for (Some refusal)
+first_told : (found : Option Refusal) (refusal : Admit) → IsFirstRefusal found refusal → stray_for found ≡ stray_of refusal
 first_told found admit.NameOpen is = ap stray_for is
 first_told found admit.Full is = ap stray_for is
 first_told found (admit.Short free) is = ap stray_for is

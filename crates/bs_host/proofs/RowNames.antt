@@ -1,14 +1,12 @@
 -- The row of a name in a plan with distinct names.
-use Rattle.std.proofs.Common.{◌≡◌, ℕ, ◌<◌, suc, zero, true, false, not, Bool, List, [], ◌∷◌, Some, length, get_or, refl, inl, inr, arith}
+use Rattle.std.proofs.Common.{◌≡◌, ℕ, ◌<◌, true, List, [], Some, length, refl}
 use Rattle.std.specs.Prelude.{Option, slice_index_or}
-use Rattle.std.specs.List.{list_any, position, position_or_len}
-use Rattle.std.proofs.lemmas.Bool.{cases_Bool, lt-ltb}
-use Rattle.std.proofs.lemmas.List.Folds.{list_any_at}
+use Rattle.std.specs.List.{position}
+use Rattle.std.proofs.lemmas.Bool.{lt-ltb}
 use Rattle.std.proofs.lemmas.Slice.Eq.{bytes_eq-Decides}
-use Rattle.bs_board.specs.Distinct.{are_distinct}
 use Rattle.bs_board.specs.plans.Plan.{GameRow, IsFitPlan, row_of}
 use Rattle.bs_board.specs.Texts.{is_same_text}
-use Rattle.bs_board.proofs.Chains.{and_both}
+use Rattle.bs_registry.proofs.NamedOnce.{only_first}
 
 -- the row of that name, if there is one
 abbrev pub row_named : List GameRow → List ℕ → Option ℕ
@@ -18,23 +16,6 @@ row_named rows game = position (λ row. is_same_text game row.game) rows
 pub record HasName (rows : List GameRow) (row : ℕ) (game : List ℕ) : Type 0 where
   pub within : row < length rows
   pub same : is_same_text game (slice_index_or rows row (row_of [] 0)).game ≡ true
-
--- If no two elements of a list pass a test, an element that passes it is the first one that passes.
-pub only_first : {X : Type 0} (same : X → X → Bool) (p : X → Bool) → ((x y : X) → p x ≡ true → p y ≡ true → same x y ≡ true)
-    → (xs : List X) (i : ℕ) (d : X) → are_distinct same xs ≡ true → i < length xs → p (get_or xs i d) ≡ true → position_or_len p xs ≡ i
-only_first same p alike [] i d distinct within hit = absurd (omega arith)
-only_first same p alike (x ∷ xs) zero d distinct within hit = rw hit refl
-only_first same p alike (x ∷ xs) (suc i) d distinct within hit =
-    let apart : (not (list_any (same x) xs) ≡ true) × (are_distinct same xs ≡ true) = and_both _ _ distinct in
-    elim (cases_Bool (p x)) [
-      | inl on ↦
-          let twice : list_any (same x) xs ≡ true = list_any_at (same x) xs i d (omega (arith, within)) (alike x (get_or xs i d) on hit) in
-          let wrong : false ≡ true = rw twice at apart.0 in
-          absurd cc
-      | inr off ↦
-          let behind : position_or_len p xs ≡ i = only_first same p alike xs i d apart.1 (omega (arith, within)) hit in
-          rw off (omega (arith, behind))
-    ]
 
 same_names : (name : List ℕ) (r s : GameRow) → is_same_text name r.game ≡ true → is_same_text name s.game ≡ true → is_same_text r.game s.game ≡ true
 same_names name r s one two =

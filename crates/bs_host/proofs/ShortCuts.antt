@@ -17,7 +17,7 @@ use Rattle.bs_json.specs.declared.line.Line.TheVariants as line
 use Rattle.bs_json.specs.declared.line.Stray.{Stray}
 use Rattle.bs_json.specs.declared.plan.PlanFault.{PlanFault}
 use Rattle.bs_json.specs.Line.{line_of}
-use Rattle.bs_sched.specs.Stays.{Capacity, Stay, closed_stay, no_stay, open_stay, stay_at}
+use Rattle.bs_registry.specs.Stays.{Capacity, Stay, closed_stay, no_stay, open_stay, stay_at}
 use Rattle.bs_workers.specs.Acts.{opened, stay_named}
 use Rattle.bs_host.specs.declared.lines.TheConstants.{LINE_FEED}
 use Rattle.bs_host.specs.Cut.{is_own_line, lone_plan_of, own_lines_in, row_at}

@@ -13,7 +13,7 @@ use Rattle.bs_json.specs.declared.line.Line.{Line}
 use Rattle.bs_json.specs.declared.line.Stray.{Stray}
 use Rattle.bs_json.specs.Line.{line_of}
 use Rattle.bs_json.specs.declared.line.Line.TheVariants as line
-use Rattle.bs_sched.specs.Stays.{Capacity, Stay, has_name, no_stay, stay_at}
+use Rattle.bs_registry.specs.Stays.{Capacity, Stay, has_name, no_stay, stay_at}
 use Rattle.bs_workers.specs.Acts.{opened, stay_named}
 use Rattle.bs_host.specs.Cut.{is_own_line, own_lines_in}
 use Rattle.bs_host.specs.Routing.{admit_refusal, admit_route, registry_behind, registry_then, command_to, commands_to, hand_route, leave_route, next_registry, route_at, route_of, routes_from, stray_kind, strays_in}

@@ -4,7 +4,7 @@ use Rattle.std.proofs.Math.ListN.{get_or-map}
 use Rattle.std.proofs.lemmas.Bool.{cases_eq}
 use Rattle.std.proofs.lemmas.List.{get_or_append_left, get_or-set_same, get_or-set_other, length-set}
 use Rattle.bs_board.specs.declared.plans.version.Version.{Version}
-use Rattle.bs_sched.specs.Stays.{Capacity, Stay, closed_stay, no_stay, open_stay, stay_at}
+use Rattle.bs_registry.specs.Stays.{Capacity, Stay, closed_stay, no_stay, open_stay, stay_at}
 use Rattle.bs_workers.specs.Acts.{rows_in_registry}
 use Rattle.bs_workers.specs.declared.act.Act.TheVariants as act
 use Rattle.bs_host.specs.declared.route.Route.{Route}

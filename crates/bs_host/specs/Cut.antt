@@ -14,8 +14,8 @@ use Rattle.bs_board.specs.Texts.{is_same_text}
 use Rattle.bs_json.specs.declared.plan.PlanFault.{PlanFault}
 use Rattle.bs_json.specs.declared.plan.PlanFault.TheVariants as plan
 use Rattle.bs_json.specs.Boards.{object_of, whole_data}
-use Rattle.bs_sched.specs.PlanBlocks.{blocks_of_all}
-use Rattle.bs_sched.specs.Stays.{Capacity, Stay}
+use Rattle.bs_registry.specs.Blocks.{blocks_of_all}
+use Rattle.bs_registry.specs.Stays.{Capacity, Stay}
 use Rattle.bs_workers.specs.Acts.{opened}
 use Rattle.bs_host.specs.declared.cut_fault.Cut.{Cut}
 use Rattle.bs_host.specs.declared.cut_fault.Cut.TheVariants.{TooLong, Plan as OfPlan, NoSuchGame, Memory}

@@ -6,7 +6,7 @@ use Rattle.bs_json.specs.declared.plan.PlanFault.{PlanFault}
 use Rattle.bs_json.specs.declared.plan.PlanFault.TheVariants as plan
 use Rattle.bs_sched.specs.declared.opening.Open.{Open}
 use Rattle.bs_sched.specs.declared.opening.Open.TheVariants as opening
-use Rattle.bs_sched.specs.PlanBlocks.{blocks_of_all}
+use Rattle.bs_registry.specs.Blocks.{blocks_of_all}
 use Rattle.bs_transcript.specs.declared.fault.TranscriptFault.{TranscriptFault}
 use Rattle.bs_transcript.specs.declared.fault.TranscriptFault.TheVariants as transcript
 use Rattle.bs_workers.specs.declared.fault.Run.{Run}

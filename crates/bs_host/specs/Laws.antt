@@ -21,7 +21,7 @@ use Rattle.bs_host.specs.Cut.{nth_stay, own_lines_of, row_at}
 use Rattle.bs_host.specs.File.{pieces_of, later_pieces, rows_of, version_of}
 use Rattle.bs_host.specs.declared.limits.TheConstants.{MOST_FILE_BYTES}
 use Rattle.bs_host.specs.declared.route.Route.TheVariants as route
-use Rattle.bs_host.specs.Routing.{admit_refusal, behind_admit, capacity_of, is_command_for, registry_behind, route_at, stays_of, stray_for, until_leave}
+use Rattle.bs_host.specs.Routing.{admit_refusal, behind_admit, capacity_of, is_command_for, registry_behind, route_at, stays_of, stray_of, until_leave}
 use Rattle.bs_host.specs.Transcript.{transcript_of}
 
 -- A stay's own lines are those that name its game, between its `admit` and its `leave`.
@@ -55,9 +55,9 @@ FoundLaw = (blocks : ℕ) (file name : List ℕ) (n stay : ℕ) → nth_stay blo
 -- enabled, and is refused if each stay of the name is closed, as the core would refuse it.
 pub record RefusesAsCore (setting : Setting) (lanes : List Lane) : Type 0 where
   pub refused : (row : GameRow) (kind : Stray) → admit_refusal (capacity_in setting) (registry_of lanes) row ≡ Some kind
-      → (refusal : Admit) × ((stray_for (Some refusal) ≡ Some kind) × RefusesAdmit setting lanes row refusal)
+      → (refusal : Admit) × ((stray_of refusal ≡ Some kind) × RefusesAdmit setting lanes row refusal)
   pub reason : (row : GameRow) (refusal : Admit) → RefusesAdmit setting lanes row refusal
-      → admit_refusal (capacity_in setting) (registry_of lanes) row ≡ stray_for (Some refusal)
+      → admit_refusal (capacity_in setting) (registry_of lanes) row ≡ stray_of refusal
   pub admitted : (row : GameRow) → admit_refusal (capacity_in setting) (registry_of lanes) row ≡ None → is_enabled setting lanes (event.Admit row) ≡ true
   pub hands : (name : List ℕ) (stay : ℕ) (command : Command) → stay_named (registry_of lanes) name ≡ Some stay
       → is_enabled setting lanes (event.Hand stay command) ≡ true

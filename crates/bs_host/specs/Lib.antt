@@ -1,7 +1,6 @@
 pub mod Cut
 pub mod Faults
 pub mod File
-pub mod OpenStays
 pub mod Hosted
 pub mod Laws
 pub mod Live

@@ -9,7 +9,7 @@ use Rattle.bs_board.specs.plans.Plan.{GameRow}
 use Rattle.bs_json.specs.Replies.{reply_line_of, stray_line_of}
 use Rattle.bs_game.specs.Alone.{alone}
 use Rattle.bs_game.specs.Answer.{answer_to}
-use Rattle.bs_sched.specs.Stays.{Stay}
+use Rattle.bs_registry.specs.Stays.{Stay}
 use Rattle.bs_transcript.specs.Lines.{last_line_of, stray_lines_of}
 use Rattle.bs_workers.specs.declared.act.Act.{Act}
 use Rattle.bs_workers.specs.declared.act.Act.TheVariants as act
@@ -18,7 +18,7 @@ use Rattle.bs_host.specs.declared.route.Route.{Route}
 use Rattle.bs_host.specs.declared.route.Route.TheVariants as route
 use Rattle.bs_host.specs.Cut.{row_at}
 use Rattle.bs_host.specs.File.{later_pieces, pieces_of, rows_of, version_of}
-use Rattle.bs_host.specs.OpenStays.{open_of}
+use Rattle.bs_registry.specs.OpenStays.{open_of}
 use Rattle.bs_host.specs.Routing.{acts_in, capacity_of, commands_of, registry_behind, route_at, routes_from, stays_of, strays_of}
 use Rattle.bs_host.specs.Transcript.{section_of, transcript_of}
 

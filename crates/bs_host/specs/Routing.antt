@@ -16,7 +16,9 @@ use Rattle.bs_workers.specs.declared.act.Act.{Act}
 use Rattle.bs_workers.specs.declared.act.Act.TheVariants as act
 use Rattle.bs_sched.specs.declared.stays.Admit.{Admit}
 use Rattle.bs_sched.specs.declared.stays.Admit.TheVariants as admit
-use Rattle.bs_sched.specs.Stays.{Capacity, Stay, first_refusal}
+use Rattle.bs_registry.specs.declared.refusal.Refusal.{Refusal}
+use Rattle.bs_registry.specs.declared.refusal.Refusal.TheVariants as refused
+use Rattle.bs_registry.specs.Stays.{Capacity, Stay, first_refusal}
 use Rattle.bs_workers.specs.Acts.{stay_named, registry_after, command_in, opened, rows_in_registry}
 use Rattle.bs_host.specs.declared.limits.TheConstants.{BLOCK_BYTES}
 use Rattle.bs_host.specs.declared.route.Route.{Route}
@@ -24,14 +26,20 @@ use Rattle.bs_host.specs.declared.route.Route.TheVariants as route
 use Rattle.bs_host.specs.File.{pieces_of, later_pieces, rows_of, version_of}
 
 -- One line.
--- The stray line for a core's refusal of an admission. The host never refuses one because memory
+-- The stray line for a refusal of an admission. The host never refuses one because memory
 -- ran out.
-abbrev pub stray_for : Option Admit → Option Stray
+abbrev pub stray_for : Option Refusal → Option Stray
 stray_for None = None
-stray_for (Some admit.NameOpen) = Some stray.NameOpen
-stray_for (Some admit.Full) = Some stray.Full
-stray_for (Some (admit.Short free)) = Some stray.Short
-stray_for (Some admit.Memory) = None
+stray_for (Some refused.NameOpen) = Some stray.NameOpen
+stray_for (Some refused.Full) = Some stray.Full
+stray_for (Some (refused.Short free)) = Some stray.Short
+
+-- and for what the core answers
+abbrev pub stray_of : Admit → Option Stray
+stray_of admit.NameOpen = Some stray.NameOpen
+stray_of admit.Full = Some stray.Full
+stray_of (admit.Short free) = Some stray.Short
+stray_of admit.Memory = None
 
 -- the first reason against admitting a row, which is the core's
 abbrev pub admit_refusal : Capacity → List Stay → GameRow → Option Stray

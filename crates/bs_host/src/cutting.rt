@@ -10,7 +10,9 @@ ghost use Rattle.bs_workers.specs.Acts.{opened};
 ghost use Rattle.bs_host.specs.Cut.{row_data, lone_plan_data, lone_plan_of, is_too_small, nth_from, nth_stay, own_lines_in, cut_of, cut_refusal_of, IsCutRefusal, SectionLaw};
 ghost use Rattle.bs_host.specs.inner.Cut.{behind_feeds};
 ghost use Rattle.bs_host.specs.inner.File.{pieces_after};
-ghost use Rattle.bs_host.specs.inner.OpenStays.{open_stays_of, open_stays_then, route_by, rows_by_open_stays, rows_in_route};
+ghost use Rattle.bs_registry.specs.inner.OpenStays.{open_stays_of};
+ghost use Rattle.bs_registry.specs.Registry.{seen};
+ghost use Rattle.bs_host.specs.inner.OpenStays.{open_stays_then, route_by, rows_by_open_stays, rows_in_route};
 ghost use Rattle.bs_host.specs.Laws.{CoreLaw, EarlyLaw, FoundLaw, FullLaw, OwnLinesLaw};
 ghost use Rattle.bs_host.specs.Routing.{command_to, capacity_of, stays_behind};
 
@@ -19,12 +21,12 @@ use crate::fault::PlanRefusal;
 use crate::file::CommandFile;
 use crate::limits::{BLOCK_BYTES, MOST_FILE_BYTES};
 use crate::lines::split_line;
-use crate::open_stays::OpenStays;
+use crate::open_rows::{open_rows, route_row};
 use crate::parse::parse_line;
 use crate::route::Route;
 use bs_board::{Id, Plan, Row, Version};
 use bs_json::read_plan;
-use bs_sched::blocks_of_all;
+use bs_registry::{Registry, blocks_of_all};
 use bs_workers::Act;
 use serde_json::{Value, json};
 use std::alloc::{AllocError, Global};
@@ -74,15 +76,15 @@ fn goes_to(stay: usize, route: &Route) -> bool
 #[tactic(auto, using(crate::proofs::ParsedLines::route_of_parsed))]
 fn route_text(
     alloc: Global,
-    open_stays: &mut OpenStays,
+    open_stays: &mut Registry<()>,
     file: CommandFile<'_>,
     line: &[u8],
 ) -> Result<Route, AllocError>
-    ensures route { IfOk result (λ route. route ≡ route_by (capacity_of file.entry.blocks) open_stays.old (line_of file.entry.plan.now.version line.now)) }
-    ensures after { IfOk result (λ route. open_stays.new ≡ open_stays_then open_stays.old route) }
+    ensures route { IfOk result (λ route. route ≡ route_by (capacity_of file.entry.blocks) (seen open_stays.old) (line_of file.entry.plan.now.version line.now)) }
+    ensures after { IfOk result (λ route. seen open_stays.new ≡ open_stays_then (seen open_stays.old) route) }
 {
     let parsed = parse_line(alloc, file.plan.version, line, None)?;
-    open_stays.route(alloc, file.blocks, parsed)
+    route_row(open_stays, alloc, file.blocks, parsed)
 }
 
 fn push_line(line: &[u8], text: &mut Vec<u8>) -> Result<(), AllocError>
@@ -104,7 +106,7 @@ fn push_own_lines(
     ensures { OnOk result
         (text.new.items ≡ text.old.items ++ behind_feeds (own_lines_in (capacity_of file.entry.blocks) file.entry.plan.now.version (opened file.entry.plan.now.rows) stay (pieces_after (option_copied file.entry.rest)))) }
 {
-    let mut open_stays = OpenStays::of_plan(alloc, &file.plan.rows)?;
+    let mut open_stays = open_rows(alloc, &file.plan.rows)?;
     let mut left = file.rest;
     'lines: while let Some(lines) = left {
         let (line, more) = split_line(lines);
@@ -179,7 +181,7 @@ fn find_admitted(
     ensures { IfOk result (λ found. found
         ≡ nth_from (length file.entry.plan.now.rows) (rows_by_open_stays (capacity_of file.entry.blocks) file.entry.plan.now.version (open_stays_of (opened file.entry.plan.now.rows)) (pieces_after (option_copied file.entry.rest))) search.entry.name.now search.entry.left) }
 {
-    let mut open_stays = OpenStays::of_plan(alloc, &file.plan.rows)?;
+    let mut open_stays = open_rows(alloc, &file.plan.rows)?;
     let mut left = file.rest;
     'lines: while let Some(lines) = left {
         let (line, more) = split_line(lines);

@@ -12,7 +12,7 @@ mod live;
 mod live_fault;
 mod live_host;
 mod live_stays;
-mod open_stays;
+mod open_rows;
 mod parse;
 mod read;
 mod render;

@@ -1,6 +1,6 @@
 //! The sizes in the host.
 use bs_board::limits::MOST_ROWS;
-use bs_sched::MOST_STAYS;
+use bs_registry::MOST_STAYS;
 
 /// The size of a block, in bytes.
 pub const BLOCK_BYTES: usize = 2_097_152;

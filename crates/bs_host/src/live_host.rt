@@ -1,25 +1,26 @@
 //! A live host between two lines: an automaton over the lines.
-ghost use Rattle.std.specs.Prelude.{◌≡◌, ◌++◌, fold, IfOk, IfErr, OnOk};
+ghost use Rattle.std.specs.Prelude.{◌≡◌, ◌++◌, true, fold, IfOk, IfErr, OnOk};
 ghost use Rattle.bs_json.specs.Replies.{stray_line_of};
 ghost use Rattle.bs_json.specs.PlanLine.{plan_line_of};
 ghost use Rattle.bs_host.specs.Faults.{refusal_of_plan};
 ghost use Rattle.bs_host.specs.File.{pieces_of};
 ghost use Rattle.bs_host.specs.inner.Live.{HasOpened};
 ghost use Rattle.bs_host.specs.inner.LiveFaults.{IsLiveRefusal};
+ghost use Rattle.bs_host.specs.inner.OpenStays.{may_follow};
+ghost use Rattle.bs_registry.specs.Registry.{seen};
 ghost use Rattle.bs_host.specs.inner.LiveHost.{live_after, live_end, live_text, live_texts, stays_then, text_then};
 
 use crate::fault::PlanRefusal;
 use crate::limits::BLOCK_BYTES;
 use crate::lines::split_line;
 use crate::live_fault::LiveFault;
-use crate::live_stays::LiveStays;
-use crate::open_stays::OpenStays;
+use crate::live_stays::{LiveStays, answer_in, list_stays, open_stay, push_final_of, push_finals};
 use crate::parse::parse_line;
-use crate::route::Route;
+use crate::route::{Route, route_line};
 use bs_board::Version;
 use bs_json::{Stray, TextBuffer, push_stray_line, read_plan, stray_line_bound};
 use bs_live::make_room;
-use bs_sched::blocks_of_all;
+use bs_registry::{Registry, blocks_of_all};
 use bs_workers::Act;
 use std::alloc::{AllocError, Global};
 
@@ -31,7 +32,6 @@ const FIRST_NUMBER: u64 = 2;
 pub(crate) struct LiveHost {
     pub(crate) blocks: usize,
     pub(crate) version: Version,
-    pub(crate) open_stays: OpenStays,
     pub(crate) stays: LiveStays,
     /// The number of the next line.
     pub(crate) number: u64,
@@ -55,6 +55,7 @@ fn push_stray(
 impl LiveHost {
     /// Opens the plan in the first line of a file. Checks the plan and the number of blocks, and
     /// returns the first fault.
+    #[tactic(auto, using(crate::proofs::OpenStayRoutes::listed_rows))]
     pub(crate) fn open(alloc: Global, first: &[u8], blocks: usize) -> Result<LiveHost, LiveFault>
         ensures opened { IfOk result (HasOpened blocks first.now) }
         ensures fault { IfErr result (IsLiveRefusal (refusal_of_plan blocks (plan_line_of first.now))) }
@@ -67,30 +68,36 @@ impl LiveHost {
         Ok(LiveHost {
             blocks,
             version: plan.version,
-            open_stays: OpenStays::of_plan(alloc, &plan.rows)?,
-            stays: LiveStays::open_all(alloc, rows)?,
+            stays: Registry::from_plan(&plan.rows, list_stays(alloc, rows)?),
             number: FIRST_NUMBER,
         })
     }
 
-    /// Executes a routed line, and appends its answer. A stay that is admitted gets the number
-    /// `made`.
+    /// Executes a routed line, and appends its answer.
+    #[tactic(auto, using(crate::proofs::OpenStayRoutes::may_push))]
     fn follow(
         &mut self,
         alloc: Global,
-        made: usize,
         route: &Route,
         text: &mut TextBuffer,
     ) -> Result<(), AllocError>
-        ensures host { OnOk result (self.new ≡ record self.old { stays = stays_then made route.now self.old.stays }) }
+        requires { may_follow (seen self.old.stays) route.now ≡ true }
+        ensures host { OnOk result (self.new ≡ record self.old { stays = stays_then route.now self.old.stays }) }
         ensures text { OnOk result (text.new.bytes ≡ text.old.bytes ++ text_then self.old.number route.now self.old.stays) }
     {
         match route {
             Route::Act(Act::Hand(stay, command)) => {
-                self.stays.answer(alloc, *stay, command.get(), text)
+                answer_in(&mut self.stays, alloc, *stay, command.get(), text)
             }
-            Route::Act(Act::Admit(row)) => self.stays.admit(alloc, made, row),
-            Route::Act(Act::Leave(stay)) => self.stays.leave(alloc, *stay, text),
+            Route::Act(Act::Admit(row)) => {
+                let stay = open_stay(alloc, row)?;
+                self.stays.push(row.copy(alloc)?, stay)
+            }
+            Route::Act(Act::Leave(stay)) => {
+                push_final_of(alloc, &self.stays, *stay, text)?;
+                self.stays.remove(*stay);
+                Ok(())
+            }
             Route::Stray(kind) => push_stray(alloc, self.number, *kind, text),
             Route::Nowhere => Ok(()),
         }
@@ -108,9 +115,8 @@ impl LiveHost {
     {
         let number = self.number.checked_add(1).ok_or(AllocError)?;
         let parsed = parse_line(alloc, self.version, line, None)?;
-        let made = self.open_stays.made();
-        let route = self.open_stays.route(alloc, self.blocks, parsed)?;
-        self.follow(alloc, made, &route, text)?;
+        let route = route_line(&mut self.stays, self.blocks, parsed);
+        self.follow(alloc, &route, text)?;
         self.number = number;
         Ok(())
     }
@@ -138,6 +144,6 @@ impl LiveHost {
     pub(crate) fn close(&self, alloc: Global, text: &mut TextBuffer) -> Result<(), AllocError>
         ensures { OnOk result (text.new.bytes ≡ text.old.bytes ++ live_end self.now) }
     {
-        self.stays.close(alloc, text)
+        push_finals(alloc, self.stays.as_slice(), text)
     }
 }

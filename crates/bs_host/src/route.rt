@@ -1,15 +1,21 @@
 //! Routes the parsed lines of a file: to the core as acts, to the stray lines, or nowhere.
-ghost use Rattle.std.specs.Prelude.{◌≡◌, ◌++◌, IfOk, OnOk, option_to_list};
+ghost use Rattle.std.specs.Prelude.{◌≡◌, ◌++◌, true, IfOk, OnOk, option_to_list};
 ghost use Rattle.bs_workers.specs.Acts.{opened};
-ghost use Rattle.bs_host.specs.inner.OpenStays.{open_stays_of};
-ghost use Rattle.bs_host.specs.inner.Parsed.{routes_parsed};
-ghost use Rattle.bs_host.specs.Routing.{act_in, capacity_of, numbered_stray};
+ghost use Rattle.bs_registry.specs.OpenStays.{found_in};
+ghost use Rattle.bs_registry.specs.inner.OpenStays.{open_stays_of, refusal_by};
+ghost use Rattle.bs_registry.specs.Registry.{rows_in, seen};
+ghost use Rattle.bs_host.specs.inner.OpenStays.{may_follow};
+ghost use Rattle.bs_host.specs.inner.Parsed.{route_parsed, routes_parsed};
+ghost use Rattle.bs_host.specs.Routing.{act_in, admit_route, capacity_of, hand_route, leave_route, numbered_stray, stray_for};
 ghost use Rattle.bs_host.specs.inner.Routing.{IsRouted};
 
-use crate::open_stays::OpenStays;
+use crate::limits::BLOCK_BYTES;
+use crate::open_rows::{open_rows, route_row};
 use crate::parse::ParsedLine;
-use bs_board::Rows;
+use bs_board::{Id, Row, Rows};
+use bs_fiber::SharedCommand;
 use bs_json::Stray;
+use bs_registry::{Refusal, Registry, blocks_of};
 use bs_workers::Act;
 use std::alloc::{AllocError, Global};
 
@@ -22,6 +28,54 @@ pub enum Route {
     Stray(Stray),
     /// Nowhere: the line is blank.
     Nowhere,
+}
+
+fn hand<T: Drop>(stays: &mut Registry<T>, game: &Id, command: SharedCommand) -> Route
+    ensures route { result ≡ hand_route (found_in game.now (rows_in stays.old)) command }
+    ensures same { stays.new ≡ stays.old }
+{
+    match stays.find(game) {
+        Some(stay) => Route::Act(Act::Hand(stay, command)),
+        None => Route::Stray(Stray::Game),
+    }
+}
+
+fn admit<T: Drop>(stays: &Registry<T>, blocks: usize, row: Row) -> Route
+    ensures { result ≡ admit_route (stray_for (refusal_by (capacity_of blocks) (seen stays.now) row)) row }
+{
+    let left = stays.left_of(BLOCK_BYTES, blocks);
+    match stays.refusal(&row, blocks_of(BLOCK_BYTES, &row), left) {
+        None => Route::Act(Act::Admit(row)),
+        Some(Refusal::NameOpen) => Route::Stray(Stray::NameOpen),
+        Some(Refusal::Full) => Route::Stray(Stray::Full),
+        Some(Refusal::Short { .. }) => Route::Stray(Stray::Short),
+    }
+}
+
+fn leave<T: Drop>(stays: &mut Registry<T>, game: &Id) -> Route
+    ensures route { result ≡ leave_route (found_in game.now (rows_in stays.old)) }
+    ensures same { stays.new ≡ stays.old }
+{
+    match stays.find(game) {
+        Some(stay) => Route::Act(Act::Leave(stay)),
+        None => Route::Stray(Stray::NoStay),
+    }
+}
+
+/// Routes a parsed line of a file that is served with `blocks` blocks. Opens and closes no stay.
+#[tactic(auto, using(crate::proofs::OpenStayRoutes::routed_follows))]
+pub(crate) fn route_line<T: Drop>(stays: &mut Registry<T>, blocks: usize, line: ParsedLine) -> Route
+    ensures route { result ≡ route_parsed (capacity_of blocks) (seen stays.old) line }
+    ensures same { stays.new ≡ stays.old }
+    ensures follows { may_follow (seen stays.old) result ≡ true }
+{
+    match line {
+        ParsedLine::Command(game, command) => hand(stays, &game, command),
+        ParsedLine::Admit(row) => admit(stays, blocks, row),
+        ParsedLine::Leave(game) => leave(stays, &game),
+        ParsedLine::Stray(kind) => Route::Stray(kind),
+        ParsedLine::Blank => Route::Nowhere,
+    }
 }
 
 /// The number of the first line after the plan.
@@ -61,14 +115,14 @@ pub(crate) fn route_lines(
 ) -> Result<Requests, AllocError>
     ensures { IfOk result (IsRouted (routes_parsed (capacity_of blocks) (open_stays_of (opened rows.now)) 2 lines.items)) }
 {
-    let mut open_stays = OpenStays::of_plan(alloc, rows)?;
+    let mut open_stays = open_rows(alloc, rows)?;
     let mut requests = Requests {
         acts: Vec::with_capacity(alloc, lines.len())?,
         strays: Vec::new(alloc),
     };
     let mut number = FIRST_NUMBER;
     for line in lines {
-        let route = open_stays.route(alloc, blocks, line)?;
+        let route = route_row(&mut open_stays, alloc, blocks, line)?;
         push_route(&mut requests, number, route)?;
         number = number.checked_add(1).ok_or(AllocError)?;
     }

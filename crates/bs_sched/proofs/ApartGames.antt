@@ -14,7 +14,7 @@ use Rattle.bs_sched.specs.Isolation.{opened_lanes}
 use Rattle.bs_sched.specs.Journal.{setting_in}
 use Rattle.bs_sched.specs.Lane.{Lane, empty_lane}
 use Rattle.bs_sched.specs.Machine.{Setting}
-use Rattle.bs_sched.specs.PlanBlocks.{blocks_of, blocks_of_all}
+use Rattle.bs_registry.specs.Blocks.{blocks_of, blocks_of_all}
 use Rattle.bs_sched.specs.Storage.{Storage, packing_of}
 use Rattle.bs_sched.specs.Woven.{woven, place_in}
 use Rattle.bs_sched.proofs.Woven.{fresh_woven, size_woven}

@@ -13,7 +13,7 @@ use Rattle.bs_game.specs.declared.reply.Effect.{Effect}
 use Rattle.bs_game.specs.declared.reply.Effect.TheVariants as effect
 use Rattle.bs_sched.specs.declared.event.Event.{Event}
 use Rattle.bs_sched.specs.declared.event.Event.TheVariants as event
-use Rattle.bs_sched.specs.declared.plan_blocks.TheConstants.{FRAME_BLOCKS}
+use Rattle.bs_registry.specs.declared.blocks.TheConstants.{FRAME_BLOCKS}
 use Rattle.bs_sched.specs.Assembly.{Hand, commands_for, job_at, jobs_at, tag_at, reservation_at, reservations_laid, RanAlone}
 use Rattle.bs_sched.specs.Core.{CoreView}
 use Rattle.bs_sched.specs.Frames.{flattened}
@@ -21,7 +21,8 @@ use Rattle.bs_sched.specs.Games.{storage_taken, storage_put, answer_effect}
 use Rattle.bs_sched.specs.Journal.{setting_in}
 use Rattle.bs_sched.specs.Lane.{Lane, empty_lane, goes_on, forked}
 use Rattle.bs_sched.specs.Machine.{Setting, lane_of, step}
-use Rattle.bs_sched.specs.PlanBlocks.{record_blocks, reservations_from, reservations_of}
+use Rattle.bs_registry.specs.Blocks.{record_blocks}
+use Rattle.bs_sched.specs.PlanBlocks.{reservations_from, reservations_of}
 use Rattle.bs_sched.specs.Storage.{Storage, packing_of, frames_of, pool_after, record_tag, frame_tag, stored, with_parts}
 use Rattle.bs_sched.proofs.ApartLanes.{queued}
 use Rattle.bs_sched.proofs.ApartRows.{AreAlone}

@@ -16,7 +16,8 @@ use Rattle.bs_sched.specs.Games.{row_at, opened}
 use Rattle.bs_sched.specs.Isolation.{HandsFit, are_enabled, opened_lanes}
 use Rattle.bs_sched.specs.Machine.{Setting}
 use Rattle.bs_sched.specs.Memory.{games_run}
-use Rattle.bs_sched.specs.PlanBlocks.{blocks_of_all, reservations_of}
+use Rattle.bs_registry.specs.Blocks.{blocks_of_all}
+use Rattle.bs_sched.specs.PlanBlocks.{reservations_of}
 use Rattle.bs_sched.specs.SharedMemory.{IsHosted}
 use Rattle.bs_sched.proofs.ApartLanes.{for_this, for_others}
 use Rattle.bs_sched.proofs.ApartRows.{AreAlone, rows_alone, rows_handed, lanes_law}

@@ -15,7 +15,7 @@ use Rattle.bs_pool.specs.declared.reservation.Reservation.{Reservation}
 use Rattle.bs_pool.specs.Ledger.{Ledger, ledger_of, held, reservation_of, reserved, size, IsSound as IsSoundPool}
 use Rattle.bs_pool.specs.Reservations.{all_reserved, reserved_by}
 use Rattle.bs_sched.specs.declared.games.Games.TheInside.{Inside}
-use Rattle.bs_sched.specs.declared.plan_blocks.TheConstants.{MOST_STAYS}
+use Rattle.bs_registry.specs.declared.blocks.TheConstants.{MOST_STAYS}
 use Rattle.bs_sched.specs.Frames.{flattened}
 use Rattle.bs_sched.specs.Game.{GameView}
 use Rattle.bs_sched.specs.inner.Game.{HasBlocks, closed_game, no_game, opened_game}
@@ -23,7 +23,8 @@ use Rattle.bs_sched.specs.Games.{GamesView, pool_left, with_stay, without_stay}
 use Rattle.bs_sched.specs.inner.GamesLayout.{AreAtRows, AreGone, IsAtRow, IsSound, game_at, games_in, lanes_in, open_rows, storage_in, tallies_in}
 use Rattle.bs_sched.specs.Lane.{Lane, empty_lane, is_quiet, closed_lane, may_leave, no_lane}
 use Rattle.bs_sched.specs.Machine.{Setting, has_name, is_full, lane_of, may_admit, open_blocks}
-use Rattle.bs_sched.specs.PlanBlocks.{blocks_of, with_row}
+use Rattle.bs_registry.specs.Blocks.{blocks_of}
+use Rattle.bs_sched.specs.PlanBlocks.{with_row}
 use Rattle.bs_sched.specs.inner.Reserved.{AreReserved, IsReserved}
 use Rattle.bs_sched.specs.Storage.{frame_tag, record_tag}
 use Rattle.bs_sched.proofs.ListedGames.{lane_at, lanes_set, many_lanes, packing_at, packings_set, same_numbers}

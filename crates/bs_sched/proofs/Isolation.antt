@@ -8,7 +8,7 @@ use Rattle.std.proofs.Math.Seq.{map-set_same}
 use Rattle.std.proofs.lemmas.List.Sums.{sum_by_push, sum_by-set}
 use Rattle.bs_board.proofs.Chains.{and_both}
 use Rattle.bs_board.specs.plans.Plan.{GameRow}
-use Rattle.bs_sched.specs.PlanBlocks.{blocks_of}
+use Rattle.bs_registry.specs.Blocks.{blocks_of}
 use Rattle.bs_sched.specs.declared.event.Event.{Event}
 use Rattle.bs_sched.specs.declared.event.Event.TheVariants as event
 use Rattle.bs_sched.specs.Handed.{commands_of}

@@ -19,7 +19,7 @@ use Rattle.bs_heap.proofs.PackedPlaces.{apart_none}
 use Rattle.bs_pool.specs.Ledger.{Ledger, ledger_of, is_unowned}
 use Rattle.bs_pool.proofs.Counts.{count_cons}
 use Rattle.bs_sched.specs.Memory.{Memory, block_in, memory_with, bytes_at}
-use Rattle.bs_sched.specs.PlanBlocks.{blocks_of, blocks_of_all}
+use Rattle.bs_registry.specs.Blocks.{blocks_of, blocks_of_all}
 use Rattle.bs_sched.specs.Storage.{Storage, packing_of, record_tag, frame_tag, packing_after, pool_after}
 use Rattle.bs_sched.proofs.PlanBlocks.{nothing_held}
 use Rattle.bs_sched.proofs.StoredRecords.{IsChanged, changed_by, of_others}

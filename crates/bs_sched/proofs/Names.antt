@@ -11,13 +11,13 @@ use Rattle.bs_board.proofs.Chains.{and_both}
 use Rattle.bs_board.specs.declared.limits.TheConstants.{MOST_ROWS}
 use Rattle.bs_board.specs.plans.Plan.{GameRow, row_of, IsFitPlan, have_distinct_names}
 use Rattle.bs_board.specs.Texts.{is_same_text}
-use Rattle.bs_sched.specs.PlanBlocks.{blocks_of}
+use Rattle.bs_registry.specs.Blocks.{blocks_of}
 use Rattle.bs_sched.specs.declared.event.Event.{Event}
 use Rattle.bs_sched.specs.declared.event.Event.TheVariants as event
 use Rattle.bs_sched.specs.Registry.{AreKnownApart, NamesLaw}
 use Rattle.bs_sched.specs.Isolation.{opened_lanes}
 use Rattle.bs_sched.specs.Lane.{Lane, empty_lane, no_lane}
-use Rattle.bs_sched.specs.declared.plan_blocks.TheConstants.{MOST_STAYS}
+use Rattle.bs_registry.specs.declared.blocks.TheConstants.{MOST_STAYS}
 use Rattle.bs_sched.specs.Machine.{Setting, lane_of, game_of, row_in, may_admit, has_name, is_full, open_blocks, lane_after, step, run_of}
 use Rattle.bs_sched.proofs.LoneLanes.{comer, changed, cases_step, keeps_row}
 use Rattle.bs_sched.proofs.RightRuns.{open_taken, open_put, opened_lane}

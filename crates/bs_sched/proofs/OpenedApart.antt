@@ -12,7 +12,8 @@ use Rattle.bs_sched.specs.Assembly.{jobs_from, tag_at, owners_with, owners_from,
 use Rattle.bs_sched.specs.Core.{CoreView, opened_core}
 use Rattle.bs_sched.specs.Games.{row_at}
 use Rattle.bs_sched.specs.Lane.{Lane, empty_lane}
-use Rattle.bs_sched.specs.PlanBlocks.{blocks_of, blocks_of_all, reservations_of}
+use Rattle.bs_registry.specs.Blocks.{blocks_of, blocks_of_all}
+use Rattle.bs_sched.specs.PlanBlocks.{reservations_of}
 use Rattle.bs_sched.specs.SharedMemory.{IsHosted}
 use Rattle.bs_sched.proofs.Woven.{fresh_woven}
 use Rattle.bs_sched.proofs.ApartGames.{all_unowned}

@@ -7,7 +7,7 @@ use Rattle.bs_heap.specs.Packing.{no_packing}
 use Rattle.bs_pool.specs.Ledger.{Ledger, ledger_of, opened, reserved}
 use Rattle.bs_sched.specs.declared.cores.TheConstants.{LEAST_CAPACITY}
 use Rattle.bs_sched.specs.declared.games.Games.TheInside.{Inside}
-use Rattle.bs_sched.specs.declared.plan_blocks.TheConstants.{FRAME_BLOCKS}
+use Rattle.bs_registry.specs.declared.blocks.TheConstants.{FRAME_BLOCKS}
 use Rattle.bs_sched.specs.Game.{GameView}
 use Rattle.bs_sched.specs.inner.Game.{HasBlocks, opened_game}
 use Rattle.bs_sched.specs.Games.{row_at}
@@ -15,7 +15,8 @@ use Rattle.bs_sched.specs.inner.GamesLayout.{AreAtRows, AreGone, IsSound, game_a
 use Rattle.bs_sched.specs.Isolation.{opened_lanes}
 use Rattle.bs_sched.specs.Lane.{empty_lane}
 use Rattle.bs_sched.specs.Machine.{open_blocks}
-use Rattle.bs_sched.specs.PlanBlocks.{blocks_of_all, reservations_of}
+use Rattle.bs_registry.specs.Blocks.{blocks_of_all}
+use Rattle.bs_sched.specs.PlanBlocks.{reservations_of}
 use Rattle.bs_sched.specs.inner.Reserved.{AreReserved}
 use Rattle.bs_sched.specs.Storage.{frame_tag, record_tag}
 use Rattle.std.specs.List.{range_with_len}

@@ -7,11 +7,12 @@ use Rattle.bs_board.specs.plans.Plan.{GameRow}
 use Rattle.bs_pool.specs.declared.reservation.Reservation.{Reservation}
 use Rattle.bs_pool.proofs.Soundness.{held_opened}
 use Rattle.bs_pool.proofs.Reservations.{reserved_none, reserved_pushed, reserved_some, reserved_without_other, unreserved_pushed}
-use Rattle.bs_sched.specs.declared.plan_blocks.TheConstants.{FRAME_BLOCKS}
+use Rattle.bs_registry.specs.declared.blocks.TheConstants.{FRAME_BLOCKS}
 use Rattle.bs_pool.specs.Ledger.{IsSound, held, ledger_of, reserved, size, unreserved, Ledger, reservation_of, opened, is_owned_by, with_reservation, without_reservation}
 use Rattle.bs_pool.specs.Reservations.{is_of, reserved_by, all_reserved, without}
 use Rattle.bs_heap.specs.HeldBlocks.{Holds}
-use Rattle.bs_sched.specs.PlanBlocks.{record_blocks, reservations_from, reservations_of}
+use Rattle.bs_registry.specs.Blocks.{record_blocks}
+use Rattle.bs_sched.specs.PlanBlocks.{reservations_from, reservations_of}
 
 -- no tag from some tag on has a reservation if all reserved tags are below it
 none_above : (least tag : ℕ) (rs : List Reservation) → All (λ r. r.tag < least) rs → least ≤ tag → find (is_of tag) rs ≡ None

@@ -23,7 +23,7 @@ use Rattle.bs_game.specs.Answer.{answer_to}
 use Rattle.bs_game.specs.Game.{board_charge, game_charge}
 use Rattle.bs_game.specs.Reasons.{first_reason, reason_against}
 use Rattle.bs_game.specs.View.{reply_to}
-use Rattle.bs_sched.specs.PlanBlocks.{blocks_of}
+use Rattle.bs_registry.specs.Blocks.{blocks_of}
 use Rattle.bs_sched.specs.declared.event.Event.{Event}
 use Rattle.bs_sched.specs.declared.event.Event.TheVariants as event
 use Rattle.bs_sched.specs.declared.stage.Stage.TheVariants as stage

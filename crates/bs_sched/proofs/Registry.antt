@@ -12,7 +12,7 @@ use Rattle.bs_fiber.specs.declared.job.JobKind.TheVariants as kind
 use Rattle.bs_sched.specs.declared.event.Event.{Event}
 use Rattle.bs_sched.specs.declared.event.Event.TheVariants as event
 use Rattle.bs_sched.specs.Registry.{stay_of, registry_of, registry_after, RegistryLaw, ServedLaw, JournalLaw, rows_in, commands_to}
-use Rattle.bs_sched.specs.Stays.{Stay, closed_stay, is_in, no_stay}
+use Rattle.bs_registry.specs.Stays.{Stay, closed_stay, is_in, no_stay}
 use Rattle.bs_sched.specs.Isolation.{alone_event, accepted, is_accepted, admitted, are_enabled, opened_lanes, own_events, commands_in, shared_run}
 use Rattle.bs_sched.specs.Lane.{Lane, empty_lane, no_lane, is_quiet, goes_on, forked, answered, with_taken, with_put, with_waiting, closed_lane}
 use Rattle.bs_sched.specs.Machine.{Setting, lane_of, is_named, is_enabled, lane_effect, step, run_of}

@@ -7,12 +7,12 @@ use Rattle.std.proofs.lemmas.List.{length-map}
 use Rattle.std.proofs.lemmas.List.Sums.{sum_by-cons}
 use Rattle.bs_board.specs.plans.Plan.{GameRow}
 use Rattle.bs_board.specs.Texts.{is_same_text}
-use Rattle.bs_sched.specs.declared.stays.Admit.TheVariants as admit
-use Rattle.bs_sched.specs.PlanBlocks.{blocks_of}
+use Rattle.bs_registry.specs.declared.refusal.Refusal.TheVariants as refused
+use Rattle.bs_registry.specs.Blocks.{blocks_of}
 use Rattle.bs_sched.specs.Lane.{Lane}
 use Rattle.bs_sched.specs.Machine.{Setting, blocks_in, has_name, is_full, may_admit, open_blocks}
 use Rattle.bs_sched.specs.Registry.{capacity_of, registry_of, stay_of}
-use Rattle.bs_sched.specs.Stays.{Stay, blocks_in_registry, first_refusal, may_admit_in, refusal_in_order}
+use Rattle.bs_registry.specs.Stays.{Stay, blocks_in_registry, first_refusal, may_admit_in, refusal_in_order}
 
 named_in : (row : GameRow) (lanes : List Lane)
     → list_any (has_name row) lanes ≡ list_any (λ (entry : Stay). entry.is_open && is_same_text row.game entry.row.game) (registry_of lanes)
@@ -45,16 +45,16 @@ told_in_order : (setting : Setting) (lanes : List Lane) (row : GameRow)
 told_in_order setting lanes row = rw (named_in row lanes, counted_in lanes, blocks_told setting.cap lanes, length-map lanes stay_of) refl
 
 pub refused_for_its_name : (setting : Setting) (lanes : List Lane) (row : GameRow) → list_any (has_name row) lanes ≡ true
-    → first_refusal (capacity_of setting) (registry_of lanes) row ≡ Some admit.NameOpen
+    → first_refusal (capacity_of setting) (registry_of lanes) row ≡ Some refused.NameOpen
 refused_for_its_name setting lanes row named = told_in_order setting lanes row ∙ rw named refl
 
 pub refused_when_full : (setting : Setting) (lanes : List Lane) (row : GameRow) → list_any (has_name row) lanes ≡ false → is_full lanes ≡ true
-    → first_refusal (capacity_of setting) (registry_of lanes) row ≡ Some admit.Full
+    → first_refusal (capacity_of setting) (registry_of lanes) row ≡ Some refused.Full
 refused_when_full setting lanes row new full = told_in_order setting lanes row ∙ rw (new, full) refl
 
 pub refused_for_its_blocks : (setting : Setting) (lanes : List Lane) (row : GameRow) (left : ℕ) → list_any (has_name row) lanes ≡ false → is_full lanes ≡ false
     → left ≡ setting.blocks - open_blocks setting.cap lanes → left < blocks_of setting.cap row
-    → first_refusal (capacity_of setting) (registry_of lanes) row ≡ Some (admit.Short left)
+    → first_refusal (capacity_of setting) (registry_of lanes) row ≡ Some (refused.Short left)
 refused_for_its_blocks setting lanes row left new room is less =
     let short : nat_le (blocks_of setting.cap row) left ≡ false = lt-leb (blocks_of setting.cap row) left less in
     told_in_order setting lanes row ∙ rw (new, room, ← is, short) refl

@@ -13,8 +13,9 @@ use Rattle.bs_pool.specs.declared.reservation.Reservation.{Reservation}
 use Rattle.bs_pool.specs.Ledger.{Ledger, ledger_of}
 use Rattle.bs_pool.specs.Reservations.{is_of, reserved_by, all_reserved, without}
 use Rattle.bs_pool.proofs.Reservations.{all_removed, reserved_pushed, reserved_pushed_other, all_reserved_pushed, reserved_without_other, other_tags}
-use Rattle.bs_sched.specs.declared.plan_blocks.TheConstants.{FRAME_BLOCKS}
-use Rattle.bs_sched.specs.PlanBlocks.{record_blocks, blocks_of, blocks_of_all, reservations_from, reservations_of}
+use Rattle.bs_registry.specs.declared.blocks.TheConstants.{FRAME_BLOCKS}
+use Rattle.bs_registry.specs.Blocks.{record_blocks, blocks_of, blocks_of_all}
+use Rattle.bs_sched.specs.PlanBlocks.{reservations_from, reservations_of}
 use Rattle.bs_sched.specs.Storage.{record_tag, frame_tag}
 use Rattle.bs_sched.specs.inner.Reserved.{AreReserved, IsReserved}
 use Rattle.bs_sched.proofs.PlanBlocks.{none_from, none_beside, reserved_for_frames, reserved_for_row}

@@ -24,7 +24,7 @@ use Rattle.bs_pool.proofs.Owners.{all_numbers}
 use Rattle.bs_pool.proofs.Pigeonhole.{left_free}
 use Rattle.bs_pool.proofs.Soundness.{first_some}
 use Rattle.bs_sched.specs.Memory.{Memory, block_in, CanDraw}
-use Rattle.bs_sched.specs.PlanBlocks.{record_blocks}
+use Rattle.bs_registry.specs.Blocks.{record_blocks}
 use Rattle.bs_sched.specs.SharedMemory.{all_held}
 use Rattle.bs_sched.specs.Storage.{record_tag, frame_tag}
 use Rattle.bs_sched.proofs.PlacedRecords.{laid_elsewhere, laid_nothing}

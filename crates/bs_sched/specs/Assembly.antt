@@ -15,7 +15,8 @@ use Rattle.bs_sched.specs.Games.{row_at}
 use Rattle.bs_sched.specs.Journal.{IsItsJournal}
 use Rattle.bs_sched.specs.Lane.{Lane, is_idle}
 use Rattle.bs_sched.specs.Machine.{Setting, lane_of}
-use Rattle.bs_sched.specs.PlanBlocks.{blocks_of, reservations_of}
+use Rattle.bs_registry.specs.Blocks.{blocks_of}
+use Rattle.bs_sched.specs.PlanBlocks.{reservations_of}
 use Rattle.bs_sched.specs.SharedMemory.{IsHosted}
 use Rattle.bs_sched.specs.Storage.{packing_of, frames_of}
 use Rattle.bs_sched.specs.Woven.{woven, place_in}

@@ -6,18 +6,20 @@ use Rattle.bs_sched.specs.declared.stays.Admit.{Admit}
 use Rattle.bs_sched.specs.declared.stays.Admit.TheVariants as admit
 use Rattle.bs_sched.specs.declared.stays.Leave.{Leave}
 use Rattle.bs_sched.specs.declared.stays.Leave.TheVariants as leave
+use Rattle.bs_registry.specs.declared.refusal.Refusal.{Refusal}
+use Rattle.bs_registry.specs.declared.refusal.Refusal.TheVariants as refused
 use Rattle.bs_sched.specs.Core.{CoreView, core_after}
 use Rattle.bs_sched.specs.Games.{setting_of}
 use Rattle.bs_sched.specs.Lane.{Lane, is_quiet, may_leave}
 use Rattle.bs_sched.specs.Machine.{Setting, lane_of, may_admit}
 use Rattle.bs_sched.specs.Registry.{capacity_of, registry_of}
-use Rattle.bs_sched.specs.Stays.{first_refusal}
+use Rattle.bs_registry.specs.Stays.{first_refusal}
 
 -- the first reason against the row; `Memory` only if there is none
-abbrev pub IsFirstRefusal : Option Admit → Admit → Type 0
-IsFirstRefusal found admit.NameOpen = found ≡ Some admit.NameOpen
-IsFirstRefusal found admit.Full = found ≡ Some admit.Full
-IsFirstRefusal found (admit.Short free) = found ≡ Some (admit.Short free)
+abbrev pub IsFirstRefusal : Option Refusal → Admit → Type 0
+IsFirstRefusal found admit.NameOpen = found ≡ Some refused.NameOpen
+IsFirstRefusal found admit.Full = found ≡ Some refused.Full
+IsFirstRefusal found (admit.Short free) = found ≡ Some (refused.Short free)
 IsFirstRefusal found admit.Memory = found ≡ None
 
 abbrev pub RefusesAdmit : Setting → List Lane → GameRow → Admit → Type 0

@@ -20,7 +20,6 @@ pub mod Parts
 pub mod PlanBlocks
 pub mod Putting
 pub mod SharedMemory
-pub mod Stays
 pub mod Storage
 pub mod Taking
 pub mod Woven

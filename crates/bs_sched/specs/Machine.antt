@@ -4,8 +4,8 @@ use Rattle.std.specs.List.{list_any}
 use Rattle.bs_board.specs.declared.limits.TheConstants.{MOST_ROWS}
 use Rattle.bs_board.specs.plans.Plan.{GameRow, row_of}
 use Rattle.bs_board.specs.Texts.{is_same_text}
-use Rattle.bs_sched.specs.PlanBlocks.{blocks_of}
-use Rattle.bs_sched.specs.declared.plan_blocks.TheConstants.{MOST_STAYS}
+use Rattle.bs_registry.specs.Blocks.{blocks_of}
+use Rattle.bs_registry.specs.declared.blocks.TheConstants.{MOST_STAYS}
 use Rattle.bs_sched.specs.declared.event.Event.{Event}
 use Rattle.bs_sched.specs.declared.event.Event.TheVariants as event
 use Rattle.bs_sched.specs.Lane.{Lane, empty_lane, no_lane, occupies, is_ready, is_out, with_waiting, with_taken, with_put, may_leave, closed_lane}

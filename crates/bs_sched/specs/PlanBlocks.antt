@@ -1,21 +1,11 @@
--- The blocks that are reserved for the games of a plan.
-use Rattle.std.specs.Prelude.{ℕ, ◌+◌, List, [], ◌∷◌, sum_by}
+-- The reservations for the games of a plan, of blocks of `cap` bytes.
+use Rattle.std.specs.Prelude.{ℕ, ◌+◌, List, [], ◌∷◌}
 use Rattle.bs_board.specs.plans.Plan.{GameRow}
-use Rattle.bs_heap.specs.Charge.{blocks_for}
 use Rattle.bs_pool.specs.declared.reservation.Reservation.{Reservation}
 use Rattle.bs_pool.specs.Ledger.{Ledger, with_reservation}
-use Rattle.bs_sched.specs.declared.plan_blocks.TheConstants.{FRAME_BLOCKS}
+use Rattle.bs_registry.specs.Blocks.{record_blocks}
+use Rattle.bs_registry.specs.declared.blocks.TheConstants.{FRAME_BLOCKS}
 use Rattle.bs_sched.specs.Storage.{record_tag, frame_tag}
-
--- blocks have `cap` bytes
-abbrev pub record_blocks : ℕ → GameRow → ℕ
-record_blocks cap row = blocks_for cap row.quota
-
-abbrev pub blocks_of : ℕ → GameRow → ℕ
-blocks_of cap row = record_blocks cap row + FRAME_BLOCKS
-
-abbrev pub blocks_of_all : ℕ → List GameRow → ℕ
-blocks_of_all cap = sum_by (blocks_of cap)
 
 -- the reservations of both tags of that row
 abbrev pub with_row : ℕ → ℕ → GameRow → Ledger → Ledger

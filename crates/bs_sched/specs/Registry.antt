@@ -12,15 +12,15 @@ use Rattle.bs_fiber.specs.declared.job.JobKind.{JobKind}
 use Rattle.bs_fiber.specs.declared.job.JobKind.TheVariants as kind
 use Rattle.bs_fiber.specs.declared.job.JobName.{JobName}
 use Rattle.bs_game.specs.Alone.{alone}
-use Rattle.bs_sched.specs.PlanBlocks.{blocks_of}
+use Rattle.bs_registry.specs.Blocks.{blocks_of}
 use Rattle.bs_sched.specs.declared.event.Event.{Event}
 use Rattle.bs_sched.specs.declared.event.Event.TheVariants as event
 use Rattle.bs_sched.specs.Handed.{commands_of}
 use Rattle.bs_sched.specs.Isolation.{HandsFit, are_enabled, opened_lanes, own_events, row_made, commands_in, shared_run}
 use Rattle.bs_sched.specs.Lane.{Lane, is_quiet, kept_of, records_of}
 use Rattle.bs_sched.specs.Machine.{Setting, lane_of, is_enabled, step, run_of}
-use Rattle.bs_sched.specs.Stays.{Capacity, Stay, is_in, may_admit_in, with_admitted, with_closed}
-use Rattle.bs_sched.specs.declared.plan_blocks.TheConstants.{MOST_STAYS}
+use Rattle.bs_registry.specs.Stays.{Capacity, Stay, is_in, may_admit_in, with_admitted, with_closed}
+use Rattle.bs_registry.specs.declared.blocks.TheConstants.{MOST_STAYS}
 
 abbrev pub stay_of : Lane → Stay
 stay_of x = record { row = x.row; is_open = x.is_open }

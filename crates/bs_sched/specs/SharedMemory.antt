@@ -12,14 +12,14 @@ use Rattle.bs_sched.specs.declared.cores.TheConstants.{LEAST_CAPACITY}
 use Rattle.bs_fiber.specs.declared.job.JobKind.TheVariants as kind
 use Rattle.bs_sched.specs.declared.event.Event.{Event}
 use Rattle.bs_sched.specs.declared.event.Event.TheVariants as event
-use Rattle.bs_sched.specs.declared.plan_blocks.TheConstants.{FRAME_BLOCKS}
+use Rattle.bs_registry.specs.declared.blocks.TheConstants.{FRAME_BLOCKS}
 use Rattle.bs_sched.specs.Frames.{flattened}
 use Rattle.bs_sched.specs.Games.{GamesView, opened}
 use Rattle.bs_sched.specs.Isolation.{HandsFit, own_events, row_made, shared_run}
 use Rattle.bs_sched.specs.Lane.{is_playing, kept_of}
 use Rattle.bs_sched.specs.Machine.{Setting, lane_of, game_of, is_admit, is_named, is_enabled, open_blocks}
 use Rattle.bs_sched.specs.Memory.{World, block_in, bytes_at, effect_at, CanDraw, world_step, world_run, opened_world, games_run}
-use Rattle.bs_sched.specs.PlanBlocks.{blocks_of_all}
+use Rattle.bs_registry.specs.Blocks.{blocks_of_all}
 use Rattle.bs_sched.specs.Storage.{packing_of, frames_of, record_tag, frame_tag}
 
 -- the blocks are large enough, and there are as many as all games of the plan reserve

@@ -30,7 +30,7 @@ ghost use Rattle.bs_sched.specs.inner.Turns.{FindsTurn};
 use crate::cores::LEAST_CAPACITY;
 use crate::fiber::Fiber;
 use crate::parts::MoveParts;
-use crate::plan_blocks::{MOST_STAYS, record_tag};
+use crate::plan_blocks::record_tag;
 use crate::stage::MOST_PARTS;
 use bs_board::{Board, KeptBoard, Reply, Row, TurnNumber};
 use bs_counter::{PartKey, Tally, TallyName};
@@ -40,6 +40,7 @@ use bs_fiber::{
 use bs_game::{Answer, Effect, place_of_turn};
 use bs_heap::TagHeap;
 use bs_pool::{Owned, Pool};
+use bs_registry::MOST_STAYS;
 use std::alloc::{AllocError, Global};
 use std::marker::Model;
 

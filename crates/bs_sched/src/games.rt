@@ -12,7 +12,7 @@ ghost use Rattle.bs_sched.specs.inner.Lane.{HasNoneReady};
 ghost use Rattle.bs_sched.specs.Machine.{lane_of, has_name, is_full, open_blocks};
 ghost use Rattle.bs_sched.specs.declared.event.Event.TheVariants as event;
 ghost use Rattle.bs_block.specs.Bytes.{IsCapacity};
-ghost use Rattle.bs_sched.specs.PlanBlocks.{blocks_of_all, blocks_of};
+ghost use Rattle.bs_registry.specs.Blocks.{blocks_of_all, blocks_of};
 ghost use Rattle.bs_sched.specs.declared.opening.Open.TheVariants as cause;
 ghost use Rattle.bs_fiber.specs.Tickets.{IsFresh, bytes_of, frames_in, names_of, worked_bytes};
 ghost use Rattle.bs_sched.specs.Inputs.{input_of, names_for};
@@ -26,14 +26,13 @@ ghost use Rattle.bs_board.specs.Texts.{is_same_text};
 use crate::cores::{Counts, LEAST_CAPACITY, MOST_WORKERS};
 use crate::game::Game;
 use crate::opening::Open;
-use crate::plan_blocks::{
-    MOST_STAYS, blocks_of, blocks_of_all, open_pool, release_row, reserve_row,
-};
+use crate::plan_blocks::{open_pool, release_row, reserve_row};
 use bs_board::limits::MOST_ROWS;
 use bs_board::{Id, Plan, Row, Rows};
 use bs_counter::PartKey;
 use bs_fiber::{Contents, Done, JobKind, JobName, Out, QueuedCommand, Ticket};
 use bs_pool::{Owned, Pool};
+use bs_registry::{MOST_STAYS, blocks_of, blocks_of_all};
 use std::alloc::{AllocError, Global};
 use std::marker::Model;
 

@@ -19,11 +19,11 @@ mod stage;
 mod stays;
 mod taking;
 
+pub use bs_registry::{MOST_STAYS, blocks_of, blocks_of_all};
 pub use cores::{Core, Counts, LEAST_CAPACITY, MOST_WORKERS};
 pub use event::Event;
 pub use law::{assembly_law, isolation_law};
 pub use opening::Open;
-pub use plan_blocks::{MOST_STAYS, blocks_of, blocks_of_all};
 pub use putting::{Stray, Strays};
 pub use shared_row::SharedRow;
 pub use stage::Stage;

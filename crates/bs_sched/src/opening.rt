@@ -3,14 +3,13 @@ ghost use Rattle.std.specs.Prelude.{◌≡◌, ◌≤◌, ◌<◌, IfOk, IfErr, 
 ghost use Rattle.bs_block.specs.Bytes.{IsCapacity};
 ghost use Rattle.bs_sched.specs.Core.{opened_core};
 ghost use Rattle.bs_sched.specs.Games.{opened};
-ghost use Rattle.bs_sched.specs.PlanBlocks.{blocks_of_all};
+ghost use Rattle.bs_registry.specs.Blocks.{blocks_of_all};
 ghost use Rattle.bs_sched.specs.declared.opening.Open.TheVariants as cause;
 
 use crate::busy::nobody_busy;
 use crate::cores::{Core, LEAST_CAPACITY, MOST_SPARES, MOST_WORKERS};
 use crate::games::Games;
 use crate::last_games::spread_games;
-use crate::plan_blocks::blocks_of_all;
 use bs_board::Plan;
 use std::alloc::{AllocError, Global};
 use thiserror::Error;

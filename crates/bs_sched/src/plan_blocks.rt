@@ -5,50 +5,16 @@ ghost use Rattle.bs_heap.specs.Charge.{blocks_for};
 ghost use Rattle.bs_pool.specs.Ledger.{size, held, reserved, reservation_of, unreserved, with_reservation, ledger_of, opened};
 ghost use Rattle.bs_pool.specs.Reservations.{all_reserved};
 ghost use Rattle.bs_sched.specs.Games.{pool_left};
-ghost use Rattle.bs_sched.specs.PlanBlocks.{blocks_of, blocks_of_all, reservations_of, reservations_from, with_row};
+ghost use Rattle.bs_registry.specs.Blocks.{blocks_of, blocks_of_all};
+ghost use Rattle.bs_sched.specs.PlanBlocks.{reservations_of, reservations_from, with_row};
 ghost use Rattle.bs_sched.specs.Storage.{record_tag, frame_tag};
 
 use bs_board::Row;
 use bs_board::limits::MOST_ROWS;
-use bs_heap::{MOST_RECORD_BYTES, blocks_for};
+use bs_heap::MOST_RECORD_BYTES;
 use bs_pool::{Pool, Reserve};
+use bs_registry::{FRAME_BLOCKS, MOST_STAYS, record_blocks};
 use std::alloc::{AllocError, Global};
-
-/// The frame blocks that are reserved for a stay: one for each part of a move.
-pub(crate) const FRAME_BLOCKS: usize = 4;
-
-/// The largest number of rows in a core: a tag has 32 bits, and a stay has two tags.
-pub const MOST_STAYS: usize = 2_147_483_648;
-
-fn record_blocks(cap: usize, row: &Row) -> usize
-    requires { 2 * MOST_RECORD_BYTES ≤ cap }
-    ensures value { result ≡ blocks_for cap row.now.quota }
-    ensures few { result ≤ 66 }
-{
-    blocks_for(cap, row.quota)
-}
-
-/// The number of blocks of `cap` bytes that are reserved for one stay.
-pub fn blocks_of(cap: usize, row: &Row) -> usize
-    requires { 2 * MOST_RECORD_BYTES ≤ cap }
-    ensures value { result ≡ blocks_of cap row.now }
-    ensures few { result ≤ 70 }
-{
-    record_blocks(cap, row) + FRAME_BLOCKS
-}
-
-/// The number of blocks of `cap` bytes that are reserved for all games of a plan.
-pub fn blocks_of_all(cap: usize, rows: &[Row]) -> usize
-    requires wide { 2 * MOST_RECORD_BYTES ≤ cap }
-    requires few { length rows.now ≤ MOST_ROWS }
-    ensures { result ≡ blocks_of_all cap rows.now }
-{
-    let mut total = 0;
-    for row in rows {
-        total += blocks_of(cap, row);
-    }
-    total
-}
 
 /// The tag of a stay's records.
 pub(crate) fn record_tag(game: usize) -> u32

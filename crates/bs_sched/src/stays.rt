@@ -6,14 +6,13 @@ ghost use Rattle.bs_sched.specs.Core.{core_after};
 ghost use Rattle.bs_sched.specs.Lane.{may_leave};
 ghost use Rattle.bs_sched.specs.Machine.{is_full, lane_of, may_admit};
 ghost use Rattle.bs_sched.specs.Games.{setting_of};
-ghost use Rattle.bs_sched.specs.PlanBlocks.{blocks_of};
+ghost use Rattle.bs_registry.specs.Blocks.{blocks_of};
 ghost use Rattle.bs_sched.specs.declared.event.Event.TheVariants as event;
 ghost use Rattle.bs_sched.specs.declared.stays.Admit.TheVariants as admit;
 ghost use Rattle.bs_sched.specs.declared.stays.Leave.TheVariants as leave;
 
 use crate::cores::{Core, note, reserve_events};
 use crate::event::Event;
-use crate::plan_blocks::blocks_of;
 use crate::shared_row::SharedRow;
 use bs_board::Row;
 use std::alloc::{AllocError, Global};

@@ -9,7 +9,7 @@ use Rattle.bs_sched.specs.Isolation.{opened_lanes, shared_run}
 use Rattle.bs_sched.specs.Lane.{Lane, is_quiet}
 use Rattle.bs_sched.specs.Machine.{Setting, lane_of}
 use Rattle.bs_sched.specs.Registry.{capacity_of, registry_of, registry_after as registry_after_event}
-use Rattle.bs_sched.specs.Stays.{Capacity, Stay, is_in}
+use Rattle.bs_registry.specs.Stays.{Capacity, Stay, is_in}
 use Rattle.bs_sched.proofs.Registry.{registry_law}
 use Rattle.bs_workers.specs.declared.act.Act.{Act}
 use Rattle.bs_workers.specs.declared.act.Act.TheVariants as act

@@ -6,7 +6,7 @@ use Rattle.bs_board.specs.declared.commands.command.Command.{Command}
 use Rattle.bs_board.specs.plans.Plan.{GameRow}
 use Rattle.bs_pool.specs.Ledger.{size}
 use Rattle.bs_sched.specs.Core.{CoreView}
-use Rattle.bs_sched.specs.Stays.{Capacity, Stay, has_name, is_in, may_admit_in, open_stay, with_admitted, with_closed}
+use Rattle.bs_registry.specs.Stays.{Capacity, Stay, has_name, is_in, may_admit_in, open_stay, with_admitted, with_closed}
 use Rattle.bs_workers.specs.declared.act.Act.{Act}
 use Rattle.bs_workers.specs.declared.act.Act.TheVariants as act
 

@@ -1,4 +1,4 @@
-//! Tests of bs_counter, bs_fiber, bs_sched and bs_workers, over their public calls.
+//! Tests of bs_registry, bs_counter, bs_fiber, bs_sched and bs_workers, over their public calls.
 #![tactic(auto)]
 
 #[cfg(test)]
@@ -15,6 +15,8 @@ mod fibers;
 mod gates;
 #[cfg(test)]
 mod player;
+#[cfg(test)]
+mod registry;
 #[cfg(test)]
 mod runs;
 #[cfg(test)]

@@ -2,11 +2,12 @@
 use Rattle.std.specs.Prelude.{◌≡◌, ℕ, true, List, ◌++◌}
 use Rattle.std.specs.List.{filter_map}
 use Rattle.bs_board.specs.declared.plans.version.Version.{Version}
-use Rattle.bs_sched.specs.Stays.{Capacity, Stay}
+use Rattle.bs_registry.specs.Stays.{Capacity, Stay}
 use Rattle.bs_workers.specs.Acts.{are_acceptable, command_in, opened, rows_admitted}
 use Rattle.bs_host.specs.Cut.{own_lines_in}
 use Rattle.bs_host.specs.File.{rows_of}
-use Rattle.bs_host.specs.inner.OpenStays.{open_stays_of, own_by_open_stays, routes_by_open_stays}
+use Rattle.bs_registry.specs.inner.OpenStays.{open_stays_of}
+use Rattle.bs_host.specs.inner.OpenStays.{own_by_open_stays, routes_by_open_stays}
 use Rattle.bs_host.specs.Routing.{commands_of, capacity_of, routes_from, stays_of}
 use Rattle.bs_host.specs.inner.Routing.{acts_of}
 

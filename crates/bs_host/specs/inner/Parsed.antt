@@ -6,14 +6,16 @@ use Rattle.bs_json.specs.declared.line.Line.{Line}
 use Rattle.bs_json.specs.declared.line.Line.TheVariants as line
 use Rattle.bs_json.specs.declared.line.Stray.TheVariants as stray
 use Rattle.bs_json.specs.Line.{line_of}
-use Rattle.bs_sched.specs.Stays.{Capacity}
+use Rattle.bs_registry.specs.Stays.{Capacity}
 use Rattle.bs_host.specs.declared.parse.ParsedLine.{ParsedLine}
 use Rattle.bs_host.specs.declared.parse.ParsedLine.TheVariants as parsed
 use Rattle.bs_host.specs.declared.route.Route.{Route}
 use Rattle.bs_host.specs.declared.route.Route.TheVariants as route
-use Rattle.bs_host.specs.OpenStays.{OpenStayList}
-use Rattle.bs_host.specs.inner.OpenStays.{found_in, open_stays_then, refusal_by}
-use Rattle.bs_host.specs.Routing.{admit_route, hand_route, leave_route}
+use Rattle.bs_registry.specs.OpenStays.{OpenStayList}
+use Rattle.bs_registry.specs.OpenStays.{found_in}
+use Rattle.bs_registry.specs.inner.OpenStays.{refusal_by}
+use Rattle.bs_host.specs.inner.OpenStays.{open_stays_then}
+use Rattle.bs_host.specs.Routing.{admit_route, hand_route, leave_route, stray_for}
 
 abbrev pub parsed_line : Line → ParsedLine
 parsed_line line.Blank = parsed.Blank
@@ -32,7 +34,7 @@ abbrev pub route_parsed : Capacity → OpenStayList → ParsedLine → Route
 route_parsed capacity open_stays (parsed.Command game command) = hand_route (found_in game open_stays.stays) command
 route_parsed capacity open_stays (parsed.Stray kind) = route.Stray kind
 route_parsed capacity open_stays parsed.Blank = route.Nowhere
-route_parsed capacity open_stays (parsed.Admit row) = admit_route (refusal_by capacity open_stays row) row
+route_parsed capacity open_stays (parsed.Admit row) = admit_route (stray_for (refusal_by capacity open_stays row)) row
 route_parsed capacity open_stays (parsed.Leave game) = leave_route (found_in game open_stays.stays)
 
 -- the lines are numbered from `number` on

@@ -16,7 +16,7 @@ use Rattle.bs_heap.specs.Packing.{no_packing, numbers_of}
 use Rattle.bs_pool.specs.Ledger.{Ledger, reserved}
 use Rattle.bs_sched.specs.declared.cores.TheConstants.{LEAST_CAPACITY}
 use Rattle.bs_sched.specs.declared.game.Game.TheInside.{Inside}
-use Rattle.bs_sched.specs.declared.plan_blocks.TheConstants.{FRAME_BLOCKS}
+use Rattle.bs_registry.specs.declared.blocks.TheConstants.{FRAME_BLOCKS}
 use Rattle.bs_sched.specs.Frames.{flattened, written}
 use Rattle.bs_sched.specs.inner.Frames.{forked_frames, frames_taken, idle_frames, no_frames, with_moved}
 use Rattle.bs_sched.specs.Games.{answer_effect}

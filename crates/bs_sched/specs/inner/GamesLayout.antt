@@ -5,7 +5,7 @@ use Rattle.bs_board.specs.plans.Plan.{GameRow, IsFitPlan}
 use Rattle.bs_pool.specs.Ledger.{Ledger}
 use Rattle.bs_sched.specs.declared.games.Games.TheInside.{Inside}
 use Rattle.bs_sched.specs.declared.cores.TheConstants.{LEAST_CAPACITY}
-use Rattle.bs_sched.specs.declared.plan_blocks.TheConstants.{MOST_STAYS}
+use Rattle.bs_registry.specs.declared.blocks.TheConstants.{MOST_STAYS}
 use Rattle.bs_sched.specs.Game.{GameView}
 use Rattle.bs_sched.specs.inner.Game.{HasBlocks, no_game, opened_game}
 use Rattle.bs_sched.specs.Games.{GamesView}

@@ -11,7 +11,7 @@ use Rattle.bs_sched.specs.inner.Keyed.{HasKeys}
 use Rattle.bs_sched.specs.Lane.{Lane, is_part_done, lane_command, lane_view}
 use Rattle.bs_sched.specs.PartState.{PartState}
 use Rattle.bs_sched.specs.PartState as state
-use Rattle.bs_sched.specs.declared.plan_blocks.TheConstants.{FRAME_BLOCKS}
+use Rattle.bs_registry.specs.declared.blocks.TheConstants.{FRAME_BLOCKS}
 use Rattle.bs_sched.specs.declared.stage.Stage.{Stage}
 use Rattle.bs_sched.specs.declared.stage.Stage.TheVariants as stage
 use Rattle.bs_sched.specs.MoveParts.{PartView, Ready, Out, Done, Joining, PartsView}

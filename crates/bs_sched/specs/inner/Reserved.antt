@@ -3,10 +3,10 @@ use Rattle.std.specs.Prelude.{◌≡◌, ◌≢◌, ℕ, ◌*◌, ◌<◌, ◌�
 use Rattle.bs_board.specs.plans.Plan.{GameRow}
 use Rattle.bs_pool.specs.declared.reservation.Reservation.{Reservation}
 use Rattle.bs_pool.specs.Reservations.{reserved_by, all_reserved}
-use Rattle.bs_sched.specs.declared.plan_blocks.TheConstants.{FRAME_BLOCKS}
+use Rattle.bs_registry.specs.declared.blocks.TheConstants.{FRAME_BLOCKS}
 use Rattle.bs_sched.specs.Lane.{Lane}
 use Rattle.bs_sched.specs.Machine.{lane_of, open_blocks}
-use Rattle.bs_sched.specs.PlanBlocks.{record_blocks}
+use Rattle.bs_registry.specs.Blocks.{record_blocks}
 use Rattle.bs_sched.specs.Storage.{record_tag, frame_tag}
 
 pub record IsReserved (cap game : ℕ) (row : GameRow) (rs : List Reservation) : Type 0 where

@@ -1,6 +1,7 @@
 use Rattle.bs_workers.specs.Acts.{opened}
-use Rattle.bs_host.specs.inner.OpenStays.{open_stays_of}
+use Rattle.bs_registry.specs.inner.OpenStays.{open_stays_of}
 use Rattle.bs_host.specs.inner.Parsed.{routes_parsed}
+use Rattle.bs_registry.specs.Registry.{seen}
 use Rattle.bs_host.specs.Routing.{capacity_of}
 use Rattle.bs_host.proofs.ParsedLines.{AreLeft}
 use Rattle.bs_host.proofs.route.route_lines.Given as goal
@@ -9,4 +10,4 @@ use Rattle.bs_host.proofs.route.route_lines.Given as goal
 abbrev pub invariant-loop-line : goal.invariant-loop-line
 invariant-loop-line l =
     AreLeft (routes_parsed (capacity_of l.blocks) (open_stays_of (opened l.rows)) 2 l.fn.lines.items)
-    (routes_parsed (capacity_of l.blocks) l.open_stays l.number l.line-iterator.rest.items) l.requests
+    (routes_parsed (capacity_of l.blocks) (seen l.open_stays) l.number l.line-iterator.rest.items) l.requests

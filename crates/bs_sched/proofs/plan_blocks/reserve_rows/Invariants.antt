@@ -1,6 +1,7 @@
 use Rattle.std.proofs.Common.{◌≡◌, ◌+◌, ◌*◌, ◌<◌, ◌++◌, drop, All}
 use Rattle.bs_pool.specs.Reservations.{all_reserved}
-use Rattle.bs_sched.specs.PlanBlocks.{blocks_of_all, reservations_from, reservations_of}
+use Rattle.bs_registry.specs.Blocks.{blocks_of_all}
+use Rattle.bs_sched.specs.PlanBlocks.{reservations_from, reservations_of}
 use Rattle.bs_sched.proofs.plan_blocks.reserve_rows.Given as goal
 
 -- the reservations made so far, then those still to be made

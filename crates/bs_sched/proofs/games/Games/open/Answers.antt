@@ -1,6 +1,6 @@
 -- A newly opened core is sound.
 use Rattle.std.proofs.Common.{◌≤◌, arith}
-use Rattle.bs_sched.specs.PlanBlocks.{blocks_of_all}
+use Rattle.bs_registry.specs.Blocks.{blocks_of_all}
 use Rattle.bs_sched.proofs.OpenedGames.{sound_opened}
 use Rattle.bs_sched.proofs.games.Games.open.Goals as goal
 

@@ -1,0 +1,5 @@
+pub mod Found
+pub mod NamedOnce
+pub mod OpenStays
+pub mod Planned
+pub mod Rows

@@ -1,0 +1,2 @@
+-- What private contracts cite, and no public one.
+pub mod OpenStays

@@ -1,0 +1,10 @@
+//! Which stays are open, and which rows may be admitted: one list, one order of refusals.
+#![tactic(auto)]
+
+mod blocks;
+mod refusal;
+mod registry;
+
+pub use blocks::{FRAME_BLOCKS, MOST_STAYS, blocks_of, blocks_of_all, record_blocks};
+pub use refusal::Refusal;
+pub use registry::{Listed, Registry};
