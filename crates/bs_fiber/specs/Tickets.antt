@@ -1,6 +1,6 @@
 -- A ticket as clauses see it: the input of its job, its frame blocks, and the output if the job was
 -- run.
-use Rattle.std.specs.Prelude.{◌≡◌, ℕ, ◌≤◌, List, [], ◌∷◌, ◌++◌, map, Option, None, MatchOption}
+use Rattle.std.specs.Prelude.{◌≡◌, ℕ, ◌≤◌, List, [], ◌∷◌, ◌++◌, map, Option, None}
 use Rattle.bs_block.specs.Bytes.{padded}
 use Rattle.bs_board.specs.declared.commands.command.Command.{Command}
 use Rattle.bs_pool.specs.declared.owned.Owned.{Owned}
@@ -17,7 +17,7 @@ use Rattle.bs_game.specs.View.{answer_of}
 use Rattle.bs_fiber.specs.Fit.{IsFitInput}
 use Rattle.bs_fiber.specs.Frames.{frame_of}
 use Rattle.bs_fiber.specs.Seeing.{IsSeen}
-use Rattle.bs_fiber.specs.Work.{IsWorked, moved_part, moved_parts}
+use Rattle.bs_fiber.specs.Work.{moved_part, moved_parts}
 
 -- a frame block: its owner and its number in the pool, and its bytes
 pub record Frame : Type 0 where
@@ -84,7 +84,3 @@ worked_bytes Join part view command = with_added (answer_of view command).effect
 
 abbrev pub HoldsWork : TicketView → Type 0
 HoldsWork t = (view : View) → IsSeen view t.input → bytes_of t.frames ≡ worked_bytes t.input.job.kind t.input.job.part view t.input.command
-
--- its job was run, and it has the output
-abbrev pub HasOutput : TicketView → Type 0
-HasOutput t = MatchOption t.out ⊥ (IsWorked t.input)

@@ -2,4 +2,5 @@
 pub mod Asking
 pub mod Frames
 pub mod Moving
+pub mod Output
 pub mod Work

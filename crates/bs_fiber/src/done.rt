@@ -2,7 +2,8 @@
 ghost use Rattle.std.specs.Prelude.{◌≡◌, ◌≤◌, IfOk, IfErr, OnOk, map, option_map};
 ghost use Rattle.bs_fiber.specs.declared.input.Input.{Input as AnyInput};
 ghost use Rattle.bs_fiber.specs.Fit.{IsFitInput};
-ghost use Rattle.bs_fiber.specs.Tickets.{HasOutput, HoldsWork, IsFresh, bytes_of, fresh_bytes, frames_in, names_of, ticket_in, without_output, worked_bytes};
+ghost use Rattle.bs_fiber.specs.inner.Output.{HasOutput};
+ghost use Rattle.bs_fiber.specs.Tickets.{HoldsWork, IsFresh, bytes_of, fresh_bytes, frames_in, names_of, ticket_in, without_output, worked_bytes};
 ghost use Rattle.bs_game.specs.declared.view.View.{View as AnyView};
 ghost use Rattle.bs_fiber.specs.Seeing.{IsSeen};
 ghost use Rattle.bs_fiber.specs.Work.{IsWorked, added_seen};
@@ -34,7 +35,8 @@ impl<const CAP: usize> Model for Done<CAP> {
 
     ghost view = { λ d. d.ticket };
 
-    ghost use Rattle.bs_fiber.specs.Tickets.{HasOutput, HoldsWork};
+    ghost use Rattle.bs_fiber.specs.inner.Output.{HasOutput};
+    ghost use Rattle.bs_fiber.specs.Tickets.{HoldsWork};
 
     ghost invariant = { λ d. HasOutput d.ticket × HoldsWork d.ticket };
 }
