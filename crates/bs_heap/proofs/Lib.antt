@@ -9,3 +9,5 @@ pub mod HeldBlocks
 pub mod LastRecord
 pub mod PackedPlaces
 pub mod PutRecord
+pub mod RenamedHeap
+pub mod Renaming

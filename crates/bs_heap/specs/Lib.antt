@@ -6,4 +6,5 @@ pub mod Heap
 pub mod HeldBlocks
 pub mod PackedPlaces
 pub mod Packing
+pub mod Renaming
 pub mod inner

@@ -4,3 +4,4 @@ pub mod Entries
 pub mod HeapLayout
 pub mod Lent
 pub mod OwnedBlocks
+pub mod Renaming

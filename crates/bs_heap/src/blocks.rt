@@ -1,10 +1,11 @@
 //! The blocks of one tag: the closed ones, and the current one, to which records are appended.
-ghost use Rattle.std.specs.Prelude.{◌≡◌, ◌+◌, ◌^◌, ◌<◌, ◌≤◌, ◌++◌, true, false, if◌then◌else◌, Some, [], length, option_map, unwrap_or, IfOk, vec_capacity};
+ghost use Rattle.std.specs.Prelude.{◌≡◌, ◌+◌, ◌^◌, ◌<◌, ◌≤◌, ◌++◌, true, false, if◌then◌else◌, Some, [], length, map, All, option_map, unwrap_or, IfOk, IfSome, vec_capacity};
 ghost use Rattle.bs_block.specs.Bytes.{HasRoom, padded, range};
 ghost use Rattle.bs_block.specs.Rounding.{rounded};
 ghost use Rattle.bs_pool.specs.Ledger.{held, reserved, least_free, drawn};
 ghost use Rattle.bs_heap.specs.HeldBlocks.{AreOwned, all_given, next_number};
 ghost use Rattle.bs_heap.specs.inner.Lent.{AreLent, owned_numbers};
+ghost use Rattle.bs_heap.specs.inner.Renaming.{number_at, renamed_owned};
 
 use bs_block::{Block, round_up};
 use bs_pool::{Owned, Pool};
@@ -61,8 +62,38 @@ fn give_back<const CAP: usize>(blocks: &mut Vec<Owned<CAP>>, pool: &mut Pool<CAP
     }
 }
 
+/// Gives the block the tag, and the number that stands in the list at its old one.
+fn rename_block<const CAP: usize>(owned: &mut Owned<CAP>, tag: u32, numbers: &[usize])
+    requires { owned.old.number < length numbers.now }
+    ensures { owned.new ≡ renamed_owned tag (number_at numbers.now) owned.old }
+{
+    owned.rename(tag, numbers[owned.number()]);
+}
+
+/// Does that for each of the blocks.
+fn rename_blocks<const CAP: usize>(blocks: &mut Vec<Owned<CAP>>, tag: u32, numbers: &[usize])
+    requires { All (λ owned. owned.number < length numbers.now) blocks.old.items }
+    ensures items { blocks.new.items ≡ map (renamed_owned tag (number_at numbers.now)) blocks.old.items }
+    ensures room { vec_capacity blocks.new ≡ vec_capacity blocks.old }
+{
+    for at in 0..blocks.len() {
+        rename_block(&mut blocks[at], tag, numbers);
+    }
+}
+
+/// Does that for the block if there is one.
+fn rename_current<const CAP: usize>(current: &mut Option<Owned<CAP>>, tag: u32, numbers: &[usize])
+    requires { IfSome current.old (λ owned. owned.number < length numbers.now) }
+    ensures { current.new ≡ option_map (renamed_owned tag (number_at numbers.now)) current.old }
+{
+    if let Some(owned) = current {
+        rename_block(owned, tag, numbers);
+    }
+}
+
 impl<const CAP: usize> TagBlocks<CAP> {
     ghost use Rattle.bs_heap.specs.Blocks.{NumberedBlock};
+    ghost use Rattle.bs_heap.specs.inner.Renaming.{renamed_blocks};
     ghost use Rattle.bs_heap.specs.inner.Blocks.{no_blocks, all_blocks, block_at, block_numbers, fits_current};
     ghost use Rattle.bs_heap.specs.inner.Entries.{PutsRecord};
 
@@ -179,5 +210,15 @@ impl<const CAP: usize> TagBlocks<CAP> {
         if let Some(owned) = self.current.take() {
             pool.give(owned);
         }
+    }
+
+    /// Gives each block the tag, and the number that stands in the list at its old one.
+    pub(crate) fn rename(&mut self, tag: u32, numbers: &[usize])
+        requires { All (λ number. number < length numbers.now) (block_numbers (all_blocks self.old)) }
+        ensures { self.new ≡ renamed_blocks tag (number_at numbers.now) self.old }
+    {
+        self.tag = tag;
+        rename_blocks(&mut self.closed, tag, numbers);
+        rename_current(&mut self.current, tag, numbers);
     }
 }

@@ -1,5 +1,5 @@
 //! A heap: the records of one tag, within a quota.
-ghost use Rattle.std.specs.Prelude.{◌≡◌, ◌<◌, ◌≤◌, false, Some, length, slice_index_or, [], IfOk, OnOk, OnErr};
+ghost use Rattle.std.specs.Prelude.{◌≡◌, ◌≢◌, ◌<◌, ◌≤◌, false, Some, length, slice_index_or, [], All, AllPairs, IfOk, OnOk, OnErr};
 ghost use Rattle.bs_block.specs.Rounding.{rounded};
 ghost use Rattle.bs_pool.specs.Ledger.{held, reserved, least_free};
 ghost use Rattle.bs_heap.specs.AddAnswer.{AddsRecord};
@@ -9,6 +9,7 @@ ghost use Rattle.bs_heap.specs.Heap.{empty_heap, with_index_room, with_last, wit
 ghost use Rattle.bs_heap.specs.HeldBlocks.{IsKeptIn, LeavesOthers, all_given, next_number};
 ghost use Rattle.bs_heap.specs.PackedPlaces.{AreApart};
 ghost use Rattle.bs_heap.specs.Packing.{numbers_of, closed_numbers, fits};
+ghost use Rattle.bs_heap.specs.Renaming.{renamed_heap};
 
 use crate::blocks::{Entry, TagBlocks};
 use bs_block::round_up;
@@ -172,5 +173,15 @@ impl<const CAP: usize> TagHeap<CAP> {
         self.blocks.give_all(pool);
         self.index.clear();
         self.charge = 0;
+    }
+
+    /// Gives the heap the tag, and each of its blocks the number that stands in the list at its old
+    /// one. No byte moves.
+    pub fn rename(&mut self, tag: u32, numbers: &[usize])
+        requires within { All (λ number. number < length numbers.now) (numbers_of self.old.packing) }
+        requires once { AllPairs (λ m n. m ≢ n) numbers.now }
+        ensures { self.new ≡ renamed_heap tag (λ number. slice_index_or numbers.now number 0) self.old }
+    {
+        self.blocks.rename(tag, numbers);
     }
 }

@@ -1,5 +1,6 @@
 pub mod Accounts
 pub mod Counts
+pub mod FreeNumbers
 pub mod Owners
 pub mod Parts
 pub mod Pigeonhole
@@ -7,3 +8,7 @@ pub mod Positions
 pub mod Reservations
 pub mod Soundness
 pub mod Marks
+pub mod Woven
+pub mod WovenCounts
+pub mod WovenOwners
+pub mod Assembled

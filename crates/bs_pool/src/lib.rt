@@ -2,12 +2,15 @@
 //! as many as it reserved.
 #![tactic(auto)]
 
+mod assembly;
+mod free_numbers;
 mod owned;
 mod pool;
 mod reservation;
 mod slot;
 mod words;
 
+pub use assembly::Assembly;
 pub use owned::Owned;
 pub use pool::Pool;
 pub use reservation::{Reservation, Reserve};

@@ -46,6 +46,16 @@ impl<const CAP: usize> Owned<CAP> {
         self.number
     }
 
+    /// Changes the tag and the number. The block does not change.
+    pub fn rename(&mut self, tag: u32, number: usize)
+        ensures tag { self.new.tag ≡ tag }
+        ensures number { self.new.number ≡ number }
+        ensures block { self.new.block ≡ self.old.block }
+    {
+        self.tag = tag;
+        self.number = number;
+    }
+
     /// The block, to read.
     pub fn block(&self) -> &Block<CAP>
         ensures { result.now ≡ self.now.block }

@@ -1,18 +1,21 @@
 //! The pool and its calls. A clause sees a pool as its ledger: the owner of each number, and the
 //! reservation of each tag.
-ghost use Rattle.std.specs.Prelude.{◌≡◌, ◌≤◌, IfOk, IsSome};
+ghost use Rattle.std.specs.Prelude.{◌≡◌, ◌+◌, ◌≤◌, length, IfOk, OnOk, OnErr, IsSome};
 ghost use Rattle.bs_block.specs.Bytes.{IsCapacity};
 ghost use Rattle.bs_pool.specs.Ledger.{IsSound, Owns, opened, free, size, held, reserved, unreserved, reservation_of, given, without_reservation};
 ghost use Rattle.bs_pool.specs.DrawAnswer.{Draws};
 ghost use Rattle.bs_pool.specs.ReserveAnswer.{Reserves};
+ghost use Rattle.bs_pool.specs.inner.Accounts.{AreCounted};
+ghost use Rattle.bs_pool.specs.inner.PoolParts.{ledger_in, AreParts};
 
 use crate::owned::Owned;
 use crate::reservation::{
     Account, Reservation, Reserve, all_reserved, count_drawn, count_given, counted, is_reserved,
     reserved_by, withdraw,
 };
-use crate::slot::{Slot, count_free, new_slots};
+use crate::slot::{Slot, count_free, gather, home_slots, new_slots};
 use crate::words::{first_marked, mark, new_words, unmark};
+use bs_block::Block;
 use std::alloc::{AllocError, Global};
 use std::marker::Model;
 
@@ -24,6 +27,12 @@ pub struct Pool<const CAP: usize> {
     reservations: Vec<Account>,
     // One bit per block number, set if the block is free.
     words: Vec<u64>,
+}
+
+/// What a pool keeps beside the words of its free numbers.
+pub(crate) struct Parts<const CAP: usize> {
+    pub(crate) slots: Vec<Slot<CAP>>,
+    pub(crate) accounts: Vec<Account>,
 }
 
 impl<const CAP: usize> Model for Pool<CAP> {
@@ -50,6 +59,65 @@ impl<const CAP: usize> Pool<CAP> {
             reservations: Vec::new(alloc),
             words: new_words(alloc, n)?,
         })
+    }
+
+    /// Makes a pool of `n` free blocks without reservations from the last `n` of the blocks. The
+    /// error is the allocator's; the blocks are then the same.
+    #[tactic(auto, using(crate::proofs::Soundness::sound_opened))]
+    pub fn from_blocks(
+        alloc: Global,
+        blocks: &mut Vec<Block<CAP>>,
+        n: usize,
+    ) -> Result<Self, AllocError>
+        requires { n ≤ length blocks.old.items }
+        ensures pool { IfOk result (λ pool. pool ≡ opened n) }
+        ensures blocks { OnOk result (length blocks.new.items + n ≡ length blocks.old.items) }
+        ensures err { OnErr result (blocks.new.items ≡ blocks.old.items) }
+    {
+        let words = new_words(alloc, n)?;
+        let slots = home_slots(alloc, n, blocks)?;
+        Ok(Pool {
+            slots,
+            reservations: Vec::new(alloc),
+            words,
+        })
+    }
+
+    /// The free blocks of a pool that is no longer needed.
+    pub fn into_blocks(self, alloc: Global) -> Result<Vec<Block<CAP>>, AllocError>
+        ensures { IfOk result (λ blocks. length blocks.items ≡ free self.entry) }
+    {
+        let Parts { slots, accounts } = self.into_parts();
+        drop(accounts);
+        let mut blocks = Vec::with_capacity(alloc, slots.len())?;
+        gather(slots, &mut blocks)?;
+        Ok(blocks)
+    }
+
+    pub(crate) fn into_parts(self) -> Parts<CAP>
+        ensures ledger { ledger_in result.slots.items result.accounts.items ≡ self.entry }
+        ensures sound { IsSound self.entry }
+        ensures counts { AreCounted result.slots.items result.accounts.items }
+    {
+        let Pool {
+            slots,
+            reservations: accounts,
+            words,
+        } = self;
+        drop(words);
+        Parts { slots, accounts }
+    }
+
+    pub(crate) fn from_parts(parts: Parts<CAP>, words: Vec<u64>) -> Self
+        requires { AreParts parts.slots.items parts.accounts.items words.items }
+        ensures { result ≡ ledger_in parts.entry.slots.items parts.entry.accounts.items }
+    {
+        let Parts { slots, accounts } = parts;
+        Pool {
+            slots,
+            reservations: accounts,
+            words,
+        }
     }
 
     /// The number of free blocks.

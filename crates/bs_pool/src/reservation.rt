@@ -1,7 +1,8 @@
 //! Reservations, and why one is refused.
-ghost use Rattle.std.specs.Prelude.{◌≡◌, ◌+◌, ◌-◌, ◌<◌, ◌^◌, true, false, nat_lt, position};
-ghost use Rattle.bs_pool.specs.inner.Accounts.{is_account_of, has_account, granted, all_granted, without_account, counted, AreDistinct, Recounts};
+ghost use Rattle.std.specs.Prelude.{◌≡◌, ◌+◌, ◌-◌, ◌<◌, ◌^◌, ◌++◌, map, All, true, false, nat_lt, position, OnOk};
+ghost use Rattle.bs_pool.specs.inner.Accounts.{is_account_of, has_account, granted, all_granted, without_account, counted, raised_account, AreDistinct, Recounts};
 
+use std::alloc::AllocError;
 use thiserror::Error;
 
 /// The largest number of blocks that a tag may own.
@@ -127,4 +128,25 @@ pub(crate) fn withdraw(accounts: &mut Vec<Account>, tag: u32)
     ensures { accounts.new.items ≡ without_account tag accounts.old.items }
 {
     accounts.retain(|account| account.reservation.tag != tag);
+}
+
+/// Appends the accounts with the offset added to each tag.
+pub(crate) fn append_raised(
+    accounts: &mut Vec<Account>,
+    more: &[Account],
+    offset: u32,
+) -> Result<(), AllocError>
+    requires { All (λ a. a.reservation.tag + offset < 2 ^ 32) more.now }
+    ensures { OnOk result (accounts.new.items ≡ accounts.old.items ++ map (raised_account offset) more.now) }
+{
+    for at in 0..more.len() {
+        let Account { reservation, held } = more[at];
+        let tag = reservation.tag + offset;
+        let blocks = reservation.blocks;
+        accounts.push(Account {
+            reservation: Reservation { tag, blocks },
+            held,
+        })?;
+    }
+    Ok(())
 }

@@ -217,3 +217,23 @@ fn keeps_the_last_of_two_blocks(rt: HostRuntime) -> Result<(), Fail> {
     same("records at the end", heap.count(), 0)?;
     same("free at the end", pool.free(), 20)
 }
+
+/// Renames the blocks of a heap with one record, which is the same afterwards.
+fn rename_heap<const CAP: usize>(heap: &mut TagHeap<CAP>, pool: &Pool<CAP>) -> Result<(), Fail>
+    requires { IsKeptIn heap.old pool.now }
+    ensures { IfOk result (λ _. heap.new.tag ≡ 7) }
+{
+    holds("two blocks", pool.size() == 2)?;
+    heap.rename(7, &[1, 0]);
+    holds("one record", heap.count() == 1)?;
+    same("its bytes", heap.record(0), [1, 2, 3].as_slice())?;
+    same("its charge", heap.charge(), 16)
+}
+
+#[test]
+fn a_heap_gets_another_tag(rt: HostRuntime) -> Result<(), Fail> {
+    let mut pool = Pool::<524_288>::open(rt.alloc(), 2)?;
+    let mut heap = open_heap(rt.alloc(), &mut pool, 1, 64)?;
+    add(&mut heap, &mut pool, &[1, 2, 3])?;
+    rename_heap(&mut heap, &pool)
+}

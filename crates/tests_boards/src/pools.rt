@@ -1,6 +1,10 @@
 //! A small pool: blocks are drawn, given back and drawn again.
-use bs_pool::{Owned, Pool, Reserve};
+ghost use Rattle.std.specs.Prelude.{◌≡◌, ◌-◌, ◌<◌, ◌≤◌, ◌^◌, ◌++◌, ◌∷◌, [], None, IfOk};
+ghost use Rattle.bs_pool.specs.Ledger.{reservation_of, size};
+
+use bs_pool::{Assembly, Owned, Pool, Reserve};
 use bs_samples::{holds, same};
+use std::alloc::Global;
 use std::marker::Send;
 use std::test::Fail;
 
@@ -123,4 +127,64 @@ fn a_pool_of_130_blocks(rt: HostRuntime) -> Result<(), Fail> {
     draw_last(&mut pool)?;
     drop(draw_number(&mut pool, 129)?);
     Ok(())
+}
+
+/// Makes a pool of two blocks, which tag 0 reserves, and of which it owns the first.
+#[tactic(auto, using(bs_pool::proofs::Owners::size_drawn))]
+fn open_group(alloc: Global) -> Result<Pool<64>, Fail>
+    ensures size { IfOk result (λ pool. size pool ≡ 2) }
+    ensures tag { IfOk result (λ pool. pool.reservations ≡ record { tag = 0; blocks = 2 } ∷ []) }
+{
+    let mut pool = Pool::<64>::open(alloc, 2)?;
+    pool.reserve(0, 2)?;
+    drop(pool.draw(0).ok_or("a first block")?);
+    Ok(pool)
+}
+
+/// Lays such a pool into the assembly, and checks its two numbers.
+fn lay_group(
+    alloc: Global,
+    assembly: Assembly<64>,
+    offset: u32,
+    first: usize,
+    second: usize,
+) -> Result<Assembly<64>, Fail>
+    requires room { 2 ≤ assembly.missing }
+    requires tag { reservation_of offset assembly.ledger ≡ None }
+    ensures missing { IfOk result (λ a. a.missing ≡ assembly.missing - 2) }
+    ensures tags { IfOk result (λ a. a.ledger.reservations ≡ assembly.ledger.reservations ++ record { tag = offset; blocks = 2 } ∷ []) }
+{
+    let (assembly, numbers) = assembly.lay(alloc, open_group(alloc)?, offset)?;
+    same("its first number", numbers[0], first)?;
+    same("its second number", numbers[1], second)?;
+    Ok(assembly)
+}
+
+/// Checks that tags 0 and 1 own a block each of four, and that tag 1 draws the third.
+fn check_both(pool: &mut Pool<64>) -> Result<(), Fail> {
+    same("free", pool.free(), 2)?;
+    same("held by tag 0", pool.held(0), 1)?;
+    same("held by tag 1", pool.held(1), 1)?;
+    same("reserved by tag 1", pool.reserved(1), 2)?;
+    drop(draw_number(pool, 2)?);
+    check_no_block(pool, 2)
+}
+
+/// The second group's numbers are those that the first one left free.
+#[test]
+fn a_pool_of_two_groups(rt: HostRuntime) -> Result<(), Fail> {
+    let assembly = Assembly::<64>::new(rt.alloc(), 4, Vec::new(rt.alloc()))?;
+    let assembly = lay_group(rt.alloc(), assembly, 0, 0, 1)?;
+    let assembly = lay_group(rt.alloc(), assembly, 1, 1, 2)?;
+    check_both(&mut assembly.finish(rt.alloc())?)
+}
+
+/// Two of three free blocks go to another pool.
+#[test]
+fn a_pool_of_the_blocks_of_another(rt: HostRuntime) -> Result<(), Fail> {
+    let mut blocks = Pool::<64>::open(rt.alloc(), 3)?.into_blocks(rt.alloc())?;
+    holds("three blocks", blocks.len() == 3)?;
+    let pool = Pool::from_blocks(rt.alloc(), &mut blocks, 2)?;
+    same("its free blocks", pool.free(), 2)?;
+    same("the blocks left", blocks.len(), 1)
 }

@@ -1,5 +1,5 @@
 -- Reservations, each with how many numbers its tag owns.
-use Rattle.std.specs.Prelude.{◌≡◌, ◌≢◌, ℕ, Bool, List, map, find, position, count_by, slice_get, slice_set, All, AllPairs, Option, Some, MatchOption, option_map, unwrap_or, sum_by, filter, not}
+use Rattle.std.specs.Prelude.{◌≡◌, ◌≢◌, ℕ, ◌+◌, Bool, List, map, find, position, count_by, slice_get, slice_set, All, AllPairs, Option, Some, MatchOption, option_map, unwrap_or, sum_by, filter, not}
 use Rattle.std.specs.List.{list_any}
 use Rattle.bs_pool.specs.declared.reservation.Account.{Account}
 use Rattle.bs_pool.specs.declared.reservation.Reservation.{Reservation}
@@ -47,3 +47,7 @@ Recounts change tag old new =
     MatchOption (position (is_account_of tag) old)
     (new ≡ old)
     (λ at. (a : Account) × (slice_get old at ≡ Some a) × (new ≡ slice_set old at (record a { held = change a.held })))
+
+-- the account once the offset is added to its tag
+abbrev pub raised_account : ℕ → Account → Account
+raised_account offset a = record { reservation = record { tag = a.reservation.tag + offset; blocks = a.reservation.blocks }; held = a.held }
