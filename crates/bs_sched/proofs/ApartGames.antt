@@ -8,7 +8,8 @@ use Rattle.bs_heap.specs.Packing.{Packing, no_packing}
 use Rattle.bs_pool.proofs.Counts.{count_cons}
 use Rattle.bs_pool.specs.declared.reservation.Reservation.{Reservation}
 use Rattle.bs_pool.specs.Ledger.{ledger_of, is_unowned, size}
-use Rattle.bs_sched.specs.Assembly.{Hand, commands_for, jobs_at, jobs_from, tag_at, owners_with, owners_from, packings_from, renamed_packing, own_lane, own_frames, RanAlone}
+use Rattle.bs_heap.specs.Renaming.{renamed_packing}
+use Rattle.bs_sched.specs.Assembly.{Hand, commands_for, jobs_at, jobs_from, tag_at, owners_with, owners_from, packings_from, own_lane, own_frames, RanAlone}
 use Rattle.bs_sched.specs.Core.{CoreView}
 use Rattle.bs_sched.specs.Isolation.{opened_lanes}
 use Rattle.bs_sched.specs.Journal.{setting_in}
@@ -16,8 +17,8 @@ use Rattle.bs_sched.specs.Lane.{Lane, empty_lane}
 use Rattle.bs_sched.specs.Machine.{Setting}
 use Rattle.bs_registry.specs.Blocks.{blocks_of, blocks_of_all}
 use Rattle.bs_sched.specs.Storage.{Storage, packing_of}
-use Rattle.bs_sched.specs.Woven.{woven, place_in}
-use Rattle.bs_sched.proofs.Woven.{fresh_woven, size_woven}
+use Rattle.bs_pool.specs.Woven.{woven, place_in}
+use Rattle.bs_pool.proofs.Woven.{fresh_woven, size_woven}
 use Rattle.bs_sched.proofs.ApartLanes.{AreFree, queued, handed}
 use Rattle.bs_sched.proofs.ApartRows.{AreAlone, handed_free, free_push, row_beside}
 use Rattle.bs_sched.proofs.ApartRun.{storage_run, storage_run_after, jobs_stored}

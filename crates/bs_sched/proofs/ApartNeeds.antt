@@ -49,7 +49,7 @@ all_right P (x ∷ xs) ys all = all_right P xs ys (All-tail P x (xs ++ ys) all)
 
 -- numbers of a pool
 
-held_below : (tag : ℕ) (numbers : List ℕ) (pool : Ledger) → Holds tag numbers pool → AreBelow (length pool.owners) numbers
+pub held_below : (tag : ℕ) (numbers : List ℕ) (pool : Ledger) → Holds tag numbers pool → AreBelow (length pool.owners) numbers
 held_below tag numbers pool holds =
     All-weaker (λ n. Owns tag n pool) (λ n. n < length pool.owners) (λ n owns. slice_get_within pool.owners n (Some tag) owns) numbers holds.owned.each
 

@@ -75,7 +75,7 @@ run_kept cap setting (event.Put worker job ∷ journal) lanes s =
 run_kept cap setting (event.Admit new ∷ journal) lanes s = run_kept cap setting journal lanes s
 run_kept cap setting (event.Leave game ∷ journal) lanes s = run_kept cap setting journal lanes s
 
-own_reserved : (cap workers : ℕ) (row : GameRow) (commands : List Command) (core : CoreView) → RanAlone cap workers row commands core
+pub own_reserved : (cap workers : ℕ) (row : GameRow) (commands : List Command) (core : CoreView) → RanAlone cap workers row commands core
     → core.games.storage.pool.reservations ≡ reservations_of cap (row ∷ [])
 own_reserved cap workers row commands core alone =
     ap reserved_in (sym (own_storage cap workers row commands core alone).storage)

@@ -11,13 +11,14 @@ use Rattle.bs_fiber.specs.declared.job.JobKind.{JobKind}
 use Rattle.bs_fiber.specs.declared.job.JobKind.TheVariants as kind
 use Rattle.bs_game.specs.declared.reply.Effect.{Effect}
 use Rattle.bs_game.specs.declared.reply.Effect.TheVariants as effect
-use Rattle.bs_sched.specs.Assembly.{renamed_packing, tag_at}
+use Rattle.bs_heap.specs.Renaming.{renamed_packing}
+use Rattle.bs_sched.specs.Assembly.{tag_at}
 use Rattle.bs_sched.specs.Frames.{flattened}
 use Rattle.bs_sched.specs.Games.{storage_taken, storage_put, put_effect, answer_effect}
 use Rattle.bs_sched.specs.Lane.{Lane, goes_on, forked}
 use Rattle.bs_sched.specs.Memory.{CanDraw}
 use Rattle.bs_sched.specs.Storage.{Storage, packing_of, frames_of, packing_after, pool_after, record_tag, frame_tag, stored, with_parts, with_frame, without_frames}
-use Rattle.bs_sched.specs.Woven.{place_in}
+use Rattle.bs_pool.specs.Woven.{place_in}
 use Rattle.bs_sched.proofs.ApartStorage.{whole_ledger, AreBelow, block_apart, place_apart, fits_apart, packings_law, pool_law, gives_law, draws_law, frames_apart}
 
 -- the storage of a core of one game

@@ -1,6 +1,8 @@
 -- Packings, draws and gives commute with the renaming of blocks.
-use Rattle.std.proofs.Common.{◌≡◌, ℕ, ◌+◌, ◌-◌, ◌<◌, Bool, true, false, if◌then◌else◌, List, [], ◌∷◌, ◌++◌, length, map, drop, Option, Some, None, refl, sym, ap, subst, ◌∙◌}
-use Rattle.std.specs.Prelude.{All, option_map, option_to_list, unwrap_or, slice_set}
+use Rattle.std.proofs.Common.{◌≡◌, ℕ, ◌+◌, ◌-◌, ◌<◌, Bool, true, false, if◌then◌else◌, List, [], ◌∷◌, ◌++◌, length, map, drop, Option, Some, None, refl, sym, ap, subst, ◌∙◌, arith, inl, inr}
+use Rattle.std.specs.Prelude.{All, option_map, option_to_list, unwrap_or, slice_set, position, nat_lt}
+use Rattle.std.specs.List.{position_or_len}
+use Rattle.std.proofs.lemmas.Bool.{cases_Bool, ltb-true}
 use Rattle.std.proofs.lemmas.List.{map-append, map_push, drop-map, length-map, length-set}
 use Rattle.std.proofs.lemmas.List.Elements.{All-head, All-tail}
 use Rattle.bs_block.specs.Rounding.{rounded}
@@ -13,9 +15,19 @@ use Rattle.bs_game.specs.declared.reply.Effect.TheVariants as effect
 use Rattle.bs_sched.specs.Frames.{flattened}
 use Rattle.bs_sched.specs.Memory.{CanDraw}
 use Rattle.bs_sched.specs.Storage.{packing_after, pool_after}
-use Rattle.bs_sched.specs.Woven.{woven, place_in}
-use Rattle.bs_sched.specs.Assembly.{renamed_use, renamed_place, renamed_packing}
-use Rattle.bs_sched.proofs.Woven.{sets_woven, first_woven, found}
+use Rattle.bs_pool.specs.Woven.{woven, place_in}
+use Rattle.bs_heap.specs.Renaming.{renamed_use, renamed_place, renamed_packing}
+use Rattle.bs_pool.proofs.Woven.{sets_woven, first_woven}
+
+found : {X : Type 0} (p : X → Bool) (xs : List X) (n : ℕ) → position p xs ≡ Some n → (position_or_len p xs ≡ n) × (n < length xs)
+found p xs n at =
+    elim (cases_Bool (nat_lt (position_or_len p xs) (length xs))) [
+      | inl some ↦
+          let e = rw some at at in
+          let is : position_or_len p xs ≡ n = cc in
+          (is, let less = ltb-true _ _ some in omega (arith, less, is))
+      | inr none ↦ let e = rw none at at in cc
+    ]
 
 -- the ledger of the whole while the owners of a part are laid into it
 abbrev pub whole_ledger : (ℕ → ℕ) → List (Option ℕ) → List Reservation → Ledger → Ledger

@@ -256,7 +256,7 @@ put_marks workers lanes busy worker job enabled table =
     let sum = sum_by-set (held_by w) lanes job.game (with_put job.kind job.part x) no_lane within in
     omega (arith, sum, here)) table
 
-none_there : (n w : ℕ) → slice_index_or (replicate n false) w false ≡ false
+pub none_there : (n w : ℕ) → slice_index_or (replicate n false) w false ≡ false
 none_there zero zero = refl
 none_there zero (suc w) = refl
 none_there (suc n) zero = refl

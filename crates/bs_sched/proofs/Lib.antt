@@ -45,7 +45,6 @@ pub mod Results
 pub mod Tallies
 pub mod PartFrames
 pub mod JoinFrames
-pub mod Woven
 pub mod ApartLanes
 pub mod ApartRows
 pub mod ApartStorage
@@ -56,3 +55,12 @@ pub mod ApartGames
 pub mod ApartReservations
 pub mod Assembly
 pub mod OpenedApart
+pub mod Idle
+pub mod OpenStays
+pub mod Led
+pub mod OnlyGame
+pub mod Gathered
+pub mod PlacedGame
+pub mod Merged
+pub mod PutTogether
+pub mod RanAlone

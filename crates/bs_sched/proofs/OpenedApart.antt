@@ -15,7 +15,7 @@ use Rattle.bs_sched.specs.Lane.{Lane, empty_lane}
 use Rattle.bs_registry.specs.Blocks.{blocks_of, blocks_of_all}
 use Rattle.bs_sched.specs.PlanBlocks.{reservations_of}
 use Rattle.bs_sched.specs.SharedMemory.{IsHosted}
-use Rattle.bs_sched.proofs.Woven.{fresh_woven}
+use Rattle.bs_pool.proofs.Woven.{fresh_woven}
 use Rattle.bs_sched.proofs.ApartGames.{all_unowned}
 use Rattle.bs_sched.proofs.Journal.{opened_journal}
 

@@ -1,12 +1,13 @@
 -- Games that ran apart, each in a core of its own, put together: the core of all games that the
 -- same events lead to.
-use Rattle.std.specs.Prelude.{◌≡◌, ℕ, suc, ◌+◌, ◌*◌, ◌<◌, true, false, if◌then◌else◌, nat_eq, List, [], ◌∷◌, ◌++◌, length, map, replicate, slice_index_or, All, Option, Some, None, option_map}
+use Rattle.std.specs.Prelude.{⊤, ◌≡◌, ℕ, suc, ◌+◌, ◌*◌, ◌<◌, true, false, if◌then◌else◌, nat_eq, List, [], ◌∷◌, ◌++◌, length, map, replicate, slice_index_or, All, Option, Some, None}
 use Rattle.std.specs.List.{filter_map}
 use Rattle.bs_board.specs.declared.commands.command.Command.{Command}
 use Rattle.bs_board.specs.plans.Plan.{GameRow}
 use Rattle.bs_pool.specs.declared.reservation.Reservation.{Reservation}
 use Rattle.bs_pool.specs.Ledger.{ledger_of, size}
-use Rattle.bs_heap.specs.Packing.{Use, Place, Packing}
+use Rattle.bs_heap.specs.Packing.{Packing}
+use Rattle.bs_heap.specs.Renaming.{renamed_packing}
 use Rattle.bs_fiber.specs.declared.job.JobName.{JobName}
 use Rattle.bs_sched.specs.declared.event.Event.{Event}
 use Rattle.bs_sched.specs.declared.event.Event.TheVariants as event
@@ -19,7 +20,7 @@ use Rattle.bs_registry.specs.Blocks.{blocks_of}
 use Rattle.bs_sched.specs.PlanBlocks.{reservations_of}
 use Rattle.bs_sched.specs.SharedMemory.{IsHosted}
 use Rattle.bs_sched.specs.Storage.{packing_of, frames_of}
-use Rattle.bs_sched.specs.Woven.{woven, place_in}
+use Rattle.bs_pool.specs.Woven.{woven, place_in}
 
 -- The commands of a file.
 
@@ -87,21 +88,6 @@ abbrev pub reservations_laid : ℕ → List CoreView → List Reservation
 reservations_laid row [] = []
 reservations_laid row (core ∷ cores) = map (reservation_at row) core.games.storage.pool.reservations ++ reservations_laid (suc row) cores
 
-abbrev pub renamed_use : (ℕ → ℕ) → Use → Use
-renamed_use number u = record { number = number u.number; used = u.used }
-
-abbrev pub renamed_place : (ℕ → ℕ) → Place → Place
-renamed_place number p = record { number = number p.number; at = p.at; len = p.len }
-
--- the packing of the same records in blocks with other numbers
-abbrev pub renamed_packing : (ℕ → ℕ) → Packing → Packing
-renamed_packing number p =
-    record {
-      closed = map (renamed_use number) p.closed;
-      current = option_map (renamed_use number) p.current;
-      places = map (renamed_place number) p.places;
-    }
-
 abbrev pub packings_from : ℕ → List (Option ℕ) → List CoreView → List Packing
 packings_from row owners [] = []
 packings_from row owners (core ∷ cores) =
@@ -145,14 +131,44 @@ pub record RanAlone (cap workers : ℕ) (row : GameRow) (commands : List Command
   pub hands_first : core.journal ≡ map (event.Hand 0) commands ++ jobs_at 0 core.journal
   pub idle : is_idle (own_lane core).stage ≡ true
 
+-- The cores as threads leave them.
+
+-- the event is a job's
+abbrev pub IsJob : Event → Type 0
+IsJob (event.Hand game command) = ⊥
+IsJob (event.Take worker job) = ⊤
+IsJob (event.Put worker job) = ⊤
+IsJob (event.Admit new) = ⊥
+IsJob (event.Leave game) = ⊥
+
+-- first these commands were queued for the core's only game, then come jobs
+pub record IsQueuedFirst (commands : List Command) (core : CoreView) : Type 0 where
+  pub jobs : List Event
+  pub journal_is : core.journal ≡ map (event.Hand 0) commands ++ jobs
+  pub are_jobs : All IsJob jobs
+
 -- a core without events, if there is none at that row
 abbrev pub core_at : List CoreView → ℕ → CoreView
 core_at cores row = slice_index_or cores row (opened_core 0 0 0 [])
+
+abbrev pub AreQueuedFirst : List Hand → List CoreView → Type 0
+AreQueuedFirst hands cores = (row : ℕ) → row < length cores → IsQueuedFirst (commands_for row hands) (core_at cores row)
 
 -- one core for each row of the plan
 pub record RanApart (cap workers : ℕ) (plan : List GameRow) (hands : List Hand) (cores : List CoreView) : Type 0 where
   pub many : length cores ≡ length plan
   pub each : (row : ℕ) → row < length plan → RanAlone cap workers (row_at plan row) (commands_for row hands) (core_at cores row)
+
+-- the commands of a file, queued for the games of these rows
+abbrev pub IsOrderOf : List Hand → List ℕ → Type 0
+IsOrderOf hands order = map (λ hand. hand.row) hands ≡ order
+
+-- each core ran its commands of a file, whose rows are in that order
+pub record RanInOrder (cap workers : ℕ) (plan : List GameRow) (order : List ℕ) (cores : List CoreView) : Type 0 where
+  pub hands : List Hand
+  pub ordered : IsOrderOf hands order
+  pub within : All (λ hand. hand.row < length plan) hands
+  pub apart : RanApart cap workers plan hands cores
 
 abbrev pub setting_with : ℕ → ℕ → ℕ → Setting
 setting_with cap blocks workers = record { cap = cap; blocks = blocks; workers = workers }

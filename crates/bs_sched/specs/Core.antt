@@ -24,3 +24,7 @@ core_after cap core e = record { games = after cap core.games e; journal = core.
 abbrev pub core_taken : ℕ → CoreView → ℕ → JobName → List (Option TallyId) → CoreView
 core_taken cap core worker job tallies =
     record { games = games_taken cap core.games worker job tallies; journal = core.journal ++ event.Take worker job ∷ [] }
+
+-- the core without its tallies, to which no event leads
+abbrev pub without_tallies : CoreView → CoreView
+without_tallies core = record core { games = record core.games { tallies = [] } }

@@ -22,5 +22,4 @@ pub mod Putting
 pub mod SharedMemory
 pub mod Storage
 pub mod Taking
-pub mod Woven
 pub mod inner

@@ -1,4 +1,5 @@
 -- What private contracts cite, and no public one.
+pub mod Assembling
 pub mod Busy
 pub mod FrameEffects
 pub mod Frames

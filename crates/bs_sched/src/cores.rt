@@ -160,7 +160,8 @@ impl<const CAP: usize> Core<CAP> {
 
     /// The number of the last worker, the caller's own.
     pub fn workers(&self) -> usize
-        ensures { result ≡ self.now.games.workers }
+        ensures value { result ≡ self.now.games.workers }
+        ensures few { result ≤ MOST_WORKERS }
     {
         self.games.workers()
     }

@@ -1,6 +1,6 @@
 //! One stay of the core: its fiber, the heap of its records and the parts of its move. Clauses see
 //! its lane, the places of its records and its frames.
-ghost use Rattle.std.specs.Prelude.{◌≡◌, ◌≢◌, ◌<◌, ◌≤◌, ◌*◌, ◌↔◌, ◌∷◌, IsTrue, ℕ, true, false, [], length, map, slice_get, slice_index_or, Some, MatchOption, option_map, IfOk, OnOk, OnErr};
+ghost use Rattle.std.specs.Prelude.{◌≡◌, ◌≢◌, ◌<◌, ◌≤◌, ◌*◌, ◌↔◌, ◌∷◌, IsTrue, ℕ, All, AllPairs, true, false, [], length, map, slice_get, slice_index_or, Some, MatchOption, option_map, IfOk, OnOk, OnErr};
 ghost use Rattle.bs_board.specs.declared.limits.TheConstants.{MOST_QUOTA};
 ghost use Rattle.bs_board.specs.records.Record.{record_of};
 ghost use Rattle.bs_fiber.specs.Expected.{IsLegalAsked, IsOf};
@@ -19,6 +19,7 @@ ghost use Rattle.bs_sched.specs.Courses.{IsRight};
 ghost use Rattle.bs_sched.specs.inner.Frames.{LeavesBut, pool_taken};
 ghost use Rattle.bs_sched.specs.inner.Game.{HasBlocks, IsAnswering, IsOwnTicket, IsTicketOf, answered_game, closed_game, completed_game, forked_game, game_with_part, handed_game, opened_game, own_names, pool_answered, pool_completed, taken_game};
 ghost use Rattle.bs_sched.specs.Inputs.{input_for};
+ghost use Rattle.bs_sched.specs.inner.Assembling.{renamed_game};
 ghost use Rattle.bs_sched.specs.inner.Inputs.{board_asked, current_input};
 ghost use Rattle.bs_sched.specs.Keyed.{IsKeyAt, IsKeyOf};
 ghost use Rattle.bs_sched.specs.inner.Keyed.{HasKeys};
@@ -134,6 +135,20 @@ impl<const CAP: usize> Game<CAP> {
             heap,
             parts,
         })
+    }
+
+    /// Gives a game without a job in progress the tags of that row, and its blocks the numbers that
+    /// stand in the list at their old ones. No byte moves.
+    pub(crate) fn rename(&mut self, game: usize, numbers: &[usize])
+        requires game { game < MOST_STAYS }
+        requires idle { is_idle self.old.lane.stage ≡ true }
+        requires within { All (λ number. number < length numbers.now) (numbers_of self.old.packing) }
+        requires once { AllPairs (λ m n. m ≢ n) numbers.now }
+        ensures { self.new ≡ renamed_game game (λ number. slice_index_or numbers.now number 0) self.old }
+    {
+        let tag = record_tag(game);
+        self.heap.rename(tag, numbers);
+        self.parts.rename(tag + 1);
     }
 
     /// Queues a command.

@@ -1,18 +1,21 @@
 //! All stays of a core, and the pool of their blocks. Clauses see them as lanes and as the places
 //! of their records.
-ghost use Rattle.std.specs.Prelude.{◌≡◌, ◌+◌, ◌≤◌, ◌<◌, true, All, length, OnOk, OnErr, IfOk, IfErr, MatchOption, ◌↔◌, IsTrue, ℕ, None, slice_index_or, ◌-◌, not, nat_eq, filter, vec_len, vec_capacity};
+ghost use Rattle.std.specs.Prelude.{◌≡◌, ◌+◌, ◌≤◌, ◌<◌, ◌∷◌, [], true, All, length, OnOk, OnErr, IfOk, IfErr, MatchOption, ◌↔◌, IsTrue, ℕ, List, None, slice_index_or, ◌-◌, not, nat_eq, filter, vec_len, vec_capacity};
 ghost use Rattle.std.specs.List.{list_all, range_with_len, list_any};
 ghost use Rattle.bs_board.specs.plans.Plan.{IsFitPlan, is_fit_row};
-ghost use Rattle.bs_pool.specs.Ledger.{free, size};
+ghost use Rattle.bs_pool.specs.Ledger.{free, opened as new_pool, size};
 ghost use Rattle.bs_sched.specs.Games.{after, opened, KeepsTallies, games_taken, tally_of};
 ghost use Rattle.bs_sched.specs.inner.Games.{games_completed};
 ghost use Rattle.bs_sched.specs.inner.GamesLayout.{lanes_in, opened_games};
+ghost use Rattle.bs_sched.specs.inner.Assembling.{AreLedTo, ArePlaced, IsOnly, games_of};
+ghost use Rattle.bs_sched.specs.declared.event.Event.{Event};
 ghost use Rattle.bs_sched.specs.Lane.{is_quiet, is_ready, is_out, lane_view, lane_command, may_leave};
 ghost use Rattle.bs_sched.specs.inner.Lane.{HasNoneReady};
 ghost use Rattle.bs_sched.specs.Machine.{lane_of, has_name, is_full, open_blocks};
 ghost use Rattle.bs_sched.specs.declared.event.Event.TheVariants as event;
 ghost use Rattle.bs_block.specs.Bytes.{IsCapacity};
 ghost use Rattle.bs_registry.specs.Blocks.{blocks_of_all, blocks_of};
+ghost use Rattle.bs_sched.specs.PlanBlocks.{reservations_of};
 ghost use Rattle.bs_sched.specs.declared.opening.Open.TheVariants as cause;
 ghost use Rattle.bs_fiber.specs.Tickets.{IsFresh, bytes_of, frames_in, names_of, worked_bytes};
 ghost use Rattle.bs_sched.specs.Inputs.{input_of, names_for};
@@ -26,7 +29,7 @@ ghost use Rattle.bs_board.specs.Texts.{is_same_text};
 use crate::cores::{Counts, LEAST_CAPACITY, MOST_WORKERS};
 use crate::game::Game;
 use crate::opening::Open;
-use crate::plan_blocks::{open_pool, release_row, reserve_row};
+use crate::plan_blocks::{release_row, reserve_row, reserve_rows};
 use bs_board::limits::MOST_ROWS;
 use bs_board::{Id, Plan, Row, Rows};
 use bs_counter::PartKey;
@@ -193,6 +196,17 @@ fn remove_row(rows: &mut Vec<u32>, game: usize)
     rows.retain(|row| *row as usize != game);
 }
 
+/// Removes and returns the only game of the list.
+fn only_game<const CAP: usize>(games: &mut Vec<Game<CAP>>) -> Game<CAP>
+    requires { length games.old.items ≡ 1 }
+    ensures { games.old.items ≡ result ∷ [] }
+{
+    match games.pop() {
+        Some(game) => game,
+        None => unreachable!(),
+    }
+}
+
 impl<const CAP: usize> Games<CAP> {
     /// The stay of that row.
     #[tactic(auto, using(crate::proofs::ListedGames::lane_read))]
@@ -235,7 +249,8 @@ impl<const CAP: usize> Games<CAP> {
     }
 
     pub(crate) fn workers(&self) -> usize
-        ensures { result ≡ self.now.workers }
+        ensures value { result ≡ self.now.workers }
+        ensures few { result ≤ MOST_WORKERS }
     {
         self.workers as usize
     }
@@ -279,8 +294,62 @@ impl<const CAP: usize> Games<CAP> {
         }
     }
 
-    /// Opens the games of a plan, with no command yet.
+    /// Opens the games of a plan over a new pool, with no command yet.
     #[tactic(auto, using(crate::proofs::OpenedGames::opened_lanes_are, crate::proofs::OpenedGames::opened_packings, crate::proofs::OpenedGames::opened_numbers, crate::proofs::Tallies::opened_tallies))]
+    pub(crate) fn open_in(
+        alloc: Global,
+        rows: Rows,
+        mut pool: Pool<CAP>,
+        workers: usize,
+    ) -> Result<Self, AllocError>
+        requires wide { LEAST_CAPACITY ≤ CAP }
+        requires workers { workers ≤ MOST_WORKERS }
+        requires pool { pool ≡ new_pool (size pool) }
+        requires room { blocks_of_all CAP rows ≤ size pool }
+        ensures { IfOk result (λ games. games ≡ opened CAP (size pool.entry) workers rows) }
+    {
+        let all = rows.as_slice();
+        reserve_rows(&mut pool, all)?;
+        let list = open_games(alloc, all)?;
+        let open_rows = open_rows(alloc, all.len())?;
+        Ok(Games {
+            rows,
+            workers: workers as u32,
+            failed: false,
+            list,
+            open_rows,
+            pool,
+        })
+    }
+
+    /// Makes the games of a plan of stays without a job in progress, to which events of the stays
+    /// lead, none of which has left.
+    #[tactic(auto, using(crate::proofs::ListedGames::many_lanes))]
+    pub(crate) fn of_list(
+        alloc: Global,
+        rows: Rows,
+        workers: usize,
+        list: Vec<Game<CAP>>,
+        pool: Pool<CAP>,
+    ) -> Result<Self, AllocError>
+        requires workers { workers ≤ MOST_WORKERS }
+        requires led { (events : List Event) × AreLedTo CAP (games_of rows workers list.items pool) events }
+        requires placed { ArePlaced list.items }
+        requires reserved { pool.reservations ≡ reservations_of CAP rows }
+        ensures { IfOk result (λ games. games ≡ games_of rows workers list.entry.items pool.entry) }
+    {
+        let open_rows = open_rows(alloc, rows.as_slice().len())?;
+        Ok(Games {
+            rows,
+            workers: workers as u32,
+            failed: false,
+            list,
+            open_rows,
+            pool,
+        })
+    }
+
+    /// Opens the games of a plan, with no command yet.
     pub(crate) fn open(
         alloc: Global,
         plan: Plan,
@@ -295,21 +364,38 @@ impl<const CAP: usize> Games<CAP> {
         ensures room { OnOk result (blocks_of_all CAP plan.rows ≤ blocks) }
         ensures short { IfErr result (λ fault. fault ≡ cause.Short → blocks < blocks_of_all CAP plan.rows) }
     {
-        let rows = plan.rows.as_slice();
-        if blocks_of_all(CAP, rows) > blocks {
+        if blocks_of_all(CAP, plan.rows.as_slice()) > blocks {
             return Err(Open::Short);
         }
-        let pool = open_pool(alloc, rows, blocks)?;
-        let list = open_games(alloc, rows)?;
-        let open_rows = open_rows(alloc, rows.len())?;
-        Ok(Games {
-            rows: plan.rows,
-            workers: workers as u32,
-            failed: false,
-            list,
-            open_rows,
-            pool,
-        })
+        let pool = Pool::open(alloc, blocks)?;
+        Ok(Games::open_in(alloc, plan.rows, pool, workers)?)
+    }
+
+    /// The only game, and the pool.
+    #[tactic(auto, using(crate::proofs::OnlyGame::is_only))]
+    pub(crate) fn into_only(self) -> (Game<CAP>, Pool<CAP>)
+        requires { length self.lanes ≡ 1 }
+        ensures game { IsOnly self.entry result.0 }
+        ensures pool { result.1 ≡ self.entry.storage.pool }
+    {
+        let Games { mut list, pool, .. } = self;
+        (only_game(&mut list), pool)
+    }
+
+    /// The rows of the plan.
+    pub(crate) fn plan(&self) -> &[Row]
+        ensures { result.now ≡ self.now.rows }
+    {
+        self.rows.as_slice()
+    }
+
+    /// The rows of the plan, and the pool, of games that are no longer needed.
+    pub(crate) fn into_rows_and_pool(self) -> (Rows, Pool<CAP>)
+        ensures rows { result.0 ≡ self.entry.rows }
+        ensures pool { result.1 ≡ self.entry.storage.pool }
+    {
+        let Games { rows, pool, .. } = self;
+        (rows, pool)
     }
 
     /// Whether an open stay has the name of that row.

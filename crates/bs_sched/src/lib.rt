@@ -2,6 +2,7 @@
 //! commands; their records; and the journal of all events.
 #![tactic(auto)]
 
+mod assembling;
 mod busy;
 mod cores;
 mod event;
@@ -14,7 +15,9 @@ mod opening;
 mod parts;
 mod plan_blocks;
 mod putting;
+mod ran;
 mod shared_row;
+mod sharing;
 mod stage;
 mod stays;
 mod taking;
@@ -26,6 +29,7 @@ pub use law::{assembly_law, isolation_law};
 pub use opening::Open;
 pub use putting::{Stray, Strays};
 pub use shared_row::SharedRow;
+pub use sharing::Shared;
 pub use stage::Stage;
 pub use stays::{Admit, Leave};
 pub use taking::Taken;

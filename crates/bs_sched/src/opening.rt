@@ -1,16 +1,22 @@
 //! Opening a core: a stay for each row of its plan, and the reserved blocks.
-ghost use Rattle.std.specs.Prelude.{◌≡◌, ◌≤◌, ◌<◌, IfOk, IfErr, OnOk};
+ghost use Rattle.std.specs.Prelude.{◌≡◌, ◌≤◌, ◌<◌, true, All, IfOk, IfErr, OnOk};
 ghost use Rattle.bs_block.specs.Bytes.{IsCapacity};
+ghost use Rattle.bs_pool.specs.Ledger.{opened as new_pool, size};
 ghost use Rattle.bs_sched.specs.Core.{opened_core};
-ghost use Rattle.bs_sched.specs.Games.{opened};
+ghost use Rattle.bs_sched.specs.Journal.{IsItsJournal};
+ghost use Rattle.bs_sched.specs.Lane.{is_idle};
+ghost use Rattle.bs_sched.specs.inner.Journal.{core_of};
 ghost use Rattle.bs_registry.specs.Blocks.{blocks_of_all};
 ghost use Rattle.bs_sched.specs.declared.opening.Open.TheVariants as cause;
 
 use crate::busy::nobody_busy;
 use crate::cores::{Core, LEAST_CAPACITY, MOST_SPARES, MOST_WORKERS};
+use crate::event::Event;
 use crate::games::Games;
 use crate::last_games::spread_games;
-use bs_board::Plan;
+use bs_board::{Plan, Rows};
+use bs_pool::Pool;
+use bs_registry::blocks_of_all;
 use std::alloc::{AllocError, Global};
 use thiserror::Error;
 
@@ -44,10 +50,43 @@ impl<const CAP: usize> Core<CAP> {
         ensures room { OnOk result (blocks_of_all CAP plan.rows ≤ blocks) }
         ensures short { IfErr result (λ fault. fault ≡ cause.Short → blocks < blocks_of_all CAP plan.rows) }
     {
-        let last_games = spread_games(alloc, workers, plan.rows.as_slice().len())?;
+        let games = Games::open(alloc, plan, blocks, workers)?;
+        Ok(Core::of_games(alloc, games, Vec::new(alloc))?)
+    }
+
+    /// Opens a core over a new pool.
+    pub(crate) fn open_in(
+        alloc: Global,
+        rows: Rows,
+        pool: Pool<CAP>,
+        workers: usize,
+    ) -> Result<Self, AllocError>
+        requires wide { LEAST_CAPACITY ≤ CAP }
+        requires workers { workers ≤ MOST_WORKERS }
+        requires pool { pool ≡ new_pool (size pool) }
+        requires room { blocks_of_all CAP rows ≤ size pool }
+        ensures { IfOk result (λ core. core ≡ opened_core CAP (size pool.entry) workers rows) }
+    {
+        let _rows = rows.as_slice();
+        let games = Games::open_in(alloc, rows, pool, workers)?;
+        Core::of_games(alloc, games, Vec::new(alloc))
+    }
+
+    /// Makes a core of games without a job in progress, and of the events that lead to them.
+    pub(crate) fn of_games(
+        alloc: Global,
+        games: Games<CAP>,
+        journal: Vec<Event>,
+    ) -> Result<Self, AllocError>
+        requires journal { IsItsJournal CAP (core_of games journal.items) }
+        requires idle { All (λ x. is_idle x.stage ≡ true) games.lanes }
+        ensures { IfOk result (λ core. core ≡ core_of games.entry journal.items) }
+    {
+        let workers = games.workers();
+        let last_games = spread_games(alloc, workers, games.count_rows())?;
         Ok(Core {
-            games: Games::open(alloc, plan, blocks, workers)?,
-            journal: Vec::new(alloc),
+            games,
+            journal,
             out: 0,
             busy: nobody_busy(alloc, workers)?,
             last_games,

@@ -370,6 +370,14 @@ impl<const CAP: usize> MoveParts<CAP> {
         self.keys.clear();
     }
 
+    /// Gives the parts of a game without a move in progress another tag.
+    pub(crate) fn rename(&mut self, tag: u32)
+        requires { self.old.list ≡ [] }
+        ensures { self.new ≡ record self.old { tag = tag } }
+    {
+        self.tag = tag;
+    }
+
     /// The number of parts; 0 if no move is in progress.
     pub(crate) fn count(&self) -> usize
         ensures { result ≡ length self.now.list }

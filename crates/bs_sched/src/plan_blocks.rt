@@ -1,8 +1,7 @@
 //! The blocks that are reserved for the stays of a core.
 ghost use Rattle.std.specs.Prelude.{◌≡◌, ◌+◌, ◌*◌, ◌<◌, ◌≤◌, None, [], All, length, IfOk, OnOk, OnErr};
-ghost use Rattle.bs_block.specs.Bytes.{IsCapacity};
 ghost use Rattle.bs_heap.specs.Charge.{blocks_for};
-ghost use Rattle.bs_pool.specs.Ledger.{size, held, reserved, reservation_of, unreserved, with_reservation, ledger_of, opened};
+ghost use Rattle.bs_pool.specs.Ledger.{size, held, reserved, reservation_of, unreserved, with_reservation};
 ghost use Rattle.bs_pool.specs.Reservations.{all_reserved};
 ghost use Rattle.bs_sched.specs.Games.{pool_left};
 ghost use Rattle.bs_registry.specs.Blocks.{blocks_of, blocks_of_all};
@@ -14,7 +13,7 @@ use bs_board::limits::MOST_ROWS;
 use bs_heap::MOST_RECORD_BYTES;
 use bs_pool::{Pool, Reserve};
 use bs_registry::{FRAME_BLOCKS, MOST_STAYS, record_blocks};
-use std::alloc::{AllocError, Global};
+use std::alloc::AllocError;
 
 /// The tag of a stay's records.
 pub(crate) fn record_tag(game: usize) -> u32
@@ -83,7 +82,11 @@ pub(crate) fn release_row<const CAP: usize>(pool: &mut Pool<CAP>, game: usize)
     pool.unreserve(tag + 1);
 }
 
-fn reserve_rows<const CAP: usize>(pool: &mut Pool<CAP>, rows: &[Row]) -> Result<(), AllocError>
+/// Makes the reservations of each game.
+pub(crate) fn reserve_rows<const CAP: usize>(
+    pool: &mut Pool<CAP>,
+    rows: &[Row],
+) -> Result<(), AllocError>
     requires wide { 2 * MOST_RECORD_BYTES ≤ CAP }
     requires few { length rows.now ≤ MOST_ROWS }
     requires none { pool.old.reservations ≡ [] }
@@ -95,21 +98,4 @@ fn reserve_rows<const CAP: usize>(pool: &mut Pool<CAP>, rows: &[Row]) -> Result<
         reserve_row(pool, game, &rows[game])?;
     }
     Ok(())
-}
-
-/// Opens a pool of `blocks` blocks, and makes the reservations of each game.
-pub(crate) fn open_pool<const CAP: usize>(
-    alloc: Global,
-    rows: &[Row],
-    blocks: usize,
-) -> Result<Pool<CAP>, AllocError>
-    requires capacity { IsCapacity CAP }
-    requires wide { 2 * MOST_RECORD_BYTES ≤ CAP }
-    requires few { length rows.now ≤ MOST_ROWS }
-    requires room { blocks_of_all CAP rows.now ≤ blocks }
-    ensures { IfOk result (λ pool. pool ≡ ledger_of (opened blocks).owners (reservations_of CAP rows.now)) }
-{
-    let mut pool = Pool::open(alloc, blocks)?;
-    reserve_rows(&mut pool, rows)?;
-    Ok(pool)
 }

@@ -6,7 +6,9 @@ use Rattle.bs_sched.specs.declared.stage.Stage.TheVariants as stage
 use Rattle.bs_sched.specs.PartState.{PartState}
 use Rattle.bs_sched.specs.PartState as part
 use Rattle.bs_sched.specs.inner.Busy.{IsBusyTable}
+use Rattle.bs_sched.specs.declared.event.Event.{Event}
 use Rattle.bs_sched.specs.Core.{CoreView}
+use Rattle.bs_sched.specs.Games.{GamesView}
 use Rattle.bs_sched.specs.Lane.{Lane}
 use Rattle.bs_sched.specs.Journal.{IsItsJournal}
 
@@ -29,9 +31,12 @@ out_of_lane x = out_of_stage x.stage x.parts
 abbrev pub jobs_out : List Lane → ℕ
 jobs_out = sum_by out_of_lane
 
--- The value of a core, from its fields.
+-- The value of a core, from its games and its events.
+abbrev pub core_of : GamesView → List Event → CoreView
+core_of games journal = record { games = games; journal = journal }
+
 abbrev pub core_in : {cap : ℕ} → Inside cap → CoreView
-core_in c = record { games = c.games; journal = c.journal.items }
+core_in c = core_of c.games c.journal.items
 
 -- the journal has memory for the completion of each job that is out
 pub record IsJournaled (cap : ℕ) {at : ℕ} (c : Inside at) : Type 0 where
