@@ -41,7 +41,7 @@ none_is_left job e acts off told all = λ more same. nothing_by (act_of e) more 
 
 -- one more event
 
-acts_append : (events more : List Event) → acts_of (events ++ more) ≡ acts_of events ++ acts_of more
+pub acts_append : (events more : List Event) → acts_of (events ++ more) ≡ acts_of events ++ acts_of more
 acts_append events more = filter_map-append act_of events more
 
 pub acts_more : (events : List Event) (i : ℕ) (e : Event) (acts left rest : List Act) → i < length events → e ≡ get_or events i e

@@ -1,7 +1,6 @@
 -- What a thread that has the core alone does to it, call by call.
-use Rattle.std.proofs.Common.{◌≡◌, ℕ, ◌+◌, ◌<◌, List, [], ◌∷◌, ◌++◌, length, take, get_or, Option, Some, None, refl, sym, ap, subst, ◌∙◌}
-use Rattle.std.proofs.lemmas.List.{append-nil, append_assoc, take_more}
-use Rattle.std.proofs.lemmas.List.Elements.{filter_map-append}
+use Rattle.std.proofs.Common.{◌≡◌, ℕ, ◌+◌, ◌<◌, ◌≤◌, List, [], ◌∷◌, ◌++◌, length, take, get_or, Option, Some, None, refl, sym, ap, subst, ◌∙◌}
+use Rattle.std.proofs.lemmas.List.{append-nil, append_assoc, take_all, take_more}
 use Rattle.bs_board.specs.plans.Plan.{GameRow}
 use Rattle.bs_counter.specs.Keys.{TallyId}
 use Rattle.bs_fiber.specs.Tickets.{TicketView}
@@ -13,13 +12,16 @@ use Rattle.bs_sched.specs.Parts.{core_run, puts_of}
 use Rattle.bs_workers.specs.declared.act.Act.{Act}
 use Rattle.bs_workers.specs.Run.{acts_of}
 use Rattle.bs_workers.specs.inner.Making.{Makes}
+use Rattle.bs_workers.proofs.Acted.{acts_append}
 
 -- the acts that calls make
 
 pub makes_event : (cap : ℕ) (old new : CoreView) (e : Event) → new ≡ core_after cap old e → Makes (acts_of (e ∷ [])) old new
 makes_event cap old new e after =
     record {
-      acted = ap (λ (c : CoreView). acts_of c.journal) after ∙ filter_map-append _ old.journal (e ∷ []);
+      added = e ∷ [];
+      journal = ap (λ (c : CoreView). c.journal) after;
+      acted = refl;
       workers = ap (λ (c : CoreView). c.games.workers) after;
     }
 
@@ -27,19 +29,31 @@ pub makes_taken : (cap : ℕ) (old new : CoreView) (worker : ℕ) (job : JobName
     → new ≡ core_taken cap old worker job tallies → Makes [] old new
 makes_taken cap old new worker job tallies after =
     record {
-      acted = ap (λ (c : CoreView). acts_of c.journal) after ∙ filter_map-append _ old.journal (event.Take worker job ∷ []);
+      added = event.Take worker job ∷ [];
+      journal = ap (λ (c : CoreView). c.journal) after;
+      acted = refl;
       workers = ap (λ (c : CoreView). c.games.workers) after;
     }
 
 pub makes_none : (core : CoreView) → Makes [] core core
-makes_none core = record { acted = sym (append-nil (acts_of core.journal)); workers = refl }
+makes_none core = record { added = []; journal = sym (append-nil core.journal); acted = refl; workers = refl }
 
 pub makes_both : (some more : List Act) (old between new : CoreView) → Makes some old between → Makes more between new → Makes (some ++ more) old new
 makes_both some more old between new first second =
     record {
-      acted = second.acted ∙ ap (λ (acts : List Act). acts ++ more) first.acted ∙ append_assoc (acts_of old.journal) some more;
+      added = first.added ++ second.added;
+      journal =
+          second.journal ∙ ap (λ (events : List Event). events ++ second.added) first.journal
+          ∙ append_assoc old.journal first.added second.added;
+      acted =
+          acts_append first.added second.added ∙ ap (λ (acts : List Act). acts ++ acts_of second.added) first.acted
+          ∙ ap (λ (acts : List Act). some ++ acts) second.acted;
       workers = second.workers ∙ first.workers;
     }
+
+-- jobs before the acts
+pub makes_after : (acts : List Act) (old between new : CoreView) → Makes [] old between → Makes acts between new → Makes acts old new
+makes_after acts old between new first second = makes_both [] acts old between new first second
 
 pub makes_puts : (cap : ℕ) (old : CoreView) (parts : List (Option TicketView)) → Makes [] old (core_run cap old (puts_of parts))
 makes_puts cap old [] = makes_none old
@@ -56,12 +70,13 @@ makes_next acts i next old between new within is first second =
     = take_more acts i next within ∙ ap (λ (a : Act). take i acts ++ a ∷ []) (sym is) in
     rw more (makes_both (take i acts) (next ∷ []) old between new first second)
 
-pub makes_last : (acts : List Act) (old between new : CoreView) → Makes acts old between → Makes [] between new → Makes acts old new
-makes_last acts old between new first second =
-    subst (λ all. Makes all old new) (append-nil acts) (makes_both acts [] old between new first second)
+-- all acts are made, and jobs follow
+pub makes_all : (acts : List Act) (i : ℕ) (old between new : CoreView) → length acts ≤ i → Makes (take i acts) old between → Makes [] between new → Makes acts old new
+makes_all acts i old between new all first second =
+    subst (λ made. Makes made old new) (append-nil (take i acts) ∙ take_all i acts all) (makes_both (take i acts) [] old between new first second)
 
 -- a core that was just opened has made no act
 pub made_since_opened : (cap blocks workers : ℕ) (rows : List GameRow) (acts : List Act) (old new : CoreView) → old ≡ opened_core cap blocks workers rows → Makes acts old new
     → acts_of new.journal ≡ acts
 made_since_opened cap blocks workers rows acts old new fresh made =
-    made.acted ∙ ap (λ (c : CoreView). acts_of c.journal ++ acts) fresh
+    ap (λ (events : List Event). acts_of events) (made.journal ∙ ap (λ (c : CoreView). c.journal ++ made.added) fresh) ∙ made.acted

@@ -1,5 +1,6 @@
 -- What private contracts cite, and no public one.
 pub mod Acts
+pub mod Apart
 pub mod Faults
 pub mod Making
 pub mod Run

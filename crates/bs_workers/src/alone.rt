@@ -1,13 +1,17 @@
 //! A run on the calling thread alone. Nothing else has the core, so what each call does to it is
 //! known: the acts need no comparison, and of the results only those of parts are compared, which
 //! come out of a tally.
-ghost use Rattle.std.specs.Prelude.{◌≡◌, ◌≤◌, ◌∷◌, [], IfOk, OnOk};
+ghost use Rattle.std.specs.Prelude.{◌≡◌, ◌≤◌, ◌∷◌, ◌++◌, [], IfOk, OnOk, IsTrue, map};
+ghost use Rattle.std.specs.List.{filter_map};
 ghost use Rattle.bs_fiber.specs.Tickets.{IsFresh};
 ghost use Rattle.bs_fiber.specs.PartOf.{part_of};
 ghost use Rattle.bs_pool.specs.Ledger.{size};
 ghost use Rattle.bs_sched.specs.Core.{opened_core};
 ghost use Rattle.bs_sched.specs.Putting.{IsOwn};
+ghost use Rattle.bs_sched.specs.declared.event.Event.TheVariants as event;
+ghost use Rattle.bs_workers.specs.Acts.{command_in};
 ghost use Rattle.bs_workers.specs.Run.{IsRunOf};
+ghost use Rattle.bs_workers.specs.inner.Apart.{IsPlayed};
 ghost use Rattle.bs_workers.specs.inner.Making.{Makes};
 ghost use Rattle.bs_workers.specs.declared.act.Act.TheVariants as act;
 
@@ -18,7 +22,7 @@ use crate::gate::Gate;
 use arrayvec::ArrayVec;
 use bs_board::Row;
 use bs_counter::{Finish, PartKey};
-use bs_fiber::{Done, Handles, Ticket, work};
+use bs_fiber::{Done, Handles, JobName, Ticket, work};
 use bs_sched::{Admit, Core, Leave, Taken};
 use std::alloc::Global;
 use std::sync::Wait;
@@ -26,17 +30,33 @@ use std::sync::Wait;
 /// A core, and the thread that makes its acts and runs its jobs.
 #[derive(Drop)]
 pub(crate) struct Alone<'a, const CAP: usize, R, G> {
-    rt: &'a R,
-    alloc: Global,
-    core: Core<CAP>,
+    pub(crate) rt: &'a R,
+    pub(crate) alloc: Global,
+    pub(crate) core: Core<CAP>,
+    /// The row in the run that the core's row 0 is. The `Gate` sees the run's rows.
+    pub(crate) first: u32,
     /// The number of the thread, which is passed to the `Gate`.
-    thread: usize,
+    pub(crate) thread: usize,
     /// The worker in the core.
-    worker: usize,
-    gate: &'a G,
+    pub(crate) worker: usize,
+    pub(crate) gate: &'a G,
 }
 
 impl<const CAP: usize, R: Wait, G: Gate> Alone<'_, CAP, R, G> {
+    /// Whether the gate lets the job pass.
+    #[inline(always)]
+    fn may_run(&self, job: JobName) -> bool {
+        let game = job.game.saturating_add(self.first);
+        self.gate.at(
+            self.thread,
+            JobName {
+                kind: job.kind,
+                game,
+                part: job.part,
+            },
+        )
+    }
+
     /// Runs a Begin or a Join that was just taken, and completes it.
     #[inline(always)]
     fn run_job(&mut self, ticket: Ticket<CAP>) -> Result<(), Run>
@@ -45,7 +65,7 @@ impl<const CAP: usize, R: Wait, G: Gate> Alone<'_, CAP, R, G> {
         ensures made { OnOk result (Makes [] self.old.core self.new.core) }
         ensures worker { self.new.worker ≡ self.old.worker }
     {
-        if !self.gate.at(self.thread, ticket.job()) {
+        if !self.may_run(ticket.job()) {
             return Err(Run::Broken);
         }
         match work(self.alloc, ticket) {
@@ -93,7 +113,7 @@ impl<const CAP: usize, R: Wait, G: Gate> Alone<'_, CAP, R, G> {
         ensures made { OnOk result (Makes [] self.old.core self.new.core) }
         ensures worker { self.new.worker ≡ self.old.worker }
     {
-        if !self.gate.at(self.thread, ticket.job()) {
+        if !self.may_run(ticket.job()) {
             return Err(Run::Broken);
         }
         match work(self.alloc, ticket) {
@@ -125,6 +145,7 @@ impl<const CAP: usize, R: Wait, G: Gate> Alone<'_, CAP, R, G> {
     }
 
     /// Answers all commands that are queued.
+    #[tactic(auto, using(crate::proofs::MadeActs::makes_none, crate::proofs::MadeActs::makes_after))]
     fn answer_all(&mut self) -> Result<(), Run>
         requires { self.old.worker ≤ self.old.core.games.workers }
         ensures made { OnOk result (Makes [] self.old.core self.new.core) }
@@ -141,6 +162,7 @@ impl<const CAP: usize, R: Wait, G: Gate> Alone<'_, CAP, R, G> {
     /// Queues the command for the game of that row.
     fn hand(&mut self, stay: usize, command: Handles) -> Result<(), Run>
         ensures made { OnOk result (Makes (act.Hand stay command ∷ []) self.old.core self.new.core) }
+        ensures journal { OnOk result (self.new.core.journal ≡ self.old.core.journal ++ event.Hand stay command ∷ []) }
         ensures worker { self.new.worker ≡ self.old.worker }
     {
         if stay >= self.core.rows() || !self.core.is_open(stay) {
@@ -177,6 +199,7 @@ impl<const CAP: usize, R: Wait, G: Gate> Alone<'_, CAP, R, G> {
     }
 
     /// Makes the act. Before a game leaves, all commands are answered.
+    #[tactic(auto, using(crate::proofs::MadeActs::makes_after))]
     fn make(&mut self, next: &Act) -> Result<(), Run>
         requires { self.old.worker ≤ self.old.core.games.workers }
         ensures made { OnOk result (Makes (next.now ∷ []) self.old.core self.new.core) }
@@ -192,7 +215,62 @@ impl<const CAP: usize, R: Wait, G: Gate> Alone<'_, CAP, R, G> {
         }
     }
 
+    /// Queues the act's command in the core's row 0, if it is for that row of the run.
+    fn queue_if_for(&mut self, row: usize, act: &Act) -> Result<(), Run>
+        ensures journal { OnOk result (self.new.core.journal
+            ≡ self.old.core.journal ++ map (event.Hand 0) (filter_map (command_in row) (act.now ∷ []))) }
+        ensures worker { self.new.worker ≡ self.old.worker }
+    {
+        match act {
+            Act::Hand(stay, command) => {
+                if *stay != row {
+                    return Ok(());
+                }
+                self.hand(0, Handles::new(command)?)
+            }
+            Act::Admit(_) => Ok(()),
+            Act::Leave(_) => Ok(()),
+        }
+    }
+
+    /// Queues the commands for that row of the run in the core's row 0.
+    fn queue(&mut self, row: usize, acts: &[Act]) -> Result<(), Run>
+        ensures journal { OnOk result (self.new.core.journal
+            ≡ self.old.core.journal ++ map (event.Hand 0) (filter_map (command_in row) acts.now)) }
+        ensures worker { self.new.worker ≡ self.old.worker }
+    {
+        for act in acts {
+            self.queue_if_for(row, act)?;
+        }
+        Ok(())
+    }
+
+    /// Whether the core has no event yet.
+    fn is_new(&self) -> bool
+        ensures { IsTrue result → self.now.core.journal ≡ [] }
+    {
+        self.core.journal().is_empty()
+    }
+
+    /// Queues the commands for that row of the run in the core's row 0, and answers them. A core
+    /// that has an event, or too few workers, is `Broken`.
+    pub(crate) fn play(mut self, row: usize, acts: &[Act]) -> Result<Core<CAP>, Run>
+        ensures { IfOk result (λ core. IsPlayed acts.now row core) }
+    {
+        if !self.is_new() {
+            return Err(Run::Broken);
+        }
+        self.queue(row, acts)?;
+        if self.worker > self.core.workers() {
+            return Err(Run::Broken);
+        }
+        self.answer_all()?;
+        let Alone { core, .. } = self;
+        Ok(core)
+    }
+
     /// Makes the acts in order, and answers all commands.
+    #[tactic(auto, using(crate::proofs::MadeActs::makes_none, crate::proofs::MadeActs::makes_next, crate::proofs::MadeActs::makes_all))]
     fn make_all(&mut self, acts: &[Act]) -> Result<(), Run>
         requires { self.old.worker ≤ self.old.core.games.workers }
         ensures { OnOk result (Makes acts.now self.old.core self.new.core) }
@@ -200,7 +278,8 @@ impl<const CAP: usize, R: Wait, G: Gate> Alone<'_, CAP, R, G> {
         for next in acts {
             self.make(next)?;
         }
-        self.answer_all()
+        self.answer_all()?;
+        Ok(())
     }
 }
 
@@ -224,6 +303,7 @@ pub(crate) fn run_alone<const CAP: usize, R: Wait, G: Gate>(
         rt,
         alloc,
         core,
+        first: 0,
         thread,
         worker,
         gate,

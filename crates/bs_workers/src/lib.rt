@@ -4,6 +4,7 @@
 
 mod act;
 mod alone;
+mod apart;
 mod compare;
 mod executor;
 mod fault;

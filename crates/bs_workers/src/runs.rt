@@ -7,6 +7,7 @@ ghost use Rattle.bs_workers.specs.Run.{IsRunOf};
 
 use crate::act::{Act, are_commands};
 use crate::alone::run_alone;
+use crate::apart::run_apart;
 use crate::compare::{copy_rows, is_run_of};
 use crate::executor::Executor;
 use crate::fault::Run;
@@ -60,7 +61,10 @@ pub fn run_any<const CAP: usize, R: Threads + Wait + Sync, G: Gate>(
     ensures { IfOk result (λ done. IsRunOf core.entry acts.now done) }
 {
     let threads = threads.min(core.workers());
-    if threads > 1 && are_commands(acts) {
+    let rows = core.rows();
+    if threads > 1 && rows > 1 && are_commands(acts) {
+        run_apart(rt, alloc, core, acts, threads.min(rows), gate)
+    } else if threads > 1 && are_commands(acts) {
         run_together(rt, alloc, core, acts, threads, gate)
     } else {
         run_alone(rt, alloc, core, acts, threads, gate)

@@ -113,6 +113,113 @@ fn threads_with_batches_give_the_same_replies(rt: HostRuntime) -> Result<(), Fai
     Ok(())
 }
 
+/// Checks that a game of both cores has the same replies, as text.
+fn check_replies(
+    alloc: Global,
+    one: &Core<CAP>,
+    other: &Core<CAP>,
+    game: usize,
+) -> Result<(), Fail> {
+    holds("rows", game < one.rows() && game < other.rows())?;
+    let (own, others) = (one.replies(game), other.replies(game));
+    let own = format!(in alloc; "{own:?}")?;
+    let others = format!(in alloc; "{others:?}")?;
+    same("replies", own.as_str(), others.as_str())
+}
+
+/// Checks that a game of both cores has as many commands, the same charge and the same records.
+fn check_records(one: &Core<CAP>, other: &Core<CAP>, game: usize) -> Result<(), Fail> {
+    holds("rows", game < one.rows() && game < other.rows())?;
+    same("taken", one.taken(game).len(), other.taken(game).len())?;
+    same("charge", one.charge(game), other.charge(game))?;
+    same("records", one.count(game), other.count(game))?;
+    for place in 0..one.count(game) {
+        holds("places", place < other.count(game))?;
+        holds(
+            "record",
+            one.records(game, place) == other.records(game, place),
+        )?;
+    }
+    Ok(())
+}
+
+/// Row by row, a run on several threads has the replies and the records of the run on one thread,
+/// and as many blocks are free.
+#[test]
+fn several_threads_keep_the_same_records(rt: HostRuntime) -> Result<(), Fail> {
+    let acts = commands_of_pairs(rt.alloc())?;
+    let alone = run_games(&rt, &SIXTEEN, acts.as_slice(), 1, &OpenGate)??;
+    for threads in [2usize, 3, 4, 7] {
+        let core = run_games(&rt, &SIXTEEN, acts.as_slice(), threads, &OpenGate)??;
+        same("free", core.counts().free, alone.counts().free)?;
+        for game in 0..16usize {
+            check_replies(rt.alloc(), &core, &alone, game)?;
+            check_records(&core, &alone, game)?;
+        }
+    }
+    Ok(())
+}
+
+/// The row of the event's job. `None` if it is no job's.
+fn row_of(event: &Event) -> Option<u32> {
+    match event {
+        Event::Take(_, job) => Some(job.game),
+        Event::Put(_, job) => Some(job.game),
+        _ => None,
+    }
+}
+
+/// The jobs of that row, in order: whether each was taken, its kind and its part.
+fn jobs_of(alloc: Global, journal: &[Event], row: u32) -> Result<String, Fail> {
+    let mut jobs = Vec::new(alloc);
+    for event in journal {
+        match event {
+            Event::Take(_, job) if job.game == row => jobs.push((true, job.kind, job.part))?,
+            Event::Put(_, job) if job.game == row => jobs.push((false, job.kind, job.part))?,
+            _ => {}
+        }
+    }
+    Ok(format!(in alloc; "{jobs:?}")?)
+}
+
+/// Checks that the jobs of the journal come after that many commands, and row by row.
+fn check_order(journal: &[Event], commands: usize) -> Result<(), Fail> {
+    let (mut before, mut last) = (0usize, 0u32);
+    for event in journal {
+        let row = row_of(event);
+        same("a job", row.is_some(), before >= commands)?;
+        let row = row.unwrap_or(0);
+        holds("the same row or a later one", row >= last)?;
+        before = before.saturating_add(1);
+        last = row;
+    }
+    Ok(())
+}
+
+/// Checks that both journals have the same jobs of each of sixteen rows, whatever the workers.
+fn check_jobs(alloc: Global, one: &[Event], other: &[Event]) -> Result<(), Fail> {
+    for row in 0..16u32 {
+        let (jobs, others) = (jobs_of(alloc, one, row)?, jobs_of(alloc, other, row)?);
+        same("the jobs of a row", jobs.as_str(), others.as_str())?;
+    }
+    Ok(())
+}
+
+/// The journal of several threads has all commands in the order of the acts, and then row by row
+/// the jobs that one thread does.
+#[test]
+fn several_threads_write_commands_and_then_jobs(rt: HostRuntime) -> Result<(), Fail> {
+    let acts = commands_of_pairs(rt.alloc())?;
+    let alone = run_games(&rt, &SIXTEEN, acts.as_slice(), 1, &OpenGate)??;
+    for threads in [2usize, 3, 4, 7] {
+        let core = run_games(&rt, &SIXTEEN, acts.as_slice(), threads, &OpenGate)??;
+        check_journal(core.journal(), acts.as_slice())?;
+        check_order(core.journal(), acts.len())?;
+        check_jobs(rt.alloc(), core.journal(), alone.journal())?;
+    }
+    Ok(())
+}
+
 /// Whether the event queues the command of the act.
 fn hands(event: &Event, act: &Act) -> bool {
     match (event, act) {
@@ -160,17 +267,18 @@ fn check_names(core: &Core<CAP>) -> Result<(), Fail> {
     same("second game", core.row(1).game.as_str(), "b")
 }
 
-/// Delays the two parts of a move in game 0 until both have begun, and the Begins of game 1, which
-/// keep a thread awake, until part 0 has begun.
+/// Delays each of the two parts of a move until the other has begun, or for a while.
 #[derive(Drop)]
 struct Meeting {
     first: AtomicBool,
     second: AtomicBool,
+    /// Whether both parts were in progress at a time.
+    met: AtomicBool,
 }
 
-/// Waits for the flag. Returns false if it is never set.
+/// Waits for the flag. Returns false if it is not set in time.
 fn wait_for(flag: &AtomicBool) -> bool {
-    for _ in 0..1_000_000_000u32 {
+    for _ in 0..1_000_000u32 {
         if flag.load(SeqCst) {
             return true;
         }
@@ -178,38 +286,55 @@ fn wait_for(flag: &AtomicBool) -> bool {
     false
 }
 
-/// Sets its own flag and waits for the other's. Returns false if that is never set.
-fn meet(own: &AtomicBool, other: &AtomicBool) -> bool {
-    own.store(true, SeqCst);
-    wait_for(other)
+impl Meeting {
+    /// Sets the part's own flag and waits for the other's.
+    fn meet(&self, own: &AtomicBool, other: &AtomicBool) -> bool {
+        own.store(true, SeqCst);
+        if wait_for(other) {
+            self.met.store(true, SeqCst);
+        }
+        true
+    }
 }
 
 impl Gate for Meeting {
     fn at(&self, _worker: usize, job: JobName) -> bool {
-        match (job.game, job.kind, job.part) {
-            (0, JobKind::Part, 0) => meet(&self.first, &self.second),
-            (0, JobKind::Part, 1) => meet(&self.second, &self.first),
-            (1, JobKind::Begin, _) => wait_for(&self.first),
+        match (job.kind, job.part) {
+            (JobKind::Part, 0) => self.meet(&self.first, &self.second),
+            (JobKind::Part, 1) => self.meet(&self.second, &self.first),
             _ => true,
         }
     }
 }
 
-#[test]
-fn two_threads_are_at_one_move(rt: HostRuntime) -> Result<(), Fail> {
+/// Runs a move of one game on two threads. Returns whether its parts met.
+fn parts_meet<R: Threads + Wait + Sync + AllocGlobal>(rt: &R) -> Result<bool, Fail> {
     let alloc = rt.alloc();
     let mut acts = Vec::new(alloc);
     push(alloc, &mut acts, 0, new_of_three(alloc)?)?;
     push(alloc, &mut acts, 0, third_goes(alloc, Direction::Down)?)?;
-    push(alloc, &mut acts, 1, new_of_three(alloc)?)?;
     let gate = Meeting {
         first: AtomicBool::new(false),
         second: AtomicBool::new(false),
+        met: AtomicBool::new(false),
     };
-    let core = run_games(&rt, &TWO, acts.as_slice(), 2, &gate)??;
+    let core = run_games(rt, &[("a", 4096)], acts.as_slice(), 2, &gate)??;
     holds("quiet", core.is_quiet())?;
     holds("part 0", gate.first.load(SeqCst))?;
-    holds("part 1", gate.second.load(SeqCst))
+    holds("part 1", gate.second.load(SeqCst))?;
+    Ok(gate.met.load(SeqCst))
+}
+
+/// Two threads run the parts of one move at the same time, in one of many runs at least: a thread
+/// that sleeps is not woken for a part.
+#[test]
+fn two_threads_are_at_one_move(rt: HostRuntime) -> Result<(), Fail> {
+    for _ in 0..1_000u32 {
+        if parts_meet(&rt)? {
+            return Ok(());
+        }
+    }
+    Err("the parts of a move never met".into())
 }
 
 /// Delays the jobs until `wanted` threads have begun one.

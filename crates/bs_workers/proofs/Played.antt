@@ -1,0 +1,154 @@
+-- The core of one row, in which the commands for the row were queued first, and the assembled core.
+use Rattle.std.proofs.Common.{◌≡◌, ℕ, suc, ◌+◌, ◌<◌, List, [], ◌∷◌, ◌++◌, length, map, take, drop, get_or, Some, refl, sym, ap, subst, ◌∙◌, arith, inl, inr}
+use Rattle.std.specs.Prelude.{All, nat_eq, slice_index_or}
+use Rattle.std.specs.List.{filter_map}
+use Rattle.std.proofs.lemmas.Bool.{cases_Bool, cases_lt}
+use Rattle.std.proofs.lemmas.List.{append_assoc, append-nil, get_or_append_left, get_or_push, length-append, map-append, take_more}
+use Rattle.std.proofs.lemmas.List.Elements.{All-nil, All-append, All-cons, All-drop, filter_map-append}
+use Rattle.bs_sched.specs.Assembly.{AreQueuedFirst, Hand, IsJob, IsQueuedFirst, assembled_journal, commands_for, core_at, hand_event, jobs_at, jobs_from}
+use Rattle.bs_sched.specs.Core.{CoreView, opened_core}
+use Rattle.bs_sched.specs.declared.event.Event.{Event}
+use Rattle.bs_sched.specs.declared.event.Event.TheVariants as event
+use Rattle.bs_workers.specs.declared.act.Act.{Act}
+use Rattle.bs_workers.specs.declared.act.Act.TheVariants as act
+use Rattle.bs_workers.specs.Acts.{command_in}
+use Rattle.bs_workers.specs.Run.{acts_of}
+use Rattle.bs_workers.specs.inner.Apart.{ArePlayed, AreQueuedIn, IsPlayed, QueuesIn, hand_of, hands_of}
+use Rattle.bs_workers.specs.inner.Making.{Makes}
+use Rattle.bs_workers.proofs.Acted.{acts_append}
+
+-- the commands of one row, queued one after the other
+
+pub queued_more : (acts : List Act) (i : ℕ) (next : Act) (row : ℕ) (old between new : List Event) → i < length acts → next ≡ get_or acts i next
+    → between ≡ old ++ map (event.Hand 0) (filter_map (command_in row) (take i acts))
+    → new ≡ between ++ map (event.Hand 0) (filter_map (command_in row) (next ∷ []))
+    → new ≡ old ++ map (event.Hand 0) (filter_map (command_in row) (take (i + 1) acts))
+queued_more acts i next row old between new within is before after =
+    let some = filter_map (command_in row) (take i acts) in
+    let one = filter_map (command_in row) (next ∷ []) in
+    let more : take (i + 1) acts ≡ take i acts ++ next ∷ []
+    = take_more acts i next within ∙ ap (λ (a : Act). take i acts ++ a ∷ []) (sym is) in
+    let all : map (event.Hand 0) (filter_map (command_in row) (take (i + 1) acts)) ≡ map (event.Hand 0) some ++ map (event.Hand 0) one
+    = ap (λ (a : List Act). map (event.Hand 0) (filter_map (command_in row) a)) more
+    ∙ ap (map (event.Hand 0)) (filter_map-append (command_in row) (take i acts) (next ∷ [])) ∙ map-append (event.Hand 0) some one in
+    after ∙ ap (λ (events : List Event). events ++ map (event.Hand 0) one) before
+    ∙ append_assoc old (map (event.Hand 0) some) (map (event.Hand 0) one) ∙ ap (λ (events : List Event). old ++ events) (sym all)
+
+-- events that make no act are jobs
+are_jobs : (events : List Event) → acts_of events ≡ [] → All IsJob events
+are_jobs [] none = All-nil IsJob
+are_jobs (event.Hand game command ∷ events) none = absurd cc
+are_jobs (event.Take worker job ∷ events) none = All-cons IsJob (event.Take worker job) events tt (are_jobs events none)
+are_jobs (event.Put worker job ∷ events) none = All-cons IsJob (event.Put worker job) events tt (are_jobs events none)
+are_jobs (event.Admit row ∷ events) none = absurd cc
+are_jobs (event.Leave game ∷ events) none = absurd cc
+
+pub played : (acts : List Act) (row : ℕ) (old between new : CoreView) → old.journal ≡ []
+    → between.journal ≡ old.journal ++ map (event.Hand 0) (filter_map (command_in row) acts) → Makes [] between new → IsPlayed acts row new
+played acts row old between new empty queued made =
+    let hands = map (event.Hand 0) (filter_map (command_in row) acts) in
+    record {
+      jobs = made.added;
+      journal_is = made.journal ∙ ap (λ (events : List Event). events ++ made.added) (queued ∙ ap (λ (events : List Event). events ++ hands) empty);
+      are_jobs = are_jobs made.added made.acted;
+    }
+
+-- the commands of all rows, one after the other
+
+pub none_queued : (rows : ℕ) → AreQueuedIn rows [] []
+none_queued rows = record { ordered = refl; within = All-nil (λ (hand : Hand). hand.row < rows); acted = refl }
+
+queued_one : (rows row : ℕ) (next : Act) → QueuesIn rows row next → AreQueuedIn rows (next ∷ []) (row ∷ [])
+queued_one rows row (act.Hand stay command) queues =
+    record {
+      ordered = ap (λ r. r ∷ []) queues.0;
+      within = All-cons (λ (hand : Hand). hand.row < rows) (record { row = stay; command = command }) []
+          (subst (λ r. r < rows) (sym queues.0) queues.1) (All-nil (λ (hand : Hand). hand.row < rows));
+      acted = refl;
+    }
+queued_one rows row (act.Admit new) queues = absurd queues
+queued_one rows row (act.Leave stay) queues = absurd queues
+
+queued_both : (rows : ℕ) (acts more : List Act) (order later : List ℕ) → AreQueuedIn rows acts order → AreQueuedIn rows more later
+    → AreQueuedIn rows (acts ++ more) (order ++ later)
+queued_both rows acts more order later first second =
+    let both : hands_of (acts ++ more) ≡ hands_of acts ++ hands_of more = filter_map-append hand_of acts more in
+    record {
+      ordered = ap (map (λ (hand : Hand). hand.row)) both ∙ map-append (λ (hand : Hand). hand.row) (hands_of acts) (hands_of more)
+          ∙ ap (λ rows. rows ++ map (λ (hand : Hand). hand.row) (hands_of more)) first.ordered ∙ ap (λ rows. order ++ rows) second.ordered;
+      within = subst (All (λ (hand : Hand). hand.row < rows)) (sym both)
+          (All-append (λ (hand : Hand). hand.row < rows) (hands_of acts) (hands_of more) first.within second.within);
+      acted = ap (λ hands. acts_of (map hand_event hands)) both ∙ ap acts_of (map-append hand_event (hands_of acts) (hands_of more))
+          ∙ acts_append (map hand_event (hands_of acts)) (map hand_event (hands_of more))
+          ∙ ap (λ (made : List Act). made ++ acts_of (map hand_event (hands_of more))) first.acted ∙ ap (λ (made : List Act). acts ++ made) second.acted;
+    }
+
+pub queued_next : (rows row i : ℕ) (acts : List Act) (next : Act) (order : List ℕ) → i < length acts → next ≡ get_or acts i next
+    → AreQueuedIn rows (take i acts) order → QueuesIn rows row next → AreQueuedIn rows (take (i + 1) acts) (order ++ row ∷ [])
+queued_next rows row i acts next order within is before queues =
+    let more : take (i + 1) acts ≡ take i acts ++ next ∷ []
+    = take_more acts i next within ∙ ap (λ (a : Act). take i acts ++ a ∷ []) (sym is) in
+    subst (λ some. AreQueuedIn rows some (order ++ row ∷ [])) (sym more)
+    (queued_both rows (take i acts) (next ∷ []) order (row ∷ []) before (queued_one rows row next queues))
+
+-- the first of a list is taken out
+
+pub first_holds : {X : Type 0} (P : X → Type 0) (xs : List X) (x : X) → 0 < length xs → x ≡ slice_index_or xs 0 x → All P xs → P x
+first_holds P xs x some is all = subst P (sym is) (all 0 x some)
+
+pub rest_holds : {X : Type 0} (P : X → Type 0) (xs ys : List X) → ys ≡ take 0 xs ++ drop 1 xs → All P xs → All P ys
+rest_holds P xs ys are all = subst (All P) (sym are) (All-drop P 1 xs all)
+
+-- one more core, in order
+pub played_more : (acts : List Act) (cores : List CoreView) (row : ℕ) (core : CoreView) → row ≡ length cores → ArePlayed acts cores → IsPlayed acts row core
+    → ArePlayed acts (cores ++ core ∷ [])
+played_more acts cores row core is before next =
+    λ at within.
+    let none = opened_core 0 0 0 [] in
+    let long = length-append cores (core ∷ []) in
+    elim (cases_lt at (length cores)) [
+      | inl less ↦ subst (λ c. IsPlayed acts at c) (sym (get_or_append_left cores (core ∷ []) none at less)) (before at less)
+      | inr past ↦
+          let last : row ≡ at = omega (arith, long) in
+          subst (λ c. IsPlayed acts at c) (sym (get_or_push cores core none at (sym is ∙ last))) (subst (λ r. IsPlayed acts r core) last next)
+    ]
+
+-- the commands of each row
+
+commands_of_acts : (row : ℕ) (acts : List Act) → commands_for row (hands_of acts) ≡ filter_map (command_in row) acts
+commands_of_acts row [] = refl
+commands_of_acts row (act.Hand stay command ∷ acts) =
+    elim (cases_Bool (nat_eq stay row)) [
+      | inl on ↦ rw on (ap (λ rest. command ∷ rest) (commands_of_acts row acts))
+      | inr off ↦ rw off (commands_of_acts row acts)
+    ]
+commands_of_acts row (act.Admit new ∷ acts) = commands_of_acts row acts
+commands_of_acts row (act.Leave stay ∷ acts) = commands_of_acts row acts
+
+pub queued_first : (acts : List Act) (cores : List CoreView) → ArePlayed acts cores → AreQueuedFirst (hands_of acts) cores
+queued_first acts cores played =
+    λ row within. subst (λ commands. IsQueuedFirst commands (core_at cores row)) (sym (commands_of_acts row acts)) (played row within)
+
+-- the assembled core makes the acts
+
+jobs_make_nothing : (row : ℕ) (events : List Event) → acts_of (jobs_at row events) ≡ []
+jobs_make_nothing row [] = refl
+jobs_make_nothing row (event.Hand game command ∷ events) = jobs_make_nothing row events
+jobs_make_nothing row (event.Take worker job ∷ events) = jobs_make_nothing row events
+jobs_make_nothing row (event.Put worker job ∷ events) = jobs_make_nothing row events
+jobs_make_nothing row (event.Admit new ∷ events) = jobs_make_nothing row events
+jobs_make_nothing row (event.Leave game ∷ events) = jobs_make_nothing row events
+
+all_jobs_make_nothing : (row : ℕ) (cores : List CoreView) → acts_of (jobs_from row cores) ≡ []
+all_jobs_make_nothing row [] = refl
+all_jobs_make_nothing row (core ∷ cores) =
+    acts_append (jobs_at row core.journal) (jobs_from (suc row) cores)
+    ∙ ap (λ (acts : List Act). acts ++ acts_of (jobs_from (suc row) cores)) (jobs_make_nothing row core.journal)
+    ∙ all_jobs_make_nothing (suc row) cores
+
+pub assembled_acts : (acts : List Act) (cores : List CoreView) → acts_of (map hand_event (hands_of acts)) ≡ acts
+    → acts_of (assembled_journal (hands_of acts) cores) ≡ acts
+assembled_acts acts cores acted =
+    let hands = map hand_event (hands_of acts) in
+    acts_append hands (jobs_from 0 cores) ∙ ap (λ (more : List Act). acts_of hands ++ more) (all_jobs_make_nothing 0 cores)
+    ∙ append-nil (acts_of hands) ∙ acted

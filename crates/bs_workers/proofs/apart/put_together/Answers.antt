@@ -1,0 +1,26 @@
+-- The assembled journal makes the acts.
+use Rattle.std.proofs.Common.{ap, refl, ◌∙◌, arith}
+use Rattle.bs_sched.specs.Assembly.{RanInOrder}
+use Rattle.bs_sched.specs.Core.{CoreView}
+use Rattle.bs_workers.specs.Run.{acts_of}
+use Rattle.bs_workers.specs.inner.Apart.{hands_of}
+use Rattle.bs_workers.proofs.Played.{assembled_acts, queued_first}
+use Rattle.bs_workers.proofs.apart.put_together.Goals as goal
+
+pub assemble-requires : goal.assemble-requires
+assemble-requires g c =
+    let acts = c.args.acts.now in
+    let cores = c.args.shared.cores.items in
+    let apart = c.if-not-ran_apart.ensures (hands_of acts) (queued_first acts cores c.requires.played) refl in
+    let queued = c.requires.queued in
+    let ran : RanInOrder g.row.CAP c.args.shared.workers c.args.shared.rows c.args.order.now cores
+    = record { hands = hands_of acts; ordered = queued.ordered; within = queued.within; apart = apart } in
+    (omega arith, (omega arith, (c.requires.workers, (c.requires.hosted, (c.requires.rest, ran)))))
+
+pub returns : goal.returns
+returns g c =
+    let acts = c.args.acts.now in
+    let cores = c.args.shared.cores.items in
+    let apart = c.if-not-ran_apart.ensures (hands_of acts) (queued_first acts cores c.requires.played) refl in
+    ap (λ (core : CoreView). acts_of core.journal) (c.in_ok-assemble.ensures (hands_of acts) c.requires.queued.ordered apart)
+    ∙ assembled_acts acts cores c.requires.queued.acted

@@ -1,0 +1,40 @@
+-- What a thread does to the core of one row of a run.
+use Rattle.std.specs.Prelude.{◌≡◌, ℕ, ◌<◌, List, length, map, All, Option, Some, None}
+use Rattle.std.specs.List.{filter_map}
+use Rattle.bs_sched.specs.Assembly.{Hand, IsOrderOf, IsQueuedFirst, core_at, hand_event}
+use Rattle.bs_sched.specs.Core.{CoreView}
+use Rattle.bs_workers.specs.declared.act.Act.{Act}
+use Rattle.bs_workers.specs.declared.act.Act.TheVariants as act
+use Rattle.bs_workers.specs.Acts.{command_in}
+use Rattle.bs_workers.specs.Run.{acts_of}
+
+-- the core of that row: first the acts' commands for the row were queued, then come jobs
+abbrev pub IsPlayed : List Act → ℕ → CoreView → Type 0
+IsPlayed acts row = IsQueuedFirst (filter_map (command_in row) acts)
+
+-- there is the core of each row, in order
+abbrev pub ArePlayed : List Act → List CoreView → Type 0
+ArePlayed acts cores = (row : ℕ) → row < length cores → IsPlayed acts row (core_at cores row)
+
+-- The commands of all rows.
+
+abbrev pub hand_of : Act → Option Hand
+hand_of (act.Hand stay command) = Some (record { row = stay; command = command })
+hand_of (act.Admit row) = None
+hand_of (act.Leave stay) = None
+
+-- the commands that the acts queue
+abbrev pub hands_of : List Act → List Hand
+hands_of = filter_map hand_of
+
+-- the act queues a command for that row, one of `rows`
+abbrev pub QueuesIn : ℕ → ℕ → Act → Type 0
+QueuesIn rows row (act.Hand stay command) = (stay ≡ row) × (row < rows)
+QueuesIn rows row (act.Admit new) = ⊥
+QueuesIn rows row (act.Leave stay) = ⊥
+
+-- each act queues a command for one of `rows` rows, and these are the rows, in order
+pub record AreQueuedIn (rows : ℕ) (acts : List Act) (order : List ℕ) : Type 0 where
+  pub ordered : IsOrderOf (hands_of acts) order
+  pub within : All (λ hand. hand.row < rows) (hands_of acts)
+  pub acted : acts_of (map hand_event (hands_of acts)) ≡ acts
