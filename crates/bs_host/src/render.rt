@@ -10,9 +10,11 @@ ghost use Rattle.bs_host.specs.inner.Transcript.{lane_lines_of, core_text_of};
 use crate::limits::BLOCK_BYTES;
 use bs_json::Stray;
 use bs_sched::Core;
-use bs_transcript::{Section, TranscriptFault, write_transcript};
+use bs_transcript::{Section, Transcript, TranscriptFault, write_transcript};
 use std::alloc::{AllocError, Global};
 use std::io::Write;
+use std::sync::Wait;
+use std::thread::Threads;
 
 /// The section of one stay: its name, its replies, its last board and its charge.
 fn section_of_game<'c>(core: &'c Core<BLOCK_BYTES>, game: usize) -> Section<'c>
@@ -42,17 +44,29 @@ fn sections_of_games<'c>(
     Ok(sections)
 }
 
+/// A finished core, and the lines of its file that belong to no game.
+#[derive(Clone, Copy)]
+pub(crate) struct PlayedFile<'c> {
+    pub(crate) core: &'c Core<BLOCK_BYTES>,
+    pub(crate) strays: &'c [(u64, Stray)],
+}
+
 /// Writes the sections of all stays in the order of their rows, then the stray lines.
-pub(crate) fn write_core<W: Write>(
+pub(crate) fn write_core<R: Threads + Wait + Sync, W: Write>(
+    rt: &R,
     alloc: Global,
-    core: &Core<BLOCK_BYTES>,
-    strays: &[(u64, Stray)],
+    file: PlayedFile<'_>,
+    threads: usize,
     output: &mut W,
 ) -> Result<(), TranscriptFault>
-    ensures written { OnOk result (Appends (W.contents output.old) (W.contents output.new) (core_text_of core.now strays.now)) }
-    ensures left { IfErr result (Leaves W.contents (core_text_of core.now strays.now) output.old output.new) }
+    ensures written { OnOk result (Appends (W.contents output.old) (W.contents output.new) (core_text_of file.entry.core.now file.entry.strays.now)) }
+    ensures left { IfErr result (Leaves W.contents (core_text_of file.entry.core.now file.entry.strays.now) output.old output.new) }
 {
-    let sections = sections_of_games(alloc, core)?;
-    write_transcript(alloc, sections.as_slice(), strays, output)?;
+    let sections = sections_of_games(alloc, file.core)?;
+    let transcript = Transcript {
+        sections: sections.as_slice(),
+        strays: file.strays,
+    };
+    write_transcript(rt, alloc, transcript, threads, output)?;
     Ok(())
 }

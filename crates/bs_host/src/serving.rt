@@ -17,7 +17,7 @@ use crate::file::CommandFile;
 use crate::limits::{BLOCK_BYTES, MOST_FILE_BYTES};
 use crate::lines::split_line;
 use crate::parse::parse_lines;
-use crate::render::write_core;
+use crate::render::{PlayedFile, write_core};
 use crate::route::{Requests, route_lines};
 use bs_board::Plan;
 use bs_json::read_plan;
@@ -116,6 +116,10 @@ pub fn serve<R: Threads + Wait + Sync, G: Gate, W: Write>(
     };
     let Requests { acts, strays } = read_requests(rt, alloc, file, threads)?;
     let core = run(rt, alloc, core, acts.as_slice(), threads, gate)?;
-    write_core(alloc, &core, strays.as_slice(), output)?;
+    let played = PlayedFile {
+        core: &core,
+        strays: strays.as_slice(),
+    };
+    write_core(rt, alloc, played, threads, output)?;
     Ok(core)
 }

@@ -1,3 +1,4 @@
 pub mod PartLines
+pub mod Places
 pub mod Sent
 pub mod WrittenBytes

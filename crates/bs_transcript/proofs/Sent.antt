@@ -1,10 +1,11 @@
 -- Lines that are bounded, and then sent to a writer through a buffer.
-use Rattle.std.proofs.Common.{◌≡◌, ℕ, suc, ◌+◌, ◌^◌, ◌<◌, ◌≤◌, min, List, [], ◌∷◌, ◌++◌, Option, length, take, drop, get_or, sym, ap, subst, ◌∙◌, arith, append_assoc, append-nil, length-append, ◌-◌}
-use Rattle.std.specs.Prelude.{All}
+use Rattle.std.proofs.Common.{◌≡◌, ℕ, suc, ◌+◌, ◌^◌, ◌<◌, ◌≤◌, min, List, [], ◌∷◌, ◌++◌, Option, length, take, drop, get_or, refl, sym, ap, ap₂, subst, ◌∙◌, arith, append_assoc, append-nil, length-append, take-append-drop, ◌-◌}
+use Rattle.std.specs.Prelude.{All, IfErr, MatchResult, OnOk, Result, Ok, Err}
 use Rattle.std.specs.Io.KnownBytes.{Appends}
 use Rattle.std.proofs.KnownBytes.{Appends-nil, Appends-trans}
 use Rattle.std.proofs.Math.Seq.{take-append-add}
-use Rattle.std.proofs.lemmas.List.{take-append-le, take_more, drop_more}
+use Rattle.std.proofs.lemmas.List.{drop-drop, get_or-append-add, take-append-le, take_more, drop_more}
+use Rattle.std.proofs.lemmas.List.Concat.{flat_map-append}
 use Rattle.bs_json.specs.Text.{Text, blank, put}
 use Rattle.bs_json.proofs.Puts.{put_whole}
 use Rattle.bs_transcript.specs.inner.Buffer.{AreBounded, IsOnItsWay}
@@ -101,6 +102,41 @@ pushed first now buffer after text line left way room is longest counts =
       few = way.few;
     }
 
+-- the text of some lines, as if it were in the empty buffer
+abbrev loaded : LineBuffer → List ℕ → LineBuffer
+loaded buffer text = record { text = record { bytes = text; missing = 0; room = buffer.text.room }; longest = buffer.longest; written = buffer.written }
+
+loads : (first now : Option (List ℕ)) (buffer : LineBuffer) (whole text : List ℕ) (some left : List (List ℕ)) → buffer.text.bytes ≡ [] → joined some ≡ text
+    → IsOnItsWay first now buffer whole (some ++ left) → IsOnItsWay first now (loaded buffer text) whole left
+loads first now buffer whole text some left empty is way =
+    record {
+      front = way.front;
+      taken = way.taken;
+      many = way.many;
+      whole =
+          way.whole ∙ ap (λ bytes. way.front ++ (bytes ++ joined (some ++ left))) empty
+          ∙ ap (λ t. way.front ++ t) (flat_map-append (λ line. line) some left) ∙ ap (λ t. way.front ++ (t ++ joined left)) is;
+      none_lost = refl;
+      room = way.room;
+      each = λ k d within. subst (λ line. length line ≤ buffer.longest) (get_or-append-add some left k d) (way.each (length some + k) d (omega (arith, length-append some left)));
+      few = way.few;
+    }
+
+-- the writer took the text of some lines, which was not in the buffer
+pub sent_text : (first now new : Option (List ℕ)) (buffer after : LineBuffer) (whole text : List ℕ) (some left : List (List ℕ)) → buffer.text.bytes ≡ []
+    → joined some ≡ text → IsOnItsWay first now buffer whole (some ++ left) → Appends now new text → after.text ≡ buffer.text → after.longest ≡ buffer.longest
+    → after.written ≡ min (buffer.written + length text) (2 ^ 64 - 1) → IsOnItsWay first new after whole left
+sent_text first now new buffer after whole text some left empty is way sent same longest counts =
+    let blank_is : buffer.text ≡ blank buffer.text.room = ap₂ (λ b m. record { bytes = b; missing = m; room = buffer.text.room }) empty way.none_lost in
+    sent_whole first now new (loaded buffer text) after whole left (loads first now buffer whole text some left empty is way) sent (same ∙ blank_is) longest counts
+
+-- the writer failed within such a text
+pub cut_text : (first now new : Option (List ℕ)) (buffer : LineBuffer) (whole text : List ℕ) (some left : List (List ℕ)) (taken written : ℕ)
+    → buffer.text.bytes ≡ [] → joined some ≡ text → IsOnItsWay first now buffer whole (some ++ left) → taken < length text → Appends now new (take taken text)
+    → written ≡ min (buffer.written + taken) (2 ^ 64 - 1) → IsCutOff written first new whole
+cut_text first now new buffer whole text some left taken written empty is way fewer sent counts =
+    cut_off first now new (loaded buffer text) whole left taken written (loads first now buffer whole text some left empty is way) fewer sent counts
+
 -- the buffer is empty, and no line is left
 pub arrived : (first now : Option (List ℕ)) (buffer : LineBuffer) (text : List ℕ) (room : ℕ) → IsOnItsWay first now buffer text [] → buffer.text ≡ blank room
     → Appends first now text
@@ -113,3 +149,28 @@ pub next_line : (first now : Option (List ℕ)) (buffer : LineBuffer) (text : Li
     → IsOnItsWay first now buffer text (drop at lines ++ left) → IsOnItsWay first now buffer text (get_or lines at [] ∷ drop (at + 1) lines ++ left)
 next_line first now buffer text lines left at within way =
     subst (λ ls. IsOnItsWay first now buffer text (ls ++ left)) (drop_more lines at [] within) way
+
+-- the line of a number is the next
+pub next_of : (first now : Option (List ℕ)) (buffer : LineBuffer) (text line : List ℕ) (lines : List (List ℕ)) (number : ℕ) → number < length lines
+    → line ≡ get_or lines number [] → IsOnItsWay first now buffer text (drop number lines) → IsOnItsWay first now buffer text (line ∷ drop (number + 1) lines)
+next_of first now buffer text line lines number inside is way =
+    subst (IsOnItsWay first now buffer text) (drop_more lines number [] inside ∙ ap (λ l. l ∷ drop (number + 1) lines) (sym is)) way
+
+-- the lines from one number on: those up to another, and the others
+pub lines_cut : (lines : List (List ℕ)) (number from to : ℕ) → number ≡ from → from ≤ to → drop number lines ≡ take (to - from) (drop from lines) ++ drop to lines
+lines_cut lines number from to is later =
+    let place : from + (to - from) ≡ to = omega arith in
+    ap (λ n. drop n lines) is ∙ sym (take-append-drop (to - from) (drop from lines))
+    ∙ ap (λ rest. take (to - from) (drop from lines) ++ rest) (drop-drop (to - from) from lines ∙ ap (λ n. drop n lines) place)
+
+pub on_its_way : (first now : Option (List ℕ)) (buffer : LineBuffer) (text : List ℕ) (left other : List (List ℕ)) → left ≡ other
+    → IsOnItsWay first now buffer text left → IsOnItsWay first now buffer text other
+on_its_way first now buffer text left other is way = subst (IsOnItsWay first now buffer text) is way
+
+pub ok_part : {A E : Type 0} (r : Result A E) (P : Type 0) (Q : E → Type 0) → MatchResult r (λ _. P) Q → OnOk r P
+ok_part (Ok x) P Q is = is
+ok_part (Err e) P Q is = tt
+
+pub err_part : {A E : Type 0} (r : Result A E) (P : Type 0) (Q : E → Type 0) → MatchResult r (λ _. P) Q → IfErr r Q
+err_part (Ok x) P Q is = tt
+err_part (Err e) P Q is = is

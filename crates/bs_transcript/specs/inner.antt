@@ -1,3 +1,4 @@
 -- What private contracts cite, and no public one.
+pub mod Between
 pub mod Buffer
 pub mod Parts

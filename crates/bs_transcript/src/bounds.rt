@@ -14,6 +14,8 @@ pub(crate) struct Bounds {
     pub(crate) longest: usize,
     /// Of all lines together.
     pub(crate) total: usize,
+    /// How many lines there are.
+    pub(crate) count: usize,
 }
 
 impl Bounds {
@@ -23,6 +25,7 @@ impl Bounds {
             → OnOk result (AreBounded self.new (lines ++ line ∷ [])) }
     {
         self.total = self.total.checked_add(bytes).ok_or(AllocError)?;
+        self.count = self.count.checked_add(1).ok_or(AllocError)?;
         self.longest = self.longest.max(bytes);
         Ok(())
     }
@@ -50,6 +53,7 @@ pub(crate) fn bound_all(
     let mut bounds = Bounds {
         longest: 0,
         total: 0,
+        count: 0,
     };
     for section in sections {
         bound_part(&Part::Game(section), &mut bounds)?;

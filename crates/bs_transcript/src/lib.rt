@@ -3,13 +3,19 @@
 #![tactic(auto)]
 
 mod bounds;
+mod channel;
+mod cursor;
 mod fault;
 mod line_buffer;
 mod lines;
+mod rendered;
+mod round_robin;
 mod section;
+mod together;
 mod write;
+mod writing;
 
 pub use fault::TranscriptFault;
 pub use lines::{text, write_transcript};
-pub use section::Section;
+pub use section::{Section, Transcript};
 pub use write::{WriteFault, write_all_of};

@@ -2,7 +2,7 @@
 ghost use Rattle.std.specs.Prelude.{◌≡◌, ◌+◌, ◌<◌, ◌≤◌, ◌++◌, ◌∷◌, [], List, ℕ, Option, length, slice_index_or, IfOk, MatchResult, OnOk};
 ghost use Rattle.bs_json.specs.Text.{blank};
 ghost use Rattle.bs_transcript.specs.inner.Buffer.{IsOnItsWay};
-ghost use Rattle.bs_transcript.specs.inner.Parts.{all_lines_of, lines_of_part};
+ghost use Rattle.bs_transcript.specs.inner.Parts.{all_lines_of, joined, lines_of_part};
 ghost use Rattle.bs_transcript.specs.Written.{IsCutOff};
 
 use crate::section::{Part, Section};
@@ -58,6 +58,25 @@ impl LineBuffer {
         Ok(())
     }
 
+    /// Writes a text that is not in the buffer. Nothing is in the buffer.
+    pub(crate) fn write_text<W: Write>(
+        &mut self,
+        text: &[u8],
+        output: &mut W,
+    ) -> Result<(), WriteFault>
+        requires { self.old.text.bytes ≡ [] }
+        ensures { (first : Option (List ℕ)) (whole : List ℕ) (some left : List (List ℕ)) → joined some ≡ text.now → IsOnItsWay first (W.contents output.old) self.old whole (some ++ left)
+            → MatchResult result (λ _. IsOnItsWay first (W.contents output.new) self.new whole left) (λ fault. IsCutOff fault.written first (W.contents output.new) whole) }
+    {
+        if let Err(fault) = write_all_of(text, output) {
+            return Err(WriteFault {
+                written: self.written.saturating_add(fault.written),
+            });
+        }
+        self.written = self.written.saturating_add(text.len());
+        Ok(())
+    }
+
     /// Writes out the buffer if it has no room for the longest line.
     fn make_room<W: Write>(&mut self, output: &mut W) -> Result<(), WriteFault>
         ensures sent { (first : Option (List ℕ)) (text : List ℕ) (left : List (List ℕ)) → IsOnItsWay first (W.contents output.old) self.old text left
@@ -72,7 +91,7 @@ impl LineBuffer {
 
     /// Appends the line of that index. Before that, writes out the buffer if it has no room for the
     /// longest line.
-    fn push_line<W: Write>(
+    pub(crate) fn push_line<W: Write>(
         &mut self,
         part: &Part<'_>,
         index: usize,

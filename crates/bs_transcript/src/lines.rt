@@ -7,17 +7,26 @@ ghost use Rattle.bs_transcript.specs.Written.{Leaves};
 use crate::bounds::bound_all;
 use crate::fault::TranscriptFault;
 use crate::line_buffer::LineBuffer;
-use crate::section::Section;
+use crate::section::{Section, Transcript};
+use crate::together::{Source, write_together};
 use bs_json::Stray;
 use std::alloc::{AllocError, Global};
 use std::io::Write;
+use std::marker::Brand;
+use std::sync::Wait;
+use std::thread::Threads;
 
-/// Writes the games' sections in order, then the lines that belong to no game, each with its number
-/// in the file. First bounds the length of each line, then allocates one buffer of 64 KiB and the
-/// greatest of these bounds. Allocates nothing once the first byte is written. If memory runs out
-/// the writer is unchanged; if the writer fails it has the first bytes of the text, as many as the
-/// fault says.
-pub fn write_transcript<W: Write>(
+/// The least sum of the bounds of the lines for each rendering thread, in bytes. Rendering such
+/// lines takes a few times as long as starting a thread.
+const FEWEST_BYTES: usize = 4_000_000;
+
+/// The largest number of rendering threads besides the calling one. More are of no use, as one
+/// thread writes.
+const MOST_RENDERERS: usize = 4;
+
+/// Writes a transcript by the calling thread alone, through one buffer of 64 KiB and the longest
+/// line.
+fn write_alone<W: Write>(
     alloc: Global,
     sections: &[Section<'_>],
     strays: &[(u64, Stray)],
@@ -33,6 +42,36 @@ pub fn write_transcript<W: Write>(
     Ok(())
 }
 
+/// Writes the games' sections in order, then the lines that belong to no game, each with its number
+/// in the file. First bounds the length of each line, then allocates buffers of 64 KiB and the
+/// greatest of these bounds: one for the calling thread, and six for each thread that renders beside
+/// it. There are at most `threads` threads with the calling one. Allocates nothing and starts no
+/// thread once the first byte is written. If memory runs out the writer is unchanged; if the writer
+/// fails it has the first bytes of the text, as many as the fault says.
+pub fn write_transcript<R: Threads + Wait + Sync, W: Write>(
+    rt: &R,
+    alloc: Global,
+    transcript: Transcript<'_>,
+    threads: usize,
+    output: &mut W,
+) -> Result<(), TranscriptFault>
+    ensures written { OnOk result (Appends (W.contents output.old) (W.contents output.new) (text_of transcript.entry.sections.now transcript.entry.strays.now)) }
+    ensures left { IfErr result (Leaves W.contents (text_of transcript.entry.sections.now transcript.entry.strays.now) output.old output.new) }
+{
+    let Transcript { sections, strays } = transcript;
+    if threads <= 1 {
+        return write_alone(alloc, sections, strays, output);
+    }
+    let bounds = bound_all(sections, strays)?;
+    let most = (bounds.total / FEWEST_BYTES).min(MOST_RENDERERS);
+    let source = Source {
+        sections,
+        strays,
+        bounds,
+    };
+    write_together::<Brand, R, W>(rt, alloc, source, (threads - 1).min(most), output)
+}
+
 /// Renders the games' sections in order, then the lines that belong to no game, each with its
 /// number in the file.
 pub fn text(
@@ -43,7 +82,7 @@ pub fn text(
     ensures { IfOk result (λ text. text.items ≡ text_of sections.now strays.now) }
 {
     let mut text = Vec::new(alloc);
-    match write_transcript(alloc, sections, strays, &mut text) {
+    match write_alone(alloc, sections, strays, &mut text) {
         Ok(()) => Ok(text),
         Err(_) => Err(AllocError),
     }

@@ -19,6 +19,14 @@ pub struct Section<'t> {
     pub charge: u32,
 }
 
+/// The sections of the games, in order, and the lines that belong to no game, with their numbers in
+/// the file.
+#[derive(Clone, Copy)]
+pub struct Transcript<'t> {
+    pub sections: &'t [Section<'t>],
+    pub strays: &'t [(u64, Stray)],
+}
+
 /// Appends one line of a game's section by its index: a reply line, or the final line, which comes
 /// after all replies.
 #[tactic(auto, using(crate::proofs::PartLines::reply_line_at, crate::proofs::PartLines::final_line_at))]

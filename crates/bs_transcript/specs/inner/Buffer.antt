@@ -5,12 +5,13 @@ use Rattle.bs_transcript.specs.declared.line_buffer.LineBuffer.{LineBuffer}
 use Rattle.bs_transcript.specs.declared.bounds.Bounds.{Bounds}
 use Rattle.bs_transcript.specs.inner.Parts.{joined}
 
--- no line is longer than `longest`, and all together have at most `total` bytes, which `usize`
--- holds
+-- there are `count` lines, no line is longer than `longest`, and all together have at most `total`
+-- bytes, which `usize` holds
 pub record AreBounded (bounds : Bounds) (lines : List (List ℕ)) : Type 0 where
   pub each : All (λ line. length line ≤ bounds.longest) lines
   pub total : length (joined lines) ≤ bounds.total
   pub few : bounds.total < 2 ^ 64
+  pub count : length lines ≡ bounds.count
 
 -- The text is what the writer took, then the bytes in the buffer, then the lines that are left.
 -- Once the buffer is empty it has room for each of these lines.

@@ -5,8 +5,8 @@ use Rattle.bs_transcript.specs.inner.Parts.{all_lines_of}
 use Rattle.bs_transcript.specs.Written.{IsCutOff}
 use Rattle.bs_transcript.proofs.PartLines.{all_lines_text}
 use Rattle.bs_transcript.proofs.Sent.{arrived, sets_out}
-use Rattle.bs_transcript.proofs.lines.write_transcript.Goals as goal
-use Rattle.bs_transcript.proofs.lines.write_transcript.Goals.{After-push_all}
+use Rattle.bs_transcript.proofs.lines.write_alone.Goals as goal
+use Rattle.bs_transcript.proofs.lines.write_alone.Goals.{After-push_all}
 
 -- before the first line
 start : (g : _) (c : After-push_all g)
