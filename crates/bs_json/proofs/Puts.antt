@@ -100,6 +100,3 @@ put_more t0 t1 a b one = ap (λ t. put t b) one ∙ put_put t0 a b
 -- one piece of those that are left
 pub put_step : (t0 t1 total : Text) (a b : List ℕ) → t1 ≡ put t0 a → put t0 (a ++ b) ≡ total → put t1 b ≡ total
 put_step t0 t1 total a b one so_far = put_more t0 t1 a b one ∙ so_far
-
-pub put_item : (t0 t1 total : Text) (a b c : List ℕ) → t1 ≡ put t0 (a ++ b) → put t0 (a ++ (b ++ c)) ≡ total → put t1 c ≡ total
-put_item t0 t1 total a b c one so_far = put_step t0 t1 total (a ++ b) c one (ap (put t0) (append_assoc a b c) ∙ so_far)

@@ -1,5 +1,5 @@
 -- The text of numbers and cells, from their bytes.
-use Rattle.std.proofs.Common.{◌≡◌, ℕ, suc, ◌/◌, ◌%◌, ◌+◌, ◌-◌, ◌<◌, ◌≤◌, Bool, true, List, [], ◌∷◌, ◌++◌, codes, ℤ, pos, negsuc, nat_abs, ◌+ℤ◌, ◌-ℤ◌, ◌≤ℤ◌, All, length, get_or, take, drop, refl, sym, ap, ap₂, ◌∙◌, append_assoc, arith}
+use Rattle.std.proofs.Common.{◌≡◌, ℕ, suc, ◌/◌, ◌%◌, ◌+◌, ◌-◌, ◌<◌, ◌≤◌, Bool, true, false, List, [], ◌∷◌, ◌++◌, codes, ℤ, pos, negsuc, nat_abs, ◌+ℤ◌, ◌-ℤ◌, ◌≤ℤ◌, All, length, get_or, take, drop, refl, sym, ap, ap₂, ◌∙◌, arith}
 use Rattle.std.specs.Prelude.{decimal, flat_map, map}
 use Rattle.std.specs.List.{AllByRecursion}
 use Rattle.std.proofs.lemmas.Fmt.{decimal_digit}
@@ -8,15 +8,16 @@ use Rattle.std.proofs.lemmas.List.{take_rest}
 use Rattle.std.proofs.lemmas.List.Elements.{recursion_from_All}
 use Rattle.itoa.proofs.Decimal.{decimal_two}
 use Rattle.json.specs.Print.{escape_byte}
+use Rattle.serde_json.specs.Data.{Data, Items, item}
 use Rattle.serde_json.specs.View.{items_of}
-use Rattle.serde_json.specs.Written.{comma_if, compact_text, items_text}
+use Rattle.serde_json.specs.Written.{compact_text, items_text}
 use Rattle.bs_board.specs.declared.boards.point.Point.{Point}
 use Rattle.bs_board.specs.records.Record.{cell_bytes}
 use Rattle.bs_board.specs.records.Writing.{IsByteCell}
 use Rattle.bs_json.specs.Boards.{cell_data}
-use Rattle.bs_json.specs.inner.BoardText.{cell_of, cells_of, coordinate_text}
+use Rattle.bs_json.specs.inner.BoardText.{byte_before, cell_of, cells_of, coordinate_text, list_rest}
 use Rattle.bs_json.specs.Text.{Text, put}
-use Rattle.bs_json.proofs.Puts.{next, put_item}
+use Rattle.bs_json.proofs.Puts.{next, put_step}
 
 -- ---- short numbers
 
@@ -43,12 +44,31 @@ coordinate_beyond raised byte beyond =
 pub beyond_pieces : (t0 t1 t2 : Text) (raised byte : ℕ) → byte < raised → t1 ≡ put t0 (45 ∷ []) → t2 ≡ put t1 (decimal (raised - byte)) → t2 ≡ put t0 (coordinate_text (pos byte -ℤ pos raised))
 beyond_pieces t0 t1 t2 raised byte beyond one two = next _ _ _ _ _ one two ∙ ap (put t0) (sym (coordinate_beyond raised byte beyond))
 
+-- ---- a column and a row, with the text around them
+
+pub wide_column : (raised x : ℕ) → raised ≤ x → 10 ≤ x - raised → x - raised < 100
+    → codes "{\"x\":" ++ ((48 + (x - raised) / 10) ∷ (48 + (x - raised) % 10) ∷ []) ≡ codes "{\"x\":" ++ coordinate_text (pos x -ℤ pos raised)
+wide_column raised x inside many few =
+    ap (λ digits. codes "{\"x\":" ++ digits) (two_digits (x - raised) many few ∙ sym (coordinate_inside raised x inside))
+
+pub wide_row : (raised y : ℕ) → raised ≤ y → 10 ≤ y - raised → y - raised < 100
+    → codes ",\"y\":" ++ ((48 + (y - raised) / 10) ∷ (48 + (y - raised) % 10) ∷ codes "}") ≡ codes ",\"y\":" ++ (coordinate_text (pos y -ℤ pos raised) ++ codes "}")
+wide_row raised y inside many few =
+    ap (λ digits. codes ",\"y\":" ++ (digits ++ codes "}")) (two_digits (y - raised) many few ∙ sym (coordinate_inside raised y inside))
+
+pub column_pieces : (t0 t1 t2 : Text) (lead raised x : ℕ) → t1 ≡ put t0 (lead ∷ codes "{\"x\":") → t2 ≡ put t1 (coordinate_text (pos x -ℤ pos raised))
+    → t2 ≡ put t0 (lead ∷ (codes "{\"x\":" ++ coordinate_text (pos x -ℤ pos raised)))
+column_pieces t0 t1 t2 lead raised x one two = next _ _ _ _ _ one two
+
+pub row_pieces : (t0 t1 t2 t3 : Text) (raised y : ℕ) → t1 ≡ put t0 (codes ",\"y\":") → t2 ≡ put t1 (coordinate_text (pos y -ℤ pos raised)) → t3 ≡ put t2 (codes "}")
+    → t3 ≡ put t0 (codes ",\"y\":" ++ (coordinate_text (pos y -ℤ pos raised) ++ codes "}"))
+row_pieces t0 t1 t2 t3 raised y one two three = next _ _ _ _ _ one (next _ _ _ _ _ two three)
+
 -- what was pushed, step by step
-pub cell_pieces : (t0 t1 t2 t3 t4 t5 : Text) (later : Bool) (raised x y : ℕ) → t1 ≡ put t0 (comma_if later ++ codes "{\"x\":") → t2 ≡ put t1 (coordinate_text (pos x -ℤ pos raised))
-    → t3 ≡ put t2 (codes ",\"y\":") → t4 ≡ put t3 (coordinate_text (pos y -ℤ pos raised)) → t5 ≡ put t4 (codes "}") → t5 ≡ put t0 (comma_if later ++ compact_text (cell_data (cell_of raised x y)))
+pub cell_pieces : (t0 t1 t2 : Text) (lead raised x y : ℕ) → t1 ≡ put t0 (lead ∷ (codes "{\"x\":" ++ coordinate_text (pos x -ℤ pos raised)))
+    → t2 ≡ put t1 (codes ",\"y\":" ++ (coordinate_text (pos y -ℤ pos raised) ++ codes "}")) → t2 ≡ put t0 (lead ∷ compact_text (cell_data (cell_of raised x y)))
 unfolding escape_byte
-cell_pieces t0 t1 t2 t3 t4 t5 later raised x y one two three four five =
-    next _ _ _ _ _ one (next _ _ _ _ _ two (next _ _ _ _ _ three (next _ _ _ _ _ four five))) ∙ ap (put t0) (append_assoc (comma_if later) (codes "{\"x\":") _)
+cell_pieces t0 t1 t2 lead raised x y one two = next _ _ _ _ _ one two
 
 -- a cell near the origin, whose numbers have one digit each
 pub small_cell : (raised x y : ℕ) → raised ≤ x → raised ≤ y → x - raised < 10 → y - raised < 10
@@ -74,13 +94,21 @@ cells_back raised (p ∷ cells) fits = rw (raised_again p.x raised fits.0.x.0, r
 pub cells_again : (raised : ℕ) (cells : List Point) (bytes : List ℕ) → All (IsByteCell raised) cells → bytes ≡ flat_map (cell_bytes raised) cells → cells_of raised bytes ≡ cells
 cells_again raised cells bytes fits is = ap (cells_of raised) is ∙ cells_back raised cells (recursion_from_All (IsByteCell raised) cells fits)
 
+-- one item of those that are left
+rest_of_item : (later : Bool) (d : Data) (ds : Items) → list_rest later (item d ds) ≡ (byte_before later ∷ compact_text d) ++ items_text true ds
+rest_of_item true d ds = refl
+rest_of_item false d ds = refl
+
 -- one cell of those that are left
-pub one_cell : (raised : ℕ) (left : List ℕ) (x y : ℕ) (later : Bool) (t0 t1 total : Text) → 2 ≤ length left → x ≡ get_or left 0 0 → y ≡ get_or left 1 0
-    → t1 ≡ put t0 (comma_if later ++ compact_text (cell_data (cell_of raised x y))) → put t0 (items_text later (items_of (map cell_data (cells_of raised left)))) ≡ total
-    → put t1 (items_text true (items_of (map cell_data (cells_of raised (take (length left - 2) (drop 2 left)))))) ≡ total
-one_cell raised [] x y later t0 t1 total many first second one so_far = absurd (omega (arith, many))
-one_cell raised (a ∷ []) x y later t0 t1 total many first second one so_far = absurd (omega (arith, many))
-one_cell raised (a ∷ b ∷ rest) x y later t0 t1 total many first second one so_far =
+pub one_cell : (raised : ℕ) (left : List ℕ) (lead x y : ℕ) (later : Bool) (t0 t1 total : Text) → 2 ≤ length left → lead ≡ byte_before later → x ≡ get_or left 0 0 → y ≡ get_or left 1 0
+    → t1 ≡ put t0 (lead ∷ compact_text (cell_data (cell_of raised x y))) → put t0 (list_rest later (items_of (map cell_data (cells_of raised left)))) ≡ total
+    → put t1 (list_rest true (items_of (map cell_data (cells_of raised (take (length left - 2) (drop 2 left)))))) ≡ total
+one_cell raised [] lead x y later t0 t1 total many opens first second one so_far = absurd (omega (arith, many))
+one_cell raised (a ∷ []) lead x y later t0 t1 total many opens first second one so_far = absurd (omega (arith, many))
+one_cell raised (a ∷ b ∷ rest) lead x y later t0 t1 total many opens first second one so_far =
+    let written : t1 ≡ put t0 (byte_before later ∷ compact_text (cell_data (cell_of raised a b))) =
+    one ∙ ap (λ l. put t0 (l ∷ compact_text (cell_data (cell_of raised x y)))) opens
+    ∙ ap₂ (λ p q. put t0 (byte_before later ∷ compact_text (cell_data (cell_of raised p q)))) first second in
     ap (λ bytes. put t1 (items_text true (items_of (map cell_data (cells_of raised bytes))))) (take_rest (a ∷ b ∷ rest) 2)
-    ∙ put_item t0 t1 total (comma_if later) (compact_text (cell_data (cell_of raised a b))) (items_text true (items_of (map cell_data (cells_of raised rest))))
-    (one ∙ ap₂ (λ p q. put t0 (comma_if later ++ compact_text (cell_data (cell_of raised p q)))) first second) so_far
+    ∙ put_step t0 t1 total (byte_before later ∷ compact_text (cell_data (cell_of raised a b))) (items_text true (items_of (map cell_data (cells_of raised rest)))) written
+    (ap (put t0) (sym (rest_of_item later (cell_data (cell_of raised a b)) (items_of (map cell_data (cells_of raised rest))))) ∙ so_far)

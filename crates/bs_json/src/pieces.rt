@@ -109,7 +109,7 @@ fn push_escapes(bytes: &[u8], text: &mut TextBuffer)
 /// Appends the bytes of a string. Nearly all strings have none to escape.
 #[tactic(auto, using(crate::proofs::CompactLines::escape_plain))]
 #[inline(always)]
-fn push_bytes(bytes: &[u8], text: &mut TextBuffer)
+pub(crate) fn push_bytes(bytes: &[u8], text: &mut TextBuffer)
     ensures { text.new ≡ put text.old (escape bytes.now) }
 {
     if are_plain(bytes) {

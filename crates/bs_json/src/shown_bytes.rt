@@ -1,7 +1,7 @@
 //! Appends the JSON text of a board directly from the bytes of its record: no board is decoded, and
 //! no JSON value is made.
-ghost use Rattle.std.specs.Prelude.{◌≡◌, ◌++◌, ◌≤◌, ◌<◌, ◌-◌, ◌-ℤ◌, All, List, [], Some, codes, decimal, flat_map, option_copied, option_map, pos, slice_get};
-ghost use Rattle.serde_json.specs.Data.{boolean, string};
+ghost use Rattle.std.specs.Prelude.{◌≡◌, ◌++◌, ◌∷◌, ◌≤◌, ◌<◌, ◌-◌, ◌-ℤ◌, All, List, [], None, Some, codes, decimal, flat_map, option_copied, option_map, pos, slice_get};
+ghost use Rattle.serde_json.specs.Data.{boolean, no_items, null, string};
 ghost use Rattle.serde_json.specs.Written.{comma_if, compact_text};
 ghost use Rattle.bs_board.specs.declared.boards.board.Board.{Board as AnyBoard};
 ghost use Rattle.bs_board.specs.declared.boards.snake.Snake.{Snake as AnySnake};
@@ -10,11 +10,11 @@ ghost use Rattle.bs_board.specs.records.Record.{snake_record};
 ghost use Rattle.bs_board.specs.records.Writing.{IsWritable};
 ghost use Rattle.bs_board.specs.inner.Writing.{IsWritableBoard};
 ghost use Rattle.bs_json.specs.Boards.{board_data, cause_data, cell_data, cells_data, killer_data, mode_text, out_data, snake_data, snakes_data};
-ghost use Rattle.bs_json.specs.inner.BoardText.{back_pieces, board_of, cell_of, cells_of, coordinate_text, front_pieces, hazard_pieces, hazards_of, snake_of, snake_pieces, text_data};
+ghost use Rattle.bs_json.specs.inner.BoardText.{back_pieces, board_of, byte_before, cell_of, cells_of, coordinate_text, front_pieces, hazard_pieces, hazards_of, list_rest, snake_of, snake_pieces, text_data};
 ghost use Rattle.bs_json.specs.Text.{put};
 
 use crate::boards::{cause_text, mode_text};
-use crate::pieces::{push_small, push_string, push_string_or_null, push_turn};
+use crate::pieces::{push_bytes, push_small, push_string, push_string_or_null, push_turn};
 use crate::text_buffer::TextBuffer;
 use bs_board::{BoardBytes, Cause, KeptBoard, Mode, SnakeBytes, skip_snakes, split_snake};
 
@@ -32,64 +32,101 @@ fn push_coordinate(raised: u8, byte: u8, text: &mut TextBuffer)
     }
 }
 
-/// Appends the text before the column of a cell, after a comma unless it is the first of a list.
+/// Appends the byte before a cell, and its column. Nearly all columns here have two digits.
+#[tactic(auto, using(crate::proofs::ShownCells::wide_column, crate::proofs::ShownCells::column_pieces))]
 #[inline(always)]
-fn push_start(later: bool, text: &mut TextBuffer)
-    ensures { text.new ≡ put text.old (comma_if later ++ codes "{\"x\":") }
+fn push_column(lead: u8, raised: u8, x: u8, text: &mut TextBuffer)
+    ensures { text.new ≡ put text.old (lead ∷ (codes "{\"x\":" ++ coordinate_text (pos x -ℤ pos raised))) }
 {
-    if later {
-        text.push(b",{\"x\":");
+    if raised <= x && 10 <= x - raised && x - raised < 100 {
+        let mut piece = *b",{\"x\":00";
+        piece[0] = lead;
+        piece[6] = b'0' + (x - raised) / 10;
+        piece[7] = b'0' + (x - raised) % 10;
+        text.push(&piece);
     } else {
-        text.push(b"{\"x\":");
+        let mut piece = *b",{\"x\":";
+        piece[0] = lead;
+        text.push(&piece);
+        push_coordinate(raised, x, text);
+    }
+}
+
+/// Appends the row of a cell, and its end.
+#[tactic(auto, using(crate::proofs::ShownCells::wide_row, crate::proofs::ShownCells::row_pieces))]
+#[inline(always)]
+fn push_row(raised: u8, y: u8, text: &mut TextBuffer)
+    ensures { text.new ≡ put text.old (codes ",\"y\":" ++ (coordinate_text (pos y -ℤ pos raised) ++ codes "}")) }
+{
+    if raised <= y && 10 <= y - raised && y - raised < 100 {
+        let mut piece = *b",\"y\":00}";
+        piece[5] = b'0' + (y - raised) / 10;
+        piece[6] = b'0' + (y - raised) % 10;
+        text.push(&piece);
+    } else {
+        text.push(b",\"y\":");
+        push_coordinate(raised, y, text);
+        text.push(b"}");
     }
 }
 
 /// Appends a cell whose column and row may be negative or have several digits.
 #[tactic(auto, using(crate::proofs::ShownCells::cell_pieces))]
-fn push_any_cell(later: bool, raised: u8, x: u8, y: u8, text: &mut TextBuffer)
-    ensures { text.new ≡ put text.old (comma_if later ++ compact_text (cell_data (cell_of raised x y))) }
+#[inline(always)]
+fn push_any_cell(lead: u8, raised: u8, x: u8, y: u8, text: &mut TextBuffer)
+    ensures { text.new ≡ put text.old (lead ∷ compact_text (cell_data (cell_of raised x y))) }
 {
-    push_start(later, text);
-    push_coordinate(raised, x, text);
-    text.push(b",\"y\":");
-    push_coordinate(raised, y, text);
-    text.push(b"}");
+    push_column(lead, raised, x, text);
+    push_row(raised, y, text);
 }
 
 /// Appends a cell whose column and row have one digit each.
 #[tactic(auto, using(crate::proofs::ShownCells::small_cell))]
 #[inline(always)]
-fn push_small_cell(later: bool, raised: u8, x: u8, y: u8, text: &mut TextBuffer)
+fn push_small_cell(lead: u8, raised: u8, x: u8, y: u8, text: &mut TextBuffer)
     requires left { raised ≤ x }
     requires below { raised ≤ y }
     requires column { x - raised < 10 }
     requires row { y - raised < 10 }
-    ensures { text.new ≡ put text.old (comma_if later ++ compact_text (cell_data (cell_of raised x y))) }
+    ensures { text.new ≡ put text.old (lead ∷ compact_text (cell_data (cell_of raised x y))) }
 {
-    let x = b'0' + (x - raised);
-    let y = b'0' + (y - raised);
-    if later {
-        let mut piece = *b",{\"x\":0,\"y\":0}";
-        piece[6] = x;
-        piece[12] = y;
-        text.push(&piece);
+    let mut piece = *b",{\"x\":0,\"y\":0}";
+    piece[0] = lead;
+    piece[6] = b'0' + (x - raised);
+    piece[12] = b'0' + (y - raised);
+    text.push(&piece);
+}
+
+/// Appends the cell of these two bytes, which the record stores with `raised` added, behind the
+/// byte `lead`.
+#[inline(always)]
+fn push_cell(lead: u8, raised: u8, x: u8, y: u8, text: &mut TextBuffer)
+    ensures { text.new ≡ put text.old (lead ∷ compact_text (cell_data (cell_of raised x y))) }
+{
+    if raised <= x && raised <= y && x - raised < 10 && y - raised < 10 {
+        push_small_cell(lead, raised, x, y, text);
     } else {
-        let mut piece = *b"{\"x\":0,\"y\":0}";
-        piece[5] = x;
-        piece[11] = y;
-        text.push(&piece);
+        push_any_cell(lead, raised, x, y, text);
     }
 }
 
-/// Appends the cell of these two bytes, which the record stores with `raised` added.
+/// The byte before a cell of a list: a comma, or the bracket that opens the list.
 #[inline(always)]
-fn push_cell(later: bool, raised: u8, x: u8, y: u8, text: &mut TextBuffer)
-    ensures { text.new ≡ put text.old (comma_if later ++ compact_text (cell_data (cell_of raised x y))) }
+fn byte_before(later: bool) -> u8
+    ensures { result ≡ byte_before later }
 {
-    if raised <= x && raised <= y && x - raised < 10 && y - raised < 10 {
-        push_small_cell(later, raised, x, y, text);
+    if later { b',' } else { b'[' }
+}
+
+/// Appends the end of a list of cells; both brackets if the list is empty.
+#[inline(always)]
+fn push_end(later: bool, text: &mut TextBuffer)
+    ensures { text.new ≡ put text.old (list_rest later no_items) }
+{
+    if later {
+        text.push(b"]");
     } else {
-        push_any_cell(later, raised, x, y, text);
+        text.push(b"[]");
     }
 }
 
@@ -98,15 +135,14 @@ fn push_cell(later: bool, raised: u8, x: u8, y: u8, text: &mut TextBuffer)
 fn push_cells(raised: u8, cells: &[u8], text: &mut TextBuffer)
     ensures { text.new ≡ put text.old (compact_text (cells_data (cells_of raised cells.now))) }
 {
-    text.push(b"[");
     let mut left = cells;
     let mut later = false;
     while let [x, y, rest @ ..] = left {
-        push_cell(later, raised, *x, *y, text);
+        push_cell(byte_before(later), raised, *x, *y, text);
         left = rest;
         later = true;
     }
-    text.push(b"]");
+    push_end(later, text);
 }
 
 /// Appends the cause of a snake's elimination, or `null`.
@@ -131,9 +167,24 @@ fn push_out(out: Option<u16>, text: &mut TextBuffer)
     }
 }
 
-/// Appends a snake from the parts of its record, with its killer's id.
+/// Appends a snake that is not eliminated, whose members without a value join the text around them.
 #[inline(always)]
-fn push_parts(killer: Option<&[u8]>, snake: &SnakeBytes<'_>, text: &mut TextBuffer)
+fn push_living(snake: &SnakeBytes<'_>, text: &mut TextBuffer)
+    requires cause { snake.now.cause ≡ None }
+    requires out { snake.now.out ≡ None }
+    ensures { text.new ≡ put text.old (snake_pieces null (snake_of snake.now)) }
+{
+    text.push(b"{\"body\":");
+    push_cells(1, snake.body, text);
+    text.push(b",\"by\":null,\"cause\":null,\"health\":");
+    push_small(snake.health, text);
+    text.push(b",\"id\":\"");
+    push_bytes(snake.id, text);
+    text.push(b"\",\"out\":null}");
+}
+
+/// Appends a snake with its killer's id, member by member.
+fn push_members(killer: Option<&[u8]>, snake: &SnakeBytes<'_>, text: &mut TextBuffer)
     ensures { text.new ≡ put text.old (snake_pieces (text_data (option_copied killer.entry)) (snake_of snake.now)) }
 {
     text.push(b"{\"body\":");
@@ -149,6 +200,17 @@ fn push_parts(killer: Option<&[u8]>, snake: &SnakeBytes<'_>, text: &mut TextBuff
     text.push(b",\"out\":");
     push_out(snake.out, text);
     text.push(b"}");
+}
+
+/// Appends a snake from the parts of its record, with its killer's id.
+#[inline(always)]
+fn push_parts(killer: Option<&[u8]>, snake: &SnakeBytes<'_>, text: &mut TextBuffer)
+    ensures { text.new ≡ put text.old (snake_pieces (text_data (option_copied killer.entry)) (snake_of snake.now)) }
+{
+    match (killer, snake.cause, snake.out) {
+        (None, None, None) => push_living(snake, text),
+        _ => push_members(killer, snake, text),
+    }
 }
 
 /// Finds the id of the snake in a seat.

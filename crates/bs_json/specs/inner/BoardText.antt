@@ -1,8 +1,8 @@
 -- The pieces of a board's JSON text.
 use Rattle.std.specs.Prelude.{ℕ, ℤ, codes, decimal, List, [], ◌∷◌, ◌++◌, Bool, true, false, Option, Some, None, pos, ◌-ℤ◌}
-use Rattle.serde_json.specs.Data.{Data, null, boolean, string}
+use Rattle.serde_json.specs.Data.{Data, Items, null, boolean, string}
 use Rattle.serde_json.specs.Find.{of_integer}
-use Rattle.serde_json.specs.Written.{compact_text, number_text}
+use Rattle.serde_json.specs.Written.{compact_text, items_text, number_text}
 use Rattle.bs_board.specs.declared.boards.board.Board.{Board}
 use Rattle.bs_board.specs.declared.boards.hazards.Hazards.{Hazards}
 use Rattle.bs_board.specs.declared.boards.point.Point.{Point}
@@ -47,6 +47,16 @@ board_of parts snakes = record {
 
 abbrev pub coordinate_text : ℤ → List ℕ
 coordinate_text z = number_text (of_integer z)
+
+-- The byte before an item of a list: a comma, or the bracket that opens the list.
+abbrev pub byte_before : Bool → ℕ
+byte_before true = 44
+byte_before false = 91
+
+-- The items of a list that are left, with the brackets that are still missing.
+abbrev pub list_rest : Bool → Items → List ℕ
+list_rest true items = items_text true items
+list_rest false items = 91 ∷ items_text false items
 
 abbrev pub text_data : Option (List ℕ) → Data
 text_data None = null

@@ -1,5 +1,5 @@
 use Rattle.bs_json.proofs.Puts.{next}
-use Rattle.bs_json.proofs.shown_bytes.push_parts.Goals as goal
+use Rattle.bs_json.proofs.shown_bytes.push_members.Goals as goal
 
 pub returns : goal.returns
 returns c =
