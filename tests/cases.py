@@ -35,6 +35,7 @@ BLOCKS = {"stays": 12}
 USUAL_BLOCKS = 64
 WITH_STAYS = (3, 5)  # versions of the format in which games can come and go
 PURPOSE = re.compile(r"^- `([a-z0-9_./]+)`: (\S.*)$")
+SHOWS = 600  # the number of `show` lines of the long file
 
 
 @dataclass(frozen=True)
@@ -145,3 +146,14 @@ def played_alone(case):
     """The stays that a slow test plays alone: the first, or all if games can come and go."""
     all_stays = list(stays(case))
     return all_stays if case.has_stays else all_stays[:1]
+
+
+def long_file(folder):
+    """Makes a file whose transcript is written in several pieces, by several threads if there are
+    so many workers."""
+    at = Path(folder) / "long.jsonl"
+    plan = '{"games":[{"game":"a","quota":16384}]}'
+    first = '{"game":"a","do":"new","mode":"solo","width":25,"height":25,'
+    first += '"snakes":[{"id":"s","x":1,"y":1}],"food":[{"x":3,"y":4}]}'
+    at.write_text("\n".join([plan, first, *SHOWS * ['{"game":"a","do":"show"}'], ""]))
+    return at

@@ -1,7 +1,9 @@
 """Tests of the built program, for tests/test."""
 import contextlib
+import itertools
 import json
 import os
+import random
 import re
 import subprocess
 import tempfile
@@ -9,6 +11,7 @@ from collections import Counter
 from pathlib import Path
 
 import cases
+import drawn
 import program
 import pytest
 import round_robin
@@ -84,16 +87,14 @@ class TestWords:
 
 
 def threads_at_work(*words):
-    """Two numbers of threads of a run: the most frequent one while it has several, else 1; and the
-    greatest. Its output is dropped. A thread that ends may be listed for a moment with those of the
-    next stage."""
+    """The greatest number of threads of a run at one time. Its output is dropped. A thread that ends
+    may be listed for a moment with those of the next stage."""
     started = subprocess.Popen([program.path, *words], stdout=subprocess.DEVNULL)
-    seen = Counter()
+    most = 1
     while started.poll() is None:
         with contextlib.suppress(OSError):
-            seen[len(os.listdir(f"/proc/{started.pid}/task"))] += 1
-    several = {count: times for count, times in seen.items() if count > 1}
-    return max(several, key=several.get, default=1), max(seen, default=1)
+            most = max(most, len(os.listdir(f"/proc/{started.pid}/task")))
+    return most
 
 
 class TestUsage:
@@ -196,12 +197,10 @@ class TestRequest:
             more = ["--blocks", shapes.BLOCKS]
             for workers in range(1, 5):
                 words = ["serve", file.name, "--workers", str(workers), *more]
-                usual, most = threads_at_work(*words)
-                assert usual == workers
-                # The first thread, and the others of two stages.
-                assert most <= 2 * workers - 1
-            assert threads_at_work("serve", file.name, *more)[0] == 2
-            assert threads_at_work("alone", file.name, "--game", "g0") == (1, 1)
+                # At most the first thread, and the others of two stages.
+                assert workers <= threads_at_work(*words) <= 2 * workers - 1
+            assert 2 <= threads_at_work("serve", file.name, *more) <= 3
+            assert threads_at_work("alone", file.name, "--game", "g0") == 1
 
     def test_a_stay_of_the_longest_file(self):
         commands = [line(game="a", do="show"), line(game="b", do="show")]
@@ -494,3 +493,61 @@ class TestStays:
         assert (status, errors) == (0, "")
         assert '"no":"A4"' in transcript
         assert '"no":"A3"' not in transcript
+
+
+DRAWN = 200  # plans
+WORKERS = "1234"
+
+
+def drawn_game(draw, name, turns):
+    """Drawn lines of a game, some of which are refused."""
+    game = drawn.Game(draw, name, draw.choice((1, 2, 5)))
+    for _ in range(turns):
+        members = json.loads(json.dumps(game.command()))
+        if drawn.chance(draw, 3):
+            drawn.spoil_member(draw, members)
+        yield drawn.written(draw, members, drawn.chance(draw, 10))
+
+
+def drawn_plan(number):
+    """The rows and the lines of a file of 1 to 12 games, some of which have no line or nearly all
+    lines. Some lines belong to no game."""
+    draw = random.Random(f"workers {number}")
+    count = 1 if number % 8 == 0 else draw.randint(1, 12)
+    quotas = drawn.QUOTAS[:10] + [65_536, 1_048_576, 4_000_000] * 5
+    rows = [{"game": f"g{row}", "quota": draw.choice(quotas)} for row in range(count)]
+    left = {
+        row["game"]: drawn_game(draw, row["game"], draw.choice((0, 1, 5, 20, 20, 60, 150)))
+        for row in rows
+    }
+    lines = []
+    while left:
+        name = draw.choice(list(left))
+        some = list(itertools.islice(left[name], draw.choice((1, 1, 3, 40))))
+        if not some:
+            del left[name]
+        lines += [*some, line(game="nobody", do="show")] if drawn.chance(draw, 4) else some
+    return rows, lines
+
+
+class TestDrawnPlans:
+    """Games of every mode, with quotas that are too small and commands that are refused, give the
+    same bytes on every number of threads: each reply and each last board."""
+
+    def served(self, rows, lines, workers):
+        blocks = sum(round_robin.blocks_for(1, row["quota"]) for row in rows)
+        words = ["serve", "-", "--workers", workers, "--blocks", str(blocks)]
+        text = text_of([line(games=rows, version=5), *lines])
+        return program.run_bytes(*words, text=text.encode())
+
+    def test_each_number_of_workers_gives_the_same_bytes(self):
+        seen = Counter()
+        for number in range(DRAWN):
+            rows, lines = drawn_plan(number)
+            one = self.served(rows, lines, "1")
+            assert (one[0], one[2]) == (0, b""), number
+            for workers in WORKERS[1:]:
+                assert self.served(rows, lines, workers) == one, (number, workers)
+            seen.update(re.findall(r'"(?:no|mode)":"(\w+)"', one[1].decode()))
+            seen[len(rows)] += 1
+        assert {*range(1, 13), *"G1 G2 G3 G4 G6 G7".split(), *drawn.MODES[5]} <= seen.keys()

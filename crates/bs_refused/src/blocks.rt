@@ -33,7 +33,7 @@ pub struct PoolSeen {
     held: [usize; 2],
 }
 
-fn seen_pool(pool: &Pool<64>, tag: u32) -> PoolSeen {
+pub fn seen_pool(pool: &Pool<64>, tag: u32) -> PoolSeen {
     PoolSeen {
         size: pool.size(),
         free: pool.free(),

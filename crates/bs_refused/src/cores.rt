@@ -91,7 +91,7 @@ fn seen_stays(alloc: Global, core: &Core<CAP>) -> Result<Vec<StaySeen>, Fault> {
 }
 
 /// Calls the readers of a core.
-fn seen_core(alloc: Global, core: &Core<CAP>) -> Result<Seen, Fault> {
+pub fn seen_core(alloc: Global, core: &Core<CAP>) -> Result<Seen, Fault> {
     let stays = seen_stays(alloc, core)?;
     Ok(Seen {
         counts: core.counts(),

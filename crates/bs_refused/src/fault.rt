@@ -4,6 +4,7 @@ use bs_host::Cut;
 use bs_json::PlanFault;
 use bs_pool::Reserve;
 use bs_sched::{Admit, Leave, Open};
+use bs_workers::Run;
 use std::alloc::{AllocError, AllocFailed};
 
 /// The tried call reported that memory ran out, or something other than what the scene expects.
@@ -12,6 +13,7 @@ pub enum Fault {
     Memory,
     Busy,
     Failed,
+    NoBlock,
     NoCore,
     NoCut,
     NoJob,
@@ -28,6 +30,7 @@ pub enum Fault {
     NotAdmitted,
     NotLegal,
     NotLeft,
+    NotRun,
     OtherKey,
     Stray,
     Strays,
@@ -104,6 +107,15 @@ impl From<Cut> for Fault {
         match error {
             Cut::Memory => Fault::Memory,
             _ => Fault::NoCut,
+        }
+    }
+}
+
+impl From<Run> for Fault {
+    fn from(error: Run) -> Fault {
+        match error {
+            Run::Memory => Fault::Memory,
+            Run::Broken => Fault::NotRun,
         }
     }
 }

@@ -4,6 +4,10 @@
 #![tactic(auto)]
 
 #[cfg(test)]
+mod apart;
+#[cfg(test)]
+mod assembly;
+#[cfg(test)]
 mod blocks;
 #[cfg(test)]
 mod boards;

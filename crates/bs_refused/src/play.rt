@@ -18,7 +18,7 @@ pub const WORKERS: usize = 2;
 
 /// Opens a core with one game.
 pub fn opened(alloc: Global, blocks: usize) -> Result<Core<CAP>, Fault> {
-    let plan = plan_of(alloc, "a")?;
+    let plan = plan_of(alloc, &["a"])?;
     Ok(Core::<CAP>::open(alloc, plan, blocks, WORKERS)?)
 }
 

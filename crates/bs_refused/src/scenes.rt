@@ -1,4 +1,6 @@
 //! The scenes, each a test that is named for its calls.
+use crate::apart::{ShareOut, play_apart};
+use crate::assembly::{IntoBlocks, PutTogether, play_from_blocks};
 use crate::blocks::{NewBlock, NewHeap, OpenPool, play_grow_index, play_reserve};
 use crate::boards::{
     CopyBoard, CopyCommand, CopyId, CopyPlan, CopyReply, DecodeSnake, Decoding, Encoding, Keep,
@@ -49,6 +51,23 @@ fn reserve(rt: HostRuntime) -> Result<(), Fail> {
     let mut page = page_of(&rt);
     play_reserve(&mut page)?;
     page.close()
+}
+
+#[test]
+fn into_blocks(rt: HostRuntime) -> Result<(), Fail> {
+    ask::<IntoBlocks>(page_of(&rt), 3)
+}
+
+#[test]
+fn from_blocks(rt: HostRuntime) -> Result<(), Fail> {
+    let mut page = page_of(&rt);
+    play_from_blocks(&mut page)?;
+    page.close()
+}
+
+#[test]
+fn put_together(rt: HostRuntime) -> Result<(), Fail> {
+    ask::<PutTogether>(page_of(&rt), ())
 }
 
 #[test]
@@ -154,7 +173,7 @@ fn push_moves(rt: HostRuntime) -> Result<(), Fail> {
 #[test]
 fn copy_plan(rt: HostRuntime) -> Result<(), Fail> {
     let alloc = rt.alloc();
-    ask::<CopyPlan>(page_of(&rt), plan_of(alloc, LONG_NAME)?)
+    ask::<CopyPlan>(page_of(&rt), plan_of(alloc, &[LONG_NAME])?)
 }
 
 #[test]
@@ -285,6 +304,18 @@ fn open(rt: HostRuntime) -> Result<(), Fail> {
 fn core(rt: HostRuntime) -> Result<(), Fail> {
     let mut page = page_of(&rt);
     play_core(&mut page)?;
+    page.close()
+}
+
+#[test]
+fn share_out(rt: HostRuntime) -> Result<(), Fail> {
+    ask::<ShareOut>(page_of(&rt), 13)
+}
+
+#[test]
+fn apart(rt: HostRuntime) -> Result<(), Fail> {
+    let mut page = page_of(&rt);
+    play_apart(&rt, &mut page)?;
     page.close()
 }
 

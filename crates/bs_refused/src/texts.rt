@@ -160,7 +160,7 @@ fn whole_text(alloc: Global, replies: &[Reply]) -> Result<Vec<u8>, Fault> {
     Ok(text(alloc, &[section], &[(3, Stray::Json)])?)
 }
 
-/// `text`, which calls `write_transcript`.
+/// `text`.
 pub struct WholeText;
 
 impl Question for WholeText {

@@ -115,9 +115,12 @@ pub fn row_of(alloc: Global, name: &str) -> Result<Row, Fault> {
     Row::new(Id::from_str(alloc, name)?, 4096).ok_or(Fault::NoPlan)
 }
 
-/// Makes a plan of that one game.
-pub fn plan_of(alloc: Global, name: &str) -> Result<Plan, Fault> {
-    let rows = vec![in alloc; row_of(alloc, name)?]?;
+/// Makes a plan of these games.
+pub fn plan_of(alloc: Global, names: &[&str]) -> Result<Plan, Fault> {
+    let mut rows = Vec::with_capacity(alloc, names.len())?;
+    for &name in names {
+        rows.push(row_of(alloc, name)?)?;
+    }
     if !have_distinct_names(rows.as_slice()) || rows.len() > MOST_ROWS {
         return Err(Fault::NoPlan);
     }

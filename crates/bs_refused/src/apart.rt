@@ -1,0 +1,100 @@
+//! Cores that are shared out, and games that are run apart and put together.
+use crate::cores::{Seen, seen_core};
+use crate::fault::Fault;
+use crate::page::Page;
+use crate::play::{CAP, WORKERS, commands};
+use crate::scene::Question;
+use crate::values::plan_of;
+use bs_fiber::SharedCommand;
+use bs_sched::Core;
+use bs_workers::{Act, OpenGate, run_any};
+use std::alloc::Global;
+use std::sync::Wait;
+use std::test::Fail;
+use std::thread::Threads;
+
+const NAMES: [&str; 2] = ["a", "b"];
+
+/// What there is of a core that was shared out: the cores of its rows, and how many blocks are
+/// left.
+#[derive(Debug, Drop)]
+pub struct SharedSeen {
+    workers: usize,
+    blocks: usize,
+    cores: Vec<Seen>,
+    rest: usize,
+}
+
+fn seen_cores(alloc: Global, cores: &[Core<CAP>]) -> Result<Vec<Seen>, Fault> {
+    let mut seen = Vec::new(alloc);
+    for core in cores {
+        seen.push(seen_core(alloc, core)?)?;
+    }
+    Ok(seen)
+}
+
+/// `Core::share_out`, of a core of two games with a number of blocks.
+pub struct ShareOut;
+
+impl Question for ShareOut {
+    type On = usize;
+
+    type Answer = SharedSeen;
+
+    fn call(alloc: Global, on: &usize) -> Result<SharedSeen, Fault> {
+        let core = Core::<CAP>::open(alloc, plan_of(alloc, &NAMES)?, *on, WORKERS)?;
+        let shared = core.share_out(alloc)?;
+        Ok(SharedSeen {
+            workers: shared.workers,
+            blocks: shared.blocks,
+            cores: seen_cores(alloc, shared.cores.as_slice())?,
+            rest: shared.rest.len(),
+        })
+    }
+}
+
+/// `run_any`, on two threads with a game each: what the readers of the core return.
+fn run_both<R: Threads + Wait + Sync>(rt: &R, alloc: Global, acts: &[Act]) -> Result<Seen, Fault> {
+    let core = Core::<CAP>::open(alloc, plan_of(alloc, &NAMES)?, 12, WORKERS)?;
+    let core = run_any(rt, alloc, core, acts, 2, &OpenGate)?;
+    seen_core(alloc, &core)
+}
+
+/// Makes the run, and repeats it if it reported that memory ran out.
+fn tried_run<R: Threads + Wait + Sync>(
+    rt: &R,
+    page: &mut Page,
+    acts: &[Act],
+) -> Result<Seen, Fault> {
+    page.line("before", &acts.len());
+    page.begin();
+    let first = run_both(rt, page.alloc(), acts);
+    page.end();
+    match first {
+        Err(Fault::Memory) => {
+            page.line("memory", &acts.len());
+            run_both(rt, page.alloc(), acts)
+        }
+        other => other,
+    }
+}
+
+/// Makes the commands of both games by turns.
+fn acts_of_both(alloc: Global) -> Result<Vec<Act>, Fail> {
+    let mut acts = Vec::new(alloc);
+    for command in &commands(alloc)? {
+        for game in 0..2usize {
+            let command = SharedCommand::new(alloc, command.copy(alloc)?)?;
+            acts.push(Act::Hand(game, command))?;
+        }
+    }
+    Ok(acts)
+}
+
+/// `run_any` of two games apart.
+pub fn play_apart<R: Threads + Wait + Sync>(rt: &R, page: &mut Page) -> Result<(), Fail> {
+    let acts = acts_of_both(page.alloc())?;
+    let core = tried_run(rt, page, acts.as_slice())?;
+    page.line("answer", &core);
+    Ok(())
+}
