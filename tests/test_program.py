@@ -87,8 +87,8 @@ class TestWords:
 
 
 def threads_at_work(*words):
-    """The greatest number of threads of a run at one time. Its output is dropped. A thread that ends
-    may be listed for a moment with those of the next stage."""
+    """The greatest number of threads of a run at one time. Its output is dropped. A thread that
+    ends may be listed for a moment with those of the next stage."""
     started = subprocess.Popen([program.path, *words], stdout=subprocess.DEVNULL)
     most = 1
     while started.poll() is None:
