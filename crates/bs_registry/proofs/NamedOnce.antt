@@ -1,8 +1,9 @@
 -- The open stays have distinct names.
-use Rattle.std.proofs.Common.{◌≡◌, ℕ, zero, suc, ◌+◌, ◌<◌, true, false, not, Bool, List, [], ◌∷◌, ◌++◌, Some, length, get_or, map, slice_index_or, refl, sym, ap, ◌∙◌, inl, inr, arith}
+use Rattle.std.proofs.Common.{◌≡◌, ℕ, zero, suc, ◌+◌, ◌<◌, true, false, not, Bool, List, [], ◌∷◌, ◌++◌, Some, length, drop, get_or, map, take, slice_index_or, refl, sym, ap, ◌∙◌, inl, inr, arith}
 use Rattle.std.specs.Prelude.{nat_eq, nat_lt}
 use Rattle.std.specs.List.{enumerate_from, filter, list_any, position, position_or_len}
 use Rattle.std.proofs.lemmas.Bool.{and_parts, cases_Bool, ltb-true, not-true}
+use Rattle.std.proofs.lemmas.List.{take-append-drop}
 use Rattle.std.proofs.lemmas.List.Folds.{list_any-append, list_any_at}
 use Rattle.std.proofs.lemmas.Slice.Eq.{bytes_eq-Decides}
 use Rattle.bs_board.specs.Distinct.{are_distinct}
@@ -84,3 +85,14 @@ pushed_named_once (stay ∷ stays) number row once new =
 pub rest_named_once : (stay : ℕ) (stays : List (ℕ × GameRow)) → are_named_once stays ≡ true
     → are_named_once (filter (λ other. not (nat_eq other.0 stay)) stays) ≡ true
 rest_named_once stay stays once = distinct_of_filter have_one_name (λ other. not (nat_eq other.0 stay)) stays once
+
+-- a prefix
+pub first_named_once : (n : ℕ) (stays : List (ℕ × GameRow)) → are_named_once stays ≡ true → are_named_once (take n stays) ≡ true
+first_named_once zero stays once = refl
+first_named_once (suc n) [] once = refl
+first_named_once (suc n) (stay ∷ stays) once =
+    let apart : (not (list_any (have_one_name stay) stays) ≡ true) × (are_named_once stays ≡ true) = and_both _ _ once in
+    let parts = list_any-append (have_one_name stay) (take n stays) (drop n stays) in
+    let none : (list_any (have_one_name stay) (take n stays) ≡ false) × (list_any (have_one_name stay) (drop n stays) ≡ false)
+    = or_both _ _ (sym parts ∙ ap (list_any (have_one_name stay)) (take-append-drop n stays) ∙ not-true _ apart.0) in
+    rw none.0 (first_named_once n stays apart.1)

@@ -1,10 +1,10 @@
 -- The rows of the open stays, without what is kept for them.
-use Rattle.std.proofs.Common.{◌≡◌, ℕ, zero, suc, ◌+◌, ◌-◌, ◌<◌, ◌&&◌, Bool, true, false, not, List, [], ◌∷◌, ◌++◌, Some, None, drop, get_or, length, map, set, inl, inr, refl, sym, ap, ◌∙◌, arith}
+use Rattle.std.proofs.Common.{◌≡◌, ℕ, zero, suc, ◌+◌, ◌-◌, ◌<◌, ◌&&◌, Bool, true, false, not, List, [], ◌∷◌, ◌++◌, Some, None, drop, get_or, length, map, set, take, inl, inr, refl, sym, ap, ◌∙◌, arith}
 use Rattle.std.specs.Prelude.{nat_eq, nat_lt, slice_get}
 use Rattle.std.specs.List.{filter, list_any, position, position_or_len}
-use Rattle.std.proofs.Math.Seq.{map-set_same}
+use Rattle.std.proofs.Math.Seq.{map-set_same, take-append_seam}
 use Rattle.std.proofs.lemmas.Bool.{and_parts, cases_Bool, ltb-true}
-use Rattle.std.proofs.lemmas.List.{drop_more, length-map, map-append}
+use Rattle.std.proofs.lemmas.List.{drop_more, length-map, length_push, map-append, take-map}
 use Rattle.std.proofs.lemmas.List.Quantifiers.{position-Some}
 use Rattle.std.proofs.lemmas.List.Sums.{sum_by-cons}
 use Rattle.bs_board.specs.plans.Plan.{GameRow, row_of}
@@ -18,9 +18,9 @@ use Rattle.bs_registry.specs.Stays.{refusal_in_order}
 use Rattle.bs_registry.specs.Blocks.{blocks_of}
 use Rattle.bs_registry.specs.OpenStays.{bears, blocks_in, found_in, is_full_open}
 use Rattle.bs_registry.specs.inner.OpenStays.{are_named_once}
-use Rattle.bs_registry.specs.Registry.{listing_of, row_open, rows_open, with_kept}
+use Rattle.bs_registry.specs.Registry.{Listing, before_push, listing_of, row_open, rows_open, with_kept, with_stay}
 use Rattle.bs_registry.proofs.Found.{found_at}
-use Rattle.bs_registry.proofs.NamedOnce.{pushed_named_once, rest_named_once}
+use Rattle.bs_registry.proofs.NamedOnce.{first_named_once, pushed_named_once, rest_named_once}
 
 suc_same : (m n : ℕ) → m ≡ n → 1 + m ≡ 1 + n
 suc_same m n same = omega (arith, same)
@@ -92,6 +92,17 @@ module _ {X : Type 0} where
     | inl left ↦ rw left (filtered_rows number stays)
     | inr other ↦ rw other (ap (λ rest. row_open stay ∷ rest) (filtered_rows number stays))
   ]
+
+  pub undone_once : (n : ℕ) (stays : List (Listed X)) → are_named_once (rows_open stays) ≡ true → are_named_once (rows_open (take n stays)) ≡ true
+  undone_once n stays once = ap are_named_once (sym (take-map row_open n stays)) ∙ first_named_once n (rows_open stays) once
+
+  pub undone : (registry : Listing X) (row : GameRow) (kept : X) → before_push (with_stay row kept registry) ≡ registry
+  undone registry row kept =
+      let stay : Listed X = record { number = registry.made; row = row; kept = kept } in
+      let made : registry.made + 1 - 1 ≡ registry.made = omega arith in
+      let one : length (registry.stays ++ stay ∷ []) - 1 ≡ length registry.stays = omega (arith, length_push registry.stays stay) in
+      let stays = ap (λ n. take n (registry.stays ++ stay ∷ [])) one ∙ take-append_seam registry.stays (stay ∷ []) in
+      (λ i. listing_of (made i) (stays i))
 
   pub removed_once : (number : ℕ) (stays : List (Listed X)) → are_named_once (rows_open stays) ≡ true
       → are_named_once (rows_open (filter (λ stay. not (nat_eq stay.number number)) stays)) ≡ true

@@ -20,6 +20,10 @@ open_from first (entry ∷ registry) =
 abbrev pub open_of : List Stay → List (ℕ × GameRow)
 open_of = open_from 0
 
+-- the open stays of a registry
+abbrev pub open_stays_of : List Stay → OpenStayList
+open_stays_of registry = record { made = length registry; stays = open_of registry }
+
 abbrev pub bears : List ℕ → ℕ × GameRow → Bool
 bears name stay = is_same_text name stay.1.game
 

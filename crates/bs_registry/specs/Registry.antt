@@ -1,6 +1,5 @@
 -- What a contract sees of a registry.
-use Rattle.std.specs.Prelude.{ℕ, ◌+◌, Bool, not, nat_eq, List, [], ◌∷◌, ◌++◌, map, refl, slice_index_or, slice_set}
-use Rattle.std.specs.Coded.{Coded, code_by, coded×, coded_list, coded_ℕ}
+use Rattle.std.specs.Prelude.{ℕ, ◌+◌, ◌-◌, Bool, not, nat_eq, List, [], ◌∷◌, ◌++◌, map, slice_index_or, slice_set, length, take}
 use Rattle.std.specs.List.{enumerate_from, filter}
 use Rattle.bs_board.specs.plans.Plan.{GameRow, row_of}
 use Rattle.bs_registry.specs.declared.registry.Listed.{Listed}
@@ -37,6 +36,10 @@ module _ {X : Type 0} where
   abbrev pub with_stay : GameRow → X → Listing X → Listing X
   with_stay row kept registry =
       record { made = registry.made + 1; stays = registry.stays ++ record { number = registry.made; row = row; kept = kept } ∷ [] }
+
+  -- without the stay that was pushed last
+  abbrev pub before_push : Listing X → Listing X
+  before_push registry = record { made = registry.made - 1; stays = take (length registry.stays - 1) registry.stays }
 
   abbrev pub without_stay : ℕ → Listing X → Listing X
   without_stay number registry =

@@ -59,13 +59,13 @@ fn is_listed<T>(stays: &[Listed<T>], name: &Id) -> bool
 }
 
 impl<T: Drop> Registry<T> {
-    ghost use Rattle.std.specs.Prelude.{◌≡◌, ◌*◌, ◌-◌, ◌≤◌, ◌<◌, ◌&&◌, false, not, nat_lt, length, slice_get, [], None, Some, OnOk};
+    ghost use Rattle.std.specs.Prelude.{◌≡◌, ◌*◌, ◌-◌, ◌≤◌, ◌<◌, ◌&&◌, false, not, nat_lt, length, slice_get, [], None, Some, OnErr, OnOk};
     ghost use Rattle.std.specs.List.{enumerate_from, list_any, position};
     ghost use Rattle.bs_registry.specs.OpenStays.{bears, blocks_in, found_in, is_full_open};
     ghost use Rattle.bs_registry.specs.inner.OpenStays.{is_named_at};
     ghost use Rattle.std.specs.Borrow.{sem};
     ghost use Rattle.bs_registry.specs.Lends.{lends_kept};
-    ghost use Rattle.bs_registry.specs.Registry.{is_numbered, kept_in, rows_in, with_stay, without_stay};
+    ghost use Rattle.bs_registry.specs.Registry.{before_push, is_numbered, kept_in, rows_in, with_stay, without_stay};
     ghost use Rattle.bs_registry.specs.Stays.{refusal_in_order};
 
     /// An empty registry.
@@ -193,7 +193,8 @@ impl<T: Drop> Registry<T> {
     pub fn push(&mut self, row: Row, kept: T) -> Result<(), AllocError>
         requires new { list_any (bears row.game) (rows_in self.old) ≡ false }
         requires room { self.old.made < MOST_STAYS }
-        ensures { OnOk result (self.new ≡ with_stay row kept self.old) }
+        ensures ok { OnOk result (self.new ≡ with_stay row kept self.old) }
+        ensures err { OnErr result (self.new ≡ self.old) }
     {
         self.stays.push(Listed {
             number: self.made,
@@ -202,6 +203,16 @@ impl<T: Drop> Registry<T> {
         })?;
         self.made += 1;
         Ok(())
+    }
+
+    /// Undoes the last `push`, of a stay that has not left since.
+    pub fn undo_push(&mut self)
+        requires made { 0 < self.old.made }
+        requires open { 0 < length self.old.stays }
+        ensures { self.new ≡ before_push self.old }
+    {
+        self.made -= 1;
+        self.stays.truncate(self.stays.len() - 1);
     }
 
     /// The place of the open stay of that number.

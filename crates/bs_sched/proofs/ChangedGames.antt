@@ -32,7 +32,7 @@ use Rattle.bs_sched.specs.Storage.{frame_tag, frames_of, record_tag, stored, wit
 use Rattle.bs_sched.proofs.Brought.{answered_storage}
 use Rattle.bs_sched.proofs.ChangedGame.{left_blocks, taken_boards}
 use Rattle.bs_sched.proofs.ListedGames.{lane_at, lane_read, lanes_set, many_lanes, numbers_at, numbers_set, packing_at, packings_set, read_at, same_numbers, same_packings}
-use Rattle.bs_sched.proofs.OpenRows.{open_same}
+use Rattle.bs_sched.proofs.Registered.{listed_same}
 use Rattle.bs_sched.proofs.OwnJobs.{own_out}
 use Rattle.bs_sched.proofs.Reserved.{reserved_changed, with_room}
 use Rattle.bs_sched.proofs.RightRuns.{busy_out, busy_ready, open_busy}
@@ -152,7 +152,7 @@ sound_game cap c game v w pool sound within there stands same has leaves =
       wide = sound.wide;
       plan = sound.plan;
       few = omega (arith, long, few);
-      listed = rw set (sound.listed ∙ sym (open_same game lanes w.lane flag));
+      listed = rw set (listed_same c.registry lanes sound.listed game w.lane (λ i. record { row = row i; is_open = flag i }));
       blocks = changed_rows cap game games v w c.pool pool sound.blocks within there stands same has leaves;
       gone = changed_gone game games w sound.gone (same.flag ∙ stands) within;
       reserved = rw set (kept_aside cap game lanes c.pool.reservations pool.reservations w.lane sound.reserved leaves.reservations (omega (arith, many, within)) row flag);

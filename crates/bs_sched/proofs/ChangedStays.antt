@@ -1,6 +1,6 @@
 -- A core after an admission, and after a leave.
 use Rattle.std.proofs.Common.{◌≡◌, ◌≢◌, ℕ, ◌+◌, ◌-◌, ◌*◌, ◌<◌, ◌≤◌, true, false, List, [], ◌∷◌, ◌++◌, None, length, refl, sym, ap, subst, ◌∙◌, arith, inl, inr}
-use Rattle.std.specs.Prelude.{All, ◌&&◌, count_by, filter, nat_le, nat_lt, not, slice_set}
+use Rattle.std.specs.Prelude.{All, ◌&&◌, count_by, nat_le, nat_lt, not, slice_set}
 use Rattle.std.specs.List.{list_any}
 use Rattle.std.proofs.lemmas.Bool.{cases_eq, cases_lt, leb-true, ltb-true, not-false, not-true}
 use Rattle.std.proofs.lemmas.Grind.{get_or-set_at}
@@ -20,15 +20,18 @@ use Rattle.bs_sched.specs.Frames.{flattened}
 use Rattle.bs_sched.specs.Game.{GameView}
 use Rattle.bs_sched.specs.inner.Game.{HasBlocks, closed_game, no_game, opened_game}
 use Rattle.bs_sched.specs.Games.{GamesView, pool_left, with_stay, without_stay}
-use Rattle.bs_sched.specs.inner.GamesLayout.{AreAtRows, AreGone, IsAtRow, IsSound, game_at, games_in, lanes_in, open_rows, storage_in, tallies_in}
+use Rattle.bs_sched.specs.inner.GamesLayout.{AreAtRows, AreGone, IsAtRow, IsSound, game_at, games_in, lanes_in, storage_in, tallies_in}
 use Rattle.bs_sched.specs.Lane.{Lane, empty_lane, is_quiet, closed_lane, may_leave, no_lane}
 use Rattle.bs_sched.specs.Machine.{Setting, has_name, is_full, lane_of, may_admit, open_blocks}
 use Rattle.bs_registry.specs.Blocks.{blocks_of}
+use Rattle.bs_registry.specs.Registry.{with_stay as with_listed, without_stay as without_listed}
+use Rattle.bs_registry.specs.Stays.{closed_stay}
+use Rattle.bs_sched.specs.Registry.{stay_of}
 use Rattle.bs_sched.specs.PlanBlocks.{with_row}
 use Rattle.bs_sched.specs.inner.Reserved.{AreReserved, IsReserved}
 use Rattle.bs_sched.specs.Storage.{frame_tag, record_tag}
 use Rattle.bs_sched.proofs.ListedGames.{lane_at, lanes_set, many_lanes, packing_at, packings_set, same_numbers}
-use Rattle.bs_sched.proofs.OpenRows.{but, open_less, open_more}
+use Rattle.bs_sched.proofs.Registered.{listed_less, listed_more}
 use Rattle.bs_sched.proofs.PlanBlocks.{none_from, none_next}
 use Rattle.bs_sched.proofs.Reserved.{more_of, rest_of, reserved_comes, reserved_left, with_room}
 use Rattle.bs_sched.proofs.Tallies.{same_tallies}
@@ -174,7 +177,7 @@ may_come setting lanes row may =
 pub record Comes {at : ℕ} (cap : ℕ) (c new : Inside at) (row : GameRow) : Type 0 where
   pub rows : new.rows ≡ c.rows
   pub games : new.list.items ≡ c.list.items ++ opened_game (length c.list.items) row ∷ []
-  pub listed : new.open_rows.items ≡ c.open_rows.items ++ length c.list.items ∷ []
+  pub listed : new.registry ≡ with_listed row tt c.registry
   pub pool : new.pool ≡ with_row cap (length c.list.items) row c.pool
 
 pub sound_comes : (cap : ℕ) {at : ℕ} (c new : Inside at) (row : GameRow) → IsSound cap c → IsSoundPool c.pool → length c.list.items < MOST_STAYS
@@ -194,11 +197,24 @@ sound_comes cap c new row sound pool room fits comes =
       wide = sound.wide;
       plan = rw comes.rows sound.plan;
       few = omega (arith, long, room);
-      listed = rw (comes.games, set) (comes.listed ∙ ap (λ (rows : List ℕ). rows ++ length games ∷ []) sound.listed ∙ ap (λ (n : ℕ). open_rows lanes ++ n ∷ []) (sym many)
-          ∙ sym (open_more lanes row));
+      listed = rw (comes.games, set, comes.listed) (listed_more c.registry lanes sound.listed row tt);
       blocks = rw (comes.games, comes.pool) (rows_come cap games row c.pool pool aside fits sound.blocks);
       gone = rw comes.games (gone_come cap games row c.pool pool aside fits sound.gone);
       reserved = rw (comes.games, set, comes.pool) reserved_now;
+    }
+
+-- after an error
+pub sound_still : (cap : ℕ) {at : ℕ} (c new : Inside at) → IsSound cap c → new.rows ≡ c.rows → new.list.items ≡ c.list.items → new.registry ≡ c.registry
+    → new.pool ≡ c.pool → IsSound cap new
+sound_still cap c new sound rows games registry pool =
+    record {
+      wide = sound.wide;
+      plan = rw rows sound.plan;
+      few = rw games sound.few;
+      listed = rw (games, registry) sound.listed;
+      blocks = rw (games, pool) sound.blocks;
+      gone = rw games sound.gone;
+      reserved = rw (games, pool) sound.reserved;
     }
 
 pub storage_comes : (cap : ℕ) {at : ℕ} (c new : Inside at) (row : GameRow) → Comes cap c new row
@@ -232,7 +248,7 @@ pub record Leaves {at : ℕ} (cap : ℕ) (c new : Inside at) (game : ℕ) (w : G
   pub rows : new.rows ≡ c.rows
   pub games : new.list.items ≡ slice_set c.list.items game w
   pub closed : w ≡ closed_game (game_at c.list.items game)
-  pub listed : new.open_rows.items ≡ filter (but game) c.open_rows.items
+  pub listed : new.registry ≡ without_listed game c.registry
   pub given : mid ≡ all_given (numbers_of (game_at c.list.items game).packing) c.pool
   pub others : LeavesOthers (record_tag game) c.pool mid
   pub pool : new.pool ≡ pool_left game mid
@@ -325,7 +341,8 @@ sound_left cap c new game w mid sound within stands quiet leaves =
       wide = sound.wide;
       plan = rw leaves.rows sound.plan;
       few = omega (arith, long, few);
-      listed = rw (leaves.games, set) (leaves.listed ∙ ap (λ (rows : List ℕ). filter (but game) rows) sound.listed ∙ sym (open_less game lanes w.lane within_lanes shut));
+      listed = rw (leaves.games, set, leaves.listed)
+          (listed_less c.registry lanes sound.listed game w.lane (ap (λ (v : GameView). stay_of v.lane) leaves.closed ∙ ap (λ (x : Lane). closed_stay (stay_of x)) (sym (lane_at games game))));
       blocks = rw (leaves.games, leaves.pool) (rows_left cap game games w c.pool mid within shut idle stands aside leaves.others sound.blocks);
       gone = rw leaves.games (gone_left cap game games w c.pool mid within shut idle stands aside leaves.others sound.gone);
       reserved = rw (leaves.games, set, leaves.pool)

@@ -1,5 +1,5 @@
 -- What is gathered of cores of one row each is the core of all rows.
-use Rattle.std.proofs.Common.{◌≡◌, ℕ, suc, ◌+◌, ◌-◌, ◌*◌, ◌^◌, ◌<◌, ◌≤◌, List, [], ◌∷◌, ◌++◌, length, map, None, refl, sym, ap, subst, ◌∙◌, arith, inl, inr}
+use Rattle.std.proofs.Common.{◌≡◌, ℕ, suc, ◌+◌, ◌*◌, ◌^◌, ◌<◌, ◌≤◌, List, [], ◌∷◌, ◌++◌, length, map, None, refl, sym, ap, subst, ◌∙◌, arith, inl, inr}
 use Rattle.std.specs.Prelude.{All}
 use Rattle.std.proofs.lemmas.Bool.{cases_eq}
 use Rattle.std.proofs.lemmas.List.{append_assoc, append-nil, length_push, map-append, get_or_append_left, get_or_push}
@@ -27,7 +27,8 @@ use Rattle.bs_sched.specs.Storage.{frame_tag, record_tag}
 use Rattle.bs_sched.proofs.ApartReservations.{own_reserved}
 use Rattle.bs_sched.proofs.ApartRows.{AreAlone}
 use Rattle.bs_sched.proofs.Journal.{keeps_apart}
-use Rattle.bs_sched.proofs.OpenStays.{many_open, run_stays, stays_of}
+use Rattle.bs_sched.proofs.OpenStays.{many_open, run_stays}
+use Rattle.bs_sched.specs.Registry.{registry_of}
 use Rattle.bs_sched.proofs.PlanBlocks.{none_from, none_next}
 
 -- commands and jobs let no stay come or go
@@ -57,7 +58,7 @@ one_lane cap workers row commands core alone =
     let work : All IsWork core.journal = subst (All IsWork) (sym alone.hands_first)
     (All-append IsWork (map (event.Hand 0) commands) (jobs_at 0 core.journal) (commands_work commands) (jobs_work 0 core.journal)) in
     many_open core.games.rows core.games.lanes
-    (ap stays_of (sym (keeps_apart cap core alone.journaled).lanes) ∙ run_stays (setting_in cap core) (opened_lanes core.games.rows) core.journal work)
+    (ap registry_of (sym (keeps_apart cap core alone.journaled).lanes) ∙ run_stays (setting_in cap core) (opened_lanes core.games.rows) core.journal work)
     ∙ ap length alone.plan
 
 -- each core may be gathered in its turn

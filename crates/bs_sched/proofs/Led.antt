@@ -1,6 +1,5 @@
 -- Stays that commands and jobs lead to are sound: the memory law has their blocks.
-use Rattle.std.proofs.Common.{◌≡◌, ℕ, ◌+◌, ◌*◌, ◌<◌, ◌≤◌, true, false, List, length, sym, ap, subst, ◌∙◌, arith}
-use Rattle.std.specs.List.{range_with_len}
+use Rattle.std.proofs.Common.{◌≡◌, ℕ, ◌+◌, ◌*◌, ◌<◌, ◌≤◌, true, false, List, length, map, sym, ap, subst, ◌∙◌, arith}
 use Rattle.bs_board.specs.plans.Plan.{GameRow}
 use Rattle.bs_heap.specs.Charge.{blocks_for}
 use Rattle.bs_heap.specs.HeldBlocks.{Holds}
@@ -14,7 +13,7 @@ use Rattle.bs_sched.specs.Frames.{flattened}
 use Rattle.bs_sched.specs.Game.{GameView}
 use Rattle.bs_sched.specs.Games.{GamesView}
 use Rattle.bs_sched.specs.inner.Assembling.{AreLedTo, ArePlaced, games_of}
-use Rattle.bs_sched.specs.inner.GamesLayout.{AreAtRows, AreGone, IsSound, game_at, lanes_in, open_rows}
+use Rattle.bs_sched.specs.inner.GamesLayout.{AreAtRows, AreGone, IsSound, game_at, lanes_in}
 use Rattle.bs_sched.specs.inner.Journal.{core_of}
 use Rattle.bs_sched.specs.inner.Reserved.{AreReserved, IsReserved}
 use Rattle.bs_sched.specs.Isolation.{opened_lanes}
@@ -26,7 +25,12 @@ use Rattle.bs_sched.specs.SharedMemory.{shared_world}
 use Rattle.bs_sched.specs.Storage.{Storage, frame_tag, frames_of, packing_of, record_tag}
 use Rattle.bs_sched.proofs.Journal.{keeps_apart}
 use Rattle.bs_sched.proofs.ListedGames.{lane_at, many_lanes, numbers_at, packing_at}
-use Rattle.bs_sched.proofs.OpenStays.{all_open, many_open, reserved_open, rows_open, run_stays, stays_of}
+use Rattle.bs_sched.proofs.OpenStays.{all_open, many_open, reserved_open, run_stays}
+use Rattle.bs_sched.proofs.Registered.{registry_opened}
+use Rattle.bs_registry.specs.Registry.{seen}
+use Rattle.bs_registry.specs.Stays.{open_stay}
+use Rattle.bs_registry.specs.OpenStays.{open_stays_of}
+use Rattle.bs_sched.specs.Registry.{registry_of}
 use Rattle.bs_sched.proofs.Reserved.{enough}
 
 -- the blocks of a stay of a core
@@ -53,14 +57,14 @@ module _ (cap : ℕ) (rows : List GameRow) (workers : ℕ) (games : List GameVie
   abbrev core : CoreView
   core = core_of (games_of rows workers games pool) events
 
-  same : stays_of (lanes_in games) ≡ stays_of (opened_lanes rows)
-  same = ap stays_of (sym (keeps_apart cap core led.journal).lanes) ∙ run_stays (setting_in cap core) (opened_lanes rows) events led.work
+  same : registry_of (lanes_in games) ≡ registry_of (opened_lanes rows)
+  same = ap registry_of (sym (keeps_apart cap core led.journal).lanes) ∙ run_stays (setting_in cap core) (opened_lanes rows) events led.work
 
   pub as_many : length games ≡ length rows
   as_many = let many = many_lanes games in let long = many_open rows (lanes_in games) same in omega (arith, many, long)
 
-  pub rows_listed : open_rows (lanes_in games) ≡ range_with_len 0 (length rows)
-  rows_listed = rows_open rows (lanes_in games) same
+  pub as_opened : map open_stay rows ≡ registry_of (lanes_in games)
+  as_opened = sym (registry_opened rows) ∙ sym same
 
   is_open : (game : ℕ) → game < length games → (game_at games game).lane.is_open ≡ true
   is_open game less =
@@ -98,8 +102,8 @@ module _ (cap : ℕ) (rows : List GameRow) (workers : ℕ) (games : List GameVie
       }
 
 pub sound_led : (cap : ℕ) {at : ℕ} (c : Inside at) (events : List Event) → AreLedTo cap (games_of c.rows c.workers c.list.items c.pool) events → ArePlaced c.list.items
-    → c.pool.reservations ≡ reservations_of cap c.rows → c.open_rows.items ≡ range_with_len 0 (length c.rows) → IsSound cap c
-sound_led cap c events led placed aside rows =
+    → c.pool.reservations ≡ reservations_of cap c.rows → seen c.registry ≡ open_stays_of (map open_stay c.rows) → IsSound cap c
+sound_led cap c events led placed aside listed =
     let games = c.list.items in
     let long = as_many cap c.rows c.workers games c.pool events led placed aside in
     let few = led.journal.hosted.plan.few in
@@ -107,7 +111,7 @@ sound_led cap c events led placed aside rows =
       wide = led.journal.hosted.wide;
       plan = led.journal.hosted.plan;
       few = omega (arith, long, few);
-      listed = rows ∙ sym (rows_listed cap c.rows c.workers games c.pool events led placed aside);
+      listed = listed ∙ ap open_stays_of (as_opened cap c.rows c.workers games c.pool events led placed aside);
       blocks = have_blocks cap c.rows c.workers games c.pool events led placed aside;
       gone = none_gone cap c.rows c.workers games c.pool events led placed aside;
       reserved = set_aside cap c.rows c.workers games c.pool events led placed aside;

@@ -35,6 +35,7 @@ pub mod Progress
 pub mod PlacedRecords
 pub mod PlanBlocks
 pub mod Reframed
+pub mod Registered
 pub mod RegistryRefusals
 pub mod Reserved
 pub mod RightLanes

@@ -8,10 +8,13 @@ use Rattle.std.proofs.lemmas.Option.{slice_get_read, get_or_from_slice_get}
 use Rattle.bs_pool.specs.Ledger.{Ledger}
 use Rattle.bs_sched.specs.Game.{GameView}
 use Rattle.bs_sched.specs.inner.Game.{no_game}
-use Rattle.bs_sched.specs.inner.GamesLayout.{game_at, lanes_in, open_rows, storage_in}
+use Rattle.bs_registry.specs.Registry.{Listing, seen}
+use Rattle.bs_registry.specs.OpenStays.{open_stays_of}
+use Rattle.bs_sched.specs.Registry.{registry_of}
+use Rattle.bs_sched.specs.inner.GamesLayout.{game_at, lanes_in, storage_in}
 use Rattle.bs_sched.specs.Machine.{lane_of}
 use Rattle.bs_sched.specs.Storage.{frames_of, packing_of}
-use Rattle.bs_sched.proofs.OpenRows.{listed_within}
+use Rattle.bs_sched.proofs.OpenRows.{listed_within, numbers_listed}
 
 -- an element read within a list is the same, whatever the default
 pub read_at : {X : Type 0} (xs : List X) (i : ℕ) (x d : X) → i < length xs → x ≡ get_or xs i x → x ≡ get_or xs i d
@@ -53,6 +56,8 @@ pub same_numbers : (games : List GameView) (game : ℕ) (w : GameView) → w.fra
     → map (λ (v : GameView). v.frames.numbers) (slice_set games game w) ≡ map (λ (v : GameView). v.frames.numbers) games
 same_numbers games game w same = map-set_same (λ (v : GameView). v.frames.numbers) games game w no_game same
 
--- the listed rows are those of games
-pub listed_games : (rows : List ℕ) (games : List GameView) → rows ≡ open_rows (lanes_in games) → All (λ game. game < length games) rows
-listed_games rows games is = subst (λ (many : ℕ). All (λ game. game < many) rows) (many_lanes games) (listed_within rows (lanes_in games) is)
+-- the listed stays are games of the list
+pub listed_games : {X : Type 0} (stays : Listing X) (games : List GameView) → seen stays ≡ open_stays_of (registry_of (lanes_in games))
+    → All (λ stay. stay.number < length games) stays.stays
+listed_games stays games is =
+    subst (λ (many : ℕ). All (λ stay. stay.number < many) stays.stays) (many_lanes games) (listed_within stays.stays (lanes_in games) (numbers_listed stays (lanes_in games) is))

@@ -11,7 +11,7 @@ use Rattle.bs_registry.specs.declared.blocks.TheConstants.{FRAME_BLOCKS}
 use Rattle.bs_sched.specs.Game.{GameView}
 use Rattle.bs_sched.specs.inner.Game.{HasBlocks, opened_game}
 use Rattle.bs_sched.specs.Games.{row_at}
-use Rattle.bs_sched.specs.inner.GamesLayout.{AreAtRows, AreGone, IsSound, game_at, lanes_in, open_rows, opened_games, opened_games_from}
+use Rattle.bs_sched.specs.inner.GamesLayout.{AreAtRows, AreGone, IsSound, game_at, lanes_in, opened_games, opened_games_from}
 use Rattle.bs_sched.specs.Isolation.{opened_lanes}
 use Rattle.bs_sched.specs.Lane.{empty_lane}
 use Rattle.bs_sched.specs.Machine.{open_blocks}
@@ -19,8 +19,11 @@ use Rattle.bs_registry.specs.Blocks.{blocks_of_all}
 use Rattle.bs_sched.specs.PlanBlocks.{reservations_of}
 use Rattle.bs_sched.specs.inner.Reserved.{AreReserved}
 use Rattle.bs_sched.specs.Storage.{frame_tag, record_tag}
-use Rattle.std.specs.List.{range_with_len}
-use Rattle.bs_sched.proofs.OpenRows.{opened_open}
+use Rattle.bs_registry.specs.Registry.{seen}
+use Rattle.bs_registry.specs.Stays.{open_stay}
+use Rattle.bs_registry.specs.OpenStays.{open_stays_of}
+use Rattle.bs_sched.specs.Registry.{registry_of}
+use Rattle.bs_sched.proofs.Registered.{registry_opened}
 use Rattle.bs_sched.proofs.PlanBlocks.{nothing_held, reserved_for_frames, reserved_for_row}
 use Rattle.bs_sched.proofs.Reserved.{reserved_opened, with_room}
 
@@ -100,9 +103,9 @@ set_aside cap blocks rows pool is room =
     rw is (with_room cap blocks (open_blocks cap (opened_lanes rows)) (opened_lanes rows) (reservations_of cap rows) (reserved_opened cap blocks rows room) (omega arith))
 
 pub sound_opened : (cap blocks : ℕ) {at : ℕ} (c : Inside at) → LEAST_CAPACITY ≤ cap → IsFitPlan c.rows → blocks_of_all cap c.rows ≤ blocks
-    → c.list.items ≡ opened_games c.rows → c.open_rows.items ≡ range_with_len 0 (length c.rows)
+    → c.list.items ≡ opened_games c.rows → seen c.registry ≡ open_stays_of (map open_stay c.rows)
     → c.pool ≡ ledger_of (opened blocks).owners (reservations_of cap c.rows) → IsSound cap c
-sound_opened cap blocks c wide plan room games rows pool =
+sound_opened cap blocks c wide plan room games listed pool =
     let many : length c.list.items ≡ length c.rows = ap length games ∙ many_games 0 c.rows in
     let few = plan.few in
     let lanes : lanes_in c.list.items ≡ map (λ row. empty_lane row) c.rows = ap lanes_in games ∙ opened_lanes_are c.rows in
@@ -110,7 +113,7 @@ sound_opened cap blocks c wide plan room games rows pool =
       wide = wide;
       plan = plan;
       few = omega (arith, many, few);
-      listed = rows ∙ sym (opened_open c.rows) ∙ ap open_rows (sym lanes);
+      listed = listed ∙ ap open_stays_of (sym (registry_opened c.rows) ∙ ap registry_of (sym lanes));
       blocks = rw games (rows_opened cap blocks c.rows c.pool pool);
       gone = rw games (none_gone c.rows);
       reserved = rw lanes (set_aside cap blocks c.rows c.pool pool room);

@@ -1,15 +1,14 @@
 -- The cores of all rows, gathered, are the core that the assembly law speaks of.
-use Rattle.std.proofs.Common.{◌≡◌, ℕ, suc, ◌+◌, ◌-◌, ◌*◌, ◌<◌, ◌≤◌, false, List, [], ◌∷◌, ◌++◌, length, map, Option, refl, sym, ap, subst, ◌∙◌, arith}
+use Rattle.std.proofs.Common.{◌≡◌, ℕ, suc, ◌+◌, ◌*◌, ◌<◌, ◌≤◌, false, List, [], ◌∷◌, ◌++◌, length, map, Option, refl, sym, ap, subst, ◌∙◌, arith}
 use Rattle.std.specs.Prelude.{All}
-use Rattle.std.proofs.lemmas.List.Elements.{All-nil, All-cons, All-head, All-tail, All-append}
+use Rattle.std.proofs.lemmas.List.Elements.{All-nil, All-cons, All-append}
 use Rattle.bs_board.specs.plans.Plan.{GameRow}
 use Rattle.bs_counter.specs.Keys.{TallyId}
 use Rattle.bs_pool.specs.declared.reservation.Reservation.{Reservation}
 use Rattle.bs_pool.specs.Assembly.{Assembled, unlaid}
 use Rattle.bs_pool.specs.Ledger.{ledger_of}
 use Rattle.bs_sched.specs.declared.event.Event.{Event}
-use Rattle.bs_sched.specs.declared.event.Event.TheVariants as event
-use Rattle.bs_sched.specs.Assembly.{Hand, IsOrderOf, assembled, hand_event, jobs_from, own_lane, setting_with, IsAssembled, RanApart}
+use Rattle.bs_sched.specs.Assembly.{Hand, IsOrderOf, assembled, hand_event, jobs_from, own_lane, setting_with, RanApart}
 use Rattle.bs_sched.specs.Core.{CoreView, without_tallies}
 use Rattle.bs_sched.specs.Game.{GameView}
 use Rattle.bs_sched.specs.inner.Assembling.{AreLedTo, AreNext, ArePlaced, GatheredView, IsWork, games_of, gathered_from, gathered_of, merged}

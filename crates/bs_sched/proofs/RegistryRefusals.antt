@@ -1,18 +1,21 @@
 -- The registry decides which rows may be admitted, and the first reason against a row.
-use Rattle.std.proofs.Common.{◌≡◌, ℕ, ◌-◌, ◌<◌, ◌≤◌, true, false, ◌&&◌, if◌then◌else◌, List, [], ◌∷◌, Some, None, refl, ◌∙◌, arith}
+use Rattle.std.proofs.Common.{◌≡◌, ℕ, ◌-◌, Bool, true, false, ◌&&◌, not, if◌then◌else◌, List, [], ◌∷◌, Some, None, refl, sym, ap, ◌∙◌, arith, inl, inr}
 use Rattle.std.specs.Prelude.{count_by, nat_le}
 use Rattle.std.specs.List.{list_any}
-use Rattle.std.proofs.lemmas.Bool.{le-leb, lt-leb}
+use Rattle.std.proofs.lemmas.Bool.{cases_Bool, not-true}
 use Rattle.std.proofs.lemmas.List.{length-map}
 use Rattle.std.proofs.lemmas.List.Sums.{sum_by-cons}
 use Rattle.bs_board.specs.plans.Plan.{GameRow}
 use Rattle.bs_board.specs.Texts.{is_same_text}
 use Rattle.bs_registry.specs.declared.refusal.Refusal.TheVariants as refused
+use Rattle.bs_board.proofs.Chains.{and_both}
 use Rattle.bs_registry.specs.Blocks.{blocks_of}
+use Rattle.bs_registry.specs.OpenStays.{OpenStayList, bears, is_full_open, open_stays_of}
+use Rattle.bs_registry.proofs.OpenStays.{open_law}
 use Rattle.bs_sched.specs.Lane.{Lane}
 use Rattle.bs_sched.specs.Machine.{Setting, blocks_in, has_name, is_full, may_admit, open_blocks}
 use Rattle.bs_sched.specs.Registry.{capacity_of, registry_of, stay_of}
-use Rattle.bs_registry.specs.Stays.{Stay, blocks_in_registry, first_refusal, may_admit_in, refusal_in_order}
+use Rattle.bs_registry.specs.Stays.{Stay, blocks_in_registry, first_refusal, has_name as has_name_in, is_full as is_full_in, may_admit_in, refusal_in_order}
 
 named_in : (row : GameRow) (lanes : List Lane)
     → list_any (has_name row) lanes ≡ list_any (λ (entry : Stay). entry.is_open && is_same_text row.game entry.row.game) (registry_of lanes)
@@ -38,30 +41,36 @@ blocks_told cap (x ∷ lanes) =
 pub admits_by_registry : (setting : Setting) (lanes : List Lane) (row : GameRow) → may_admit setting lanes row ≡ may_admit_in (capacity_of setting) (registry_of lanes) row
 admits_by_registry setting lanes row = rw (named_in row lanes, counted_in lanes, blocks_told setting.cap lanes, length-map lanes stay_of) refl
 
--- the lanes give the same reasons as their registry
-told_in_order : (setting : Setting) (lanes : List Lane) (row : GameRow)
-    → first_refusal (capacity_of setting) (registry_of lanes) row
-    ≡ refusal_in_order (list_any (has_name row) lanes) (is_full lanes) (blocks_of setting.cap row) (setting.blocks - open_blocks setting.cap lanes)
-told_in_order setting lanes row = rw (named_in row lanes, counted_in lanes, blocks_told setting.cap lanes, length-map lanes stay_of) refl
+-- the list of the open stays gives the same reasons
+pub told_by_open : (setting : Setting) (open_stays : OpenStayList) (lanes : List Lane) (row : GameRow) (left : ℕ) → open_stays ≡ open_stays_of (registry_of lanes)
+    → left ≡ setting.blocks - open_blocks setting.cap lanes
+    → refusal_in_order (list_any (bears row.game) open_stays.stays) (is_full_open open_stays.made open_stays.stays) (blocks_of setting.cap row) left
+    ≡ first_refusal (capacity_of setting) (registry_of lanes) row
+told_by_open setting open_stays lanes row left is free =
+    let law = open_law setting.cap (registry_of lanes) in
+    let any = law.any row.game in
+    rw (is, free, any, law.many, blocks_told setting.cap lanes) refl
 
-pub refused_for_its_name : (setting : Setting) (lanes : List Lane) (row : GameRow) → list_any (has_name row) lanes ≡ true
-    → first_refusal (capacity_of setting) (registry_of lanes) row ≡ Some refused.NameOpen
-refused_for_its_name setting lanes row named = told_in_order setting lanes row ∙ rw named refl
+unrefused : (named full : Bool) (needed left : ℕ) → refusal_in_order named full needed left ≡ None → (not named && (not full && nat_le needed left)) ≡ true
+unrefused true full needed left none = absurd cc
+unrefused false true needed left none = absurd cc
+unrefused false false needed left none = elim (cases_Bool (nat_le needed left)) [
+  | inl fits ↦ fits
+  | inr less ↦ let wrong : Some (refused.Short left) ≡ None = rw less at none in absurd cc
+]
 
-pub refused_when_full : (setting : Setting) (lanes : List Lane) (row : GameRow) → list_any (has_name row) lanes ≡ false → is_full lanes ≡ true
-    → first_refusal (capacity_of setting) (registry_of lanes) row ≡ Some refused.Full
-refused_when_full setting lanes row new full = told_in_order setting lanes row ∙ rw (new, full) refl
+-- a row that nothing refuses may be admitted
+pub may_admit_unrefused : (setting : Setting) (lanes : List Lane) (row : GameRow) → first_refusal (capacity_of setting) (registry_of lanes) row ≡ None
+    → may_admit setting lanes row ≡ true
+may_admit_unrefused setting lanes row none =
+    let registry = registry_of lanes in
+    admits_by_registry setting lanes row
+    ∙ unrefused (list_any (has_name_in row.game) registry) (is_full_in registry) (blocks_of setting.cap row) (setting.blocks - blocks_in_registry setting.cap registry) none
 
-pub refused_for_its_blocks : (setting : Setting) (lanes : List Lane) (row : GameRow) (left : ℕ) → list_any (has_name row) lanes ≡ false → is_full lanes ≡ false
-    → left ≡ setting.blocks - open_blocks setting.cap lanes → left < blocks_of setting.cap row
-    → first_refusal (capacity_of setting) (registry_of lanes) row ≡ Some (refused.Short left)
-refused_for_its_blocks setting lanes row left new room is less =
-    let short : nat_le (blocks_of setting.cap row) left ≡ false = lt-leb (blocks_of setting.cap row) left less in
-    told_in_order setting lanes row ∙ rw (new, room, ← is, short) refl
-
-pub nothing_against : (setting : Setting) (lanes : List Lane) (row : GameRow) (left : ℕ) → list_any (has_name row) lanes ≡ false → is_full lanes ≡ false
-    → left ≡ setting.blocks - open_blocks setting.cap lanes → blocks_of setting.cap row ≤ left
-    → first_refusal (capacity_of setting) (registry_of lanes) row ≡ None
-nothing_against setting lanes row left new room is fits =
-    let fit : nat_le (blocks_of setting.cap row) left ≡ true = le-leb (blocks_of setting.cap row) left fits in
-    told_in_order setting lanes row ∙ rw (new, room, ← is, fit) refl
+-- its name is new among the open stays
+pub new_name : (setting : Setting) (open_stays : OpenStayList) (lanes : List Lane) (row : GameRow) → open_stays ≡ open_stays_of (registry_of lanes)
+    → may_admit setting lanes row ≡ true → list_any (bears row.game) open_stays.stays ≡ false
+new_name setting open_stays lanes row is may =
+    let both = and_both (not (list_any (has_name row) lanes)) (not (is_full lanes) && nat_le (blocks_of setting.cap row) (setting.blocks - open_blocks setting.cap lanes)) may in
+    ap (λ (all : OpenStayList). list_any (bears row.game) all.stays) is ∙ sym ((open_law setting.cap (registry_of lanes)).any row.game) ∙ sym (named_in row lanes)
+    ∙ not-true (list_any (has_name row) lanes) both.0

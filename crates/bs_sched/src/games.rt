@@ -1,20 +1,22 @@
 //! All stays of a core, and the pool of their blocks. Clauses see them as lanes and as the places
 //! of their records.
-ghost use Rattle.std.specs.Prelude.{◌≡◌, ◌+◌, ◌≤◌, ◌<◌, ◌∷◌, [], true, All, length, OnOk, OnErr, IfOk, IfErr, MatchOption, ◌↔◌, IsTrue, ℕ, List, None, slice_index_or, ◌-◌, not, nat_eq, filter, vec_len, vec_capacity};
-ghost use Rattle.std.specs.List.{list_all, range_with_len, list_any};
+ghost use Rattle.std.specs.Prelude.{◌≡◌, ◌+◌, ◌≤◌, ◌<◌, ◌∷◌, [], true, All, length, OnOk, OnErr, IfOk, IfErr, MatchOption, ◌↔◌, IsTrue, ℕ, List, None, slice_index_or};
+ghost use Rattle.std.specs.List.{list_all};
 ghost use Rattle.bs_board.specs.plans.Plan.{IsFitPlan, is_fit_row};
 ghost use Rattle.bs_pool.specs.Ledger.{free, opened as new_pool, size};
-ghost use Rattle.bs_sched.specs.Games.{after, opened, KeepsTallies, games_taken, tally_of};
+ghost use Rattle.bs_sched.specs.Games.{after, opened, KeepsTallies, games_taken, setting_of, tally_of};
 ghost use Rattle.bs_sched.specs.inner.Games.{games_completed};
-ghost use Rattle.bs_sched.specs.inner.GamesLayout.{lanes_in, opened_games};
+ghost use Rattle.bs_sched.specs.inner.GamesLayout.{lanes_in, numbers_in, opened_games};
 ghost use Rattle.bs_sched.specs.inner.Assembling.{AreLedTo, ArePlaced, IsOnly, games_of};
 ghost use Rattle.bs_sched.specs.declared.event.Event.{Event};
 ghost use Rattle.bs_sched.specs.Lane.{is_quiet, is_ready, is_out, lane_view, lane_command, may_leave};
 ghost use Rattle.bs_sched.specs.inner.Lane.{HasNoneReady};
-ghost use Rattle.bs_sched.specs.Machine.{lane_of, has_name, is_full, open_blocks};
+ghost use Rattle.bs_sched.specs.Machine.{lane_of, may_admit};
 ghost use Rattle.bs_sched.specs.declared.event.Event.TheVariants as event;
 ghost use Rattle.bs_block.specs.Bytes.{IsCapacity};
-ghost use Rattle.bs_registry.specs.Blocks.{blocks_of_all, blocks_of};
+ghost use Rattle.bs_registry.specs.Blocks.{blocks_of_all};
+ghost use Rattle.bs_registry.specs.Stays.{first_refusal};
+ghost use Rattle.bs_sched.specs.Registry.{capacity_of, registry_of};
 ghost use Rattle.bs_sched.specs.PlanBlocks.{reservations_of};
 ghost use Rattle.bs_sched.specs.declared.opening.Open.TheVariants as cause;
 ghost use Rattle.bs_fiber.specs.Tickets.{IsFresh, bytes_of, frames_in, names_of, worked_bytes};
@@ -24,18 +26,17 @@ ghost use Rattle.bs_sched.specs.inner.Taking.{AreNoneOpenReady, AreNoneReadyBetw
 ghost use Rattle.bs_fiber.specs.Work.{out_seen};
 ghost use Rattle.bs_sched.specs.Putting.{IsOwn, IsOwnJob};
 ghost use Rattle.bs_sched.specs.Parts.{AreOwnParts, IsOwnPart};
-ghost use Rattle.bs_board.specs.Texts.{is_same_text};
 
 use crate::cores::{Counts, LEAST_CAPACITY, MOST_WORKERS};
 use crate::game::Game;
 use crate::opening::Open;
 use crate::plan_blocks::{release_row, reserve_row, reserve_rows};
 use bs_board::limits::MOST_ROWS;
-use bs_board::{Id, Plan, Row, Rows};
+use bs_board::{Plan, Row, Rows};
 use bs_counter::PartKey;
 use bs_fiber::{Contents, Done, JobKind, JobName, Out, QueuedCommand, Ticket};
 use bs_pool::{Owned, Pool};
-use bs_registry::{MOST_STAYS, blocks_of, blocks_of_all};
+use bs_registry::{Listed, MOST_STAYS, Refusal, Registry, blocks_of, blocks_of_all, open_rows};
 use std::alloc::{AllocError, Global};
 use std::marker::Model;
 
@@ -48,8 +49,8 @@ pub(crate) struct Games<const CAP: usize> {
     workers: u32,
     failed: bool,
     list: Vec<Game<CAP>>,
-    /// The rows of the open stays, in ascending order. Only these are searched for jobs.
-    open_rows: Vec<u32>,
+    /// The open stays, which decide what may be admitted. Only these are searched for jobs.
+    registry: Registry<()>,
     pool: Pool<CAP>,
 }
 
@@ -64,14 +65,14 @@ impl<const CAP: usize> Model for Games<CAP> {
     ghost invariant = { λ c. IsSound CAP c };
 }
 
-/// Whether all commands of the stays in those rows are answered.
-#[tactic(auto, using(crate::proofs::OpenRows::some_busy, crate::proofs::OpenRows::all_quiet, crate::proofs::ListedGames::lane_read))]
-fn are_quiet<const CAP: usize>(games: &[Game<CAP>], rows: &[u32]) -> bool
-    requires { All (λ game. game < length games.now) rows.now }
-    ensures { result ≡ list_all (λ game. is_quiet (lane_of (lanes_in games.now) game)) rows.now }
+/// Whether all commands of those stays are answered.
+#[tactic(auto, using(crate::proofs::OpenRows::some_busy, crate::proofs::OpenRows::all_quiet, crate::proofs::OpenRows::number_read, crate::proofs::ListedGames::lane_read))]
+fn are_quiet<const CAP: usize>(games: &[Game<CAP>], stays: &[Listed<()>]) -> bool
+    requires { All (λ stay. stay.number < length games.now) stays.now }
+    ensures { result ≡ list_all (λ game. is_quiet (lane_of (lanes_in games.now) game)) (numbers_in stays.now) }
 {
-    for place in 0..rows.len() {
-        if !games[rows[place] as usize].is_quiet() {
+    for place in 0..stays.len() {
+        if !games[stays[place].number].is_quiet() {
             return false;
         }
     }
@@ -93,19 +94,6 @@ fn open_games<const CAP: usize>(alloc: Global, rows: &[Row]) -> Result<Vec<Game<
     Ok(games)
 }
 
-/// Lists the rows of the plan, all of them open.
-#[tactic(auto, using(crate::proofs::OpenRows::rows_more))]
-fn open_rows(alloc: Global, games: usize) -> Result<Vec<u32>, AllocError>
-    requires { games ≤ MOST_ROWS }
-    ensures { IfOk result (λ rows. rows.items ≡ range_with_len 0 games) }
-{
-    let mut rows = Vec::with_capacity(alloc, games)?;
-    for game in 0..games {
-        rows.push(game as u32)?;
-    }
-    Ok(rows)
-}
-
 /// A ready job of the stay of that row, if there is one.
 fn ready_job<const CAP: usize>(game: &Game<CAP>, row: usize) -> Option<JobName>
     requires { row < MOST_STAYS }
@@ -124,20 +112,20 @@ fn ready_job<const CAP: usize>(game: &Game<CAP>, row: usize) -> Option<JobName>
 }
 
 /// The first ready job of the open stays from place `from` to place `to`, `to` excluded.
-#[tactic(auto, using(crate::proofs::ListedGames::lane_read, crate::proofs::ListedGames::many_lanes))]
+#[tactic(auto, using(crate::proofs::OpenRows::number_read, crate::proofs::ListedGames::lane_read, crate::proofs::ListedGames::many_lanes))]
 fn find_job<const CAP: usize>(
     games: &[Game<CAP>],
-    rows: &[u32],
+    stays: &[Listed<()>],
     from: usize,
     to: usize,
 ) -> Option<JobName>
     requires few { length games.now ≤ MOST_STAYS }
-    requires rows { All (λ game. game < length games.now) rows.now }
-    requires within { to ≤ length rows.now }
-    ensures { MatchOption result (AreNoneReadyBetween from to rows.now (lanes_in games.now)) (IsReadyJob (lanes_in games.now)) }
+    requires rows { All (λ stay. stay.number < length games.now) stays.now }
+    requires within { to ≤ length stays.now }
+    ensures { MatchOption result (AreNoneReadyBetween from to (numbers_in stays.now) (lanes_in games.now)) (IsReadyJob (lanes_in games.now)) }
 {
     for place in from..to {
-        let row = rows[place] as usize;
+        let row = stays[place].number;
         if let Some(job) = ready_job(&games[row], row) {
             return Some(job);
         }
@@ -147,53 +135,18 @@ fn find_job<const CAP: usize>(
 
 /// The place of the first open stay of that row or a later one; the number of open stays if there
 /// is none. The row itself is looked at first: it is the place while no stay has left.
-fn place_from(rows: &[u32], first: usize) -> usize
-    ensures { result ≤ length rows.now }
+fn place_from(stays: &[Listed<()>], first: usize) -> usize
+    ensures { result ≤ length stays.now }
 {
-    if let Some(row) = rows.get(first) {
-        if *row as usize == first {
+    if let Some(stay) = stays.get(first) {
+        if stay.number == first {
             return first;
         }
     }
-    match rows.iter().position(|row| *row as usize >= first) {
+    match stays.iter().position(|stay| stay.number >= first) {
         Some(place) => place,
-        None => rows.len(),
+        None => stays.len(),
     }
-}
-
-/// Whether a stay of one of those rows has the name.
-#[tactic(auto, using(crate::proofs::OpenRows::some_named, crate::proofs::OpenRows::none_named, crate::proofs::ListedGames::lane_read))]
-fn is_name_of<const CAP: usize>(games: &[Game<CAP>], rows: &[u32], name: &Id) -> bool
-    requires { All (λ game. game < length games.now) rows.now }
-    ensures { result ≡ list_any (λ game. is_same_text name.now (lane_of (lanes_in games.now) game).row.game) rows.now }
-{
-    for place in 0..rows.len() {
-        if name.is_same(&games[rows[place] as usize].row().game) {
-            return true;
-        }
-    }
-    false
-}
-
-/// Makes room for one more stay.
-fn make_room<const CAP: usize>(
-    games: &mut Vec<Game<CAP>>,
-    open_rows: &mut Vec<u32>,
-) -> Result<(), AllocError>
-    ensures games { games.new.items ≡ games.old.items }
-    ensures rows { open_rows.new.items ≡ open_rows.old.items }
-    ensures games_room { OnOk result (vec_len games.new < vec_capacity games.new) }
-    ensures rows_room { OnOk result (vec_len open_rows.new < vec_capacity open_rows.new) }
-{
-    games.reserve(1)?;
-    open_rows.reserve(1)
-}
-
-/// Removes the row from the list.
-fn remove_row(rows: &mut Vec<u32>, game: usize)
-    ensures { rows.new.items ≡ filter (λ row. not (nat_eq row game)) rows.old.items }
-{
-    rows.retain(|row| *row as usize != game);
 }
 
 /// Removes and returns the only game of the list.
@@ -277,7 +230,7 @@ impl<const CAP: usize> Games<CAP> {
     pub(crate) fn is_quiet(&self) -> bool
         ensures { result ≡ list_all is_quiet self.now.lanes }
     {
-        are_quiet(&self.list, self.open_rows.as_slice())
+        are_quiet(&self.list, self.registry.as_slice())
     }
 
     pub(crate) fn counts(&self) -> Counts
@@ -311,13 +264,13 @@ impl<const CAP: usize> Games<CAP> {
         let all = rows.as_slice();
         reserve_rows(&mut pool, all)?;
         let list = open_games(alloc, all)?;
-        let open_rows = open_rows(alloc, all.len())?;
+        let registry = open_rows(alloc, &rows)?;
         Ok(Games {
             rows,
             workers: workers as u32,
             failed: false,
             list,
-            open_rows,
+            registry,
             pool,
         })
     }
@@ -338,13 +291,13 @@ impl<const CAP: usize> Games<CAP> {
         requires reserved { pool.reservations ≡ reservations_of CAP rows }
         ensures { IfOk result (λ games. games ≡ games_of rows workers list.entry.items pool.entry) }
     {
-        let open_rows = open_rows(alloc, rows.as_slice().len())?;
+        let registry = open_rows(alloc, &rows)?;
         Ok(Games {
             rows,
             workers: workers as u32,
             failed: false,
             list,
-            open_rows,
+            registry,
             pool,
         })
     }
@@ -398,53 +351,34 @@ impl<const CAP: usize> Games<CAP> {
         (rows, pool)
     }
 
-    /// Whether an open stay has the name of that row.
-    #[tactic(auto, using(crate::proofs::ListedGames::listed_games))]
-    pub(crate) fn has_open_name(&self, row: &Row) -> bool
-        ensures { result ≡ list_any (has_name row.now) self.now.lanes }
-    {
-        is_name_of(&self.list, self.open_rows.as_slice(), &row.game)
-    }
-
-    /// Whether no more stays can be opened.
-    #[tactic(auto, using(crate::proofs::OpenRows::open_counted, crate::proofs::ListedGames::many_lanes))]
-    pub(crate) fn is_full(&self) -> bool
-        ensures { result ≡ is_full self.now.lanes }
-    {
-        !(self.open_rows.len() < MOST_ROWS && self.list.len() < MOST_STAYS)
-    }
-
-    /// The number of blocks that are not reserved for the open stays.
-    pub(crate) fn unreserved(&self) -> usize
-        ensures { result ≡ size self.now.storage.pool - open_blocks CAP self.now.lanes }
-    {
-        self.pool.unreserved()
-    }
-
-    /// The number of blocks that are reserved for a stay of that row.
-    pub(crate) fn blocks_of(&self, row: &Row) -> usize
-        ensures { result ≡ blocks_of CAP row.now }
+    /// The first reason against admitting that row, if there is one.
+    pub(crate) fn refusal(&self, row: &Row) -> Option<Refusal>
+        ensures { result ≡ first_refusal (capacity_of (setting_of CAP self.now)) (registry_of self.now.lanes) row.now }
     {
         let _workers = self.workers;
-        blocks_of(CAP, row)
+        self.registry
+            .refusal(row, blocks_of(CAP, row), self.pool.unreserved())
     }
 
     /// Opens a stay in the next row. After an error nothing is changed.
     pub(crate) fn admit(&mut self, alloc: Global, row: Row) -> Result<usize, AllocError>
         requires fit { is_fit_row row ≡ true }
-        requires room { length self.old.lanes < MOST_STAYS }
-        requires blocks { blocks_of CAP row ≤ size self.old.storage.pool - open_blocks CAP self.old.lanes }
+        requires may { may_admit (setting_of CAP self.old) self.old.lanes row ≡ true }
         ensures row { IfOk result (λ game. game ≡ length self.old.lanes) }
         ensures ok { OnOk result (self.new ≡ after CAP self.old (event.Admit row)) }
         ensures err { OnErr result (self.new ≡ self.old) }
     {
         let row_number = self.list.len();
+        let listed = row.copy(alloc)?;
         let game = Game::new(alloc, row_number, row)?;
-        make_room(&mut self.list, &mut self.open_rows)?;
+        self.list.reserve(1)?;
         let _blocks = self.pool.size();
-        reserve_row(&mut self.pool, row_number, game.row())?;
+        self.registry.push(listed, ())?;
+        if let Err(error) = reserve_row(&mut self.pool, row_number, game.row()) {
+            self.registry.undo_push();
+            return Err(error);
+        }
         self.list.push_reserved(game);
-        self.open_rows.push_reserved(row_number as u32);
         Ok(row_number)
     }
 
@@ -457,7 +391,7 @@ impl<const CAP: usize> Games<CAP> {
     {
         self.list[game].close(&mut self.pool);
         release_row(&mut self.pool, game);
-        remove_row(&mut self.open_rows, game);
+        self.registry.remove(game);
     }
 
     /// The first ready job of the open stays at row `first` or later, else of an earlier one.
@@ -465,11 +399,11 @@ impl<const CAP: usize> Games<CAP> {
     pub(crate) fn find(&self, first: usize) -> Option<JobName>
         ensures { MatchOption result (AreNoneOpenReady self.now.lanes) (IsReadyJob self.now.lanes) }
     {
-        let rows = self.open_rows.as_slice();
-        let from = place_from(rows, first);
-        match find_job(&self.list, rows, from, rows.len()) {
+        let stays = self.registry.as_slice();
+        let from = place_from(stays, first);
+        match find_job(&self.list, stays, from, stays.len()) {
             Some(job) => Some(job),
-            None => find_job(&self.list, rows, 0, from),
+            None => find_job(&self.list, stays, 0, from),
         }
     }
 

@@ -1,12 +1,11 @@
 //! Stays that are admitted and leave.
-ghost use Rattle.std.specs.Prelude.{◌≡◌, ◌<◌, true, not, length, IfOk, OnOk, OnErr};
+ghost use Rattle.std.specs.Prelude.{◌≡◌, ◌<◌, true, length, Some, IfOk, OnOk, OnErr};
 ghost use Rattle.bs_board.specs.plans.Plan.{is_fit_row};
-ghost use Rattle.bs_sched.specs.Coming.{Admits, Leaves};
+ghost use Rattle.bs_sched.specs.Coming.{Admits, IsFirstRefusal, Leaves};
 ghost use Rattle.bs_sched.specs.Core.{core_after};
 ghost use Rattle.bs_sched.specs.Lane.{may_leave};
-ghost use Rattle.bs_sched.specs.Machine.{is_full, lane_of, may_admit};
+ghost use Rattle.bs_sched.specs.Machine.{lane_of, may_admit};
 ghost use Rattle.bs_sched.specs.Games.{setting_of};
-ghost use Rattle.bs_registry.specs.Blocks.{blocks_of};
 ghost use Rattle.bs_sched.specs.declared.event.Event.TheVariants as event;
 ghost use Rattle.bs_sched.specs.declared.stays.Admit.TheVariants as admit;
 ghost use Rattle.bs_sched.specs.declared.stays.Leave.TheVariants as leave;
@@ -15,6 +14,7 @@ use crate::cores::{Core, note, reserve_events};
 use crate::event::Event;
 use crate::shared_row::SharedRow;
 use bs_board::Row;
+use bs_registry::Refusal;
 use std::alloc::{AllocError, Global};
 use thiserror::Error;
 
@@ -39,6 +39,18 @@ impl From<AllocError> for Admit {
 
     fn from(_error: AllocError) -> Admit {
         Admit::Memory
+    }
+}
+
+impl From<Refusal> for Admit {
+    ghost from_gives = { λ refusal error. IsFirstRefusal (Some refusal) error };
+
+    fn from(refusal: Refusal) -> Admit {
+        match refusal {
+            Refusal::NameOpen => Admit::NameOpen,
+            Refusal::Full => Admit::Full,
+            Refusal::Short { free_to_reserve } => Admit::Short { free_to_reserve },
+        }
     }
 }
 
@@ -91,15 +103,8 @@ impl<const CAP: usize> Core<CAP> {
     pub fn admit(&mut self, alloc: Global, row: Row) -> Result<usize, Admit>
         ensures { Admits CAP self.old row result self.new }
     {
-        if self.games.has_open_name(&row) {
-            return Err(Admit::NameOpen);
-        }
-        if self.games.is_full() {
-            return Err(Admit::Full);
-        }
-        let free_to_reserve = self.games.unreserved();
-        if self.games.blocks_of(&row) > free_to_reserve {
-            return Err(Admit::Short { free_to_reserve });
+        if let Some(refusal) = self.games.refusal(&row) {
+            return Err(Admit::from(refusal));
         }
         Ok(self.open_stay(alloc, row)?)
     }

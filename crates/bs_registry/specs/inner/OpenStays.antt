@@ -9,8 +9,9 @@ use Rattle.bs_registry.specs.OpenStays.{OpenStayList, bears, blocks_in, found_in
 use Rattle.bs_registry.specs.Stays.{Capacity, Stay, blocks_in_registry, has_name, refusal_in_order, with_admitted, with_closed}
 use Rattle.bs_registry.specs.declared.refusal.Refusal.{Refusal}
 
-abbrev pub open_stays_of : List Stay → OpenStayList
-open_stays_of registry = record { made = length registry; stays = open_of registry }
+-- of a stay of which only the row matters
+abbrev pub nothing_kept : GameRow → Unit {0}
+nothing_kept row = tt
 
 -- no two have one name
 abbrev pub are_named_once : List (ℕ × GameRow) → Bool

@@ -1,5 +1,5 @@
 -- The games of cores of one row each, put together one after the other.
-use Rattle.std.specs.Prelude.{◌≡◌, ℕ, suc, ◌+◌, ◌*◌, ◌<◌, ◌≤◌, true, false, List, [], ◌∷◌, ◌++◌, drop, length, All, Option, Some, None, option_and_then, option_to_list, slice_index_or, slice_set}
+use Rattle.std.specs.Prelude.{◌≡◌, ℕ, suc, ◌<◌, ◌≤◌, true, false, List, [], ◌∷◌, ◌++◌, drop, length, All, Option, Some, None, option_and_then, option_to_list, slice_index_or, slice_set}
 use Rattle.bs_board.specs.plans.Plan.{GameRow}
 use Rattle.bs_pool.specs.Assembly.{Assembled, AreNew, laid}
 use Rattle.bs_pool.specs.Ledger.{Ledger, size}

@@ -1,16 +1,20 @@
 -- How the stays of a core lie in their fields.
-use Rattle.std.specs.Prelude.{◌≡◌, ℕ, ◌+◌, ◌≤◌, ◌<◌, true, false, if◌then◌else◌, List, [], ◌∷◌, length, map, slice_index_or, Option, Some, None}
+use Rattle.std.specs.Prelude.{◌≡◌, ℕ, ◌+◌, ◌≤◌, ◌<◌, true, false, List, [], ◌∷◌, length, map, slice_index_or, Option, Some, None}
 use Rattle.bs_counter.specs.Keys.{TallyId}
 use Rattle.bs_board.specs.plans.Plan.{GameRow, IsFitPlan}
 use Rattle.bs_pool.specs.Ledger.{Ledger}
 use Rattle.bs_sched.specs.declared.games.Games.TheInside.{Inside}
 use Rattle.bs_sched.specs.declared.cores.TheConstants.{LEAST_CAPACITY}
+use Rattle.bs_registry.specs.OpenStays.{open_from, open_stays_of}
+use Rattle.bs_registry.specs.Registry.{rows_open, seen}
 use Rattle.bs_registry.specs.declared.blocks.TheConstants.{MOST_STAYS}
+use Rattle.bs_registry.specs.declared.registry.Listed.{Listed}
 use Rattle.bs_sched.specs.Game.{GameView}
 use Rattle.bs_sched.specs.inner.Game.{HasBlocks, no_game, opened_game}
 use Rattle.bs_sched.specs.Games.{GamesView}
 use Rattle.bs_sched.specs.Lane.{Lane, is_quiet}
 use Rattle.bs_sched.specs.Machine.{open_blocks}
+use Rattle.bs_sched.specs.Registry.{registry_of}
 use Rattle.bs_sched.specs.inner.Reserved.{AreReserved}
 use Rattle.bs_sched.specs.Storage.{Storage, frame_tag, record_tag}
 
@@ -68,10 +72,15 @@ AreAtRows cap games pool = (game : ℕ) → game < length games → (game_at gam
 abbrev pub AreGone : List GameView → Type 0
 AreGone games = (game : ℕ) → game < length games → (game_at games game).lane.is_open ≡ false → is_quiet (game_at games game).lane ≡ true
 
+abbrev pub numbers_of : List (ℕ × GameRow) → List ℕ
+numbers_of = map (λ at. at.0)
+
+abbrev pub numbers_in : {X : Type 0} → List (Listed X) → List ℕ
+numbers_in stays = numbers_of (rows_open stays)
+
 -- the rows of the stays that are open, from that row on
 abbrev pub open_rows_from : ℕ → List Lane → List ℕ
-open_rows_from game [] = []
-open_rows_from game (x ∷ lanes) = if x.is_open then game ∷ open_rows_from (game + 1) lanes else open_rows_from (game + 1) lanes
+open_rows_from game lanes = numbers_of (open_from game (registry_of lanes))
 
 abbrev pub open_rows : List Lane → List ℕ
 open_rows = open_rows_from 0
@@ -80,7 +89,7 @@ pub record IsSound (cap : ℕ) {at : ℕ} (c : Inside at) : Type 0 where
   pub wide : LEAST_CAPACITY ≤ cap
   pub plan : IsFitPlan c.rows
   pub few : length c.list.items ≤ MOST_STAYS
-  pub listed : c.open_rows.items ≡ open_rows (lanes_in c.list.items)
+  pub listed : seen c.registry ≡ open_stays_of (registry_of (lanes_in c.list.items))
   pub blocks : AreAtRows cap c.list.items c.pool
   pub gone : AreGone c.list.items
   pub reserved : AreReserved cap (open_blocks cap (lanes_in c.list.items)) (lanes_in c.list.items) c.pool.reservations

@@ -1,4 +1,4 @@
-use Rattle.std.proofs.Common.{sym, ap, ◌∙◌}
+use Rattle.std.proofs.Common.{ap, ◌∙◌}
 use Rattle.std.specs.List.{list_any}
 use Rattle.bs_board.specs.Texts.{is_same_text}
 use Rattle.bs_registry.specs.declared.registry.Listed.{Listed}

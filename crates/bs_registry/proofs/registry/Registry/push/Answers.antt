@@ -1,6 +1,5 @@
-use Rattle.std.proofs.Common.{rules, ◌≡◌, false, sym, ap, ◌∙◌, ◌++◌, ◌∷◌, []}
+use Rattle.std.proofs.Common.{◌≡◌, false, ap, ◌∙◌}
 use Rattle.std.specs.List.{list_any}
-use Rattle.bs_registry.specs.declared.registry.Listed.{Listed}
 use Rattle.bs_registry.specs.OpenStays.{bears}
 use Rattle.bs_registry.specs.inner.OpenStays.{are_named_once}
 use Rattle.bs_registry.specs.Registry.{Listing, rows_in, rows_open}

@@ -4,7 +4,6 @@ use Rattle.bs_pool.specs.Assembly.{laid}
 use Rattle.bs_pool.specs.Ledger.{Ledger, size}
 use Rattle.bs_pool.specs.Woven.{ArePlaces}
 use Rattle.bs_sched.specs.declared.event.Event.{Event}
-use Rattle.bs_sched.specs.Assembly.{jobs_at}
 use Rattle.bs_sched.specs.Game.{GameView}
 use Rattle.bs_sched.specs.Games.{GamesView}
 use Rattle.bs_sched.specs.inner.Assembling.{IsOnly, gathered_of, placed_game}

@@ -1,9 +1,9 @@
 -- What is gathered of the cores is the core of all rows.
-use Rattle.std.proofs.Common.{◌≡◌, List, length, refl, sym, ap, subst, ◌∙◌, arith}
+use Rattle.std.proofs.Common.{◌≡◌, length, refl, sym, ap, subst, ◌∙◌, arith}
 use Rattle.std.specs.Prelude.{All}
 use Rattle.std.proofs.lemmas.Result.{IfOk-weaker}
 use Rattle.bs_pool.specs.Ledger.{Ledger}
-use Rattle.bs_sched.specs.Core.{CoreView, without_tallies}
+use Rattle.bs_sched.specs.Core.{without_tallies}
 use Rattle.bs_sched.specs.Games.{GamesView}
 use Rattle.bs_sched.specs.inner.Assembling.{AreLedTo, games_of}
 use Rattle.bs_sched.specs.inner.Journal.{core_of}

@@ -4,17 +4,14 @@ use Rattle.bs_sched.specs.Core.{CoreView}
 use Rattle.bs_sched.specs.Games.{setting_of}
 use Rattle.bs_sched.specs.Machine.{is_enabled, may_admit}
 use Rattle.bs_sched.proofs.BusyTable.{admit_marks_none}
-use Rattle.bs_sched.proofs.ChangedStays.{may_come}
 use Rattle.bs_sched.proofs.JobsOut.{as_many_admitted}
 use Rattle.bs_sched.proofs.Journal.{journaled_after}
 use Rattle.bs_sched.proofs.cores.Core.open_stay.Goals as goal
 
 pub admit-requires : goal.admit-requires
 admit-requires g c =
-    let games = c.self.inside.games in
     let may = subst (λ (v : CoreView). may_admit (setting_of g.row.CAP v.games) v.games.lanes c.args.row ≡ true) (sym c.self.view_is) c.requires in
-    let comes = may_come (setting_of g.row.CAP games) games.lanes c.args.row may in
-    (omega arith, (c.keeps_row.ensures, (comes.0, comes.1)))
+    (omega arith, (c.keeps_row.ensures, may))
 
 pub invariant_of-self-2 : goal.invariant_of-self-2
 invariant_of-self-2 g c =

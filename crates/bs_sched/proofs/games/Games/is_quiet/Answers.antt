@@ -2,11 +2,11 @@ use Rattle.std.proofs.Common.{ℕ, List, ap, arith, sym, ◌∙◌}
 use Rattle.std.specs.List.{list_all}
 use Rattle.bs_sched.specs.Game.{GameView}
 use Rattle.bs_sched.specs.Games.{GamesView}
-use Rattle.bs_sched.specs.inner.GamesLayout.{lanes_in}
+use Rattle.bs_sched.specs.inner.GamesLayout.{lanes_in, numbers_in}
 use Rattle.bs_sched.specs.Lane.{Lane, is_quiet}
 use Rattle.bs_sched.specs.Machine.{lane_of}
 use Rattle.bs_sched.proofs.ListedGames.{lane_at, many_lanes}
-use Rattle.bs_sched.proofs.OpenRows.{quiet_among}
+use Rattle.bs_sched.proofs.OpenRows.{numbers_listed, quiet_among}
 use Rattle.bs_sched.proofs.games.Games.is_quiet.Goals as goal
 
 pub returns : goal.returns
@@ -14,8 +14,9 @@ returns g c =
     let games = c.self.inside.list.items in
     let many = many_lanes games in
     c.are_quiet.ensures
-    ∙ ap (λ (xs : List GameView). list_all (λ (game : ℕ). is_quiet (lane_of (lanes_in xs) game)) c.as_slice.result.now) c.deref.ensures.value
-    ∙ ap (list_all (λ (game : ℕ). is_quiet (lane_of (lanes_in games) game))) (c.as_slice.ensures.value ∙ c.self.invariant.listed)
+    ∙ ap (λ (xs : List GameView). list_all (λ (game : ℕ). is_quiet (lane_of (lanes_in xs) game)) (numbers_in c.as_slice.result.now)) c.deref.ensures.value
+    ∙ ap (list_all (λ (game : ℕ). is_quiet (lane_of (lanes_in games) game)))
+    (ap numbers_in c.as_slice.ensures ∙ numbers_listed c.self.inside.registry (lanes_in games) c.self.invariant.listed)
     ∙ quiet_among (lanes_in games)
     (λ game less shut.
     let lane = lane_at games game in

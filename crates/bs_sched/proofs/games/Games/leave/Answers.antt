@@ -13,14 +13,14 @@ use Rattle.bs_sched.proofs.ChangedStays.{Leaves, can_release, lanes_left, open_q
 use Rattle.bs_sched.proofs.games.Games.leave.Given.{Over}
 use Rattle.bs_sched.proofs.games.Games.leave.Goals as goal
 
-abbrev new_inside : (g : Over) → goal.After-remove_row g → Inside g.row.CAP
+abbrev new_inside : (g : Over) → goal.After-remove g → Inside g.row.CAP
 new_inside g c = record c.self.inside {
   list = with_item c.self.inside.list c.args.game c.close.new.self;
-  open_rows = c.remove_row.new.rows;
+  registry = c.remove.new.self;
   pool = c.release_row.new.pool;
 }
 
-left : (g : Over) (c : goal.After-remove_row g) → Leaves g.row.CAP c.self.inside (new_inside g c) c.args.game c.close.new.self c.close.new.pool
+left : (g : Over) (c : goal.After-remove g) → Leaves g.row.CAP c.self.inside (new_inside g c) c.args.game c.close.new.self c.close.new.pool
 left g c =
     let here = stay_there c.self.inside c.args.self.now c.args.game c.index_mut.result.now c.self.view_is c.requires.game c.index_mut.ensures.value in
     let at = at_leave g.row.CAP c.self.inside c.args.self.now c.args.game c.index_mut.result.now c.self.invariant here c.requires.may in
@@ -28,7 +28,7 @@ left g c =
       rows = refl;
       games = refl;
       closed = c.close.ensures.game ∙ ap closed_game at.here.there;
-      listed = c.remove_row.ensures;
+      listed = c.remove.ensures;
       given = c.close.ensures.pool ∙ ap (λ (u : GameView). all_given (numbers_of u.packing) c.self.inside.pool) at.here.there;
       others = subst (λ (tag : ℕ). LeavesOthers tag c.self.inside.pool c.close.new.pool) at.row.tag c.close.ensures.others;
       pool = c.release_row.ensures;

@@ -14,4 +14,4 @@ invariant_of-result g c =
     = (λ i. ledger_of (owners i) (c.in_ok-reserve_rows.ensures.reservations i)) in
     sound_opened g.row.CAP many _ c.requires.wide c.as_slice-all.ensures.fits c.requires.room
     (rw rows at c.in_ok-list.ensures)
-    (rw rows at c.in_ok-open_rows.ensures) (rw rows at pool)
+    c.in_ok-registry.ensures (rw rows at pool)

@@ -1,0 +1,9 @@
+use Rattle.std.proofs.Common.{◌-◌, ◌∙◌, ap}
+use Rattle.bs_registry.specs.inner.OpenStays.{are_named_once}
+use Rattle.bs_registry.specs.Registry.{rows_open}
+use Rattle.bs_registry.proofs.Rows.{undone_once}
+use Rattle.bs_registry.proofs.registry.Registry.undo_push.Goals as goal
+
+pub invariant_of-self : goal.invariant_of-self
+invariant_of-self g c =
+    ap (λ stays. are_named_once (rows_open stays)) c.truncate.ensures.items ∙ undone_once (c.len.result - 1) c.self.inside.stays.items c.self.invariant
