@@ -1,10 +1,10 @@
 -- The core of one row, in which the commands for the row were queued first, and the assembled core.
-use Rattle.std.proofs.Common.{◌≡◌, ℕ, suc, ◌+◌, ◌<◌, List, [], ◌∷◌, ◌++◌, length, map, take, drop, get_or, Some, refl, sym, ap, subst, ◌∙◌, arith, inl, inr}
+use Rattle.std.proofs.Common.{◌≡◌, ℕ, suc, ◌+◌, ◌<◌, List, [], ◌∷◌, ◌++◌, length, map, take, drop, get_or, Option, Some, None, refl, sym, ap, subst, ◌∙◌, arith, inl, inr}
 use Rattle.std.specs.Prelude.{All, nat_eq, slice_index_or}
 use Rattle.std.specs.List.{filter_map}
-use Rattle.std.proofs.lemmas.Bool.{cases_Bool, cases_lt}
-use Rattle.std.proofs.lemmas.List.{append_assoc, append-nil, get_or_append_left, get_or_push, length-append, map-append, take_more}
-use Rattle.std.proofs.lemmas.List.Elements.{All-nil, All-append, All-cons, All-drop, filter_map-append}
+use Rattle.std.proofs.lemmas.Bool.{cases_Bool, cases_lt, ne_eqb}
+use Rattle.std.proofs.lemmas.List.{append_assoc, append-nil, get_or-map, get_or_append_left, get_or_push, length-append, length-map, map-append, take_more}
+use Rattle.std.proofs.lemmas.List.Elements.{All-nil, All-append, All-cons, All-drop, All-take, filter_map-append}
 use Rattle.bs_sched.specs.Assembly.{AreQueuedFirst, Hand, IsJob, IsQueuedFirst, assembled_journal, commands_for, core_at, hand_event, jobs_at, jobs_from}
 use Rattle.bs_sched.specs.Core.{CoreView, opened_core}
 use Rattle.bs_sched.specs.declared.event.Event.{Event}
@@ -13,11 +13,17 @@ use Rattle.bs_workers.specs.declared.act.Act.{Act}
 use Rattle.bs_workers.specs.declared.act.Act.TheVariants as act
 use Rattle.bs_workers.specs.Acts.{command_in}
 use Rattle.bs_workers.specs.Run.{acts_of}
-use Rattle.bs_workers.specs.inner.Apart.{ArePlayed, AreQueuedIn, IsPlayed, QueuesIn, hand_of, hands_of}
+use Rattle.bs_workers.specs.inner.Apart.{ArePlayed, AreQueuedIn, HaveRows, IsPlayed, QueuesIn, hand_of, hands_of, row_in}
 use Rattle.bs_workers.specs.inner.Making.{Makes}
 use Rattle.bs_workers.proofs.Acted.{acts_append}
 
 -- the commands of one row, queued one after the other
+
+not_for : (a : Act) (r row : ℕ) → row_in a ≡ Some r → ¬ (r ≡ row) → filter_map (command_in row) (a ∷ []) ≡ []
+not_for (act.Hand stay command) r row is other =
+    let same : stay ≡ r = cc in rw (ne_eqb stay row (λ e. other (sym same ∙ e))) refl
+not_for (act.Admit new) r row is other = absurd cc
+not_for (act.Leave stay) r row is other = absurd cc
 
 pub queued_more : (acts : List Act) (i : ℕ) (next : Act) (row : ℕ) (old between new : List Event) → i < length acts → next ≡ get_or acts i next
     → between ≡ old ++ map (event.Hand 0) (filter_map (command_in row) (take i acts))
@@ -34,6 +40,23 @@ queued_more acts i next row old between new within is before after =
     after ∙ ap (λ (events : List Event). events ++ map (event.Hand 0) one) before
     ∙ append_assoc old (map (event.Hand 0) some) (map (event.Hand 0) one) ∙ ap (λ (events : List Event). old ++ events) (sym all)
 
+-- an act for another row queues nothing for this one
+pub other_queued : (acts : List Act) (order : List ℕ) (i : ℕ) (row : ℕ) (old new : List Event) → i < length acts → ¬ (get_or order i 0 ≡ row) → HaveRows acts order
+    → new ≡ old ++ map (event.Hand 0) (filter_map (command_in row) (take i acts))
+    → new ≡ old ++ map (event.Hand 0) (filter_map (command_in row) (take (i + 1) acts))
+other_queued acts order i row old new within other have before =
+    let one = get_or acts i (act.Leave 0) in
+    let many : length acts ≡ length order = sym (length-map acts row_in) ∙ ap length have ∙ length-map order Some in
+    let is : row_in one ≡ Some (get_or order i 0)
+    = sym (get_or-map row_in acts i (act.Leave 0) None within) ∙ ap (λ (rows : List (Option ℕ)). get_or rows i None) have
+    ∙ get_or-map Some order i 0 None (omega (arith, within, many)) in
+    let none : filter_map (command_in row) (one ∷ []) ≡ [] = not_for one (get_or order i 0) row is other in
+    let more : take (i + 1) acts ≡ take i acts ++ one ∷ [] = take_more acts i (act.Leave 0) within in
+    let same : filter_map (command_in row) (take (i + 1) acts) ≡ filter_map (command_in row) (take i acts)
+    = ap (λ (a : List Act). filter_map (command_in row) a) more ∙ filter_map-append (command_in row) (take i acts) (one ∷ [])
+    ∙ ap (λ rest. filter_map (command_in row) (take i acts) ++ rest) none ∙ append-nil (filter_map (command_in row) (take i acts)) in
+    before ∙ ap (λ commands. old ++ map (event.Hand 0) commands) (sym same)
+
 -- events that make no act are jobs
 are_jobs : (events : List Event) → acts_of events ≡ [] → All IsJob events
 are_jobs [] none = All-nil IsJob
@@ -43,24 +66,27 @@ are_jobs (event.Put worker job ∷ events) none = All-cons IsJob (event.Put work
 are_jobs (event.Admit row ∷ events) none = absurd cc
 are_jobs (event.Leave game ∷ events) none = absurd cc
 
-pub played : (acts : List Act) (row : ℕ) (old between new : CoreView) → old.journal ≡ []
-    → between.journal ≡ old.journal ++ map (event.Hand 0) (filter_map (command_in row) acts) → Makes [] between new → IsPlayed acts row new
-played acts row old between new empty queued made =
+pub played : (acts : List Act) (order : List ℕ) (row : ℕ) (old between new : CoreView) → old.journal ≡ []
+    → (HaveRows acts order → between.journal ≡ old.journal ++ map (event.Hand 0) (filter_map (command_in row) acts)) → Makes [] between new
+    → IsPlayed acts order row new
+played acts order row old between new empty queued made =
+    λ have.
     let hands = map (event.Hand 0) (filter_map (command_in row) acts) in
     record {
       jobs = made.added;
-      journal_is = made.journal ∙ ap (λ (events : List Event). events ++ made.added) (queued ∙ ap (λ (events : List Event). events ++ hands) empty);
+      journal_is = made.journal ∙ ap (λ (events : List Event). events ++ made.added) (queued have ∙ ap (λ (events : List Event). events ++ hands) empty);
       are_jobs = are_jobs made.added made.acted;
     }
 
 -- the commands of all rows, one after the other
 
 pub none_queued : (rows : ℕ) → AreQueuedIn rows [] []
-none_queued rows = record { ordered = refl; within = All-nil (λ (hand : Hand). hand.row < rows); acted = refl }
+none_queued rows = record { have = refl; ordered = refl; within = All-nil (λ (hand : Hand). hand.row < rows); acted = refl }
 
 queued_one : (rows row : ℕ) (next : Act) → QueuesIn rows row next → AreQueuedIn rows (next ∷ []) (row ∷ [])
 queued_one rows row (act.Hand stay command) queues =
     record {
+      have = ap (λ r. Some r ∷ []) queues.0;
       ordered = ap (λ r. r ∷ []) queues.0;
       within = All-cons (λ (hand : Hand). hand.row < rows) (record { row = stay; command = command }) []
           (subst (λ r. r < rows) (sym queues.0) queues.1) (All-nil (λ (hand : Hand). hand.row < rows));
@@ -74,6 +100,8 @@ queued_both : (rows : ℕ) (acts more : List Act) (order later : List ℕ) → A
 queued_both rows acts more order later first second =
     let both : hands_of (acts ++ more) ≡ hands_of acts ++ hands_of more = filter_map-append hand_of acts more in
     record {
+      have = map-append row_in acts more ∙ ap (λ rows. rows ++ map row_in more) first.have
+          ∙ ap (λ rows. map Some order ++ rows) second.have ∙ sym (map-append Some order later);
       ordered = ap (map (λ (hand : Hand). hand.row)) both ∙ map-append (λ (hand : Hand). hand.row) (hands_of acts) (hands_of more)
           ∙ ap (λ rows. rows ++ map (λ (hand : Hand). hand.row) (hands_of more)) first.ordered ∙ ap (λ rows. order ++ rows) second.ordered;
       within = subst (All (λ (hand : Hand). hand.row < rows)) (sym both)
@@ -91,26 +119,26 @@ queued_next rows row i acts next order within is before queues =
     subst (λ some. AreQueuedIn rows some (order ++ row ∷ [])) (sym more)
     (queued_both rows (take i acts) (next ∷ []) order (row ∷ []) before (queued_one rows row next queues))
 
--- the first of a list is taken out
+-- one of a list is taken out
 
-pub first_holds : {X : Type 0} (P : X → Type 0) (xs : List X) (x : X) → 0 < length xs → x ≡ slice_index_or xs 0 x → All P xs → P x
-first_holds P xs x some is all = subst P (sym is) (all 0 x some)
+pub one_holds : {X : Type 0} (P : X → Type 0) (xs : List X) (i : ℕ) (x : X) → i < length xs → x ≡ slice_index_or xs i x → All P xs → P x
+one_holds P xs i x some is all = subst P (sym is) (all i x some)
 
-pub rest_holds : {X : Type 0} (P : X → Type 0) (xs ys : List X) → ys ≡ take 0 xs ++ drop 1 xs → All P xs → All P ys
-rest_holds P xs ys are all = subst (All P) (sym are) (All-drop P 1 xs all)
+pub rest_hold : {X : Type 0} (P : X → Type 0) (xs ys : List X) (i : ℕ) → ys ≡ take i xs ++ drop (i + 1) xs → All P xs → All P ys
+rest_hold P xs ys i are all = subst (All P) (sym are) (All-append P (take i xs) (drop (i + 1) xs) (All-take P i xs all) (All-drop P (i + 1) xs all))
 
 -- one more core, in order
-pub played_more : (acts : List Act) (cores : List CoreView) (row : ℕ) (core : CoreView) → row ≡ length cores → ArePlayed acts cores → IsPlayed acts row core
-    → ArePlayed acts (cores ++ core ∷ [])
-played_more acts cores row core is before next =
+pub played_more : (acts : List Act) (order : List ℕ) (cores : List CoreView) (row : ℕ) (core : CoreView) → row ≡ length cores
+    → ArePlayed acts order cores → IsPlayed acts order row core → ArePlayed acts order (cores ++ core ∷ [])
+played_more acts order cores row core is before next =
     λ at within.
     let none = opened_core 0 0 0 [] in
     let long = length-append cores (core ∷ []) in
     elim (cases_lt at (length cores)) [
-      | inl less ↦ subst (λ c. IsPlayed acts at c) (sym (get_or_append_left cores (core ∷ []) none at less)) (before at less)
+      | inl less ↦ subst (λ c. IsPlayed acts order at c) (sym (get_or_append_left cores (core ∷ []) none at less)) (before at less)
       | inr past ↦
           let last : row ≡ at = omega (arith, long) in
-          subst (λ c. IsPlayed acts at c) (sym (get_or_push cores core none at (sym is ∙ last))) (subst (λ r. IsPlayed acts r core) last next)
+          subst (λ c. IsPlayed acts order at c) (sym (get_or_push cores core none at (sym is ∙ last))) (subst (λ r. IsPlayed acts order r core) last next)
     ]
 
 -- the commands of each row
@@ -125,9 +153,10 @@ commands_of_acts row (act.Hand stay command ∷ acts) =
 commands_of_acts row (act.Admit new ∷ acts) = commands_of_acts row acts
 commands_of_acts row (act.Leave stay ∷ acts) = commands_of_acts row acts
 
-pub queued_first : (acts : List Act) (cores : List CoreView) → ArePlayed acts cores → AreQueuedFirst (hands_of acts) cores
-queued_first acts cores played =
-    λ row within. subst (λ commands. IsQueuedFirst commands (core_at cores row)) (sym (commands_of_acts row acts)) (played row within)
+pub queued_first : (acts : List Act) (order : List ℕ) (cores : List CoreView) → HaveRows acts order → ArePlayed acts order cores
+    → AreQueuedFirst (hands_of acts) cores
+queued_first acts order cores have played =
+    λ row within. subst (λ commands. IsQueuedFirst commands (core_at cores row)) (sym (commands_of_acts row acts)) (played row within have)
 
 -- the assembled core makes the acts
 

@@ -1,6 +1,6 @@
 //! The acts of a run.
 use crate::fault::Run;
-use bs_board::Row;
+use bs_board::{Command, Row};
 use bs_fiber::{Handles, SharedCommand};
 use std::alloc::Global;
 
@@ -16,23 +16,13 @@ pub enum Act {
     Leave(usize),
 }
 
-/// A command for the game of that row, with the handles that a core will keep of it.
-#[derive(Drop)]
-pub(crate) struct HeldCommand {
-    pub(crate) stay: usize,
-    pub(crate) command: Handles,
-}
-
 impl Act {
-    /// Makes the handles that a core keeps of the act's command. `Broken` for an act that queues
-    /// none.
-    fn hold(&self) -> Result<HeldCommand, Run> {
+    /// Makes the handles that a core of one row keeps of the act's command. `Broken` for an act
+    /// that queues none for row 0.
+    fn hold(&self) -> Result<Handles, Run> {
         match self {
-            Act::Hand(stay, command) => Ok(HeldCommand {
-                stay: *stay,
-                command: Handles::new(command)?,
-            }),
-            Act::Admit(_) | Act::Leave(_) => Err(Run::Broken),
+            Act::Hand(0, command) => Ok(Handles::new(command)?),
+            Act::Hand(_, _) | Act::Admit(_) | Act::Leave(_) => Err(Run::Broken),
         }
     }
 }
@@ -42,8 +32,17 @@ pub(crate) fn are_commands(acts: &[Act]) -> bool {
     acts.iter().all(|act| matches!(act, Act::Hand(_, _)))
 }
 
-/// Makes the handles of acts that queue commands.
-pub(crate) fn hold_all(alloc: Global, acts: &[Act]) -> Result<Vec<HeldCommand>, Run> {
+/// Whether an act queues a move. Only the parts of a move can run at the same time as another job
+/// of their game.
+pub(crate) fn has_move(acts: &[Act]) -> bool {
+    acts.iter().any(|act| match act {
+        Act::Hand(_, command) => matches!(command.get(), Command::Move(_)),
+        Act::Admit(_) | Act::Leave(_) => false,
+    })
+}
+
+/// Makes the handles of acts that queue commands for row 0.
+pub(crate) fn hold_all(alloc: Global, acts: &[Act]) -> Result<Vec<Handles>, Run> {
     let mut held = Vec::with_capacity(alloc, acts.len())?;
     for act in acts {
         if held.push(act.hold()?).is_err() {

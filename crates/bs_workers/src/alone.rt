@@ -11,7 +11,7 @@ ghost use Rattle.bs_sched.specs.Putting.{IsOwn};
 ghost use Rattle.bs_sched.specs.declared.event.Event.TheVariants as event;
 ghost use Rattle.bs_workers.specs.Acts.{command_in};
 ghost use Rattle.bs_workers.specs.Run.{IsRunOf};
-ghost use Rattle.bs_workers.specs.inner.Apart.{IsPlayed};
+ghost use Rattle.bs_workers.specs.inner.Apart.{HaveRows, IsPlayed};
 ghost use Rattle.bs_workers.specs.inner.Making.{Makes};
 ghost use Rattle.bs_workers.specs.declared.act.Act.TheVariants as act;
 
@@ -233,14 +233,20 @@ impl<const CAP: usize, R: Wait, G: Gate> Alone<'_, CAP, R, G> {
         }
     }
 
-    /// Queues the commands for that row of the run in the core's row 0.
-    fn queue(&mut self, row: usize, acts: &[Act]) -> Result<(), Run>
-        ensures journal { OnOk result (self.new.core.journal
+    /// Queues the commands for that row of the run in the core's row 0. `order` has the row of each
+    /// act: acts of other rows are not read.
+    fn queue(&mut self, row: usize, acts: &[Act], order: &[u32]) -> Result<(), Run>
+        ensures journal { OnOk result (HaveRows acts.now order.now → self.new.core.journal
             ≡ self.old.core.journal ++ map (event.Hand 0) (filter_map (command_in row) acts.now)) }
         ensures worker { self.new.worker ≡ self.old.worker }
     {
-        for act in acts {
-            self.queue_if_for(row, act)?;
+        if order.len() != acts.len() {
+            return Err(Run::Broken);
+        }
+        for at in 0..acts.len() {
+            if order[at] as usize == row {
+                self.queue_if_for(row, &acts[at])?;
+            }
         }
         Ok(())
     }
@@ -252,15 +258,15 @@ impl<const CAP: usize, R: Wait, G: Gate> Alone<'_, CAP, R, G> {
         self.core.journal().is_empty()
     }
 
-    /// Queues the commands for that row of the run in the core's row 0, and answers them. A core
-    /// that has an event, or too few workers, is `Broken`.
-    pub(crate) fn play(mut self, row: usize, acts: &[Act]) -> Result<Core<CAP>, Run>
-        ensures { IfOk result (λ core. IsPlayed acts.now row core) }
+    /// Queues the commands for that row of the run in the core's row 0, and answers them. `order`
+    /// has the row of each act. A core that has an event, or too few workers, is `Broken`.
+    pub(crate) fn play(mut self, row: usize, acts: &[Act], order: &[u32]) -> Result<Core<CAP>, Run>
+        ensures { IfOk result (λ core. IsPlayed acts.now order.now row core) }
     {
         if !self.is_new() {
             return Err(Run::Broken);
         }
-        self.queue(row, acts)?;
+        self.queue(row, acts, order)?;
         if self.worker > self.core.workers() {
             return Err(Run::Broken);
         }

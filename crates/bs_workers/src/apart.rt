@@ -1,5 +1,5 @@
-//! Games run apart: each thread runs some of the rows, each row in a core of its own, without a
-//! lock. Then the cores are put together.
+//! Games run apart: each row in a core of its own, without a lock on it. A thread takes one row
+//! after the other, so that no thread is idle while rows are left. Then the cores are put together.
 ghost use Rattle.std.specs.Prelude.{◌≡◌, ◌+◌, ◌≤◌, ◌++◌, ◌∷◌, [], All, IfOk, OnOk, length};
 ghost use Rattle.bs_board.specs.declared.limits.TheConstants.{MOST_ROWS};
 ghost use Rattle.bs_pool.specs.Ledger.{size};
@@ -18,7 +18,7 @@ use crate::fault::Run;
 use crate::gate::Gate;
 use bs_sched::{Core, Shared};
 use std::alloc::{AllocError, Global};
-use std::sync::Wait;
+use std::sync::{Mutex, Wait};
 use std::thread::{Threads, map_vec};
 
 /// A row, and the core of that row alone.
@@ -28,11 +28,17 @@ struct Lone<const CAP: usize> {
     core: Core<CAP>,
 }
 
-/// The rows that one thread runs, the last one first.
+/// The rows that no thread has taken yet, the last one first.
 #[derive(Drop)]
-struct Group<const CAP: usize> {
-    thread: usize,
-    lone: Vec<Lone<CAP>>,
+struct Waiting<const CAP: usize> {
+    rows: Mutex<Vec<Lone<CAP>>>,
+}
+
+impl<const CAP: usize> Waiting<CAP> {
+    /// Takes the first row, if there is one.
+    fn take<R: Wait>(&self, rt: &R) -> Option<Lone<CAP>> {
+        self.rows.lock(rt).pop()
+    }
 }
 
 /// What all threads share.
@@ -41,8 +47,8 @@ struct Apart<'a, R, G> {
     rt: &'a R,
     alloc: Global,
     acts: &'a [Act],
-    /// How many of the worker numbers each thread has.
-    numbers: usize,
+    /// The row of each act's command.
+    order: &'a [u32],
     gate: &'a G,
 }
 
@@ -103,66 +109,41 @@ fn append_lones<const CAP: usize>(
     all.append(&mut ran)
 }
 
-/// The number of acts for each row.
-fn weights(alloc: Global, acts: &[Act], rows: usize) -> Result<Vec<usize>, AllocError> {
-    let mut weights = Vec::from_elem(alloc, 0usize, rows)?;
-    for act in acts {
-        if let Act::Hand(stay, _) = act {
-            if let Some(weight) = weights.get_mut(*stay) {
-                *weight = weight.saturating_add(1);
-            }
-        }
-    }
-    Ok(weights)
-}
-
-/// A group without rows for each thread, the last thread first.
-fn no_groups<const CAP: usize>(
-    alloc: Global,
-    threads: usize,
-) -> Result<Vec<Group<CAP>>, AllocError> {
-    let mut groups = Vec::with_capacity(alloc, threads)?;
-    for after in 0..threads {
-        let thread = threads - 1 - after;
-        groups.push(Group {
-            thread,
-            lone: Vec::new(alloc),
-        })?;
-    }
-    Ok(groups)
-}
-
-/// Divides the rows among the threads: each gets adjacent rows with about as many acts.
-fn groups_of<const CAP: usize>(
+/// Each core with its row, the last row first.
+fn lone_cores<const CAP: usize>(
     alloc: Global,
     mut cores: Vec<Core<CAP>>,
-    acts: &[Act],
-    threads: usize,
-) -> Result<Vec<Group<CAP>>, AllocError> {
-    let weights = weights(alloc, acts, cores.len())?;
-    let mut groups = no_groups(alloc, threads)?;
-    let all = acts.len().max(1);
-    let mut after = 0usize;
+) -> Result<Vec<Lone<CAP>>, AllocError> {
+    let mut waiting = Vec::with_capacity(alloc, cores.len())?;
     for _ in 0..cores.len() {
-        let Some(core) = cores.pop() else {
-            return Ok(groups);
-        };
-        let row = cores.len();
-        let weight = weights.get(row).copied().unwrap_or(0);
-        let middle = after.saturating_add(weight / 2).min(all - 1);
-        let group = middle.saturating_mul(threads) / all;
-        after = after.saturating_add(weight);
-        if let Some(group) = groups.get_mut(group) {
-            group.lone.push(Lone { row, core })?;
+        if let Some(core) = cores.pop() {
+            let row = cores.len();
+            waiting.push(Lone { row, core })?;
         }
     }
-    Ok(groups)
+    Ok(waiting)
+}
+
+/// The numbers of the threads.
+fn thread_numbers(alloc: Global, threads: usize) -> Result<Vec<usize>, AllocError> {
+    let mut numbers = Vec::with_capacity(alloc, threads)?;
+    for thread in 0..threads {
+        numbers.push(thread)?;
+    }
+    Ok(numbers)
+}
+
+/// The place of that row, or the list's length if it is not there.
+fn place_of<const CAP: usize>(ran: &[Lone<CAP>], row: usize) -> usize {
+    ran.iter()
+        .position(|lone| lone.row == row)
+        .unwrap_or(ran.len())
 }
 
 impl<R: Threads + Wait + Sync, G: Gate> Apart<'_, R, G> {
     /// Runs the commands for the row in its core.
     fn run_row<const CAP: usize>(&self, thread: usize, lone: Lone<CAP>) -> Result<Lone<CAP>, Run>
-        ensures { IfOk result (λ lone. IsPlayed self.now.acts.now lone.row lone.core) }
+        ensures { IfOk result (λ lone. IsPlayed self.now.acts.now self.now.order.now lone.row lone.core) }
     {
         let Lone { row, core } = lone;
         let Ok(first) = u32::try_from(row) else {
@@ -174,39 +155,43 @@ impl<R: Threads + Wait + Sync, G: Gate> Apart<'_, R, G> {
             core,
             first,
             thread,
-            worker: thread.saturating_mul(self.numbers),
+            worker: thread,
             gate: self.gate,
         };
-        let core = alone.play(row, self.acts)?;
+        let core = alone.play(row, self.acts, self.order)?;
         Ok(Lone { row, core })
     }
 
-    /// Runs the rows of the group, the first one first.
-    fn run_group<const CAP: usize>(&self, group: Group<CAP>) -> Result<Vec<Lone<CAP>>, Run>
-        ensures { IfOk result (λ ran. All (λ lone. IsPlayed self.now.acts.now lone.row lone.core) ran.items) }
+    /// Runs rows as the thread of that number until none is left.
+    fn run_rows<const CAP: usize>(
+        &self,
+        waiting: &Waiting<CAP>,
+        thread: usize,
+    ) -> Result<Vec<Lone<CAP>>, Run>
+        ensures { IfOk result (λ ran. All (λ lone. IsPlayed self.now.acts.now self.now.order.now lone.row lone.core) ran.items) }
     {
-        let Group { thread, mut lone } = group;
-        let mut ran = Vec::with_capacity(self.alloc, lone.len())?;
-        for _ in 0..lone.len() {
-            if let Some(one) = lone.pop() {
-                put_lone(&mut ran, self.run_row(thread, one)?)?;
+        let mut ran = Vec::new(self.alloc);
+        for _ in self.rt.forever() {
+            match waiting.take(self.rt) {
+                Some(lone) => put_lone(&mut ran, self.run_row(thread, lone)?)?,
+                None => break,
             }
         }
         Ok(ran)
     }
 
-    /// The rows of all groups, the last group first. `Memory` comes before any other fault.
-    fn join_groups<const CAP: usize>(
+    /// The rows of all threads. `Memory` comes before any other fault.
+    fn join_rows<const CAP: usize>(
         &self,
-        mut groups: Vec<Result<Vec<Lone<CAP>>, Run>>,
+        mut rows: Vec<Result<Vec<Lone<CAP>>, Run>>,
     ) -> Result<Vec<Lone<CAP>>, Run>
-        requires { All (λ group. IfOk group (λ ran. All (λ lone. IsPlayed self.now.acts.now lone.row lone.core) ran.items)) groups.items }
-        ensures { IfOk result (λ ran. All (λ lone. IsPlayed self.now.acts.now lone.row lone.core) ran.items) }
+        requires { All (λ some. IfOk some (λ ran. All (λ lone. IsPlayed self.now.acts.now self.now.order.now lone.row lone.core) ran.items)) rows.items }
+        ensures { IfOk result (λ ran. All (λ lone. IsPlayed self.now.acts.now self.now.order.now lone.row lone.core) ran.items) }
     {
         let mut all = Vec::new(self.alloc);
         let mut fault = None;
-        for _ in 0..groups.len() {
-            match groups.pop() {
+        for _ in 0..rows.len() {
+            match rows.pop() {
                 Some(Ok(ran)) => append_lones(&mut all, ran)?,
                 Some(Err(run)) => fault = Some(run.after(fault)),
                 None => {}
@@ -218,14 +203,18 @@ impl<R: Threads + Wait + Sync, G: Gate> Apart<'_, R, G> {
         }
     }
 
-    /// The cores of the rows. `Broken` if the rows are not those from 0 on, in order.
+    /// The cores in the order of their rows. `Broken` if the rows are not those from 0 on.
     fn in_order<const CAP: usize>(&self, mut ran: Vec<Lone<CAP>>) -> Result<Vec<Core<CAP>>, Run>
-        requires { All (λ lone. IsPlayed self.now.acts.now lone.row lone.core) ran.items }
-        ensures { IfOk result (λ cores. ArePlayed self.now.acts.now cores.items) }
+        requires { All (λ lone. IsPlayed self.now.acts.now self.now.order.now lone.row lone.core) ran.items }
+        ensures { IfOk result (λ cores. ArePlayed self.now.acts.now self.now.order.now cores.items) }
     {
         let mut cores = Vec::with_capacity(self.alloc, ran.len())?;
         for _ in 0..ran.len() {
-            let Lone { row, core } = ran.remove(0);
+            let at = place_of(ran.as_slice(), cores.len());
+            if at >= ran.len() {
+                return Err(Run::Broken);
+            }
+            let Lone { row, core } = ran.remove(at);
             if row != cores.len() {
                 return Err(Run::Broken);
             }
@@ -234,23 +223,22 @@ impl<R: Threads + Wait + Sync, G: Gate> Apart<'_, R, G> {
         Ok(cores)
     }
 
-    /// Runs all rows, each group in a thread of its own.
+    /// Runs all rows on that many threads.
     fn run_all<const CAP: usize>(
         &self,
-        cores: Vec<Core<CAP>>,
+        waiting: &Waiting<CAP>,
         threads: usize,
     ) -> Result<Vec<Core<CAP>>, Run>
-        ensures { IfOk result (λ cores. ArePlayed self.now.acts.now cores.items) }
+        ensures { IfOk result (λ cores. ArePlayed self.now.acts.now self.now.order.now cores.items) }
     {
-        let groups = groups_of(self.alloc, cores, self.acts, threads)?;
-        let ran = map_vec(
+        let rows = map_vec(
             self.rt,
-            groups,
-            &|group: Group<CAP>| -> Result<Vec<Lone<CAP>>, Run>
-                ensures { IfOk result (λ ran. All (λ lone. IsPlayed self.entry.now.acts.now lone.row lone.core) ran.items) }
-            { self.run_group(group) },
+            thread_numbers(self.alloc, threads)?,
+            &|thread: usize| -> Result<Vec<Lone<CAP>>, Run>
+                ensures { IfOk result (λ ran. All (λ lone. IsPlayed self.entry.now.acts.now self.entry.now.order.now lone.row lone.core) ran.items) }
+            { self.run_rows(waiting, thread) },
         )?;
-        self.in_order(self.join_groups(ran)?)
+        self.in_order(self.join_rows(rows)?)
     }
 }
 
@@ -266,7 +254,7 @@ fn put_together<const CAP: usize>(
     requires hosted { IsHosted (setting_with CAP shared.blocks shared.workers) shared.rows }
     requires rest { length shared.rest.items + blocks_of_all CAP shared.rows ≡ shared.blocks }
     requires queued { AreQueuedIn (length shared.rows) acts.now order.now }
-    requires played { ArePlayed acts.now shared.cores.items }
+    requires played { ArePlayed acts.now order.now shared.cores.items }
     ensures { IfOk result (λ core. acts_of core.journal ≡ acts.now) }
 {
     if !shared.ran_apart() {
@@ -275,8 +263,8 @@ fn put_together<const CAP: usize>(
     Ok(Core::assemble(alloc, shared, order)?)
 }
 
-/// Runs acts that queue commands, on at most `threads` threads. An act of another kind, or for no
-/// row of the plan, is `Broken`.
+/// Runs acts that queue commands, on at most `threads` threads, each with a worker number of its
+/// own. An act of another kind, or for no row of the plan, is `Broken`.
 pub(crate) fn run_apart<const CAP: usize, R: Threads + Wait + Sync, G: Gate>(
     rt: &R,
     alloc: Global,
@@ -290,7 +278,6 @@ pub(crate) fn run_apart<const CAP: usize, R: Threads + Wait + Sync, G: Gate>(
     ensures { IfOk result (λ done. IsRunOf core.entry acts.now done) }
 {
     let given = copy_rows(alloc, &core)?;
-    let numbers = core.workers() / threads.max(1);
     let Shared {
         rows,
         workers,
@@ -299,14 +286,17 @@ pub(crate) fn run_apart<const CAP: usize, R: Threads + Wait + Sync, G: Gate>(
         rest,
     } = core.share_out(alloc)?;
     let order = order_of(alloc, acts, rows.as_slice().len())?;
+    let waiting = Waiting {
+        rows: Mutex::new(lone_cores(alloc, cores)?),
+    };
     let apart = Apart {
         rt,
         alloc,
         acts,
-        numbers,
+        order: order.as_slice(),
         gate,
     };
-    let cores = apart.run_all(cores, threads)?;
+    let cores = apart.run_all(&waiting, threads)?;
     let shared = Shared {
         rows,
         workers,

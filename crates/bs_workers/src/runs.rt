@@ -5,21 +5,20 @@ ghost use Rattle.bs_sched.specs.Core.{opened_core};
 ghost use Rattle.bs_workers.specs.Acts.{are_acceptable, capacity_of_core, opened};
 ghost use Rattle.bs_workers.specs.Run.{IsRunOf};
 
-use crate::act::{Act, are_commands};
+use crate::act::{Act, are_commands, has_move};
 use crate::alone::run_alone;
 use crate::apart::run_apart;
 use crate::compare::{copy_rows, is_run_of};
 use crate::executor::Executor;
 use crate::fault::Run;
 use crate::gate::Gate;
-use crate::worker::Worker;
 use bs_sched::Core;
 use std::alloc::Global;
 use std::sync::Wait;
 use std::thread::Threads;
 
-/// Runs the jobs of acts that queue commands on several threads, by an executor, and compares the
-/// core with the acts.
+/// Runs the jobs of acts that queue commands for a single row on several threads, by an executor,
+/// and compares the core with the acts.
 fn run_together<const CAP: usize, R: Threads + Wait + Sync, G: Gate>(
     rt: &R,
     alloc: Global,
@@ -35,10 +34,9 @@ fn run_together<const CAP: usize, R: Threads + Wait + Sync, G: Gate>(
     let rows = copy_rows(alloc, &core)?;
     let blocks = core.counts().size;
     let workers = core.workers();
-    let own = Worker::new(alloc, threads, workers, 1)?;
-    let executor = Executor::new(alloc, core, workers / threads.max(1))?;
+    let executor = Executor::new(alloc, core)?;
     executor.work_in_threads(rt, acts, threads, gate);
-    let core = executor.finish(rt, own, gate)?;
+    let core = executor.finish(rt, (threads, workers), gate)?;
     if is_run_of(&core, rows.as_slice(), blocks, acts) {
         Ok(core)
     } else {
@@ -62,9 +60,11 @@ pub fn run_any<const CAP: usize, R: Threads + Wait + Sync, G: Gate>(
 {
     let threads = threads.min(core.workers());
     let rows = core.rows();
-    if threads > 1 && rows > 1 && are_commands(acts) {
+    if threads <= 1 || !are_commands(acts) {
+        run_alone(rt, alloc, core, acts, threads, gate)
+    } else if rows > 1 {
         run_apart(rt, alloc, core, acts, threads.min(rows), gate)
-    } else if threads > 1 && are_commands(acts) {
+    } else if has_move(acts) {
         run_together(rt, alloc, core, acts, threads, gate)
     } else {
         run_alone(rt, alloc, core, acts, threads, gate)
@@ -72,12 +72,12 @@ pub fn run_any<const CAP: usize, R: Threads + Wait + Sync, G: Gate>(
 }
 
 /// Makes the acts in order in a newly opened core, and answers all commands on at most `threads`
-/// threads, the caller's included. There are at most as many threads as workers in the core, and
-/// the workers are divided among the threads. `gate` gets the number of the thread. The caller's
-/// thread makes the acts; while a game cannot leave yet, it runs jobs itself, and may wait for
-/// another thread. Each act must be acceptable in its place, judged by the open stays alone: a
-/// command and a leave name an open stay; for an admitted row no open stay has its name, one more
-/// stay may be open, and its blocks are free besides those reserved for the open stays.
+/// threads, the caller's included. There are at most as many threads as workers in the core, and no
+/// more than games, if there are several. One thread runs acts that admit or dismiss games, and the
+/// commands of a single game without moves. `gate` gets the number of the thread. Each act must be
+/// acceptable in its place, judged by the open stays alone: a command and a leave name an open
+/// stay; for an admitted row no open stay has its name, one more stay may be open, and its blocks
+/// are free besides those reserved for the open stays.
 pub fn run<const CAP: usize, R: Threads + Wait + Sync, G: Gate>(
     rt: &R,
     alloc: Global,

@@ -1,18 +1,17 @@
-//! The state that the threads of a run share: the core, and the progress of the run.
+//! The state that the threads of an executor share: the core, and the progress of the run.
 ghost use Rattle.std.specs.Prelude.{◌≡◌, Some, None, IfErr, OnOk};
 ghost use Rattle.bs_workers.specs.inner.Faults.{kept_fault};
 
-use crate::act::HeldCommand;
 use crate::fault::Run;
-use crate::worker::{Job, MOST_PARTS, Worker};
+use crate::worker::{Job, Ran, Worker};
+use bs_fiber::Handles;
 use bs_sched::{Core, Taken};
 
 /// What a thread does once it has released the lock.
-#[derive(Clone, Copy, PartialEq, Eq)]
-pub(crate) enum Next {
-    /// Runs the jobs that it took. If `wakes`, it first wakes the waiting threads, because it may
-    /// have left jobs for them.
-    Work { wakes: bool },
+#[derive(Drop)]
+pub(crate) enum Next<const CAP: usize> {
+    /// Runs the job that it took.
+    Work(Job<CAP>),
     /// Waits: no job is ready, but one may become ready.
     Wait,
     /// Ends: there will be no more jobs.
@@ -23,9 +22,7 @@ pub(crate) enum Next {
 #[derive(Drop)]
 pub(crate) struct State<const CAP: usize> {
     core: Core<CAP>,
-    /// The number of threads that wait for a job.
-    pub(crate) waiting: usize,
-    /// Whether all acts are made.
+    /// Whether all commands are queued.
     pub(crate) is_closed: bool,
     /// Why the run was stopped.
     fault: Option<Run>,
@@ -35,7 +32,6 @@ impl<const CAP: usize> State<CAP> {
     pub(crate) fn new(core: Core<CAP>) -> Self {
         State {
             core,
-            waiting: 0,
             is_closed: false,
             fault: None,
         }
@@ -50,48 +46,44 @@ impl<const CAP: usize> State<CAP> {
     }
 
     /// Stops the run, after which there is no job.
-    fn end(&mut self, fault: Run) -> Next {
+    fn end(&mut self, fault: Run) -> Next<CAP> {
         self.fail(fault);
         Next::End
     }
 
-    /// Queues the command for a game that is open.
-    fn hand(&mut self, held: HeldCommand) {
-        let HeldCommand { stay, command } = held;
-        if stay >= self.core.rows() || !self.core.is_open(stay) {
+    /// Queues the command for the game of row 0, if that is open.
+    fn hand(&mut self, command: Handles) {
+        if self.core.rows() == 0 || !self.core.is_open(0) {
             self.fail(Run::Broken);
-        } else if self.core.hand_handles(stay, command).is_err() {
+        } else if self.core.hand_handles(0, command).is_err() {
             self.fail(Run::Memory);
         }
     }
 
     /// Queues the commands in order and leaves the list empty. Returns false if the run is stopped.
-    pub(crate) fn submit(&mut self, commands: &mut Vec<HeldCommand>) -> bool {
-        for held in commands.drain(..) {
+    pub(crate) fn submit(&mut self, commands: &mut Vec<Handles>) -> bool {
+        for command in commands.drain(..) {
             if self.fault.is_none() {
-                self.hand(held);
+                self.hand(command);
             }
         }
         self.fault.is_none()
     }
 
-    /// Completes all results of the worker.
-    fn complete_all(&mut self, worker: &mut Worker<CAP>) {
-        for parts in worker.moves.drain(..) {
-            if self.core.put_parts(parts).is_err() {
-                self.fail(Run::Broken);
-            }
-        }
-        for done in worker.done.drain(..) {
-            let number = done.ticket().worker() as usize;
-            if self.core.put(number, done).is_err() {
-                self.fail(Run::Broken);
-            }
+    /// Completes the result of the worker's last job, if there is any.
+    fn complete(&mut self, worker: &mut Worker<CAP>) {
+        let is_complete = match worker.ran.take() {
+            Some(Ran::Job(done)) => self.core.put(worker.number, done).is_ok(),
+            Some(Ran::Move(parts)) => self.core.put_parts(parts).is_ok(),
+            None => true,
+        };
+        if !is_complete {
+            self.fail(Run::Broken);
         }
     }
 
     /// What a thread does next when no job is ready.
-    fn without_job(&self) -> Next {
+    fn without_job(&self) -> Next<CAP> {
         if self.is_closed && self.core.is_quiet() {
             Next::End
         } else {
@@ -99,73 +91,35 @@ impl<const CAP: usize> State<CAP> {
         }
     }
 
-    /// Takes a job for the core's worker of that number. Returns true for a part of a move that has
-    /// later parts, which the number can take too. After any other job it would go on to another
-    /// game, whose data would move to this thread's processor and back.
-    fn take_job(&mut self, worker: &mut Worker<CAP>, number: usize) -> Result<bool, Next> {
-        if number > self.core.workers() {
-            return Err(self.end(Run::Broken));
+    /// Takes a job for the worker.
+    fn take(&mut self, worker: &Worker<CAP>) -> Next<CAP> {
+        if worker.number > self.core.workers() {
+            return self.end(Run::Broken);
         }
-        let job = match self.core.take(worker.alloc, number) {
+        let job = match self.core.take(worker.alloc, worker.number) {
             Ok(Taken::Job(ticket)) => Job { ticket, key: None },
             Ok(Taken::Part(ticket, key)) => Job {
                 ticket,
                 key: Some(key),
             },
-            Ok(Taken::Nothing) => return Err(self.without_job()),
-            Ok(Taken::Failed) => return Err(Next::End),
-            Ok(Taken::Busy) => return Err(self.end(Run::Broken)),
-            Err(_) => return Err(self.end(Run::Memory)),
+            Ok(Taken::Nothing) => return self.without_job(),
+            Ok(Taken::Failed) => return Next::End,
+            Ok(Taken::Busy) => return self.end(Run::Broken),
+            Err(_) => return self.end(Run::Memory),
         };
-        let goes_on = job.has_later_parts();
-        match worker.jobs.push(job) {
-            Ok(()) => Ok(goes_on),
-            Err(_) => Err(self.end(Run::Memory)),
-        }
+        Next::Work(job)
     }
 
-    /// Takes a batch of jobs for the worker, whose results gave work to `games` games. Each of its
-    /// numbers takes a Begin, a Join, or parts of one move. While other threads wait,
-    /// `games / (waiting + 1)` of its numbers take one job each, at least one number and at most
-    /// all. A worker with a single number takes one job.
-    fn take_batch(&mut self, worker: &mut Worker<CAP>, games: usize) -> Result<(), Next> {
-        let all = worker.numbers.max(1);
-        let (numbers, most) = if self.waiting > 0 {
-            let share = games / self.waiting.saturating_add(1);
-            (share.clamp(1, all), 1)
-        } else if all > 1 {
-            (all, MOST_PARTS)
-        } else {
-            (1, 1)
-        };
-        for place in 0..numbers {
-            for _ in 0..most {
-                if !self.take_job(worker, worker.first.saturating_add(place))? {
-                    break;
-                }
-            }
-        }
-        Ok(())
-    }
-
-    /// Records the worker's fault, completes its results, and takes its next batch of jobs. Results
-    /// of a single game wake nobody: a wake-up takes longer than the parts of a move.
-    pub(crate) fn complete_and_take(&mut self, worker: &mut Worker<CAP>) -> Next {
+    /// Records the worker's fault, completes the result of its last job, and takes its next job.
+    pub(crate) fn complete_and_take(&mut self, worker: &mut Worker<CAP>) -> Next<CAP> {
         if let Some(fault) = worker.fault {
             self.fail(fault);
         }
-        let games = worker.count_results();
-        self.complete_all(worker);
+        self.complete(worker);
         if self.fault.is_some() {
             return Next::End;
         }
-        match self.take_batch(worker, games) {
-            Ok(()) => Next::Work {
-                wakes: self.waiting > 0 && games > 1,
-            },
-            Err(_) if !worker.jobs.is_empty() => Next::Work { wakes: false },
-            Err(next) => next,
-        }
+        self.take(worker)
     }
 
     /// Returns the core, or why the run was stopped.

@@ -8,13 +8,23 @@ use Rattle.bs_workers.specs.declared.act.Act.TheVariants as act
 use Rattle.bs_workers.specs.Acts.{command_in}
 use Rattle.bs_workers.specs.Run.{acts_of}
 
+-- the row that the act queues a command for
+abbrev pub row_in : Act → Option ℕ
+row_in (act.Hand stay command) = Some stay
+row_in (act.Admit row) = None
+row_in (act.Leave stay) = None
+
+-- each act queues a command, and these are the rows, in order
+abbrev pub HaveRows : List Act → List ℕ → Type 0
+HaveRows acts order = map row_in acts ≡ map Some order
+
 -- the core of that row: first the acts' commands for the row were queued, then come jobs
-abbrev pub IsPlayed : List Act → ℕ → CoreView → Type 0
-IsPlayed acts row = IsQueuedFirst (filter_map (command_in row) acts)
+abbrev pub IsPlayed : List Act → List ℕ → ℕ → CoreView → Type 0
+IsPlayed acts order row core = HaveRows acts order → IsQueuedFirst (filter_map (command_in row) acts) core
 
 -- there is the core of each row, in order
-abbrev pub ArePlayed : List Act → List CoreView → Type 0
-ArePlayed acts cores = (row : ℕ) → row < length cores → IsPlayed acts row (core_at cores row)
+abbrev pub ArePlayed : List Act → List ℕ → List CoreView → Type 0
+ArePlayed acts order cores = (row : ℕ) → row < length cores → IsPlayed acts order row (core_at cores row)
 
 -- The commands of all rows.
 
@@ -35,6 +45,7 @@ QueuesIn rows row (act.Leave stay) = ⊥
 
 -- each act queues a command for one of `rows` rows, and these are the rows, in order
 pub record AreQueuedIn (rows : ℕ) (acts : List Act) (order : List ℕ) : Type 0 where
+  pub have : HaveRows acts order
   pub ordered : IsOrderOf (hands_of acts) order
   pub within : All (λ hand. hand.row < rows) (hands_of acts)
   pub acted : acts_of (map hand_event (hands_of acts)) ≡ acts

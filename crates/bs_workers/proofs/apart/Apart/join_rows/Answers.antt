@@ -5,14 +5,14 @@ use Rattle.std.proofs.lemmas.List.Elements.{All-append, All-pop}
 use Rattle.bs_workers.specs.declared.apart.Lone.{Lone}
 use Rattle.bs_workers.specs.declared.fault.Run.{Run}
 use Rattle.bs_workers.specs.inner.Apart.{IsPlayed}
-use Rattle.bs_workers.proofs.apart.Apart.join_groups.Goals as goal
-use Rattle.bs_workers.proofs.apart.Apart.join_groups.Goals.{in-Some-Ok+in_ok-append_lones-in-Some-Ok, in-Some-Err, in-None}
+use Rattle.bs_workers.proofs.apart.Apart.join_rows.Goals as goal
+use Rattle.bs_workers.proofs.apart.Apart.join_rows.Goals.{in-Some-Ok+in_ok-append_lones-in-Some-Ok, in-Some-Err, in-None}
 
 pub loop-preserved : goal.loop-preserved
 loop-preserved g c =
-    let P : Lone g.row.CAP → Type 0 = λ lone. IsPlayed c.args.self.now.acts.now lone.row lone.core in
+    let P : Lone g.row.CAP → Type 0 = λ lone. IsPlayed c.args.self.now.acts.now c.args.self.now.order.now lone.row lone.core in
     let Q : Result (Vec (Lone g.row.CAP) Global) Run → Type 0 = λ group. IfOk group (λ ran. All P ran.items) in
-    let popped = All-pop Q c.loop.groups.items c.pop.new.self.items c.pop.result c.pop.ensures.items c.loop.invariant.0 in (
+    let popped = All-pop Q c.loop.rows.items c.pop.new.self.items c.pop.result c.pop.ensures.items c.loop.invariant.0 in (
       popped.0,
       elim c.match-pop.branch [
         | in-Some-Ok+in_ok-append_lones-in-Some-Ok w ↦
