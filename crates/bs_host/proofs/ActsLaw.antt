@@ -20,8 +20,7 @@ use Rattle.bs_workers.specs.Acts.{are_acceptable, is_acceptable, opened, rows_ad
 use Rattle.bs_workers.specs.declared.act.Act.TheVariants as act
 use Rattle.bs_host.specs.File.{pieces_of, later_pieces, rows_of, version_of}
 use Rattle.bs_host.specs.declared.route.Route.{Route}
-use Rattle.bs_registry.specs.OpenStays.{OpenStayList}
-use Rattle.bs_registry.specs.inner.OpenStays.{open_stays_of}
+use Rattle.bs_registry.specs.OpenStays.{OpenStayList, open_stays_of}
 use Rattle.bs_host.specs.inner.OpenStays.{open_stays_then, route_by, routes_by_open_stays, rows_by_open_stays, rows_in_route}
 use Rattle.bs_host.specs.inner.Laws.{ActsLaw}
 use Rattle.bs_host.specs.Routing.{act_in, acts_in, admit_refusal, admit_route, registry_behind, registry_then, command_to, commands_to, hand_route, capacity_of, leave_route, next_registry, route_at, route_of, routes_from, stays_behind}

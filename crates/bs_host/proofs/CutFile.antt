@@ -19,8 +19,7 @@ use Rattle.bs_host.specs.Cut.{cut_of, cut_refusal_of, cut_refusal_of_plan, lone_
 use Rattle.bs_host.specs.inner.Cut.{behind_feeds}
 use Rattle.bs_host.specs.File.{pieces_of, first_piece, later_pieces, plan_of, rows_in, version_in, version_of}
 use Rattle.bs_host.specs.inner.File.{pieces_after}
-use Rattle.bs_registry.specs.OpenStays.{OpenStayList}
-use Rattle.bs_registry.specs.inner.OpenStays.{open_stays_of}
+use Rattle.bs_registry.specs.OpenStays.{OpenStayList, open_stays_of}
 use Rattle.bs_host.specs.inner.OpenStays.{open_stays_then, own_by_open_stays, route_by}
 use Rattle.bs_host.specs.Routing.{command_to, capacity_of, stays_behind, stays_of}
 use Rattle.bs_host.proofs.CutLines.{joined_behind}

@@ -13,8 +13,7 @@ use Rattle.bs_workers.specs.declared.act.Act.TheVariants as act
 use Rattle.bs_host.specs.declared.route.Route.{Route}
 use Rattle.bs_host.specs.declared.route.Route.TheVariants as route
 use Rattle.bs_host.specs.Cut.{nth_from, row_at}
-use Rattle.bs_registry.specs.OpenStays.{OpenStayList}
-use Rattle.bs_registry.specs.inner.OpenStays.{open_stays_of}
+use Rattle.bs_registry.specs.OpenStays.{OpenStayList, open_stays_of}
 use Rattle.bs_host.specs.inner.OpenStays.{open_stays_then, route_by, rows_by_open_stays, rows_in_route}
 use Rattle.bs_host.specs.Routing.{stays_behind}
 use Rattle.bs_host.proofs.ActsLaw.{stays_walked}

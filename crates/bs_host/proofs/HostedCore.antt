@@ -1,7 +1,6 @@
 -- A core from its opening to its text.
-use Rattle.std.proofs.Common.{◌≡◌, ℕ, suc, ◌+◌, ◌*◌, ◌<◌, ◌≤◌, List, [], ◌∷◌, ◌++◌, None, Some, drop, length, refl, sym, ap, subst, ◌∙◌, arith, append-nil, append_assoc}
+use Rattle.std.proofs.Common.{◌≡◌, ℕ, suc, ◌+◌, ◌<◌, ◌≤◌, List, [], ◌∷◌, ◌++◌, None, Some, drop, length, refl, sym, ap, subst, ◌∙◌, arith, append-nil, append_assoc}
 use Rattle.std.proofs.Math.ListN.{get_or-map}
-use Rattle.std.proofs.Math.Nat.{mul-le-mul}
 use Rattle.std.specs.Prelude.{Ok}
 use Rattle.std.specs.List.{enumerate_from, filter_map, flat_map}
 use Rattle.std.proofs.lemmas.Bool.{lt-ltb, le-ltb, cond-true, cond-false}
@@ -55,10 +54,6 @@ is_fresh capacity blocks workers rows core is =
     let games : core.games.rows ≡ rows = ap (λ core. core.games.rows) is in
     is ∙ ap (λ many. opened_core capacity many workers rows) (sym many) ∙ ap (λ hands. opened_core capacity (size core.games.storage.pool) hands rows) (sym hands)
     ∙ ap (λ games. opened_core capacity (size core.games.storage.pool) core.games.workers games) (sym games)
-
--- the workers of all threads are within a core's limit
-pub few_workers : (threads each : ℕ) → threads ≤ 1024 → each ≤ 8 → threads * each ≤ 8192
-few_workers threads each t e = mul-le-mul t e
 
 pub hosts_lines : (capacity blocks workers : ℕ) (rows stays : List GameRow) (routes : List (ℕ × Route)) (acts : List Act) (old new : CoreView)
     → old ≡ opened_core capacity blocks workers rows → stays ≡ rows ++ rows_admitted acts → acts ≡ acts_in routes

@@ -32,8 +32,7 @@ use Rattle.bs_host.specs.inner.LiveHost.{answered_by, final_in, finals_of, host_
 use Rattle.bs_registry.specs.declared.registry.Listed.{Listed}
 use Rattle.bs_registry.specs.Registry.{Listing, is_numbered, listing_of, rows_open, seen}
 use Rattle.bs_host.specs.inner.Parsed.{parsed_line, route_parsed}
-use Rattle.bs_registry.specs.OpenStays.{open_from, open_of}
-use Rattle.bs_registry.specs.inner.OpenStays.{open_stays_of}
+use Rattle.bs_registry.specs.OpenStays.{open_from, open_of, open_stays_of}
 use Rattle.bs_host.specs.inner.OpenStays.{route_by}
 use Rattle.bs_host.specs.Routing.{act_in, acts_in, capacity_of, next_registry, registry_behind, registry_then, route_at, route_of, routes_from}
 use Rattle.bs_host.proofs.ActsLaw.{IsAcceptable, route_acceptable}
@@ -41,7 +40,8 @@ use Rattle.bs_host.proofs.LiveLines.{given_append}
 use Rattle.bs_host.proofs.LiveTexts.{rows_left}
 use Rattle.bs_registry.proofs.OpenStays.{open_law}
 use Rattle.bs_host.proofs.ParsedLines.{route_of_parsed}
-use Rattle.bs_host.proofs.OpenStayRoutes.{open_stays_with, rows_are_open, same_route}
+use Rattle.bs_registry.proofs.Planned.{rows_are_open}
+use Rattle.bs_host.proofs.OpenStayRoutes.{open_stays_with, same_route}
 
 -- a stay that was given its commands among these acts
 abbrev stay_behind : List Act → ℕ × GameRow → Listed LiveStay

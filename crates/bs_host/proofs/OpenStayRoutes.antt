@@ -17,9 +17,8 @@ use Rattle.bs_registry.specs.Stays.{Capacity, Stay, closed_stay, open_stay, stay
 use Rattle.bs_workers.specs.Acts.{opened}
 use Rattle.bs_workers.specs.declared.act.Act.TheVariants as act
 use Rattle.bs_host.specs.declared.route.Route.{Route}
-use Rattle.bs_registry.specs.OpenStays.{open_from, open_of, OpenStayList}
-use Rattle.bs_registry.specs.OpenStays.{bears, found_in}
-use Rattle.bs_registry.specs.inner.OpenStays.{open_stays_of, refusal_by}
+use Rattle.bs_registry.specs.OpenStays.{OpenStayList, bears, found_in, open_from, open_of, open_stays_of}
+use Rattle.bs_registry.specs.inner.OpenStays.{refusal_by}
 use Rattle.bs_host.specs.inner.OpenStays.{may_follow, own_by_open_stays, open_stays_then, route_by, routes_by_open_stays}
 use Rattle.bs_host.specs.Cut.{is_own_line, own_lines_in}
 use Rattle.bs_host.specs.inner.Laws.{OpenStayLinesLaw, OpenStaysLaw}
@@ -95,25 +94,7 @@ open_stay_lines_law capacity version stay registry (text ∷ lines) =
     ∙ ap (if_own (is_some (command_to stay r)) text) rest
     ∙ sym (same_if (is_some (command_to stay r)) text (own_by_open_stays capacity version (open_stays_then (open_stays_of registry) r) stay lines))
 
--- the plan's rows are open at first
-
-pub rows_are_open : (first : ℕ) (rows : List GameRow) → open_from first (opened rows) ≡ enumerate_from first rows
-rows_are_open first [] = refl
-rows_are_open first (row ∷ rows) = ap (λ rest. (first, row) ∷ rest) (rows_are_open (first + 1) rows)
-
 module _ {X : Type 0} where
-  -- the open rows of a plan
-
-  pub listed_rows : (kept : GameRow → X) (rows all : List GameRow) (stays : List (Listed X)) → all ≡ rows → stays ≡ listed_from kept 0 all
-      → rows_open stays ≡ enumerate_from 0 rows
-  listed_rows kept rows all stays same are = ap rows_open are ∙ rows_listed kept 0 all ∙ ap (enumerate_from 0) same
-
-  pub plan_open : (rows : List GameRow) (stays : List (Listed X)) → rows_open stays ≡ enumerate_from 0 rows
-      → seen (listing_of (length rows) stays) ≡ open_stays_of (opened rows)
-  plan_open rows stays are =
-      ap (open_stays_with (length rows)) (are ∙ sym (rows_are_open 0 rows))
-      ∙ ap (λ n. open_stays_with n (open_of (opened rows))) (sym (length-map rows open_stay))
-
   -- one more stay, and one stay less
 
   pub seen_pushed : (row : GameRow) (kept : X) (stays : Listing X) → seen (with_stay row kept stays) ≡ open_stays_then (seen stays) (route.Act (act.Admit row))

@@ -15,8 +15,7 @@ use Rattle.bs_workers.specs.Acts.{opened}
 use Rattle.bs_host.specs.declared.parse.ParsedLine.{ParsedLine}
 use Rattle.bs_host.specs.declared.route.Requests.{Requests}
 use Rattle.bs_host.specs.declared.route.Route.{Route}
-use Rattle.bs_registry.specs.OpenStays.{OpenStayList}
-use Rattle.bs_registry.specs.inner.OpenStays.{open_stays_of}
+use Rattle.bs_registry.specs.OpenStays.{OpenStayList, open_stays_of}
 use Rattle.bs_host.specs.inner.OpenStays.{open_stays_then, route_by, routes_by_open_stays}
 use Rattle.bs_host.specs.inner.Parsed.{parsed_line, parsed_lines, route_parsed, routes_parsed}
 use Rattle.bs_host.specs.Routing.{act_in, acts_in, numbered_stray, routes_from, strays_in}

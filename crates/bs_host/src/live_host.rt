@@ -55,7 +55,7 @@ fn push_stray(
 impl LiveHost {
     /// Opens the plan in the first line of a file. Checks the plan and the number of blocks, and
     /// returns the first fault.
-    #[tactic(auto, using(crate::proofs::OpenStayRoutes::listed_rows))]
+    #[tactic(auto, using(bs_registry::proofs::Planned::listed_rows))]
     pub(crate) fn open(alloc: Global, first: &[u8], blocks: usize) -> Result<LiveHost, LiveFault>
         ensures opened { IfOk result (HasOpened blocks first.now) }
         ensures fault { IfErr result (IsLiveRefusal (refusal_of_plan blocks (plan_line_of first.now))) }

@@ -1,8 +1,8 @@
 //! Routes the parsed lines of a file: to the core as acts, to the stray lines, or nowhere.
 ghost use Rattle.std.specs.Prelude.{◌≡◌, ◌++◌, true, IfOk, OnOk, option_to_list};
 ghost use Rattle.bs_workers.specs.Acts.{opened};
-ghost use Rattle.bs_registry.specs.OpenStays.{found_in};
-ghost use Rattle.bs_registry.specs.inner.OpenStays.{open_stays_of, refusal_by};
+ghost use Rattle.bs_registry.specs.OpenStays.{found_in, open_stays_of};
+ghost use Rattle.bs_registry.specs.inner.OpenStays.{refusal_by};
 ghost use Rattle.bs_registry.specs.Registry.{rows_in, seen};
 ghost use Rattle.bs_host.specs.inner.OpenStays.{may_follow};
 ghost use Rattle.bs_host.specs.inner.Parsed.{route_parsed, routes_parsed};
@@ -10,12 +10,12 @@ ghost use Rattle.bs_host.specs.Routing.{act_in, admit_route, capacity_of, hand_r
 ghost use Rattle.bs_host.specs.inner.Routing.{IsRouted};
 
 use crate::limits::BLOCK_BYTES;
-use crate::open_rows::{open_rows, route_row};
+use crate::open_rows::route_row;
 use crate::parse::ParsedLine;
 use bs_board::{Id, Row, Rows};
 use bs_fiber::SharedCommand;
 use bs_json::Stray;
-use bs_registry::{Refusal, Registry, blocks_of};
+use bs_registry::{Refusal, Registry, blocks_of, open_rows};
 use bs_workers::Act;
 use std::alloc::{AllocError, Global};
 

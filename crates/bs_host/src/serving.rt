@@ -21,7 +21,7 @@ use crate::render::{PlayedFile, write_core};
 use crate::route::{Requests, route_lines};
 use bs_board::Plan;
 use bs_json::read_plan;
-use bs_sched::{Core, MOST_WORKERS};
+use bs_sched::Core;
 use bs_workers::{Gate, run};
 use std::alloc::{AllocError, Global};
 use std::io::Write;
@@ -30,25 +30,6 @@ use std::thread::Threads;
 
 /// The largest number of threads. If more are requested, this many are used.
 const MOST_THREADS: usize = 1_024;
-
-/// The largest number of workers of a thread. With 8 a thread spends little of its time at the
-/// lock; with 16 its critical sections are so long that others use up their polls and sleep.
-const MOST_WORKERS_OF_THREAD: usize = 8;
-
-/// The number of workers of a core for that plan. Each thread has as many as the plan has games,
-/// divided by the number of threads, but at least 1 and at most 8. A single thread has one.
-#[tactic(auto, using(crate::proofs::HostedCore::few_workers))]
-fn count_workers(plan: &Plan, threads: usize) -> usize
-    requires { threads ≤ MOST_THREADS }
-    ensures { result ≤ MOST_WORKERS }
-{
-    if threads <= 1 {
-        return threads;
-    }
-    let games = plan.rows.as_slice().len();
-    let of_thread = (games / threads).clamp(1, MOST_WORKERS_OF_THREAD);
-    threads * of_thread
-}
 
 /// Opens a file: returns a core for its plan, the plan, and the text after the plan, if there is
 /// any. Checks the file's length, its plan and the number of blocks, and returns the first fault.
@@ -68,8 +49,7 @@ fn open_file(
     }
     let (first, rest) = split_line(input);
     let plan = read_plan(alloc, first)?;
-    let workers = count_workers(&plan, threads);
-    let core = Core::open(alloc, plan.copy(alloc)?, blocks, workers)?;
+    let core = Core::open(alloc, plan.copy(alloc)?, blocks, threads)?;
     Ok((core, plan, rest))
 }
 

@@ -6,7 +6,7 @@ use Rattle.bs_registry.specs.Stays.{Capacity, Stay}
 use Rattle.bs_workers.specs.Acts.{are_acceptable, command_in, opened, rows_admitted}
 use Rattle.bs_host.specs.Cut.{own_lines_in}
 use Rattle.bs_host.specs.File.{rows_of}
-use Rattle.bs_registry.specs.inner.OpenStays.{open_stays_of}
+use Rattle.bs_registry.specs.OpenStays.{open_stays_of}
 use Rattle.bs_host.specs.inner.OpenStays.{own_by_open_stays, routes_by_open_stays}
 use Rattle.bs_host.specs.Routing.{commands_of, capacity_of, routes_from, stays_of}
 use Rattle.bs_host.specs.inner.Routing.{acts_of}

@@ -36,10 +36,6 @@ open_stays_then open_stays (route.Act (act.Leave stay)) =
 open_stays_then open_stays (route.Stray kind) = open_stays
 open_stays_then open_stays route.Nowhere = open_stays
 
--- nothing is kept for an open row
-abbrev pub nothing_kept : GameRow → Unit {0}
-nothing_kept row = tt
-
 -- the row that a route admits has a name that no open stay has, and a number
 abbrev pub may_follow : OpenStayList → Route → Bool
 may_follow open_stays (route.Act (act.Hand stay command)) = true

@@ -3,7 +3,7 @@ use Rattle.std.specs.Prelude.{option_copied}
 use Rattle.bs_workers.specs.Acts.{opened}
 use Rattle.bs_host.specs.inner.Cut.{behind_feeds}
 use Rattle.bs_host.specs.inner.File.{pieces_after}
-use Rattle.bs_registry.specs.inner.OpenStays.{open_stays_of}
+use Rattle.bs_registry.specs.OpenStays.{open_stays_of}
 use Rattle.bs_host.specs.inner.OpenStays.{own_by_open_stays}
 use Rattle.bs_registry.specs.Registry.{seen}
 use Rattle.bs_host.specs.Routing.{capacity_of}

@@ -1,5 +1,5 @@
 use Rattle.bs_workers.specs.Acts.{opened}
-use Rattle.bs_registry.specs.inner.OpenStays.{open_stays_of}
+use Rattle.bs_registry.specs.OpenStays.{open_stays_of}
 use Rattle.bs_host.specs.inner.Parsed.{routes_parsed}
 use Rattle.bs_registry.specs.Registry.{seen}
 use Rattle.bs_host.specs.Routing.{capacity_of}

@@ -24,5 +24,5 @@ returns-in_err-core-clause-fault c =
 pub returns-clause-opened : goal.returns-clause-opened
 returns-clause-opened c =
     opened c.args.blocks c.args.input.now c.split_line.result.0.now (pieces_after (option_copied c.split_line.result.1)) c.in_ok-plan.plan c.in_ok-copy.field-0
-    c.count_workers-workers.result c.in_ok-core.core (omega arith) c.split_line.ensures.pieces c.in_ok-plan.ensures c.in_ok-copy.ensures c.in_ok-core.ensures.core
+    c.args.threads c.in_ok-core.core (omega arith) c.split_line.ensures.pieces c.in_ok-plan.ensures c.in_ok-copy.ensures c.in_ok-core.ensures.core
     c.in_ok-core.ensures.room
