@@ -8,6 +8,7 @@ use bs_board::{
     Board, Cells, Command, Id, KeptBoard, Move, Moves, Plan, Point, Record, Reply, Snake, decode,
     decode_snake, encode, is_legal,
 };
+use bs_registry::open_rows;
 use std::alloc::Global;
 
 pub fn id_of(alloc: Global) -> Result<Id, Fault> {
@@ -220,5 +221,19 @@ impl Question for CopyPlan {
 
     fn call(alloc: Global, on: &Plan) -> Result<Plan, Fault> {
         Ok(on.copy(alloc)?)
+    }
+}
+
+/// `open_rows`: the number of rows made, and of open stays.
+pub struct OpenRows;
+
+impl Question for OpenRows {
+    type On = Plan;
+
+    type Answer = (usize, usize);
+
+    fn call(alloc: Global, on: &Plan) -> Result<(usize, usize), Fault> {
+        let stays = open_rows(alloc, &on.rows)?;
+        Ok((stays.made(), stays.as_slice().len()))
     }
 }

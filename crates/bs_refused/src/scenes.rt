@@ -4,7 +4,7 @@ use crate::assembly::{IntoBlocks, PutTogether, play_from_blocks};
 use crate::blocks::{NewBlock, NewHeap, OpenPool, play_grow_index, play_reserve};
 use crate::boards::{
     CopyBoard, CopyCommand, CopyId, CopyPlan, CopyReply, DecodeSnake, Decoding, Encoding, Keep,
-    KeepBytes, MakeId, PushCells, PushMoves, Unkeep, id_of, new_of, orders_of,
+    KeepBytes, MakeId, OpenRows, PushCells, PushMoves, Unkeep, id_of, new_of, orders_of,
 };
 use crate::cores::{OpenCore, OpenTally, play_core, play_stays};
 use crate::games::{Answered, Joined, first_new, first_turn, new_while_running, of_running};
@@ -174,6 +174,12 @@ fn push_moves(rt: HostRuntime) -> Result<(), Fail> {
 fn copy_plan(rt: HostRuntime) -> Result<(), Fail> {
     let alloc = rt.alloc();
     ask::<CopyPlan>(page_of(&rt), plan_of(alloc, &[LONG_NAME])?)
+}
+
+#[test]
+fn open_rows(rt: HostRuntime) -> Result<(), Fail> {
+    let alloc = rt.alloc();
+    ask::<OpenRows>(page_of(&rt), plan_of(alloc, &[LONG_NAME])?)
 }
 
 #[test]

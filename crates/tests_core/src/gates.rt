@@ -1,11 +1,14 @@
 //! The `Gate` of a run: for which jobs it is consulted, and how a run ends if it refuses one.
 use crate::coming::coming_and_going;
-use crate::runs::{TWO, commands, run_with};
+use crate::runs::{TWO, commands, push, run_with};
+use bs_board::Command;
 use bs_fiber::{JobKind, JobName};
-use bs_samples::{holds, same};
+use bs_samples::{holds, new_of_three, same};
 use bs_sched::Event;
 use bs_workers::{Act, Gate, Run};
 use std::alloc::Global;
+use std::sync::atomic::AtomicUsize;
+use std::sync::atomic::Ordering::SeqCst;
 use std::sync::{Mutex, Wait};
 use std::test::Fail;
 use std::thread::Threads;
@@ -80,18 +83,13 @@ impl Gate for Noting {
 }
 
 /// Checks that each job that was taken, by the journal, was recorded once, with the number of the
-/// thread that has the worker's number; and no other job.
-fn check_noted(
-    journal: &[Event],
-    mut noted: Vec<(usize, JobName)>,
-    numbers: usize,
-) -> Result<(), Fail> {
+/// worker as that of the thread; and no other job.
+fn check_noted(journal: &[Event], mut noted: Vec<(usize, JobName)>) -> Result<(), Fail> {
     for event in journal {
         if let Event::Take(worker, job) = event {
-            let thread = (*worker as usize).checked_div(numbers).ok_or("numbers")?;
             let place = noted
                 .iter()
-                .position(|note| *note == (thread, *job))
+                .position(|note| *note == (*worker as usize, *job))
                 .ok_or("a job that was not noted")?;
             noted.swap_remove(place);
         }
@@ -99,16 +97,15 @@ fn check_noted(
     same("jobs too many", noted.len(), 0)
 }
 
-/// The `Gate` is consulted once for each job, by the thread that takes it. Two games have at most
-/// two threads, which share all worker numbers.
+/// The `Gate` is consulted once for each job, by the thread that takes it. Threads have the first
+/// worker numbers, however many there are.
 #[test]
 fn the_gate_is_asked_about_each_job(rt: HostRuntime) -> Result<(), Fail> {
     let acts = commands(rt.alloc())?;
     for (threads, workers) in [(1usize, 1usize), (2, 2), (4, 4), (2, 8)] {
         let gate = Noting::new(rt.alloc());
         let core = run_with(&rt, &TWO, acts.as_slice(), (threads, workers), &gate)??;
-        let numbers = workers.checked_div(threads.min(2)).ok_or("threads")?;
-        check_noted(core.journal(), gate.noted.into_inner(), numbers)?;
+        check_noted(core.journal(), gate.noted.into_inner())?;
     }
     Ok(())
 }
@@ -127,4 +124,70 @@ fn one_thread_runs_all_jobs_if_games_leave(rt: HostRuntime) -> Result<(), Fail> 
         holds("jobs of the caller", is_callers)?;
     }
     Ok(())
+}
+
+/// A `new` of three snakes and a `show` for each of the first `games` games.
+fn commands_without_moves(alloc: Global, games: usize) -> Result<Vec<Act>, Fail> {
+    let mut acts = Vec::new(alloc);
+    for game in 0..games {
+        push(alloc, &mut acts, game, new_of_three(alloc)?)?;
+        push(alloc, &mut acts, game, Command::Show)?;
+    }
+    Ok(acts)
+}
+
+/// The commands of a single game without moves have nothing to share: the caller's thread runs
+/// their two jobs, however many threads are requested.
+#[test]
+fn one_thread_runs_a_game_without_moves(rt: HostRuntime) -> Result<(), Fail> {
+    let acts = commands_without_moves(rt.alloc(), 1)?;
+    for threads in [1usize, 2, 4] {
+        let gate = Noting::new(rt.alloc());
+        run_with(
+            &rt,
+            &[("a", 4096)],
+            acts.as_slice(),
+            (threads, threads),
+            &gate,
+        )??;
+        let noted = gate.noted.into_inner();
+        same("jobs", noted.len(), 2)?;
+        let is_callers = noted.iter().all(|note| note.0 == threads);
+        holds("jobs of the caller", is_callers)?;
+    }
+    Ok(())
+}
+
+/// Holds the jobs of the first game until six jobs of other games were asked about.
+#[derive(Drop)]
+struct Holding {
+    others: AtomicUsize,
+}
+
+impl Gate for Holding {
+    fn at(&self, _worker: usize, job: JobName) -> bool {
+        if job.game > 0 {
+            self.others.fetch_add(1, SeqCst);
+            return true;
+        }
+        for _ in 0..1_000_000_000u32 {
+            if self.others.load(SeqCst) >= 6 {
+                return true;
+            }
+        }
+        false
+    }
+}
+
+/// While one of two threads is held in the first of four games, the other one runs the three that
+/// are left, two jobs each.
+#[test]
+fn a_held_game_holds_up_no_other(rt: HostRuntime) -> Result<(), Fail> {
+    let games = [("a", 4096), ("b", 4096), ("c", 4096), ("d", 4096)];
+    let acts = commands_without_moves(rt.alloc(), 4)?;
+    let gate = Holding {
+        others: AtomicUsize::new(0),
+    };
+    run_with(&rt, &games, acts.as_slice(), (2, 2), &gate)??;
+    same("jobs of the others", gate.others.load(SeqCst), 6)
 }

@@ -1,7 +1,7 @@
 //! The registry of open stays, call by call.
 use bs_board::Id;
-use bs_registry::{Refusal, Registry};
-use bs_samples::{row, same};
+use bs_registry::{Refusal, Registry, open_rows};
+use bs_samples::{holds, plan_of, row, same};
 use std::alloc::Global;
 use std::test::Fail;
 
@@ -29,9 +29,9 @@ fn check_admit(
     same(name, admit(alloc, stays, name, 7)?, refusal)
 }
 
-fn check_find(
+fn check_find<T: Drop>(
     alloc: Global,
-    stays: &mut Registry<u8>,
+    stays: &mut Registry<T>,
     name: &str,
     number: Option<usize>,
 ) -> Result<(), Fail> {
@@ -64,6 +64,33 @@ fn a_number_is_given_once(rt: HostRuntime) -> Result<(), Fail> {
     check_find(alloc, &mut stays, "a", Some(1))?;
     same("place", stays.place_of(1), Some(0))?;
     same("place", stays.place_of(0), None)
+}
+
+/// A row that is pushed and undone was never there: the next one gets its number.
+#[test]
+fn an_undone_row_leaves_its_number(rt: HostRuntime) -> Result<(), Fail> {
+    let alloc = rt.alloc();
+    let mut stays = Registry::new(alloc);
+    check_admit(alloc, &mut stays, "a", None)?;
+    check_admit(alloc, &mut stays, "b", None)?;
+    holds("two rows", stays.made() > 1 && stays.as_slice().len() > 1)?;
+    stays.undo_push();
+    same("made", stays.made(), 1)?;
+    check_find(alloc, &mut stays, "b", None)?;
+    check_admit(alloc, &mut stays, "c", None)?;
+    check_find(alloc, &mut stays, "c", Some(1))
+}
+
+/// The rows of a plan are open, with their numbers.
+#[test]
+fn the_rows_of_a_plan_are_open(rt: HostRuntime) -> Result<(), Fail> {
+    let alloc = rt.alloc();
+    let plan = plan_of(alloc, &[("a", 64), ("b", 64)])?;
+    let mut stays = open_rows(alloc, &plan.rows)?;
+    same("made", stays.made(), 2)?;
+    check_find(alloc, &mut stays, "b", Some(1))?;
+    check_find(alloc, &mut stays, "a", Some(0))?;
+    check_find(alloc, &mut stays, "c", None)
 }
 
 #[test]

@@ -87,7 +87,7 @@ fn check_pairs(alloc: Global, core: &Core<CAP>, alone: &str) -> Result<(), Fail>
 /// Each pair of sixteen games is answered as it is alone, also if the number of workers is below
 /// the number of threads, or no multiple of it.
 #[test]
-fn threads_with_batches_give_the_same_replies(rt: HostRuntime) -> Result<(), Fail> {
+fn any_number_of_workers_gives_the_same_replies(rt: HostRuntime) -> Result<(), Fail> {
     let alone = replies_by(&rt, 1)?;
     let acts = commands_of_pairs(rt.alloc())?;
     for (threads, workers) in [
