@@ -32,30 +32,17 @@ fn job_at(row: usize, job: JobName) -> JobName
 }
 
 /// The event with another row, if it is a job's.
-fn job_event(row: usize, event: &Event) -> Option<Event>
+fn job_event(row: usize, event: Event) -> Option<Event>
     requires { row < MOST_STAYS }
-    ensures { result ≡ job_event row event.now }
+    ensures { result ≡ job_event row event }
 {
     match event {
         Event::Hand(_, _) => None,
-        Event::Take(worker, job) => Some(Event::Take(*worker, job_at(row, *job))),
-        Event::Put(worker, job) => Some(Event::Put(*worker, job_at(row, *job))),
+        Event::Take(worker, job) => Some(Event::Take(worker, job_at(row, job))),
+        Event::Put(worker, job) => Some(Event::Put(worker, job_at(row, job))),
         Event::Admit(_) => None,
         Event::Leave(_) => None,
     }
-}
-
-/// Appends the jobs among the events, with another row.
-fn append_jobs(journal: &mut Vec<Event>, row: usize, events: &[Event]) -> Result<(), AllocError>
-    requires { row < MOST_STAYS }
-    ensures { OnOk result (journal.new.items ≡ journal.old.items ++ jobs_at row events.now) }
-{
-    for event in events {
-        if let Some(job) = job_event(row, event) {
-            journal.push(job)?;
-        }
-    }
-    Ok(())
 }
 
 /// The event with another row, if it queues a command.
@@ -115,14 +102,17 @@ impl Left {
         hand_at(row, self.take_first()?)
     }
 
-    /// Appends the jobs that are left, with another row.
-    fn append_jobs(&self, row: usize, journal: &mut Vec<Event>) -> Result<(), AllocError>
+    /// Moves the jobs that are left to the end of a journal, with another row.
+    fn move_jobs(self, row: usize, journal: &mut Vec<Event>) -> Result<(), AllocError>
         requires { row < MOST_STAYS }
-        ensures { OnOk result (journal.new.items ≡ journal.old.items ++ jobs_at row self.now) }
+        ensures { OnOk result (journal.new.items ≡ journal.old.items ++ jobs_at row self) }
     {
-        let (events, more) = self.events.as_slices();
-        append_jobs(journal, row, events)?;
-        append_jobs(journal, row, more)?;
+        let Left { events } = self;
+        for event in events {
+            if let Some(job) = job_event(row, event) {
+                journal.push(job)?;
+            }
+        }
         Ok(())
     }
 }
@@ -167,13 +157,15 @@ fn move_hands(
     Ok(())
 }
 
-/// Appends the jobs of each row's journal.
-fn append_all_jobs(journal: &mut Vec<Event>, lefts: &[Left]) -> Result<(), AllocError>
-    requires { length lefts.now ≤ MOST_STAYS }
-    ensures { OnOk result (journal.new.items ≡ journal.old.items ++ all_jobs 0 lefts.now) }
+/// Moves the jobs of each row's journal to the end of the whole's.
+fn move_all_jobs(lefts: Vec<Left>, journal: &mut Vec<Event>) -> Result<(), AllocError>
+    requires { length lefts.items ≤ MOST_STAYS }
+    ensures { OnOk result (journal.new.items ≡ journal.old.items ++ all_jobs 0 lefts.items) }
 {
-    for row in 0..lefts.len() {
-        lefts[row].append_jobs(row, journal)?;
+    let mut row = 0;
+    for left in lefts {
+        left.move_jobs(row, journal)?;
+        row += 1;
     }
     Ok(())
 }
@@ -194,7 +186,7 @@ fn merge(alloc: Global, mut lefts: Vec<Left>, order: &[u32]) -> Result<Vec<Event
 {
     let mut journal = Vec::with_capacity(alloc, count_events(lefts.as_slice()))?;
     move_hands(&mut lefts, order, &mut journal)?;
-    append_all_jobs(&mut journal, lefts.as_slice())?;
+    move_all_jobs(lefts, &mut journal)?;
     Ok(journal)
 }
 
