@@ -1,20 +1,23 @@
 //! The acts of a run.
 use crate::fault::Run;
-use bs_board::{Command, Row};
+use bs_board::Command;
 use bs_fiber::{Handles, SharedCommand};
+use bs_sched::SharedRow;
 use std::alloc::Global;
 
 /// One act of a run. A row of the plan is named by its number, and admitted rows are numbered after
-/// those.
+/// those. An act has 24 bytes: a run with several threads reads all acts a few times.
 #[derive(Debug, Drop)]
 pub enum Act {
     /// Queues the command for the game of that row.
     Hand(usize, SharedCommand),
     /// Admits a game, in the next row.
-    Admit(Row),
+    Admit(SharedRow),
     /// Dismisses the game of that row.
     Leave(usize),
 }
+
+const _: () = prove!(size_of::<Act>() == 24);
 
 impl Act {
     /// Makes the handles that a core of one row keeps of the act's command. `Broken` for an act

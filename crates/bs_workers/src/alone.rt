@@ -207,7 +207,7 @@ impl<const CAP: usize, R: Wait, G: Gate> Alone<'_, CAP, R, G> {
     {
         match next {
             Act::Hand(stay, command) => self.hand(*stay, Handles::new(command)?),
-            Act::Admit(row) => self.admit(row.copy(self.alloc)?),
+            Act::Admit(row) => self.admit(row.get().copy(self.alloc)?),
             Act::Leave(stay) => {
                 self.answer_all()?;
                 self.leave(*stay)

@@ -70,7 +70,7 @@ fn makes(event: &Event, act: &Act) -> bool
         Event::Put(_, _) => false,
         Event::Admit(row) => match act {
             Act::Hand(_, _) => false,
-            Act::Admit(given) => is_same_row(row.get(), given),
+            Act::Admit(given) => is_same_row(row.get(), given.get()),
             Act::Leave(_) => false,
         },
         Event::Leave(game) => match act {

@@ -4,7 +4,7 @@ use crate::runs::{TWO, push, run_games};
 use bs_board::{Command, Direction};
 use bs_fiber::SharedCommand;
 use bs_samples::{holds, new_of_three, new_solo, row, same, third_goes};
-use bs_sched::Core;
+use bs_sched::{Core, SharedRow};
 use bs_workers::{Act, OpenGate, Run};
 use std::alloc::{AllocError, Global};
 use std::sync::Wait;
@@ -22,7 +22,7 @@ pub(crate) fn coming_and_going(alloc: Global) -> Result<Vec<Act>, Fail> {
 }
 
 fn push_admit(alloc: Global, acts: &mut Vec<Act>, name: &str) -> Result<(), Fail> {
-    acts.push(Act::Admit(row(alloc, name, 64)?))?;
+    acts.push(Act::Admit(SharedRow::new(alloc, row(alloc, name, 64)?)?))?;
     Ok(())
 }
 
