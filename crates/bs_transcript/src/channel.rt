@@ -9,7 +9,7 @@ use std::alloc::{AllocError, Global};
 use std::sync::{Condvar, Mutex, Wait};
 
 /// The number of buffers of a rendering thread.
-const BUFFERS: usize = 6;
+const BUFFERS: usize = 4;
 
 /// The buffers of a rendering thread, except those in use.
 #[derive(Drop)]

@@ -43,11 +43,12 @@ fn write_alone<W: Write>(
 }
 
 /// Writes the games' sections in order, then the lines that belong to no game, each with its number
-/// in the file. First bounds the length of each line, then allocates buffers of 64 KiB and the
-/// greatest of these bounds: one for the calling thread, and six for each thread that renders beside
-/// it. There are at most `threads` threads with the calling one. Allocates nothing and starts no
-/// thread once the first byte is written. If memory runs out the writer is unchanged; if the writer
-/// fails it has the first bytes of the text, as many as the fault says.
+/// in the file. First bounds the length of each line, then allocates buffers with room for the
+/// greatest of these bounds besides: one of 64 KiB for the calling thread, and four of 128 KiB for
+/// each thread that renders beside it. There are at most `threads` threads with the calling one.
+/// Allocates nothing and starts no thread once the first byte is written. If memory runs out the
+/// writer is unchanged; if the writer fails it has the first bytes of the text, as many as the fault
+/// says.
 pub fn write_transcript<R: Threads + Wait + Sync, W: Write>(
     rt: &R,
     alloc: Global,

@@ -22,8 +22,9 @@ use std::io::Write;
 use std::sync::Wait;
 use std::thread::{self, Threads};
 
-/// The room of a buffer besides that for the longest line, in bytes.
-const USUAL_TEXT: usize = 65_536;
+/// The room of a buffer besides that for the longest line, in bytes. With half as much, threads wait
+/// for each other more often.
+const USUAL_TEXT: usize = 131_072;
 
 /// Renders the lines up to that number. Returns false if the channel is closed.
 fn render_share<L: Lines, R: Wait>(
