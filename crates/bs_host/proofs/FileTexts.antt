@@ -1,5 +1,6 @@
 -- A file's plan and its lines, from its first line and the others, to the transcript.
-use Rattle.std.proofs.Common.{◌≡◌, ℕ, ◌<◌, ◌≤◌, true, List, ◌∷◌, ◌++◌, Option, Some, None, Ok, length, sym, subst, ap, ◌∙◌}
+use Rattle.std.proofs.Common.{◌≡◌, ℕ, ◌<◌, ◌≤◌, true, List, ◌∷◌, ◌++◌, Option, Some, None, Result, Ok, Err, length, refl, sym, subst, ap, ◌∙◌}
+use Rattle.std.specs.Prelude.{IfErr}
 use Rattle.std.proofs.lemmas.Bool.{lt-ltb, le-ltb, cond-true, cond-false}
 use Rattle.std.proofs.lemmas.List.{length-replicate}
 use Rattle.bs_board.specs.declared.plans.plan.Plan.{Plan}
@@ -20,13 +21,13 @@ use Rattle.bs_transcript.specs.Written.{Leaves as LeavesOfText}
 use Rattle.bs_transcript.specs.declared.fault.TranscriptFault.{TranscriptFault}
 use Rattle.bs_transcript.specs.declared.fault.TranscriptFault.TheVariants as transcript
 use Rattle.bs_host.specs.declared.fault.Fault.{Fault}
-use Rattle.bs_host.specs.declared.fault.Fault.TheVariants.{TooLong}
+use Rattle.bs_host.specs.declared.fault.Fault.TheVariants.{TooLong, Plan as OfPlan, Memory, Broken, Write}
 use Rattle.bs_host.specs.declared.limits.TheConstants.{BLOCK_BYTES, MOST_FILE_BYTES}
 use Rattle.bs_host.specs.declared.route.Requests.{Requests}
 use Rattle.bs_host.specs.File.{pieces_of, first_piece, later_pieces, plan_of, rows_of}
 use Rattle.bs_host.specs.inner.File.{plan_in}
 use Rattle.bs_host.specs.Hosted.{Hosts}
-use Rattle.bs_host.specs.inner.Hosted.{IsOpened}
+use Rattle.bs_host.specs.inner.Hosted.{IsCoreOf, IsRead}
 use Rattle.bs_host.specs.declared.route.Route.{Route}
 use Rattle.bs_host.specs.Routing.{acts_in, capacity_of, routes_from, routes_of, stays_of, strays_in}
 use Rattle.bs_host.specs.inner.Routing.{IsRouted, acts_of}
@@ -41,48 +42,100 @@ pub refusal_of_long : (blocks : ℕ) (file : List ℕ) → MOST_FILE_BYTES < len
 unfolding refusal_of
 refusal_of_long blocks file long = cond-true _ (Some TooLong) (refusal_of_plan blocks (plan_of file)) (lt-ltb MOST_FILE_BYTES (length file) long)
 
-pub refusal_of_first : (blocks : ℕ) (file first : List ℕ) (rest : List (List ℕ)) → length file ≤ MOST_FILE_BYTES → pieces_of file ≡ first ∷ rest
-    → refusal_of blocks file ≡ refusal_of_plan blocks (plan_line_of first)
+refusal_of_short : (blocks : ℕ) (file : List ℕ) → length file ≤ MOST_FILE_BYTES → refusal_of blocks file ≡ refusal_of_plan blocks (plan_of file)
 unfolding refusal_of
-refusal_of_first blocks file first rest short pieces =
-    cond-false _ (Some TooLong) (refusal_of_plan blocks (plan_of file)) (le-ltb MOST_FILE_BYTES (length file) short)
-    ∙ ap (λ all. refusal_of_plan blocks (plan_line_of (first_piece all))) pieces
+refusal_of_short blocks file short = cond-false _ (Some TooLong) (refusal_of_plan blocks (plan_of file)) (le-ltb MOST_FILE_BYTES (length file) short)
 
-pub refusal_of_read : (blocks : ℕ) (file first : List ℕ) (rest : List (List ℕ)) (plan : Plan) → length file ≤ MOST_FILE_BYTES → pieces_of file ≡ first ∷ rest
-    → plan_line_of first ≡ Ok plan → refusal_of blocks file ≡ refusal_of_plan blocks (Ok plan)
-refusal_of_read blocks file first rest plan short pieces read =
-    refusal_of_first blocks file first rest short pieces ∙ ap (refusal_of_plan blocks) read
+refused_by : (blocks : ℕ) (found : Result Plan PlanFault) (error : PlanFault) → IsPlanFault found error → IsRefusal (refusal_of_plan blocks found) (fault_of error)
+refused_by blocks found fault.Malformed is = ap (refusal_of_plan blocks) is
+refused_by blocks found fault.BadRow is = ap (refusal_of_plan blocks) is
+refused_by blocks found fault.TooMany is = ap (refusal_of_plan blocks) is
+refused_by blocks found fault.Memory is = tt
 
--- a plan, a copy of which was opened
-pub opened : (blocks : ℕ) (file first : List ℕ) (rest : List (List ℕ)) (plan copied : Plan) (workers : ℕ) (core : CoreView) → length file ≤ MOST_FILE_BYTES
-    → pieces_of file ≡ first ∷ rest → plan_line_of first ≡ Ok plan → copied ≡ plan → core ≡ opened_core BLOCK_BYTES blocks workers copied.rows
-    → blocks_of_all BLOCK_BYTES copied.rows ≤ blocks → IsOpened blocks file core plan rest
-opened blocks file first rest plan copied workers core short pieces read same opens room =
-    let is : core ≡ opened_core BLOCK_BYTES blocks workers plan.rows = opens ∙ ap (λ (plan : Plan). opened_core BLOCK_BYTES blocks workers plan.rows) same in
-    let enough : blocks_of_all BLOCK_BYTES plan.rows ≤ blocks = subst (λ (plan : Plan). blocks_of_all BLOCK_BYTES plan.rows ≤ blocks) same room in
-    let hands : core.games.workers ≡ workers = ap (λ core. core.games.workers) is in
+-- the plan and the later lines of a file
+
+pub is_read : (file first : List ℕ) (rest : List (List ℕ)) (plan : Plan) → length file ≤ MOST_FILE_BYTES → pieces_of file ≡ first ∷ rest → plan_line_of first ≡ Ok plan
+    → IsRead file plan rest
+is_read file first rest plan short pieces read =
     record {
-      served = refusal_of_read blocks file first rest plan short pieces read ∙ no_refusal blocks plan enough;
-      opened = is ∙ ap (λ workers. opened_core BLOCK_BYTES blocks workers plan.rows) (sym hands);
-      is_plan = sym (ap (λ all. plan_in (plan_line_of (first_piece all))) pieces ∙ ap plan_in read);
+      short = short;
+      is_plan = ap (λ all. plan_line_of (first_piece all)) pieces ∙ read;
       are_lines = sym (ap later_pieces pieces);
     }
 
+refusal_of_read : (blocks : ℕ) (file : List ℕ) (plan : Plan) (lines : List (List ℕ)) → IsRead file plan lines → refusal_of blocks file ≡ refusal_of_plan blocks (Ok plan)
+refusal_of_read blocks file plan lines read = refusal_of_short blocks file read.short ∙ ap (refusal_of_plan blocks) read.is_plan
+
+-- a core for a copy of the plan
+pub is_core_of : (blocks : ℕ) (plan copied : Plan) (workers : ℕ) (core : CoreView) → copied ≡ plan → core ≡ opened_core BLOCK_BYTES blocks workers copied.rows
+    → blocks_of_all BLOCK_BYTES copied.rows ≤ blocks → IsCoreOf blocks plan core
+is_core_of blocks plan copied workers core same opens room =
+    let is : core ≡ opened_core BLOCK_BYTES blocks workers plan.rows = opens ∙ ap (λ (plan : Plan). opened_core BLOCK_BYTES blocks workers plan.rows) same in
+    let hands : core.games.workers ≡ workers = ap (λ core. core.games.workers) is in
+    record {
+      opened = is ∙ ap (λ workers. opened_core BLOCK_BYTES blocks workers plan.rows) (sym hands);
+      room = subst (λ (plan : Plan). blocks_of_all BLOCK_BYTES plan.rows ≤ blocks) same room;
+    }
+
+-- the file is not refused; the core is opened with its plan and `blocks` blocks; the lines are
+-- those after the plan
+pub record IsOpened (blocks : ℕ) (file : List ℕ) (core : CoreView) (plan : Plan) (lines : List (List ℕ)) : Type 0 where
+  pub served : refusal_of blocks file ≡ None
+  pub opened : core ≡ opened_core BLOCK_BYTES blocks core.games.workers plan.rows
+  pub is_plan : plan ≡ plan_in (plan_of file)
+  pub are_lines : lines ≡ later_pieces (pieces_of file)
+
+pub opened : (blocks : ℕ) (file : List ℕ) (lines : List (List ℕ)) (plan : Plan) (core : CoreView) → IsRead file plan lines → IsCoreOf blocks plan core
+    → IsOpened blocks file core plan lines
+opened blocks file lines plan core read is =
+    record {
+      served = refusal_of_read blocks file plan lines read ∙ no_refusal blocks plan is.room;
+      opened = is.opened;
+      is_plan = sym (ap plan_in read.is_plan);
+      are_lines = read.are_lines;
+    }
+
+pub is_served : (blocks : ℕ) (file : List ℕ) (lines : List (List ℕ)) (plan : Plan) (core : CoreView) → IsRead file plan lines → IsCoreOf blocks plan core
+    → refusal_of blocks file ≡ None
+is_served blocks file lines plan core read is = (opened blocks file lines plan core read is).served
+
 -- why a file is refused
 
-pub plan_refused : (blocks : ℕ) (file first : List ℕ) (rest : List (List ℕ)) (error : PlanFault) → length file ≤ MOST_FILE_BYTES → pieces_of file ≡ first ∷ rest
-    → IsPlanFault (plan_line_of first) error → IsRefusal (refusal_of blocks file) (fault_of error)
-plan_refused blocks file first rest fault.Malformed short pieces is = refusal_of_first blocks file first rest short pieces ∙ ap (refusal_of_plan blocks) is
-plan_refused blocks file first rest fault.BadRow short pieces is = refusal_of_first blocks file first rest short pieces ∙ ap (refusal_of_plan blocks) is
-plan_refused blocks file first rest fault.TooMany short pieces is = refusal_of_first blocks file first rest short pieces ∙ ap (refusal_of_plan blocks) is
-plan_refused blocks file first rest fault.Memory short pieces is = tt
+pub plan_refused : (file first : List ℕ) (rest : List (List ℕ)) (error : PlanFault) → length file ≤ MOST_FILE_BYTES → pieces_of file ≡ first ∷ rest
+    → IsPlanFault (plan_line_of first) error → (blocks : ℕ) → IsRefusal (refusal_of blocks file) (fault_of error)
+plan_refused file first rest error short pieces is blocks =
+    let plan : plan_of file ≡ plan_line_of first = ap (λ all. plan_line_of (first_piece all)) pieces in
+    let refusal : refusal_of blocks file ≡ refusal_of_plan blocks (plan_line_of first) = refusal_of_short blocks file short ∙ ap (refusal_of_plan blocks) plan in
+    subst (λ found. IsRefusal found (fault_of error)) (sym refusal) (refused_by blocks (plan_line_of first) error is)
 
-pub opening_refused : (blocks : ℕ) (file first : List ℕ) (rest : List (List ℕ)) (plan copied : Plan) (error : Open) → length file ≤ MOST_FILE_BYTES
-    → pieces_of file ≡ first ∷ rest → plan_line_of first ≡ Ok plan → copied ≡ plan
-    → (error ≡ opening.Short → blocks < blocks_of_all BLOCK_BYTES copied.rows) → IsRefusal (refusal_of blocks file) (fault_of_opening error)
-opening_refused blocks file first rest plan copied error short pieces read same few =
-    let less : error ≡ opening.Short → blocks < blocks_of_all BLOCK_BYTES plan.rows = λ is. subst (λ (plan : Plan). blocks < blocks_of_all BLOCK_BYTES plan.rows) same (few is) in
-    subst (λ found. IsRefusal found (fault_of_opening error)) (sym (refusal_of_read blocks file first rest plan short pieces read)) (opening_refusal blocks plan error less)
+pub for_all_blocks : {T : Type 0} (file : List ℕ) (result : Result T Fault) → ((blocks : ℕ) → IfErr result (IsRefusal (refusal_of blocks file)))
+    → IfErr result (λ fault. (blocks : ℕ) → IsRefusal (refusal_of blocks file) fault)
+for_all_blocks file (Ok read) refused = tt
+for_all_blocks file (Err error) refused = refused
+
+pub opening_refused : (blocks : ℕ) (plan copied : Plan) (error : Open) → copied ≡ plan
+    → (error ≡ opening.Short → blocks < blocks_of_all BLOCK_BYTES copied.rows) → IsRefusal (refusal_of_plan blocks (Ok plan)) (fault_of_opening error)
+opening_refused blocks plan copied error same few =
+    opening_refusal blocks plan error (λ is. subst (λ (plan : Plan). blocks < blocks_of_all BLOCK_BYTES plan.rows) same (few is))
+
+pub read_refused : (blocks : ℕ) (file : List ℕ) (plan : Plan) (lines : List (List ℕ)) (fault : Fault) → IsRead file plan lines
+    → IsRefusal (refusal_of_plan blocks (Ok plan)) fault → IsRefusal (refusal_of blocks file) fault
+read_refused blocks file plan lines fault read is = subst (λ found. IsRefusal found fault) (sym (refusal_of_read blocks file plan lines read)) is
+
+pub refused_is_fault : (refusal : Option Fault) (error : Fault) → IsRefusal refusal error → IsFault refusal error
+refused_is_fault refusal TooLong is = is
+refused_is_fault refusal (OfPlan reason) is = is
+refused_is_fault refusal Memory is = is
+refused_is_fault refusal Broken is = is
+refused_is_fault refusal (Write written) is = absurd is
+
+pub refused_leaves : {W : Type 0} (contents : W → Option (List ℕ)) (text : List ℕ) (old : W) (refusal : Option Fault) (error : Fault) → IsRefusal refusal error
+    → Leaves contents text old old error
+refused_leaves contents text old refusal TooLong is = refl
+refused_leaves contents text old refusal (OfPlan reason) is = refl
+refused_leaves contents text old refusal Memory is = refl
+refused_leaves contents text old refusal Broken is = refl
+refused_leaves contents text old refusal (Write written) is = absurd is
 
 -- from the opened file to its transcript
 

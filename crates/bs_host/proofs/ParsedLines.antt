@@ -1,6 +1,6 @@
 -- Parsed lines, and their routes.
 use Rattle.std.proofs.Common.{◌≡◌, ℕ, ◌+◌, ◌<◌, List, [], ◌∷◌, ◌++◌, Option, Some, None, length, refl, sym, ap, subst, ◌∙◌, arith, append-nil, append_assoc}
-use Rattle.std.specs.Prelude.{Result, Ok, Err, option_map, option_to_list, unwrap_or, IfOk, IfSome}
+use Rattle.std.specs.Prelude.{option_map, option_to_list, unwrap_or, IfSome}
 use Rattle.std.specs.Borrow.{Bor}
 use Rattle.std.specs.List.{cons_option}
 use Rattle.std.proofs.lemmas.List.{map-append}
@@ -17,17 +17,27 @@ use Rattle.bs_host.specs.declared.route.Requests.{Requests}
 use Rattle.bs_host.specs.declared.route.Route.{Route}
 use Rattle.bs_registry.specs.OpenStays.{OpenStayList, open_stays_of}
 use Rattle.bs_host.specs.inner.OpenStays.{open_stays_then, route_by, routes_by_open_stays}
-use Rattle.bs_host.specs.inner.Parsed.{parsed_line, parsed_lines, route_parsed, routes_parsed}
+use Rattle.bs_host.specs.inner.Parsed.{all_lines, parsed_line, parsed_lines, route_parsed, routes_parsed}
 use Rattle.bs_host.specs.Routing.{act_in, acts_in, numbered_stray, routes_from, strays_in}
-use Rattle.bs_host.specs.inner.Routing.{IsRouted}
+use Rattle.bs_host.specs.inner.Routing.{AreLeft, IsRouted}
 use Rattle.bs_host.proofs.OpenStayRoutes.{open_stays_law}
 
 -- parsing
 
-pub parsed_together : (version : Version) (all front back : List (List ℕ)) (lines more both : List ParsedLine) → all ≡ front ++ back
-    → lines ≡ parsed_lines version front → more ≡ parsed_lines version back → both ≡ lines ++ more → both ≡ parsed_lines version all
-parsed_together version all front back lines more both is one two joined =
-    joined ∙ ap (λ lines. lines ++ more) one ∙ ap (λ more. parsed_lines version front ++ more) two
+pub only_share : (share : List ParsedLine) (shares : List (List ParsedLine)) → shares ≡ share ∷ [] → all_lines shares ≡ share
+only_share share shares is = ap all_lines is ∙ append-nil share
+
+lines_together : (shares more : List (List ParsedLine)) → all_lines (shares ++ more) ≡ all_lines shares ++ all_lines more
+lines_together [] more = refl
+lines_together (share ∷ shares) more =
+    ap (λ lines. share ++ lines) (lines_together shares more) ∙ sym (append_assoc share (all_lines shares) (all_lines more))
+
+pub parsed_together : (version : Version) (all front back : List (List ℕ)) (shares more both : List (List ParsedLine)) → all ≡ front ++ back
+    → all_lines shares ≡ parsed_lines version front → all_lines more ≡ parsed_lines version back → both ≡ shares ++ more
+    → all_lines both ≡ parsed_lines version all
+parsed_together version all front back shares more both is one two joined =
+    ap all_lines joined ∙ lines_together shares more
+    ∙ ap (λ lines. lines ++ all_lines more) one ∙ ap (λ more. parsed_lines version front ++ more) two
     ∙ sym (map-append (λ piece. parsed_line (line_of version piece)) front back) ∙ ap (parsed_lines version) (sym is)
 
 -- one more line, then the remaining ones
@@ -66,12 +76,6 @@ routed capacity plan pieces lines requests is goes =
     ap (routes_parsed capacity (open_stays_of (opened plan.rows)) 2) is ∙ routes_by_parsed capacity plan.version (open_stays_of (opened plan.rows)) 2 pieces
     ∙ sym (open_stays_law capacity plan.version 2 (opened plan.rows) pieces)) goes
 
-pub routed_if_ok : {E : Type 0} (capacity : Capacity) (plan : Plan) (pieces : List (List ℕ)) (lines : List ParsedLine) (result : Result Requests E)
-    → lines ≡ parsed_lines plan.version pieces → IfOk result (IsRouted (routes_parsed capacity (open_stays_of (opened plan.rows)) 2 lines))
-    → IfOk result (IsRouted (routes_from capacity plan.version (opened plan.rows) 2 pieces))
-routed_if_ok capacity plan pieces lines (Ok requests) is goes = routed capacity plan pieces lines requests is goes
-routed_if_ok capacity plan pieces lines (Err error) is goes = tt
-
 cons_is_append : {X : Type 0} (first : Option X) (rest : List X) → cons_option first rest ≡ option_to_list first ++ rest
 cons_is_append None rest = refl
 cons_is_append (Some x) rest = refl
@@ -80,11 +84,6 @@ cons_is_append (Some x) rest = refl
 moves_on : {X : Type 0} (before after : List X) (first : Option X) (rest : List X) → after ≡ before ++ option_to_list first
     → after ++ rest ≡ before ++ cons_option first rest
 moves_on before after first rest is = rw (is, cons_is_append first rest) (append_assoc before (option_to_list first) rest)
-
--- with what the remaining lines add, the requests are those of all lines
-pub record AreLeft (all : List (ℕ × Route)) (left : List (ℕ × Route)) (requests : Requests) : Type 0 where
-  pub acts : requests.acts.items ++ acts_in left ≡ acts_in all
-  pub strays : requests.strays.items ++ strays_in left ≡ strays_in all
 
 module _ (capacity : Capacity) where
   pub goes_on : (all : List (ℕ × Route)) (before after : OpenStayList) (number next : ℕ) (line : ParsedLine) (left rest : List ParsedLine) (goes : Route) (old new : Requests)

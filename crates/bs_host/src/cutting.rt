@@ -27,6 +27,7 @@ use crate::route::Route;
 use bs_board::{Id, Plan, Row, Version};
 use bs_json::read_plan;
 use bs_registry::{Registry, blocks_of_all, open_rows};
+use bs_sched::SharedRow;
 use bs_workers::Act;
 use serde_json::{Value, json};
 use std::alloc::{AllocError, Global};
@@ -159,7 +160,7 @@ impl Search<'_> {
 }
 
 /// Returns the row that a line admits.
-fn admitted(route: Route) -> Option<Row>
+fn admitted(route: Route) -> Option<SharedRow>
     ensures { MatchOption result (rows_in_route route ≡ []) (λ row. rows_in_route route ≡ row ∷ []) }
 {
     match route {
@@ -188,8 +189,8 @@ fn find_admitted(
         let stay = open_stays.made();
         let route = route_text(alloc, &mut open_stays, file, line)?;
         if let Some(row) = admitted(route) {
-            if search.is_found_in(&row) {
-                return Ok(Some((stay, row)));
+            if search.is_found_in(row.get()) {
+                return Ok(Some((stay, row.get().copy(alloc)?)));
             }
         }
         left = more;

@@ -14,6 +14,7 @@ mod live_host;
 mod live_stays;
 mod open_rows;
 mod parse;
+mod played;
 mod read;
 mod render;
 mod route;

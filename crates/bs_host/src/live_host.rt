@@ -90,8 +90,8 @@ impl LiveHost {
                 answer_in(&mut self.stays, alloc, *stay, command.get(), text)
             }
             Route::Act(Act::Admit(row)) => {
-                let stay = open_stay(alloc, row)?;
-                self.stays.push(row.copy(alloc)?, stay)
+                let stay = open_stay(alloc, row.get())?;
+                self.stays.push(row.get().copy(alloc)?, stay)
             }
             Route::Act(Act::Leave(stay)) => {
                 push_final_of(alloc, &self.stays, *stay, text)?;

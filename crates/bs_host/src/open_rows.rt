@@ -19,7 +19,7 @@ fn follow(stays: &mut Registry<()>, alloc: Global, route: &Route) -> Result<(), 
 {
     match route {
         Route::Act(Act::Hand(_, _)) => Ok(()),
-        Route::Act(Act::Admit(row)) => stays.push(row.copy(alloc)?, ()),
+        Route::Act(Act::Admit(row)) => stays.push(row.get().copy(alloc)?, ()),
         Route::Act(Act::Leave(stay)) => {
             stays.remove(*stay);
             Ok(())

@@ -1,16 +1,17 @@
 //! The lines of a file, parsed by several threads: each parses one share of the text.
-ghost use Rattle.std.specs.Prelude.{◌≡◌, ◌++◌, ◌+◌, ◌<◌, ◌≤◌, ℕ, length, IfOk, IfSome, option_copied};
+ghost use Rattle.std.specs.Prelude.{◌≡◌, ◌++◌, ◌∷◌, [], ◌+◌, ◌<◌, ◌≤◌, ℕ, length, IfOk, IfSome};
 ghost use Rattle.std.specs.Thread.{IsSync};
 ghost use Rattle.bs_json.specs.Line.{line_of};
 ghost use Rattle.bs_host.specs.File.{pieces_of};
-ghost use Rattle.bs_host.specs.inner.File.{pieces_after};
-ghost use Rattle.bs_host.specs.inner.Parsed.{parsed_line, parsed_lines};
+ghost use Rattle.bs_host.specs.inner.Parsed.{all_lines, parsed_line, parsed_lines};
 
 use crate::lines::{split_from, split_line};
-use bs_board::{Command, Id, Row, Version};
+use bs_board::{Command, Id, Version};
 use bs_fiber::SharedCommand;
 use bs_json::{Line, Stray, read_line};
+use bs_sched::SharedRow;
 use std::alloc::{AllocError, Global};
+use std::marker::Model;
 use std::thread::{Threads, join};
 
 /// A parsed line of a file. It depends on the line's bytes and on the plan's version alone.
@@ -19,7 +20,7 @@ pub enum ParsedLine {
     /// A command for the game of that name.
     Command(Id, SharedCommand),
     /// A line that admits a game.
-    Admit(Row),
+    Admit(SharedRow),
     /// A line that dismisses the game of that name.
     Leave(Id),
     /// A line of no game, for that reason.
@@ -66,17 +67,38 @@ pub(crate) fn parse_line(
             Ok(ParsedLine::Command(game, command))
         }
         Line::Stray(kind) => Ok(ParsedLine::Stray(kind)),
-        Line::Admit(row) => Ok(ParsedLine::Admit(row)),
+        Line::Admit(row) => Ok(ParsedLine::Admit(SharedRow::new(alloc, row)?)),
         Line::BadAdmit => Ok(ParsedLine::Stray(Stray::BadRow)),
         Line::Leave { game: Some(game) } => Ok(ParsedLine::Leave(game)),
         Line::Leave { game: None } => Ok(ParsedLine::Stray(Stray::NoStay)),
     }
 }
 
+/// The lines that one thread parsed, in order.
+#[derive(Debug, Drop)]
+pub struct Share {
+    pub(crate) lines: Vec<ParsedLine>,
+}
+
+impl Model for Share {
+    ghost use Rattle.std.specs.Prelude.{List};
+    ghost use Rattle.bs_host.specs.declared.parse.ParsedLine.{ParsedLine};
+
+    ghost Value = { List ParsedLine };
+
+    ghost view = { λ s. s.lines.items };
+}
+
+impl Share {
+    pub(crate) fn len(&self) -> usize {
+        self.lines.len()
+    }
+}
+
 /// Parses the lines of a text one after the other.
 #[tactic(auto, using(crate::proofs::ParsedLines::fewer_left, crate::proofs::ParsedLines::one_more_parsed))]
-fn parse_share(alloc: Global, version: Version, text: &[u8]) -> Result<Vec<ParsedLine>, AllocError>
-    ensures { IfOk result (λ lines. lines.items ≡ parsed_lines version (pieces_of text.now)) }
+fn parse_share(alloc: Global, version: Version, text: &[u8]) -> Result<Share, AllocError>
+    ensures { IfOk result (λ share. share ≡ parsed_lines version (pieces_of text.now)) }
 {
     let mut lines: Vec<ParsedLine> = Vec::new(alloc);
     let mut left = Some(text);
@@ -86,7 +108,16 @@ fn parse_share(alloc: Global, version: Version, text: &[u8]) -> Result<Vec<Parse
         lines.push(parsed)?;
         left = more;
     }
-    Ok(lines)
+    Ok(Share { lines })
+}
+
+/// The list of that share alone.
+fn only(alloc: Global, share: Share) -> Result<Vec<Share>, AllocError>
+    ensures { IfOk result (λ shares. shares.items ≡ share ∷ []) }
+{
+    let mut shares = Vec::with_capacity(alloc, 1)?;
+    shares.push(share)?;
+    Ok(shares)
 }
 
 /// The least size of a share, in bytes: parsing it takes a few times as long as starting a thread.
@@ -105,50 +136,35 @@ fn split_shares(text: &[u8], threads: usize) -> Option<(&[u8], &[u8])>
     split_from(text, text.len() / 2)
 }
 
-/// Parses the lines of a text by at most `threads` threads, of which one is the caller's.
+/// Parses the lines of a text by at most `threads` threads, of which one is the caller's. The lists
+/// of the threads are not joined to one: that would move each line once more.
 #[cycle(parsing)]
-#[tactic(auto, using(crate::proofs::ParsedLines::parsed_together))]
-fn parse_text<R: Threads + Sync>(
+#[tactic(auto, using(crate::proofs::ParsedLines::only_share, crate::proofs::ParsedLines::parsed_together))]
+pub(crate) fn parse_text<R: Threads + Sync>(
     rt: &R,
     alloc: Global,
     version: Version,
     text: &[u8],
     threads: usize,
-) -> Result<Vec<ParsedLine>, AllocError>
-    ensures { IfOk result (λ lines. lines.items ≡ parsed_lines version (pieces_of text.now)) }
+) -> Result<Vec<Share>, AllocError>
+    ensures { IfOk result (λ shares. all_lines shares.items ≡ parsed_lines version (pieces_of text.now)) }
 {
     let Some((front, back)) = split_shares(text, threads) else {
-        return parse_share(alloc, version, text);
+        return only(alloc, parse_share(alloc, version, text)?);
     };
-    let (lines, more) = join(
+    let (shares, more) = join(
         rt,
-        || -> Result<Vec<ParsedLine>, AllocError>
+        || -> Result<Vec<Share>, AllocError>
             requires { IsSync R.row }
-            ensures { IfOk result (λ lines. lines.items ≡ parsed_lines version (pieces_of front.entry.now)) }
+            ensures { IfOk result (λ shares. all_lines shares.items ≡ parsed_lines version (pieces_of front.entry.now)) }
         { parse_text(rt, alloc, version, front, threads - threads / 2) },
-        || -> Result<Vec<ParsedLine>, AllocError>
+        || -> Result<Vec<Share>, AllocError>
             requires { IsSync R.row }
-            ensures { IfOk result (λ lines. lines.items ≡ parsed_lines version (pieces_of back.entry.now)) }
+            ensures { IfOk result (λ shares. all_lines shares.items ≡ parsed_lines version (pieces_of back.entry.now)) }
         { parse_text(rt, alloc, version, back, threads / 2) },
     );
-    let mut lines = lines?;
+    let mut shares = shares?;
     let mut more = more?;
-    lines.append(&mut more)?;
-    Ok(lines)
-}
-
-/// Parses the lines that follow the plan, by at most `threads` threads.
-pub(crate) fn parse_lines<R: Threads + Sync>(
-    rt: &R,
-    alloc: Global,
-    version: Version,
-    text: Option<&[u8]>,
-    threads: usize,
-) -> Result<Vec<ParsedLine>, AllocError>
-    ensures { IfOk result (λ lines. lines.items ≡ parsed_lines version (pieces_after (option_copied text.entry))) }
-{
-    match text {
-        Some(text) => parse_text(rt, alloc, version, text, threads),
-        None => Ok(Vec::new(alloc)),
-    }
+    shares.append(&mut more)?;
+    Ok(shares)
 }

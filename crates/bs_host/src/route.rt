@@ -1,21 +1,23 @@
 //! Routes the parsed lines of a file: to the core as acts, to the stray lines, or nowhere.
-ghost use Rattle.std.specs.Prelude.{◌≡◌, ◌++◌, true, IfOk, OnOk, option_to_list};
+ghost use Rattle.std.specs.Prelude.{◌≡◌, ◌++◌, ◌∷◌, ℕ, List, true, IfOk, OnOk, option_to_list};
 ghost use Rattle.bs_workers.specs.Acts.{opened};
 ghost use Rattle.bs_registry.specs.OpenStays.{found_in, open_stays_of};
 ghost use Rattle.bs_registry.specs.inner.OpenStays.{refusal_by};
 ghost use Rattle.bs_registry.specs.Registry.{rows_in, seen};
 ghost use Rattle.bs_host.specs.inner.OpenStays.{may_follow};
-ghost use Rattle.bs_host.specs.inner.Parsed.{route_parsed, routes_parsed};
+ghost use Rattle.bs_host.specs.inner.Parsed.{all_lines, route_parsed, routes_parsed};
 ghost use Rattle.bs_host.specs.Routing.{act_in, admit_route, capacity_of, hand_route, leave_route, numbered_stray, stray_for};
-ghost use Rattle.bs_host.specs.inner.Routing.{IsRouted};
+ghost use Rattle.bs_host.specs.declared.route.Route.{Route};
+ghost use Rattle.bs_host.specs.inner.Routing.{IsRouted, WillRoute};
 
 use crate::limits::BLOCK_BYTES;
 use crate::open_rows::route_row;
-use crate::parse::ParsedLine;
-use bs_board::{Id, Row, Rows};
+use crate::parse::{ParsedLine, Share};
+use bs_board::{Id, Rows};
 use bs_fiber::SharedCommand;
 use bs_json::Stray;
 use bs_registry::{Refusal, Registry, blocks_of, open_rows};
+use bs_sched::SharedRow;
 use bs_workers::Act;
 use std::alloc::{AllocError, Global};
 
@@ -40,11 +42,11 @@ fn hand<T: Drop>(stays: &mut Registry<T>, game: &Id, command: SharedCommand) -> 
     }
 }
 
-fn admit<T: Drop>(stays: &Registry<T>, blocks: usize, row: Row) -> Route
+fn admit<T: Drop>(stays: &Registry<T>, blocks: usize, row: SharedRow) -> Route
     ensures { result ≡ admit_route (stray_for (refusal_by (capacity_of blocks) (seen stays.now) row)) row }
 {
     let left = stays.left_of(BLOCK_BYTES, blocks);
-    match stays.refusal(&row, blocks_of(BLOCK_BYTES, &row), left) {
+    match stays.refusal(row.get(), blocks_of(BLOCK_BYTES, row.get()), left) {
         None => Route::Act(Act::Admit(row)),
         Some(Refusal::NameOpen) => Route::Stray(Stray::NameOpen),
         Some(Refusal::Full) => Route::Stray(Stray::Full),
@@ -104,27 +106,73 @@ fn push_route(requests: &mut Requests, number: u64, route: Route) -> Result<(), 
     Ok(())
 }
 
+/// The requests so far, and what the later lines are routed by.
+#[derive(Drop)]
+struct Router {
+    open_stays: Registry<()>,
+    requests: Requests,
+    /// The number of the next line.
+    number: u64,
+}
+
+impl Router {
+    /// Routes the next line of a file that is served with `blocks` blocks.
+    #[tactic(auto, using(crate::proofs::ParsedLines::goes_on))]
+    #[inline(always)]
+    fn route(&mut self, alloc: Global, blocks: usize, line: ParsedLine) -> Result<(), AllocError>
+        ensures { (all : List (ℕ × Route)) (later : List ParsedLine) → WillRoute (capacity_of blocks) all self.old (line ∷ later)
+            → OnOk result (WillRoute (capacity_of blocks) all self.new later) }
+    {
+        let route = route_row(&mut self.open_stays, alloc, blocks, line)?;
+        push_route(&mut self.requests, self.number, route)?;
+        self.number = self.number.checked_add(1).ok_or(AllocError)?;
+        Ok(())
+    }
+
+    /// Routes the lines of a share.
+    fn route_share(&mut self, alloc: Global, blocks: usize, share: Share) -> Result<(), AllocError>
+        ensures { (all : List (ℕ × Route)) (later : List ParsedLine) → WillRoute (capacity_of blocks) all self.old (share ++ later)
+            → OnOk result (WillRoute (capacity_of blocks) all self.new later) }
+    {
+        let Share { lines } = share;
+        for line in lines {
+            self.route(alloc, blocks, line)?;
+        }
+        Ok(())
+    }
+}
+
+/// The number of lines of all shares.
+fn count_lines(shares: &[Share]) -> usize {
+    let mut count = 0usize;
+    for share in shares {
+        count = count.saturating_add(share.len());
+    }
+    count
+}
+
 /// Routes the lines after the plan of a file in their order. The file is served with `blocks`
 /// blocks; these, the plan and the lines alone determine which games are admitted.
-#[tactic(auto, using(crate::proofs::ParsedLines::none_read, crate::proofs::ParsedLines::goes_on, crate::proofs::ParsedLines::all_read))]
+#[tactic(auto, using(crate::proofs::ParsedLines::none_read, crate::proofs::ParsedLines::all_read))]
 pub(crate) fn route_lines(
     alloc: Global,
     blocks: usize,
     rows: &Rows,
-    lines: Vec<ParsedLine>,
+    shares: Vec<Share>,
 ) -> Result<Requests, AllocError>
-    ensures { IfOk result (IsRouted (routes_parsed (capacity_of blocks) (open_stays_of (opened rows.now)) 2 lines.items)) }
+    ensures { IfOk result (IsRouted (routes_parsed (capacity_of blocks) (open_stays_of (opened rows.now)) 2 (all_lines shares.items))) }
 {
-    let mut open_stays = open_rows(alloc, rows)?;
-    let mut requests = Requests {
-        acts: Vec::with_capacity(alloc, lines.len())?,
-        strays: Vec::new(alloc),
+    let mut router = Router {
+        open_stays: open_rows(alloc, rows)?,
+        requests: Requests {
+            acts: Vec::with_capacity(alloc, count_lines(shares.as_slice()))?,
+            strays: Vec::new(alloc),
+        },
+        number: FIRST_NUMBER,
     };
-    let mut number = FIRST_NUMBER;
-    for line in lines {
-        let route = route_row(&mut open_stays, alloc, blocks, line)?;
-        push_route(&mut requests, number, route)?;
-        number = number.checked_add(1).ok_or(AllocError)?;
+    for share in shares {
+        router.route_share(alloc, blocks, share)?;
     }
+    let Router { requests, .. } = router;
     Ok(requests)
 }

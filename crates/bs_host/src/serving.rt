@@ -1,14 +1,17 @@
 //! Serves a command file, one stage after the other: opens it, parses and routes its lines, runs
 //! the core, and writes the transcript.
-ghost use Rattle.std.specs.Prelude.{◌≡◌, ◌≤◌, None, IfOk, IfErr, OnOk, option_copied};
+ghost use Rattle.std.specs.Prelude.{◌≡◌, ◌≤◌, ℕ, None, Ok, IfOk, IfErr, OnOk, option_copied};
 ghost use Rattle.std.specs.Io.KnownBytes.{Appends};
+ghost use Rattle.std.specs.Thread.{IsSync};
+ghost use Rattle.bs_host.specs.File.{pieces_of};
 ghost use Rattle.bs_host.specs.inner.File.{pieces_after};
 ghost use Rattle.bs_host.specs.Hosted.{Hosts};
-ghost use Rattle.bs_host.specs.inner.Hosted.{IsOpened};
+ghost use Rattle.bs_host.specs.inner.Hosted.{IsCoreOf, IsRead};
 ghost use Rattle.bs_workers.specs.Acts.{opened};
 ghost use Rattle.bs_host.specs.Routing.{capacity_of, routes_from};
+ghost use Rattle.bs_host.specs.inner.Parsed.{all_lines, parsed_lines};
 ghost use Rattle.bs_host.specs.inner.Routing.{IsRouted};
-ghost use Rattle.bs_host.specs.Faults.{refusal_of, IsFault, Leaves};
+ghost use Rattle.bs_host.specs.Faults.{refusal_of, refusal_of_plan, IsFault, Leaves};
 ghost use Rattle.bs_host.specs.inner.Faults.{IsRefusal};
 ghost use Rattle.bs_host.specs.Transcript.{transcript_of};
 
@@ -16,8 +19,8 @@ use crate::fault::Fault;
 use crate::file::CommandFile;
 use crate::limits::{BLOCK_BYTES, MOST_FILE_BYTES};
 use crate::lines::split_line;
-use crate::parse::parse_lines;
-use crate::render::{PlayedFile, write_core};
+use crate::parse::{Share, parse_text};
+use crate::played::Played;
 use crate::route::{Requests, route_lines};
 use bs_board::Plan;
 use bs_json::read_plan;
@@ -26,52 +29,102 @@ use bs_workers::{Gate, run};
 use std::alloc::{AllocError, Global};
 use std::io::Write;
 use std::sync::Wait;
-use std::thread::Threads;
+use std::thread::{Threads, join};
 
 /// The largest number of threads. If more are requested, this many are used.
 const MOST_THREADS: usize = 1_024;
 
-/// Opens a file: returns a core for its plan, the plan, and the text after the plan, if there is
-/// any. Checks the file's length, its plan and the number of blocks, and returns the first fault.
-fn open_file(
-    alloc: Global,
-    input: &[u8],
-    blocks: usize,
-    threads: usize,
-) -> Result<(Core<BLOCK_BYTES>, Plan, Option<&[u8]>), Fault>
-    requires { threads ≤ MOST_THREADS }
-    ensures opened { IfOk result
-        (λ opened. IsOpened blocks input.now opened.0 opened.1 (pieces_after (option_copied opened.2))) }
-    ensures fault { IfErr result (IsRefusal (refusal_of blocks input.now)) }
+/// The plan of a file, and the text after the plan, if there is any. Checks the file's length, then
+/// its plan.
+fn read_file(alloc: Global, input: &[u8]) -> Result<(Plan, Option<&[u8]>), Fault>
+    ensures read { IfOk result (λ read. IsRead input.now read.0 (pieces_after (option_copied read.1))) }
+    ensures fault { IfErr result (λ fault. (blocks : ℕ) → IsRefusal (refusal_of blocks input.now) fault) }
 {
     if input.len() > MOST_FILE_BYTES {
         return Err(Fault::TooLong);
     }
     let (first, rest) = split_line(input);
-    let plan = read_plan(alloc, first)?;
-    let core = Core::open(alloc, plan.copy(alloc)?, blocks, threads)?;
-    Ok((core, plan, rest))
+    Ok((read_plan(alloc, first)?, rest))
 }
 
-/// Parses the lines that follow the plan, and routes them.
+/// Opens a core for a plan. Checks the number of blocks.
+fn open_core(
+    alloc: Global,
+    plan: &Plan,
+    blocks: usize,
+    threads: usize,
+) -> Result<Core<BLOCK_BYTES>, Fault>
+    requires { threads ≤ MOST_THREADS }
+    ensures core { IfOk result (IsCoreOf blocks plan.now) }
+    ensures fault { IfErr result (IsRefusal (refusal_of_plan blocks (Ok plan.now))) }
+{
+    Ok(Core::open(alloc, plan.copy(alloc)?, blocks, threads)?)
+}
+
+/// Opens a core for the plan of a file. If there may be several threads, its lines are parsed
+/// meanwhile; the fault of opening comes before that of parsing.
+fn open_file<R: Threads + Sync>(
+    rt: &R,
+    alloc: Global,
+    file: CommandFile<'_>,
+    threads: usize,
+) -> Result<(Core<BLOCK_BYTES>, Vec<Share>), Fault>
+    requires { threads ≤ MOST_THREADS }
+    ensures core { IfOk result (λ opened. IsCoreOf file.entry.blocks file.entry.plan.now opened.0) }
+    ensures lines { IfOk result
+        (λ opened. all_lines opened.1.items ≡ parsed_lines file.entry.plan.now.version (pieces_after (option_copied file.entry.rest))) }
+    ensures fault { IfErr result (IsRefusal (refusal_of_plan file.entry.blocks (Ok file.entry.plan.now))) }
+{
+    let CommandFile { blocks, plan, rest } = file;
+    let version = plan.version;
+    let Some(text) = rest else {
+        return Ok((open_core(alloc, plan, blocks, threads)?, Vec::new(alloc)));
+    };
+    if threads <= 1 {
+        let core = open_core(alloc, plan, blocks, threads)?;
+        return Ok((core, parse_text(rt, alloc, version, text, threads)?));
+    }
+    let (core, lines) = join(
+        rt,
+        || -> Result<Core<BLOCK_BYTES>, Fault>
+            requires { threads ≤ MOST_THREADS }
+            ensures core { IfOk result (IsCoreOf blocks plan.entry.now) }
+            ensures fault { IfErr result (IsRefusal (refusal_of_plan blocks (Ok plan.entry.now))) }
+        { open_core(alloc, plan, blocks, threads) },
+        || -> Result<Vec<Share>, AllocError>
+            requires { IsSync R.row }
+            ensures { IfOk result (λ shares. all_lines shares.items ≡ parsed_lines version (pieces_of text.entry.now)) }
+        { parse_text(rt, alloc, version, text, threads) },
+    );
+    Ok((core?, lines?))
+}
+
+/// Opens a core for the plan of a file, and routes its lines.
 fn read_requests<R: Threads + Sync>(
     rt: &R,
     alloc: Global,
     file: CommandFile<'_>,
     threads: usize,
-) -> Result<Requests, AllocError>
-    ensures { IfOk result
-        (IsRouted (routes_from (capacity_of file.entry.blocks) file.entry.plan.now.version (opened file.entry.plan.now.rows) 2 (pieces_after (option_copied file.entry.rest)))) }
+) -> Result<(Core<BLOCK_BYTES>, Requests), Fault>
+    requires { threads ≤ MOST_THREADS }
+    ensures core { IfOk result (λ read. IsCoreOf file.entry.blocks file.entry.plan.now read.0) }
+    ensures routed { IfOk result
+        (λ read. IsRouted (routes_from (capacity_of file.entry.blocks) file.entry.plan.now.version (opened file.entry.plan.now.rows) 2 (pieces_after (option_copied file.entry.rest))) read.1) }
+    ensures fault { IfErr result (IsRefusal (refusal_of_plan file.entry.blocks (Ok file.entry.plan.now))) }
 {
-    let lines = parse_lines(rt, alloc, file.plan.version, file.rest, threads)?;
-    route_lines(alloc, file.blocks, &file.plan.rows, lines)
+    let (core, lines) = open_file(rt, alloc, file, threads)?;
+    Ok((
+        core,
+        route_lines(alloc, file.blocks, &file.plan.rows, lines)?,
+    ))
 }
 
 /// Serves a command file with `blocks` blocks of memory and `workers` threads, the caller's
 /// included: a core answers each game's commands in the order of their lines, then the transcript
-/// is written, through a buffer of 64 KiB and the longest line. `gate` is consulted before each
-/// job, with the thread's number. After every fault but a writer's the writer is unchanged, and
-/// nothing is allocated once the first byte is written. Returns the core.
+/// is written. If there are several threads, one more opens the core while the others parse, and
+/// one more frees the acts while they render. `gate` is consulted before each job, with the
+/// thread's number. After every fault but a writer's the writer is unchanged, and nothing is
+/// allocated once the first byte is written. Returns the core.
 pub fn serve<R: Threads + Wait + Sync, G: Gate, W: Write>(
     rt: &R,
     alloc: Global,
@@ -88,18 +141,14 @@ pub fn serve<R: Threads + Wait + Sync, G: Gate, W: Write>(
     ensures left { IfErr result (Leaves W.contents (transcript_of blocks input.now) output.old output.new) }
 {
     let threads = workers.min(MOST_THREADS);
-    let (core, plan, text) = open_file(alloc, input, blocks, threads)?;
+    let (plan, text) = read_file(alloc, input)?;
     let file = CommandFile {
         blocks,
         plan: &plan,
         rest: text,
     };
-    let Requests { acts, strays } = read_requests(rt, alloc, file, threads)?;
+    let (core, Requests { acts, strays }) = read_requests(rt, alloc, file, threads)?;
     let core = run(rt, alloc, core, acts.as_slice(), threads, gate)?;
-    let played = PlayedFile {
-        core: &core,
-        strays: strays.as_slice(),
-    };
-    write_core(rt, alloc, played, threads, output)?;
-    Ok(core)
+    let played = Played { core, acts, strays };
+    Ok(played.write(rt, alloc, threads, output)?)
 }

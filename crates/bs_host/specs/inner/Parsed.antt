@@ -1,5 +1,5 @@
 -- The lines of a file, each parsed by itself, and then their routes.
-use Rattle.std.specs.Prelude.{ℕ, ◌+◌, List, [], ◌∷◌, Some, None, map}
+use Rattle.std.specs.Prelude.{ℕ, ◌+◌, List, [], ◌∷◌, ◌++◌, Some, None, map}
 use Rattle.bs_board.specs.declared.commands.command.Command.TheVariants as command
 use Rattle.bs_board.specs.declared.plans.version.Version.{Version}
 use Rattle.bs_json.specs.declared.line.Line.{Line}
@@ -29,6 +29,11 @@ parsed_line (line.Leave (Some game)) = parsed.Leave game
 
 abbrev pub parsed_lines : Version → List (List ℕ) → List ParsedLine
 parsed_lines version = map (λ piece. parsed_line (line_of version piece))
+
+-- the lines of all shares, one after the other
+abbrev pub all_lines : List (List ParsedLine) → List ParsedLine
+all_lines [] = []
+all_lines (share ∷ shares) = share ++ all_lines shares
 
 abbrev pub route_parsed : Capacity → OpenStayList → ParsedLine → Route
 route_parsed capacity open_stays (parsed.Command game command) = hand_route (found_in game open_stays.stays) command

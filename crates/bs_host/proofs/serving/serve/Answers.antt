@@ -1,55 +1,103 @@
-use Rattle.std.proofs.Common.{◌≡◌, None, arith, rules}
+use Rattle.std.proofs.Common.{◌≡◌, None, refl, subst, arith, rules}
 use Rattle.std.specs.Prelude.{option_copied}
+use Rattle.std.specs.Io.KnownBytes.{Appends}
+use Rattle.bs_transcript.specs.Written.{Leaves as LeavesOfText}
 use Rattle.bs_host.specs.Faults.{IsFault, Leaves, fault_of_writing, refusal_of}
 use Rattle.bs_host.specs.inner.File.{pieces_after}
 use Rattle.bs_host.specs.Hosted.{Hosts}
 use Rattle.bs_host.specs.Transcript.{transcript_of}
 use Rattle.bs_host.specs.inner.Transcript.{core_text_of}
-use Rattle.bs_host.proofs.FileTexts.{acts_accepted, fresh_core, hosts_of_run, text_of_run, writing_is_fault, writing_leaves}
+use Rattle.bs_host.proofs.FileTexts.{acts_accepted, fresh_core, hosts_of_run, is_served, opened, read_refused, refused_is_fault, refused_leaves, text_of_run, writing_is_fault, writing_leaves}
 use Rattle.bs_host.proofs.serving.serve.Goals as goal
-use Rattle.bs_host.proofs.serving.serve.Goals.{After-write_core}
+use Rattle.bs_host.proofs.serving.serve.Goals.{After-write}
+
+pub returns-in_err-plan-clause-fault : goal.returns-in_err-plan-clause-fault
+returns-in_err-plan-clause-fault g c =
+    let fault : IsFault (refusal_of c.args.blocks c.args.input.now) c.in_err-plan.field-0.0 =
+    refused_is_fault (refusal_of c.args.blocks c.args.input.now) c.in_err-plan.field-0.0 (c.in_err-plan.ensures.fault c.args.blocks) in
+    search rules
+
+pub returns-in_err-plan-clause-left : goal.returns-in_err-plan-clause-left
+returns-in_err-plan-clause-left g c =
+    let left : Leaves g.W.Write.contents (transcript_of c.args.blocks c.args.input.now) c.args.output.now c.args.output.now c.in_err-plan.field-0.0 =
+    refused_leaves g.W.Write.contents (transcript_of c.args.blocks c.args.input.now) c.args.output.now (refusal_of c.args.blocks c.args.input.now)
+    c.in_err-plan.field-0.0 (c.in_err-plan.ensures.fault c.args.blocks) in
+    search rules
+
+pub returns-in_err-core-clause-fault : goal.returns-in_err-core-clause-fault
+returns-in_err-core-clause-fault g c =
+    let refused = read_refused c.args.blocks c.args.input.now c.in_ok-plan.plan (pieces_after (option_copied c.in_ok-plan.text)) c.in_err-core.field-0.0
+    c.in_ok-plan.ensures.read c.in_err-core.ensures.fault in
+    let fault : IsFault (refusal_of c.args.blocks c.args.input.now) c.in_err-core.field-0.0 =
+    refused_is_fault (refusal_of c.args.blocks c.args.input.now) c.in_err-core.field-0.0 refused in
+    search rules
 
 pub run-requires-after_bounds : goal.run-requires-after_bounds
 run-requires-after_bounds g c κs bounds =
-    let given : c.as_slice.result.now ≡ c.in_ok-acts.field-0.acts.items = search rules in
-    let fresh = fresh_core c.args.blocks c.args.input.now (pieces_after (option_copied c.in_ok-core.text)) c.in_ok-core.plan c.in_ok-core.core c.in_ok-core.ensures.opened in
-    let accepted = acts_accepted c.args.blocks c.args.input.now (pieces_after (option_copied c.in_ok-core.text)) c.in_ok-core.plan c.in_ok-acts.field-0 c.as_slice.result.now
-    c.in_ok-core.core c.in_ok-core.ensures.opened c.in_ok-acts.ensures given in
+    let lines = pieces_after (option_copied c.in_ok-plan.text) in
+    let opens = opened c.args.blocks c.args.input.now lines c.in_ok-plan.plan c.in_ok-core.core c.in_ok-plan.ensures.read c.in_ok-core.ensures.core in
+    let given : c.as_slice.result.now ≡ c.in_ok-core.field-0-1.acts.items = search rules in
+    let fresh = fresh_core c.args.blocks c.args.input.now lines c.in_ok-plan.plan c.in_ok-core.core opens in
+    let accepted = acts_accepted c.args.blocks c.args.input.now lines c.in_ok-plan.plan c.in_ok-core.field-0-1 c.as_slice.result.now
+    c.in_ok-core.core opens c.in_ok-core.ensures.routed given in
     (omega arith, (fresh, accepted))
 
-hosts : (g : _) (c : After-write_core g) → Hosts c.args.blocks c.args.input.now c.in_ok-core-2.core
+pub returns-in_err-core-2-clause-fault : goal.returns-in_err-core-2-clause-fault
+returns-in_err-core-2-clause-fault g c =
+    let none : refusal_of c.args.blocks c.args.input.now ≡ None = is_served c.args.blocks c.args.input.now (pieces_after (option_copied c.in_ok-plan.text))
+    c.in_ok-plan.plan c.in_ok-core.core c.in_ok-plan.ensures.read c.in_ok-core.ensures.core in
+    search rules
+
+served : (g : _) (c : After-write g) → refusal_of c.args.blocks c.args.input.now ≡ None
+served g c =
+    is_served c.args.blocks c.args.input.now (pieces_after (option_copied c.in_ok-plan.text)) c.in_ok-plan.plan c.in_ok-core.core c.in_ok-plan.ensures.read
+    c.in_ok-core.ensures.core
+
+hosts : (g : _) (c : After-write g) → Hosts c.args.blocks c.args.input.now c.in_ok-core-2.core
 hosts g c =
-    let given : c.as_slice.result.now ≡ c.in_ok-acts.field-0.acts.items = search rules in
-    hosts_of_run c.args.blocks c.args.input.now (pieces_after (option_copied c.in_ok-core.text)) c.in_ok-core.plan c.in_ok-acts.field-0 c.as_slice.result.now
-    c.in_ok-core.core c.in_ok-core.ensures.opened c.in_ok-acts.ensures given c.in_ok-core-2.core c.in_ok-core-2.ensures
+    let lines = pieces_after (option_copied c.in_ok-plan.text) in
+    let opens = opened c.args.blocks c.args.input.now lines c.in_ok-plan.plan c.in_ok-core.core c.in_ok-plan.ensures.read c.in_ok-core.ensures.core in
+    let given : c.as_slice.result.now ≡ c.in_ok-core.field-0-1.acts.items = search rules in
+    hosts_of_run c.args.blocks c.args.input.now lines c.in_ok-plan.plan c.in_ok-core.field-0-1 c.as_slice.result.now
+    c.in_ok-core.core opens c.in_ok-core.ensures.routed given c.in_ok-core-2.core c.in_ok-core-2.ensures
 
-told : (g : _) (c : After-write_core g) → core_text_of c.in_ok-core-2.core c.as_slice-2.result.now ≡ transcript_of c.args.blocks c.args.input.now
+told : (g : _) (c : After-write g) → core_text_of c.in_ok-core-2.core c.in_ok-core.field-0-1.strays.items ≡ transcript_of c.args.blocks c.args.input.now
 told g c =
-    let given : c.as_slice.result.now ≡ c.in_ok-acts.field-0.acts.items = search rules in
-    let strays : c.as_slice-2.result.now ≡ c.in_ok-acts.field-0.strays.items = search rules in
-    text_of_run c.args.blocks c.args.input.now (pieces_after (option_copied c.in_ok-core.text)) c.in_ok-core.plan c.in_ok-acts.field-0 c.as_slice.result.now
-    c.in_ok-core.core c.in_ok-core.ensures.opened c.in_ok-acts.ensures given c.in_ok-core-2.core c.as_slice-2.result.now
-    c.in_ok-core-2.ensures strays
+    let lines = pieces_after (option_copied c.in_ok-plan.text) in
+    let opens = opened c.args.blocks c.args.input.now lines c.in_ok-plan.plan c.in_ok-core.core c.in_ok-plan.ensures.read c.in_ok-core.ensures.core in
+    let given : c.as_slice.result.now ≡ c.in_ok-core.field-0-1.acts.items = search rules in
+    text_of_run c.args.blocks c.args.input.now lines c.in_ok-plan.plan c.in_ok-core.field-0-1 c.as_slice.result.now
+    c.in_ok-core.core opens c.in_ok-core.ensures.routed given c.in_ok-core-2.core c.in_ok-core.field-0-1.strays.items
+    c.in_ok-core-2.ensures refl
 
-pub returns-in_err-write_core-clause-fault : goal.returns-in_err-write_core-clause-fault
-returns-in_err-write_core-clause-fault g c =
-    let none : refusal_of c.args.blocks c.args.input.now ≡ None = c.in_ok-core.ensures.opened.served in
-    let fault : IsFault (refusal_of c.args.blocks c.args.input.now) (fault_of_writing c.in_err-write_core.field-0.0) =
-    writing_is_fault (refusal_of c.args.blocks c.args.input.now) c.in_err-write_core.field-0.0 none in
+pub returns-in_err-write-clause-fault : goal.returns-in_err-write-clause-fault
+returns-in_err-write-clause-fault g c =
+    let fault : IsFault (refusal_of c.args.blocks c.args.input.now) (fault_of_writing c.in_err-write.field-0.0) =
+    writing_is_fault (refusal_of c.args.blocks c.args.input.now) c.in_err-write.field-0.0 (served g (goal.at.returns-in_err-write-clause-fault g c).After-write) in
     search rules
 
-pub returns-in_err-write_core-clause-left : goal.returns-in_err-write_core-clause-left
-returns-in_err-write_core-clause-left g c =
-    let is = told g (goal.at.returns-in_err-write_core-clause-left g c).After-write_core in
-    let left = rw is at c.in_err-write_core.ensures.left in
-    let leaves : Leaves g.W.Write.contents (transcript_of c.args.blocks c.args.input.now) c.args.output.now c.write_core.new.output (fault_of_writing c.in_err-write_core.field-0.0) =
-    writing_leaves g.W.Write.contents (transcript_of c.args.blocks c.args.input.now) c.args.output.now c.write_core.new.output c.in_err-write_core.field-0.0 left in
+pub returns-in_err-write-clause-left : goal.returns-in_err-write-clause-left
+returns-in_err-write-clause-left g c =
+    let is = told g (goal.at.returns-in_err-write-clause-left g c).After-write in
+    let given : LeavesOfText g.W.Write.contents (core_text_of c.in_ok-core-2.core c.in_ok-core.field-0-1.strays.items) c.args.output.now c.write.new.output c.in_err-write.field-0.0 =
+    c.in_err-write.ensures.left in
+    let left = subst (λ text. LeavesOfText g.W.Write.contents text c.args.output.now c.write.new.output c.in_err-write.field-0.0) is given in
+    let leaves : Leaves g.W.Write.contents (transcript_of c.args.blocks c.args.input.now) c.args.output.now c.write.new.output (fault_of_writing c.in_err-write.field-0.0) =
+    writing_leaves g.W.Write.contents (transcript_of c.args.blocks c.args.input.now) c.args.output.now c.write.new.output c.in_err-write.field-0.0 left in
     search rules
+
+pub returns-clause-served : goal.returns-clause-served
+returns-clause-served g c = served g (goal.at.returns-clause-served g c).After-write
 
 pub returns-clause-core : goal.returns-clause-core
-returns-clause-core g c = hosts g (goal.at.returns-clause-core g c).After-write_core
+returns-clause-core g c =
+    let is = hosts g (goal.at.returns-clause-core g c).After-write in
+    search rules
 
 pub returns-clause-written : goal.returns-clause-written
 returns-clause-written g c =
-    let is = told g (goal.at.returns-clause-written g c).After-write_core in
-    rw is at c.in_ok-write_core.ensures.written
+    let is = told g (goal.at.returns-clause-written g c).After-write in
+    let old = g.W.Write.contents c.args.output.now in
+    let new = g.W.Write.contents c.write.new.output in
+    let given : Appends old new (core_text_of c.in_ok-core-2.core c.in_ok-core.field-0-1.strays.items) = c.in_ok-write.ensures.written in
+    subst (Appends old new) is given
