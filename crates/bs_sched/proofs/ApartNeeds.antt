@@ -34,7 +34,7 @@ use Rattle.bs_sched.proofs.ApartLanes.{queued, hands_alone}
 use Rattle.bs_sched.proofs.ApartRows.{own_jobs}
 use Rattle.bs_sched.proofs.ApartRun.{CanStep, CanRun, storage_run, games_law, after_commands}
 use Rattle.bs_sched.proofs.ApartStep.{lone_storage, renamed_frames}
-use Rattle.bs_sched.proofs.Journal.{keeps_apart}
+use Rattle.bs_sched.proofs.Journaled.{keeps_apart}
 use Rattle.bs_sched.proofs.ApartStorage.{AreBelow}
 
 -- elements of the first list

@@ -20,7 +20,7 @@ use Rattle.bs_sched.specs.Journal.{setting_in}
 use Rattle.bs_sched.specs.Lane.{Lane, empty_lane, occupies, is_idle, has_begin, has_join}
 use Rattle.bs_sched.specs.Machine.{Setting, lane_of, is_enabled, step, run_of}
 use Rattle.bs_sched.proofs.ApartLanes.{AreFree, GoesBeside, jobs_beside, queued, handed, hands_alone, AreHanded, hands_run, are_open}
-use Rattle.bs_sched.proofs.Journal.{keeps_apart}
+use Rattle.bs_sched.proofs.Journaled.{keeps_apart}
 
 -- events after events
 

@@ -26,7 +26,7 @@ use Rattle.bs_sched.specs.PlanBlocks.{reservations_of}
 use Rattle.bs_sched.specs.Storage.{frame_tag, record_tag}
 use Rattle.bs_sched.proofs.ApartReservations.{own_reserved}
 use Rattle.bs_sched.proofs.ApartRows.{AreAlone}
-use Rattle.bs_sched.proofs.Journal.{keeps_apart}
+use Rattle.bs_sched.proofs.Journaled.{keeps_apart}
 use Rattle.bs_sched.proofs.OpenStays.{many_open, run_stays}
 use Rattle.bs_sched.specs.Registry.{registry_of}
 use Rattle.bs_sched.proofs.PlanBlocks.{none_from, none_next}

@@ -20,7 +20,7 @@ use Rattle.bs_sched.specs.inner.Journal.{core_of, jobs_out, out_of_lane, out_of_
 use Rattle.bs_sched.specs.Isolation.{opened_lanes}
 use Rattle.bs_sched.specs.Lane.{Lane, empty_lane, has_begin, has_join, is_idle}
 use Rattle.bs_sched.proofs.BusyTable.{none_there}
-use Rattle.bs_sched.proofs.Journal.{opened_journal}
+use Rattle.bs_sched.proofs.Journaled.{opened_journal}
 
 abbrev pub IsIdle : Lane → Type 0
 IsIdle x = is_idle x.stage ≡ true

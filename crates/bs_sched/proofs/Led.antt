@@ -23,7 +23,7 @@ use Rattle.bs_sched.specs.Machine.{lane_of, open_blocks}
 use Rattle.bs_sched.specs.PlanBlocks.{reservations_of}
 use Rattle.bs_sched.specs.SharedMemory.{shared_world}
 use Rattle.bs_sched.specs.Storage.{Storage, frame_tag, frames_of, packing_of, record_tag}
-use Rattle.bs_sched.proofs.Journal.{keeps_apart}
+use Rattle.bs_sched.proofs.Journaled.{keeps_apart}
 use Rattle.bs_sched.proofs.ListedGames.{lane_at, many_lanes, numbers_at, packing_at}
 use Rattle.bs_sched.proofs.OpenStays.{all_open, many_open, reserved_open, run_stays}
 use Rattle.bs_sched.proofs.Registered.{registry_opened}

@@ -18,7 +18,7 @@ pub mod HandedCommands
 pub mod Isolation
 pub mod JobWeight
 pub mod JobsOut
-pub mod Journal
+pub mod Journaled
 pub mod KeptRecords
 pub mod Lanes
 pub mod ListedGames

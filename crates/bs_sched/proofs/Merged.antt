@@ -8,7 +8,7 @@ use Rattle.bs_sched.specs.declared.event.Event.{Event}
 use Rattle.bs_sched.specs.declared.event.Event.TheVariants as event
 use Rattle.bs_sched.specs.Assembly.{Hand, IsOrderOf, assembled_journal, commands_for, hand_event, job_at, jobs_at, jobs_from}
 use Rattle.bs_sched.specs.Core.{CoreView}
-use Rattle.bs_sched.specs.inner.Assembling.{all_jobs, first_event, first_hand, hands_taken, lefts_after, merged, taken_from}
+use Rattle.bs_sched.specs.inner.Merging.{all_jobs, first_event, first_hand, hands_taken, lefts_after, merged, taken_from}
 use Rattle.bs_sched.proofs.ApartLanes.{for_this, for_others}
 use Rattle.bs_sched.proofs.ApartRows.{AreAlone}
 

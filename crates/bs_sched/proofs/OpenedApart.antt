@@ -17,7 +17,7 @@ use Rattle.bs_sched.specs.PlanBlocks.{reservations_of}
 use Rattle.bs_sched.specs.SharedMemory.{IsHosted}
 use Rattle.bs_pool.proofs.Woven.{fresh_woven}
 use Rattle.bs_sched.proofs.ApartGames.{all_unowned}
-use Rattle.bs_sched.proofs.Journal.{opened_journal}
+use Rattle.bs_sched.proofs.Journaled.{opened_journal}
 
 abbrev IsFitRow : GameRow → Type 0
 IsFitRow row = is_fit_row row ≡ true

@@ -11,7 +11,8 @@ use Rattle.bs_sched.specs.declared.event.Event.{Event}
 use Rattle.bs_sched.specs.Assembly.{Hand, IsOrderOf, assembled, hand_event, jobs_from, own_lane, setting_with, RanApart}
 use Rattle.bs_sched.specs.Core.{CoreView, without_tallies}
 use Rattle.bs_sched.specs.Game.{GameView}
-use Rattle.bs_sched.specs.inner.Assembling.{AreLedTo, AreNext, ArePlaced, GatheredView, IsWork, games_of, gathered_from, gathered_of, merged}
+use Rattle.bs_sched.specs.inner.Assembling.{AreLedTo, AreNext, ArePlaced, GatheredView, IsWork, games_of, gathered_from, gathered_of}
+use Rattle.bs_sched.specs.inner.Merging.{merged}
 use Rattle.bs_sched.specs.inner.GamesLayout.{lanes_in, tallies_in}
 use Rattle.bs_sched.specs.inner.Journal.{core_of}
 use Rattle.bs_sched.specs.Journal.{IsItsJournal}

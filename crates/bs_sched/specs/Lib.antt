@@ -4,6 +4,7 @@ pub mod Coming
 pub mod Game
 pub mod Games
 pub mod Core
+pub mod Events
 pub mod Frames
 pub mod Courses
 pub mod Handed

@@ -12,6 +12,7 @@ pub mod Journal
 pub mod Keyed
 pub mod Lane
 pub mod LastBoards
+pub mod Merging
 pub mod MoveParts
 pub mod PartsLayout
 pub mod Putting

@@ -1,5 +1,5 @@
 //! The core: all stays, and the journal of their events.
-ghost use Rattle.std.specs.Prelude.{◌≡◌, ◌+◌, ◌<◌, ◌≤◌, [], ◌∷◌, ◌++◌, true, length, vec_len, vec_capacity, slice_index_or, map, option_map, IfOk, OnOk, OnErr};
+ghost use Rattle.std.specs.Prelude.{◌≡◌, ◌+◌, ◌<◌, ◌≤◌, [], ◌++◌, true, length, slice_index_or, map, option_map, IfOk, OnOk, OnErr};
 ghost use Rattle.std.specs.List.{list_all};
 ghost use Rattle.bs_board.specs.plans.Plan.{IsFitPlan};
 ghost use Rattle.bs_game.specs.Game.{game_charge, last_board};
@@ -15,6 +15,7 @@ ghost use Rattle.bs_sched.specs.declared.event.Event.TheVariants as event;
 use crate::event::Event;
 use crate::fiber::keeps_limits;
 use crate::games::Games;
+use crate::journal::Journal;
 use bs_board::{Board, Command, KeptBoard, Reply, Row};
 use bs_fiber::{Contents, Handles, QueuedCommand, SharedCommand};
 use std::alloc::{AllocError, Global};
@@ -46,7 +47,7 @@ pub(crate) const MOST_SPARES: usize = 64;
 pub struct Core<const CAP: usize> {
     pub(crate) games: Games<CAP>,
     /// The events, in order.
-    pub(crate) journal: Vec<Event>,
+    pub(crate) journal: Journal,
     /// The number of jobs that are out. The journal has room for the completion of each.
     pub(crate) out: usize,
     /// For each worker, whether it has a Begin or a Join out.
@@ -67,33 +68,6 @@ impl<const CAP: usize> Model for Core<CAP> {
     ghost view = { λ c. core_in c };
 
     ghost invariant = { λ c. IsJournaled CAP c };
-}
-
-/// Makes room for `more` events besides the completions of the jobs that are out. The sum cannot
-/// overflow, since each of the 64 open stays has at most four jobs out; an overflow would be
-/// reported as out of memory.
-pub(crate) fn reserve_events(
-    journal: &mut Vec<Event>,
-    out: usize,
-    more: usize,
-) -> Result<(), AllocError>
-    ensures items { journal.new.items ≡ journal.old.items }
-    ensures len { vec_len journal.new ≡ vec_len journal.old }
-    ensures grown { vec_capacity journal.old ≤ vec_capacity journal.new }
-    ensures room { OnOk result (vec_len journal.new + out + more ≤ vec_capacity journal.new) }
-{
-    let room = out.checked_add(more).ok_or(AllocError)?;
-    journal.reserve(room)
-}
-
-/// Appends an event, for which there is room.
-pub(crate) fn note(journal: &mut Vec<Event>, event: Event)
-    requires { vec_len journal.old < vec_capacity journal.old }
-    ensures items { journal.new.items ≡ journal.old.items ++ event ∷ [] }
-    ensures len { vec_len journal.new ≡ vec_len journal.old + 1 }
-    ensures capacity { vec_capacity journal.new ≡ vec_capacity journal.old }
-{
-    journal.push_reserved(event);
 }
 
 impl<const CAP: usize> Core<CAP> {
@@ -118,9 +92,9 @@ impl<const CAP: usize> Core<CAP> {
         keeps_limits(handles.get());
         let (queued, noted) = handles.into_parts();
         let row = self.games.row_number(game);
-        reserve_events(&mut self.journal, self.out, 1)?;
+        self.journal.reserve(self.out, 1)?;
         self.games.hand(game, queued)?;
-        note(&mut self.journal, Event::Hand(row, noted));
+        self.journal.note(Event::Hand(row, noted));
         Ok(())
     }
 
@@ -141,12 +115,20 @@ impl<const CAP: usize> Core<CAP> {
     /// All events in order: each command queued, each job taken and completed, each stay opened and
     /// closed. Every event was enabled when it happened, and a newly opened core reaches this
     /// core's state by them. So the isolation law holds of the core between any two calls.
-    pub fn journal(&self) -> &[Event]
-        ensures value { result.now ≡ self.now.journal }
+    pub fn journal(&self) -> &Journal
+        ensures value { result.now.events ≡ self.now.journal }
         ensures journal { IsItsJournal CAP self.now }
         ensures apart { KeepsApart CAP self.now }
     {
-        self.journal.as_slice()
+        &self.journal
+    }
+
+    /// The journal alone.
+    pub fn into_journal(self) -> Journal
+        ensures { result.events ≡ self.entry.journal }
+    {
+        let Core { journal, .. } = self;
+        journal
     }
 
     /// The number of stays: those of the plan, then those that were admitted.

@@ -11,8 +11,8 @@ ghost use Rattle.bs_sched.specs.declared.opening.Open.TheVariants as cause;
 
 use crate::busy::nobody_busy;
 use crate::cores::{Core, LEAST_CAPACITY, MOST_SPARES, MOST_WORKERS};
-use crate::event::Event;
 use crate::games::Games;
+use crate::journal::Journal;
 use crate::last_games::spread_games;
 use bs_board::{Plan, Rows};
 use bs_pool::Pool;
@@ -51,7 +51,7 @@ impl<const CAP: usize> Core<CAP> {
         ensures short { IfErr result (λ fault. fault ≡ cause.Short → blocks < blocks_of_all CAP plan.rows) }
     {
         let games = Games::open(alloc, plan, blocks, workers)?;
-        Ok(Core::of_games(alloc, games, Vec::new(alloc))?)
+        Ok(Core::of_games(alloc, games, Journal::new(alloc))?)
     }
 
     /// Opens a core over a new pool.
@@ -69,18 +69,19 @@ impl<const CAP: usize> Core<CAP> {
     {
         let _rows = rows.as_slice();
         let games = Games::open_in(alloc, rows, pool, workers)?;
-        Core::of_games(alloc, games, Vec::new(alloc))
+        Core::of_games(alloc, games, Journal::new(alloc))
     }
 
     /// Makes a core of games without a job in progress, and of the events that lead to them.
     pub(crate) fn of_games(
         alloc: Global,
         games: Games<CAP>,
-        journal: Vec<Event>,
+        journal: Journal,
     ) -> Result<Self, AllocError>
-        requires journal { IsItsJournal CAP (core_of games journal.items) }
+        requires journal { IsItsJournal CAP (core_of games journal.events) }
+        requires room { journal.used ≤ journal.room }
         requires idle { All (λ x. is_idle x.stage ≡ true) games.lanes }
-        ensures { IfOk result (λ core. core ≡ core_of games.entry journal.items) }
+        ensures { IfOk result (λ core. core ≡ core_of games.entry journal.events) }
     {
         let workers = games.workers();
         let last_games = spread_games(alloc, workers, games.count_rows())?;

@@ -8,7 +8,7 @@ ghost use Rattle.bs_sched.specs.Parts.{AreOwnParts, IsOwnPart, core_run, puts_of
 ghost use Rattle.bs_sched.specs.declared.event.Event.TheVariants as event;
 
 use crate::busy::mark;
-use crate::cores::{Core, note};
+use crate::cores::Core;
 use crate::event::Event;
 use arrayvec::ArrayVec;
 use bs_fiber::{Contents, Done};
@@ -49,7 +49,7 @@ impl<const CAP: usize> Core<CAP> {
         let job = done.ticket().job();
         let number = done.ticket().worker();
         let spent = self.games.complete(done);
-        note(&mut self.journal, Event::Put(number, job));
+        self.journal.note(Event::Put(number, job));
         self.out -= 1;
         mark(&mut self.busy, worker, job.kind, false);
         keep_spare(&mut self.spares, spent);

@@ -8,8 +8,8 @@ ghost use Rattle.bs_registry.specs.Blocks.{blocks_of, blocks_of_all};
 ghost use Rattle.bs_sched.specs.SharedMemory.{IsHosted};
 
 use crate::cores::{Core, LEAST_CAPACITY, MOST_WORKERS};
-use crate::event::Event;
 use crate::games::Games;
+use crate::journal::Journal;
 use bs_block::Block;
 use bs_board::{Row, Rows};
 use bs_pool::Pool;
@@ -86,9 +86,9 @@ impl<const CAP: usize> Core<CAP> {
         games
     }
 
-    pub(crate) fn into_games_and_journal(self) -> (Games<CAP>, Vec<Event>)
+    pub(crate) fn into_games_and_journal(self) -> (Games<CAP>, Journal)
         ensures games { result.0 ≡ self.entry.games }
-        ensures journal { result.1.items ≡ self.entry.journal }
+        ensures journal { result.1.events ≡ self.entry.journal }
     {
         let Core { games, journal, .. } = self;
         (games, journal)

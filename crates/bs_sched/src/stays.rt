@@ -10,7 +10,7 @@ ghost use Rattle.bs_sched.specs.declared.event.Event.TheVariants as event;
 ghost use Rattle.bs_sched.specs.declared.stays.Admit.TheVariants as admit;
 ghost use Rattle.bs_sched.specs.declared.stays.Leave.TheVariants as leave;
 
-use crate::cores::{Core, note, reserve_events};
+use crate::cores::Core;
 use crate::event::Event;
 use crate::shared_row::SharedRow;
 use bs_board::Row;
@@ -92,9 +92,9 @@ impl<const CAP: usize> Core<CAP> {
     {
         keeps_row(&row);
         let noted = SharedRow::new(alloc, row.copy(alloc)?)?;
-        reserve_events(&mut self.journal, self.out, 1)?;
+        self.journal.reserve(self.out, 1)?;
         let game = self.games.admit(alloc, row)?;
-        note(&mut self.journal, Event::Admit(noted));
+        self.journal.note(Event::Admit(noted));
         Ok(game)
     }
 
@@ -117,9 +117,9 @@ impl<const CAP: usize> Core<CAP> {
         ensures err { OnErr result (self.new ≡ self.old) }
     {
         let row = self.games.row_number(game);
-        reserve_events(&mut self.journal, self.out, 1)?;
+        self.journal.reserve(self.out, 1)?;
         self.games.leave(game);
-        note(&mut self.journal, Event::Leave(row));
+        self.journal.note(Event::Leave(row));
         Ok(())
     }
 

@@ -10,7 +10,7 @@ ghost use Rattle.bs_sched.specs.inner.Taking.{AreNoneOpenReady, AreNoneReady, Fi
 ghost use Rattle.bs_sched.specs.declared.event.Event.TheVariants as event;
 
 use crate::busy::{is_marked, mark};
-use crate::cores::{Core, note, reserve_events};
+use crate::cores::Core;
 use crate::event::Event;
 use crate::last_games::{last_game, note_game};
 use bs_counter::PartKey;
@@ -97,9 +97,9 @@ impl<const CAP: usize> Core<CAP> {
         ensures err { OnErr result (self.new ≡ self.old) }
     {
         let number = self.games.worker_number(worker);
-        reserve_events(&mut self.journal, self.out, 2)?;
+        self.journal.reserve(self.out, 2)?;
         let taken = self.games.take_job(alloc, number, job, self.spares.pop())?;
-        note(&mut self.journal, Event::Take(number, job));
+        self.journal.note(Event::Take(number, job));
         self.out += 1;
         mark(&mut self.busy, worker, job.kind, true);
         note_game(&mut self.last_games, worker, job.game as usize);

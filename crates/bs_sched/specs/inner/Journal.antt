@@ -1,5 +1,5 @@
 -- What private contracts add to specs/Journal.
-use Rattle.std.specs.Prelude.{◌≡◌, ℕ, ◌+◌, ◌≤◌, List, sum_by, Some, None, vec_len, vec_capacity}
+use Rattle.std.specs.Prelude.{◌≡◌, ℕ, ◌+◌, ◌≤◌, List, sum_by, Some, None}
 use Rattle.bs_sched.specs.declared.cores.Core.TheInside.{Inside}
 use Rattle.bs_sched.specs.declared.stage.Stage.{Stage}
 use Rattle.bs_sched.specs.declared.stage.Stage.TheVariants as stage
@@ -36,11 +36,11 @@ abbrev pub core_of : GamesView → List Event → CoreView
 core_of games journal = record { games = games; journal = journal }
 
 abbrev pub core_in : {cap : ℕ} → Inside cap → CoreView
-core_in c = core_of c.games c.journal.items
+core_in c = core_of c.games c.journal.events
 
 -- the journal has memory for the completion of each job that is out
 pub record IsJournaled (cap : ℕ) {at : ℕ} (c : Inside at) : Type 0 where
   pub journal : IsItsJournal cap (core_in c)
   pub out : c.out ≡ jobs_out c.games.lanes
-  pub room : vec_len c.journal + c.out ≤ vec_capacity c.journal
+  pub room : c.journal.used + c.out ≤ c.journal.room
   pub busy : IsBusyTable c.games.workers c.games.lanes c.busy.items

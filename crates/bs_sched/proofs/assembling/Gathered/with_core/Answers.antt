@@ -47,7 +47,7 @@ returns g c =
     = c.in_ok-push.ensures.items ∙ ap (λ (w : GameView). c.args.self.list.items ++ w ∷ []) (c.rename.ensures ∙ placed) in
     let journals : c.push-2.new.self.items ≡ c.args.self.journals.items ++ core.journal ∷ []
     = c.in_ok-push-2.ensures.items ∙ ap (λ (es : List Event). c.args.self.journals.items ++ es ∷ [])
-    (c.new.ensures ∙ c.into_games_and_journal-games.ensures.journal) in
+    (c.new.ensures ∙ c.in_ok-into_vec.ensures ∙ c.into_games_and_journal-games.ensures.journal) in
     let assembly : c.in_ok-assembly.assembly ≡ laid (record_tag row) core.games.storage.pool c.args.self.assembly
     = c.in_ok-assembly.ensures.assembly ∙ (λ i. laid (c.record_tag.ensures i) (pool i) c.args.self.assembly) in
     (λ i. gathered_of (games i) (journals i) (assembly i))

@@ -6,7 +6,7 @@ use Rattle.bs_sched.specs.Core.{CoreView}
 use Rattle.bs_sched.specs.Machine.{is_enabled_there, lane_of}
 use Rattle.bs_sched.proofs.BusyTable.{hand_marks_none}
 use Rattle.bs_sched.proofs.JobsOut.{as_many_handed}
-use Rattle.bs_sched.proofs.Journal.{journaled_after}
+use Rattle.bs_sched.proofs.Journaled.{journaled_after}
 use Rattle.bs_sched.proofs.cores.Core.hand_handles.Goals as goal
 
 pub invariant_of-self-2 : goal.invariant_of-self-2
@@ -18,11 +18,11 @@ invariant_of-self-2 g c =
     let stands : (lane_of inside.games.lanes c.args.game).is_open ≡ true = subst (λ (v : CoreView). (lane_of v.games.lanes c.args.game).is_open ≡ true) (sym c.self.view_is) c.requires.«open» in
     let there : nat_lt c.args.game (length inside.games.lanes) ≡ true = lt-ltb _ _ within in
     let enabled : is_enabled_there inside.games.workers inside.games.lanes e ≡ true = rw (there, stands) refl in
-    let items : c.note.new.journal.items ≡ inside.journal.items ++ e ∷ []
-    = rw (c.note.ensures.items, c.into_parts-queued.ensures.noted, c.row_number-row.ensures, c.reserve_events.ensures.items) refl in
-    let len = c.note.ensures.len in
-    let capacity = c.note.ensures.capacity in
-    let room = c.in_ok-reserve_events.ensures.room in
+    let items : c.note.new.self.events ≡ inside.journal.events ++ e ∷ []
+    = rw (c.note.ensures.events, c.into_parts-queued.ensures.noted, c.row_number-row.ensures, c.reserve.ensures.events) refl in
+    let used = c.note.ensures.used in
+    let same = c.note.ensures.room in
+    let room = c.in_ok-reserve.ensures.room in
     journaled_after g.row.CAP inside e _ c.self.invariant enabled (rw c.get.ensures at c.keeps_limits.ensures) (rw c.into_parts-queued.ensures.queued at c.in_ok-hand.ensures.ok) items
-    (c.self.invariant.out ∙ sym (as_many_handed inside.games.lanes c.args.game command within)) (omega (arith, len, capacity, room))
+    (c.self.invariant.out ∙ sym (as_many_handed inside.games.lanes c.args.game command within)) (omega (arith, used, same, room))
     (hand_marks_none inside.games.workers inside.games.lanes inside.busy.items c.args.game command within c.self.invariant.busy)

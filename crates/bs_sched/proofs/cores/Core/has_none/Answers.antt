@@ -2,7 +2,7 @@ use Rattle.std.proofs.Common.{sym, subst}
 use Rattle.bs_sched.specs.Core.{CoreView}
 use Rattle.bs_sched.specs.inner.Journal.{core_in}
 use Rattle.bs_sched.specs.inner.Taking.{AreNoneOpenReady, AreNoneReady}
-use Rattle.bs_sched.proofs.Journal.{none_ready}
+use Rattle.bs_sched.proofs.Journaled.{none_ready}
 use Rattle.bs_sched.proofs.cores.Core.has_none.Goals as goal
 
 pub returns : goal.returns

@@ -5,7 +5,7 @@ use Rattle.bs_sched.specs.Games.{setting_of}
 use Rattle.bs_sched.specs.Machine.{is_enabled, may_admit}
 use Rattle.bs_sched.proofs.BusyTable.{admit_marks_none}
 use Rattle.bs_sched.proofs.JobsOut.{as_many_admitted}
-use Rattle.bs_sched.proofs.Journal.{journaled_after}
+use Rattle.bs_sched.proofs.Journaled.{journaled_after}
 use Rattle.bs_sched.proofs.cores.Core.open_stay.Goals as goal
 
 pub admit-requires : goal.admit-requires
@@ -20,11 +20,11 @@ invariant_of-self-2 g c =
     let e = event.Admit row in
     let enabled : is_enabled (setting_of g.row.CAP inside.games) inside.games.lanes e ≡ true
     = subst (λ (v : CoreView). may_admit (setting_of g.row.CAP v.games) v.games.lanes row ≡ true) (sym c.self.view_is) c.requires in
-    let items : c.note.new.journal.items ≡ inside.journal.items ++ e ∷ []
-    = rw (c.note.ensures.items, c.in_ok-noted.ensures, c.in_ok-copy.ensures, c.reserve_events.ensures.items) refl in
-    let len = c.note.ensures.len in
-    let capacity = c.note.ensures.capacity in
-    let room = c.in_ok-reserve_events.ensures.room in
+    let items : c.note.new.self.events ≡ inside.journal.events ++ e ∷ []
+    = rw (c.note.ensures.events, c.in_ok-noted.ensures, c.in_ok-copy.ensures, c.reserve.ensures.events) refl in
+    let used = c.note.ensures.used in
+    let same = c.note.ensures.room in
+    let room = c.in_ok-reserve.ensures.room in
     journaled_after g.row.CAP inside e _ c.self.invariant enabled c.keeps_row.ensures c.in_ok-game.ensures.ok items
-    (c.self.invariant.out ∙ sym (as_many_admitted inside.games.lanes row)) (omega (arith, len, capacity, room))
+    (c.self.invariant.out ∙ sym (as_many_admitted inside.games.lanes row)) (omega (arith, used, same, room))
     (admit_marks_none inside.games.workers inside.games.lanes inside.busy.items row c.self.invariant.busy)

@@ -8,7 +8,7 @@ use Rattle.bs_sched.specs.inner.Journal.{jobs_out}
 use Rattle.bs_sched.specs.inner.Busy.{IsBusyTable, marked}
 use Rattle.bs_sched.proofs.BusyTable.{put_marks}
 use Rattle.bs_sched.proofs.JobsOut.{one_less_out}
-use Rattle.bs_sched.proofs.Journal.{journaled_after}
+use Rattle.bs_sched.proofs.Journaled.{journaled_after}
 use Rattle.bs_sched.proofs.cores.Core.put_own.Goals as goal
 
 pub invariant_of-self : goal.invariant_of-self
@@ -19,14 +19,14 @@ invariant_of-self g c =
     let enabled : is_enabled_there inside.games.workers inside.games.lanes e ≡ true
     = subst (λ (v : CoreView). is_enabled_there v.games.workers v.games.lanes e ≡ true) (sym c.self.view_is) c.requires.out in
     let worker = c.worker-number.ensures ∙ ap (λ (i : TicketView). i.input.worker) c.ticket-2.ensures ∙ ap (λ (i : Input). i.worker) c.requires.input in
-    let items : c.note.new.journal.items ≡ inside.journal.items ++ e ∷ [] = rw (c.note.ensures.items, job, worker) refl in
+    let items : c.note.new.self.events ≡ inside.journal.events ++ e ∷ [] = rw (c.note.ensures.events, job, worker) refl in
     let less = one_less_out inside.games.workers inside.games.lanes c.args.worker c.args.done.input.job enabled in
     let counted = c.self.invariant.out in
     let fewer : inside.out - 1 ≡ jobs_out (lane_effect inside.games.lanes e) = omega (arith, counted, less) in
-    let len = c.note.ensures.len in
-    let capacity = c.note.ensures.capacity in
+    let used = c.note.ensures.used in
+    let same = c.note.ensures.room in
     let room = c.self.invariant.room in
     let marks : c.mark.new.busy.items ≡ marked c.args.done.input.job.kind c.args.worker false inside.busy.items = rw (c.mark.ensures, job) refl in
-    journaled_after g.row.CAP inside e _ c.self.invariant enabled tt c.complete-spent.ensures items fewer (omega (arith, counted, less, len, capacity, room))
+    journaled_after g.row.CAP inside e _ c.self.invariant enabled tt c.complete-spent.ensures items fewer (omega (arith, counted, less, used, same, room))
     (subst (IsBusyTable inside.games.workers (lane_effect inside.games.lanes e)) (sym marks)
     (put_marks inside.games.workers inside.games.lanes inside.busy.items c.args.worker c.args.done.input.job enabled c.self.invariant.busy))

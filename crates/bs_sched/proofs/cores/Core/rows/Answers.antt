@@ -3,7 +3,7 @@ use Rattle.bs_sched.specs.Registry.{rows_in}
 use Rattle.bs_sched.specs.Core.{CoreView}
 use Rattle.bs_sched.specs.inner.Journal.{core_in}
 use Rattle.bs_sched.specs.Lane.{Lane}
-use Rattle.bs_sched.proofs.Journal.{rows_made}
+use Rattle.bs_sched.proofs.Journaled.{rows_made}
 use Rattle.bs_sched.proofs.cores.Core.rows.Goals as goal
 
 pub returns-clause-made : goal.returns-clause-made

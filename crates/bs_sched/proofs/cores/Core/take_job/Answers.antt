@@ -5,7 +5,7 @@ use Rattle.bs_sched.specs.Machine.{is_enabled_there, lane_effect}
 use Rattle.bs_sched.specs.inner.Busy.{IsBusyTable}
 use Rattle.bs_sched.proofs.BusyTable.{take_marks}
 use Rattle.bs_sched.proofs.JobsOut.{one_more_out}
-use Rattle.bs_sched.proofs.Journal.{journaled_told}
+use Rattle.bs_sched.proofs.Journaled.{journaled_told}
 use Rattle.bs_sched.proofs.cores.Core.take_job.Goals as goal
 
 pub invariant_of-self-2 : goal.invariant_of-self-2
@@ -14,12 +14,12 @@ invariant_of-self-2 g c =
     let e = event.Take c.args.worker c.args.job in
     let enabled : is_enabled_there inside.games.workers inside.games.lanes e ≡ true
     = subst (λ (v : CoreView). is_enabled_there v.games.workers v.games.lanes e ≡ true) (sym c.self.view_is) c.requires.enabled in
-    let items : c.note.new.journal.items ≡ inside.journal.items ++ e ∷ [] = rw (c.note.ensures.items, c.worker_number-number.ensures, c.reserve_events.ensures.items) refl in
+    let items : c.note.new.self.events ≡ inside.journal.events ++ e ∷ [] = rw (c.note.ensures.events, c.worker_number-number.ensures, c.reserve.ensures.events) refl in
     let more = one_more_out inside.games.workers inside.games.lanes c.args.worker c.args.job enabled in
-    let len = c.note.ensures.len in
-    let capacity = c.note.ensures.capacity in
-    let room = c.in_ok-reserve_events.ensures.room in
+    let used = c.note.ensures.used in
+    let same = c.note.ensures.room in
+    let room = c.in_ok-reserve.ensures.room in
     journaled_told g.row.CAP inside e c.take_job.new.self.tallies _ c.self.invariant enabled tt (rw c.worker_number-number.ensures at c.in_ok-taken.ensures.ok) items
-    (ap (λ n. n + 1) c.self.invariant.out ∙ sym more) (omega (arith, len, capacity, room))
+    (ap (λ n. n + 1) c.self.invariant.out ∙ sym more) (omega (arith, used, same, room))
     (subst (IsBusyTable inside.games.workers (lane_effect inside.games.lanes e)) (sym c.mark.ensures)
     (take_marks inside.games.workers inside.games.lanes inside.busy.items c.args.worker c.args.job enabled c.self.invariant.busy))

@@ -1,7 +1,7 @@
 -- Each row still has a journal once the hands are taken.
 use Rattle.std.proofs.Common.{length, ap, ◌∙◌, arith}
 use Rattle.bs_sched.proofs.Merged.{many_left}
-use Rattle.bs_sched.proofs.assembling.merge.Goals as goal
+use Rattle.bs_sched.proofs.merging.merge.Goals as goal
 
 pub move_all_jobs-requires : goal.move_all_jobs-requires
 move_all_jobs-requires c =

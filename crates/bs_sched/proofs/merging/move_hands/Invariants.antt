@@ -1,7 +1,7 @@
 -- What is moved so far, and the rows that are left of the order.
 use Rattle.std.proofs.Common.{◌≡◌, ◌++◌, drop}
-use Rattle.bs_sched.specs.inner.Assembling.{hands_taken, lefts_after}
-use Rattle.bs_sched.proofs.assembling.move_hands.Given as goal
+use Rattle.bs_sched.specs.inner.Merging.{hands_taken, lefts_after}
+use Rattle.bs_sched.proofs.merging.move_hands.Given as goal
 
 abbrev pub invariant-loop-row : goal.invariant-loop-row
 invariant-loop-row l = record {

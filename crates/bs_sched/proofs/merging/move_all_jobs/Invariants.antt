@@ -1,7 +1,7 @@
 -- The jobs moved so far, then those of the journals that are left.
 use Rattle.std.proofs.Common.{◌≡◌, ◌+◌, ◌++◌, length}
-use Rattle.bs_sched.specs.inner.Assembling.{all_jobs}
-use Rattle.bs_sched.proofs.assembling.move_all_jobs.Given as goal
+use Rattle.bs_sched.specs.inner.Merging.{all_jobs}
+use Rattle.bs_sched.proofs.merging.move_all_jobs.Given as goal
 
 abbrev pub invariant-loop-left : goal.invariant-loop-left
 invariant-loop-left l = record {

@@ -1,6 +1,6 @@
 -- A core is its journal, before and after each event, and so the isolation law speaks of it.
 use Rattle.std.proofs.Common.{◌≡◌, ℕ, ◌+◌, ◌<◌, ◌≤◌, false, true, List, [], ◌∷◌, ◌++◌, length, map, Option, refl, sym, ap, subst, ◌∙◌, arith, inl, inr}
-use Rattle.std.specs.Prelude.{All, vec_len, vec_capacity}
+use Rattle.std.specs.Prelude.{All}
 use Rattle.std.proofs.lemmas.Bool.{cases_Bool, cond-true, and_from}
 use Rattle.std.proofs.lemmas.List.Elements.{All-nil, All-cons, All-append}
 use Rattle.std.proofs.lemmas.List.Sums.{fold-append}
@@ -155,12 +155,12 @@ journal_told cap core tallies is = record { hosted = is.hosted; fits = is.fits; 
 -- how a core that has one event more lies in its fields, with whatever tallies
 pub journaled_told : (cap : ℕ) {at : ℕ} (c : Inside at) (e : Event) (tallies : List (Option TallyId)) (new : Inside at) → IsJournaled cap c
     → is_enabled (setting_of cap c.games) c.games.lanes e ≡ true → HandsFit e → new.games ≡ record (after cap c.games e) { tallies = tallies }
-    → new.journal.items ≡ c.journal.items ++ e ∷ [] → new.out ≡ jobs_out (after cap c.games e).lanes → vec_len new.journal + new.out ≤ vec_capacity new.journal
+    → new.journal.events ≡ c.journal.events ++ e ∷ [] → new.out ≡ jobs_out (after cap c.games e).lanes → new.journal.used + new.out ≤ new.journal.room
     → IsBusyTable c.games.workers (lane_effect c.games.lanes e) new.busy.items → IsJournaled cap new
 journaled_told cap c e tallies new sound enabled fits games journal out room busy =
     let told : GamesView = record (after cap c.games e) { tallies = tallies } in
-    let is : core_in new ≡ record { games = told; journal = c.journal.items ++ e ∷ [] }
-    = ap (λ (g : GamesView). record { games = g; journal = new.journal.items }) games ∙ ap (λ (j : List Event). record { games = told; journal = j }) journal in
+    let is : core_in new ≡ record { games = told; journal = c.journal.events ++ e ∷ [] }
+    = ap (λ (g : GamesView). record { games = g; journal = new.journal.events }) games ∙ ap (λ (j : List Event). record { games = told; journal = j }) journal in
     record {
       journal =
           subst (IsItsJournal cap) (sym is) (journal_told cap (core_after cap (core_in c) e) tallies (journal_after cap (core_in c) e sound.journal enabled fits));
@@ -170,8 +170,8 @@ journaled_told cap c e tallies new sound enabled fits games journal out room bus
     }
 
 pub journaled_after : (cap : ℕ) {at : ℕ} (c : Inside at) (e : Event) (new : Inside at) → IsJournaled cap c
-    → is_enabled (setting_of cap c.games) c.games.lanes e ≡ true → HandsFit e → new.games ≡ after cap c.games e → new.journal.items ≡ c.journal.items ++ e ∷ []
-    → new.out ≡ jobs_out (after cap c.games e).lanes → vec_len new.journal + new.out ≤ vec_capacity new.journal
+    → is_enabled (setting_of cap c.games) c.games.lanes e ≡ true → HandsFit e → new.games ≡ after cap c.games e → new.journal.events ≡ c.journal.events ++ e ∷ []
+    → new.out ≡ jobs_out (after cap c.games e).lanes → new.journal.used + new.out ≤ new.journal.room
     → IsBusyTable c.games.workers (lane_effect c.games.lanes e) new.busy.items → IsJournaled cap new
 journaled_after cap c e new sound enabled fits games journal out room busy =
     journaled_told cap c e c.games.tallies new sound enabled fits games journal out room busy

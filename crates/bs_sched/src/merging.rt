@@ -1,0 +1,186 @@
+//! The journals of cores of one row each, merged to the journal of the core of all rows.
+ghost use Rattle.std.specs.Prelude.{◌≡◌, ◌++◌, [], drop, ◌<◌, ◌≤◌, length, option_to_list, slice_index_or, IfOk, OnOk};
+ghost use Rattle.bs_sched.specs.Assembly.{job_at, job_event, jobs_at};
+ghost use Rattle.bs_sched.specs.inner.Merging.{all_jobs, first_event, first_hand, hand_at, hands_taken, lefts_after, merged, taken_from};
+
+use crate::event::Event;
+use bs_fiber::JobName;
+use bs_registry::MOST_STAYS;
+use std::alloc::{AllocError, Global};
+use std::collections::VecDeque;
+use std::marker::Model;
+
+/// The job with another row.
+fn job_at(row: usize, job: JobName) -> JobName
+    requires { row < MOST_STAYS }
+    ensures { result ≡ job_at row job }
+{
+    JobName {
+        kind: job.kind,
+        game: row as u32,
+        part: job.part,
+    }
+}
+
+/// The event with another row, if it is a job's.
+fn job_event(row: usize, event: Event) -> Option<Event>
+    requires { row < MOST_STAYS }
+    ensures { result ≡ job_event row event }
+{
+    match event {
+        Event::Hand(_, _) => None,
+        Event::Take(worker, job) => Some(Event::Take(worker, job_at(row, job))),
+        Event::Put(worker, job) => Some(Event::Put(worker, job_at(row, job))),
+        Event::Admit(_) => None,
+        Event::Leave(_) => None,
+    }
+}
+
+/// The event with another row, if it queues a command.
+fn hand_at(row: u32, event: Event) -> Option<Event>
+    ensures { result ≡ hand_at row event }
+{
+    match event {
+        Event::Hand(_, command) => Some(Event::Hand(row, command)),
+        Event::Take(_, _) => None,
+        Event::Put(_, _) => None,
+        Event::Admit(_) => None,
+        Event::Leave(_) => None,
+    }
+}
+
+/// What is left of a core's journal.
+#[derive(Drop)]
+pub(crate) struct Left {
+    events: VecDeque<Event>,
+}
+
+impl Model for Left {
+    ghost use Rattle.std.specs.Prelude.{List};
+    ghost use Rattle.bs_sched.specs.declared.event.Event.{Event};
+
+    ghost Value = { List Event };
+
+    ghost view = { λ l. l.events.items };
+}
+
+impl Left {
+    pub(crate) fn new(journal: Vec<Event>) -> Self
+        ensures { result ≡ journal.items }
+    {
+        Left {
+            events: VecDeque::from_vec(journal),
+        }
+    }
+
+    fn len(&self) -> usize {
+        self.events.len()
+    }
+
+    #[tactic(auto, using(crate::proofs::Merged::is_first, crate::proofs::Merged::is_rest))]
+    fn take_first(&mut self) -> Option<Event>
+        ensures first { result ≡ first_event self.old }
+        ensures left { self.new ≡ drop 1 self.old }
+    {
+        self.events.pop_front()
+    }
+
+    /// Takes the first event, with that row, if it queues a command.
+    fn take_hand(&mut self, row: u32) -> Option<Event>
+        ensures hand { result ≡ first_hand row self.old }
+        ensures left { self.new ≡ drop 1 self.old }
+    {
+        hand_at(row, self.take_first()?)
+    }
+
+    /// Moves the jobs that are left to the end of a journal, with another row.
+    fn move_jobs(self, row: usize, journal: &mut Vec<Event>) -> Result<(), AllocError>
+        requires { row < MOST_STAYS }
+        ensures { OnOk result (journal.new.items ≡ journal.old.items ++ jobs_at row self) }
+    {
+        let Left { events } = self;
+        for event in events {
+            if let Some(job) = job_event(row, event) {
+                journal.push(job)?;
+            }
+        }
+        Ok(())
+    }
+}
+
+/// Takes the next hand of that row's journal.
+fn next_hand(lefts: &mut Vec<Left>, row: u32) -> Option<Event>
+    ensures hand { result ≡ first_hand row (slice_index_or lefts.old.items row []) }
+    ensures lefts { lefts.new.items ≡ taken_from row lefts.old.items }
+{
+    let at = row as usize;
+    if at < lefts.len() {
+        lefts[at].take_hand(row)
+    } else {
+        None
+    }
+}
+
+/// Moves the next hand of that row's journal to the end of the whole's.
+fn move_hand(lefts: &mut Vec<Left>, row: u32, journal: &mut Vec<Event>) -> Result<(), AllocError>
+    ensures journal { OnOk result (journal.new.items
+        ≡ journal.old.items ++ option_to_list (first_hand row (slice_index_or lefts.old.items row []))) }
+    ensures lefts { OnOk result (lefts.new.items ≡ taken_from row lefts.old.items) }
+{
+    if let Some(hand) = next_hand(lefts, row) {
+        journal.push(hand)?;
+    }
+    Ok(())
+}
+
+/// Moves a hand for each row of the order.
+fn move_hands(
+    lefts: &mut Vec<Left>,
+    order: &[u32],
+    journal: &mut Vec<Event>,
+) -> Result<(), AllocError>
+    ensures journal { OnOk result (journal.new.items ≡ journal.old.items ++ hands_taken order.now lefts.old.items) }
+    ensures lefts { OnOk result (lefts.new.items ≡ lefts_after order.now lefts.old.items) }
+{
+    for row in order {
+        move_hand(lefts, *row, journal)?;
+    }
+    Ok(())
+}
+
+/// Moves the jobs of each row's journal to the end of the whole's.
+fn move_all_jobs(lefts: Vec<Left>, journal: &mut Vec<Event>) -> Result<(), AllocError>
+    requires { length lefts.items ≤ MOST_STAYS }
+    ensures { OnOk result (journal.new.items ≡ journal.old.items ++ all_jobs 0 lefts.items) }
+{
+    let mut row = 0;
+    for left in lefts {
+        left.move_jobs(row, journal)?;
+        row += 1;
+    }
+    Ok(())
+}
+
+/// The number of all events.
+fn count_events(lefts: &[Left]) -> usize {
+    let mut count = 0usize;
+    for left in lefts {
+        count = count.saturating_add(left.len());
+    }
+    count
+}
+
+/// Merges the journals of the cores: first a hand for each row of the order, then the jobs.
+pub(crate) fn merge(
+    alloc: Global,
+    mut lefts: Vec<Left>,
+    order: &[u32],
+) -> Result<Vec<Event>, AllocError>
+    requires { length lefts.items ≤ MOST_STAYS }
+    ensures { IfOk result (λ journal. journal.items ≡ merged order.now lefts.items) }
+{
+    let mut journal = Vec::with_capacity(alloc, count_events(lefts.as_slice()))?;
+    move_hands(&mut lefts, order, &mut journal)?;
+    move_all_jobs(lefts, &mut journal)?;
+    Ok(journal)
+}
