@@ -1,9 +1,11 @@
 -- The core of one row, in which the commands for the row were queued first, and the assembled core.
-use Rattle.std.proofs.Common.{◌≡◌, ℕ, suc, ◌+◌, ◌<◌, List, [], ◌∷◌, ◌++◌, length, map, take, drop, get_or, Option, Some, None, refl, sym, ap, subst, ◌∙◌, arith, inl, inr}
-use Rattle.std.specs.Prelude.{All, nat_eq, slice_index_or}
+use Rattle.std.proofs.Common.{◌≡◌, ℕ, suc, ◌+◌, ◌<◌, true, List, [], ◌∷◌, ◌++◌, length, map, take, drop, get_or, Option, Some, None, refl, sym, ap, subst, ◌∙◌, arith, inl, inr}
+use Rattle.std.specs.Prelude.{All, nat_eq, nat_lt, slice_index_or}
 use Rattle.std.specs.List.{filter_map}
-use Rattle.std.proofs.lemmas.Bool.{cases_Bool, cases_lt, ne_eqb}
-use Rattle.std.proofs.lemmas.List.{append_assoc, append-nil, get_or-map, get_or_append_left, get_or_push, length-append, length-map, map-append, take_more}
+use Rattle.std.proofs.lemmas.Bool.{cases_Bool, cases_lt, ltb-true, ne_eqb}
+use Rattle.std.proofs.lemmas.Bool.Decides.{eqb_tells}
+use Rattle.std.proofs.lemmas.List.{append_assoc, append-nil, get_or-map, get_or_default, get_or_append_left, get_or_push, length-append, length-map, length-set, get_or-set_other, map-append, take_all, take_more}
+use Rattle.std.proofs.lemmas.Grind.{get_or-set_at}
 use Rattle.std.proofs.lemmas.List.Elements.{All-nil, All-append, All-cons, All-drop, All-take, filter_map-append}
 use Rattle.bs_sched.specs.Assembly.{AreQueuedFirst, Hand, IsJob, IsQueuedFirst, assembled_journal, commands_for, core_at, hand_event, jobs_at, jobs_from}
 use Rattle.bs_sched.specs.Core.{CoreView, opened_core}
@@ -13,7 +15,7 @@ use Rattle.bs_workers.specs.declared.act.Act.{Act}
 use Rattle.bs_workers.specs.declared.act.Act.TheVariants as act
 use Rattle.bs_workers.specs.Acts.{command_in}
 use Rattle.bs_workers.specs.Run.{acts_of}
-use Rattle.bs_workers.specs.inner.Apart.{ArePlayed, AreQueuedIn, HaveRows, IsPlayed, QueuesIn, hand_of, hands_of, row_in}
+use Rattle.bs_workers.specs.inner.Apart.{ArePlayed, AreQueuedIn, HavePlaces, HaveRows, IsPlayed, QueuesIn, acts_at, hand_of, hands_of, placed, row_in}
 use Rattle.bs_workers.specs.inner.Making.{Makes}
 use Rattle.bs_workers.proofs.Acted.{acts_append}
 
@@ -40,11 +42,23 @@ queued_more acts i next row old between new within is before after =
     after ∙ ap (λ (events : List Event). events ++ map (event.Hand 0) one) before
     ∙ append_assoc old (map (event.Hand 0) some) (map (event.Hand 0) one) ∙ ap (λ (events : List Event). old ++ events) (sym all)
 
--- an act for another row queues nothing for this one
-pub other_queued : (acts : List Act) (order : List ℕ) (i : ℕ) (row : ℕ) (old new : List Event) → i < length acts → ¬ (get_or order i 0 ≡ row) → HaveRows acts order
-    → new ≡ old ++ map (event.Hand 0) (filter_map (command_in row) (take i acts))
-    → new ≡ old ++ map (event.Hand 0) (filter_map (command_in row) (take (i + 1) acts))
-other_queued acts order i row old new within other have before =
+-- the command at one more place is queued
+pub queued_at : (acts : List Act) (places : List ℕ) (i : ℕ) (next : Act) (row : ℕ) (old between new : List Event) → i < length places
+    → true ≡ nat_lt (get_or places i 0) (length acts) → next ≡ get_or acts (get_or places i 0) next
+    → between ≡ old ++ map (event.Hand 0) (filter_map (command_in row) (take i (acts_at acts places)))
+    → new ≡ between ++ map (event.Hand 0) (filter_map (command_in row) (next ∷ []))
+    → new ≡ old ++ map (event.Hand 0) (filter_map (command_in row) (take (i + 1) (acts_at acts places)))
+queued_at acts places i next row old between new within less is before after =
+    let act_at = λ (place : ℕ). get_or acts place (act.Leave 0) in
+    let there : i < length (acts_at acts places) = rw (length-map places act_at) within in
+    let gets : next ≡ get_or (acts_at acts places) i (act.Leave 0)
+    = is ∙ get_or_default acts (get_or places i 0) next (act.Leave 0) (ltb-true (get_or places i 0) (length acts) (sym less)) ∙ sym (get_or-map act_at places i 0 (act.Leave 0) within) in
+    queued_more (acts_at acts places) i next row old between new there (gets ∙ get_or_default (acts_at acts places) i (act.Leave 0) next there) before after
+
+-- an act for another row has no command for this one
+other_placed : (acts : List Act) (order : List ℕ) (i : ℕ) (row : ℕ) → i < length acts → ¬ (get_or order i 0 ≡ row) → HaveRows acts order
+    → filter_map (command_in row) (take (i + 1) acts) ≡ filter_map (command_in row) (take i acts)
+other_placed acts order i row within other have =
     let one = get_or acts i (act.Leave 0) in
     let many : length acts ≡ length order = sym (length-map acts row_in) ∙ ap length have ∙ length-map order Some in
     let is : row_in one ≡ Some (get_or order i 0)
@@ -52,10 +66,51 @@ other_queued acts order i row old new within other have before =
     ∙ get_or-map Some order i 0 None (omega (arith, within, many)) in
     let none : filter_map (command_in row) (one ∷ []) ≡ [] = not_for one (get_or order i 0) row is other in
     let more : take (i + 1) acts ≡ take i acts ++ one ∷ [] = take_more acts i (act.Leave 0) within in
-    let same : filter_map (command_in row) (take (i + 1) acts) ≡ filter_map (command_in row) (take i acts)
-    = ap (λ (a : List Act). filter_map (command_in row) a) more ∙ filter_map-append (command_in row) (take i acts) (one ∷ [])
-    ∙ ap (λ rest. filter_map (command_in row) (take i acts) ++ rest) none ∙ append-nil (filter_map (command_in row) (take i acts)) in
-    before ∙ ap (λ commands. old ++ map (event.Hand 0) commands) (sym same)
+    ap (λ (a : List Act). filter_map (command_in row) a) more ∙ filter_map-append (command_in row) (take i acts) (one ∷ [])
+    ∙ ap (λ rest. filter_map (command_in row) (take i acts) ++ rest) none ∙ append-nil (filter_map (command_in row) (take i acts))
+
+-- the acts at the places so far have the commands of the first acts
+abbrev pub ArePlaced : List Act → List (List ℕ) → ℕ → Type 0
+ArePlaced acts places i =
+    (row : ℕ) → row < length places → filter_map (command_in row) (acts_at acts (slice_index_or places row [])) ≡ filter_map (command_in row) (take i acts)
+
+pub none_placed : (acts : List Act) (places : List (List ℕ)) → All (λ list. list ≡ []) places → ArePlaced acts places 0
+none_placed acts places none = λ row within. ap (λ list. filter_map (command_in row) (acts_at acts list)) (none row [] within)
+
+pub one_placed : (acts : List Act) (order : List ℕ) (i : ℕ) (old new : List (List ℕ)) → i < length order → HaveRows acts order
+    → new ≡ placed (get_or order i 0) i old → ArePlaced acts old i → ArePlaced acts new (i + 1)
+one_placed acts order i old new less have is before =
+    λ row within.
+    let many : length acts ≡ length order = sym (length-map acts row_in) ∙ ap length have ∙ length-map order Some in
+    let there : i < length acts = omega (arith, less, many) in
+    let to = get_or order i 0 in
+    let list = get_or old to [] ++ i ∷ [] in
+    let long : length new ≡ length old = ap length is ∙ length-set old to list in
+    let inside : row < length old = omega (arith, within, long) in
+    let one = get_or acts i (act.Leave 0) in
+    let commands = filter_map (command_in row) in
+    elim (eqb_tells row to) [
+      | inl on ↦
+          let same : row ≡ to = on.1 in
+          let gets : get_or new row [] ≡ get_or old row [] ++ i ∷ []
+          = ap (λ lists. get_or lists row []) is ∙ get_or-set_at old to row list [] same (subst (λ r. r < length old) same inside)
+          ∙ ap (λ r. get_or old r [] ++ i ∷ []) (sym same) in
+          ap (λ places. commands (acts_at acts places)) gets
+          ∙ ap commands (map-append (λ place. get_or acts place (act.Leave 0)) (get_or old row []) (i ∷ []))
+          ∙ filter_map-append (command_in row) (acts_at acts (get_or old row [])) (one ∷ [])
+          ∙ ap (λ some. some ++ commands (one ∷ [])) (before row inside)
+          ∙ sym (ap commands (take_more acts i (act.Leave 0) there) ∙ filter_map-append (command_in row) (take i acts) (one ∷ []))
+      | inr off ↦
+          let other : ¬ (row ≡ to) = off.1 in
+          ap (λ places. commands (acts_at acts places)) (ap (λ lists. get_or lists row []) is ∙ get_or-set_other old to row list [] other)
+          ∙ before row inside ∙ sym (other_placed acts order i row there (λ e. other (sym e)) have)
+    ]
+
+pub all_placed : (acts : List Act) (order : List ℕ) (places : List (List ℕ)) → HaveRows acts order → ArePlaced acts places (length order) → HavePlaces acts places
+all_placed acts order places have are =
+    λ row within.
+    let many : length acts ≡ length order = sym (length-map acts row_in) ∙ ap length have ∙ length-map order Some in
+    are row within ∙ ap (filter_map (command_in row)) (take_all (length order) acts (omega (arith, many)))
 
 -- events that make no act are jobs
 are_jobs : (events : List Event) → acts_of events ≡ [] → All IsJob events
@@ -66,15 +121,19 @@ are_jobs (event.Put worker job ∷ events) none = All-cons IsJob (event.Put work
 are_jobs (event.Admit row ∷ events) none = absurd cc
 are_jobs (event.Leave game ∷ events) none = absurd cc
 
-pub played : (acts : List Act) (order : List ℕ) (row : ℕ) (old between new : CoreView) → old.journal ≡ []
-    → (HaveRows acts order → between.journal ≡ old.journal ++ map (event.Hand 0) (filter_map (command_in row) acts)) → Makes [] between new
-    → IsPlayed acts order row new
-played acts order row old between new empty queued made =
+pub played : (acts : List Act) (places : List (List ℕ)) (row : ℕ) (list : List ℕ) (old between new : CoreView) → old.journal ≡ [] → row < length places
+    → list ≡ slice_index_or places row []
+    → between.journal ≡ old.journal ++ map (event.Hand 0) (filter_map (command_in row) (acts_at acts list)) → Makes [] between new
+    → IsPlayed acts places row new
+played acts places row list old between new empty within is queued made =
     λ have.
     let hands = map (event.Hand 0) (filter_map (command_in row) acts) in
+    let same : filter_map (command_in row) (acts_at acts list) ≡ filter_map (command_in row) acts
+    = ap (λ list. filter_map (command_in row) (acts_at acts list)) is ∙ have row within in
     record {
       jobs = made.added;
-      journal_is = made.journal ∙ ap (λ (events : List Event). events ++ made.added) (queued have ∙ ap (λ (events : List Event). events ++ hands) empty);
+      journal_is = made.journal ∙ ap (λ (events : List Event). events ++ made.added)
+          (queued ∙ ap (λ commands. old.journal ++ map (event.Hand 0) commands) same ∙ ap (λ (events : List Event). events ++ hands) empty);
       are_jobs = are_jobs made.added made.acted;
     }
 
@@ -128,17 +187,17 @@ pub rest_hold : {X : Type 0} (P : X → Type 0) (xs ys : List X) (i : ℕ) → y
 rest_hold P xs ys i are all = subst (All P) (sym are) (All-append P (take i xs) (drop (i + 1) xs) (All-take P i xs all) (All-drop P (i + 1) xs all))
 
 -- one more core, in order
-pub played_more : (acts : List Act) (order : List ℕ) (cores : List CoreView) (row : ℕ) (core : CoreView) → row ≡ length cores
-    → ArePlayed acts order cores → IsPlayed acts order row core → ArePlayed acts order (cores ++ core ∷ [])
-played_more acts order cores row core is before next =
+pub played_more : (acts : List Act) (places : List (List ℕ)) (cores : List CoreView) (row : ℕ) (core : CoreView) → row ≡ length cores
+    → ArePlayed acts places cores → IsPlayed acts places row core → ArePlayed acts places (cores ++ core ∷ [])
+played_more acts places cores row core is before next =
     λ at within.
     let none = opened_core 0 0 0 [] in
     let long = length-append cores (core ∷ []) in
     elim (cases_lt at (length cores)) [
-      | inl less ↦ subst (λ c. IsPlayed acts order at c) (sym (get_or_append_left cores (core ∷ []) none at less)) (before at less)
+      | inl less ↦ subst (λ c. IsPlayed acts places at c) (sym (get_or_append_left cores (core ∷ []) none at less)) (before at less)
       | inr past ↦
           let last : row ≡ at = omega (arith, long) in
-          subst (λ c. IsPlayed acts order at c) (sym (get_or_push cores core none at (sym is ∙ last))) (subst (λ r. IsPlayed acts order r core) last next)
+          subst (λ c. IsPlayed acts places at c) (sym (get_or_push cores core none at (sym is ∙ last))) (subst (λ r. IsPlayed acts places r core) last next)
     ]
 
 -- the commands of each row
@@ -153,9 +212,9 @@ commands_of_acts row (act.Hand stay command ∷ acts) =
 commands_of_acts row (act.Admit new ∷ acts) = commands_of_acts row acts
 commands_of_acts row (act.Leave stay ∷ acts) = commands_of_acts row acts
 
-pub queued_first : (acts : List Act) (order : List ℕ) (cores : List CoreView) → HaveRows acts order → ArePlayed acts order cores
+pub queued_first : (acts : List Act) (places : List (List ℕ)) (cores : List CoreView) → HavePlaces acts places → ArePlayed acts places cores
     → AreQueuedFirst (hands_of acts) cores
-queued_first acts order cores have played =
+queued_first acts places cores have played =
     λ row within. subst (λ commands. IsQueuedFirst commands (core_at cores row)) (sym (commands_of_acts row acts)) (played row within have)
 
 -- the assembled core makes the acts

@@ -11,7 +11,7 @@ ghost use Rattle.bs_sched.specs.Putting.{IsOwn};
 ghost use Rattle.bs_sched.specs.declared.event.Event.TheVariants as event;
 ghost use Rattle.bs_workers.specs.Acts.{command_in};
 ghost use Rattle.bs_workers.specs.Run.{IsRunOf};
-ghost use Rattle.bs_workers.specs.inner.Apart.{HaveRows, IsPlayed};
+ghost use Rattle.bs_workers.specs.inner.Apart.{IsPlayed, acts_at};
 ghost use Rattle.bs_workers.specs.inner.Making.{Makes};
 ghost use Rattle.bs_workers.specs.declared.act.Act.TheVariants as act;
 
@@ -19,6 +19,7 @@ use crate::act::Act;
 use crate::compare::{copy_rows, has_ended_run};
 use crate::fault::Run;
 use crate::gate::Gate;
+use crate::places::Places;
 use arrayvec::ArrayVec;
 use bs_board::Row;
 use bs_counter::{Finish, PartKey};
@@ -233,20 +234,18 @@ impl<const CAP: usize, R: Wait, G: Gate> Alone<'_, CAP, R, G> {
         }
     }
 
-    /// Queues the commands for that row of the run in the core's row 0. `order` has the row of each
-    /// act: acts of other rows are not read.
-    fn queue(&mut self, row: usize, acts: &[Act], order: &[u32]) -> Result<(), Run>
-        ensures journal { OnOk result (HaveRows acts.now order.now → self.new.core.journal
-            ≡ self.old.core.journal ++ map (event.Hand 0) (filter_map (command_in row) acts.now)) }
+    /// Queues the commands of the acts at these places in the core's row 0, if they are for that
+    /// row of the run.
+    fn queue(&mut self, row: usize, acts: &[Act], places: &[usize]) -> Result<(), Run>
+        ensures journal { OnOk result (self.new.core.journal
+            ≡ self.old.core.journal ++ map (event.Hand 0) (filter_map (command_in row) (acts_at acts.now places.now))) }
         ensures worker { self.new.worker ≡ self.old.worker }
     {
-        if order.len() != acts.len() {
-            return Err(Run::Broken);
-        }
-        for at in 0..acts.len() {
-            if order[at] as usize == row {
-                self.queue_if_for(row, &acts[at])?;
-            }
+        for place in places {
+            let Some(act) = acts.get(*place) else {
+                return Err(Run::Broken);
+            };
+            self.queue_if_for(row, act)?;
         }
         Ok(())
     }
@@ -255,18 +254,27 @@ impl<const CAP: usize, R: Wait, G: Gate> Alone<'_, CAP, R, G> {
     fn is_new(&self) -> bool
         ensures { IsTrue result → self.now.core.journal ≡ [] }
     {
-        self.core.journal().is_empty()
+        match self.core.journal().as_slice() {
+            Some(events) => events.is_empty(),
+            None => false,
+        }
     }
 
-    /// Queues the commands for that row of the run in the core's row 0, and answers them. `order`
-    /// has the row of each act. A core that has an event, or too few workers, is `Broken`.
-    pub(crate) fn play(mut self, row: usize, acts: &[Act], order: &[u32]) -> Result<Core<CAP>, Run>
-        ensures { IfOk result (λ core. IsPlayed acts.now order.now row core) }
+    /// Queues the commands for that row of the run in the core's row 0, and answers them. `places`
+    /// has the places of each row's commands: acts of other rows are not read. A core that has an
+    /// event, or too few workers, is `Broken`.
+    pub(crate) fn play(
+        mut self,
+        row: usize,
+        acts: &[Act],
+        places: &[Places],
+    ) -> Result<Core<CAP>, Run>
+        ensures { IfOk result (λ core. IsPlayed acts.now places.now row core) }
     {
-        if !self.is_new() {
+        if !self.is_new() || row >= places.len() {
             return Err(Run::Broken);
         }
-        self.queue(row, acts, order)?;
+        self.queue(row, acts, places[row].as_slice())?;
         if self.worker > self.core.workers() {
             return Err(Run::Broken);
         }

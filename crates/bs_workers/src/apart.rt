@@ -9,13 +9,14 @@ ghost use Rattle.bs_sched.specs.Core.{opened_core};
 ghost use Rattle.bs_sched.specs.SharedMemory.{IsHosted};
 ghost use Rattle.bs_sched.specs.declared.cores.TheConstants.{MOST_WORKERS};
 ghost use Rattle.bs_workers.specs.Run.{IsRunOf, acts_of};
-ghost use Rattle.bs_workers.specs.inner.Apart.{ArePlayed, AreQueuedIn, IsPlayed, QueuesIn};
+ghost use Rattle.bs_workers.specs.inner.Apart.{ArePlayed, AreQueuedIn, HavePlaces, IsPlayed, QueuesIn};
 
 use crate::act::Act;
 use crate::alone::Alone;
 use crate::compare::{copy_rows, has_ended_run};
 use crate::fault::Run;
 use crate::gate::Gate;
+use crate::places::{Places, places_of};
 use bs_sched::{Core, Shared};
 use std::alloc::{AllocError, Global};
 use std::sync::{Mutex, Wait};
@@ -47,8 +48,8 @@ struct Apart<'a, R, G> {
     rt: &'a R,
     alloc: Global,
     acts: &'a [Act],
-    /// The row of each act's command.
-    order: &'a [u32],
+    /// The places of each row's commands among the acts.
+    places: &'a [Places],
     gate: &'a G,
 }
 
@@ -143,7 +144,7 @@ fn place_of<const CAP: usize>(ran: &[Lone<CAP>], row: usize) -> usize {
 impl<R: Threads + Wait + Sync, G: Gate> Apart<'_, R, G> {
     /// Runs the commands for the row in its core.
     fn run_row<const CAP: usize>(&self, thread: usize, lone: Lone<CAP>) -> Result<Lone<CAP>, Run>
-        ensures { IfOk result (λ lone. IsPlayed self.now.acts.now self.now.order.now lone.row lone.core) }
+        ensures { IfOk result (λ lone. IsPlayed self.now.acts.now self.now.places.now lone.row lone.core) }
     {
         let Lone { row, core } = lone;
         let Ok(first) = u32::try_from(row) else {
@@ -158,7 +159,7 @@ impl<R: Threads + Wait + Sync, G: Gate> Apart<'_, R, G> {
             worker: thread,
             gate: self.gate,
         };
-        let core = alone.play(row, self.acts, self.order)?;
+        let core = alone.play(row, self.acts, self.places)?;
         Ok(Lone { row, core })
     }
 
@@ -168,7 +169,7 @@ impl<R: Threads + Wait + Sync, G: Gate> Apart<'_, R, G> {
         waiting: &Waiting<CAP>,
         thread: usize,
     ) -> Result<Vec<Lone<CAP>>, Run>
-        ensures { IfOk result (λ ran. All (λ lone. IsPlayed self.now.acts.now self.now.order.now lone.row lone.core) ran.items) }
+        ensures { IfOk result (λ ran. All (λ lone. IsPlayed self.now.acts.now self.now.places.now lone.row lone.core) ran.items) }
     {
         let mut ran = Vec::new(self.alloc);
         for _ in self.rt.forever() {
@@ -185,8 +186,8 @@ impl<R: Threads + Wait + Sync, G: Gate> Apart<'_, R, G> {
         &self,
         mut rows: Vec<Result<Vec<Lone<CAP>>, Run>>,
     ) -> Result<Vec<Lone<CAP>>, Run>
-        requires { All (λ some. IfOk some (λ ran. All (λ lone. IsPlayed self.now.acts.now self.now.order.now lone.row lone.core) ran.items)) rows.items }
-        ensures { IfOk result (λ ran. All (λ lone. IsPlayed self.now.acts.now self.now.order.now lone.row lone.core) ran.items) }
+        requires { All (λ some. IfOk some (λ ran. All (λ lone. IsPlayed self.now.acts.now self.now.places.now lone.row lone.core) ran.items)) rows.items }
+        ensures { IfOk result (λ ran. All (λ lone. IsPlayed self.now.acts.now self.now.places.now lone.row lone.core) ran.items) }
     {
         let mut all = Vec::new(self.alloc);
         let mut fault = None;
@@ -205,8 +206,8 @@ impl<R: Threads + Wait + Sync, G: Gate> Apart<'_, R, G> {
 
     /// The cores in the order of their rows. `Broken` if the rows are not those from 0 on.
     fn in_order<const CAP: usize>(&self, mut ran: Vec<Lone<CAP>>) -> Result<Vec<Core<CAP>>, Run>
-        requires { All (λ lone. IsPlayed self.now.acts.now self.now.order.now lone.row lone.core) ran.items }
-        ensures { IfOk result (λ cores. ArePlayed self.now.acts.now self.now.order.now cores.items) }
+        requires { All (λ lone. IsPlayed self.now.acts.now self.now.places.now lone.row lone.core) ran.items }
+        ensures { IfOk result (λ cores. ArePlayed self.now.acts.now self.now.places.now cores.items) }
     {
         let mut cores = Vec::with_capacity(self.alloc, ran.len())?;
         for _ in 0..ran.len() {
@@ -229,13 +230,13 @@ impl<R: Threads + Wait + Sync, G: Gate> Apart<'_, R, G> {
         waiting: &Waiting<CAP>,
         threads: usize,
     ) -> Result<Vec<Core<CAP>>, Run>
-        ensures { IfOk result (λ cores. ArePlayed self.now.acts.now self.now.order.now cores.items) }
+        ensures { IfOk result (λ cores. ArePlayed self.now.acts.now self.now.places.now cores.items) }
     {
         let rows = map_vec(
             self.rt,
             thread_numbers(self.alloc, threads)?,
             &|thread: usize| -> Result<Vec<Lone<CAP>>, Run>
-                ensures { IfOk result (λ ran. All (λ lone. IsPlayed self.entry.now.acts.now self.entry.now.order.now lone.row lone.core) ran.items) }
+                ensures { IfOk result (λ ran. All (λ lone. IsPlayed self.entry.now.acts.now self.entry.now.places.now lone.row lone.core) ran.items) }
             { self.run_rows(waiting, thread) },
         )?;
         self.in_order(self.join_rows(rows)?)
@@ -248,13 +249,15 @@ fn put_together<const CAP: usize>(
     alloc: Global,
     shared: Shared<CAP>,
     acts: &[Act],
-    order: &[u32],
+    order: Vec<u32>,
+    places: &[Places],
 ) -> Result<Core<CAP>, Run>
     requires workers { shared.workers ≤ MOST_WORKERS }
     requires hosted { IsHosted (setting_with CAP shared.blocks shared.workers) shared.rows }
     requires rest { length shared.rest.items + blocks_of_all CAP shared.rows ≡ shared.blocks }
-    requires queued { AreQueuedIn (length shared.rows) acts.now order.now }
-    requires played { ArePlayed acts.now order.now shared.cores.items }
+    requires queued { AreQueuedIn (length shared.rows) acts.now order.items }
+    requires have { HavePlaces acts.now places.now }
+    requires played { ArePlayed acts.now places.now shared.cores.items }
     ensures { IfOk result (λ core. acts_of core.journal ≡ acts.now) }
 {
     if !shared.ran_apart() {
@@ -286,6 +289,7 @@ pub(crate) fn run_apart<const CAP: usize, R: Threads + Wait + Sync, G: Gate>(
         rest,
     } = core.share_out(alloc)?;
     let order = order_of(alloc, acts, rows.as_slice().len())?;
+    let places = places_of(alloc, order.as_slice(), rows.as_slice().len())?;
     let waiting = Waiting {
         rows: Mutex::new(lone_cores(alloc, cores)?),
     };
@@ -293,7 +297,7 @@ pub(crate) fn run_apart<const CAP: usize, R: Threads + Wait + Sync, G: Gate>(
         rt,
         alloc,
         acts,
-        order: order.as_slice(),
+        places: places.as_slice(),
         gate,
     };
     let cores = apart.run_all(&waiting, threads)?;
@@ -304,7 +308,7 @@ pub(crate) fn run_apart<const CAP: usize, R: Threads + Wait + Sync, G: Gate>(
         cores,
         rest,
     };
-    let done = put_together(alloc, shared, acts, order.as_slice())?;
+    let done = put_together(alloc, shared, acts, order, places.as_slice())?;
     if has_ended_run(&done, given.as_slice(), blocks, acts) {
         Ok(done)
     } else {

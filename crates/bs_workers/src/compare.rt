@@ -176,17 +176,37 @@ pub(crate) fn has_ended_run<const CAP: usize>(
     has_ended(core, rows, count_admitted(acts), blocks)
 }
 
-/// Whether the core is the result of a run of these acts in a core with that plan and that many
-/// blocks.
+/// Whether the core, which has these events, is the result of a run of these acts in a core with
+/// that plan and that many blocks.
 #[tactic(auto, using(crate::proofs::Compared::run_of, crate::proofs::Compared::run_ended))]
-pub(crate) fn is_run_of<const CAP: usize>(
+fn is_run_of<const CAP: usize>(
+    core: &Core<CAP>,
+    events: &[Event],
+    rows: &[Row],
+    blocks: usize,
+    acts: &[Act],
+) -> bool
+    requires { events.now ≡ core.now.journal }
+    ensures { (old : CoreView) → rows.now ≡ old.games.rows → blocks ≡ size old.games.storage.pool
+        → (IsTrue result ↔ IsRunOf old acts.now core.now) }
+{
+    let _apart = core.journal();
+    has_ended(core, rows, count_admitted(acts), blocks) && are_made(events, acts)
+}
+
+/// Whether the core, which was not put together of others, is the result of a run of these acts in
+/// a core with that plan and that many blocks.
+pub(crate) fn has_run<const CAP: usize>(
     core: &Core<CAP>,
     rows: &[Row],
     blocks: usize,
     acts: &[Act],
 ) -> bool
     ensures { (old : CoreView) → rows.now ≡ old.games.rows → blocks ≡ size old.games.storage.pool
-        → (IsTrue result ↔ IsRunOf old acts.now core.now) }
+        → IsTrue result → IsRunOf old acts.now core.now }
 {
-    has_ended(core, rows, count_admitted(acts), blocks) && are_made(core.journal(), acts)
+    match core.journal().as_slice() {
+        Some(events) => is_run_of(core, events, rows, blocks, acts),
+        None => false,
+    }
 }

@@ -10,6 +10,7 @@ mod executor;
 mod fault;
 mod gate;
 mod law;
+mod places;
 mod runs;
 mod state;
 mod worker;

@@ -8,7 +8,7 @@ ghost use Rattle.bs_workers.specs.Run.{IsRunOf};
 use crate::act::{Act, are_commands, has_move};
 use crate::alone::run_alone;
 use crate::apart::run_apart;
-use crate::compare::{copy_rows, is_run_of};
+use crate::compare::{copy_rows, has_run};
 use crate::executor::Executor;
 use crate::fault::Run;
 use crate::gate::Gate;
@@ -37,7 +37,7 @@ fn run_together<const CAP: usize, R: Threads + Wait + Sync, G: Gate>(
     let executor = Executor::new(alloc, core)?;
     executor.work_in_threads(rt, acts, threads, gate);
     let core = executor.finish(rt, (threads, workers), gate)?;
-    if is_run_of(&core, rows.as_slice(), blocks, acts) {
+    if has_run(&core, rows.as_slice(), blocks, acts) {
         Ok(core)
     } else {
         Err(Run::Broken)

@@ -1,5 +1,5 @@
 -- What a thread does to the core of one row of a run.
-use Rattle.std.specs.Prelude.{◌≡◌, ℕ, ◌<◌, List, length, map, All, Option, Some, None}
+use Rattle.std.specs.Prelude.{◌≡◌, ℕ, ◌<◌, List, [], ◌∷◌, ◌++◌, length, map, All, Option, Some, None, slice_index_or, slice_set}
 use Rattle.std.specs.List.{filter_map}
 use Rattle.bs_sched.specs.Assembly.{Hand, IsOrderOf, IsQueuedFirst, core_at, hand_event}
 use Rattle.bs_sched.specs.Core.{CoreView}
@@ -18,13 +18,25 @@ row_in (act.Leave stay) = None
 abbrev pub HaveRows : List Act → List ℕ → Type 0
 HaveRows acts order = map row_in acts ≡ map Some order
 
+abbrev pub acts_at : List Act → List ℕ → List Act
+acts_at acts = map (λ place. slice_index_or acts place (act.Leave 0))
+
+-- the places of each row's commands, with one more
+abbrev pub placed : ℕ → ℕ → List (List ℕ) → List (List ℕ)
+placed row place rows = slice_set rows row (slice_index_or rows row [] ++ place ∷ [])
+
+-- the acts at the places of a row have its commands, in order
+abbrev pub HavePlaces : List Act → List (List ℕ) → Type 0
+HavePlaces acts places =
+    (row : ℕ) → row < length places → filter_map (command_in row) (acts_at acts (slice_index_or places row [])) ≡ filter_map (command_in row) acts
+
 -- the core of that row: first the acts' commands for the row were queued, then come jobs
-abbrev pub IsPlayed : List Act → List ℕ → ℕ → CoreView → Type 0
-IsPlayed acts order row core = HaveRows acts order → IsQueuedFirst (filter_map (command_in row) acts) core
+abbrev pub IsPlayed : List Act → List (List ℕ) → ℕ → CoreView → Type 0
+IsPlayed acts places row core = HavePlaces acts places → IsQueuedFirst (filter_map (command_in row) acts) core
 
 -- there is the core of each row, in order
-abbrev pub ArePlayed : List Act → List ℕ → List CoreView → Type 0
-ArePlayed acts order cores = (row : ℕ) → row < length cores → IsPlayed acts order row (core_at cores row)
+abbrev pub ArePlayed : List Act → List (List ℕ) → List CoreView → Type 0
+ArePlayed acts places cores = (row : ℕ) → row < length cores → IsPlayed acts places row (core_at cores row)
 
 -- The commands of all rows.
 

@@ -11,9 +11,9 @@ pub assemble-requires : goal.assemble-requires
 assemble-requires g c =
     let acts = c.args.acts.now in
     let cores = c.args.shared.cores.items in
-    let apart = c.if-not-ran_apart.ensures (hands_of acts) (queued_first acts c.args.order.now cores c.requires.queued.have c.requires.played) refl in
+    let apart = c.if-not-ran_apart.ensures (hands_of acts) (queued_first acts c.args.places.now cores c.requires.have c.requires.played) refl in
     let queued = c.requires.queued in
-    let ran : RanInOrder g.row.CAP c.args.shared.workers c.args.shared.rows c.args.order.now cores
+    let ran : RanInOrder g.row.CAP c.args.shared.workers c.args.shared.rows c.args.order.items cores
     = record { hands = hands_of acts; ordered = queued.ordered; within = queued.within; apart = apart } in
     (omega arith, (omega arith, (c.requires.workers, (c.requires.hosted, (c.requires.rest, ran)))))
 
@@ -21,6 +21,6 @@ pub returns : goal.returns
 returns g c =
     let acts = c.args.acts.now in
     let cores = c.args.shared.cores.items in
-    let apart = c.if-not-ran_apart.ensures (hands_of acts) (queued_first acts c.args.order.now cores c.requires.queued.have c.requires.played) refl in
+    let apart = c.if-not-ran_apart.ensures (hands_of acts) (queued_first acts c.args.places.now cores c.requires.have c.requires.played) refl in
     ap (λ (core : CoreView). acts_of core.journal) (c.in_ok-assemble.ensures (hands_of acts) c.requires.queued.ordered apart)
     ∙ assembled_acts acts cores c.requires.queued.acted

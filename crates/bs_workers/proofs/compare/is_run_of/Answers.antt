@@ -10,9 +10,9 @@ returns-then-has_ended g c =
     λ old same many.
     let core = c.args.core.now in
     let ended = c.has_ended.ensures.0 c.if-has_ended.true in
-    let told : acts_of core.journal ≡ acts_of c.journal.result.now = ap (λ (events : List Event). acts_of events) (sym c.journal.ensures.value) in (
+    let told : acts_of core.journal ≡ acts_of c.args.events.now = ap (λ (events : List Event). acts_of events) (sym c.requires) in (
       λ made.
-          run_of g.row.CAP c.args.rows.now c.count_admitted.result c.args.blocks c.args.acts.now old core c.journal.ensures.apart ended
+          run_of g.row.CAP c.args.rows.now c.count_admitted.result c.args.blocks c.args.acts.now old core c.journal-apart.ensures.apart ended
           c.count_admitted.ensures (told ∙ c.are_made.ensures.0 made) same many,
       λ run. c.are_made.ensures.1 (sym told ∙ run.acted),
     )

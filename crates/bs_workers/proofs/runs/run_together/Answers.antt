@@ -4,8 +4,8 @@ use Rattle.bs_pool.specs.Ledger.{size}
 use Rattle.bs_workers.proofs.Compared.{rows_fresh}
 use Rattle.bs_workers.proofs.runs.run_together.Goals as goal
 
-pub returns-then-is_run_of : goal.returns-then-is_run_of
-returns-then-is_run_of g c =
+pub returns-then-has_run : goal.returns-then-has_run
+returns-then-has_run g c =
     let core = c.args.core in
     let fresh = rows_fresh g.row.CAP (size core.games.storage.pool) core.games.workers core.games.rows core c.requires in
-    (c.is_run_of.ensures core (c.as_slice.ensures.value ∙ c.in_ok-rows.ensures ∙ fresh) c.counts-blocks.ensures.size).0 c.if-is_run_of.true
+    c.has_run.ensures core (c.as_slice.ensures.value ∙ c.in_ok-rows.ensures ∙ fresh) c.counts-blocks.ensures.size c.if-has_run.true

@@ -7,5 +7,5 @@ use Rattle.bs_workers.proofs.apart.Apart.in_order.Given as goal
 abbrev pub invariant-loop : goal.invariant-loop
 invariant-loop g l =
     (length l.ran.items + l.counter ≡ length l.fn.ran.items)
-    × All (λ lone. IsPlayed l.self.acts.now l.self.order.now lone.row lone.core) l.ran.items
-    × ArePlayed l.self.acts.now l.self.order.now l.cores.items
+    × All (λ lone. IsPlayed l.self.acts.now l.self.places.now lone.row lone.core) l.ran.items
+    × ArePlayed l.self.acts.now l.self.places.now l.cores.items

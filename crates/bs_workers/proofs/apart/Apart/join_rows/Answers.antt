@@ -10,7 +10,7 @@ use Rattle.bs_workers.proofs.apart.Apart.join_rows.Goals.{in-Some-Ok+in_ok-appen
 
 pub loop-preserved : goal.loop-preserved
 loop-preserved g c =
-    let P : Lone g.row.CAP → Type 0 = λ lone. IsPlayed c.args.self.now.acts.now c.args.self.now.order.now lone.row lone.core in
+    let P : Lone g.row.CAP → Type 0 = λ lone. IsPlayed c.args.self.now.acts.now c.args.self.now.places.now lone.row lone.core in
     let Q : Result (Vec (Lone g.row.CAP) Global) Run → Type 0 = λ group. IfOk group (λ ran. All P ran.items) in
     let popped = All-pop Q c.loop.rows.items c.pop.new.self.items c.pop.result c.pop.ensures.items c.loop.invariant.0 in (
       popped.0,
