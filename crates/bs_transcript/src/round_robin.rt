@@ -3,8 +3,9 @@ ghost use Rattle.std.specs.Prelude.{◌<◌, ◌^◌, ◌-◌};
 
 use crate::bounds::Bounds;
 
-/// The sum of the bounds of the lines of a share. Their text is much shorter: one buffer, or two.
-const BOUND_OF_SHARE: usize = 1_048_576;
+/// The sum of the bounds of the lines of a share. Their text is much shorter: most of one buffer, or
+/// a few buffers.
+const BOUND_OF_SHARE: usize = 3_145_728;
 
 /// The fewest lines of a share.
 const FEWEST_LINES: usize = 16;
