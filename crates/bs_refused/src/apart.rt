@@ -53,11 +53,25 @@ impl Question for ShareOut {
     }
 }
 
-/// `run_any`, on two threads with a game each: what the readers of the core return.
-fn run_both<R: Threads + Wait + Sync>(rt: &R, alloc: Global, acts: &[Act]) -> Result<Seen, Fault> {
+/// What the readers of a core return, and the number of its events.
+#[derive(Debug, Drop)]
+pub struct RunSeen {
+    core: Seen,
+    events: usize,
+}
+
+/// `run_any`, on two threads with a game each, and `Journal::into_vec`.
+fn run_both<R: Threads + Wait + Sync>(
+    rt: &R,
+    alloc: Global,
+    acts: &[Act],
+) -> Result<RunSeen, Fault> {
     let core = Core::<CAP>::open(alloc, plan_of(alloc, &NAMES)?, 12, WORKERS)?;
     let core = run_any(rt, alloc, core, acts, 2, &OpenGate)?;
-    seen_core(alloc, &core)
+    Ok(RunSeen {
+        core: seen_core(alloc, &core)?,
+        events: core.into_journal().into_vec(alloc)?.len(),
+    })
 }
 
 /// Makes the run, and repeats it if it reported that memory ran out.
@@ -65,7 +79,7 @@ fn tried_run<R: Threads + Wait + Sync>(
     rt: &R,
     page: &mut Page,
     acts: &[Act],
-) -> Result<Seen, Fault> {
+) -> Result<RunSeen, Fault> {
     page.line("before", &acts.len());
     page.begin();
     let first = run_both(rt, page.alloc(), acts);
@@ -91,7 +105,7 @@ fn acts_of_both(alloc: Global) -> Result<Vec<Act>, Fail> {
     Ok(acts)
 }
 
-/// `run_any` of two games apart.
+/// `run_any` of two games apart, and the events of the core as one list.
 pub fn play_apart<R: Threads + Wait + Sync>(rt: &R, page: &mut Page) -> Result<(), Fail> {
     let acts = acts_of_both(page.alloc())?;
     let core = tried_run(rt, page, acts.as_slice())?;

@@ -155,7 +155,7 @@ fn check_opened(alloc: Global, core: &Core<CAP>) -> Result<(), Fail> {
 /// What the readers of a core of one game return.
 #[derive(Clone, Copy, Debug, PartialEq, Eq)]
 struct Readings {
-    events: usize,
+    events: Option<usize>,
     counts: Counts,
     taken: usize,
     replies: usize,
@@ -167,7 +167,7 @@ struct Readings {
 fn read_all(core: &Core<CAP>) -> Result<Readings, Fail> {
     holds("a game", core.rows() == 1)?;
     Ok(Readings {
-        events: core.journal().len(),
+        events: core.journal().as_slice().map(|events| events.len()),
         counts: core.counts(),
         taken: core.taken(0).len(),
         replies: core.replies(0).len(),

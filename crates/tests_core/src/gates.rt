@@ -105,7 +105,8 @@ fn the_gate_is_asked_about_each_job(rt: HostRuntime) -> Result<(), Fail> {
     for (threads, workers) in [(1usize, 1usize), (2, 2), (4, 4), (2, 8)] {
         let gate = Noting::new(rt.alloc());
         let core = run_with(&rt, &TWO, acts.as_slice(), (threads, workers), &gate)??;
-        check_noted(core.journal(), gate.noted.into_inner())?;
+        let events = core.into_journal().into_vec(rt.alloc())?;
+        check_noted(events.as_slice(), gate.noted.into_inner())?;
     }
     Ok(())
 }

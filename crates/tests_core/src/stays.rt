@@ -107,7 +107,8 @@ fn a_stay_comes_and_goes(rt: HostRuntime) -> Result<(), Fail> {
     play_and_leave(alloc, &mut core)?;
     admit_c(alloc, &mut core)?;
     // Three admissions and leaves; one command was queued, and its job taken and completed.
-    same("events", core.journal().len(), 6)
+    let events = core.journal().as_slice().ok_or("one list of events")?;
+    same("events", events.len(), 6)
 }
 
 fn check_no_game(core: &Core<CAP>, game: usize) -> Result<(), Fail> {

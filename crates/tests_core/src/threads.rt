@@ -211,11 +211,13 @@ fn check_jobs(alloc: Global, one: &[Event], other: &[Event]) -> Result<(), Fail>
 fn several_threads_write_commands_and_then_jobs(rt: HostRuntime) -> Result<(), Fail> {
     let acts = commands_of_pairs(rt.alloc())?;
     let alone = run_games(&rt, &SIXTEEN, acts.as_slice(), 1, &OpenGate)??;
+    let alone = alone.into_journal().into_vec(rt.alloc())?;
     for threads in [2usize, 3, 4, 7] {
         let core = run_games(&rt, &SIXTEEN, acts.as_slice(), threads, &OpenGate)??;
-        check_journal(core.journal(), acts.as_slice())?;
-        check_order(core.journal(), acts.len())?;
-        check_jobs(rt.alloc(), core.journal(), alone.journal())?;
+        let events = core.into_journal().into_vec(rt.alloc())?;
+        check_journal(events.as_slice(), acts.as_slice())?;
+        check_order(events.as_slice(), acts.len())?;
+        check_jobs(rt.alloc(), events.as_slice(), alone.as_slice())?;
     }
     Ok(())
 }
@@ -250,7 +252,8 @@ fn a_run_has_its_plan_and_commands(rt: HostRuntime) -> Result<(), Fail> {
     let core = run_games(&rt, &TWO, acts.as_slice(), 2, &OpenGate)??;
     check_state(&core)?;
     check_names(&core)?;
-    check_journal(core.journal(), acts.as_slice())
+    let events = core.into_journal().into_vec(rt.alloc())?;
+    check_journal(events.as_slice(), acts.as_slice())
 }
 
 /// Checks a core of twelve blocks after its run.
