@@ -2,7 +2,9 @@
 
 The honest bots measure how long they take. None of their moves may be missed, and no latency may be
 far above what they measured. The time for which the machine gave the ladder no processor is taken
-off, so that other programs make no test fail; what the ladder computes itself is not.
+off, so that other programs make no test fail; what the ladder computes itself is not. The time that
+a hypervisor took is not known for each thread, so a run in which the ladder seems to have computed
+for long is repeated.
 """
 
 from __future__ import annotations
@@ -42,10 +44,12 @@ MOST_EXCESS = 50  # milliseconds of a latency above what the bot measured
 MOST_HELD = 0.05  # seconds for which the ladder computes without looking at its connections
 BEAT_SECONDS = 0.004
 TICKS = os.sysconf("SC_CLK_TCK")
+TRIES = 3  # runs, of which one has to be without a long computation
 SERVERS = 3  # processes of hostile bots
 SILENT_SECONDS = 600  # of a name server, more than a run takes on a busy machine
 HOSTILE = sorted(hostile.KINDS)
 GROUPS = [HOSTILE[at::4] for at in range(4)]
+ASK_ALL = game.Game.ask_all
 
 
 @dataclass
@@ -132,22 +136,21 @@ def config_for(folder: Path, servers: list[Served], kinds: list[str], **members:
 
 
 async def played(
-    config: Config, program: Path, monkeypatch: pytest.MonkeyPatch, is_flooded: bool = False
+    config: Config, program: Path, patch: pytest.MonkeyPatch, is_flooded: bool
 ) -> tuple[Beats, dict[tuple[str, str], Answer]]:
     """Plays a ladder; the answers by the game with its turn, and the bot.
 
     With `is_flooded` it has a page, which is flooded, and whose process hangs after a while.
     """
     beats, found = Beats(), {}
-    ask_all = game.Game.ask_all
 
     async def recorded(self: game.Game, board: Any) -> dict[str, Answer]:
-        answers = await ask_all(self, board)
+        answers = await ASK_ALL(self, board)
         turn = f"{config.letters}-{self.fixture.name} {board['turn']}"
         found.update({(turn, bot): answer for bot, answer in answers.items()})
         return answers
 
-    monkeypatch.setattr(game.Game, "ask_all", recorded)
+    patch.setattr(game.Game, "ask_all", recorded)
     gc.collect()
     gc.freeze()  # the objects of earlier tests, which no ladder has
     make_folders(config.folder)
@@ -192,17 +195,34 @@ def test_honest_bots_play_as_if_alone(
     monkeypatch: pytest.MonkeyPatch,
     kinds: list[str],
 ) -> None:
-    assert_unharmed(
-        servers[0],
-        *asyncio.run(played(config_for(tmp_path / "x", servers, kinds), program, monkeypatch)),
-    )
+    assert_unharmed(servers[0], config_for(tmp_path / "x", servers, kinds), program, monkeypatch)
 
 
-def assert_unharmed(server: Served, beats: Beats, found: dict[tuple[str, str], Answer]) -> None:
-    """Checks the moves of the honest bots, and that the ladder never computed for long.
+def assert_unharmed(
+    server: Served,
+    config: Config,
+    program: Path,
+    monkeypatch: pytest.MonkeyPatch,
+    is_flooded: bool = False,
+) -> None:
+    """Plays, and checks the moves of the honest bots, and that the ladder never computed for long.
 
-    What it loads before it asks for the first move makes no bot late.
+    What it loads before it asks for the first move makes no bot late. A long computation of its own
+    takes as long in the next run.
     """
+    for at in range(TRIES):
+        again = replace(config, folder=config.folder / str(at))
+        with monkeypatch.context() as patch:
+            beats, found = asyncio.run(played(again, program, patch, is_flooded))
+        assert_answered(server, beats, found)
+        held = beats.longest(min(answer.asked_at for answer in found.values()))
+        if held < MOST_HELD:
+            break
+    assert held < MOST_HELD
+
+
+def assert_answered(server: Served, beats: Beats, found: dict[tuple[str, str], Answer]) -> None:
+    """Checks the moves of the honest bots."""
     measured = measured_by(server)
     judged = Judged()
     for (turn, bot), answer in found.items():
@@ -211,7 +231,6 @@ def assert_unharmed(server: Served, beats: Beats, found: dict[tuple[str, str], A
             judged.judge(f"{turn} {bot}", answer, measured.get(f"{turn} {bot}"), starved)
     assert judged.faults == []
     assert judged.moves > 50
-    assert beats.longest(min(answer.asked_at for answer in found.values())) < MOST_HELD
 
 
 @pytest.mark.slow
@@ -227,7 +246,7 @@ def test_honest_bots_play_as_if_alone_beside_one_kind(
     if not request.config.getoption("--all"):
         pytest.skip("by hand, with --all: some seconds for each kind")
     config = config_for(tmp_path / "x", servers, [kind] * 3)
-    assert_unharmed(servers[0], *asyncio.run(played(config, program, monkeypatch)))
+    assert_unharmed(servers[0], config, program, monkeypatch)
 
 
 def test_silent_names_and_deaf_servers_harm_no_other(
@@ -253,7 +272,7 @@ def test_silent_names_and_deaf_servers_harm_no_other(
         more = tuple(Bot(f"hostile{at}", url) for at, url in enumerate(urls))
         config = replace(config, bots=config.bots + more, rounds=2)
         began = time.monotonic()
-        assert_unharmed(servers[0], *asyncio.run(played(config, program, monkeypatch)))
+        assert_unharmed(servers[0], config, program, monkeypatch)
         assert time.monotonic() - began < SILENT_SECONDS / 2, "the run waited for a name"
         for it in filling:
             it.close()
@@ -264,4 +283,4 @@ def test_flooded_and_hanging_page_makes_no_move_late(
     program: Path, servers: list[Served], tmp_path: Path, monkeypatch: pytest.MonkeyPatch
 ) -> None:
     config = config_for(tmp_path / "x", servers, [], rounds=6)
-    assert_unharmed(servers[0], *asyncio.run(played(config, program, monkeypatch, is_flooded=True)))
+    assert_unharmed(servers[0], config, program, monkeypatch, is_flooded=True)
