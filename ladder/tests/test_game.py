@@ -245,7 +245,8 @@ def test_line_files_have_whole_lines_alone(tmp_path: Path) -> None:
 def test_line_that_was_written_in_part_is_a_fault(tmp_path: Path) -> None:
     """If the disk is full, the line is not sent; the written part is removed later."""
     code = (
-        "import resource, sys; from pathlib import Path; from arena_ladder.game_files import LineFile\n"
+        "import resource, sys; from pathlib import Path\n"
+        "from arena_ladder.game_files import LineFile\n"
         "resource.setrlimit(resource.RLIMIT_FSIZE, (10, 10))\n"
         "file = LineFile(Path(sys.argv[1])); file.write(b'12345\\n'); file.write(b'12345\\n')\n"
     )

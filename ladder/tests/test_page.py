@@ -439,8 +439,8 @@ def test_bot_is_added_while_the_page_is_looked_at(
         url = faulty_bots.url("calm")
         assert run_ladder("add", tmp_path / "results", "late", url).returncode == 0
         browser.wait(f"{OFFERED}.includes('late')", seconds=60)
-        board = "return [...document.querySelectorAll('#games h3')].some(it => /late/.test(it.textContent))"
-        browser.wait(board, seconds=60)
+        titles = "[...document.querySelectorAll('#games h3')]"
+        browser.wait(f"return {titles}.some(it => /late/.test(it.textContent))", seconds=60)
         browser.wait(
             "return document.querySelector('#standings [data-bot=late]') !== null", seconds=60
         )

@@ -115,7 +115,8 @@ class Game:
         old = files.old_lines
         if old[:2] != first[: len(old)]:
             raise GameFault(
-                f"{files.path} does not begin as in this ladder: delete it, and the game begins anew"
+                f"{files.path} does not begin as in this ladder: "
+                "delete it, and the game begins anew"
             )
         turns = files.old_answers()
         self.say_lost(files.moves - len(turns))
