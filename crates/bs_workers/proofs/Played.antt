@@ -4,7 +4,7 @@ use Rattle.std.specs.Prelude.{All, nat_eq, nat_lt, slice_index_or}
 use Rattle.std.specs.List.{filter_map}
 use Rattle.std.proofs.lemmas.Bool.{cases_Bool, cases_lt, ltb-true, ne_eqb}
 use Rattle.std.proofs.lemmas.Bool.Decides.{eqb_tells}
-use Rattle.std.proofs.lemmas.List.{append_assoc, append-nil, get_or-map, get_or_default, get_or_append_left, get_or_push, length-append, length-map, length-set, get_or-set_other, map-append, take_all, take_more}
+use Rattle.std.proofs.lemmas.List.{append_assoc, append-nil, get_or-map, get_or_default, get_or_append_left, get_or_push, length-append, length-map, length-set, get_or-set_other, map-append, take_more}
 use Rattle.std.proofs.lemmas.Grind.{get_or-set_at}
 use Rattle.std.proofs.lemmas.List.Elements.{All-nil, All-append, All-cons, All-drop, All-take, filter_map-append}
 use Rattle.bs_sched.specs.Assembly.{AreQueuedFirst, Hand, IsJob, IsQueuedFirst, assembled_journal, commands_for, core_at, hand_event, jobs_at, jobs_from}
@@ -74,9 +74,6 @@ abbrev pub ArePlaced : List Act → List (List ℕ) → ℕ → Type 0
 ArePlaced acts places i =
     (row : ℕ) → row < length places → filter_map (command_in row) (acts_at acts (slice_index_or places row [])) ≡ filter_map (command_in row) (take i acts)
 
-pub none_placed : (acts : List Act) (places : List (List ℕ)) → All (λ list. list ≡ []) places → ArePlaced acts places 0
-none_placed acts places none = λ row within. ap (λ list. filter_map (command_in row) (acts_at acts list)) (none row [] within)
-
 pub one_placed : (acts : List Act) (order : List ℕ) (i : ℕ) (old new : List (List ℕ)) → i < length order → HaveRows acts order
     → new ≡ placed (get_or order i 0) i old → ArePlaced acts old i → ArePlaced acts new (i + 1)
 one_placed acts order i old new less have is before =
@@ -105,12 +102,6 @@ one_placed acts order i old new less have is before =
           ap (λ places. commands (acts_at acts places)) (ap (λ lists. get_or lists row []) is ∙ get_or-set_other old to row list [] other)
           ∙ before row inside ∙ sym (other_placed acts order i row there (λ e. other (sym e)) have)
     ]
-
-pub all_placed : (acts : List Act) (order : List ℕ) (places : List (List ℕ)) → HaveRows acts order → ArePlaced acts places (length order) → HavePlaces acts places
-all_placed acts order places have are =
-    λ row within.
-    let many : length acts ≡ length order = sym (length-map acts row_in) ∙ ap length have ∙ length-map order Some in
-    are row within ∙ ap (filter_map (command_in row)) (take_all (length order) acts (omega (arith, many)))
 
 -- events that make no act are jobs
 are_jobs : (events : List Event) → acts_of events ≡ [] → All IsJob events

@@ -1,5 +1,5 @@
 //! Where the commands of each row are in a list of acts.
-ghost use Rattle.std.specs.Prelude.{◌≡◌, ◌++◌, ◌∷◌, [], List, All, OnOk, IfOk};
+ghost use Rattle.std.specs.Prelude.{◌≡◌, ◌++◌, ◌∷◌, [], List, All, OnOk, IfOk, length};
 ghost use Rattle.bs_workers.specs.declared.act.Act.{Act};
 ghost use Rattle.bs_workers.specs.inner.Apart.{HavePlaces, HaveRows, placed};
 
@@ -46,7 +46,8 @@ fn put_place(rows: &mut Vec<Places>, row: usize, place: usize) -> Result<(), All
 
 /// As many lists without a place, each with room for the places of one row if all have as many.
 fn no_places(alloc: Global, rows: usize, acts: usize) -> Result<Vec<Places>, AllocError>
-    ensures { IfOk result (λ places. All (λ list. list ≡ []) places.items) }
+    ensures none { IfOk result (λ places. All (λ list. list ≡ []) places.items) }
+    ensures many { IfOk result (λ places. length places.items ≡ rows) }
 {
     let mut places = Vec::with_capacity(alloc, rows)?;
     for _ in 0..rows {
@@ -62,7 +63,8 @@ pub(crate) fn places_of(
     order: &[u32],
     rows: usize,
 ) -> Result<Vec<Places>, AllocError>
-    ensures { (acts : List Act) → HaveRows acts order.now → IfOk result (λ places. HavePlaces acts places.items) }
+    ensures places { (acts : List Act) → HaveRows acts order.now → IfOk result (λ places. HavePlaces acts places.items) }
+    ensures many { IfOk result (λ places. length places.items ≡ rows) }
 {
     let mut places = no_places(alloc, rows, order.len())?;
     for place in 0..order.len() {
