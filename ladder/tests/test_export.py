@@ -59,7 +59,7 @@ class Frames:
     def heads(self) -> list[dict[str, tuple[int, int]]]:
         """The heads of the living snakes by turn."""
         return [
-            {it["id"]: (it["head"]["x"], it["head"]["y"]) for it in request["board"]["snakes"]}
+            {it["name"]: (it["head"]["x"], it["head"]["y"]) for it in request["board"]["snakes"]}
             for request in self.requests
         ]
 
@@ -89,8 +89,9 @@ def test_frames_are_those_of_the_official_engine(program: Path, played: Path) ->
                 assert step in STEPS
                 assert given[name] == DIRECTIONS[[(0, 1), (0, -1), (-1, 0), (1, 0)].index(step)]
         winners = [it.bot for it in outcome.finishes if it.result is SeatResult.WIN] or [""]
+        ids = {it["name"]: it["id"] for it in read.requests[0]["board"]["snakes"]}
         assert read.result == {
-            "winnerId": winners[0],
+            "winnerId": ids.get(winners[0], ""),
             "winnerName": winners[0],
             "isDraw": winners == [""],
         }

@@ -14,6 +14,7 @@ from typing import Any
 
 import pytest
 from aiohttp import web
+from api import Request, strict
 
 from arena_client import Board
 from arena_ladder import game
@@ -112,9 +113,10 @@ def test_bots_get_the_requests_of_the_api(program: Path, tmp_path: Path) -> None
                 (end,) = bots.requests(name, "end")
                 assert end["turn"] == outcome.turns == 30
                 assert {it["game"]["id"] for it in moves} == {f"{config.letters}-{NAME}"}
-                assert {it["you"]["id"] for it in moves} == {name}
+                assert {it["you"]["id"] for it in moves} == {f"{config.letters}-{NAME}-{name}"}
+                assert all(strict(Request, it).you.name == name for it in [*moves, end])
                 shouts = [
-                    {it["id"]: it["shout"] for it in each["board"]["snakes"]} for each in moves
+                    {it["name"]: it["shout"] for it in each["board"]["snakes"]} for each in moves
                 ]
                 assert shouts[0] == {bot: "" for bot in NAMES}
                 for turn, sent in enumerate(shouts[1:]):
@@ -136,7 +138,7 @@ def test_resumed_game_sends_the_last_shouts(program: Path, tmp_path: Path) -> No
             await played(config, program)
             moves = bots.requests("left", "move")
             assert [it["turn"] for it in moves] == list(range(30))
-            snakes = {it["id"]: it for it in moves[11]["board"]["snakes"]}
+            snakes = {it["name"]: it for it in moves[11]["board"]["snakes"]}
             assert snakes["right"]["shout"] == "right in turn 10"
             assert len(bots.requests("left", "start")) == len(bots.requests("left", "end")) == 1
 

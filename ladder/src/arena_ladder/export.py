@@ -13,7 +13,7 @@ from arena_client import BLOCKS_OF_GAME, Board
 from arena_ladder.config import Config, config_again
 from arena_ladder.game_files import command_file
 from arena_ladder.outcome import Outcome, SeatResult
-from arena_ladder.payloads import Seat, bodies, game_text, living_of, text_of
+from arena_ladder.payloads import bodies, game_text, living_of, seats_of, text_of
 from arena_ladder.store import StoreFault, open_store
 
 
@@ -25,13 +25,14 @@ def frames(folder: Path, game: str, program: Path) -> Iterator[str]:
     """
     config, outcome = finished_game(folder, game)
     text = game_text(config, game)
-    seats = {it.bot: Seat(it.bot) for it in outcome.finishes}
+    seats = seats_of(config, game, [it.bot for it in outcome.finishes], {})
     yield text
     for board in boards_of(command_file(folder, game), program):
         you = (living_of(board) or list(seats))[:1]
         yield bodies(text, board, seats, you)[0].decode()
     winner = next((it.bot for it in outcome.finishes if it.result is SeatResult.WIN), "")
-    yield text_of({"winnerId": winner, "winnerName": winner, "isDraw": not winner})
+    id = seats[winner].id if winner else ""
+    yield text_of({"winnerId": id, "winnerName": winner, "isDraw": not winner})
 
 
 def finished_game(folder: Path, game: str) -> tuple[Config, Outcome]:

@@ -15,7 +15,7 @@ from arena_ladder.game_files import GameFiles
 from arena_ladder.maps import Ground
 from arena_ladder.outcome import Outcome, Tally, finishes_of, tallies_of
 from arena_ladder.pairing import Fixture
-from arena_ladder.payloads import Look, Seat, bodies, game_text, living_of
+from arena_ladder.payloads import Look, bodies, game_text, living_of, seats_of
 from arena_ladder.starts import first_food, start_cells
 from arena_ladder.watch import Watch
 
@@ -85,7 +85,7 @@ class Game:
         self.context = context
         self.fixture = fixture
         self.text = game_text(context.config, fixture.name)
-        self.seats = {bot: Seat(bot, context.looks.get(bot, Look())) for bot in fixture.bots}
+        self.seats = seats_of(context.config, fixture.name, fixture.bots, context.looks)
         self.tallies: dict[str, Tally] = {}
         self.answered_at: float | None = None
         self.stay: Stay | None = None

@@ -3,12 +3,15 @@
 from __future__ import annotations
 
 import json
-from collections.abc import Iterable
+from collections.abc import Iterable, Mapping
 from dataclasses import dataclass, field
 from typing import Any
 
 from arena_client import Board, Snake
 from arena_ladder.config import Config
+
+
+SQUAD = ("allowBodyCollisions", "sharedElimination", "sharedHealth", "sharedLength")
 
 
 @dataclass(frozen=True)
@@ -22,8 +25,9 @@ class Look:
 
 @dataclass
 class Seat:
-    """A bot in a game, with its last latency and shout."""
+    """A bot in a game, with its last latency and shout. Its snake's `id` is of this game alone."""
 
+    id: str
     name: str
     look: Look = field(default_factory=Look)
     latency: int = 0  # milliseconds
@@ -34,34 +38,58 @@ def text_of(value: Any) -> str:
     return json.dumps(value, separators=(",", ":"))
 
 
+def game_id(config: Config, name: str) -> str:
+    """The id of a game for its bots; no two ladders with drawn seeds have the same ids."""
+    return f"{config.letters}-{name}"
+
+
+def seats_of(
+    config: Config, game: str, bots: Iterable[str], looks: Mapping[str, Look]
+) -> dict[str, Seat]:
+    """The seats of a game, by the names of their bots."""
+    id = game_id(config, game)
+    return {bot: Seat(f"{id}-{bot}", bot, looks.get(bot, Look())) for bot in bots}
+
+
 def game_text(config: Config, name: str) -> str:
-    """The member `game`, the same in all requests of a game."""
+    """The member `game`, the same in all requests of a game.
+
+    All members of the official engine are there, also those of modes that the ladder lacks.
+    """
     rules, hazards = config.rules, config.rules.hazards
     settings: dict[str, Any] = {
         "foodSpawnChance": rules.food_chance,
         "minimumFood": rules.min_food,
         "hazardDamagePerTurn": hazards.damage if hazards else 0,
+        "hazardMap": "",
+        "hazardMapAuthor": "",
+        "royale": {"shrinkEveryNTurns": hazards.shrink_every if hazards else 0},
+        "squad": dict.fromkeys(SQUAD, False),
     }
-    board_map = "empty" if rules.mode == "constrictor" else "standard"
-    if hazards and hazards.is_royale:
-        settings["royale"] = {"shrinkEveryNTurns": hazards.shrink_every}
-        board_map = "royale"
     return text_of(
         {
-            "id": f"{config.letters}-{name}",
+            "id": game_id(config, name),
             "ruleset": {"name": rules.mode, "version": "v1.0.0", "settings": settings},
-            "map": board_map,
+            "map": map_name(config),
             "timeout": config.timeout,
             "source": "league",
         }
     )
 
 
+def map_name(config: Config) -> str:
+    """The official name of the map."""
+    hazards = config.rules.hazards
+    if hazards and hazards.is_royale:
+        return "royale"
+    return "empty" if config.rules.mode == "constrictor" else "standard"
+
+
 def snake_text(snake: Snake, seat: Seat) -> str:
     """A snake of a board in the API's form, with the members about its bot."""
     return text_of(
         {
-            "id": snake["id"],
+            "id": seat.id,
             "name": seat.name,
             "health": snake["health"],
             "body": snake["body"],
