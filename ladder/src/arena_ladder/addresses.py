@@ -82,6 +82,13 @@ class AddressBook:
             name.addresses.remove(address)
             name.addresses.insert(0, address)
 
+    def defer(self, host: str, address: str) -> None:
+        """Puts an address last at which no connection could be made."""
+        name = self.names.get(host)
+        if name is not None and address in name.addresses[:-1]:
+            name.addresses.remove(address)
+            name.addresses.append(address)
+
     def _keep(self, host: str, name: Name, loop: asyncio.AbstractEventLoop) -> None:
         """Resolves a name until the run ends."""
         while not self._ends.is_set():

@@ -107,13 +107,13 @@ class BotClient:
         )
 
     def _exchange(self, method: str, url: str, body: bytes, seconds: float) -> Exchange:
-        target = target_of(url)
-        return Exchange(target.place, request_of(method, target, body), seconds)
+        target, bot = target_of(url), url.rpartition("/")[0]
+        return Exchange(target.place, request_of(method, target, body), seconds, bot=bot)
 
     def _exchange_for_move(self, url: str, body: bytes) -> Exchange:
         target, id = target_of(url + "/move"), os.urandom(ID_BYTES).hex()
         request = request_of("POST", target, body, id)
-        return Exchange(target.place, request, self.timeout, id)
+        return Exchange(target.place, request, self.timeout, id, url)
 
     def _was_late(self, exchange: Exchange) -> bool:
         """Whether the ladder itself was late while a request had no answer."""

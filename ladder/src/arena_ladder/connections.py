@@ -4,13 +4,17 @@ from __future__ import annotations
 
 import asyncio
 import errno
-import ssl
+import select
+import socket
 from collections import defaultdict
 from collections.abc import Sequence
 
 from arena_ladder.addresses import AddressBook
 from arena_ladder.misses import BadAnswer, Miss
+from arena_ladder.owners import UNREAD_SHARE, Owner
+from arena_ladder.racing import Race
 from arena_ladder.response import NOTHING, Response
+from arena_ladder.tls import Tls, Wire, client_context
 from arena_ladder.urls import Place
 
 OWN_FAULTS = (  # of this machine, so that no bot is blamed
@@ -21,24 +25,29 @@ OWN_FAULTS = (  # of this machine, so that no bot is blamed
 class Exchange:
     """A request, and what came of it: a body, or the cause why there is none.
 
-    Its time begins when its bytes are given to a connected socket, and ends when the last byte of
+    `bot` is the address of the bot, to which the connections belong that it may use. Its time begins when its bytes are given to a connected socket, and ends when the last byte of
     the answer is read; a connection may take as long again. `asked_at` and `ended_at` are of the
-    clock of the loop. `is_timed_out` says that the time was over.
+    clock of the loop. `is_timed_out` says that the time was over, `why` why there was no connection.
     """
 
-    def __init__(self, place: Place, request: bytes, seconds: float, id: str = "") -> None:
+    def __init__(
+        self, place: Place, request: bytes, seconds: float, id: str = "", bot: str = ""
+    ) -> None:
         self.place = place
+        self.bot = bot or str(place)
         self.request = request
         self.seconds = seconds
         self.id = id
         self.loop = asyncio.get_running_loop()
         self.began_at = self.asked_at = self.ended_at = self.loop.time()
         self.timer = self.loop.call_later(seconds, self.time_out, Miss.REFUSED)
+        self.looks: asyncio.TimerHandle | None = None
         self.is_reused = self.is_sent = self.is_timed_out = False
         self.connection: Connection | None = None
         self.connecting: asyncio.Task[None] | None = None
         self.cause: Miss | None = None
         self.fault: Exception | None = None
+        self.why = ""
         self.body = b""
         self.received = NOTHING
         self.done: asyncio.Future[None] = self.loop.create_future()
@@ -55,6 +64,8 @@ class Exchange:
         """Ends with a body or a cause, unless it has ended."""
         if not self.done.done():
             self.timer.cancel()
+            if self.looks is not None:
+                self.looks.cancel()
             self.ended_at = self.loop.time()
             self.cause, self.body = cause, body
             if self.connection is not None:
@@ -79,11 +90,12 @@ class Exchange:
 class Connection(asyncio.Protocol):
     """A connection to a bot, with at most one request at a time."""
 
-    def __init__(self, pool: Connections, place: Place) -> None:
+    def __init__(self, pool: Connections, bot: str) -> None:
         self.pool = pool
-        self.place = place
+        self.owner = pool.owners[bot]
         self.exchange: Exchange | None = None
         self.response = Response()
+        self.tls: Tls | None = None
         self._transport: asyncio.Transport | None = None
 
     def connection_made(self, transport: asyncio.BaseTransport) -> None:
@@ -91,23 +103,55 @@ class Connection(asyncio.Protocol):
         self._transport = transport
 
     @property
-    def transport(self) -> asyncio.Transport:
-        """The transport, once it is connected."""
+    def wire(self) -> Wire:
+        """What it writes to, once it is connected."""
+        if self.tls is not None:
+            return self.tls
         assert self._transport is not None
         return self._transport
 
     @property
+    def socket(self) -> socket.socket:
+        transport = self.wire if self.tls is None else self.tls.transport
+        assert isinstance(transport, asyncio.Transport)
+        found: socket.socket = transport.get_extra_info("socket")
+        return found
+
+    @property
     def is_open(self) -> bool:
-        return not self.transport.is_closing()
+        return not self.wire.is_closing()
+
+    def is_quiet(self) -> bool:
+        """Whether it is open, and nothing has come on it that was not read."""
+        if not self.is_open:
+            return False
+        poll = select.poll()
+        poll.register(self.socket.fileno(), select.POLLIN)
+        return not poll.poll(0)
 
     def close(self) -> None:
-        self.transport.abort()
+        self.owner.lose(self)
+        self.wire.abort()
+
+    def rest(self) -> None:
+        """Waits for the next request."""
+        if self.tls is not None:
+            self.tls.rest()
 
     def send(self, exchange: Exchange) -> None:
         self.exchange, exchange.connection = exchange, self
         self.response = Response()
         exchange.begin()
-        self.transport.write(exchange.request)
+        self.wire.write(exchange.request)
+        self.acknowledge()
+
+    def acknowledge(self) -> None:
+        """Acknowledges at once what comes next: some servers send the rest of an answer after that.
+
+        Linux takes this back by itself.
+        """
+        if self.is_open:
+            self.socket.setsockopt(socket.IPPROTO_TCP, socket.TCP_QUICKACK, 1)
 
     def data_received(self, data: bytes) -> None:
         if self.exchange is None:
@@ -116,10 +160,18 @@ class Connection(asyncio.Protocol):
         try:
             if self.response.feed(data):
                 self._finish(None)
+            else:
+                self.acknowledge()
         except BadAnswer as bad:
             self._finish(bad.cause)
 
+    def too_much_came(self) -> None:
+        """More came of TLS than belongs to an answer."""
+        if self.exchange is not None:
+            self._finish(Miss.LONG)
+
     def connection_lost(self, error: Exception | None) -> None:
+        self.owner.lose(self)
         exchange = self.exchange
         if exchange is None:
             return
@@ -138,11 +190,13 @@ class Connection(asyncio.Protocol):
         """Ends the request, and closes the connection if it can't be used again."""
         exchange, self.exchange = self.exchange, None
         assert exchange is not None
+        exchange.end(cause, self.response.body)
+        self.owner.answer(self, exchange, exchange.ended_at - exchange.began_at)
+        self.owner.unread.discard(exchange)
         if cause is None and self.response.keeps and self.is_open:
-            self.pool.idle[self.place].append(self)
+            self.owner.keep(self)
         else:
             self.close()
-        exchange.end(cause, self.response.body)
 
 
 class Connections:
@@ -150,8 +204,8 @@ class Connections:
 
     def __init__(self, addresses: AddressBook) -> None:
         self.addresses = addresses
-        self.idle: defaultdict[Place, list[Connection]] = defaultdict(list)
-        self.secure = ssl.create_default_context()
+        self.owners: defaultdict[str, Owner] = defaultdict(Owner)  # by the address of the bot
+        self.secure = client_context()
 
     async def __aenter__(self) -> Connections:
         return self
@@ -161,10 +215,13 @@ class Connections:
 
     def close(self) -> None:
         """Closes the idle connections, and stops looking up names."""
-        for connections in self.idle.values():
-            for connection in connections:
-                connection.close()
+        for owner in self.owners.values():
+            owner.close()
         self.addresses.close()
+
+    def serial_bots(self) -> list[str]:
+        """The addresses of the bots that serve one connection at a time."""
+        return [bot for bot, owner in self.owners.items() if owner.is_serial]
 
     async def ask(self, exchanges: Sequence[Exchange]) -> None:
         """Sends requests, all at once, and waits until each has its answer or a cause.
@@ -181,57 +238,76 @@ class Connections:
         finally:
             for exchange in exchanges:
                 exchange.abandon()
+                self.owners[exchange.bot].unread.discard(exchange)
 
     def _start(self, exchange: Exchange) -> None:
         """Sends a request on an idle connection, or makes one for it."""
-        idle = self.idle[exchange.place]
-        while idle:
-            connection = idle.pop()
-            if connection.is_open:
-                exchange.is_reused = True
-                connection.send(exchange)
-                return
-        self.start_fresh(exchange)
+        connection = self.owners[exchange.bot].take()
+        if isinstance(connection, Connection):
+            exchange.is_reused = True
+            connection.send(exchange)
+        else:
+            self.start_fresh(exchange)
 
     def start_fresh(self, exchange: Exchange) -> None:
         """Sends a request on a new connection."""
         exchange.is_reused = False
         exchange.connecting = exchange.loop.create_task(self._connect(exchange))
+        seconds = exchange.seconds * UNREAD_SHARE
+        exchange.looks = exchange.loop.call_later(seconds, self._look_at, exchange)
+
+    def _look_at(self, exchange: Exchange) -> None:
+        """Closes idle connections of a bot that may not have read a request because of them."""
+        connection = exchange.connection
+        if connection is None or connection.response.seen == 0:
+            self.owners[exchange.bot].wait(exchange)
 
     async def _connect(self, exchange: Exchange) -> None:
         """Makes a connection and sends a request on it."""
         try:
-            connection = await self._connection(exchange.place)
+            connection = await self._connection(exchange.place, exchange.bot)
         except Exception as fault:
             is_own = not isinstance(fault, OSError) or fault.errno in OWN_FAULTS
-            exchange.fault = fault if is_own else None
+            exchange.fault, exchange.why = fault if is_own else None, str(fault)
             exchange.end(Miss.REFUSED)
             return
         if exchange.done.done():
             connection.close()
+        elif connection.tls is None and not connection.is_quiet():
+            connection.close()  # it speaks before it is asked
+            exchange.end(Miss.CUT)
         else:
             connection.send(exchange)
 
-    async def _connection(self, place: Place) -> Connection:
-        """Connects to the first address of a place that accepts."""
-        fault: OSError | None = None
-        for address in await self.addresses.of(place.host):
-            try:
-                connection = await self._connection_to(address, place)
-            except OSError as found:
-                fault = found
-            else:
-                self.addresses.prefer(place.host, address)
-                return connection
-        assert fault is not None
-        raise fault
+    async def _connection(self, place: Place, bot: str) -> Connection:
+        """Connects to one of the addresses of a place."""
 
-    async def _connection_to(self, address: str, place: Place) -> Connection:
-        _, connection = await asyncio.get_running_loop().create_connection(
-            lambda: Connection(self, place),
-            address,
-            place.port,
-            ssl=self.secure if place.is_secure else None,
-            server_hostname=place.host if place.is_secure else None,
-        )
+        async def connect(address: str) -> Connection:
+            return await self._connection_to(address, place, bot)
+
+        race = Race(connect, Connection.close)
+        try:
+            address, connection = await race.run(await self.addresses.of(place.host))
+            self.addresses.prefer(place.host, address)
+            return connection
+        finally:
+            for address in race.failed:
+                self.addresses.defer(place.host, address)
+
+    async def _connection_to(self, address: str, place: Place, bot: str) -> Connection:
+        loop, connection = asyncio.get_running_loop(), Connection(self, bot)
+        if not place.is_secure:
+            await loop.create_connection(lambda: connection, address, place.port)
+            return connection
+        try:
+            tls = Tls(connection, self.secure, place.host)
+        except ValueError as fault:
+            raise ConnectionError(f"no name for TLS: {fault}") from None
+        connection.tls = tls
+        transport, _ = await loop.create_connection(lambda: tls, address, place.port)
+        try:
+            await tls.is_done
+        except BaseException:
+            transport.abort()
+            raise
         return connection

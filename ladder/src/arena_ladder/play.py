@@ -171,11 +171,22 @@ class Run:
                 if source.is_over:
                     return
                 self.say_once("waits for bots: too few are in and do not rest")
+            self.name_serial_bots()
             if pace.allowed < pace.most:
                 self.say_once("this machine is too busy: it plays fewer games at once")
             with suppress(TimeoutError):
                 async with asyncio.timeout(CALM_SECONDS):
                     await self.ended.wait()
+
+    def name_serial_bots(self) -> None:
+        """Says which bots serve one connection at a time, where that costs them time."""
+        serial = set(self.context.client.connections.serial_bots())
+        for bot, url in list(self.context.urls.items()):
+            if url in serial:
+                self.say_once(
+                    f"{bot} serves one connection at a time, so each is closed after its answer: "
+                    "games_a_bot = 1, or a server with threads, may serve it better"
+                )
 
     def say_once(self, text: str) -> None:
         if text not in self.said:

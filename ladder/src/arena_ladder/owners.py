@@ -1,0 +1,86 @@
+"""The connections of each bot, which no other bot uses, and whether it serves one at a time.
+
+A server with one thread that keeps connections reads no other one until the one that it serves is
+closed. It is recognised if it never answered on a connection while an older one was open, and if
+it answers a request that waited unread as soon as its other connections are closed. From then on
+none of its connections is kept.
+"""
+
+from __future__ import annotations
+
+import math
+from typing import Protocol
+
+UNREAD_SHARE = 0.5  # of the time of a request, after which idle connections of its bot are closed
+SLOWER, SLOWER_SECONDS = 2.0, 0.05  # than its quickest answer, by which an answer was not read
+
+
+class Kept(Protocol):
+    """A connection that may be kept."""
+
+    def close(self) -> None:
+        ...
+
+    def rest(self) -> None:
+        ...
+
+    def is_quiet(self) -> bool:
+        ...
+
+
+class Owner:
+    """A bot, as far as its connections show it."""
+
+    def __init__(self) -> None:
+        self.idle: list[Kept] = []  # of `used`
+        self.used: list[Kept] = []  # open connections that have answered, the oldest first
+        self.unread: set[object] = set()  # requests on fresh connections that wait for long
+        self.quickest = math.inf  # seconds of an answer
+        self.is_parallel = False  # it has answered on two open connections
+        self.is_serial = False
+
+    def take(self) -> Kept | None:
+        """An idle connection on which nothing has come, which is not idle any more."""
+        while self.idle:
+            connection = self.idle.pop()
+            if connection.is_quiet():
+                return connection
+            connection.close()
+        return None
+
+    def keep(self, connection: Kept) -> None:
+        """Keeps a connection that has answered, unless a request waits for it to be closed."""
+        if self.is_serial or (self.unread and not self.is_parallel):
+            connection.close()
+        else:
+            self.idle.append(connection)
+            connection.rest()
+
+    def wait(self, request: object) -> None:
+        """A request on a fresh connection has had no answer for long."""
+        self.unread.add(request)
+        if not self.is_parallel:
+            self.close()
+
+    def answer(self, connection: Kept, request: object, seconds: float) -> None:
+        """An answer has come in the given time."""
+        if connection not in self.used:
+            self.is_parallel = self.is_parallel or any(it.is_quiet() for it in self.used)
+            self.used.append(connection)
+        was_slow = seconds > SLOWER * self.quickest + SLOWER_SECONDS
+        self.is_serial = not self.is_parallel and (
+            self.is_serial or (was_slow and request in self.unread)
+        )
+        self.quickest = min(self.quickest, seconds)
+
+    def lose(self, connection: Kept) -> None:
+        """A connection is closed."""
+        if connection in self.used:
+            self.used.remove(connection)
+        if connection in self.idle:
+            self.idle.remove(connection)
+
+    def close(self) -> None:
+        """Closes the idle connections."""
+        while self.idle:
+            self.idle.pop().close()

@@ -1,0 +1,188 @@
+"""Tests of the connections of each bot: no other bot uses them, and none holds up the others."""
+
+from __future__ import annotations
+
+import asyncio
+import http.server
+import json
+import socket
+import threading
+import time
+from collections.abc import Iterator
+from contextlib import contextmanager
+from typing import Any
+
+import pytest
+
+from arena_ladder import addresses
+from arena_ladder.bots import Answer, BotClient
+
+TIMEOUT = 0.5
+TURNS = 150
+HOSTILE, HONEST = ("hostile0", "hostile1"), ("a", "b", "c", "d", "e")
+SECOND_SECONDS = 0.002  # after which the hostile bots answer once more
+
+
+def moved(move: str) -> bytes:
+    body = json.dumps({"move": move}).encode()
+    return b"HTTP/1.1 200 OK\r\nContent-Length: %d\r\n\r\n%b" % (len(body), body)
+
+
+async def serve_all(reader: asyncio.StreamReader, writer: asyncio.StreamWriter) -> None:
+    """Bots of one server: all move up, but the hostile ones send a move to the left behind it."""
+    try:
+        while head := await reader.readuntil(b"\r\n\r\n"):
+            writer.write(moved("up"))
+            if b"hostile" in head:
+                await asyncio.sleep(SECOND_SECONDS)
+                writer.write(moved("left"))
+            await writer.drain()
+    except (ConnectionError, asyncio.IncompleteReadError):
+        pass
+    finally:
+        writer.close()
+
+
+def test_no_answer_is_read_as_that_of_another_bot() -> None:
+    """Of bots behind one port, two send answers that nobody asked for."""
+
+    async def play(client: BotClient, port: int, bots: tuple[str, ...]) -> list[Answer]:
+        urls = [f"http://127.0.0.1:{port}/{bot}" for bot in bots]
+        found = []
+        for _ in range(TURNS):
+            answers = await client.moves([(url, b"") for url in urls])
+            found += [it for it, bot in zip(answers, bots) if bot in HONEST]
+        return found
+
+    async def work() -> list[Answer]:
+        server = await asyncio.start_server(serve_all, "127.0.0.1", 0)
+        port = server.sockets[0].getsockname()[1]
+        async with BotClient(10.0) as client:
+            games = [(HOSTILE[at % 2], *HONEST[at:], *HONEST[:at]) for at in range(4)]
+            found = await asyncio.gather(*(play(client, port, bots) for bots in games))
+        server.close()
+        return [it for answers in found for it in answers]
+
+    answers = asyncio.run(asyncio.wait_for(work(), 120))
+    assert [it.move for it in answers] == ["up"] * (4 * TURNS * len(HONEST))
+
+
+def test_answer_before_the_request_is_not_taken(monkeypatch: pytest.MonkeyPatch) -> None:
+    async def early(_: asyncio.StreamReader, writer: asyncio.StreamWriter) -> None:
+        writer.write(moved("left"))
+        await writer.drain()
+
+    async def work() -> Answer:
+        server = await asyncio.start_server(early, "127.0.0.1", 0)
+        url = f"http://127.0.0.1:{server.sockets[0].getsockname()[1]}/early"
+        async with BotClient(2.0) as client:
+            connect = client.connections._connection_to
+
+            async def slowly(*words: Any) -> Any:
+                connection = await connect(*words)
+                time.sleep(0.1)  # its bytes have come, and the loop has not seen them
+                return connection
+
+            monkeypatch.setattr(client.connections, "_connection_to", slowly)
+            (answer,) = await client.moves([(url, b"")])
+        server.close()
+        return answer
+
+    answer = asyncio.run(work())
+    assert (answer.move, answer.cause) == (None, "cut")
+
+
+class Handler(http.server.BaseHTTPRequestHandler):
+    """A bot of Python's own server, which writes head and body of an answer one by one."""
+
+    protocol_version = "HTTP/1.1"
+
+    def do_POST(self) -> None:
+        self.rfile.read(int(self.headers["Content-Length"]))
+        body = b'{"move":"up"}'
+        self.send_response(200)
+        self.send_header("Content-Length", str(len(body)))
+        self.end_headers()
+        self.wfile.write(body)
+
+    def log_message(self, *_: object) -> None:
+        pass
+
+
+@contextmanager
+def python_server(kind: type[http.server.HTTPServer]) -> Iterator[str]:
+    """Serves bots within the context, whose value is the address of one."""
+    with kind(("127.0.0.1", 0), Handler) as server:
+        thread = threading.Thread(target=server.serve_forever, daemon=True)
+        thread.start()
+        yield f"http://127.0.0.1:{server.server_port}/bot"
+        server.shutdown()
+
+
+async def two_games(url: str, turns: int) -> tuple[list[Answer], list[str]]:
+    """The answers of a bot in two games at once, and the bots that serve one connection alone."""
+
+    async def game(client: BotClient) -> list[Answer]:
+        return [(await client.moves([(url, b"{}")]))[0] for _ in range(turns)]
+
+    async with BotClient(2.0) as client:
+        one, two = await asyncio.gather(game(client), game(client))
+        return one + two, client.connections.serial_bots()
+
+
+def test_answer_in_two_writes_is_not_held_up_by_its_acknowledgement() -> None:
+    """Nagle's algorithm holds the body until the head is acknowledged: usually after 40 ms."""
+
+    async def work(url: str) -> list[int]:
+        async with BotClient(2.0) as client:
+            answers = [(await client.moves([(url, b"{}")]))[0] for _ in range(40)]
+        assert all(it.move == "up" for it in answers)
+        return sorted(it.latency for it in answers)
+
+    with python_server(http.server.ThreadingHTTPServer) as url:
+        latencies = asyncio.run(work(url))
+    assert latencies[10] < 25
+
+
+def test_server_of_one_thread_is_recognised_and_misses_no_move() -> None:
+    """Its second connection is not read while the first one is open."""
+    with python_server(http.server.HTTPServer) as url:
+        answers, serial = asyncio.run(asyncio.wait_for(two_games(url, 40), 120))
+    assert [it.cause for it in answers] == [None] * 80
+    assert serial == [url]
+    assert sum(it.latency > 500 for it in answers) <= 2
+
+
+def test_server_of_many_threads_is_not_taken_for_one() -> None:
+    with python_server(http.server.ThreadingHTTPServer) as url:
+        answers, serial = asyncio.run(asyncio.wait_for(two_games(url, 40), 120))
+    assert [it.cause for it in answers] == [None] * 80
+    assert serial == []
+
+
+def test_dead_address_of_a_name_is_tried_beside_a_living_one(
+    monkeypatch: pytest.MonkeyPatch,
+) -> None:
+    """No move is missed, and the address that answers is used alone from then on."""
+    monkeypatch.setattr(addresses, "addresses_of", lambda host: ["127.0.0.2", "127.0.0.1"])
+
+    async def work(port: int) -> tuple[list[Answer], list[str]]:
+        server = await asyncio.start_server(serve_all, "127.0.0.1", port)
+        async with BotClient(TIMEOUT) as client:
+            url = f"http://two.test:{port}/bot"
+            answers = [(await client.moves([(url, b"")]))[0] for _ in range(3)]
+            order = await client.addresses.of("two.test")
+        server.close()
+        return answers, order
+
+    with socket.create_server(("127.0.0.2", 0), backlog=0) as deaf:
+        port = deaf.getsockname()[1]
+        filling = [socket.socket() for _ in range(4)]
+        for it in filling:
+            it.setblocking(False)
+            it.connect_ex(("127.0.0.2", port))
+        answers, order = asyncio.run(work(port))
+        for it in filling:
+            it.close()
+    assert [it.move for it in answers] == ["up"] * 3
+    assert order == ["127.0.0.1", "127.0.0.2"]
