@@ -158,9 +158,11 @@ class Trial:
     def __init__(self, name, folder):
         self.name, self.folder, self.refused = name, folder, 0
 
-    def run(self, edits):
-        """Tries the edits, and returns those whose own functions were not refused."""
-        is_proved, output = self.check({}, "no edit")
+    def run(self, edits, is_proved=False):
+        """Tries the edits, and returns those whose own functions were not refused. The crate is
+        checked without an edit first, unless it is known to be proved."""
+        if not is_proved:
+            is_proved, output = self.check({}, "no edit")
         if not is_proved:
             print(f"{self.name}: NOT PROVED without an edit, so none was tried")
             print("\n".join(f"    {line}" for line in output.splitlines()[-6:]), flush=True)
