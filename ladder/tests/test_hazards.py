@@ -27,7 +27,8 @@ from test_kills import wait_for
 
 from arena_client import PLAN_WITH_HAZARDS
 from arena_ladder.config import config_of
-from arena_ladder.game import map_members, opening
+from arena_ladder.game import opening
+from arena_ladder.map_moves import map_members
 from arena_ladder.maps import Ground, HazardMap
 from arena_ladder.pairing import Fixture
 from arena_ladder.starts import Cell

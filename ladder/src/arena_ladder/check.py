@@ -17,14 +17,16 @@ from arena_client import BLOCKS_OF_GAME, line_of
 from arena_ladder.config import Config, config_again
 from arena_ladder.draws import words_of
 from arena_ladder.endless import replay
-from arena_ladder.game import map_members, opening
+from arena_ladder.game import opening
 from arena_ladder.game_files import command_file
+from arena_ladder.map_moves import map_members
 from arena_ladder.outcome import Outcome, finishes_of
 from arena_ladder.pairing import Fixture, fixtures_of
 from arena_ladder.rated import Rated
 from arena_ladder.store import Store, StoreFault, open_store
 
 SERVE_SECONDS = 600
+NOT_AS_DRAWN = "the hazards or the food of the move after turn {} are not as drawn"
 
 
 @dataclass(frozen=True)
@@ -83,7 +85,11 @@ def fault_of(
         lines = path.read_bytes().splitlines(keepends=True)
     except OSError as fault:
         return f"its file can't be read: {fault.strerror}"
-    return fault_of_lines(lines, config, fixture) or fault_of_replies(path, outcome, program)
+    wrong = fault_of_lines(lines, config, fixture)
+    if wrong is not None:
+        return wrong
+    wrong, replies = fault_of_replies(path, outcome, program)
+    return wrong or fault_of_boards(lines, replies, config, fixture)
 
 
 def fault_of_lines(lines: list[bytes], config: Config, fixture: Fixture) -> str | None:
@@ -114,25 +120,48 @@ def fault_of_move(
     """Why the move after a turn does not have the drawn words, hazards, and nothing else."""
     if command.get("words") != words_of(config.seed, fixture.key, turn, config.rules.words):
         return f"the words of the move after turn {turn} are not those that are drawn"
-    given = {key: command[key] for key in ("hazards", "food") if key in command}
-    if given != map_members(config, fixture.key, turn):
-        return f"the hazards or the food of the move after turn {turn} are not as drawn"
+    hazards = config.rules.hazards
+    if hazards is not None and hazards.needs_boards:
+        return None  # `fault_of_boards` looks at them
+    if given_by(command) != map_members(config, fixture.key, turn):
+        return NOT_AS_DRAWN.format(turn)
     return None
 
 
-def fault_of_replies(path: Path, outcome: Outcome, program: Path) -> str | None:
-    """Why the replies of `arena serve` are not those of the live host, or not this outcome."""
+def given_by(move: dict[str, Any]) -> dict[str, Any]:
+    """What a move gives beside directions and words."""
+    return {key: move[key] for key in ("hazards", "food") if key in move}
+
+
+def fault_of_boards(
+    lines: list[bytes], replies: list[bytes], config: Config, fixture: Fixture
+) -> str | None:
+    """Why moves do not give what the map draws from the boards before them, as replies have them."""
+    hazards = config.rules.hazards
+    if hazards is None or not hazards.needs_boards:
+        return None
+    moves = [it for it in map(json.loads, lines[1:]) if it["do"] == "move"]
+    boards = [it["board"] for it in map(json.loads, replies[:-1]) if it["do"] in ("new", "move")]
+    for turn, before in enumerate(zip(boards, (it["moves"] for it in moves))):
+        if given_by(moves[turn]) != map_members(config, fixture.key, turn, before):
+            return NOT_AS_DRAWN.format(turn)
+    return None
+
+
+def fault_of_replies(path: Path, outcome: Outcome, program: Path) -> tuple[str | None, list[bytes]]:
+    """Why the replies of `arena serve` are not those of the live host, or not this outcome; and
+    the replies."""
     words = [str(program), "serve", str(path), "--blocks", str(BLOCKS_OF_GAME), "--workers", "1"]
     try:
         ran = subprocess.run(words, capture_output=True, timeout=SERVE_SECONDS)
     except (OSError, subprocess.TimeoutExpired) as fault:
-        return f"arena serve did not run: {fault}"
+        return f"arena serve did not run: {fault}", []
     if ran.returncode != 0:
-        return f"arena serve ended with status {ran.returncode}: {ran.stderr.decode().strip()}"
+        return f"arena serve ended with status {ran.returncode}: {ran.stderr.decode().strip()}", []
     lines = ran.stdout.splitlines()
     if hashlib.sha256(ran.stdout).hexdigest() != outcome.digest or len(lines) != outcome.lines:
-        return "arena serve writes other lines than the live host wrote"
+        return "arena serve writes other lines than the live host wrote", []
     board = json.loads(lines[-1])["board"]
     if finishes_of(board) != outcome.finishes or board["turn"] != outcome.turns:
-        return "its last board is not the one in the results"
-    return None
+        return "its last board is not the one in the results", []
+    return None, lines

@@ -12,13 +12,14 @@ from pathlib import Path
 from typing import Any
 
 from arena_client import PLAN, PLAN_WITH_HAZARDS, Mode
+from arena_ladder import official
 from arena_ladder.maps import HazardMap, map_again
 from arena_ladder.starts import Cell, most_snakes
 from arena_ladder.urls import shown, target_of
 
 BOT_NAME = re.compile(r"[A-Za-z0-9][A-Za-z0-9_.-]{0,31}")
 MODES = tuple(Mode)
-MAPS = ("standard", "royale")
+MAPS = ("standard", "royale", *official.MAPS)
 PAIRINGS = ("round_robin", "duels", "tables", "gauntlet", "rating")
 MOST_BOTS = 200
 MOST_AT_ONCE = 64  # games that are open in a host
@@ -217,7 +218,14 @@ def config_of(table: dict[str, Any], place: str) -> Config:
 
 
 def rules_of(members: Members) -> Rules:
-    width, height = (members.number(side, 11, 3, 25) for side in ("width", "height"))
+    board_map = members.word("map", MAPS)
+    sides = official.MAPS[board_map].sides if board_map in official.MAPS else None
+    width, height = (
+        members.number(side, usual, 3, 25)
+        for side, usual in zip(("width", "height"), sides or (11, 11))
+    )
+    if sides is not None and sides != (width, height):
+        raise members.fault(f"the map {board_map} wants a board of {sides[0]} by {sides[1]} cells")
     return Rules(
         mode=members.word("mode", MODES),
         width=width,
@@ -225,22 +233,24 @@ def rules_of(members: Members) -> Rules:
         min_food=members.number("min_food", 1, 0, LONGEST_FOOD),
         food_chance=members.number("food_chance", 15, 0, 100),
         turns=members.number("turns", MOST_TURNS, 1, MOST_TURNS),
-        hazards=hazards_of(members, width, height),
+        hazards=hazards_of(members, board_map, width, height),
     )
 
 
-def hazards_of(members: Members, width: int, height: int) -> HazardMap | None:
-    """The map of the games: royale, or one of the given cells; None if there are no hazards."""
-    is_royale = members.word("map", MAPS) == "royale"
+def hazards_of(members: Members, board_map: str, width: int, height: int) -> HazardMap | None:
+    """The map of the games, or one of the given cells; None if there are no hazards."""
     cells = members.table.pop("hazards", None)
-    if is_royale and cells is not None:
-        raise members.fault("the map royale draws its hazards, so hazards can't be given")
-    if not is_royale and cells is None:
+    if board_map != "standard" and cells is not None:
+        raise members.fault(f"the map {board_map} has hazards of its own, so none can be given")
+    if board_map == "standard" and cells is None:
         return None
+    chosen = official.MAPS.get(board_map, official.OfficialMap())
+    every = 25 if board_map == "royale" else chosen.every
     return HazardMap(
-        damage=members.number("hazard_damage", 14, 0, 100),
-        shrink_every=members.number("shrink_every", 25, 1, MOST_TURNS) if is_royale else 0,
-        cells=() if is_royale else hazard_cells(members, cells, width, height),
+        damage=members.number("hazard_damage", chosen.damage, 0, 100),
+        shrink_every=members.number("shrink_every", every, 1, MOST_TURNS) if every else 0,
+        cells=() if cells is None else hazard_cells(members, cells, width, height),
+        name=chosen.name,
     )
 
 
@@ -258,6 +268,8 @@ def snakes_of(members: Members, rules: Rules, pairing: str) -> int:
     """The number of snakes of a game; a game of one snake is possible in solo only."""
     usual = {"tables": 4}.get(pairing, 1 if rules.mode == "solo" else 2)
     most = min(8, most_snakes(rules.width, rules.height))
+    if rules.hazards and rules.hazards.official and rules.hazards.official.starts:
+        most = sum(map(len, rules.hazards.official.starts))
     snakes = members.number("snakes", usual, 1 if rules.mode == "solo" else 2, most)
     if pairing in ("duels", "gauntlet") and snakes != 2:
         raise members.fault(f"{pairing}: a game has 2 snakes")

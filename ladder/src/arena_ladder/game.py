@@ -5,18 +5,16 @@ from __future__ import annotations
 from collections.abc import Mapping
 from dataclasses import dataclass
 from pathlib import Path
-from typing import Any
 
 from arena_client import QUOTA, Board, Host, Stay, line_of
 from arena_ladder.bots import Answer, BotClient
 from arena_ladder.config import Config
-from arena_ladder.draws import Draw, words_of
+from arena_ladder.draws import words_of
 from arena_ladder.game_files import GameFiles
-from arena_ladder.maps import Ground
+from arena_ladder.map_moves import map_members, opening_members
 from arena_ladder.outcome import Outcome, Tally, finishes_of, tallies_of
 from arena_ladder.pairing import Fixture
 from arena_ladder.payloads import Look, bodies, game_text, living_of, seats_of
-from arena_ladder.starts import first_food, start_cells
 from arena_ladder.watch import Watch
 
 FREE_AT = 1_000_000  # bytes of records; above that all but the last are freed
@@ -40,42 +38,13 @@ class RunContext:
 
 def opening(config: Config, fixture: Fixture) -> list[bytes]:
     """The lines that admit and begin a game; its name, bots and seed determine them."""
-    rules = config.rules
-    draw = Draw(config.seed, fixture.key, "start")
-    heads = start_cells(draw, rules.width, rules.height, len(fixture.bots))
-    food = first_food(draw, rules.width, rules.height, heads)
-    snakes = [{"id": bot, **head._asdict()} for bot, head in zip(fixture.bots, heads)]
-    begin = line_of(
-        game=fixture.name,
-        do="new",
-        mode=rules.mode,
-        width=rules.width,
-        height=rules.height,
-        snakes=snakes,
-        food=[] if rules.mode == "constrictor" else [cell._asdict() for cell in food],
-        min_food=rules.min_food,
-        food_chance=rules.food_chance,
-        **opening_hazards(config),
-    )
+    rules, bots = config.rules, fixture.bots
+    members = opening_members(config, fixture.key, len(bots))
+    heads = members.pop("heads")
+    snakes = [{"id": bot, **head._asdict()} for bot, head in zip(bots, heads)]
+    sides = {"mode": rules.mode, "width": rules.width, "height": rules.height}
+    begin = line_of(game=fixture.name, do="new", **sides, snakes=snakes, **members)
     return [line_of(game=fixture.name, do="admit", quota=QUOTA), begin]
-
-
-def opening_hazards(config: Config) -> dict[str, Any]:
-    """The members of a `new` about hazards; none on a board without a map."""
-    hazards = config.rules.hazards
-    if hazards is None:
-        return {}
-    return {"hazards": [cell._asdict() for cell in hazards.cells], "hazard_damage": hazards.damage}
-
-
-def map_members(config: Config, game: str, turn: int) -> dict[str, Any]:
-    """What the move after a turn has beside directions and words: hazards, if they change."""
-    rules = config.rules
-    if rules.hazards is None:
-        return {}
-    ground = Ground(rules.width, rules.height, rules.hazards, config.seed, game)
-    hazards = ground.hazards_after(turn)
-    return {} if hazards is None else {"hazards": [cell._asdict() for cell in hazards]}
 
 
 class Game:
@@ -153,7 +122,7 @@ class Game:
         files.add_answers(answers)
         moves = {name: answer.move for name, answer in answers.items() if answer.move is not None}
         words = words_of(config.seed, self.fixture.key, board["turn"], config.rules.words)
-        more = map_members(config, self.fixture.key, board["turn"])
+        more = map_members(config, self.fixture.key, board["turn"], (board, moves))
         self.context.watch.show(self.fixture, await stay.move(moves, words, **more))
 
     async def ask_all(self, board: Board) -> dict[str, Answer]:

@@ -82,6 +82,8 @@ def map_name(config: Config) -> str:
     hazards = config.rules.hazards
     if hazards and hazards.is_royale:
         return "royale"
+    if hazards and hazards.official:
+        return hazards.official.official or hazards.official.name
     return "empty" if config.rules.mode == "constrictor" else "standard"
 
 
