@@ -64,7 +64,7 @@ def test_what_is_left_out_is_usual() -> None:
         ({"map": "royale", "shrink_every": 0}, "shrink_every is 0"),
         ({"map": "royale", "shrink_every": 10_001}, "shrink_every is 10001"),
         ({"map": "royale", "hazard_damage": 101}, "hazard_damage is 101"),
-        ({"map": "royale", "hazards": [[1, 1]]}, "the map royale draws its hazards"),
+        ({"map": "royale", "hazards": [[1, 1]]}, "the map royale has hazards of its own"),
         ({"shrink_every": 25}, "nobody knows shrink_every"),
         ({"hazard_damage": 14}, "nobody knows hazard_damage"),
         ({"hazards": [[1, 1]], "shrink_every": 25}, "nobody knows shrink_every"),

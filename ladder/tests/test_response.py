@@ -73,7 +73,10 @@ def test_body_without_a_length_ends_with_the_connection() -> None:
         (b"\x16\x03\x01 no HTTP\r\n\r\n", "cut"),
         (b"HTTP/1.1 101 Switching Protocols\r\n\r\n", "cut"),
         (b"HTTP/1.1 100 C\r\n\r\nHTTP/1.1 102 P\r\n\r\n", "cut"),
-        (b"HTTP/1.1 404 Not Found\r\nContent-Length: 9\r\n\r\n", "status"),
+        (b"HTTP/1.1 404 Not Found\r\nContent-Length: 0\r\n\r\n", "status"),
+        (b"HTTP/1.1 500 Error\r\nContent-Length: 99999\r\n\r\n", "status"),
+        (b"HTTP/1.1 500 Error\r\nContent-Length: 999\r\n\r\n" + b"x" * 200, "status"),
+        (b"HTTP/1.1 500 Error\r\nTransfer-Encoding: chunked\r\n\r\nx\r\n", "status"),
         (b"HTTP/1.1 204 No Content\r\n\r\n", "status"),
         (OK + b"Content-Length: -1\r\n\r\n", "cut"),
         (OK + b"Content-Length: 1, 1\r\n\r\n", "cut"),
@@ -91,6 +94,31 @@ def test_body_without_a_length_ends_with_the_connection() -> None:
 def test_bad_responses_have_their_cause(text: bytes, cause: str) -> None:
     assert read(text) == cause
     assert read(text, 1) == cause
+
+
+@pytest.mark.parametrize("size", [1, 7, MOST_BYTES])
+@pytest.mark.parametrize("more", ["Content-Length: 14\r\n", "Connection: close\r\n"])
+def test_body_of_a_bad_status_is_kept_in_any_pieces(more: str, size: int) -> None:
+    """Servers write head and body apart; what a log shows of the answer is the body."""
+    response = Response()
+    head = f"HTTP/1.1 422 Unprocessable Entity\r\n{more}\r\n".encode()
+    text = head + b'{"detail":"x"}'
+    with pytest.raises(BadAnswer) as bad:
+        for at in range(0, len(text), size):
+            response.feed(text[at : at + size])
+        response.end()
+    assert bad.value.cause == "status"
+    assert response.received(is_bad=True).excerpt == b'{"detail":"x"}'
+    assert response.received(is_bad=True).status == 422
+
+
+def test_head_of_a_bad_status_is_kept_where_no_body_comes() -> None:
+    response = Response()
+    assert not response.feed(b"HTTP/1.1 503 Busy\r\nContent-Length: 5\r\n\r\n")
+    assert response.is_refusal and not Response().is_refusal
+    with pytest.raises(BadAnswer):
+        response.end()
+    assert response.received(is_bad=True).excerpt.startswith(b"HTTP/1.1 503 Busy")
 
 
 def test_limits_are_exact() -> None:

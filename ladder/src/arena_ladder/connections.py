@@ -74,7 +74,8 @@ class Exchange:
 
     def time_out(self, cause: Miss) -> None:
         self.is_timed_out = True
-        self.end(cause)
+        is_refusal = self.connection is not None and self.connection.response.is_refusal
+        self.end(Miss.STATUS if is_refusal else cause)
         self.abandon()
 
     def abandon(self) -> None:

@@ -13,6 +13,7 @@ MOST_HEAD = 16 * 1024  # of a status line with its headers
 MOST_PIECES = 1024  # in which an answer comes: reads from the socket, and chunks
 LONGEST_LINE = 256  # of a chunk's size and extensions
 EXCERPT = 200  # bytes that are kept of a bad answer
+WITHOUT_BODY = (204, 205, 304)  # statuses
 
 EMPTY_LINE = re.compile(rb"\n\r?\n")
 STATUS = re.compile(rb"HTTP/1\.([01]) ([1-5][0-9][0-9])(?: [^\r\n]*)?(?=\r?\n|\Z)")
@@ -38,8 +39,9 @@ NOTHING = Received()
 class Response:
     """One response, which `feed` takes piece by piece.
 
-    Of a status other than 200 the head alone is read. `keeps` says at the end whether the
-    connection can be used again: the server allows it, and sent nothing behind the response.
+    Of a status other than 200 the body is read as far as an excerpt needs it. `keeps` says at the
+    end whether the connection can be used again: the server allows it, and sent nothing behind the
+    response.
     """
 
     def __init__(self) -> None:
@@ -47,6 +49,7 @@ class Response:
         self.status = 0
         self.pieces = 0
         self.keeps = False
+        self.is_refusal = False  # whether the head has come, with a status other than 200
         self.body = b""
         self._start = b""  # of the last head
         self._rest = bytearray()  # what was fed and is not read yet
@@ -60,9 +63,21 @@ class Response:
         """Takes bytes, and returns whether the response is complete; raises `BadAnswer`."""
         self._rest += data[: MOST_BYTES - self.seen]
         self.seen += len(data)
+        try:
+            return self._fed()
+        except BadAnswer:
+            if self.is_refusal:
+                raise BadAnswer(Miss.STATUS) from None
+            raise
+
+    def _fed(self) -> bool:
+        """Reads what came, and returns whether the response is complete."""
         self._count_piece()
         is_long = self.seen > MOST_BYTES
-        if self._step():
+        is_complete = self._step()
+        if self.is_refusal and (is_complete or len(self._begun_body()) >= EXCERPT):
+            raise BadAnswer(Miss.STATUS)
+        if is_complete:
             self.keeps = self.keeps and not self._rest and not is_long
             return True
         if is_long:
@@ -71,6 +86,8 @@ class Response:
 
     def end(self) -> None:
         """Takes the end of the connection; raises `BadAnswer` if the response is incomplete."""
+        if self.is_refusal:
+            raise BadAnswer(Miss.STATUS)
         if self._step != self._until_end:
             raise BadAnswer(Miss.CUT)
         self.body = bytes(self._rest)
@@ -79,8 +96,11 @@ class Response:
         """What came so far."""
         if not is_bad:
             return Received(self.status, self.seen)
-        body = self.body or b"".join(self._parts) or bytes(self._rest[:EXCERPT])
-        return Received(self.status, self.seen, (body or self._start)[:EXCERPT])
+        return Received(self.status, self.seen, (self._begun_body() or self._start)[:EXCERPT])
+
+    def _begun_body(self) -> bytes:
+        """The body, or as much of it as came."""
+        return self.body or b"".join(self._parts) or bytes(self._rest[:EXCERPT])
 
     def _count_piece(self) -> None:
         self.pieces += 1
@@ -118,7 +138,8 @@ class Response:
                 raise BadAnswer(Miss.CUT)
             self._had_interim = True
             return self._head()
-        if line[2] != b"200":
+        self.is_refusal = self.status != 200
+        if self.status in WITHOUT_BODY:
             raise BadAnswer(Miss.STATUS)
         self._step = self._step_after(head, line[1] == b"1")
         return self._step()
