@@ -1,5 +1,6 @@
 """Truncated and damaged files, limits, and devices that fail, for tests/hostile."""
 import fcntl
+import itertools
 import json
 import os
 import resource
@@ -11,7 +12,7 @@ import program
 import pytest
 import shapes
 from member_limits import CELL, E_ACUTE, G1, G2, HAZARDS, MAPS, OTHERS, SETUPS, cells, snake
-from program import ROOT, SECONDS, line, run_bytes
+from program import ROOT, SECONDS, line, run_bytes, text_of
 
 EXAMPLES = ROOT / "examples"
 MOST_LINE, MOST_FILE = 65_536, 16_777_216
@@ -647,6 +648,27 @@ class TestDevices(Hostile):
             assert (status, errors) == (6, b"arena: write failed after %d bytes\n" % room)
             output.close()
             assert taken.read() == run_bytes("serve", "-", text=text)[1][:room]
+
+    def test_a_reader_that_goes(self):
+        """A transcript of 24 MB, which several threads render, and a reader that closes the pipe
+        after some bytes."""
+        names = [f"g{number}" for number in range(16)]
+        rows = [{"game": name, "quota": 65_536} for name in names]
+        solo = {"mode": "solo", "width": 11, "height": 11, "snakes": [snake(x=5, y=5)], "food": []}
+        lines = [line(games=rows), *(line(game=name, do="new", **solo) for name in names)]
+        lines += [line(game=name, do="show") for _ in range(5_000) for name in names]
+        with tempfile.NamedTemporaryFile("w") as file:
+            file.write(text_of(lines))
+            file.flush()
+            for workers, size in itertools.product((1, 2, 3, 4), (1, 300_000, 4_000_000)):
+                words = ["serve", file.name, "--blocks", "512", "--workers", str(workers)]
+                with subprocess.Popen(
+                    [program.path, *words], stdout=subprocess.PIPE, stderr=subprocess.PIPE
+                ) as ran:
+                    assert len(ran.stdout.read(size)) == size
+                    ran.stdout.close()
+                    status = ran.wait(SECONDS)
+                    assert (status, b"arena: write failed" in ran.stderr.read()) == (6, True)
 
     def test_inputs_that_cannot_be_read(self):
         reader, writer = os.pipe()

@@ -7,6 +7,7 @@ import re
 import select
 import struct
 import subprocess
+import tempfile
 import termios
 import time
 
@@ -14,7 +15,7 @@ import cases
 import program
 import pytest
 from cases import lines_by_game
-from program import ROOT, line, run, run_bytes
+from program import ROOT, line, run, run_bytes, text_of
 
 SECONDS = 20  # the limit of an answer
 MOST_LINE = 65_536  # bytes of a line
@@ -391,6 +392,32 @@ class TestMemory:
         self.talk.say(b"\n")
         assert json.loads(self.talk.lines(1)[0])["no"] == "L3"
         self.end()
+
+
+class TestLong:
+    def test_two_million_lines(self):
+        """A host that plays for hours: each line is answered, in its place."""
+        head = [
+            line(games=[{"game": "a", "quota": 4096}]),
+            line(**new("a", "solo", 3, [("s", 1, 1)])),
+        ]
+        some = (line(game="a", do="show") + "\n").encode() * 1_000
+        with tempfile.TemporaryFile() as answers:
+            run = subprocess.Popen(
+                [program.path, "live"],
+                stdin=subprocess.PIPE,
+                stdout=answers,
+                stderr=subprocess.PIPE,
+            )
+            run.stdin.write(text_of(head).encode())
+            for _ in range(2_000):
+                run.stdin.write(some)
+            assert (run.communicate(timeout=SECONDS)[1], run.returncode) == (b"", 0)
+            answers.seek(0)
+            count = 0
+            for count, answer in enumerate(answers, 1):
+                assert count > 2_000_001 or answer.endswith(b'"game":"a","seq":%d}\n' % count)
+        assert count == 2_000_002
 
 
 class TestStatuses:

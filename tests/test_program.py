@@ -22,6 +22,7 @@ EXAMPLES = ROOT / "examples"
 BOTS = sorted((EXAMPLES / "bots").glob("*.moves"))
 REFUSED_PLAN = 4  # exit status
 LONGEST_FILE = 16_777_216  # bytes
+LARGE = 10  # rounds of many games, which are more than four megabytes
 # The lines of the first file's transcript that README.md shows.
 SHOWN = [2, 3, 5]
 
@@ -95,6 +96,14 @@ def threads_at_work(*words):
         with contextlib.suppress(OSError):
             most = max(most, len(os.listdir(f"/proc/{started.pid}/task")))
     return most
+
+
+def processor_time(*words):
+    """The processor time of a run, whose output is dropped."""
+    before = os.times()
+    subprocess.run([program.path, *words], stdout=subprocess.DEVNULL, check=True)
+    now = os.times()
+    return now.children_user + now.children_system - before.children_user - before.children_system
 
 
 class TestUsage:
@@ -190,10 +199,12 @@ class TestRequest:
             with open("/dev/full", "wb") as full:
                 assert program.run_bytes(*words, stderr=full) == (status, b"", None)
 
-    def test_each_worker_is_a_thread(self):
+    @pytest.mark.parametrize("rounds", [2, LARGE])
+    def test_each_worker_is_a_thread(self, rounds):
         with tempfile.NamedTemporaryFile("w", suffix=".jsonl") as file:
-            file.write("\n".join(shapes.many_games(2)))
+            file.write("\n".join(shapes.many_games(rounds)))
             file.flush()
+            assert rounds < LARGE or file.tell() > 4_000_000
             more = ["--blocks", shapes.BLOCKS]
             for workers in range(1, 5):
                 words = ["serve", file.name, "--workers", str(workers), *more]
@@ -201,6 +212,17 @@ class TestRequest:
                 assert workers <= threads_at_work(*words) <= 2 * workers - 1
             assert 2 <= threads_at_work("serve", file.name, *more) <= 3
             assert threads_at_work("alone", file.name, "--game", "g0") == 1
+
+    def test_four_workers_do_the_work_once(self):
+        """Four threads take at most twice the processor time of one (1.2 is usual)."""
+        with tempfile.NamedTemporaryFile("w", suffix=".jsonl") as file:
+            file.write("\n".join(shapes.many_games(LARGE)))
+            file.flush()
+            words = ["serve", file.name, "--blocks", shapes.BLOCKS, "--workers"]
+            alone, shared = (
+                min(processor_time(*words, workers) for _ in range(3)) for workers in "14"
+            )
+        assert 0 < shared < 2 * alone
 
     def test_a_stay_of_the_longest_file(self):
         commands = [line(game="a", do="show"), line(game="b", do="show")]

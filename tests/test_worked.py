@@ -181,6 +181,21 @@ class TestGames:
             assert replies[0]["board"]["food"] == []
             assert replies[1]["board"]["food"] == cells(*food)
 
+    def test_the_most_words_of_a_move(self):
+        # s is on (0, 1) and (0, 0) then, so the first free cells are (1, 0) to (24, 0), and then
+        # (1, 1) to (8, 1): one for each of 32 words. The 33rd food has no word.
+        first = new("solo", 25, [snake("s", 0, 0)], min_food=33)
+        boards = [it["board"] for it in self.answers(first, move(*[0] * 32), move(0))]
+        row = [(x, 0) for x in range(1, 25)]
+        assert boards[1]["food"] == cells(*row, *((x, 1) for x in range(1, 9)))
+        assert len(boards[2]["food"]) == 33
+
+    def test_the_longest_id_of_a_move(self):
+        name = "s" * 64
+        way = line(game="a", do="move", moves={name: "right", name + "s": "left"})
+        board = self.answers(new("solo", 5, [snake(name, 1, 1)]), way)[1]["board"]
+        assert board["snakes"][0]["body"] == cells((2, 1), (1, 1), (1, 1))
+
     def test_one_snake_of_standard_is_over_at_once(self):
         first, second = self.answers(new("standard", 3, [snake("s", 1, 1)]), move())
         assert first["board"]["over"]
@@ -257,6 +272,9 @@ class TestHazards:
             ([AHEAD], {}, 75),
             ([AHEAD, AHEAD], {}, 61),
             ([AHEAD, (0, 4), AHEAD, AHEAD], {}, 47),
+            ([AHEAD] * 5, {}, 19),
+            ([AHEAD] * 6, {}, 5),
+            ([AHEAD] * 2_500, {"hazard_damage": 0}, 89),
             ([(2, 4), (1, 3), (3, 3)], {}, 89),
             ([AHEAD], {"hazard_damage": 0}, 89),
             ([AHEAD], {"hazard_damage": 88}, 1),
@@ -378,6 +396,16 @@ class TestHazards:
         ):
             board = self.last_board([first, moved("right", way, food=cells(*given))])
             assert board["food"] == cells(*food)
+
+    def test_the_longest_list_of_food(self):
+        # All cells of the longest board, of which the snakes take four: s is on (1, 0) and (0, 0)
+        # then, t on (24, 23) and (24, 24).
+        starts = [snake("s", 0, 0), snake("t", 24, 24)]
+        all_cells = [(x, y) for y in range(25) for x in range(25)]
+        lines = [new("standard", 25, starts), moved("right", "down", food=cells(*all_cells))]
+        food = self.last_board(lines)["food"]
+        assert food == cells(*all_cells[2:599], *all_cells[600:624])
+        assert len(food) == 621
 
     def test_food_that_a_move_gives_comes_after_that_of_its_words(self):
         # The first free cell is (2, 0): s is on (1, 0) and (0, 0).
