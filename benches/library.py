@@ -13,6 +13,7 @@ import subprocess
 import sys
 import tempfile
 import time
+from array import array
 
 from paths import ROOT  # first: it lets the next be found
 import library_games
@@ -36,7 +37,7 @@ def drawn_game(number):
             for seat in range(4)
         )
         words = [rng.getrandbits(32), rng.getrandbits(32)]
-        games.step(moves, library_games.words_of(words))
+        games.step(moves, array("I", words))
         game.turns.append(library_games.Turn(moves, words, games.record(0)))
     return game
 

@@ -4,7 +4,7 @@ from pathlib import Path
 import program as runs
 import pytest
 
-pytest.register_assert_rewrite("library_games", "library_page", "library_vectors")
+pytest.register_assert_rewrite("library_games", "library_page")
 
 
 def pytest_addoption(parser):
@@ -15,3 +15,13 @@ def pytest_addoption(parser):
 @pytest.fixture(scope="session", autouse=True)
 def run_given_program(program):
     runs.path = program
+
+
+@pytest.fixture(scope="session")
+def library(request):
+    """Builds the library, which arena_rules loads; so nothing imports that earlier."""
+    import library_page
+
+    file = request.config.getoption("--library")
+    words = ["--library", file.resolve()] if file else []
+    library_page.ran(runs.ROOT / "bindings/build", *words)

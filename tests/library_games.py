@@ -6,6 +6,7 @@ import json
 import random
 import struct
 import subprocess
+from array import array
 from dataclasses import dataclass, field
 
 from arena_rules import Games, records
@@ -111,6 +112,7 @@ def flat(cells):
 
 
 def words_of(words):
+    """Words as bytes, for a file."""
     return struct.pack(f"<{len(words)}I", *words)
 
 
@@ -132,7 +134,7 @@ def draw(count, seed):
         game = Game(setup, games.record(0), rng.choice(WORDS), most)
         while not games.is_over(0) and len(game.turns) < game.most:
             moves, words = draw_moves(rng, games.memory[0]), draw_words(rng, game.words)
-            games.step(moves, words_of(words))
+            games.step(moves, array("I", words))
             game.turns.append(Turn(moves, words, games.record(0)))
         drawn.append(game)
     return drawn
@@ -187,7 +189,7 @@ def replay(games):
                 loaded.load(0, record)
             assert not records.is_over(record)
             record = records.turn(record, turn.moves, turn.words)
-            loaded.step(turn.moves, words_of(turn.words))
+            loaded.step(turn.moves, array("I", turn.words))
             assert record == turn.record, (game.setup, number)
             assert loaded.record(0) == turn.record, (game.setup, number)
             turns += 1

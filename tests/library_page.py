@@ -10,6 +10,14 @@ PAGE = ROOT / "docs/SIMULATOR.md"
 FENCE = re.compile(r"^```(\w+)\n(.*?)^```$", re.M | re.S)
 
 
+def ran(*words, **more):
+    """Runs a program, and returns its output. Fails if its status is not 0."""
+    done = subprocess.run([str(word) for word in words], capture_output=True, text=True, **more)
+    if done.returncode:
+        raise AssertionError(f"{words}: status {done.returncode}\n{done.stdout}{done.stderr}")
+    return done.stdout
+
+
 def blocks(language):
     """The programs of the page in that language."""
     return [text for word, text in FENCE.findall(PAGE.read_text()) if word == language]

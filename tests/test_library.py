@@ -1,24 +1,17 @@
 """Tests of the library for C, Rust and Python, for tests/library."""
 import ctypes
 import shutil
-import subprocess
 from pathlib import Path
 
 import library_page
 import pytest
+from library_page import ran
 from program import ROOT
 
 WARNINGS = ["-std=c11", "-O2", "-Wall", "-Wextra", "-Werror"]
 BUILT = ROOT / "out/bindings/libarena.a"
-pytestmark = pytest.mark.slow
+pytestmark = [pytest.mark.slow, pytest.mark.usefixtures("library")]
 with_cargo = pytest.mark.skipif(not shutil.which("cargo"), reason="there is no cargo")
-
-
-@pytest.fixture(scope="module", autouse=True)
-def library(request):
-    """Builds the library, which arena_rules loads; so nothing imports that earlier."""
-    file = request.config.getoption("--library")
-    ran(ROOT / "bindings/build", *(["--library", file.resolve()] if file else []))
 
 
 @pytest.fixture
@@ -27,14 +20,6 @@ def library_games():
     import library_games
 
     return library_games
-
-
-def ran(*words, **more):
-    """Runs a program, and returns its output. Fails if its status is not 0."""
-    done = subprocess.run([str(word) for word in words], capture_output=True, text=True, **more)
-    if done.returncode:
-        raise AssertionError(f"{words}: status {done.returncode}\n{done.stdout}{done.stderr}")
-    return done.stdout
 
 
 def compiled(source, folder, *more):
@@ -139,10 +124,9 @@ class TestRefusals:
         assert self.status(self.records.turn, last, [0, 0]) == 3
 
     def test_room(self):
-        from arena_rules.library import EMPTY, SeatOrders, library
+        from arena_rules.library import SeatOrders, library
 
-        at = ctypes.addressof(EMPTY)
-        orders = SeatOrders(at, 0, at, 0, at, 0, at, 0, 0, 0)
+        orders = SeatOrders(b"", 0, b"", 0, b"", 0, b"", 0, 0, 0)
         into, length = ctypes.create_string_buffer(b"x" * 40), ctypes.c_size_t(7)
         status = library.arena_turn(
             self.record, len(self.record), ctypes.byref(orders), into, 40, ctypes.byref(length)
@@ -179,27 +163,6 @@ class TestLayout:
 
     def test_python(self, library_games):
         library_games.check_layout()
-
-
-class TestVectors:
-    """What needs numpy."""
-
-    @pytest.fixture
-    def vectors(self):
-        """The module with the checks."""
-        pytest.importorskip("numpy")
-        import library_vectors
-
-        return library_vectors
-
-    def test_vector_env(self, vectors):
-        vectors.check_vector_env()
-
-    def test_threads(self, vectors):
-        vectors.check_threads()
-
-    def test_parallel_env(self, vectors):
-        vectors.check_parallel_env()
 
 
 class TestPage:

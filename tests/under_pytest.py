@@ -36,8 +36,9 @@ def words_of_pytest(words):
     return [*flags, *(it for pair in values.items() if pair[1] is not None for it in pair)]
 
 
-def run(path, words, about=__doc__):
-    """Runs the tests below a path with the words of a command line; `about` is its help."""
+def run(path, words, about=__doc__, more=()):
+    """Runs the tests below a path, and of `more` modules, with the words of a command line; `about`
+    is its help."""
     if {"-h", "--help"} & set(words):
         print(about.strip())
         return 0
@@ -46,7 +47,8 @@ def run(path, words, about=__doc__):
             print(f"{path}: not tested: {reason}", file=sys.stderr)
             return 1
     command = [debian.PYTHON, "-m", "pytest", "-q", "-l", "-c", ROOT / "pytest.ini"]
-    command += ["--rootdir", ROOT, ROOT / path, *words_of_pytest(words)]
+    command += ["--rootdir", ROOT, ROOT / path, *(ROOT / it for it in more)]
+    command += words_of_pytest(words)
     environment = {**os.environ, "PYTHONDONTWRITEBYTECODE": "1"}
     return subprocess.run(command, env=environment).returncode
 

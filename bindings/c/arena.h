@@ -1,6 +1,6 @@
 /* The rules of Battlesnake games as a library. docs/SIMULATOR.md has examples and says what is
- * proved. Link with crates/arena_c/out/libarena_c.a and the kit's c/liblibc_c.a; bindings/build
- * makes libarena.a of both.
+ * proved of each call. bindings/build makes libarena.a and libarena.so.1; where the Debian package
+ * libarena-dev is installed, `pkg-config --cflags --libs arena` names both.
  *
  * Two families of calls
  *   - Calls on records: a board is its record, as docs/FORMATS.md defines it. Each answer is proved
@@ -8,25 +8,21 @@
  *     they allocate.
  *   - Calls on games: a game is one struct in your memory, `arena_small_game` for boards of up to
  *     11 by 11 cells, `arena_large_game` for up to 25 by 25. They allocate nothing (the `load`s
- *     excepted). They are proved to be safe for whatever the memory holds, and to return; that they
- *     play by the rules is tested. Each `arena_small_..` has its `arena_large_..`.
+ *     excepted). They are proved to be safe for whatever the memory holds, to return, and to play
+ *     by the definition. Each `arena_small_..` has its `arena_large_..`.
  *
  * What you owe
- *   - A pointer points to as many entries as the length after it says, also where that is 0: never
- *     pass a null pointer.
+ *   - A pointer points to as many entries as the length after it says, and is not null. Where the
+ *     length is 0, the functions below that make structs (arena_setup, arena_orders, ..) take null
+ *     too, and put ARENA_NONE there, which any list of no entries may be.
  *   - What a call writes overlaps nothing else that it is given.
  *   - Two threads do not write the same struct or buffer at once, and none reads what another
  *     writes. Apart from that any thread may call: the library has no state. Give each thread its
  *     own range of games.
  *   - No call from a signal handler, nor in the forked child of a process with threads.
  *
- * Numbers
- *   - A direction is 0 up, 1 down, 2 left, 3 right; any other byte goes straight on.
- *   - A mode is 0 standard, 1 solo, 2 constrictor, 3 wrapped.
- *   - A cause is 0 for a living snake, 1 out of health, 2 wall, 3 its own body, 4 another's body,
- *     5 a head, 6 a hazard.
- *   - Words are drawn by you, 32 bits each: below the minimum of food each places one; else the
- *     first decides by the chance and the second selects the cell. Without words no food appears.
+ * Words are drawn by you, 32 bits each: below the minimum of food each places one; else the first
+ * decides by the chance and the second selects the cell. Without words no food appears.
  */
 #ifndef ARENA_H
 #define ARENA_H
@@ -38,7 +34,12 @@
 extern "C" {
 #endif
 
-enum {
+/* The version of this file; arena_version() has that of the library that is linked. */
+#define ARENA_VERSION "1.1.0"
+#define ARENA_VERSION_NUMBER 10100 /* 10000 * major + 100 * minor + patch */
+
+/* A status. Each call that can fail returns one as a uint8_t; arena_status_text has its words. */
+enum arena_status {
     ARENA_OK = 0,
     ARENA_NOT_A_RECORD = 1, /* not the record of a legal board */
     ARENA_NOT_A_SETUP = 2,  /* a setup that exceeds a limit */
@@ -48,7 +49,34 @@ enum {
     ARENA_HAZARDS = 6       /* `load`: the board has hazards */
 };
 
-enum { ARENA_SEATS = 8, ARENA_NO_SEAT = 255, ARENA_RECORD_BYTES = 166888 };
+/* A move of a seat. Any other byte goes straight on, or up in a snake's first turn. */
+enum arena_direction {
+    ARENA_UP = 0,
+    ARENA_DOWN = 1,
+    ARENA_LEFT = 2,
+    ARENA_RIGHT = 3,
+    ARENA_STRAIGHT_ON = 4
+};
+
+enum arena_mode { ARENA_STANDARD = 0, ARENA_SOLO = 1, ARENA_CONSTRICTOR = 2, ARENA_WRAPPED = 3 };
+
+/* Why a snake is out. */
+enum arena_cause {
+    ARENA_ALIVE = 0,
+    ARENA_OUT_OF_HEALTH = 1,
+    ARENA_WALL_COLLISION = 2,
+    ARENA_SELF_COLLISION = 3,
+    ARENA_SNAKE_COLLISION = 4,
+    ARENA_HEAD_COLLISION = 5,
+    ARENA_HAZARD = 6
+};
+
+enum {
+    ARENA_SEATS = 8,
+    ARENA_NO_SEAT = 255,         /* the killer of a seat that has none */
+    ARENA_RECORD_BYTES = 166888, /* room for any record */
+    ARENA_LAST_TURN_NUMBER = 10000
+};
 
 /* A cell of a board; (0, 0) is the bottom left. */
 typedef struct {
@@ -59,6 +87,31 @@ typedef struct {
 typedef struct {
     int8_t x, y;
 } arena_place;
+
+/* The version of the library, as ARENA_VERSION was when it was built, and what it was built from:
+ * lines of version, commit, kit, and whether it is proved. Both are constants. */
+const char *arena_version(void);
+const char *arena_built(void);
+
+/* The words of a status. */
+static inline const char *arena_status_text(uint8_t status) {
+    static const char *const texts[] = {"no fault",
+                                        "not the record of a legal board",
+                                        "a setup that exceeds a limit",
+                                        "no turn follows turn 10,000",
+                                        "no room",
+                                        "out of memory",
+                                        "a board with hazards"};
+    return status < sizeof texts / sizeof *texts ? texts[status] : "no status of arena.h";
+}
+
+/* A list of no entries. */
+static const uint64_t arena_none[1] = {0};
+#define ARENA_NONE ((const void *)arena_none)
+
+static inline const void *arena_list(const void *list) {
+    return list ? list : ARENA_NONE;
+}
 
 /* ---- Calls on records ---- */
 
@@ -86,6 +139,45 @@ typedef struct {
     uint8_t has_hazards, has_food;
 } arena_seat_orders;
 
+/* A setup without hazards: a standard game, in which food appears at least 1 at a time and by a
+ * chance of 15 percent. Either list may be null with no entries; set what differs. */
+static inline arena_seat_setup arena_setup(uint8_t width, uint8_t height, const arena_cell *starts,
+                                           size_t starts_len, const arena_cell *food,
+                                           size_t food_len) {
+    const arena_cell *none = (const arena_cell *)ARENA_NONE;
+    arena_seat_setup setup = {(const arena_cell *)arena_list(starts),
+                              starts_len,
+                              (const arena_cell *)arena_list(food),
+                              food_len,
+                              none,
+                              0,
+                              ARENA_STANDARD,
+                              width,
+                              height,
+                              1,
+                              15,
+                              0,
+                              0};
+    return setup;
+}
+
+/* Orders without a map. Either list may be null with no entries. */
+static inline arena_seat_orders arena_orders(const uint8_t *moves, size_t moves_len,
+                                             const uint32_t *words, size_t words_len) {
+    const arena_cell *none = (const arena_cell *)ARENA_NONE;
+    arena_seat_orders orders = {(const uint8_t *)arena_list(moves),
+                                moves_len,
+                                (const uint32_t *)arena_list(words),
+                                words_len,
+                                none,
+                                0,
+                                none,
+                                0,
+                                0,
+                                0};
+    return orders;
+}
+
 /* Whether the bytes are the record of a legal board: ARENA_OK, ARENA_NOT_A_RECORD, ARENA_MEMORY. */
 uint8_t arena_legal(const uint8_t *record, size_t record_len);
 
@@ -110,6 +202,17 @@ typedef struct {
     const uint32_t *words;
     size_t words_len, words_each;
 } arena_many_orders;
+
+/* The orders of `count` games, each of `moves_each` moves and `words_each` words. A list may be
+ * null with no entries. */
+static inline arena_many_orders arena_orders_of(size_t count, const uint8_t *moves,
+                                                size_t moves_each, const uint32_t *words,
+                                                size_t words_each) {
+    arena_many_orders orders = {
+        (const uint8_t *)arena_list(moves),  count * moves_each, moves_each,
+        (const uint32_t *)arena_list(words), count * words_each, words_each};
+    return orders;
+}
 
 /* Plays a turn of many records. Record i lies at the start of the i-th slot: the slots share
  * `records` equally. lengths[i] is its length. The new record and its length take the place of the
@@ -168,6 +271,22 @@ typedef struct {
     size_t which_len;
     arena_settings settings;
 } arena_many_starts;
+
+/* The starts of `count` games: `which` has a byte for each, 0 to leave it as it is. `food` may be
+ * null with food_each 0. */
+static inline arena_many_starts arena_starts_of(size_t count, arena_settings settings,
+                                                const arena_cell *starts, const arena_cell *food,
+                                                size_t food_each, const uint8_t *which) {
+    arena_many_starts all = {(const arena_cell *)arena_list(starts),
+                             count * settings.seats,
+                             (const arena_cell *)arena_list(food),
+                             count * food_each,
+                             food_each,
+                             (const uint8_t *)arena_list(which),
+                             count,
+                             settings};
+    return all;
+}
 
 /* For both sizes, here written for the small one:
  *

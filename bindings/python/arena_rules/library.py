@@ -4,7 +4,7 @@ from __future__ import annotations
 
 import ctypes
 import os
-from ctypes import Structure, c_int8, c_size_t, c_uint8, c_uint16, c_void_p
+from ctypes import Structure, c_char_p, c_int8, c_size_t, c_uint8, c_uint16, c_void_p
 from pathlib import Path
 from typing import Any
 
@@ -30,29 +30,54 @@ FAULTS = (
 )
 
 
+NOT_A_RECORD, NOT_A_SETUP = 1, 2
+
+
 class ArenaError(Exception):
     """A call that has no answer; `status` is that of arena.h."""
 
-    def __init__(self, status: int):
-        super().__init__(FAULTS[status] if status < len(FAULTS) else f"status {status}")
+    status: int
+
+    def __init__(self, status: int, why: str | None = None):
+        words = FAULTS[status] if status < len(FAULTS) else f"status {status}"
+        super().__init__(words or "")
+        if why is not None:
+            self.args = (f"{words}: {why}",)
         self.status = status
+
+    def __reduce__(self) -> tuple[Any, ...]:
+        return _error, (self.status, self.args[0])
+
+
+def _error(status: int, text: str) -> ArenaError:
+    error = ArenaError(status)
+    error.args = (text,)
+    return error
 
 
 class Cell(Structure):
+    """A cell of a board; (0, 0) is the bottom left."""
+
     _fields_ = [("x", c_uint8), ("y", c_uint8)]
 
 
 class Place(Structure):
+    """A cell of a board, or one next to it."""
+
     _fields_ = [("x", c_int8), ("y", c_int8)]
 
 
 class Settings(Structure):
+    """The settings of a game."""
+
     _fields_ = [
         (name, c_uint8) for name in ("mode", "width", "height", "seats", "min_food", "chance")
     ]
 
 
 class Seat(Structure):
+    """One seat of a game."""
+
     _fields_ = [
         ("parts", c_uint16),
         ("out", c_uint16),
@@ -64,6 +89,8 @@ class Seat(Structure):
 
 
 class Head(Structure):
+    """A game without its cells."""
+
     _fields_ = [
         ("settings", Settings),
         ("turn", c_uint16),
@@ -75,6 +102,8 @@ class Head(Structure):
 
 
 class SmallGame(Structure):
+    """A game on a board of at most 11 by 11 cells."""
+
     _fields_ = [
         ("head", Head),
         ("food", c_uint16 * 121),
@@ -84,6 +113,8 @@ class SmallGame(Structure):
 
 
 class LargeGame(Structure):
+    """A game on a board of at most 25 by 25 cells."""
+
     _fields_ = [
         ("head", Head),
         ("food", c_uint16 * 625),
@@ -98,6 +129,8 @@ def _slice(name: str) -> list[tuple[str, type]]:
 
 
 class ManyOrders(Structure):
+    """The orders of many games."""
+
     _fields_ = [
         *_slice("moves"),
         ("moves_each", c_size_t),
@@ -107,6 +140,8 @@ class ManyOrders(Structure):
 
 
 class ManyStarts(Structure):
+    """The first boards of many games."""
+
     _fields_ = [
         *_slice("starts"),
         *_slice("food"),
@@ -116,22 +151,31 @@ class ManyStarts(Structure):
     ]
 
 
+def _text(name: str) -> list[tuple[str, type]]:
+    """A list that is given as bytes, which the struct keeps alive."""
+    return [(name, c_char_p), (name + "_len", c_size_t)]
+
+
 class SeatOrders(Structure):
+    """The orders of one turn; the words are bytes in the order of the machine."""
+
     _fields_ = [
-        *_slice("moves"),
-        *_slice("words"),
-        *_slice("hazards"),
-        *_slice("food"),
+        *_text("moves"),
+        *_text("words"),
+        *_text("hazards"),
+        *_text("food"),
         ("has_hazards", c_uint8),
         ("has_food", c_uint8),
     ]
 
 
 class SeatSetup(Structure):
+    """A setup by seats."""
+
     _fields_ = [
-        *_slice("starts"),
-        *_slice("food"),
-        *_slice("hazards"),
+        *_text("starts"),
+        *_text("food"),
+        *_text("hazards"),
         *(
             (name, c_uint8)
             for name in ("mode", "width", "height", "min_food", "chance", "has_hazards", "damage")
@@ -155,15 +199,17 @@ STRUCTS = (
 )
 
 _LIST = [c_void_p, c_size_t]
-_RECORD_CALLS = {
+_RECORD_CALLS: dict[str, Any] = {
     "arena_legal": (_LIST, c_uint8),
     "arena_over": ([*_LIST, c_void_p], c_uint8),
     "arena_start": ([c_void_p, *_LIST, c_void_p], c_uint8),
     "arena_turn": ([*_LIST, c_void_p, *_LIST, c_void_p], c_uint8),
     "arena_turns": ([*_LIST, *_LIST, *_LIST, c_void_p], c_size_t),
     "arena_layout": ([c_void_p, c_void_p, *_LIST], None),
+    "arena_version": ([], c_char_p),
+    "arena_built": ([], c_char_p),
 }
-_GAME_CALLS = {
+_GAME_CALLS: dict[str, Any] = {
     "start": ([*_LIST, c_void_p], c_size_t),
     "step": ([*_LIST, c_void_p], None),
     "planes": ([*_LIST, *_LIST, c_size_t], None),
@@ -175,6 +221,7 @@ _GAME_CALLS = {
 
 
 def _open() -> ctypes.CDLL:
+    """The shared object that ARENA_RULES names, else the one beside this file."""
     path = os.environ.get("ARENA_RULES") or Path(__file__).with_name("libarena_rules.so")
     library = ctypes.CDLL(str(path))
     calls = dict(_RECORD_CALLS)
@@ -190,26 +237,13 @@ library = _open()
 
 
 def check(status: int) -> None:
+    """Raises the error of a status that is not 0."""
     if status:
         raise ArenaError(status)
 
 
-def address(buffer, of: type) -> tuple[int, int]:
-    """Where the entries of a buffer lie, and their number. The buffer must outlive the call."""
-    if hasattr(buffer, "ctypes") and hasattr(buffer, "flags"):
-        if not buffer.flags.c_contiguous:
-            raise ValueError("the array is not contiguous")
-        return buffer.ctypes.data, buffer.nbytes // ctypes.sizeof(of)
-    view = memoryview(buffer)
-    if not view.contiguous:
-        raise ValueError("the buffer is not contiguous")
-    count = view.nbytes // ctypes.sizeof(of)
-    if count == 0:
-        return ctypes.addressof(EMPTY), 0
-    if view.readonly:
-        memory: Any = view.obj
-        return ctypes.cast(ctypes.c_char_p(memory), c_void_p).value or 0, count
-    return ctypes.addressof(c_uint8.from_buffer(view)), count
-
-
-EMPTY = (ctypes.c_uint64 * 1)()
+def mode_number(mode: str) -> int:
+    """The number of a mode."""
+    if mode not in MODES:
+        raise ValueError(f"mode is {mode!r}, and may be {', '.join(MODES)}")
+    return MODES[mode]

@@ -1,42 +1,89 @@
 """Exact calls on records: bytes in, bytes out. The contract of each says what it answers.
 
-A record is that of docs/FORMATS.md. A call that has no answer raises `ArenaError`.
+A record is that of docs/FORMATS.md. A call that has no answer raises `ArenaError`; arguments of
+another type or out of range are a `TypeError` or a `ValueError` that names them.
 """
 
 from __future__ import annotations
 
 import ctypes
-from ctypes import byref, c_size_t, c_uint8, c_uint32
+import threading
+from array import array
+from collections.abc import Iterable, Sequence
+from ctypes import byref, c_size_t, c_uint8, string_at
 from typing import Any
 
-from arena_rules.library import EMPTY, MODES, Cell, SeatOrders, SeatSetup, check, library
+from arena_rules.buffers import BYTE, WORD, Kind, number, numbers, numpy
+from arena_rules.library import SeatOrders, SeatSetup, check, library, mode_number
+from arena_rules.states import from_state
 
+__all__ = ["MOST_BYTES", "from_state", "is_legal", "is_over", "start", "turn"]
 MOST_BYTES = 166_888
+Cells = Iterable[tuple[int, int]]
 
 
-def _give(into: ctypes.Structure, name: str, entries: ctypes.Array) -> None:
-    """Puts a list into a struct; an empty one is at a place that is not null."""
-    setattr(into, name, ctypes.addressof(entries if len(entries) else EMPTY))
-    setattr(into, name + "_len", len(entries))
+class _Own:
+    """What a thread keeps for its calls: room for a record, and the structs that are passed."""
+
+    def __init__(self) -> None:
+        self.room = ctypes.create_string_buffer(MOST_BYTES)
+        self.length, self.over = c_size_t(), c_uint8()
+        self.orders, self.setup = SeatOrders(), SeatSetup()
+        self.length_at, self.over_at = byref(self.length), byref(self.over)
+        self.orders_at, self.setup_at = byref(self.orders), byref(self.setup)
+        self.orders.hazards = self.orders.food = b""
+        self.has_map = False
 
 
-def _cells(cells) -> ctypes.Array:
-    return (Cell * len(cells))(*(Cell(x, y) for x, y in cells))
+class _Kept(threading.local):
+    def __init__(self) -> None:
+        self.own = _Own()
 
 
-class _Room:
-    """Room for one record."""
+_kept = _Kept()
 
-    def __init__(self):
-        self.bytes = ctypes.create_string_buffer(MOST_BYTES)
-        self.length = c_size_t()
 
-    def taken(self) -> bytes:
-        return ctypes.string_at(self.bytes, self.length.value)
+def _record(given: Any) -> bytes:
+    if type(given) is not bytes:
+        if not isinstance(given, (bytearray, memoryview)):
+            was = type(given).__name__
+            raise TypeError(f"record is of the type {was}, and may be bytes")
+        return bytes(given)
+    return given
+
+
+def _bytes_of(name: str, given: Any, kind: Kind) -> bytes:
+    """A list of numbers as the bytes of its entries; any length."""
+    if type(given) is bytes and kind is BYTE:
+        return given
+    if type(given) in (list, tuple):
+        try:
+            if bool not in map(type, given):
+                return bytes(given) if kind is BYTE else array(kind.code, given).tobytes()
+        except (TypeError, ValueError, OverflowError):
+            pass  # said by the general check
+    lent = numbers(name, given, kind, ((-1,),))
+    return string_at(lent.at, lent.entries * kind.size)
+
+
+def _cells(name: str, given: Cells | None) -> bytes:
+    """Cells as bytes, x and y of each."""
+    if given is None:
+        return b""
+    if numpy is not None and isinstance(given, numpy.ndarray):
+        lent = numbers(name, given, BYTE, ((-1, 2),))
+        return string_at(lent.at, lent.entries)
+    flat: list[int] = []
+    for cell in given:
+        if len(cell) != 2:
+            raise ValueError(f"{name} has the cell {cell!r}, and may have pairs (x, y)")
+        flat += cell
+    return _bytes_of(name, flat, BYTE)
 
 
 def is_legal(record: bytes) -> bool:
     """Whether the bytes are the record of a legal board."""
+    record = _record(record)
     status = library.arena_legal(record, len(record))
     if status > 1:
         check(status)
@@ -44,94 +91,78 @@ def is_legal(record: bytes) -> bool:
 
 
 def is_over(record: bytes) -> bool:
-    over = c_uint8()
-    check(library.arena_over(record, len(record), byref(over)))
-    return over.value != 0
+    """Whether the game of a record is over."""
+    record, own = _record(record), _kept.own
+    check(library.arena_over(record, len(record), own.over_at))
+    return own.over.value != 0
 
 
 def start(
-    starts,
+    starts: Cells,
     *,
     mode: str = "standard",
     width: int = 11,
     height: int = 11,
-    food=(),
+    food: Cells = (),
     min_food: int = 1,
     food_chance: int = 15,
-    hazards=None,
+    hazards: Cells | None = None,
     hazard_damage: int = 14,
 ) -> bytes:
     """The record of turn 0. Cells are pairs (x, y); no hazards at all if they are left out."""
-    setup = SeatSetup(
-        mode=MODES[mode],
-        width=width,
-        height=height,
-        min_food=min_food,
-        chance=food_chance,
-        has_hazards=hazards is not None,
-        damage=hazard_damage,
-    )
-    lists = {"starts": _cells(starts), "food": _cells(food), "hazards": _cells(hazards or ())}
-    for name, cells in lists.items():
-        _give(setup, name, cells)
-    room = _Room()
-    check(library.arena_start(byref(setup), room.bytes, MOST_BYTES, byref(room.length)))
-    return room.taken()
+    own = _kept.own
+    setup = own.setup
+    setup.mode = mode_number(mode)
+    setup.width = number("width", width, 0, 255)
+    setup.height = number("height", height, 0, 255)
+    setup.min_food = number("min_food", min_food, 0, 255)
+    setup.chance = number("food_chance", food_chance, 0, 255)
+    setup.damage = number("hazard_damage", hazard_damage, 0, 255)
+    setup.starts = cells = _cells("starts", starts)
+    setup.starts_len = len(cells) // 2
+    setup.food = cells = _cells("food", food)
+    setup.food_len = len(cells) // 2
+    setup.hazards = cells = _cells("hazards", hazards)
+    setup.hazards_len, setup.has_hazards = len(cells) // 2, hazards is not None
+    check(library.arena_start(own.setup_at, own.room, MOST_BYTES, own.length_at))
+    return string_at(own.room, own.length.value)
 
 
-def turn(record: bytes, moves, words=(), *, hazards=None, food=None) -> bytes:
+def turn(
+    record: bytes,
+    moves: Sequence[int] | bytes,
+    words: Sequence[int] = (),
+    *,
+    hazards: Cells | None = None,
+    food: Cells | None = None,
+) -> bytes:
     """The record after a turn.
 
-    A move is 0 to 3 for up, down, left and right; a seat with another number, or without one, goes
-    straight on. `hazards` and `food` are cells that the map gives.
+    A move is 0 to 3 for up, down, left and right; a seat with another number up to 255, or without
+    one, goes straight on. `words` are whole numbers below 2**32, of which the first 32 are used.
+    `hazards` and `food` are cells that the map gives.
     """
-    orders = SeatOrders(has_hazards=hazards is not None, has_food=food is not None)
-    lists: dict[str, Any] = {
-        "moves": (c_uint8 * len(moves))(*moves),
-        "words": (c_uint32 * len(words))(*words),
-        "hazards": _cells(hazards or ()),
-        "food": _cells(food or ()),
-    }
-    for name, entries in lists.items():
-        _give(orders, name, entries)
-    room = _Room()
-    check(
-        library.arena_turn(
-            record, len(record), byref(orders), room.bytes, MOST_BYTES, byref(room.length)
-        )
+    record, own = _record(record), _kept.own
+    orders = own.orders
+    orders.moves = moves = _bytes_of("moves", moves, BYTE)
+    orders.moves_len = len(moves)
+    orders.words = drawn = _bytes_of("words", words, WORD)
+    orders.words_len = len(drawn) // 4
+    if own.has_map or hazards is not None or food is not None:
+        _give_map(own, hazards, food)
+    status = library.arena_turn(
+        record, len(record), own.orders_at, own.room, MOST_BYTES, own.length_at
     )
-    return room.taken()
+    if status:
+        check(status)
+    return string_at(own.room, own.length.value)
 
 
-def _two_bytes(number: int) -> bytes:
-    return number.to_bytes(2, "big")
-
-
-def _snake_bytes(snake: dict) -> bytes:
-    ident, body = snake["id"].encode(), snake["body"]
-    parts = bytes(number for part in body for number in (part["x"] + 1, part["y"] + 1))
-    state = bytes((snake["health"], 0, 0, 0, 0))
-    return bytes((len(ident),)) + ident + state + _two_bytes(len(body)) + parts
-
-
-def from_state(state: dict) -> bytes:
-    """The record of a request of the official API. Snakes that are out are not in it.
-
-    The hazards of the request are those of the record, with the damage of its ruleset.
-    """
-    board, rules = state["board"], state["game"]["ruleset"]
-    settings, snakes = rules.get("settings", {}), board["snakes"]
-    hazards, mode = board.get("hazards", []), MODES[rules["name"]]
-    version = 3 if hazards else 2 if mode == MODES["wrapped"] else 1
-    head = bytes((version, mode, board["width"], board["height"])) + _two_bytes(state["turn"])
-    food = settings.get("minimumFood", 1), settings.get("foodSpawnChance", 15)
-    head += bytes((*food, len(snakes))) + _two_bytes(len(board["food"]))
-    head += _flat(board["food"])
-    if hazards:
-        damage = settings.get("hazardDamagePerTurn", 14)
-        head += bytes((damage,)) + _two_bytes(len(hazards)) + _flat(hazards)
-    return head + b"".join(map(_snake_bytes, snakes))
-
-
-def _flat(cells: list[dict]) -> bytes:
-    return bytes(number for cell in cells for number in (cell["x"], cell["y"]))
+def _give_map(own: _Own, hazards: Cells | None, food: Cells | None) -> None:
+    """Puts what the map gives into the orders."""
+    orders = own.orders
+    orders.hazards = cells = _cells("hazards", hazards)
+    orders.hazards_len, orders.has_hazards = len(cells) // 2, hazards is not None
+    orders.food = cells = _cells("food", food)
+    orders.food_len, orders.has_food = len(cells) // 2, food is not None
+    own.has_map = hazards is not None or food is not None

@@ -1,37 +1,89 @@
-"""Games as environments, in the shape of gymnasium's vector environments. Needs numpy."""
+"""An environment a game, in the shape of gymnasium's vector environments. Needs numpy."""
 
 from __future__ import annotations
 
+from typing import Any
+
 import numpy as np
 
-from arena_rules.games import Games
-from arena_rules.library import SEATS
-from arena_rules.spaces import directions_space, planes_space
+from arena_rules import render as drawing
+from arena_rules.core import LAST_TURN, Core, masked, refuse_options
+from arena_rules.spaces import AutoresetMode, MultiDiscrete, VectorBase, batch_space, game_space
 
-LAST_TURN = 10_000
-ORDERS = 4096
-
-
-def spots_of(width: int, height: int) -> np.ndarray:
-    """Cells to start on: those of the usual boards; on small boards every second cell."""
-    if min(width, height) < 7:
-        cells = [(x, y) for y in range(height) for x in range(width) if (x + y) % 2 == 0]
-        cells += [(x, y) for y in range(height) for x in range(width) if (x + y) % 2]
-    else:
-        (left, middle, right) = 1, (width - 1) // 2, width - 2
-        (low, centre, high) = 1, (height - 1) // 2, height - 2
-        cells = [(left, low), (left, high), (right, low), (right, high)]
-        cells += [(left, centre), (middle, low), (middle, high), (right, centre)]
-    return np.array(cells, "u1")
+__all__ = ["LAST_TURN", "VectorEnv"]
+RENDER_MODES = ["rgb_array", "ansi"]
 
 
-class VectorEnv:
-    """Each environment is a game, and an action has a direction for each seat.
+class Environments(VectorBase):  # type: ignore[misc]
+    """What the environments of a game and those of a seat share."""
 
-    After a game has ended, the next step starts another in its place and ignores the action, as
-    gymnasium's autoreset does in the next step. Observations are planes of bytes (1 + seats,
-    height, width): see `Games.planes`; with `observe=False` they are not written. A seat's reward
-    is 1 when it is the last one alive, and -1 in the turn in which it goes out.
+    metadata: dict[str, Any] = {
+        "render_modes": RENDER_MODES,
+        "render_fps": 4,
+        "autoreset_mode": AutoresetMode.NEXT_STEP,
+    }
+
+    def __init__(
+        self, games: int, seed: int | None, words: int, render_mode: str | None, settings: Any
+    ) -> None:
+        if render_mode not in (None, *RENDER_MODES):
+            may = ", ".join(RENDER_MODES)
+            raise ValueError(f"render_mode is {render_mode!r}, and may be None, {may}")
+        self.core = Core(games, words, settings)
+        self.games, self.seats = self.core.games, self.core.seats
+        self.spec, self.render_mode, self._first_seed = None, render_mode, seed
+        self._is_begun = False
+
+    def _begin(self, seed: int | None, options: Any) -> None:
+        """Starts every game. A seed that is left out is that of the constructor, the first time;
+        later the drawing goes on."""
+        refuse_options(options)
+        if seed is None:
+            seed, self._first_seed = self._first_seed, None
+        super().reset(seed=seed)
+        if seed is not None or self.core.rng is not self.np_random:
+            self.core.seed(self.np_random)
+        self._first_seed, self._is_begun = None, True
+        self.core.begin(np.ones(self.core.count, bool))
+        self.core.look()
+
+    def _turn(self, actions: Any, shape: tuple[int, ...]) -> np.ndarray:
+        """Plays a turn, and begins the games anew that had ended before it; these are returned."""
+        if not self._is_begun:
+            raise RuntimeError("there is no game yet: call reset")
+        core = self.core
+        done = core.over | core.cut
+        core.play(actions, shape)
+        if done.any():
+            core.begin(done)
+        core.look()
+        return done
+
+    def _frames(self) -> tuple[Any, ...] | None:
+        """A frame for each game."""
+        if self.render_mode is None:
+            return None
+        draw = drawing.ansi if self.render_mode == "ansi" else drawing.rgb
+        return tuple(draw(self.games, game) for game in range(self.core.count))
+
+    def close_extras(self, **_: Any) -> None:
+        """Ends the threads of the games."""
+        self.games.close()
+
+
+class VectorEnv(Environments):
+    """Each environment is a game, and an action has a direction for each seat: (num_envs, seats).
+
+    After a game has ended, the next step starts another in its place and ignores the action
+    (`AutoresetMode.NEXT_STEP`). An observation is a dict of `planes` (num_envs, 1 + seats, height,
+    width), see `Games.planes`, and of `health`, `length` and `alive`, each (num_envs, seats);
+    health and length of a snake that is out are 0. With `observe=False` planes are not written: they are
+    zeros. Rewards are (num_envs, seats): 1 for the last one alive, -1 in the turn in which a snake
+    goes out. A game that reaches turn 10,000 is truncated. Infos have `alive`, `cause`, `killer`
+    (255 for none) and `turn`, and for each the mask that gymnasium has.
+
+    Observations and infos stay as they are when the games go on. With `copy=False` that is NOT so:
+    each call writes the planes of the last one anew.
     """
 
     def __init__(
@@ -41,80 +93,53 @@ class VectorEnv:
         seed: int | None = None,
         words: int = 2,
         observe: bool = True,
-        **settings,
-    ):
-        self.num_envs = num_envs
-        self.games = Games(num_envs, **settings)
-        self.seats = self.games.seats
-        self.single_action_space = directions_space(self.seats)
-        self.single_observation_space = planes_space(
-            1 + self.seats, self.games.height, self.games.width
-        )
-        shape = (num_envs, 1 + self.seats, self.games.height, self.games.width)
-        self.observations = np.zeros(shape, "u1")
-        self._observe, self._words = observe, words
-        self._spots = spots_of(self.games.width, self.games.height)
-        if len(self._spots) < self.seats:
-            raise ValueError("the board has too few cells")
-        self._starts = np.zeros((num_envs, self.seats, 2), "u1")
-        centre = ((self.games.width - 1) // 2, (self.games.height - 1) // 2)
-        self._food = np.full((num_envs, 1, 2), centre, "u1")
-        self._lay_out_heads()
-        self._look()
-        self._seed(seed)
+        copy: bool = True,
+        render_mode: str | None = None,
+        **settings: Any,
+    ) -> None:
+        super().__init__(num_envs, seed, words, render_mode, settings)
+        self.num_envs, self._observe, self._copy = self.core.count, observe, copy
+        games = self.games
+        self.single_observation_space = game_space(self.seats, games.height, games.width)
+        self.single_action_space = MultiDiscrete([4] * self.seats)
+        self.observation_space = batch_space(self.single_observation_space, self.num_envs)
+        self.action_space = batch_space(self.single_action_space, self.num_envs)
+        shape = (self.num_envs, 1 + self.seats, games.height, games.width)
+        self._planes = np.zeros(shape, "u1")
+        self._all = np.ones(self.num_envs, bool)
+        self._all.flags.writeable = False
 
-    def _lay_out_heads(self) -> None:
-        """The heads of all games side by side, which is far less memory than the games are."""
-        head = self.games.states.dtype["head"]
-        games = self.games.states.view("u1").reshape(self.num_envs, -1)
-        buffer = np.zeros((self.num_envs, head.itemsize), "u1")
-        used = head.itemsize - head["seats"].base.itemsize * (SEATS - self.seats)
-        self._from, self._heads = games[:, :used], buffer[:, :used]
-        heads = buffer.view(head)[:, 0]
-        self._over, self._turn = heads["over"], heads["turn"]
-        self._cause = heads["seats"]["cause"][:, : self.seats]
-
-    def _look(self) -> None:
-        np.copyto(self._heads, self._from)
-        self._alive = self._cause == 0
-        self._is_over = self._over != 0
-        self._is_cut = (self._turn >= LAST_TURN) & ~self._is_over
-
-    def _seed(self, seed: int | None) -> None:
-        self.rng = np.random.Generator(np.random.SFC64(seed))
-        orders = self.rng.random((ORDERS, len(self._spots))).argsort(axis=1)
-        self._orders = self._spots[orders[:, : self.seats]]
-
-    def _start(self, which: np.ndarray) -> None:
-        """Starts games; their seats are on drawn cells, in one of 4,096 orders."""
-        rows = np.flatnonzero(which)
-        self._starts[rows] = self._orders[self.rng.integers(0, ORDERS, len(rows))]
-        self.games.start(self._starts, self._food, which.view("u1"))
-
-    def _observed(self) -> np.ndarray:
+    def _observed(self) -> dict[str, np.ndarray]:
+        core, planes = self.core, self._planes
+        if self._copy:
+            planes = np.empty_like(planes) if self._observe else np.zeros_like(planes)
         if self._observe:
-            self.games.planes(self.observations)
-        return self.observations
+            core.show(planes)
+        alive = core.alive
+        return {
+            "planes": planes,
+            "health": core.seat_numbers("health") * alive,
+            "length": core.seat_numbers("parts") * alive,
+            "alive": alive.view("u1").copy(),
+        }
 
-    def reset(self, *, seed: int | None = None, options=None):
-        """Starts every game. Returns the observations and no infos."""
-        if seed is not None:
-            self._seed(seed)
-        self._start(np.ones(self.num_envs, bool))
-        self._look()
-        return self._observed(), {}
+    def reset(
+        self, *, seed: int | None = None, options: dict[str, Any] | None = None
+    ) -> tuple[dict[str, np.ndarray], dict[str, Any]]:
+        """Starts every game. Returns observations and infos."""
+        self._begin(seed, options)
+        return self._observed(), masked(self.core.infos(), self._all)
 
-    def step(self, actions: np.ndarray):
-        """Returns observations, rewards by seat, terminations, truncations and no infos."""
-        done, before = self._is_over | self._is_cut, self._alive
-        words = self.rng.integers(0, 1 << 32, (self.num_envs, self._words), "u4")
-        self.games.step(np.ascontiguousarray(actions, "u1"), words)
-        if done.any():
-            self._start(done)
-        self._look()
-        rewards = (self._is_over[:, None] & self._alive).astype("f4")
-        rewards -= before & ~self._alive & ~done[:, None]
-        return self._observed(), rewards, self._is_over, self._is_cut, {}
+    def step(self, actions: Any) -> tuple[Any, np.ndarray, np.ndarray, np.ndarray, dict[str, Any]]:
+        """Plays a turn. Returns observations, rewards, terminations, truncations and infos."""
+        core = self.core
+        before = core.alive if self._is_begun else None
+        done = self._turn(actions, (self.num_envs, self.seats))
+        rewards = (core.over[:, None] & core.alive).astype("f8")
+        rewards -= before & ~core.alive & ~done[:, None]
+        infos = masked(core.infos(), self._all)
+        return self._observed(), rewards, core.over.copy(), core.cut.copy(), infos
 
-    def close(self) -> None:
-        """There is nothing to close."""
+    def render(self) -> tuple[Any, ...] | None:
+        """A frame for each game: text or pictures, by `render_mode`; None without one."""
+        return self._frames()

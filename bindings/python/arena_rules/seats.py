@@ -1,0 +1,122 @@
+"""An environment a seat, for learners of single agents, in the shape of gymnasium's vector
+environments. Needs numpy."""
+
+from __future__ import annotations
+
+from typing import Any
+
+import numpy as np
+
+from arena_rules.core import masked
+from arena_rules.spaces import Discrete, batch_space, seat_space
+from arena_rules.vector import Environments
+
+
+def seat_order(seats: int) -> np.ndarray:
+    """For each seat all seats, the own one first: (seats, seats)."""
+    return np.array([[own, *(it for it in range(seats) if it != own)] for own in range(seats)])
+
+
+class SeatView:
+    """What each seat sees of its game: planes with the own snake first.
+
+    (1 + 3 * seats, height, width): the food; the snakes as in `Games.planes`; then for each snake,
+    in the same order, a plane of its health, and a plane of its length, at most 255. Both are 0 for
+    a snake that is out.
+    """
+
+    def __init__(self, core: Any) -> None:
+        self.core, games = core, core.games
+        self.order = seat_order(core.seats)
+        self.planes = np.zeros((core.count, 1 + core.seats, games.height, games.width), "u1")
+        self._picks = [np.array([0, *(1 + order)]) for order in self.order]
+        self.shape = (core.count, core.seats, 1 + 3 * core.seats, games.height, games.width)
+
+    def observed(self, into: np.ndarray | None = None) -> np.ndarray:
+        """The observations of all seats of all games, in the shape `shape`."""
+        core, seats = self.core, self.core.seats
+        out = np.empty(self.shape, "u1") if into is None else into
+        core.show(self.planes)
+        health = core.seat_numbers("health") * core.alive
+        length = np.minimum(core.seat_numbers("parts"), 255).astype("u1") * core.alive
+        for seat, order in enumerate(self.order):
+            mine = out[:, seat]
+            np.take(self.planes, self._picks[seat], 1, out=mine[:, : 1 + seats], mode="clip")
+            mine[:, 1 + seats : 1 + 2 * seats] = health[:, order, None, None]
+            mine[:, 1 + 2 * seats :] = length[:, order, None, None]
+        return out
+
+
+class SeatEnv(Environments):
+    """Each environment is a seat: num_envs = games * seats, the seats of a game side by side.
+
+    An observation is that of `SeatView`, (num_envs, 1 + 3 * seats, height, width); an action is a
+    direction, Discrete(4); rewards are (num_envs,): 1 for the last one alive, -1 for going out. A
+    seat that is out has terminations True once. Then it waits until its game begins anew: its
+    rewards are 0, its actions do nothing, and `infos["waiting"]` is True, so that a learner can
+    leave these steps out. A game that has ended begins anew in the next step.
+
+    Observations and infos stay as they are when the games go on. With `copy=False` that is NOT so:
+    each call writes the observations of the last one anew.
+    """
+
+    def __init__(
+        self,
+        games: int,
+        *,
+        seed: int | None = None,
+        words: int = 2,
+        copy: bool = True,
+        render_mode: str | None = None,
+        **settings: Any,
+    ) -> None:
+        super().__init__(games, seed, words, render_mode, settings)
+        core = self.core
+        self.num_envs = core.count * core.seats
+        self.single_observation_space = seat_space(core.seats, core.games.height, core.games.width)
+        self.single_action_space = Discrete(4)
+        self.observation_space = batch_space(self.single_observation_space, self.num_envs)
+        self.action_space = batch_space(self.single_action_space, self.num_envs)
+        self._view = SeatView(core)
+        self._kept = None if copy else np.zeros(self._view.shape, "u1")
+        self._playing = np.zeros((core.count, core.seats), bool)
+        self._all = np.ones(self.num_envs, bool)
+        self._all.flags.writeable = False
+
+    def _flat(self, by_seat: np.ndarray) -> np.ndarray:
+        return np.ascontiguousarray(by_seat).reshape(self.num_envs, *by_seat.shape[2:])
+
+    def _infos(self, waiting: np.ndarray) -> dict[str, Any]:
+        infos = self.core.infos()
+        infos["turn"] = infos["turn"].repeat(self.seats)
+        flat = {name: it if it.ndim == 1 else self._flat(it) for name, it in infos.items()}
+        return masked({**flat, "waiting": self._flat(waiting)}, self._all)
+
+    def reset(
+        self, *, seed: int | None = None, options: dict[str, Any] | None = None
+    ) -> tuple[np.ndarray, dict[str, Any]]:
+        """Starts every game. Returns observations and infos."""
+        self._begin(seed, options)
+        self._playing = self.core.alive.copy()
+        return self._flat(self._view.observed(self._kept)), self._infos(~self._playing)
+
+    def step(
+        self, actions: Any
+    ) -> tuple[np.ndarray, np.ndarray, np.ndarray, np.ndarray, dict[str, Any]]:
+        """Plays a turn. Returns observations, rewards, terminations, truncations and infos."""
+        core, before = self.core, self._playing
+        done = self._turn(actions, (self.num_envs,))[:, None]
+        alive, over = core.alive, core.over[:, None]
+        before = before & ~done
+        ended = before & (~alive | over)
+        cut = before & alive & core.cut[:, None]
+        rewards = (before & over & alive).astype("f8") - (before & ~alive)
+        waiting = ~before & ~done
+        self._playing = (before | done) & ~ended & ~cut
+        seen = self._flat(self._view.observed(self._kept))
+        return (seen, self._flat(rewards), self._flat(ended), self._flat(cut), self._infos(waiting))
+
+    def render(self) -> tuple[Any, ...] | None:
+        """A frame for each seat, that of its game; None without a `render_mode`."""
+        frames = self._frames()
+        return None if frames is None else tuple(it for it in frames for _ in range(self.seats))
