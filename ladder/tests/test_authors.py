@@ -15,8 +15,12 @@ from served import LADDER, Served, run_ladder, write_config
 from testing import chromium  # of viewer/
 
 from arena_ladder.bot_log import MOST_BYTES, Asked, add_lines, last_missed, log_files, read_log
+from arena_ladder import kept_answers
 from arena_ladder.config import ConfigFault
+from arena_ladder.game_files import answers_file, make_folders
+from arena_ladder.kept_answers import Heard, KeptAnswers, heard_in
 from arena_ladder.match import bots_of_words
+from arena_ladder.payloads import Look
 from arena_ladder.store import open_store
 from arena_ladder.view import step
 from arena_ladder.viewer_page import viewer_page
@@ -131,7 +135,10 @@ def test_log_says_why_moves_were_missed(program: Path, faulty_bots: Served, tmp_
     ids = faulty_bots.told("ids")
     starts = {"error": '{"move":"up"}', "text": "[" * 200, "garbage": "\\xff\\xfe this is"}
     for finish in outcome.finishes:
-        asked = list(read_log(folder, finish.bot))
+        whole = list(read_log(folder, finish.bot))
+        asked = [it for it in whole if not it.call]
+        assert [it.call for it in (whole[0], whole[-1])] == ["start", "end"]
+        assert len(whole) == len(asked) + 2 and whole[-1].turn == outcome.turns
         assert [it.turn for it in asked] == list(range(finish.turns))
         bad = [it for it in asked if it.cause is not None]
         assert [it.turn for it in bad] == [
@@ -154,6 +161,45 @@ def test_log_says_why_moves_were_missed(program: Path, faulty_bots: Served, tmp_
 
 def bad_bytes(folder: Path) -> int:
     return last_missed(folder, "error", 9)[-1].bytes
+
+
+def test_match_says_what_was_missed_and_why(
+    program: Path, faulty_bots: Served, tmp_path: Path
+) -> None:
+    bots = [faulty_bots.url(name) for name in ("good", "error")]
+    words = [*bots, "--turns", str(TURNS), "--timeout", "5000", "--seed", "1"]
+    ran = subprocess.run(
+        [LADDER, "match", *words, "--program", program],
+        cwd=tmp_path,
+        capture_output=True,
+        text=True,
+    )
+    assert ran.returncode == 0, ran.stderr
+    (line,) = [it for it in ran.stdout.splitlines() if "missed" in it]
+    found = re.fullmatch(
+        r"error missed (\d) moves? \(status (\d)\); the last in turn (\d+), status 500: (.*)", line
+    )
+    assert found is not None and found[1] == found[2] and int(found[3]) in PLANNED
+    assert json.loads(found[4]) == '{"move":"up"}'
+
+
+def test_answers_of_the_last_games_are_kept(
+    tmp_path: Path, monkeypatch: pytest.MonkeyPatch
+) -> None:
+    monkeypatch.setattr(kept_answers, "MOST_GAMES", 2)
+    make_folders(tmp_path)
+    kept = KeptAnswers(tmp_path)
+    for game in ("r0001-t001", "r0002-t001", "r0003-t001"):
+        answers_file(tmp_path, game).write_text(
+            '{"a":["up",null,12,"hi",["#123456","x","y"]],"b":[null,"late",500,""]}\n{"a":[]}\n'
+        )
+        kept.keep(game)
+        kept = KeptAnswers(tmp_path)
+    assert heard_in(tmp_path, "r0001-t001") is None
+    (turn,) = heard_in(tmp_path, "r0003-t001") or []
+    assert turn["a"] == Heard("up", None, 12, "hi", Look("#123456", "x", "y"))
+    assert turn["b"] == Heard(None, "late", 500)
+    assert not list((tmp_path / "running").iterdir())
 
 
 def test_log_is_bounded_and_read_over_cut_lines(tmp_path: Path) -> None:

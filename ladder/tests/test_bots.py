@@ -5,14 +5,18 @@ from __future__ import annotations
 import asyncio
 import json
 import socket
+import ssl
 import threading
 import time
 from collections.abc import Awaitable, Callable, Coroutine
+from pathlib import Path
 from typing import Any
 
 import pytest
+from test_tls import make_certificate
 
 from arena_ladder.bots import Answer, BotClient, NoLook
+from arena_ladder.config import Bot
 from arena_ladder.payloads import Look
 
 TIMEOUT = 2.0
@@ -75,13 +79,15 @@ async def ask(serve: Serve, count: int = 1) -> list[Answer]:
         (answering(b"\x00\x01 garbage\r\n\r\n"), "cut"),
         (answering(b"HTTP/1.1 200 OK\r\n\r\n{", then_waits=True), "late"),
         (answering(then_waits=True), "late"),
+        (answering(b"HTTP/1.1 500 E\r\nContent-Length: 9\r\n\r\n", then_waits=True), "status"),
     ],
 )
 def test_each_answer_has_its_cause(serve: Serve, cause: str | None) -> None:
     (answer,) = run(ask(serve))
     assert answer.cause == cause
     assert answer.move == ("up" if cause is None else None)
-    assert answer.latency == 2000 if cause == "late" else answer.latency < 2000
+    if cause != "status":
+        assert answer.latency == 2000 if cause == "late" else answer.latency < 2000
 
 
 def test_bot_that_nobody_serves_refuses() -> None:
@@ -90,6 +96,30 @@ def test_bot_that_nobody_serves_refuses() -> None:
             return await client.moves([("http://127.0.0.1:1/bot", b"{}")])
 
     assert run(work())[0].cause == "refused"
+
+
+def test_it_is_said_why_a_certificate_is_refused_and_how_it_is_taken(tmp_path: Path) -> None:
+    """A file of authorities, or no check, is of one bot alone."""
+    key, certificate = make_certificate(tmp_path)
+    context = ssl.create_default_context(ssl.Purpose.CLIENT_AUTH)
+    context.load_cert_chain(certificate, key)
+
+    async def work() -> None:
+        server = await asyncio.start_server(
+            saying({"move": "up", "apiversion": "1"}), "127.0.0.1", 0, ssl=context
+        )
+        url = f"https://localhost:{server.sockets[0].getsockname()[1]}"
+        async with BotClient(TIMEOUT) as client:
+            client.trust([Bot("b", f"{url}/b", str(certificate)), Bot("c", f"{url}/c", "", False)])
+            a, b, c = await client.moves([(f"{url}/{bot}", b"{}") for bot in "abc"])
+            assert (a.cause, b.move, c.move) == ("refused", "up", "up")
+            assert b"self-signed certificate" in a.received.excerpt
+            with pytest.raises(NoLook, match="refused: .*self-signed certificate"):
+                await client.look(f"{url}/a")
+            await client.look(f"{url}/b")
+        server.close()
+
+    run(work())
 
 
 def test_shouts_are_cut_and_no_other_type_is_taken() -> None:

@@ -66,6 +66,8 @@ def test_what_is_left_out_is_usual() -> None:
         ({"map": "royale", "hazard_damage": 101}, "hazard_damage is 101"),
         ({"map": "royale", "hazards": [[1, 1]]}, "the map royale has hazards of its own"),
         ({"shrink_every": 25}, "nobody knows shrink_every"),
+        ({"bot": [{"name": "a", "url": "https://h", "verify": 1}]}, "verify is 1, and has to be"),
+        ({"bot": [{"name": "a", "url": "https://h", "ca": "/no/ca"}]}, "ca is '/no/ca', and can't"),
         ({"hazard_damage": 14}, "nobody knows hazard_damage"),
         ({"hazards": [[1, 1]], "shrink_every": 25}, "nobody knows shrink_every"),
         ({"hazards": []}, "hazards has to be a list of 1 to 2500 cells [x, y]"),

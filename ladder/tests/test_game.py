@@ -19,11 +19,13 @@ from api import Request, strict
 from arena_client import Board
 from arena_ladder import game
 from arena_ladder.config import Config, config_of
+from arena_ladder.export import request_body
 from arena_ladder.game_files import GameFiles, LineFile, answers_file, make_folders
+from arena_ladder.kept_answers import kept_file
 from arena_ladder.outcome import Outcome
 from arena_ladder.pairing import Fixture, Part
 from arena_ladder.play import Job, play
-from arena_ladder.store import Store
+from arena_ladder.store import Store, StoreFault
 from arena_ladder.watch import Watch
 
 NAMES = ("left", "right")
@@ -37,6 +39,7 @@ class Bots:
     """Bots in this process that go round in squares, shout, and record their requests."""
 
     asked: list[tuple[str, str, dict[str, Any]]] = field(default_factory=list)
+    bodies: dict[tuple[str, int], bytes] = field(default_factory=dict)  # of moves, by bot and turn
     port: int = 0
 
     def __post_init__(self) -> None:
@@ -46,8 +49,11 @@ class Bots:
 
     async def answer(self, request: web.Request) -> web.Response:
         bot, what = request.match_info["bot"], request.match_info["what"]
-        state = json.loads(await request.text()) if request.can_read_body else {}
+        body = await request.read()
+        state = json.loads(body) if body else {}
         self.asked.append((bot, what, state))
+        if what == "move":
+            self.bodies[bot, state["turn"]] = body
         if what != "move":
             return web.json_response({"apiversion": "1", "color": "#123456"})
         turn = state["turn"]
@@ -141,6 +147,29 @@ def test_resumed_game_sends_the_last_shouts(program: Path, tmp_path: Path) -> No
             snakes = {it["name"]: it for it in moves[11]["board"]["snakes"]}
             assert snakes["right"]["shout"] == "right in turn 10"
             assert len(bots.requests("left", "start")) == len(bots.requests("left", "end")) == 1
+
+    run(work())
+
+
+def test_requests_are_exported_as_the_bots_got_them(program: Path, tmp_path: Path) -> None:
+    """Byte by byte, with latencies, shouts and looks, also of a game that was interrupted."""
+
+    async def work() -> None:
+        async with Bots() as bots:
+            config = config_for(tmp_path / "x", bots.port, mode="wrapped")
+            with pytest.raises(InterruptedError):
+                await played(config, program, [Breaks(11)])
+            await played(config, program)
+            for (bot, turn), body in bots.bodies.items():
+                if turn in (0, 1, 10, 11, 12, 29):
+                    assert request_body(config.folder, NAME, bot, turn, program) == body
+            assert len(bots.bodies) == 60
+            for turn, why in ((30, "was asked in the turns 0 to 29"), (-1, "was asked in")):
+                with pytest.raises(StoreFault, match=why):
+                    request_body(config.folder, NAME, "left", turn, program)
+            kept_file(config.folder, NAME).unlink()
+            with pytest.raises(StoreFault, match="are not kept"):
+                request_body(config.folder, NAME, "left", 0, program)
 
     run(work())
 
@@ -264,6 +293,6 @@ def test_answers_of_turns_without_a_move_are_forgotten(tmp_path: Path) -> None:
     with GameFiles(tmp_path, NAME) as files:
         files.commands.write(b'{"game":"x","do":"move","moves":{},"words":[]}\n')
         for _ in range(2):
-            files.add_answers({})
+            files.add_answers({}, {})
     with GameFiles(tmp_path, NAME) as files:
         assert (len(files.old_lines), files.old_answers()) == (1, [{}])

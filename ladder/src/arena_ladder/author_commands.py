@@ -12,7 +12,7 @@ from typing import Any
 
 from arena_ladder.bot_log import HEADING, BotLog, read_log
 from arena_ladder.config import MAPS, MODES
-from arena_ladder.export import frames, game_rows, transcript_of
+from arena_ladder.export import frames, game_rows, request_body, transcript_of
 from arena_ladder.game_files import command_file, make_folders
 from arena_ladder.lock import locked
 from arena_ladder.match import Boards, match_config, new_folder, result_lines
@@ -57,7 +57,7 @@ def run_match(given: argparse.Namespace) -> int:
     if given.view:
         shown = step_through if sys.stdin.isatty() and sys.stdout.isatty() else print_all
         shown(boards.boards)
-    print("\n".join(result_lines(boards.outcome)))
+    print("\n".join([*result_lines(boards.outcome), *boards.missed_lines()]))
     link = folder / "game.html"
     link.write_text(viewer_page(f"match {folder.name}", text))
     print(f"{link.resolve().as_uri()} opens in a browser")
@@ -77,7 +77,13 @@ def run_log(given: argparse.Namespace) -> int:
 
 
 def run_export(given: argparse.Namespace) -> int:
-    """Prints a game as the official engine's frames."""
+    """Prints a game as the official engine's frames, or the body of one request."""
+    if given.bot is not None:
+        turn = 0 if given.turn is None else given.turn
+        sys.stdout.buffer.write(
+            request_body(given.folder, given.game, given.bot, turn, program_of(given))
+        )
+        return 0
     for line in frames(given.folder, given.game, program_of(given)):
         print(line)
     return 0
@@ -117,6 +123,9 @@ def add_author_commands(commands: Any) -> None:
     one = commands.add_parser("export", help="prints a game as the official engine's frames")
     one.add_argument("folder", metavar="FOLDER", type=Path)
     one.add_argument("game", metavar="GAME")
+    help = "prints the body of the request that this bot got in a turn, for curl --data @-"
+    one.add_argument("--bot", metavar="BOT", help=help)
+    one.add_argument("--turn", metavar="T", type=int, help="0 if not given")
     add_program(one)
     one.set_defaults(run=run_export)
     one = commands.add_parser("games", help="prints a list of the finished games")

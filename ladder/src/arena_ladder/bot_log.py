@@ -1,10 +1,11 @@
-"""The log of each bot: a line for each request for a move, of a bounded size in the folder."""
+"""The log of each bot: a line for each request of a game, of a bounded size in the folder."""
 
 from __future__ import annotations
 
 import asyncio
 import json
 import os
+import re
 from collections import defaultdict
 from collections.abc import Callable, Iterable, Iterator, Mapping
 from contextlib import suppress
@@ -22,7 +23,7 @@ TICK_SECONDS = 1.0
 
 @dataclass(frozen=True)
 class Asked:
-    """A request for a move, and what came back."""
+    """A request, and what came back. `call` is empty for a move, else `start` or `end`."""
 
     game: str
     turn: int
@@ -32,13 +33,14 @@ class Asked:
     cause: Miss | None  # why the move was missed
     start: str = ""  # the first bytes of a bad answer
     id: str = ""  # of the request
+    call: str = ""
 
     def line(self) -> str:
         """The request as a line for a terminal. JSON's form of a text moves no cursor."""
         start = json.dumps(self.start) if self.start else ""
         status = str(self.status or "-")
         return (
-            f"{self.game}  {self.turn:5}  {self.id or '-':12}  {status:>6}  {self.bytes:6}  "
+            f"{self.game}  {self.call or self.turn:>5}  {self.id or '-':12}  {status:>6}  {self.bytes:6}  "
             f"{self.ms:5}  {self.cause or '-':9}  {start}"
         ).rstrip()
 
@@ -49,11 +51,11 @@ HEADING = (
 )
 
 
-def asked_of(game: str, turn: int, answer: Answer) -> Asked:
+def asked_of(game: str, turn: int, answer: Answer, call: str = "") -> Asked:
     got = answer.received
-    start = fit_text(got.excerpt.decode(errors="backslashreplace"))
+    start = fit_text(re.sub(r"\s", " ", got.excerpt.decode(errors="backslashreplace")))
     what = (game, turn, got.status, got.size, answer.latency, answer.cause)
-    return Asked(*what, start, answer.request_id)
+    return Asked(*what, start, answer.request_id, call)
 
 
 def asked_in(line: bytes) -> Asked:
@@ -79,7 +81,8 @@ def read_log(folder: Path, bot: str) -> Iterator[Asked]:
 
 def last_missed(folder: Path, bot: str, count: int) -> list[Asked]:
     """The last requests whose moves a bot missed, the newest first."""
-    return [it for it in read_log(folder, bot) if it.cause is not None][: -count - 1 : -1]
+    missed = [it for it in read_log(folder, bot) if it.cause is not None and not it.call]
+    return missed[: -count - 1 : -1]
 
 
 def add_lines(folder: Path, bot: str, lines: Iterable[str]) -> None:
@@ -124,10 +127,15 @@ class BotLog(Watch):
 
     def answered(self, game: str, turn: int, answers: Mapping[str, Answer]) -> None:
         for bot, answer in answers.items():
-            kept = dict(vars(asked_of(game, turn, answer)))
-            if not kept["start"]:
-                del kept["start"]
-            self.lines[bot].append(json.dumps(kept, separators=(",", ":")) + "\n")
+            self.add(bot, asked_of(game, turn, answer))
+
+    def notified(self, game: str, what: str, turn: int, answers: Mapping[str, Answer]) -> None:
+        for bot, answer in answers.items():
+            self.add(bot, asked_of(game, turn, answer, what))
+
+    def add(self, bot: str, asked: Asked) -> None:
+        kept = {key: it for key, it in vars(asked).items() if it or key not in ("start", "call")}
+        self.lines[bot].append(json.dumps(kept, separators=(",", ":")) + "\n")
 
     async def run(self) -> None:
         while True:

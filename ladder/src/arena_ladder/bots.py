@@ -5,17 +5,19 @@ from __future__ import annotations
 import json
 import os
 import re
-from collections.abc import Sequence
+from collections.abc import Iterable, Sequence
 from dataclasses import dataclass, replace
 from typing import Any
 
 from arena_ladder.addresses import AddressBook
+from arena_ladder.config import Bot
 from arena_ladder.connections import Connections, Exchange
 from arena_ladder.misses import BadAnswer, Miss
 from arena_ladder.payloads import Look
 from arena_ladder.pulse import Pulse
 from arena_ladder.response import EXCERPT, NOTHING, Received
 from arena_ladder.texts import fit_text
+from arena_ladder.tls import client_context
 from arena_ladder.urls import request_of, target_of
 
 DIRECTIONS = ("up", "down", "left", "right")
@@ -67,12 +69,18 @@ class BotClient:
         self.connections.close()
         self.pulse.stop()
 
+    def trust(self, bots: Iterable[Bot]) -> None:
+        """Takes how the certificates of bots are to be checked."""
+        for bot in bots:
+            if bot.ca or not bot.verify:
+                self.connections.trusted[bot.url] = client_context(bot.ca, bot.verify)
+
     async def look(self, url: str) -> Look:
         """Asks a bot for its look; raises `NoLook` if it sends none."""
         exchange = self._exchange("GET", url + "/", b"", LOOK_SECONDS)
         await self.connections.ask([exchange])
         if exchange.cause is not None:
-            raise NoLook(exchange.cause)
+            raise NoLook(f"{exchange.cause}: {exchange.why}" if exchange.why else exchange.cause)
         try:
             members = object_of(exchange.body)
         except BadAnswer as bad:
@@ -100,11 +108,11 @@ class BotClient:
                 break
         return [self._answer(found[at], at in lagged) for at in sorted(found)]
 
-    async def notify(self, requests: Sequence[Request]) -> None:
-        """Sends requests whose answers are ignored, such as /end, within the timeout."""
-        await self.connections.ask(
-            [self._exchange("POST", url, body, self.timeout) for url, body in requests]
-        )
+    async def notify(self, requests: Sequence[Request]) -> list[Answer]:
+        """Sends requests whose answers have no meaning, such as /end, within the timeout."""
+        exchanges = [self._exchange("POST", url, body, self.timeout) for url, body in requests]
+        await self.connections.ask(exchanges)
+        return [self._timed(it, Answer(None, it.cause, 0)) for it in exchanges]
 
     def _exchange(self, method: str, url: str, body: bytes, seconds: float) -> Exchange:
         target, bot = target_of(url), url.rpartition("/")[0]
@@ -121,20 +129,26 @@ class BotClient:
 
     def _answer(self, exchange: Exchange, is_lagged: bool) -> Answer:
         """The answer in what came of a request."""
-        answer, received = Answer(None, exchange.cause, 0), exchange.received
+        answer = Answer(None, exchange.cause, 0)
         if exchange.cause is None:
             try:
                 answer = answer_of(object_of(exchange.body))
             except BadAnswer as bad:
                 answer = Answer(None, bad.cause, 0)
-                received = replace(received, excerpt=exchange.body[:EXCERPT])
-        seconds = min(exchange.ended_at - exchange.asked_at, self.timeout)
+        return replace(self._timed(exchange, answer), is_lagged=is_lagged)
+
+    def _timed(self, exchange: Exchange, answer: Answer) -> Answer:
+        """An answer with its times, and with what came of the response."""
+        received = exchange.received
+        if exchange.cause is None and answer.cause is not None:
+            received = replace(received, excerpt=exchange.body[:EXCERPT])
+        elif exchange.cause is Miss.REFUSED:
+            received = replace(received, excerpt=exchange.why.encode()[:EXCERPT])
         return replace(
             answer,
-            latency=round(1000 * seconds),
+            latency=round(1000 * min(exchange.ended_at - exchange.asked_at, self.timeout)),
             asked_at=exchange.asked_at,
             answered_at=exchange.ended_at,
-            is_lagged=is_lagged,
             received=received,
             request_id=exchange.id,
         )

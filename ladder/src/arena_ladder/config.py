@@ -15,6 +15,7 @@ from arena_client import PLAN, PLAN_WITH_HAZARDS, Mode
 from arena_ladder import official
 from arena_ladder.maps import HazardMap, map_again
 from arena_ladder.starts import Cell, most_snakes
+from arena_ladder.tls import client_context
 from arena_ladder.urls import shown, target_of
 
 BOT_NAME = re.compile(r"[A-Za-z0-9][A-Za-z0-9_.-]{0,31}")
@@ -40,10 +41,14 @@ class ConfigFault(ValueError):
 
 @dataclass(frozen=True)
 class Bot:
-    """A Battlesnake server."""
+    """A Battlesnake server. Its certificate is checked by the authorities of the file `ca`, or by
+    those of the machine if that is empty; without `verify` any is taken.
+    """
 
     name: str
     url: str
+    ca: str = ""
+    verify: bool = True
 
 
 @dataclass(frozen=True)
@@ -174,6 +179,12 @@ class Members:
             raise self.fault(f"{name} is missing or no text")
         return value
 
+    def flag(self, name: str, default: bool) -> bool:
+        value = self.table.pop(name, default)
+        if type(value) is not bool:
+            raise self.fault(f"{name} is {value!r}, and has to be true or false")
+        return value
+
     def finish(self) -> None:
         if self.table:
             raise self.fault(f"nobody knows {', '.join(sorted(self.table))}")
@@ -294,10 +305,17 @@ def bot_of(table: Any, place: str) -> Bot:
         raise ConfigFault(f"{place}: a bot is a table")
     members = Members(table, f"{place}: a bot")
     name, url = members.text("name"), members.text("url")
+    ca = members.text("ca") if "ca" in members.table else ""
+    verify = members.flag("verify", True)
     members.finish()
     if not BOT_NAME.fullmatch(name):
         raise members.fault(f"the name {name!r} is not 1 to 32 letters, digits, _, . and -")
-    return Bot(name, checked_url(url, members))
+    try:
+        if ca:
+            client_context(ca)
+    except (OSError, ValueError) as fault:
+        raise members.fault(f"ca is {ca!r}, and can't be read: {fault}") from None
+    return Bot(name, checked_url(url, members), ca, verify)
 
 
 def checked_url(url: str, members: Members) -> str:

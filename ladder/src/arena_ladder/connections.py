@@ -6,6 +6,7 @@ import asyncio
 import errno
 import select
 import socket
+import ssl
 from collections import defaultdict
 from collections.abc import Sequence
 
@@ -25,9 +26,10 @@ OWN_FAULTS = (  # of this machine, so that no bot is blamed
 class Exchange:
     """A request, and what came of it: a body, or the cause why there is none.
 
-    `bot` is the address of the bot, to which the connections belong that it may use. Its time begins when its bytes are given to a connected socket, and ends when the last byte of
-    the answer is read; a connection may take as long again. `asked_at` and `ended_at` are of the
-    clock of the loop. `is_timed_out` says that the time was over, `why` why there was no connection.
+    `bot` is the address of the bot, to which the connections belong that it may use. Its time
+    begins when its bytes are given to a connected socket, and ends when the last byte of the answer
+    is read; a connection may take as long again. `asked_at` and `ended_at` are of the clock of the
+    loop. `is_timed_out` says that the time was over, `why` why there was no connection.
     """
 
     def __init__(
@@ -207,6 +209,7 @@ class Connections:
         self.addresses = addresses
         self.owners: defaultdict[str, Owner] = defaultdict(Owner)  # by the address of the bot
         self.secure = client_context()
+        self.trusted: dict[str, ssl.SSLContext] = {}  # by the address of a bot with its own
 
     async def __aenter__(self) -> Connections:
         return self
@@ -301,7 +304,7 @@ class Connections:
             await loop.create_connection(lambda: connection, address, place.port)
             return connection
         try:
-            tls = Tls(connection, self.secure, place.host)
+            tls = Tls(connection, self.trusted.get(bot, self.secure), place.host)
         except ValueError as fault:
             raise ConnectionError(f"no name for TLS: {fault}") from None
         connection.tls = tls

@@ -119,7 +119,7 @@ class Game:
         self.hear(answers)
         for name, answer in answers.items():
             self.tallies[name].add(answer)
-        files.add_answers(answers)
+        files.add_answers(answers, {bot: it.look for bot, it in self.seats.items()})
         moves = {name: answer.move for name, answer in answers.items() if answer.move is not None}
         words = words_of(config.seed, self.fixture.key, board["turn"], config.rules.words)
         more = map_members(config, self.fixture.key, board["turn"], (board, moves))
@@ -145,11 +145,12 @@ class Game:
             self.seats[name].shout = answer.shout
 
     async def notify_all(self, what: str, board: Board) -> None:
-        """Notifies all bots of the start or the end of the game; their answers are ignored."""
+        """Notifies all bots of the start or the end of the game; what they answer is logged."""
         names = self.fixture.bots
         urls = [f"{self.context.urls[name]}/{what}" for name in names]
         requests = list(zip(urls, bodies(self.text, board, self.seats, names)))
-        await self.context.client.notify(requests)
+        answers = dict(zip(names, await self.context.client.notify(requests)))
+        self.context.watch.notified(self.fixture.name, what, board["turn"], answers)
 
     def outcome(self) -> Outcome:
         """The result of the game, after it was played."""

@@ -9,12 +9,14 @@ from __future__ import annotations
 import errno
 import json
 import os
+from collections.abc import Mapping
 from pathlib import Path
 from typing import Any
 
 from arena_client import PLAN
 from arena_ladder.bots import Answer
 from arena_ladder.misses import Miss
+from arena_ladder.payloads import Look
 
 
 class LineFile:
@@ -46,7 +48,8 @@ class GameFiles:
 
     `commands` is the command file, `old_lines` its lines when it was opened, without the plan, and
     `moves` the number of moves among them.
-    `answers` has a line for each turn, written before the move of that turn.
+    `answers` has a line for each turn, written before the move of that turn. It has the look of a
+    bot with its first answer after each opening.
     """
 
     def __init__(self, folder: Path, name: str, plan: bytes = PLAN) -> None:
@@ -57,6 +60,7 @@ class GameFiles:
             self.commands.write(plan)
         self.old_lines = self.commands.lines[1:]
         self.moves = sum(b'"do":"move"' in line for line in self.old_lines)
+        self.looks: dict[str, Look] = {}  # that were written
         self.answers.cut(self.moves)
 
     def __enter__(self) -> GameFiles:
@@ -80,8 +84,13 @@ class GameFiles:
         self.answers.cut(len(turns))
         return turns
 
-    def add_answers(self, answers: dict[str, Answer]) -> None:
-        rows = {name: [it.move, it.cause, it.latency, it.shout] for name, it in answers.items()}
+    def add_answers(self, answers: Mapping[str, Answer], looks: Mapping[str, Look]) -> None:
+        rows: dict[str, list[Any]] = {
+            name: [it.move, it.cause, it.latency, it.shout] for name, it in answers.items()
+        }
+        for name in rows.keys() - self.looks.keys():
+            self.looks[name] = look = looks.get(name, Look())
+            rows[name].append([look.color, look.head, look.tail])
         self.answers.write((json.dumps(rows, separators=(",", ":")) + "\n").encode())
 
 
@@ -92,7 +101,9 @@ def answers_in(line: bytes) -> dict[str, Answer]:
     return {name: answer_in(*row) for name, row in rows.items()}
 
 
-def answer_in(move: str | None, cause: str | None, latency: int, shout: str = "") -> Answer:
+def answer_in(
+    move: str | None, cause: str | None, latency: int, shout: str = "", *_: Any
+) -> Answer:
     return Answer(move, None if cause is None else Miss(cause), latency, shout)
 
 

@@ -2,14 +2,19 @@
 
 from __future__ import annotations
 
+import json
 import re
-from collections.abc import Sequence
+from collections import Counter, defaultdict
+from collections.abc import Mapping, Sequence
 from pathlib import Path
 from typing import Any
 from urllib.parse import urlsplit
 
 from arena_client import Board
+from arena_ladder.bot_log import Asked, asked_of
+from arena_ladder.bots import Answer
 from arena_ladder.config import BOT_NAME, Config, ConfigFault, config_of
+from arena_ladder.misses import Miss
 from arena_ladder.outcome import Outcome
 from arena_ladder.pairing import Fixture
 from arena_ladder.watch import Watch
@@ -62,17 +67,37 @@ def match_config(folder: Path, words: Sequence[str], members: dict[str, Any]) ->
 
 
 class Boards(Watch):
-    """Keeps the boards of a game and its outcome."""
+    """Keeps the boards of a game, its outcome, and what was missed."""
 
     def __init__(self) -> None:
         self.boards: list[Board] = []
         self.outcome: Outcome | None = None
+        self.missed: defaultdict[str, Counter[Miss]] = defaultdict(Counter)
+        self.last: dict[str, Asked] = {}  # of each bot, the last request without a move
 
     def show(self, fixture: Fixture, board: Board) -> None:
         self.boards.append(board)
 
+    def answered(self, game: str, turn: int, answers: Mapping[str, Answer]) -> None:
+        for bot, answer in answers.items():
+            if answer.cause is not None:
+                self.missed[bot][answer.cause] += 1
+                self.last[bot] = asked_of(game, turn, answer)
+
     def end(self, outcome: Outcome) -> None:
         self.outcome = outcome
+
+    def missed_lines(self) -> list[str]:
+        """What each bot missed, by cause, with the last bad answer."""
+        lines = []
+        for bot, missed in self.missed.items():
+            causes = ", ".join(f"{cause} {moves}" for cause, moves in missed.items())
+            last = self.last[bot]
+            answer = f", status {last.status}" if last.status else ""
+            answer += f": {json.dumps(last.start)}" if last.start else ""
+            moves = "1 move" if missed.total() == 1 else f"{missed.total()} moves"
+            lines.append(f"{bot} missed {moves} ({causes}); the last in turn {last.turn}{answer}")
+        return lines
 
 
 def result_lines(outcome: Outcome) -> list[str]:

@@ -15,8 +15,9 @@ from arena_ladder.bots import BotClient, NoLook
 from arena_ladder.config import ENDLESS, Bot, Config
 from arena_ladder.endless import Endless
 from arena_ladder.game import Game, GameFault, RunContext
-from arena_ladder.game_files import command_file, forget_answers, running_games
+from arena_ladder.game_files import command_file, running_games
 from arena_ladder.keeper import HostKeeper
+from arena_ladder.kept_answers import KeptAnswers
 from arena_ladder.pairing import Fixture, Part, fixtures_of
 from arena_ladder.payloads import Look
 from arena_ladder.rated import Change
@@ -52,8 +53,9 @@ async def play(job: Job, store: Store, watches: Sequence[Watch]) -> None:
         add_config_bots(store, config.bots)
     else:
         done &= {fixture.name for fixture in fixtures}
+    kept = KeptAnswers(job.folder)
     for name in running_games(job.folder) & done:
-        forget_answers(job.folder, name)
+        kept.keep(name)
     async with (
         BotClient(config.timeout / 1000) as client,
         HostKeeper(job.program, BLOCKS_OF_GAME * config.at_once, config.rules.plan) as keeper,
@@ -63,7 +65,7 @@ async def play(job: Job, store: Store, watches: Sequence[Watch]) -> None:
         context = await run_context(job, client, watch)
         asking = asyncio.create_task(ask_looks_again(context))
         try:
-            run = Run(context, store, keeper, job.ends_at)
+            run = Run(context, store, keeper, kept, job.ends_at)
             await run.play([fixture for fixture in fixtures if fixture.name not in done])
         finally:
             asking.cancel()
@@ -79,6 +81,7 @@ def planned(config: Config, fixtures: Sequence[Fixture]) -> int:
 async def run_context(job: Job, client: BotClient, watch: Watch) -> RunContext:
     """Makes the context of a run, with the looks of the bots that say how they look."""
     looks: dict[str, Look] = {}
+    client.trust(job.config.bots)
     await ask_looks(job.config.bots, client, looks, watch)
     return RunContext(
         config=job.config,
@@ -116,8 +119,14 @@ class Run:
     """The games that one call of a ladder plays."""
 
     def __init__(
-        self, context: RunContext, store: Store, keeper: HostKeeper, ends_at: float = math.inf
+        self,
+        context: RunContext,
+        store: Store,
+        keeper: HostKeeper,
+        kept: KeptAnswers,
+        ends_at: float = math.inf,
     ) -> None:
+        self.kept = kept
         self.ends_at = ends_at
         self.asking: set[asyncio.Task[None]] = set()
         self.changes: list[Change] = []  # of the roster
@@ -202,7 +211,7 @@ class Run:
         added = (self.store.add, [(outcome, game.tallies)])
         await asyncio.get_running_loop().run_in_executor(self.storing, *added)
         self.ended.set()  # an endless ladder draws from the results that are stored
-        forget_answers(self.context.folder, fixture.name)
+        await asyncio.get_running_loop().run_in_executor(self.storing, self.kept.keep, outcome.name)
         self.context.watch.end(outcome)
 
     async def play_one(self, fixture: Fixture) -> Game:

@@ -161,8 +161,12 @@ class Tls(asyncio.BufferedProtocol):
         self.abort()
 
 
-def client_context() -> ssl.SSLContext:
-    """How certificates are checked: by the machine's authorities, or those of SSL_CERT_FILE."""
-    secure = ssl.create_default_context()
+def client_context(ca: str = "", verify: bool = True) -> ssl.SSLContext:
+    """How certificates are checked: by the machine's authorities, those of SSL_CERT_FILE, or those
+    of a file. Without `verify` each certificate is taken.
+    """
+    secure = ssl.create_default_context(cafile=ca or None)
     secure.options |= ssl.OP_NO_RENEGOTIATION
+    if not verify:
+        secure.check_hostname, secure.verify_mode = False, ssl.CERT_NONE
     return secure

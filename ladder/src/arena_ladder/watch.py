@@ -32,6 +32,9 @@ class Watch:
     def answered(self, game: str, turn: int, answers: Mapping[str, Answer]) -> None:
         """Called with the answers to the requests of a game after a turn."""
 
+    def notified(self, game: str, what: str, turn: int, answers: Mapping[str, Answer]) -> None:
+        """Called with the answers to `start` or `end`."""
+
     def end(self, outcome: Outcome) -> None:
         """Called with the result of a game after it was stored."""
 
@@ -64,6 +67,10 @@ class Watches(Watch):
     def answered(self, game: str, turn: int, answers: Mapping[str, Answer]) -> None:
         for watch in self.watches:
             watch.answered(game, turn, answers)
+
+    def notified(self, game: str, what: str, turn: int, answers: Mapping[str, Answer]) -> None:
+        for watch in self.watches:
+            watch.notified(game, what, turn, answers)
 
     def end(self, outcome: Outcome) -> None:
         for watch in self.watches:
