@@ -24,6 +24,7 @@ from arena_ladder.outcome import Outcome, finishes_of
 from arena_ladder.pairing import Fixture, fixtures_of
 from arena_ladder.rated import Rated
 from arena_ladder.store import Store, StoreFault, open_store
+from arena_ladder.tournament import Tournament, by_name
 
 SERVE_SECONDS = 600
 NOT_AS_DRAWN = "the hazards or the food of the move after turn {} are not as drawn"
@@ -67,7 +68,10 @@ def check(folder: Path, program: Path, note: Callable[[int], None]) -> Checked:
 
 
 def drawn_again(config: Config, store: Store) -> Iterable[Fixture]:
-    """The games of a ladder; those of an endless one are drawn from what was stored before each."""
+    """The games of a ladder; those of an endless one are drawn from what was stored before each,
+    those of a tournament follow from all results."""
+    if config.is_tournament:
+        return Tournament(config, by_name(store.results(0))).fixtures
     if not config.is_endless:
         return fixtures_of(config)
     rated = Rated(config.seed, config.snakes)

@@ -21,7 +21,8 @@ from arena_ladder.urls import shown, target_of
 BOT_NAME = re.compile(r"[A-Za-z0-9][A-Za-z0-9_.-]{0,31}")
 MODES = tuple(Mode)
 MAPS = ("standard", "royale", *official.MAPS)
-PAIRINGS = ("round_robin", "duels", "tables", "gauntlet", "rating")
+TOURNAMENTS = ("single_elimination", "double_elimination", "groups", "swiss")
+PAIRINGS = ("round_robin", "duels", "tables", "gauntlet", "rating", *TOURNAMENTS)
 MOST_BOTS = 200
 MOST_AT_ONCE = 64  # games that are open in a host
 AT_ONCE = 16
@@ -31,6 +32,7 @@ ID_LETTERS = 8
 ORDER = "circle"  # of the games of a round: a folder of another order is another ladder's
 MOST_ROUNDS = 100_000
 MOST_TURNS = 10_000
+MOST_OF_MATCH = 50  # games
 MOST_HAZARDS = 2_500
 LONGEST_FOOD = 32  # words of a move: at most this number of foods can appear in a turn
 
@@ -96,6 +98,13 @@ class Config:
     timeout: int  # milliseconds
     at_once: int  # games
     games_a_bot: int  # at the same time
+    games: int = 0  # of a match, in a tournament
+    group: int = 0  # bots of a group, in a tournament with groups
+
+    @property
+    def is_tournament(self) -> bool:
+        """Whether its games follow from results, between bots in the order of their seeds."""
+        return self.pairing in TOURNAMENTS
 
     @property
     def is_endless(self) -> bool:
@@ -113,7 +122,11 @@ class Config:
 
         The addresses of the bots, the number of rounds and the games at once may change.
         """
+        more = {"games": self.games, "group": self.group} if self.is_tournament else {}
+        if self.pairing == "swiss":
+            more["rounds"] = self.rounds
         return {
+            **more,
             "bots": [] if self.is_endless else [bot.name for bot in self.bots],
             "rules": self.rules.members,
             "pairing": self.pairing,
@@ -135,12 +148,14 @@ def config_again(identity: dict[str, Any], folder: Path, rounds: int) -> Config:
         rules=rules_again(identity["rules"]),
         pairing=identity["pairing"],
         snakes=identity["snakes"],
-        rounds=rounds,
+        rounds=identity.get("rounds", rounds),
         seed=identity["seed"],
         has_seed=identity["has_seed"],
         timeout=identity["timeout"],
         at_once=1,
         games_a_bot=1,
+        games=identity.get("games", 0),
+        group=identity.get("group", 0),
     )
 
 
@@ -209,6 +224,8 @@ def config_of(table: dict[str, Any], place: str) -> Config:
     has_seed = "seed" in members.table
     is_endless = pairing == "rating"
     usual, most = (ENDLESS, ENDLESS) if is_endless else (1, MOST_ROUNDS)
+    if pairing == "swiss":
+        usual = max(1, (len(bots) - 1).bit_length())
     config = Config(
         folder=folder,
         bots=bots,
@@ -221,6 +238,8 @@ def config_of(table: dict[str, Any], place: str) -> Config:
         timeout=members.number("timeout", 500, 10, 60_000),
         at_once=members.number("at_once", AT_ONCE, 1, MOST_AT_ONCE),
         games_a_bot=members.number("games_a_bot", GAMES_A_BOT, 1, MOST_AT_ONCE),
+        games=members.number("games", 4, 1, MOST_OF_MATCH) if pairing in TOURNAMENTS else 0,
+        group=members.number("group", 4, 3, 16) if pairing == "groups" else 0,
     )
     members.finish()
     if len(bots) < config.snakes and not is_endless:
@@ -282,7 +301,7 @@ def snakes_of(members: Members, rules: Rules, pairing: str) -> int:
     if rules.hazards and rules.hazards.official and rules.hazards.official.starts:
         most = sum(map(len, rules.hazards.official.starts))
     snakes = members.number("snakes", usual, 1 if rules.mode == "solo" else 2, most)
-    if pairing in ("duels", "gauntlet") and snakes != 2:
+    if pairing in ("duels", "gauntlet", *TOURNAMENTS) and snakes != 2:
         raise members.fault(f"{pairing}: a game has 2 snakes")
     return snakes
 

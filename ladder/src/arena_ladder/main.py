@@ -20,7 +20,7 @@ from arena_client import HostDied, HostFault
 from arena_ladder.author_commands import add_author_commands
 from arena_ladder.bot_log import BotLog
 from arena_ladder.check import check
-from arena_ladder.config import MOST_ROUNDS, ConfigFault, read_config
+from arena_ladder.config import MOST_ROUNDS, Config, ConfigFault, read_config
 from arena_ladder.contests import add_contests
 from arena_ladder.game import GameFault
 from arena_ladder.game_files import make_folders
@@ -36,6 +36,7 @@ from arena_ladder.roster_commands import add_roster_commands
 from arena_ladder.seeds import seed_line, seed_line_of, with_seed
 from arena_ladder.store import Store, StoreFault, open_store
 from arena_ladder.texts import fit_text
+from arena_ladder.tournament_commands import add_tournaments
 from arena_ladder.watch import Watch
 
 INTERRUPTED = 130
@@ -74,9 +75,13 @@ async def play_job(job: Job, store: Store, counts: Counts, address: Address | No
 
 def run_play(given: argparse.Namespace) -> int:
     """Plays the games of a ladder that are not done."""
-    config = with_seed(read_config(given.config))
-    if config.is_endless and given.part:
-        raise ConfigFault("an endless ladder has no parts")
+    return play_config(with_seed(read_config(given.config)), given)
+
+
+def play_config(config: Config, given: argparse.Namespace) -> int:
+    """Plays the games of a configuration that are not done, by the options of a command."""
+    if given.part and (config.is_endless or config.is_tournament):
+        raise ConfigFault("an endless ladder or a tournament has no parts")
     if given.rounds is not None:
         config = replace(config, rounds=given.rounds)
     part = given.part or Part(1, 1)
@@ -184,6 +189,7 @@ def parser(prog: str | None) -> argparse.ArgumentParser:
     add_page_command(commands)
     add_author_commands(commands)
     add_contests(commands)
+    add_tournaments(commands, play_config, address_of)
     add_roster_commands(commands)
     return words
 

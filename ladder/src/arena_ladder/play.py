@@ -24,12 +24,13 @@ from arena_ladder.rated import Change
 from arena_ladder.roster import add_config_bots, urls_of
 from arena_ladder.schedule import CALM_SECONDS, Pace, Schedule
 from arena_ladder.store import Store
+from arena_ladder.tournament_play import Playing
 from arena_ladder.urls import shown
 from arena_ladder.watch import Watch, Watches
 
 LOOK_AGAIN_SECONDS = 60.0
 
-Source = Schedule | Endless
+Source = Schedule | Endless | Playing
 
 
 @dataclass(frozen=True)
@@ -47,11 +48,12 @@ async def play(job: Job, store: Store, watches: Sequence[Watch]) -> None:
     """Plays the games of a job that are not in the store."""
     store.begin(job.config.identity, job.config.bots)
     config = job.config
-    fixtures = [] if config.is_endless else fixtures_of(config, job.part)
+    is_listed = not (config.is_endless or config.is_tournament)
+    fixtures = fixtures_of(config, job.part) if is_listed else []
     done = store.names()
     if config.is_endless:
         add_config_bots(store, config.bots)
-    else:
+    elif is_listed:
         done &= {fixture.name for fixture in fixtures}
     kept = KeptAnswers(job.folder)
     for name in running_games(job.folder) & done:
@@ -157,6 +159,8 @@ class Run:
         config = self.context.config
         if config.is_endless:
             return Endless(config, self.store, self.storing, self.heed, self.ends_at)
+        if config.is_tournament:
+            return Playing(config, self.store, self.storing, self.ends_at)
         return Schedule(fixtures, config.games_a_bot, self.ends_at)
 
     def heed(self, changes: list[Change]) -> None:
@@ -179,7 +183,8 @@ class Run:
             if source.running == 0:
                 if source.is_over:
                     return
-                self.say_once("waits for bots: too few are in and do not rest")
+                if self.context.config.is_endless:
+                    self.say_once("waits for bots: too few are in and do not rest")
             self.name_serial_bots()
             if pace.allowed < pace.most:
                 self.say_once("this machine is too busy: it plays fewer games at once")
