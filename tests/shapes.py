@@ -235,6 +235,32 @@ def stays(count):
                 yield line(game=name, do="leave")
 
 
+# Ids as the games of a ladder have them, in the order in which its snakes are written.
+NAMES = ["gs_mYk4PphrcGBX6jF9", "gs_3xQJ8wX7pVfbwFgY", "gs_WVH7vQX8cJp6rqSf", "Snake of Ann, 2"]
+MISSED = 7  # turns, in one of which a snake has no order, and goes straight on
+DROPPED = 10  # turns, in one of which the map gives food
+CLOSED = 24  # turns, after which the map gives hazards again
+
+
+def ladder_games(rounds):
+    """64 games of four snakes as a ladder writes them: long ids in no order, orders missing,
+    hazards and food that the map gives. The snakes go round in squares of three by three cells."""
+    places = [(3, 3), (7, 3), (3, 7), (7, 7)]
+    snakes = [{"id": id, "x": x, "y": y} for id, (x, y) in zip(NAMES, places)]
+    game = {"mode": "standard", "side": 11, "snakes": snakes, **NO_FOOD, "hazard_damage": 14}
+    games = {f"5f0c2e{index:02}": game for index in range(64)}
+
+    def moves(turn):
+        direction = ("up", "right", "down", "left")[turn // 2 % 4]
+        ids = NAMES[:-1] if turn % 2 and turn % MISSED == 0 else NAMES
+        hazards = {"hazards": outer(11, 1)} if turn % CLOSED == CLOSED - 1 else {}
+        food = {"food": [{"x": 0, "y": turn % 11}]} if turn % DROPPED == 0 else {}
+        return {"moves": dict.fromkeys(ids, direction), **hazards, **food}
+
+    yield plan(games, 1_048_576, version=5)
+    yield from rounds_of(games, rounds, ROUND, moves)
+
+
 def short_commands(count):
     """Short commands that change nothing: `turn` commands for turns without a record."""
     yield plan(["g"], 4096)
@@ -251,6 +277,7 @@ SHAPES = [
     ("constrictor, eight", constrictor, 8, lambda rounds: 8 * FILLING * rounds),
     ("wrapped, eight snakes", wrapped, 8, lambda rounds: 8 * ROUND * rounds),
     ("hazards, eight snakes", hazards, 8, lambda rounds: 8 * ROUND * rounds),
+    ("64 games of a ladder", ladder_games, 5, lambda rounds: 64 * ROUND * rounds),
     ("64 of many stays", stays, 2_000, lambda count: STAYED * count),
     ("short commands", short_commands, 200_000, lambda count: 0),
 ]

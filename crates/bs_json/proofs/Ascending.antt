@@ -10,15 +10,15 @@ use Rattle.bs_board.specs.commands.Orders.{is_ascending}
 use Rattle.bs_board.specs.Texts.{is_text_below}
 use Rattle.bs_json.specs.Moves.{direction_from, directions_of}
 
-abbrev Given : Type 0
+abbrev pub Given : Type 0
 Given = List (List ℕ × Direction)
 
 -- the first id, if there is one, is above
-abbrev FirstIsAbove : List ℕ → Given → Type 0
+abbrev pub FirstIsAbove : List ℕ → Given → Type 0
 FirstIsAbove id [] = Unit {0}
 FirstIsAbove id (first ∷ rest) = is_text_below id first.0 ≡ true
 
-ascends_after : (id : List ℕ) (d : Direction) (rest : Given) → FirstIsAbove id rest → is_ascending rest ≡ true → is_ascending ((id, d) ∷ rest) ≡ true
+pub ascends_after : (id : List ℕ) (d : Direction) (rest : Given) → FirstIsAbove id rest → is_ascending rest ≡ true → is_ascending ((id, d) ∷ rest) ≡ true
 ascends_after id d [] above up = refl
 ascends_after id d (first ∷ rest) above up = rw above up
 

@@ -76,19 +76,20 @@ tail_is_utf8 false words fit = IsUtf8-are_ascii (codes "}") refl
 tail_is_utf8 true words fit =
     ascii_then (codes ",\"words\":[") _ refl (IsUtf8-append (words_text false words) _ (words_are_utf8 false words fit.small) (IsUtf8-are_ascii (codes "]}") refl))
 
-order_is_utf8 : (written : Bool) (c : Command) → IsCompact written c → IsUtf8 (order_text written c)
-order_is_utf8 written (command.New new) compact = absurd compact
-order_is_utf8 written (command.Move orders) compact =
-    ascii_then (codes "move\",\"moves\":{") _ refl (IsUtf8-append (moves_text false orders.moves) _ (moves_are_utf8 false orders.moves compact.0)
+order_is_utf8 : (written : Bool) (given : List (List ℕ × Direction)) (c : Command) → IsCompact written given c → IsUtf8 (order_text written given c)
+order_is_utf8 written given (command.New new) compact = absurd compact
+order_is_utf8 written given (command.Move orders) compact =
+    ascii_then (codes "move\",\"moves\":{") _ refl (IsUtf8-append (moves_text false given) _ (moves_are_utf8 false given compact.0)
     (ascii_then (codes "}") _ refl (tail_is_utf8 written orders.words compact.2)))
-order_is_utf8 written (command.Turn at) compact =
+order_is_utf8 written given (command.Turn at) compact =
     let within : at ≤ LAST_TURN = compact in
     ascii_then (codes "turn\",\"at\":") _ refl (number_then at _ (omega arith) (IsUtf8-are_ascii (codes "}") refl))
-order_is_utf8 written command.Show compact = IsUtf8-are_ascii (codes "show\"}") refl
-order_is_utf8 written command.Free compact = IsUtf8-are_ascii (codes "free\"}") refl
-order_is_utf8 written command.End compact = IsUtf8-are_ascii (codes "end\"}") refl
-order_is_utf8 written command.Bad compact = absurd compact
+order_is_utf8 written given command.Show compact = IsUtf8-are_ascii (codes "show\"}") refl
+order_is_utf8 written given command.Free compact = IsUtf8-are_ascii (codes "free\"}") refl
+order_is_utf8 written given command.End compact = IsUtf8-are_ascii (codes "end\"}") refl
+order_is_utf8 written given command.Bad compact = absurd compact
 
-pub compact_is_utf8 : (game : List ℕ) (written : Bool) (c : Command) → are_plain game ≡ true → IsCompact written c → IsUtf8 (compact_text written game c)
-compact_is_utf8 game written c plain compact =
-    ascii_then (codes "{\"game\":\"") _ refl (plain_then game _ plain (ascii_then (codes "\",\"do\":\"") _ refl (order_is_utf8 written c compact)))
+pub compact_is_utf8 : (game : List ℕ) (written : Bool) (given : List (List ℕ × Direction)) (c : Command) → are_plain game ≡ true → IsCompact written given c
+    → IsUtf8 (compact_text written given game c)
+compact_is_utf8 game written given c plain compact =
+    ascii_then (codes "{\"game\":\"") _ refl (plain_then game _ plain (ascii_then (codes "\",\"do\":\"") _ refl (order_is_utf8 written given c compact)))

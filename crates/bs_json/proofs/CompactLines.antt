@@ -3,10 +3,9 @@
 use Rattle.std.proofs.Common.{◌≡◌, ◌≤◌, ◌<◌, ◌^◌, ◌==◌, ℕ, List, [], ◌∷◌, ◌++◌, All, Bool, true, false, not, nat_le, nat_lt, Some, None, option_and_then, IsUtf8}
 use Rattle.std.proofs.Common.{length, codes, refl, sym, ap, ap₂, ◌∙◌, subst, arith, append_assoc, append-nil, Less, Equal, Greater}
 use Rattle.std.proofs.lemmas.Bool.{le-leb, le-ltb, leb-true}
-use Rattle.std.proofs.lemmas.Cmp.{nat_list_cmp_total}
 use Rattle.std.specs.Cmp.Lexicographic.{slice_cmp}
 use Rattle.std.specs.List.{list_all}
-use Rattle.std.specs.Ordering.{nat_cmp, is_lt, ordering_reverse}
+use Rattle.std.specs.Ordering.{match_ordering, nat_cmp}
 use Rattle.std.specs.declared.cmp.Ordering.{Ordering}
 use Rattle.json.specs.Json as json
 use Rattle.json.specs.Lex.{tokens}
@@ -27,15 +26,15 @@ use Rattle.bs_board.specs.declared.boards.point.Direction.TheVariants.{Up, Down,
 use Rattle.bs_board.specs.declared.commands.command.Command.{Command}
 use Rattle.bs_board.specs.declared.commands.command.Command.TheVariants as command
 use Rattle.bs_board.specs.declared.limits.TheConstants.{LAST_TURN, MOST_WORDS}
-use Rattle.bs_board.specs.commands.Orders.{Orders, is_ascending, orders_of}
-use Rattle.bs_board.specs.Texts.{is_text_below}
+use Rattle.bs_board.specs.commands.Orders.{Orders, orders_of}
 use Rattle.bs_board.proofs.Chains.{and_both}
 use Rattle.bs_json.specs.declared.limits.TheConstants.{MAX_LINE, MOST_WORD}
 use Rattle.bs_json.specs.declared.line.Line.TheVariants as line
 use Rattle.bs_board.specs.declared.plans.version.Version.{Version}
 use Rattle.bs_board.specs.declared.plans.version.Version.TheVariants.{One, Two, Three, Five}
 use Rattle.bs_json.specs.Commands.{command_of}
-use Rattle.bs_json.specs.inner.Compact.{IsCompact, are_plain, compact_text, direction_name, is_plain, moves_text, words_text}
+use Rattle.bs_json.specs.inner.Compact.{IsCompact, IsOrderText, are_plain, compact_text, direction_name, is_plain, line_text, moves_text, words_text}
+use Rattle.bs_json.specs.inner.Sorted.{in_order, put_move, put_moves}
 use Rattle.bs_json.specs.Line.{is_space, line_from, line_of}
 use Rattle.bs_json.specs.Moves.{direction_named, directions_of, map_from, orders_from}
 use Rattle.bs_json.specs.Values.{each, value_of, whole_to}
@@ -75,7 +74,7 @@ escape_plain (byte ∷ text) plain =
 
 -- ---- the members of a move
 
--- in their order, which `put` keeps since the ids ascend
+-- in the order of the moves
 abbrev moves_members : List (List ℕ × Direction) → Members
 moves_members [] = no_members
 moves_members (move ∷ moves) = member move.0 (string (direction_name move.1)) (moves_members moves)
@@ -111,40 +110,25 @@ no_depth : (moves : List (List ℕ × Direction)) → tree.members_depth (writte
 no_depth [] = refl
 no_depth (move ∷ moves) = rw (no_depth moves) refl
 
-less_is : (o : Ordering) → is_lt o ≡ true → o ≡ Less
-less_is Less h = refl
-less_is Equal h = let wrong : false ≡ true = h in cc
-less_is Greater h = let wrong : false ≡ true = h in cc
+members_by : (o : Ordering) (below equal above : List (List ℕ × Direction))
+    → moves_members (match_ordering o below equal above) ≡ match_ordering o (moves_members below) (moves_members equal) (moves_members above)
+members_by Less below equal above = refl
+members_by Equal below equal above = refl
+members_by Greater below equal above = refl
 
-tail_ascends : (first : List ℕ × Direction) (rest : List (List ℕ × Direction)) → is_ascending (first ∷ rest) ≡ true → is_ascending rest ≡ true
-tail_ascends first [] up = refl
-tail_ascends first (second ∷ rest) up = (and_both (is_text_below first.0 second.0) (is_ascending (second ∷ rest)) up).1
+-- a member goes to the place of its move
+put_is : (found : List (List ℕ × Direction)) (move : List ℕ × Direction)
+    → put move.0 (string (direction_name move.1)) (moves_members found) ≡ moves_members (put_move found move)
+put_is [] move = refl
+put_is (first ∷ found) move =
+    rw (put_is found move) (sym (members_by (slice_cmp nat_cmp move.0 first.0) (move ∷ first ∷ found) ((first.0, move.1) ∷ found) (first ∷ put_move found move)))
 
--- an id that comes anywhere after another is above it
-is_above : (first : List ℕ × Direction) (between : List (List ℕ × Direction)) (move : List ℕ × Direction) (rest : List (List ℕ × Direction))
-    → is_ascending (first ∷ (between ++ move ∷ rest)) ≡ true → slice_cmp nat_cmp first.0 move.0 ≡ Less
-is_above first [] move rest up = less_is _ (and_both (is_text_below first.0 move.0) (is_ascending (move ∷ rest)) up).0
-is_above first (second ∷ between) move rest up =
-    let parts = and_both (is_text_below first.0 second.0) (is_ascending (second ∷ (between ++ move ∷ rest))) up in
-    nat_list_cmp_total.trans first.0 second.0 move.0 (less_is _ parts.0) (is_above second between move rest parts.1)
-
--- so it comes after them
-goes_last : (found : List (List ℕ × Direction)) (move : List ℕ × Direction) (rest : List (List ℕ × Direction)) → is_ascending (found ++ move ∷ rest) ≡ true
-    → put move.0 (string (direction_name move.1)) (moves_members found) ≡ moves_members (found ++ move ∷ [])
-goes_last [] move rest up = refl
-goes_last (first ∷ found) move rest up =
-    let above = nat_list_cmp_total.antisymm move.0 first.0 ∙ ap ordering_reverse (is_above first found move rest up) in
-    rw (above, goes_last found move rest (tail_ascends first (found ++ move ∷ rest) up)) refl
-
--- the members found so far, followed by the rest, are all the moves in order
-members_from : (found moves : List (List ℕ × Direction)) → is_ascending (found ++ moves) ≡ true
-    → of_members (written_as.members_outline (moves_members moves)) (moves_members found) ≡ Some (moves_members (found ++ moves))
-members_from found [] up = rw append-nil refl
-members_from found (move ∷ moves) up =
-    let same = append_assoc found (move ∷ []) moves in
-    ap (of_members (written_as.members_outline (moves_members moves))) (goes_last found move moves up)
-    ∙ members_from (found ++ move ∷ []) moves (ap is_ascending same ∙ up)
-    ∙ ap (λ all. Some (moves_members all)) same
+-- the members found so far, and those of the given moves
+members_from : (found given : List (List ℕ × Direction))
+    → of_members (written_as.members_outline (moves_members given)) (moves_members found) ≡ Some (moves_members (put_moves found given))
+members_from found [] = refl
+members_from found (move ∷ given) =
+    ap (of_members (written_as.members_outline (moves_members given))) (put_is found move) ∙ members_from (put_move found move) given
 
 direction_back : (direction : Direction) → direction_named (direction_name direction) ≡ Some direction
 direction_back Up = refl
@@ -164,8 +148,8 @@ abbrev line_data : List ℕ → List ℕ → Members → Data
 line_data game word rest = object (member (codes "game") (string game) (member (codes "do") (string word) rest))
 
 -- and its text
-abbrev line_text : List ℕ → List ℕ → Members → List ℕ
-line_text game word rest = codes "{\"game\":\"" ++ (game ++ (codes "\",\"do\":\"" ++ (word ++ (codes "\"" ++ written_as.members_text true rest))))
+abbrev members_line : List ℕ → List ℕ → Members → List ℕ
+members_line game word rest = line_text game (word ++ (codes "\"" ++ written_as.members_text true rest))
 
 -- in the brackets of either definition
 regroup_line : (start game mark middle word rest : List ℕ) → start ++ ((game ++ mark) ++ (middle ++ ((word ++ mark) ++ rest)))
@@ -173,7 +157,7 @@ regroup_line : (start game mark middle word rest : List ℕ) → start ++ ((game
 regroup_line start game mark middle word rest = simp append_assoc
 
 line_data_text : (game word : List ℕ) (rest : Members) → are_plain game ≡ true → escape word ≡ word
-    → written_as.compact_text (line_data game word rest) ≡ line_text game word rest
+    → written_as.compact_text (line_data game word rest) ≡ members_line game word rest
 unfolding escape_byte
 line_data_text game word rest plain same =
     let name = escape_plain game plain in
@@ -192,7 +176,7 @@ line_of_value version text rest d begins short value =
     rw (le-ltb MAX_LINE (length text) short, no_space, value) refl
 
 -- so a line of this text is what its data gives
-line_is_from : (version : Version) (text game word : List ℕ) (rest : Members) (found : Data) → text ≡ line_text game word rest → are_plain game ≡ true → escape word ≡ word
+line_is_from : (version : Version) (text game word : List ℕ) (rest : Members) (found : Data) → text ≡ members_line game word rest → are_plain game ≡ true → escape word ≡ word
     → tree.MembersHaveNumbers (written_as.members_outline rest) → tree.members_depth (written_as.members_outline rest) ≤ 1
     → of_json (written_as.outline (line_data game word rest)) ≡ Some found → IsUtf8 text → length text ≤ MAX_LINE → line_of version text ≡ line_from version (Some found)
 line_is_from version text game word rest found is plain same numbers shallow back utf8 short =
@@ -205,22 +189,22 @@ line_is_from version text game word rest found is plain same numbers shallow bac
 abbrev word_data : List ℕ → List ℕ → Data
 word_data game word = object (member (codes "do") (string word) (member (codes "game") (string game) no_members))
 
-show_line_is : (version : Version) (text game : List ℕ) (written : Bool) → text ≡ compact_text written game command.Show → are_plain game ≡ true
+show_line_is : (version : Version) (text game : List ℕ) (written : Bool) (given : List (List ℕ × Direction)) → text ≡ compact_text written given game command.Show → are_plain game ≡ true
     → IsUtf8 text → length text ≤ MAX_LINE → line_of version text ≡ line.Command game command.Show
 unfolding command_of escape_byte
-show_line_is version text game written is plain utf8 short =
+show_line_is version text game written given is plain utf8 short =
     line_is_from version text game (codes "show") no_members (word_data game (codes "show")) is plain refl tt (omega arith) refl utf8 short
 
-free_line_is : (version : Version) (text game : List ℕ) (written : Bool) → text ≡ compact_text written game command.Free → are_plain game ≡ true
+free_line_is : (version : Version) (text game : List ℕ) (written : Bool) (given : List (List ℕ × Direction)) → text ≡ compact_text written given game command.Free → are_plain game ≡ true
     → IsUtf8 text → length text ≤ MAX_LINE → line_of version text ≡ line.Command game command.Free
 unfolding command_of escape_byte
-free_line_is version text game written is plain utf8 short =
+free_line_is version text game written given is plain utf8 short =
     line_is_from version text game (codes "free") no_members (word_data game (codes "free")) is plain refl tt (omega arith) refl utf8 short
 
-end_line_is : (version : Version) (text game : List ℕ) (written : Bool) → text ≡ compact_text written game command.End → are_plain game ≡ true
+end_line_is : (version : Version) (text game : List ℕ) (written : Bool) (given : List (List ℕ × Direction)) → text ≡ compact_text written given game command.End → are_plain game ≡ true
     → IsUtf8 text → length text ≤ MAX_LINE → line_of version text ≡ line.Command game command.End
 unfolding command_of escape_byte
-end_line_is version text game written is plain utf8 short =
+end_line_is version text game written given is plain utf8 short =
     line_is_from version text game (codes "end") no_members (word_data game (codes "end")) is plain refl tt (omega arith) refl utf8 short
 
 -- ---- a `turn`
@@ -232,10 +216,10 @@ abbrev turn_data : List ℕ → ℕ → Data
 turn_data game at =
     object (member (codes "at") (number (unsigned at)) (member (codes "do") (string (codes "turn")) (member (codes "game") (string game) no_members)))
 
-turn_line_is : (version : Version) (text game : List ℕ) (written : Bool) (at : ℕ) → text ≡ compact_text written game (command.Turn at) → are_plain game ≡ true → at ≤ LAST_TURN
+turn_line_is : (version : Version) (text game : List ℕ) (written : Bool) (given : List (List ℕ × Direction)) (at : ℕ) → text ≡ compact_text written given game (command.Turn at) → are_plain game ≡ true → at ≤ LAST_TURN
     → IsUtf8 text → length text ≤ MAX_LINE → line_of version text ≡ line.Command game (command.Turn at)
 unfolding command_of escape_byte
-turn_line_is version text game written at is plain within utf8 short =
+turn_line_is version text game written given at is plain within utf8 short =
     let small : at < 2 ^ 64 = omega arith in
     let back : of_json (written_as.outline (line_data game (codes "turn") (turn_members at))) ≡ Some (turn_data game at) =
     rw (number_of-decimal at small) refl in
@@ -301,24 +285,24 @@ no_map Three d none nothing = refl
 no_map Five d none nothing = rw (none, nothing) refl
 
 -- a move whose words are left out, since there are none
-bare_move_line_is : (version : Version) (text game : List ℕ) (orders : Orders) → text ≡ compact_text false game (command.Move orders) → are_plain game ≡ true
-    → IsCompact false (command.Move orders) → IsUtf8 text → length text ≤ MAX_LINE → line_of version text ≡ line.Command game (command.Move orders)
+bare_move_line_is : (version : Version) (text game : List ℕ) (given : List (List ℕ × Direction)) (orders : Orders) → text ≡ compact_text false given game (command.Move orders)
+    → are_plain game ≡ true → IsCompact false given (command.Move orders) → IsUtf8 text → length text ≤ MAX_LINE → line_of version text ≡ line.Command game (command.Move orders)
 unfolding command_of orders_from escape_byte
-bare_move_line_is version text game orders is plain compact utf8 short =
-    let moves = orders.moves in
-    let rest = move_members moves no_members in
-    let all : moves_text false moves ++ codes "}}" ≡ written_as.members_text false (moves_members moves) ++ codes "}" =
-    sym (append_assoc (moves_text false moves) (codes "}") (codes "}")) ∙ ap (λ some. some ++ codes "}") (sym (moves_are_written false moves compact.0)) in
-    let sent : text ≡ line_text game (codes "move") rest =
+bare_move_line_is version text game given orders is plain compact utf8 short =
+    let rest = move_members given no_members in
+    let moves = in_order given in
+    let all : moves_text false given ++ codes "}}" ≡ written_as.members_text false (moves_members given) ++ codes "}" =
+    sym (append_assoc (moves_text false given) (codes "}") (codes "}")) ∙ ap (λ some. some ++ codes "}") (sym (moves_are_written false given compact.0)) in
+    let sent : text ≡ members_line game (codes "move") rest =
     is ∙ ap (λ some. codes "{\"game\":\"" ++ (game ++ (codes "\",\"do\":\"move\",\"moves\":{" ++ some))) all in
     let back : of_json (written_as.outline (line_data game (codes "move") rest)) ≡ Some (move_data game moves no_members) =
-    rw (members_from [] moves compact.1) refl in
+    rw (members_from [] given) refl in
     let asks : line_from version (Some (move_data game moves no_members)) ≡ line.Command game (command.Move orders) =
     rw (no_map version (move_data game moves no_members) refl refl)
-    (ap₂ (λ found words. line.Command game (command.Move (orders_of found words))) (directions_back moves) (sym compact.3)
+    (ap₂ (λ found words. line.Command game (command.Move (orders_of found words))) (directions_back moves ∙ sym compact.1) (sym compact.3)
     ∙ ap (λ orders. line.Command game (command.Move orders)) (sym compact.4)) in
-    let shallow = no_depth moves in
-    line_is_from version text game (codes "move") rest (move_data game moves no_members) sent plain refl (has_numbers moves, tt) (omega arith) back utf8 short
+    let shallow = no_depth given in
+    line_is_from version text game (codes "move") rest (move_data game moves no_members) sent plain refl (has_numbers given, tt) (omega arith) back utf8 short
     ∙ asks
 
 -- the text after the opening brace of the moves, in the grouping of either definition
@@ -327,51 +311,52 @@ regroup_words : (moves mark middle words close end : List ℕ) → moves ++ (mar
 regroup_words moves mark middle words close end = simp append_assoc
 
 -- a move whose words are written
-full_move_line_is : (version : Version) (text game : List ℕ) (orders : Orders) → text ≡ compact_text true game (command.Move orders) → are_plain game ≡ true
-    → IsCompact true (command.Move orders) → IsUtf8 text → length text ≤ MAX_LINE → line_of version text ≡ line.Command game (command.Move orders)
+full_move_line_is : (version : Version) (text game : List ℕ) (given : List (List ℕ × Direction)) (orders : Orders) → text ≡ compact_text true given game (command.Move orders)
+    → are_plain game ≡ true → IsCompact true given (command.Move orders) → IsUtf8 text → length text ≤ MAX_LINE → line_of version text ≡ line.Command game (command.Move orders)
 unfolding command_of orders_from escape_byte
-full_move_line_is version text game orders is plain compact utf8 short =
-    let moves = orders.moves in
+full_move_line_is version text game given orders is plain compact utf8 short =
     let words = orders.words in
+    let moves = in_order given in
     let fit = compact.2 in
     let more = words_members words in
-    let rest = move_members moves more in
-    let all : moves_text false moves ++ (codes "}" ++ (codes ",\"words\":[" ++ (words_text false words ++ codes "]}")))
-    ≡ written_as.members_text false (moves_members moves) ++ (codes ",\"words\":[" ++ (written_as.items_text false (words_items words) ++ codes "}")) =
-    rw (moves_are_written false moves compact.0, words_are_written false words)
-    (regroup_words (moves_text false moves) (codes "}") (codes ",\"words\":[") (words_text false words) (codes "]") (codes "}")) in
-    let sent : text ≡ line_text game (codes "move") rest =
+    let rest = move_members given more in
+    let all : moves_text false given ++ (codes "}" ++ (codes ",\"words\":[" ++ (words_text false words ++ codes "]}")))
+    ≡ written_as.members_text false (moves_members given) ++ (codes ",\"words\":[" ++ (written_as.items_text false (words_items words) ++ codes "}")) =
+    rw (moves_are_written false given compact.0, words_are_written false words)
+    (regroup_words (moves_text false given) (codes "}") (codes ",\"words\":[") (words_text false words) (codes "]") (codes "}")) in
+    let sent : text ≡ members_line game (codes "move") rest =
     is ∙ ap (λ some. codes "{\"game\":\"" ++ (game ++ (codes "\",\"do\":\"move\",\"moves\":{" ++ some))) all in
     let back : of_json (written_as.outline (line_data game (codes "move") rest)) ≡ Some (move_data game moves more) =
-    rw (members_from [] moves compact.1, items_back words fit.small) refl in
+    rw (members_from [] given, items_back words fit.small) refl in
     let asks : line_from version (Some (move_data game moves more)) ≡ line.Command game (command.Move orders) =
-    rw (no_map version (move_data game moves more) refl refl, words_back words fit.small, le-leb (length words) MOST_WORDS fit.few, directions_back moves)
+    rw (no_map version (move_data game moves more) refl refl, words_back words fit.small, le-leb (length words) MOST_WORDS fit.few, directions_back moves, ← compact.1)
     (ap (λ orders. line.Command game (command.Move orders)) (sym compact.4)) in
-    let shallow = no_depth moves in
+    let shallow = no_depth given in
     let shallow_words = no_items_depth words in
-    let numbers : tree.MembersHaveNumbers (written_as.members_outline rest) = (has_numbers moves, (have_numbers words fit.small, tt)) in
+    let numbers : tree.MembersHaveNumbers (written_as.members_outline rest) = (has_numbers given, (have_numbers words fit.small, tt)) in
     line_is_from version text game (codes "move") rest (move_data game moves more) sent plain refl numbers (omega arith) back utf8 short
     ∙ asks
 
-move_line_is : (version : Version) (text game : List ℕ) (written : Bool) (orders : Orders) → text ≡ compact_text written game (command.Move orders) → are_plain game ≡ true
-    → IsCompact written (command.Move orders) → IsUtf8 text → length text ≤ MAX_LINE → line_of version text ≡ line.Command game (command.Move orders)
-move_line_is version text game false orders is plain compact utf8 short = bare_move_line_is version text game orders is plain compact utf8 short
-move_line_is version text game true orders is plain compact utf8 short = full_move_line_is version text game orders is plain compact utf8 short
+move_line_is : (version : Version) (text game : List ℕ) (written : Bool) (given : List (List ℕ × Direction)) (orders : Orders) → text ≡ compact_text written given game (command.Move orders)
+    → are_plain game ≡ true → IsCompact written given (command.Move orders) → IsUtf8 text → length text ≤ MAX_LINE → line_of version text ≡ line.Command game (command.Move orders)
+move_line_is version text game false given orders is plain compact utf8 short = bare_move_line_is version text game given orders is plain compact utf8 short
+move_line_is version text game true given orders is plain compact utf8 short = full_move_line_is version text game given orders is plain compact utf8 short
 
 -- ---- every command
 
-line_of_text : (version : Version) (text game : List ℕ) (written : Bool) (c : Command) → text ≡ compact_text written game c → are_plain game ≡ true
-    → IsCompact written c → IsUtf8 text → length text ≤ MAX_LINE → line_of version text ≡ line.Command game c
-line_of_text version text game written (command.New new) is plain compact utf8 short = absurd compact
-line_of_text version text game written (command.Move orders) is plain compact utf8 short = move_line_is version text game written orders is plain compact utf8 short
-line_of_text version text game written (command.Turn at) is plain compact utf8 short = turn_line_is version text game written at is plain compact utf8 short
-line_of_text version text game written command.Show is plain compact utf8 short = show_line_is version text game written is plain utf8 short
-line_of_text version text game written command.Free is plain compact utf8 short = free_line_is version text game written is plain utf8 short
-line_of_text version text game written command.End is plain compact utf8 short = end_line_is version text game written is plain utf8 short
-line_of_text version text game written command.Bad is plain compact utf8 short = absurd compact
+line_of_text : (version : Version) (text game : List ℕ) (written : Bool) (given : List (List ℕ × Direction)) (c : Command) → text ≡ compact_text written given game c
+    → are_plain game ≡ true → IsCompact written given c → IsUtf8 text → length text ≤ MAX_LINE → line_of version text ≡ line.Command game c
+line_of_text version text game written given (command.New new) is plain compact utf8 short = absurd compact
+line_of_text version text game written given (command.Move orders) is plain compact utf8 short = move_line_is version text game written given orders is plain compact utf8 short
+line_of_text version text game written given (command.Turn at) is plain compact utf8 short = turn_line_is version text game written given at is plain compact utf8 short
+line_of_text version text game written given command.Show is plain compact utf8 short = show_line_is version text game written given is plain utf8 short
+line_of_text version text game written given command.Free is plain compact utf8 short = free_line_is version text game written given is plain utf8 short
+line_of_text version text game written given command.End is plain compact utf8 short = end_line_is version text game written given is plain utf8 short
+line_of_text version text game written given command.Bad is plain compact utf8 short = absurd compact
 
 -- the compact text of a command for a game is read as that command for that game
-pub line_of_compact : (version : Version) (text game : List ℕ) (written : Bool) (c : Command) → text ≡ compact_text written game c → are_plain game ≡ true
-    → IsCompact written c → length text ≤ MAX_LINE → line_of version text ≡ line.Command game c
-line_of_compact version text game written c is plain compact short =
-    line_of_text version text game written c is plain compact (subst IsUtf8 (sym is) (compact_is_utf8 game written c plain compact)) short
+pub line_of_compact : (version : Version) (text game order : List ℕ) (written : Bool) (c : Command) → text ≡ line_text game order → are_plain game ≡ true
+    → IsOrderText order written c → length text ≤ MAX_LINE → line_of version text ≡ line.Command game c
+line_of_compact version text game order written c begins plain follows short =
+    let is : text ≡ compact_text written follows.given game c = begins ∙ ap (line_text game) follows.is in
+    line_of_text version text game written follows.given c is plain follows.compact (subst IsUtf8 (sym is) (compact_is_utf8 game written follows.given c plain follows.compact)) short

@@ -2,3 +2,4 @@
 pub mod BoardText
 pub mod Compact
 pub mod Replies
+pub mod Sorted

@@ -1,16 +1,17 @@
 //! Parses lines in their compact form, as programs write most of them: in one pass, without a JSON
 //! value.
-ghost use Rattle.std.specs.Prelude.{◌≡◌, ◌≤◌, ◌∷◌, ◌++◌, codes, decimal, length, slice_index, false, true, not, IsTrue, IfOk, IfSome};
+ghost use Rattle.std.specs.Prelude.{◌≡◌, ◌≤◌, [], ◌∷◌, ◌++◌, codes, decimal, length, slice_index, false, true, not, IsTrue, IfOk, IfSome};
 ghost use Rattle.std.specs.Char.{is_ascii_digit};
 ghost use Rattle.std.specs.List.{list_all, position};
 ghost use Rattle.serde_json.specs.Written.{comma_if};
 ghost use Rattle.bs_board.specs.commands.Orders.{AreFitWords};
-ghost use Rattle.bs_json.specs.inner.Compact.{is_plain, are_plain, are_plain_moves, direction_name, move_text, moves_text, words_text, tail_text, order_text, IsCompact, IsCompactMove, MayLeaveOut};
+ghost use Rattle.bs_json.specs.inner.Compact.{is_plain, are_plain, are_plain_moves, direction_name, move_text, moves_text, words_text, tail_text, order_text, IsCompact, IsMoveText, IsOrderText, MayLeaveOut};
 ghost use Rattle.bs_board.specs.declared.plans.version.Version.{Version as AnyVersion};
 ghost use Rattle.bs_json.specs.Line.{line_of};
 ghost use Rattle.bs_json.specs.declared.limits.TheConstants.{MAX_LINE};
 
 use crate::line::Line;
+use crate::ordered_moves::in_order;
 use bs_board::limits::{LAST_TURN, MOST_WORDS};
 use bs_board::{Command, Direction, Id, Move, Moves, TurnNumber, Words};
 use std::alloc::{AllocError, Global};
@@ -235,16 +236,12 @@ fn parse_tail(alloc: Global, line: &[u8]) -> Result<Option<(Words, bool)>, Alloc
 
 /// Parses a `move` from its first id on. Also returns whether its words are written.
 fn parse_move(alloc: Global, line: &[u8]) -> Result<Option<(Move, bool)>, AllocError>
-    ensures text { IfOk result
-        (λ o. IfSome o (λ found. line.now ≡ moves_text false found.0.moves ++ (codes "}" ++ tail_text found.1 found.0.words))) }
-    ensures compact { IfOk result (λ o. IfSome o (λ found. IsCompactMove found.1 found.0)) }
+    ensures { IfOk result (λ o. IfSome o (λ found. IsMoveText line.now found.1 found.0)) }
 {
-    let Some((moves, rest)) = split_moves(alloc, line)? else {
+    let Some((given, rest)) = split_moves(alloc, line)? else {
         return Ok(None);
     };
-    if !moves.is_ascending() {
-        return Ok(None);
-    }
+    let moves = in_order(alloc, given)?;
     let Some((words, written)) = parse_tail(alloc, rest)? else {
         return Ok(None);
     };
@@ -253,8 +250,8 @@ fn parse_move(alloc: Global, line: &[u8]) -> Result<Option<(Move, bool)>, AllocE
 
 /// Parses a command that has no members.
 fn parse_bare_order(order: &[u8]) -> Option<Command>
-    ensures text { IfSome result (λ command. order.now ≡ order_text false command) }
-    ensures compact { IfSome result (IsCompact false) }
+    ensures text { IfSome result (λ command. order.now ≡ order_text false [] command) }
+    ensures compact { IfSome result (IsCompact false []) }
 {
     if is_exactly(order, b"show\"}") {
         Some(Command::Show)
@@ -269,8 +266,8 @@ fn parse_bare_order(order: &[u8]) -> Option<Command>
 
 /// Parses a command without words, from its name on.
 fn parse_short_order(order: &[u8]) -> Option<Command>
-    ensures text { IfSome result (λ command. order.now ≡ order_text false command) }
-    ensures compact { IfSome result (IsCompact false) }
+    ensures text { IfSome result (λ command. order.now ≡ order_text false [] command) }
+    ensures compact { IfSome result (IsCompact false []) }
 {
     match strip_prefix(order, b"turn\",\"at\":") {
         Some(at) => Some(Command::Turn(parse_turn(at)?)),
@@ -280,8 +277,7 @@ fn parse_short_order(order: &[u8]) -> Option<Command>
 
 /// Parses a command from its name on. Also returns whether its words are written.
 fn parse_order(alloc: Global, order: &[u8]) -> Result<Option<(Command, bool)>, AllocError>
-    ensures text { IfOk result (λ o. IfSome o (λ found. order.now ≡ order_text found.1 found.0)) }
-    ensures compact { IfOk result (λ o. IfSome o (λ found. IsCompact found.1 found.0)) }
+    ensures { IfOk result (λ o. IfSome o (λ found. IsOrderText order.now found.1 found.0)) }
 {
     if let Some(moves) = strip_prefix(order, b"move\",\"moves\":{") {
         return Ok(match parse_move(alloc, moves)? {

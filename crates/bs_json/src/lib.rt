@@ -9,6 +9,7 @@ mod limits;
 pub mod line;
 mod line_bounds;
 mod moves;
+mod ordered_moves;
 mod pieces;
 pub mod plan;
 mod replies;

@@ -1,5 +1,5 @@
 -- The compact text of a line: no spaces, no escapes, its members in a fixed order, the ids of a
--- move ascending.
+-- move in any order.
 use Rattle.std.specs.Prelude.{◌≡◌, ◌≤◌, ℕ, codes, decimal, List, [], ◌∷◌, ◌++◌, Bool, true, false, not, ◌&&◌, ◌==◌, nat_le, nat_lt, ⊤}
 use Rattle.std.specs.List.{list_all}
 use Rattle.serde_json.specs.Written.{comma_if}
@@ -7,8 +7,9 @@ use Rattle.bs_board.specs.declared.boards.point.Direction.{Direction}
 use Rattle.bs_board.specs.declared.boards.point.Direction.TheVariants.{Up, Down, Left, Right}
 use Rattle.bs_board.specs.declared.commands.command.Command.{Command}
 use Rattle.bs_board.specs.declared.commands.command.Command.TheVariants as command
-use Rattle.bs_board.specs.commands.Orders.{AreFitWords, Orders, is_ascending, orders_of}
+use Rattle.bs_board.specs.commands.Orders.{AreFitWords, Orders, orders_of}
 use Rattle.bs_board.specs.declared.limits.TheConstants.{LAST_TURN}
+use Rattle.bs_json.specs.inner.Sorted.{in_order}
 
 -- a printable byte of ASCII that needs no escape in a string
 abbrev pub is_plain : ℕ → Bool
@@ -40,19 +41,24 @@ abbrev pub tail_text : Bool → List ℕ → List ℕ
 tail_text false words = codes "}"
 tail_text true words = codes ",\"words\":[" ++ (words_text false words ++ codes "]}")
 
--- the text after the opening quotation mark of the value of `do`
-abbrev pub order_text : Bool → Command → List ℕ
-order_text written (command.New new) = []
-order_text written (command.Move orders) = codes "move\",\"moves\":{" ++ (moves_text false orders.moves ++ (codes "}" ++ tail_text written orders.words))
-order_text written (command.Turn at) = codes "turn\",\"at\":" ++ (decimal at ++ codes "}")
-order_text written command.Show = codes "show\"}"
-order_text written command.Free = codes "free\"}"
-order_text written command.End = codes "end\"}"
-order_text written command.Bad = []
+-- the text after the opening quotation mark of the value of `do`; `given` are the moves of a move
+-- as they are written
+abbrev pub order_text : Bool → List (List ℕ × Direction) → Command → List ℕ
+order_text written given (command.New new) = []
+order_text written given (command.Move orders) = codes "move\",\"moves\":{" ++ (moves_text false given ++ (codes "}" ++ tail_text written orders.words))
+order_text written given (command.Turn at) = codes "turn\",\"at\":" ++ (decimal at ++ codes "}")
+order_text written given command.Show = codes "show\"}"
+order_text written given command.Free = codes "free\"}"
+order_text written given command.End = codes "end\"}"
+order_text written given command.Bad = []
+
+-- a line whose text after the opening quotation mark of the value of `do` is this
+abbrev pub line_text : List ℕ → List ℕ → List ℕ
+line_text game order = codes "{\"game\":\"" ++ (game ++ (codes "\",\"do\":\"" ++ order))
 
 -- `written` says whether a move's words are written
-abbrev pub compact_text : Bool → List ℕ → Command → List ℕ
-compact_text written game command = codes "{\"game\":\"" ++ (game ++ (codes "\",\"do\":\"" ++ order_text written command))
+abbrev pub compact_text : Bool → List (List ℕ × Direction) → List ℕ → Command → List ℕ
+compact_text written given game command = line_text game (order_text written given command)
 
 abbrev pub are_plain_moves : List (List ℕ × Direction) → Bool
 are_plain_moves = list_all (λ move. are_plain move.0)
@@ -62,18 +68,30 @@ abbrev pub MayLeaveOut : Bool → List ℕ → Type 0
 MayLeaveOut false words = words ≡ []
 MayLeaveOut true words = ⊤
 
--- it gives no hazards and no food
-abbrev pub IsCompactMove : Bool → Orders → Type 0
-IsCompactMove written orders =
-    (are_plain_moves orders.moves ≡ true) × (is_ascending orders.moves ≡ true) × AreFitWords orders.words × MayLeaveOut written orders.words
+-- it has the given moves in the order of their ids, and gives no hazards and no food
+abbrev pub IsCompactMove : Bool → List (List ℕ × Direction) → Orders → Type 0
+IsCompactMove written given orders =
+    (are_plain_moves given ≡ true) × (orders.moves ≡ in_order given) × AreFitWords orders.words × MayLeaveOut written orders.words
     × (orders ≡ orders_of orders.moves orders.words)
 
 -- the commands that have a compact text
-abbrev pub IsCompact : Bool → Command → Type 0
-IsCompact written (command.New new) = ⊥
-IsCompact written (command.Move orders) = IsCompactMove written orders
-IsCompact written (command.Turn at) = at ≤ LAST_TURN
-IsCompact written command.Show = ⊤
-IsCompact written command.Free = ⊤
-IsCompact written command.End = ⊤
-IsCompact written command.Bad = ⊥
+abbrev pub IsCompact : Bool → List (List ℕ × Direction) → Command → Type 0
+IsCompact written given (command.New new) = ⊥
+IsCompact written given (command.Move orders) = IsCompactMove written given orders
+IsCompact written given (command.Turn at) = at ≤ LAST_TURN
+IsCompact written given command.Show = ⊤
+IsCompact written given command.Free = ⊤
+IsCompact written given command.End = ⊤
+IsCompact written given command.Bad = ⊥
+
+-- the text from a move's first id on
+pub record IsMoveText (text : List ℕ) (written : Bool) (orders : Orders) : Type 0 where
+  pub given : List (List ℕ × Direction)
+  pub is : text ≡ moves_text false given ++ (codes "}" ++ tail_text written orders.words)
+  pub compact : IsCompactMove written given orders
+
+-- the text from a command's name on
+pub record IsOrderText (text : List ℕ) (written : Bool) (c : Command) : Type 0 where
+  pub given : List (List ℕ × Direction)
+  pub is : text ≡ order_text written given c
+  pub compact : IsCompact written given c

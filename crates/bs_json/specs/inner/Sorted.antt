@@ -1,0 +1,26 @@
+-- The moves of a line in the order of their ids.
+use Rattle.std.specs.Prelude.{ℕ, List, [], ◌∷◌}
+use Rattle.std.specs.Borrow.{Bor}
+use Rattle.std.specs.Cmp.Lexicographic.{slice_cmp}
+use Rattle.std.specs.Ordering.{match_ordering, nat_cmp}
+use Rattle.bs_board.specs.declared.boards.point.Direction.{Direction}
+
+-- with this move at its place; an id that is there takes its direction
+abbrev pub put_move : List (List ℕ × Direction) → List ℕ × Direction → List (List ℕ × Direction)
+put_move [] move = move ∷ []
+put_move (first ∷ moves) move =
+    match_ordering (slice_cmp nat_cmp move.0 first.0) (move ∷ first ∷ moves) ((first.0, move.1) ∷ moves) (first ∷ put_move moves move)
+
+-- with the given moves, one after the other
+abbrev pub put_moves : List (List ℕ × Direction) → List (List ℕ × Direction) → List (List ℕ × Direction)
+put_moves moves [] = moves
+put_moves moves (next ∷ given) = put_moves (put_move moves next) given
+
+-- each id once, with the direction that it has last
+abbrev pub in_order : List (List ℕ × Direction) → List (List ℕ × Direction)
+in_order = put_moves []
+
+-- the entries of a map
+abbrev pub moves_in : List (Bor (List ℕ) × Direction) → List (List ℕ × Direction)
+moves_in [] = []
+moves_in (entry ∷ entries) = (entry.0.now, entry.1) ∷ moves_in entries
